@@ -1,0 +1,5 @@
+pub mod Refusal
+pub mod Name
+pub mod Number
+pub mod Pattern
+pub mod Compare

@@ -1,0 +1,71 @@
+-- Why a call is refused: each refusal's number and name, and the form in which contracts say it.
+use Rattle.std.specs.Prelude.{◌≡◌, ℕ, List, [], ◌∷◌, Bool, Option, Some, None, Result, OnOk, IfErr, unwrap_or, if◌then◌else◌, codes}
+use Rattle.lq_value.specs.declared.refusal.Refusal.{Refusal}
+use Rattle.lq_value.specs.declared.refusal.Refusal.TheVariants.{BadName, NoNode, NotFolder, NoEntry, Exists, WouldLoop, NotEmpty, KindClash, IsFolder, NoAttr, Reserved, TooLong, Exhausted, NoMemory, BadQuery, BadPort, BadBacklog, NoSlot, NoSeat, NotOpen, StillOpen, LongLine, NotUtf8, NotJson, BadLine, OutOfStep, Mismatch}
+
+abbrev pub code_of : Refusal → ℕ
+code_of BadName = 1
+code_of NoNode = 2
+code_of NotFolder = 3
+code_of NoEntry = 4
+code_of Exists = 5
+code_of WouldLoop = 6
+code_of NotEmpty = 7
+code_of KindClash = 8
+code_of IsFolder = 9
+code_of NoAttr = 10
+code_of Reserved = 11
+code_of TooLong = 12
+code_of Exhausted = 13
+code_of NoMemory = 15
+code_of (BadQuery place) = 20
+code_of BadPort = 21
+code_of BadBacklog = 22
+code_of NoSlot = 23
+code_of NoSeat = 24
+code_of NotOpen = 25
+code_of StillOpen = 26
+code_of LongLine = 30
+code_of NotUtf8 = 31
+code_of NotJson = 32
+code_of BadLine = 33
+code_of OutOfStep = 34
+code_of Mismatch = 35
+
+abbrev pub name_of : Refusal → List ℕ
+name_of BadName = codes "BadName"
+name_of NoNode = codes "NoNode"
+name_of NotFolder = codes "NotFolder"
+name_of NoEntry = codes "NoEntry"
+name_of Exists = codes "Exists"
+name_of WouldLoop = codes "WouldLoop"
+name_of NotEmpty = codes "NotEmpty"
+name_of KindClash = codes "KindClash"
+name_of IsFolder = codes "IsFolder"
+name_of NoAttr = codes "NoAttr"
+name_of Reserved = codes "Reserved"
+name_of TooLong = codes "TooLong"
+name_of Exhausted = codes "Exhausted"
+name_of NoMemory = codes "NoMemory"
+name_of (BadQuery place) = codes "BadQuery"
+name_of BadPort = codes "BadPort"
+name_of BadBacklog = codes "BadBacklog"
+name_of NoSlot = codes "NoSlot"
+name_of NoSeat = codes "NoSeat"
+name_of NotOpen = codes "NotOpen"
+name_of StillOpen = codes "StillOpen"
+name_of LongLine = codes "LongLine"
+name_of NotUtf8 = codes "NotUtf8"
+name_of NotJson = codes "NotJson"
+name_of BadLine = codes "BadLine"
+name_of OutOfStep = codes "OutOfStep"
+name_of Mismatch = codes "Mismatch"
+
+-- the refusal of the first row whose test holds, in the order of the rows
+abbrev pub first_refusal : List (Bool × Refusal) → Option Refusal
+first_refusal [] = None
+first_refusal (row ∷ rows) = if row.0 then Some row.1 else first_refusal rows
+
+-- The call is refused just where `refusal` is one, and with that one. Else it is done, or memory ran out.
+abbrev pub IsRefusedBy : {T : Type 0} → Result T Refusal → Option Refusal → Type 0
+IsRefusedBy result refusal = OnOk result (refusal ≡ None) × IfErr result (λ e. e ≡ unwrap_or refusal NoMemory)

@@ -1,0 +1,31 @@
+//! Names, patterns, literals and refusals: the values that the other crates speak of.
+//!
+//! A contract sees a name or a text as its bytes, and a pattern as its list of elements
+//! (`specs/Name`, `specs/Pattern`). Nothing here waits, and comparing takes no memory.
+//! Begin with `refusal`, then `name`, then `literal`.
+#![tactic(auto)]
+
+mod attr_name;
+mod digits;
+mod entry;
+mod kind;
+mod literal;
+mod name;
+mod op;
+mod pattern;
+mod refusal;
+#[cfg(test)]
+mod tests;
+mod text;
+mod view;
+
+pub use attr_name::AttrName;
+pub use entry::Entry;
+pub use kind::Kind;
+pub use literal::{Literal, compare};
+pub use name::Name;
+pub use op::Op;
+pub use pattern::{Element, Pattern};
+pub use refusal::Refusal;
+pub use text::Text;
+pub use view::View;

@@ -1,0 +1,130 @@
+//! The name of an entry.
+ghost use Rattle.std.specs.Prelude.{◌≡◌, refl, true, false, Some, None, IfOk, IsTrue, nat_eq, if◌then◌else◌};
+ghost use Rattle.std.specs.Ordering.{nat_cmp};
+ghost use Rattle.std.specs.Cmp.Lexicographic.{pointwise, slice_cmp, nat_list_eq_equiv, nat_list_cmp_total, texts_ties, texts_po};
+ghost use Rattle.std.specs.Cmp.{partial_equiv_from_equiv};
+ghost use Rattle.lq_value.specs.declared.refusal.Refusal.TheVariants.{BadName};
+ghost use Rattle.lq_value.specs.Refusal.{IsRefusedBy};
+ghost use Rattle.lq_value.specs.Name.{is_name, is_name_byte};
+ghost use Rattle.std.specs.List.{list_all};
+
+use crate::refusal::Refusal;
+use std::alloc::Global;
+use std::cmp::Ordering;
+use std::marker::Model;
+
+/// The longest name of an entry, in bytes.
+const MAX_NAME: usize = 255;
+
+/// The name of an entry: 1 to 255 bytes of UTF-8 without `/` and NUL, and neither `.` nor `..`.
+///
+/// Names are ordered by their bytes. A contract sees a name as its bytes.
+#[derive(Debug, Drop)]
+pub struct Name {
+    text: String,
+}
+
+impl Model for Name {
+    ghost use Rattle.std.specs.Prelude.{ℕ, List, IsTrue};
+    ghost use Rattle.std.specs.String.{string_bytes};
+    ghost use Rattle.lq_value.specs.Name.{is_name};
+
+    ghost Value = { List ℕ };
+
+    ghost view = { λ name. string_bytes name.text };
+
+    ghost invariant = { λ name. IsTrue (is_name (string_bytes name.text)) };
+}
+
+impl Name {
+    /// The name with this text.
+    ///
+    /// Refused, the first that fits: `BadName` where the text is no name, `NoMemory`.
+    /// The limits are our own.
+    pub fn read(alloc: Global, text: &str) -> Result<Name, Refusal>
+        ensures refused { IsRefusedBy result (if is_name text.now then None else Some BadName) }
+        ensures value { IfOk result (λ name. name ≡ text.now) }
+    {
+        if !is_name_text(text) {
+            return Err(Refusal::BadName);
+        }
+        Ok(Name {
+            text: String::from_str(alloc, text)?,
+        })
+    }
+
+    /// The text of the name. It takes no memory.
+    pub fn as_str(&self) -> &str
+        ensures value { result.now ≡ self.now }
+        ensures valid { IsTrue (is_name self.now) }
+    {
+        self.text.as_str()
+    }
+
+    /// Another name with the same text. Refused: `NoMemory`.
+    pub fn copy(&self, alloc: Global) -> Result<Name, Refusal>
+        ensures refused { IsRefusedBy result None }
+        ensures value { IfOk result (λ name. name ≡ self.now) }
+    {
+        Ok(Name {
+            text: String::from_str(alloc, self.text.as_str())?,
+        })
+    }
+}
+
+impl PartialEq for Name {
+    ghost eq = { pointwise nat_eq };
+
+    ghost laws = { partial_equiv_from_equiv nat_list_eq_equiv };
+
+    fn eq(&self, other: &Name) -> bool {
+        self.as_str() == other.as_str()
+    }
+}
+
+impl Eq for Name {
+    ghost laws = { nat_list_eq_equiv };
+}
+
+impl PartialOrd for Name {
+    ghost partial_cmp = { λ x y. Some (slice_cmp nat_cmp x y) };
+
+    ghost laws = { texts_po };
+
+    fn partial_cmp(&self, other: &Name) -> Option<Ordering> {
+        Some(self.cmp(other))
+    }
+}
+
+impl Ord for Name {
+    ghost cmp = { slice_cmp nat_cmp };
+
+    ghost total = { nat_list_cmp_total };
+
+    ghost matches_partial_cmp = { λ x y. refl };
+
+    ghost matches_eq = { texts_ties };
+
+    fn cmp(&self, other: &Name) -> Ordering {
+        self.as_str().cmp(other.as_str())
+    }
+}
+
+fn is_name_text(text: &str) -> bool
+    ensures { result ≡ is_name text.now }
+{
+    if text.is_empty() || text.len() > MAX_NAME {
+        return false;
+    }
+    if text == "." || text == ".." {
+        return false;
+    }
+    has_name_bytes(text.as_bytes())
+}
+
+// Whether no byte is `/` or NUL.
+fn has_name_bytes(bytes: &[u8]) -> bool
+    ensures { result ≡ list_all is_name_byte bytes.now }
+{
+    bytes.iter().all(|b| *b != 47 && *b != 0)
+}

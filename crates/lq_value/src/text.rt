@@ -1,0 +1,70 @@
+//! A text that contracts see as its bytes.
+ghost use Rattle.std.specs.Prelude.{◌≡◌, None, IfOk};
+ghost use Rattle.lq_value.specs.Refusal.{IsRefusedBy};
+ghost use Rattle.lq_value.specs.Number.{number_of};
+
+use crate::digits::number_of_bytes;
+use crate::refusal::Refusal;
+use std::alloc::Global;
+use std::marker::Model;
+
+/// A text of UTF-8. It is made from a `String` and gives it back without taking memory.
+///
+/// A contract sees it as its bytes.
+#[derive(Debug, Drop)]
+pub struct Text {
+    text: String,
+}
+
+impl Model for Text {
+    ghost use Rattle.std.specs.Prelude.{ℕ, List};
+    ghost use Rattle.std.specs.String.{string_bytes};
+
+    ghost Value = { List ℕ };
+
+    ghost view = { λ text. string_bytes text.text };
+}
+
+impl Text {
+    ghost use Rattle.std.specs.String.{string_bytes};
+
+    /// The text with these bytes. It takes no memory.
+    pub fn new(text: String) -> Text
+        ensures { result ≡ string_bytes text }
+    {
+        Text { text }
+    }
+
+    /// The bytes as a `str`. It takes no memory.
+    pub fn as_str(&self) -> &str
+        ensures { result.now ≡ self.now }
+    {
+        self.text.as_str()
+    }
+
+    /// The string that it was made from. It takes no memory.
+    pub fn into_string(self) -> String
+        ensures { string_bytes result ≡ self }
+    {
+        let Text { text } = self;
+        text
+    }
+
+    /// Another text with the same bytes. Refused: `NoMemory`.
+    pub fn copy(&self, alloc: Global) -> Result<Text, Refusal>
+        ensures refused { IsRefusedBy result None }
+        ensures value { IfOk result (λ text. text ≡ self.now) }
+    {
+        Ok(Text {
+            text: String::from_str(alloc, self.text.as_str())?,
+        })
+    }
+
+    /// The whole number that the text writes, if it writes one: an optional `-` and 1 to 20
+    /// decimal digits. It takes no memory.
+    pub fn number(&self) -> Option<i128>
+        ensures { result ≡ number_of self.now }
+    {
+        number_of_bytes(self.text.as_bytes())
+    }
+}
