@@ -1,0 +1,3 @@
+pub mod Query
+pub mod Truth
+pub mod Reads

@@ -1,0 +1,14 @@
+//! Predicates: reading their formulas, and when they hold of a row.
+//!
+//! A contract sees a predicate as a `Query` (`specs/Query`), and a row as what it shows under
+//! each attribute's name (`specs/Truth`). Nothing here waits, and `holds` takes no memory.
+//! Begin with `predicate`, then `truth`, then `read`.
+#![tactic(auto)]
+
+mod formula;
+mod predicate;
+mod truth;
+
+pub use formula::read;
+pub use predicate::Predicate;
+pub use truth::{Row, holds};

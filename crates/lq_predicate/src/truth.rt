@@ -1,0 +1,29 @@
+//! When a predicate holds.
+ghost use Rattle.std.specs.Prelude.{◌≡◌, ℕ, List, Option};
+ghost use Rattle.std.specs.Option.{option_map};
+ghost use Rattle.lq_value.specs.Compare.{held_of};
+ghost use Rattle.lq_predicate.specs.Truth.{truth};
+
+use crate::predicate::Predicate;
+use lq_value::{AttrName, View};
+
+/// What has attributes: an entry, or any other row.
+pub trait Row {
+    ghost use Rattle.lq_value.specs.Compare.{Held};
+
+    /// What it shows under each name.
+    ghost looks: { Self → List ℕ → Option Held };
+
+    /// What the row shows under an attribute's name; `None` where it has no such attribute.
+    fn look(&self, attr: &AttrName) -> Option<View<'_>>
+        ensures { option_map held_of result ≡ looks self.now attr.now };
+}
+
+/// Whether the predicate holds of the row. It takes no memory.
+///
+/// A comparison of an attribute that the row lacks is false, also with `Ne`, as in BQuery.
+pub fn holds<R: Row>(predicate: &Predicate, row: &R) -> bool
+    ensures { result ≡ truth predicate.now (R.looks row.now) }
+{
+    predicate.is_true_of(row)
+}
