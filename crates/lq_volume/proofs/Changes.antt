@@ -1,0 +1,47 @@
+-- An accepted change keeps the numbers and nodes of a volume.
+use Rattle.std.proofs.Common.{◌≡◌, ℕ, ◌+◌, ◌^◌, List, [], ◌∷◌, arith, Bool, true, false, None, Option, ◌++◌, ◌<◌, ℤ, filter, map}
+use Rattle.std.specs.List.{AllByRecursion}
+use Rattle.std.proofs.lemmas.Bool.Decides.{nat_tests}
+use Rattle.lq_value.specs.declared.refusal.Refusal.{Refusal}
+use Rattle.lq_value.specs.Refusal.{first_refusal}
+use Rattle.lq_value.specs.declared.kind.Kind.{Kind}
+use Rattle.lq_volume.specs.declared.change.Change.{Change}
+use Rattle.lq_volume.specs.declared.change.Change.TheVariants.{Create, Remove}
+use Rattle.lq_volume.specs.State.{State, Record, IsNumbered}
+use Rattle.lq_volume.specs.Change.{refused, refusals, after}
+use Rattle.lq_volume.proofs.Entries.{All-push, All-weaker, All-filter, Rises-push, Rises-filter}
+
+-- where nothing refuses, no row's test holds
+pub none_holds : (rows : List (Bool × Refusal)) → first_refusal rows ≡ None → AllByRecursion (λ row. row.0 ≡ false) rows
+none_holds [] h = tt
+none_holds (row ∷ rows) h = let k = none_holds rows in grind (arith, nat_tests)
+
+-- what a creation that nothing refuses has
+pub accepted_size : (s : State) (dir : ℕ) (name : List ℕ) (kind : Kind) (size : ℕ) (time : ℤ) → refused s (Create dir name kind size time) ≡ None → size < 2 ^ 63
+accepted_size s dir name kind size time h = let rows = none_holds (refusals s (Create dir name kind size time)) h in grind (arith, nat_tests)
+
+pub accepted_number : (s : State) (c : Change) → refused s c ≡ None → s.number < s.limit
+accepted_number s (Create dir name kind size time) h = let rows = none_holds (refusals s (Create dir name kind size time)) h in grind (arith, nat_tests)
+accepted_number s (Remove node) h = let rows = none_holds (refusals s (Remove node)) h in grind (arith, nat_tests)
+
+-- one more change, with a record under the next node
+pub IsNumbered-create : (s : State) (v : Record) → IsNumbered s → s.number < s.limit → IsNumbered (record { limit = s.limit; number = s.number + 1; next = s.next + 1; records = s.records ++ (s.next, v) ∷ [] })
+IsNumbered-create s v n more = record {
+  limit = n.limit;
+  number = omega arith;
+  next = omega (arith, n.next);
+  few = omega (arith, n.few);
+  rise = Rises-push s.records s.next v n.rise n.below;
+  below = All-push (λ e. e.0 < s.next + 1) s.records (s.next, v) (All-weaker (λ e. e.0 < s.next) (λ e. e.0 < s.next + 1) s.records (λ e lt. omega arith) n.below) (omega arith);
+}
+
+-- one more change, with fewer records
+pub IsNumbered-filter : (s : State) (test : ℕ × Record → Bool) → IsNumbered s → s.number < s.limit → IsNumbered (record { limit = s.limit; number = s.number + 1; next = s.next; records = filter test s.records })
+IsNumbered-filter s test n more = record {
+  limit = n.limit;
+  number = omega arith;
+  next = n.next;
+  few = omega (arith, n.few);
+  rise = Rises-filter test s.records n.rise;
+  below = All-filter (λ e. e.0 < s.next) test s.records n.below;
+}

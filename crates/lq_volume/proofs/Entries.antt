@@ -1,0 +1,97 @@
+-- What one more node at the end, and one node less, make of entries whose nodes rise.
+use Rattle.std.proofs.Common.{◌≡◌, ℕ, ◌<◌, List, [], ◌∷◌, ◌++◌, refl, arith, eqb, ap}
+use Rattle.std.specs.Prelude.{not, ◌&&◌, ◌==◌, filter, map, Bool, true, false, cond, nat_eq, Option, Some, None, length, ◌≤◌, IsSome, is_none}
+use Rattle.std.specs.Option.{option_map}
+use Rattle.std.specs.List.{AllByRecursion, list_any}
+use Rattle.std.specs.Str.{bytes_eq}
+use Rattle.std.proofs.lemmas.Slice.Eq.{bytes_eq-Decides}
+use Rattle.std.specs.BTreeMap.{insert_entry, is_at}
+use Rattle.std.specs.Map.{remove_entry, lookup, values_of}
+use Rattle.std.specs.Ordering.{nat_cmp}
+use Rattle.std.proofs.lemmas.Bool.Decides.{nat_tests}
+use Rattle.lq_volume.specs.State.{Record, Rises}
+
+abbrev pub Entries : Type 0
+Entries = List (ℕ × Record)
+
+-- a node above all others goes to the end
+pub insert_entry-above : (es : Entries) (k : ℕ) (v : Record) → AllByRecursion (λ e. e.0 < k) es → insert_entry nat_cmp es k v ≡ es ++ (k, v) ∷ []
+insert_entry-above [] k v h = refl
+insert_entry-above (e ∷ es) k v h = grind (arith, nat_tests, insert_entry-above es k v h.1)
+
+-- entries above a node are all kept
+filter-above : (es : Entries) (k : ℕ) → AllByRecursion (λ f. k < f.0) es → filter (λ e. not (eqb e.0 k)) es ≡ es
+filter-above [] k h = refl
+filter-above (e ∷ es) k h = grind (arith, nat_tests, filter-above es k h.1)
+
+-- where the nodes rise, the one that goes is the only one of its number
+pub remove_entry-node : (es : Entries) (k : ℕ) → Rises es → remove_entry (is_at (nat_cmp k)) es ≡ filter (λ e. not (eqb e.0 k)) es
+remove_entry-node [] k h = refl
+remove_entry-node (e ∷ es) k h = grind (arith, nat_tests, remove_entry-node es k h.1, λ (same : e.0 ≡ k). filter-above es k (rw (← same) h.0))
+
+-- a look-up by order is one by number
+pub lookup-node : (es : Entries) (k : ℕ) → lookup (is_at (nat_cmp k)) es ≡ lookup (nat_eq k) es
+lookup-node [] k = refl
+lookup-node (e ∷ es) k = grind (arith, nat_tests, lookup-node es k)
+
+pub All-push : (P : ℕ × Record → Type 0) (es : Entries) (e : ℕ × Record) → AllByRecursion P es → P e → AllByRecursion P (es ++ e ∷ [])
+All-push P [] e h p = (p, tt)
+All-push P (f ∷ es) e h p = (h.0, All-push P es e h.1 p)
+
+pub All-weaker : (P Q : ℕ × Record → Type 0) (es : Entries) → ((e : ℕ × Record) → P e → Q e) → AllByRecursion P es → AllByRecursion Q es
+All-weaker P Q [] f h = tt
+All-weaker P Q (e ∷ es) f h = (f e h.0, All-weaker P Q es f h.1)
+
+pub All-filter : (P : ℕ × Record → Type 0) (test : ℕ × Record → Bool) (es : Entries) → AllByRecursion P es → AllByRecursion P (filter test es)
+All-filter P test [] h = tt
+All-filter P test (e ∷ es) h = elim (test e) as (λ b. AllByRecursion P (cond b (e ∷ filter test es) (filter test es))) [ true ↦ (h.0, All-filter P test es h.1) | false ↦ All-filter P test es h.1 ]
+
+pub Rises-push : (es : Entries) (k : ℕ) (v : Record) → Rises es → AllByRecursion (λ e. e.0 < k) es → Rises (es ++ (k, v) ∷ [])
+Rises-push [] k v h b = (tt, tt)
+Rises-push (e ∷ es) k v h b = (All-push (λ f. e.0 < f.0) es (k, v) h.0 b.0, Rises-push es k v h.1 b.1)
+
+pub Rises-filter : (test : ℕ × Record → Bool) (es : Entries) → Rises es → Rises (filter test es)
+Rises-filter test [] h = tt
+Rises-filter test (e ∷ es) h = elim (test e) as (λ b. Rises (cond b (e ∷ filter test es) (filter test es))) [ true ↦ (All-filter (λ f. e.0 < f.0) test es h.0, Rises-filter test es h.1) | false ↦ Rises-filter test es h.1 ]
+
+-- what a look-up finds after each edit
+pub lookup-filter : (es : Entries) (k n : ℕ) → lookup (nat_eq n) (filter (λ e. not (eqb e.0 k)) es) ≡ cond (eqb n k) None (lookup (nat_eq n) es)
+lookup-filter [] k n = grind (arith, nat_tests)
+lookup-filter (e ∷ es) k n = grind (arith, nat_tests, lookup-filter es k n)
+
+pub lookup-push : (es : Entries) (k : ℕ) (v : Record) (n : ℕ) → AllByRecursion (λ e. e.0 < k) es → lookup (nat_eq n) (es ++ (k, v) ∷ []) ≡ cond (eqb n k) (Some v) (lookup (nat_eq n) es)
+lookup-push [] k v n h = grind (arith, nat_tests)
+lookup-push (e ∷ es) k v n h = grind (arith, nat_tests, lookup-push es k v n h.1)
+
+-- one that is there makes the others fewer
+pub length-filter_le : (es : Entries) (k : ℕ) → length (filter (λ e. not (eqb e.0 k)) es) ≤ length es
+length-filter_le [] k = omega arith
+length-filter_le (e ∷ es) k = grind (arith, nat_tests, length-filter_le es k)
+
+pub length-filter_lt : (es : Entries) (k : ℕ) (r : Record) → lookup (nat_eq k) es ≡ Some r → length (filter (λ e. not (eqb e.0 k)) es) < length es
+length-filter_lt [] k r h = grind (arith, nat_tests)
+length-filter_lt (e ∷ es) k r h = let le = length-filter_le es k in grind (arith, nat_tests, length-filter_lt es k r)
+
+-- a node below all others is not found among them
+pub lookup-below : (es : Entries) (k : ℕ) → AllByRecursion (λ f. k < f.0) es → lookup (nat_eq k) es ≡ None
+lookup-below [] k h = refl
+lookup-below (e ∷ es) k h = grind (arith, nat_tests, lookup-below es k h.1)
+
+-- nor is one above all others
+pub lookup-above : (es : Entries) (k : ℕ) → AllByRecursion (λ f. f.0 < k) es → lookup (nat_eq k) es ≡ None
+lookup-above [] k h = refl
+lookup-above (e ∷ es) k h = grind (arith, nat_tests, lookup-above es k h.1)
+
+-- where no record passes a test, none that is found does
+pub fails-lookup : (test : Record → Bool) (es : Entries) (n : ℕ) (r : Record) → list_any test (values_of es) ≡ false → lookup (nat_eq n) es ≡ Some r → test r ≡ false
+fails-lookup test [] n r h found = cc
+fails-lookup test (e ∷ es) n r h found = grind (arith, nat_tests, fails-lookup test es n r)
+
+-- the nodes of a front are below that of what follows it
+pub Rises-front : (es fs : Entries) (e : ℕ × Record) → Rises (es ++ e ∷ fs) → AllByRecursion (λ f. f.0 < e.0) es
+Rises-front [] fs e h = tt
+Rises-front (f ∷ es) fs e h = (below es h.0, Rises-front es fs e h.1)
+  where
+    below : (gs : Entries) → AllByRecursion (λ g. f.0 < g.0) (gs ++ e ∷ fs) → f.0 < e.0
+    below [] k = k.0
+    below (g ∷ gs) k = below gs k.1

@@ -1,0 +1,5 @@
+use Rattle.lq_volume.proofs.Keeps.{keeps-all}
+use Rattle.lq_volume.proofs.laws.accepted_changes_keep_trees.Goals as goal
+
+pub returns : goal.returns
+returns c = keeps-all

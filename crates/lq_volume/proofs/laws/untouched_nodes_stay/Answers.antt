@@ -1,0 +1,5 @@
+use Rattle.lq_volume.proofs.Keeps.{untouched-all}
+use Rattle.lq_volume.proofs.laws.untouched_nodes_stay.Goals as goal
+
+pub returns : goal.returns
+returns c = untouched-all

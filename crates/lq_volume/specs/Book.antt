@@ -1,0 +1,44 @@
+-- A book: a state to begin with, and the accepted changes since, in order.
+use Rattle.std.specs.Prelude.{◌≡◌, ℕ, ◌+◌, ◌-◌, List, [], ◌∷◌, ◌++◌, length, take, drop}
+use Rattle.lq_volume.specs.declared.change.Change.{Change}
+use Rattle.lq_volume.specs.State.{State}
+use Rattle.lq_volume.specs.Change.{after, IsLawful}
+
+pub record Book : Type 0 where
+  pub start : State
+  pub changes : List Change
+
+abbrev pub after_all : State → List Change → State
+after_all s [] = s
+after_all s (c ∷ cs) = after_all (after s c) cs
+
+-- each change is lawful after those before it
+abbrev pub AreLawful : State → List Change → Type 0
+AreLawful s [] = Unit {0}
+AreLawful s (c ∷ cs) = IsLawful s c × AreLawful (after s c) cs
+
+abbrev pub IsBook : Book → Type 0
+IsBook b = AreLawful b.start b.changes
+
+-- the state that the book leads to, and its number
+abbrev pub state_of : Book → State
+state_of b = after_all b.start b.changes
+
+abbrev pub number_of : Book → ℕ
+number_of b = b.start.number + length b.changes
+
+-- the state whose number is n
+abbrev pub state_at : Book → ℕ → State
+state_at b n = after_all b.start (take (n - b.start.number) b.changes)
+
+-- the changes above number m, up to number n
+abbrev pub changes_between : Book → ℕ → ℕ → List Change
+changes_between b m n = take (n - m) (drop (m - b.start.number) b.changes)
+
+-- the book with more changes at its end
+abbrev pub grown : Book → List Change → Book
+grown b changes = record { start = b.start; changes = b.changes ++ changes }
+
+-- one start, and a prefix of the changes
+abbrev pub Extends : Book → Book → Type 0
+Extends c b = (more : List Change) × (c ≡ grown b more)

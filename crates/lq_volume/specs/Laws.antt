@@ -1,0 +1,15 @@
+-- What is so of every accepted change.
+use Rattle.std.specs.Prelude.{◌≡◌, ℕ, ◌≢◌}
+use Rattle.std.specs.List.{AllByRecursion}
+use Rattle.lq_volume.specs.declared.change.Change.{Change}
+use Rattle.lq_volume.specs.State.{State, IsVolume, record_at}
+use Rattle.lq_volume.specs.Change.{after, touched_by, IsLawful}
+
+-- the state after an accepted change is a tree again
+abbrev pub ChangesKeepTrees : Type 0
+ChangesKeepTrees = (s : State) (c : Change) → IsVolume s → IsLawful s c → IsVolume (after s c)
+
+-- a node that a change doesn't touch has the record that it had
+abbrev pub UntouchedStay : Type 0
+UntouchedStay = (s : State) (c : Change) (n : ℕ) → IsVolume s → IsLawful s c
+    → AllByRecursion (λ node. n ≢ node) (touched_by s c) → record_at s n ≡ record_at (after s c) n

@@ -1,0 +1,99 @@
+-- What a volume holds: its limit, how many changes it accepted, the next node, and the records by rising node.
+use Rattle.std.specs.Prelude.{ℕ, ℤ, zero, suc, ◌≡◌, ◌+◌, ◌≤◌, ◌<◌, List, [], ◌∷◌, length, Bool, true, false, ◌&&◌, ◌||◌, ◌==◌, nat_eq, Option, Some, None, if◌then◌else◌}
+use Rattle.std.specs.Option.{option_map, option_map_or}
+use Rattle.std.specs.List.{list_any, AllByRecursion}
+use Rattle.std.specs.Map.{lookup, values_of}
+use Rattle.std.specs.Str.{bytes_eq}
+use Rattle.lq_value.specs.declared.kind.Kind.{Kind}
+use Rattle.lq_value.specs.declared.kind.Kind.TheVariants.{File, Folder}
+use Rattle.lq_volume.specs.Kind.{is_folder}
+
+-- an entry, under its node
+pub record Record : Type 0 where
+  pub dir : ℕ
+  pub name : List ℕ
+  pub kind : Kind
+  pub size : ℕ
+  pub time : ℤ
+
+pub record State : Type 0 where
+  pub limit : ℕ
+  pub number : ℕ
+  pub next : ℕ
+  pub records : List (ℕ × Record)
+
+-- the root has no record
+abbrev pub root : ℕ
+root = 1
+
+abbrev pub record_at : State → ℕ → Option Record
+record_at s node = lookup (nat_eq node) s.records
+
+-- the kind of a node: the root is a folder
+abbrev pub kind_at : State → ℕ → Option Kind
+kind_at s node = if node == root then Some Folder else option_map (λ r. r.kind) (record_at s node)
+
+-- whether the node is there and is a folder
+abbrev pub is_folder_at : State → ℕ → Bool
+is_folder_at s node = option_map_or is_folder (kind_at s node) false
+
+-- the folder that a node is in; the root is in none
+abbrev pub dir_of : List (ℕ × Record) → ℕ → Option ℕ
+dir_of es node = option_map (λ r. r.dir) (lookup (nat_eq node) es)
+
+-- whether a walk up from a node, of at most so many steps, comes to another
+abbrev pub climbs : ℕ → (ℕ → Option ℕ) → ℕ → ℕ → Bool
+climbs zero up to at = at == to
+climbs (suc steps) up to at = (at == to) || option_map_or (climbs steps up to) (up at) false
+
+-- whether a walk up by the folders comes from a node to another: whether it is that one or below it
+abbrev pub reaches : State → ℕ → ℕ → Bool
+reaches s at to = climbs (length s.records) (dir_of s.records) to at
+
+-- the node that has a place
+abbrev pub node_in : List (ℕ × Record) → ℕ → List ℕ → Option ℕ
+node_in [] dir name = None
+node_in (e ∷ es) dir name = if (e.1.dir == dir) && bytes_eq e.1.name name then Some e.0 else node_in es dir name
+
+-- whether an entry is in the folder, and whether one has that place
+abbrev pub has_entries : State → ℕ → Bool
+has_entries s dir = list_any (λ r. r.dir == dir) (values_of s.records)
+
+abbrev pub is_taken : State → ℕ → List ℕ → Bool
+is_taken s dir name = list_any (λ r. (r.dir == dir) && bytes_eq r.name name) (values_of s.records)
+
+-- the volume before any change
+abbrev pub empty_state : ℕ → State
+empty_state limit = record { limit = limit; number = 0; next = 2; records = [] }
+
+-- the nodes rise, so none comes twice
+abbrev pub Rises : List (ℕ × Record) → Type 0
+Rises [] = Unit {0}
+Rises (e ∷ es) = AllByRecursion (λ f. e.0 < f.0) es × Rises es
+
+-- what is always so of a volume's numbers and nodes
+pub record IsNumbered (s : State) : Type 0 where
+  pub limit : s.limit ≤ 1000000000000
+  pub number : s.number ≤ s.limit
+  pub next : 2 ≤ s.next
+  pub few : s.next ≤ s.number + 2
+  pub rise : Rises s.records
+  pub below : AllByRecursion (λ e. e.0 < s.next) s.records
+
+-- the records are a tree
+pub record IsTree (s : State) : Type 0 where
+  -- each record is in the root or in a folder of the map
+  pub folders : (n : ℕ) (r : Record) → record_at s n ≡ Some r → is_folder_at s r.dir ≡ true
+  -- walking up reaches the root
+  pub climb : (n : ℕ) (r : Record) → record_at s n ≡ Some r → reaches s n root ≡ true
+  -- no two records share a folder and a name
+  pub apart : (m n : ℕ) (q r : Record) → record_at s m ≡ Some q → record_at s n ≡ Some r → q.dir ≡ r.dir → q.name ≡ r.name → m ≡ n
+  -- a folder's size is 0
+  pub sizes : (n : ℕ) (r : Record) → record_at s n ≡ Some r → is_folder r.kind ≡ true → r.size ≡ 0
+  -- the root has no record
+  pub no_root : record_at s root ≡ None
+
+-- what is always so of a volume
+pub record IsVolume (s : State) : Type 0 where
+  pub numbered : IsNumbered s
+  pub tree : IsTree s

@@ -1,0 +1,26 @@
+//! The changes of a volume.
+use lq_value::{Kind, Name};
+
+/// One act on a volume. Nodes count from 1, the root; times are seconds since 1970.
+#[derive(Debug, Drop)]
+pub enum Change {
+    /// A new entry in the folder `dir`, under the next node; `size` is in bytes.
+    Create {
+        dir: u64,
+        name: Name,
+        kind: Kind,
+        size: u64,
+        time: i64,
+    },
+    /// The entry of a node goes.
+    Remove {
+        node: u64,
+    },
+}
+
+/// What an accepted change did: its number, from 1 on, and the node that it created or named.
+#[derive(Clone, Copy, Debug, PartialEq, Eq)]
+pub struct Applied {
+    pub change: u64,
+    pub node: u64,
+}
