@@ -1,0 +1,169 @@
+-- What a query's result loses between two states that differ at two nodes alone.
+use Rattle.std.proofs.Common.{◌≡◌, ℕ, ◌+◌, ◌<◌, List, [], ◌∷◌, ◌++◌, refl, sym, arith, ap, ◌∙◌, Bool, true, false, eqb, inl, inr, append-nil}
+use Rattle.std.specs.Prelude.{not, filter, map, cond, ◌&&◌, ◌==◌, Option, Some, None, option_and_then}
+use Rattle.std.specs.Option.{option_map_or, option_to_list}
+use Rattle.std.specs.List.{AllByRecursion, list_any}
+use Rattle.std.specs.Str.{bytes_eq}
+use Rattle.std.specs.Map.{lookup}
+use Rattle.std.proofs.lemmas.Bool.{cases_eq}
+use Rattle.std.proofs.lemmas.Bool.Decides.{nat_tests}
+use Rattle.std.proofs.lemmas.Slice.Eq.{bytes_eq-Decides}
+use Rattle.lq_value.specs.declared.entry.Entry.{Entry}
+use Rattle.lq_predicate.specs.Query.{Query}
+use Rattle.lq_predicate.specs.Truth.{truth}
+use Rattle.lq_volume.specs.declared.change.Change.{Change}
+use Rattle.lq_volume.specs.State.{State, Record, Rises, record_at, IsVolume}
+use Rattle.lq_volume.specs.Change.{after, node_of}
+use Rattle.lq_volume.specs.Result.{entry_of, shown, result_of, match_at, entry_if}
+use Rattle.lq_update.specs.declared.message.Opcode.{Opcode}
+use Rattle.lq_update.specs.declared.message.Opcode.TheVariants.{Created, Removed}
+use Rattle.lq_update.specs.Diff.{same_entry, missing, diff}
+use Rattle.lq_update.specs.Touched.{left}
+use Rattle.lq_update.specs.Updates.{numbered, step_of}
+
+abbrev pub Entries : Type 0
+Entries = List (ℕ × Record)
+
+abbrev pub same_place : Record → Record → Bool
+same_place a b = (a.dir == b.dir) && bytes_eq a.name b.name
+
+lookup-below : (es : Entries) (k : ℕ) → AllByRecursion (λ f. k < f.0) es → lookup (eqb k) es ≡ None
+lookup-below [] k h = refl
+lookup-below (e ∷ es) k h = grind (arith, nat_tests, lookup-below es k h.1)
+
+All-above : (es : Entries) (j k : ℕ) → j < k → AllByRecursion (λ f. k < f.0) es → AllByRecursion (λ f. j < f.0) es
+All-above [] j k lt h = tt
+All-above (e ∷ es) j k lt h = (omega (arith, h.0), All-above es j k lt h.1)
+
+-- the entry of a node that passes a test
+abbrev pub pick : (ℕ × Record → Bool) → Entries → ℕ → Option Entry
+pick t es n = option_and_then (λ r. cond (t (n, r)) (Some (entry_of (n, r))) None) (lookup (eqb n) es)
+
+-- where two nodes alone may pass, those two are all that does
+two-picked : (t : ℕ × Record → Bool) (a b : ℕ) (es : Entries) → a < b → Rises es → AllByRecursion (λ e. (e.0 ≡ a → ⊥) → (e.0 ≡ b → ⊥) → t e ≡ false) es
+    → map entry_of (filter t es) ≡ option_to_list (pick t es a) ++ option_to_list (pick t es b)
+two-picked t a b [] lt h off = refl
+two-picked t a b (e ∷ es) lt h off =
+    let rest = two-picked t a b es lt h.1 off.1 in
+    elim (cases_eq e.0 a) [
+      | inl same ↦ let gone = lookup-below es a (rw (← same) h.0) in first same (t e) refl rest gone
+      | inr differs ↦ elim (cases_eq e.0 b) [
+          | inl here ↦ let gone = lookup-below es b (rw (← here) h.0) in let before = lookup-below es a (All-above es a b lt (rw (← here) h.0)) in second here (t e) refl rest gone before
+          | inr other ↦ let fails = off.0 differs other in neither differs other fails rest
+        ]
+    ]
+  where
+    first : e.0 ≡ a → (x : Bool) → t e ≡ x → map entry_of (filter t es) ≡ option_to_list (pick t es a) ++ option_to_list (pick t es b) → lookup (eqb a) es ≡ None → map entry_of (filter t (e ∷ es)) ≡ option_to_list (pick t (e ∷ es) a) ++ option_to_list (pick t (e ∷ es) b)
+    first same true is rest gone = grind (arith, nat_tests)
+    first same false is rest gone = grind (arith, nat_tests)
+    second : e.0 ≡ b → (x : Bool) → t e ≡ x → map entry_of (filter t es) ≡ option_to_list (pick t es a) ++ option_to_list (pick t es b) → lookup (eqb b) es ≡ None → lookup (eqb a) es ≡ None → map entry_of (filter t (e ∷ es)) ≡ option_to_list (pick t (e ∷ es) a) ++ option_to_list (pick t (e ∷ es) b)
+    second here true is rest gone before = grind (arith, nat_tests)
+    second here false is rest gone before = grind (arith, nat_tests)
+    neither : (e.0 ≡ a → ⊥) → (e.0 ≡ b → ⊥) → t e ≡ false → map entry_of (filter t es) ≡ option_to_list (pick t es a) ++ option_to_list (pick t es b) → map entry_of (filter t (e ∷ es)) ≡ option_to_list (pick t (e ∷ es) a) ++ option_to_list (pick t (e ∷ es) b)
+    neither differs other fails rest = grind (arith, nat_tests)
+
+module _ (test : ℕ × Record → Bool) where
+  -- whether another list has the entry too, and the test passes there
+  abbrev pub kept : Entries → ℕ × Record → Bool
+  kept fs e = option_map_or (λ r. test (e.0, r) && same_place e.1 r) (lookup (eqb e.0) fs) false
+
+  abbrev pub lost : Entries → ℕ × Record → Bool
+  lost fs e = test e && not (kept fs e)
+
+  not_found-below : (e : ℕ × Record) (fs : Entries) → AllByRecursion (λ f. e.0 < f.0) fs → list_any (same_entry (entry_of e)) (map entry_of (filter test fs)) ≡ false
+  not_found-below e [] h = refl
+  not_found-below e (f ∷ fs) h = grind (arith, nat_tests, not_found-below e fs h.1)
+
+  -- an entry is among those that pass just where its node's record passes and has its place
+  in_found : (e : ℕ × Record) (fs : Entries) → Rises fs → list_any (same_entry (entry_of e)) (map entry_of (filter test fs)) ≡ kept fs e
+  in_found e [] h = refl
+  in_found e (f ∷ fs) h = elim (cases_eq e.0 f.0) [
+      | inl same ↦ let off = not_found-below e fs (rw same h.0) in grind (arith, nat_tests)
+      | inr differs ↦ grind (arith, nat_tests, in_found e fs h.1)
+    ]
+
+  missing-lost : (es fs : Entries) → Rises fs → missing (map entry_of (filter test es)) (map entry_of (filter test fs)) ≡ map entry_of (filter (lost fs) es)
+  missing-lost [] fs h = refl
+  missing-lost (e ∷ es) fs h = let is = in_found e fs h in grind (arith, nat_tests, missing-lost es fs h)
+
+  -- a node whose record is in both lists is not lost
+  lost-outside : (a b : ℕ) (es fs : Entries) → Rises es → ((n : ℕ) (r : Record) → (n ≡ a → ⊥) → (n ≡ b → ⊥) → lookup (eqb n) es ≡ Some r → lookup (eqb n) fs ≡ Some r)
+      → AllByRecursion (λ e. (e.0 ≡ a → ⊥) → (e.0 ≡ b → ⊥) → lost fs e ≡ false) es
+  lost-outside a b [] fs h agree = tt
+  lost-outside a b (e ∷ es) fs h agree =
+      ( (λ x y. let is = agree e.0 e.1 x y (grind (arith, nat_tests)) in let same = (bytes_eq-Decides e.1.name e.1.name).1 refl in here (test e) refl is same),
+        lost-outside a b es fs h.1 (λ n r x y is. agree n r x y (skip n r is)))
+    where
+      here : (x : Bool) → test e ≡ x → lookup (eqb e.0) fs ≡ Some e.1 → bytes_eq e.1.name e.1.name ≡ true → lost fs e ≡ false
+      here true k is same = grind (arith, nat_tests)
+      here false k is same = grind (arith, nat_tests)
+      skip : (n : ℕ) (r : Record) → lookup (eqb n) es ≡ Some r → lookup (eqb n) (e ∷ es) ≡ Some r
+      skip n r is = let gone = lookup-below es e.0 h.0 in grind (arith, nat_tests)
+
+  -- two lists that differ at two nodes alone: what the first has and the second lacks
+  pub missing-two : (a b : ℕ) (es fs : Entries) → a < b → Rises es → Rises fs → ((n : ℕ) (r : Record) → (n ≡ a → ⊥) → (n ≡ b → ⊥) → lookup (eqb n) es ≡ Some r → lookup (eqb n) fs ≡ Some r)
+      → missing (map entry_of (filter test es)) (map entry_of (filter test fs)) ≡ option_to_list (pick (lost fs) es a) ++ option_to_list (pick (lost fs) es b)
+  missing-two a b es fs lt h k agree = missing-lost es fs k ∙ two-picked (lost fs) a b es lt h (lost-outside a b es fs h agree)
+
+  -- and nothing at a node where they are one
+  pub pick-same : (es fs : Entries) (n : ℕ) → lookup (eqb n) es ≡ lookup (eqb n) fs → pick (lost fs) es n ≡ None
+  pick-same es fs n same = at (lookup (eqb n) es) refl
+    where
+      both : (r : Record) → lookup (eqb n) es ≡ Some r → lookup (eqb n) fs ≡ Some r → bytes_eq r.name r.name ≡ true → (x : Bool) → test (n, r) ≡ x → pick (lost fs) es n ≡ None
+      both r is there name true k = grind (arith, nat_tests)
+      both r is there name false k = grind (arith, nat_tests)
+      at : (o : Option Record) → lookup (eqb n) es ≡ o → pick (lost fs) es n ≡ None
+      at None is = grind (arith, nat_tests)
+      at (Some r) is = let there : lookup (eqb n) fs ≡ Some r = sym same ∙ is in let name = (bytes_eq-Decides r.name r.name).1 refl in both r is there name (test (n, r)) refl
+
+pick-left : (q : Query) (s t : State) (n : ℕ) → pick (lost (λ f. truth q (shown f.1)) t.records) s.records n ≡ left (match_at q s n) (match_at q t n)
+pick-left q s t n = at (record_at s n) refl (record_at t n) refl
+  where
+    both : (r v : Record) → record_at s n ≡ Some r → record_at t n ≡ Some v → (x : Bool) → truth q (shown r) ≡ x → (y : Bool) → truth q (shown v) ≡ y → pick (lost (λ f. truth q (shown f.1)) t.records) s.records n ≡ left (match_at q s n) (match_at q t n)
+    both r v is there true k true l = rw (is, there, k, l) (grind (arith, nat_tests))
+    both r v is there true k false l = rw (is, there, k, l) (grind (arith, nat_tests))
+    both r v is there false k true l = rw (is, there, k) (grind (arith, nat_tests))
+    both r v is there false k false l = rw (is, there, k) (grind (arith, nat_tests))
+    one : (r : Record) → record_at s n ≡ Some r → record_at t n ≡ None → (x : Bool) → truth q (shown r) ≡ x → pick (lost (λ f. truth q (shown f.1)) t.records) s.records n ≡ left (match_at q s n) (match_at q t n)
+    one r is there true k = rw (is, there, k) (grind (arith, nat_tests))
+    one r is there false k = rw (is, there, k) (grind (arith, nat_tests))
+    at : (o : Option Record) → record_at s n ≡ o → (p : Option Record) → record_at t n ≡ p → pick (lost (λ f. truth q (shown f.1)) t.records) s.records n ≡ left (match_at q s n) (match_at q t n)
+    at None is p there = rw is refl
+    at (Some r) is None there = one r is there (truth q (shown r)) refl
+    at (Some r) is (Some v) there = both r v is there (truth q (shown r)) refl (truth q (shown v)) refl
+
+-- what two states that differ at these nodes alone tell a query
+pub diff-touched : (q : Query) (moved : Bool) (s t : State) (a b : ℕ) → a < b → Rises s.records → Rises t.records
+    → ((n : ℕ) → (n ≡ a → ⊥) → (n ≡ b → ⊥) → record_at s n ≡ record_at t n)
+    → diff q moved s t ≡ map (λ e. (Removed, e)) (option_to_list (left (match_at q s a) (match_at q t a)) ++ option_to_list (left (match_at q s b) (match_at q t b)))
+        ++ map (λ e. (Created, e)) (option_to_list (left (match_at q t a) (match_at q s a)) ++ option_to_list (left (match_at q t b) (match_at q s b)))
+diff-touched q moved s t a b lt h k same =
+    let test : ℕ × Record → Bool = λ f. truth q (shown f.1) in
+    let gone : missing (result_of q s) (result_of q t) ≡ option_to_list (left (match_at q s a) (match_at q t a)) ++ option_to_list (left (match_at q s b) (match_at q t b)) =
+      missing-two test a b s.records t.records lt h k (λ n r x y is. sym (same n x y) ∙ is) ∙ rw (pick-left q s t a, pick-left q s t b) refl in
+    let new : missing (result_of q t) (result_of q s) ≡ option_to_list (left (match_at q t a) (match_at q s a)) ++ option_to_list (left (match_at q t b) (match_at q s b)) =
+      missing-two test a b t.records s.records lt k h (λ n r x y is. same n x y ∙ is) ∙ rw (pick-left q t s a, pick-left q t s b) refl in
+    rw (gone, new) refl
+
+left-same : (o : Option Entry) → left o o ≡ None
+left-same None = refl
+left-same (Some e) = let name = (bytes_eq-Decides e.name e.name).1 refl in grind (arith, nat_tests)
+
+-- at one node alone
+pub diff-one : (q : Query) (moved : Bool) (s t : State) (a : ℕ) → Rises s.records → Rises t.records → ((n : ℕ) → (n ≡ a → ⊥) → record_at s n ≡ record_at t n)
+    → diff q moved s t ≡ map (λ e. (Removed, e)) (option_to_list (left (match_at q s a) (match_at q t a))) ++ map (λ e. (Created, e)) (option_to_list (left (match_at q t a) (match_at q s a)))
+diff-one q moved s t a h k same =
+    let next : match_at q s (a + 1) ≡ match_at q t (a + 1) = ap (option_and_then (λ r. entry_if q (a + 1, r))) (same (a + 1) (λ e. let f : ⊥ = omega arith in f)) in
+    diff-touched q moved s t a (a + 1) (omega arith) h k (λ n x y. same n x) ∙ rw (next, left-same, append-nil, append-nil) refl
+
+-- a change that touches one node tells just what matched there before and after
+pub step-one : (q : Query) (moved : Bool) (s : State) (c : Change) (seq : ℕ) (removed created : Option Entry)
+    → IsVolume s → IsVolume (after s c) → ((n : ℕ) → (n ≡ node_of s c → ⊥) → record_at s n ≡ record_at (after s c) n)
+    → removed ≡ left (match_at q s (node_of s c)) (match_at q (after s c) (node_of s c))
+    → created ≡ left (match_at q (after s c) (node_of s c)) (match_at q s (node_of s c))
+    → numbered seq (s.number + 1) (map (λ e. (Removed, e)) (option_to_list removed) ++ map (λ e. (Created, e)) (option_to_list created)) ≡ step_of q moved s c seq
+step-one q moved s c seq removed created v w same gone came =
+    let all = diff-one q moved s (after s c) (node_of s c) v.numbered.rise w.numbered.rise same in
+    ap (λ o. numbered seq (s.number + 1) (map (λ e. (Removed, e)) (option_to_list o) ++ map (λ e. (Created, e)) (option_to_list created))) gone
+    ∙ (ap (λ o. numbered seq (s.number + 1) (map (λ e. (Removed, e)) (option_to_list (left (match_at q s (node_of s c)) (match_at q (after s c) (node_of s c)))) ++ map (λ e. (Created, e)) (option_to_list o))) came
+    ∙ ap (numbered seq (s.number + 1)) (sym all))

@@ -1,0 +1,4 @@
+pub mod Diff
+pub mod Updates
+pub mod Laws
+pub mod Touched

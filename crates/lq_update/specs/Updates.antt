@@ -1,0 +1,41 @@
+-- The messages of a query over a book of changes.
+use Rattle.std.specs.Prelude.{◌≡◌, ℕ, ◌+◌, List, [], ◌∷◌, ◌++◌, length, Bool, true, ◌==◌}
+use Rattle.lq_value.specs.declared.entry.Entry.{Entry}
+use Rattle.lq_predicate.specs.Query.{Query}
+use Rattle.lq_volume.specs.declared.change.Change.{Change}
+use Rattle.lq_volume.specs.State.{State}
+use Rattle.lq_volume.specs.Change.{after}
+use Rattle.lq_volume.specs.Book.{Book, after_all, state_at, changes_between}
+use Rattle.lq_update.specs.declared.message.Opcode.{Opcode}
+use Rattle.lq_update.specs.declared.message.Message.{Message}
+use Rattle.lq_update.specs.Diff.{diff}
+
+-- the messages of one change, numbered from `seq` on, the final one marked as the last
+abbrev pub numbered : ℕ → ℕ → List (Opcode × Entry) → List Message
+numbered seq change [] = []
+numbered seq change (x ∷ xs) =
+    record { seq = seq; change = change; last = length xs == 0; op = x.0; dir = x.1.dir; name = x.1.name; node = x.1.node }
+    ∷ numbered (seq + 1) change xs
+
+-- the messages of a lawful change to a state
+abbrev pub step_of : Query → Bool → State → Change → ℕ → List Message
+step_of q moved s c seq = numbered seq (s.number + 1) (diff q moved s (after s c))
+
+-- the messages of changes one after another, numbered from `seq` on
+abbrev pub updates_from : Query → Bool → State → List Change → ℕ → List Message
+updates_from q moved s [] seq = []
+updates_from q moved s (c ∷ cs) seq =
+    step_of q moved s c seq ++ updates_from q moved (after s c) cs (seq + length (step_of q moved s c seq))
+
+-- the update list of a query, from number m to number n of a book
+abbrev pub updates_of : Query → Bool → Book → ℕ → ℕ → List Message
+updates_of q moved b m n = updates_from q moved (state_at b m) (changes_between b m n) 1
+
+abbrev pub IsPrefixOf : List Message → List Message → Type 0
+IsPrefixOf xs ys = (rest : List Message) × (xs ++ rest ≡ ys)
+
+-- no message yet, or the final one was the last of its change
+abbrev pub IsSettled : List Message → Type 0
+IsSettled [] = Unit {0}
+IsSettled (m ∷ []) = m.last ≡ true
+IsSettled (m ∷ n ∷ ms) = IsSettled (n ∷ ms)

@@ -1,0 +1,14 @@
+//! What one change does to one query's result, as numbered messages.
+//!
+//! A contract sees the messages of a query over a book of changes as a list (`specs/Updates`),
+//! which goes by the results before and after each change alone (`specs/Diff`). Nothing here
+//! waits. Begin with `message`, then `step`.
+#![tactic(auto)]
+
+mod laws;
+mod message;
+mod touched;
+
+pub use laws::{updates_grow, updates_join};
+pub use message::{Message, Opcode};
+pub use touched::step;
