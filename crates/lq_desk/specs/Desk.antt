@@ -1,0 +1,63 @@
+-- What the desk keeps, and which worlds it shows.
+use Rattle.std.specs.Prelude.{◌≡◌, ℕ, ◌+◌, ◌-◌, ◌*◌, ◌≤◌, List, [], ◌∷◌, ◌++◌, length, map, drop, Bool, Option, Some, None, ◌==◌, slice_get, slice_set, if◌then◌else◌}
+use Rattle.std.specs.List.{AllByRecursion}
+use Rattle.lq_value.specs.declared.refusal.Refusal.{Refusal}
+use Rattle.lq_value.specs.Refusal.{first_refusal}
+use Rattle.lq_predicate.specs.Query.{Query}
+use Rattle.lq_volume.specs.declared.change.Change.{Change as Change_}
+use Rattle.lq_volume.specs.State.{State}
+use Rattle.lq_volume.specs.Change.{after}
+use Rattle.lq_volume.specs.Book.{Book, number_of, state_of}
+use Rattle.lq_update.specs.declared.message.Message.{Message}
+use Rattle.lq_desk.specs.Held.{Held, held_after}
+use Rattle.lq_desk.specs.World.{World, Sub, whole, opening_refusals}
+
+-- the volume, the openings so far, and what is held for each slot
+pub record Kept : Type 0 where
+  pub volume : State
+  pub openings : ℕ
+  pub held : List Held
+
+abbrev pub changed : Kept → Change_ → Kept
+changed k c = record { volume = after k.volume c; openings = k.openings; held = map (held_after k.volume c) k.held }
+
+abbrev pub opened : Kept → Query → Bool → Kept
+opened k q moved = record { volume = k.volume; openings = k.openings + 1; held = k.held ++ record { query = q; moved = moved; sent = 0; waiting = [] } ∷ [] }
+
+abbrev pub opening_refusal : Kept → ℕ → ℕ → Option Refusal
+opening_refusal k port backlog = first_refusal (opening_refusals port backlog (length k.held) k.openings k.volume.limit)
+
+-- what is held for a slot, if it is open
+abbrev pub held_at : Kept → ℕ → Option Held
+held_at k slot = if slot == 0 then None else slice_get k.held (slot - 1)
+
+-- with the first message that waits taken
+abbrev pub taken_from : Held → Held
+taken_from h = record { query = h.query; moved = h.moved; sent = h.sent; waiting = drop 1 h.waiting }
+
+abbrev pub taken : Kept → ℕ → Held → Kept
+taken k slot h = record { volume = k.volume; openings = k.openings; held = slice_set k.held (slot - 1) (taken_from h) }
+
+-- what a world's subscription leaves with the desk
+abbrev pub held_for : Book → Sub → Held
+held_for b s = record { query = s.query; moved = s.moved; sent = length (whole b s); waiting = drop s.taken (whole b s) }
+
+-- what the desk keeps where this world stands
+abbrev pub kept_of : World → Kept
+kept_of w = record { volume = state_of w.book; openings = w.openings; held = map (held_for w.book) w.slots }
+
+-- no opening is before the book or past it, and no more was taken than there is
+pub record IsFair (b : Book) (s : Sub) : Type 0 where
+  pub begun : b.start.number ≤ s.opened
+  pub opened : s.opened ≤ number_of b
+  pub taken : s.taken ≤ length (whole b s)
+
+pub record Shows (k : Kept) (w : World) : Type 0 where
+  pub fair : AllByRecursion (IsFair w.book) w.slots
+  pub kept : k ≡ kept_of w
+
+-- a desk shows some world, and numbers its messages within a `u64`
+pub record IsDesk (k : Kept) : Type 0 where
+  pub few : AllByRecursion (λ h. h.sent ≤ 3 * k.volume.number) k.held
+  pub world : World
+  pub shows : Shows k world

@@ -1,0 +1,5 @@
+pub mod World
+pub mod Headline
+pub mod Held
+pub mod Desk
+pub mod Reply

@@ -1,0 +1,11 @@
+//! The core of the live query server, one event at a time, without threads.
+//!
+//! A contract sees a desk as what it keeps (`specs/Desk`), which shows a world: a book of changes
+//! and the subscriptions over it (`specs/World`). The headline stands in `specs/Headline`.
+//! Nothing here waits. Begin with `event`, then `desk`.
+#![tactic(auto)]
+
+mod event;
+mod sub;
+
+pub use event::{Event, Read, Reply};
