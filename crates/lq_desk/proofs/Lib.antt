@@ -1,0 +1,3 @@
+pub mod WorldLaws
+pub mod Fronts
+pub mod Openings

@@ -1,5 +1,5 @@
 -- What a query's result loses between two states that differ at two nodes alone.
-use Rattle.std.proofs.Common.{◌≡◌, ℕ, ◌+◌, ◌<◌, List, [], ◌∷◌, ◌++◌, refl, sym, arith, ap, ◌∙◌, Bool, true, false, eqb, inl, inr, append-nil}
+use Rattle.std.proofs.Common.{◌≡◌, ℕ, ◌+◌, ◌<◌, ◌≤◌, length, List, [], ◌∷◌, ◌++◌, refl, sym, arith, ap, ◌∙◌, Bool, true, false, eqb, inl, inr, append-nil}
 use Rattle.std.specs.Prelude.{not, filter, map, cond, ◌&&◌, ◌==◌, Option, Some, None, option_and_then}
 use Rattle.std.specs.Option.{option_map_or, option_to_list}
 use Rattle.std.specs.List.{AllByRecursion, list_any}
@@ -167,3 +167,15 @@ step-one q moved s c seq removed created v w same gone came =
     ap (λ o. numbered seq (s.number + 1) (map (λ e. (Removed, e)) (option_to_list o) ++ map (λ e. (Created, e)) (option_to_list created))) gone
     ∙ (ap (λ o. numbered seq (s.number + 1) (map (λ e. (Removed, e)) (option_to_list (left (match_at q s (node_of s c)) (match_at q (after s c) (node_of s c)))) ++ map (λ e. (Created, e)) (option_to_list o))) came
     ∙ ap (numbered seq (s.number + 1)) (sym all))
+
+-- so few messages
+pub few-numbered : (seq number : ℕ) (o p : Option Entry) → length (numbered seq number (map (λ e. (Removed, e)) (option_to_list o) ++ map (λ e. (Created, e)) (option_to_list p))) ≤ 3
+few-numbered seq number None None = omega arith
+few-numbered seq number None (Some b) = omega arith
+few-numbered seq number (Some a) None = omega arith
+few-numbered seq number (Some a) (Some b) = omega arith
+
+pub few-one : (q : Query) (moved : Bool) (s : State) (c : Change) (seq : ℕ) → IsVolume s → IsVolume (after s c)
+    → ((n : ℕ) → (n ≡ node_of s c → ⊥) → record_at s n ≡ record_at (after s c) n) → length (step_of q moved s c seq) ≤ 3
+few-one q moved s c seq v w same =
+    rw (← step-one q moved s c seq _ _ v w same refl refl) (few-numbered seq (s.number + 1) _ _)

@@ -1,5 +1,7 @@
 //! Laws of the update lists: each is the contract of a function with no body.
-ghost use Rattle.lq_update.specs.Laws.{UpdatesGrow, UpdatesJoin};
+ghost use Rattle.lq_update.specs.Laws.{StepsAreFew, UpdatesGrow, UpdatesJoin};
+
+use lq_volume::{accepted_changes_keep_trees, untouched_nodes_stay};
 
 /// A longer book only adds to the end of an update list: the prefix law.
 pub fn updates_grow()
@@ -12,4 +14,12 @@ pub fn updates_grow()
 pub fn updates_join()
     ensures { UpdatesJoin }
 {
+}
+
+/// An accepted change tells a query at most three messages.
+pub fn steps_are_few()
+    ensures { StepsAreFew }
+{
+    accepted_changes_keep_trees();
+    untouched_nodes_stay();
 }

@@ -9,6 +9,6 @@ mod laws;
 mod message;
 mod touched;
 
-pub use laws::{updates_grow, updates_join};
+pub use laws::{steps_are_few, updates_grow, updates_join};
 pub use message::{Message, Opcode};
 pub use touched::step;
