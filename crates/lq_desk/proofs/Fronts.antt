@@ -57,7 +57,7 @@ take-suc_more [] i x h = cc
 take-suc_more (y ∷ xs) zero x h = (cc, omega arith)
 take-suc_more (y ∷ xs) (suc i) x h = let more = take-suc_more xs i x h in (ap (λ zs. y ∷ zs) more.0, omega (arith, more.1))
 
-take-one_more : {A : Type 0} (xs : List A) (i : ℕ) (x : A) → slice_get xs i ≡ Some x → (take (i + 1) xs ≡ take i xs ++ x ∷ []) × (i + 1 ≤ length xs)
+pub take-one_more : {A : Type 0} (xs : List A) (i : ℕ) (x : A) → slice_get xs i ≡ Some x → (take (i + 1) xs ≡ take i xs ++ x ∷ []) × (i + 1 ≤ length xs)
 take-one_more xs i x h = rw add-one (take-suc_more xs i x h)
 
 module _ (join : UpdatesJoin) where
@@ -76,10 +76,10 @@ module _ (join : UpdatesJoin) where
       → Gives w i s (read_by (i + 1) (Opening q port backlog moved) (opening w q moved r).0) (opening w q moved r).1
   opening-gives w i s q port backlog moved (Some e) h = gives_nothing w i s h
   opening-gives w i s q port backlog moved None h = record {
-        taken = s.taken;
-        stands = record { here = slice_get-inside w.slots _ i s h.here; opened = h.opened; taken = h.taken };
-        front = append-nil _;
-      }
+    taken = s.taken;
+    stands = record { here = slice_get-inside w.slots _ i s h.here; opened = h.opened; taken = h.taken };
+    front = append-nil _;
+  }
 
   -- a take of this slot
   own_take : (w : World) (i : ℕ) (s : Sub) (k place : ℕ) (o : Option Message) → Stands w i s → k ≡ i + 1 → place ≡ i → slice_get (whole w.book s) s.taken ≡ o
@@ -110,27 +110,27 @@ module _ (join : UpdatesJoin) where
       → Gives w i s (read_by (i + 1) (Taking k) (taking w (k - 1) o).0) (taking w (k - 1) o).1
   taking-gives w i s k None h some at = gives_nothing w i s h
   taking-gives w i s k (Some t) h some at = elim (cases_eq k (i + 1)) [
-      | inl own ↦
-          let here : k - 1 ≡ i = omega arith in
-          let found : Some t ≡ Some s = sym at ∙ (ap (slice_get w.slots) here ∙ h.here) in
-          let same : s ≡ t = cc in
-          subst (λ (u : Sub). Gives w i s (read_by (i + 1) (Taking k) (taking w (k - 1) (Some u)).0) (taking w (k - 1) (Some u)).1) same
-            (own_take w i s k (k - 1) (slice_get (whole w.book s) s.taken) h own here refl)
-      | inr other ↦ other_take w i s k t (slice_get (whole w.book t) t.taken) h other some
-    ]
+    | inl own ↦
+        let here : k - 1 ≡ i = omega arith in
+        let found : Some t ≡ Some s = sym at ∙ (ap (slice_get w.slots) here ∙ h.here) in
+        let same : s ≡ t = cc in
+        subst (λ (u : Sub). Gives w i s (read_by (i + 1) (Taking k) (taking w (k - 1) (Some u)).0) (taking w (k - 1) (Some u)).1) same
+        (own_take w i s k (k - 1) (slice_get (whole w.book s) s.taken) h own here refl)
+    | inr other ↦ other_take w i s k t (slice_get (whole w.book t) t.taken) h other some
+  ]
 
   -- one event, with its outcome
   outcome-gives : (w : World) (i : ℕ) (s : Sub) (e : Happening) → Stands w i s → Gives w i s (read_by (i + 1) e (outcome w e).0) (outcome w e).1
   outcome-gives w i s (Changing c) h = changing-gives w i s c (refused_by (state_of w.book) c) h
   outcome-gives w i s (Opening q port backlog moved) h = opening-gives w i s q port backlog moved (open_refusal w port backlog) h
   outcome-gives w i s (Taking k) h = elim (cases_eq k 0) [
-      | inl none ↦
-          let at : None ≡ slot_at w k = grind (arith, nat_tests) in
-          subst (λ (o : Option Sub). Gives w i s (read_by (i + 1) (Taking k) (taking w (k - 1) o).0) (taking w (k - 1) o).1) at (gives_nothing w i s h)
-      | inr some ↦
-          let at : slice_get w.slots (k - 1) ≡ slot_at w k = grind (arith, nat_tests) in
-          subst (λ (o : Option Sub). Gives w i s (read_by (i + 1) (Taking k) (taking w (k - 1) o).0) (taking w (k - 1) o).1) at (taking-gives w i s k (slice_get w.slots (k - 1)) h some refl)
-    ]
+    | inl none ↦
+        let at : None ≡ slot_at w k = grind (arith, nat_tests) in
+        subst (λ (o : Option Sub). Gives w i s (read_by (i + 1) (Taking k) (taking w (k - 1) o).0) (taking w (k - 1) o).1) at (gives_nothing w i s h)
+    | inr some ↦
+        let at : slice_get w.slots (k - 1) ≡ slot_at w k = grind (arith, nat_tests) in
+        subst (λ (o : Option Sub). Gives w i s (read_by (i + 1) (Taking k) (taking w (k - 1) o).0) (taking w (k - 1) o).1) at (taking-gives w i s k (slice_get w.slots (k - 1)) h some refl)
+  ]
 
   -- a refusal gives nothing
   read_by-refused : (slot : ℕ) (e : Happening) (r : Refusal) → [] ≡ read_by slot e (Refused r)
@@ -141,17 +141,18 @@ module _ (join : UpdatesJoin) where
   step-gives : (w : World) (i : ℕ) (s : Sub) (e : Happening) (a : Answer) (v : World) → Stands w i s → Step w e a v → Gives w i s (read_by (i + 1) e a) v
   step-gives w i s e a v h (inl done) =
       subst (λ (b : Answer). Gives w i s (read_by (i + 1) e b) v) (sym done.0)
-        (subst (λ (u : World). Gives w i s (read_by (i + 1) e (outcome w e).0) u) (sym done.1) (outcome-gives w i s e h))
+      (subst (λ (u : World). Gives w i s (read_by (i + 1) e (outcome w e).0) u) (sym done.1) (outcome-gives w i s e h))
   step-gives w i s e a v h (inr ran) =
       subst (λ (b : Answer). Gives w i s (read_by (i + 1) e b) v) (sym ran.1)
-        (subst (λ (u : World). Gives w i s (read_by (i + 1) e (Refused NoMemory)) u) (sym ran.2)
-          (subst (λ (ms : List Message). Gives w i s ms w) (read_by-refused (i + 1) e NoMemory) (gives_nothing w i s h)))
+      (subst (λ (u : World). Gives w i s (read_by (i + 1) e (Refused NoMemory)) u) (sym ran.2)
+      (subst (λ (ms : List Message). Gives w i s ms w) (read_by-refused (i + 1) e NoMemory) (gives_nothing w i s h)))
 
   gives_more : (w mid end : World) (i : ℕ) (s : Sub) (xs ys : List Message) (g : Gives w i s xs mid) → Gives mid i (at_taken s g.taken) ys end → Gives w i s (xs ++ ys) end
   gives_more w mid end i s xs ys g h = record {
-        taken = h.taken; stands = h.stands;
-        front = sym (append_assoc (take s.taken (whole w.book s)) xs ys) ∙ (ap (λ zs. zs ++ ys) g.front ∙ h.front);
-      }
+    taken = h.taken;
+    stands = h.stands;
+    front = sym (append_assoc (take s.taken (whole w.book s)) xs ys) ∙ (ap (λ zs. zs ++ ys) g.front ∙ h.front);
+  }
 
   -- over a whole run
   pub run-gives : (w : World) (i : ℕ) (s : Sub) (events : List Happening) (answers : List Answer) (end : World) → Stands w i s → Run w events answers end → Gives w i s (reads_of (i + 1) events answers) end

@@ -89,7 +89,7 @@ prefix_from_taken n xs ys e = (drop n ys, ap (λ zs. zs ++ drop n ys) e ∙ take
     take-drop (suc n) (y ∷ ys) = ap (λ zs. y ∷ zs) (take-drop n ys)
 
 -- the number of the state that a book leads to
-number-after : (s : State) (c : Change_) → (after s c).number ≡ s.number + 1
+pub number-after : (s : State) (c : Change_) → (after s c).number ≡ s.number + 1
 number-after s (Create dir name kind size time) = refl
 number-after s (Remove node) = refl
 
@@ -135,7 +135,7 @@ module _ (join : UpdatesJoin) where
       let stands : Stands v (length w.slots) s = record { here = slice_get-pushed w.slots s; opened = omega arith; taken = omega arith } in
       let gives = run-gives join v (length w.slots) s events answers end stands goes in
       let list : whole end.book s ≡ updates_from q moved (state_of w.book) (accepted events answers) 1 =
-          ap (λ b. whole b s) (run-book v events answers end goes) ∙ (whole-from q moved (grown w.book (accepted events answers)) (number_of w.book) ∙ from-here q moved w.book (accepted events answers)) in
+      ap (λ b. whole b s) (run-book v events answers end goes) ∙ (whole-from q moved (grown w.book (accepted events answers)) (number_of w.book) ∙ from-here q moved w.book (accepted events answers)) in
       (is.1, prefix_from_taken gives.taken _ _ (ap (λ k. reads_of k events answers) is.0 ∙ (gives.front ∙ ap (take gives.taken) list)))
 
   -- the headline's first part, from any world whose book leads to the state
@@ -153,8 +153,8 @@ module _ (join : UpdatesJoin) where
       let b : Book = record { start = start; changes = early } in
       let number : at ≡ number_of b = reads.0 ∙ (ap number_of here ∙ omega (arith, length-append w.book.changes early, number-all w.book.start w.book.changes)) in
       let list : updates_of q moved (book_of start events answers) at (number_of (book_of start events answers)) ≡ updates_from q moved (state_of mid.book) late 1 =
-          whole-from q moved (book_of start events answers) at
-          ∙ (ap (λ cs. from_opening q moved (record { start = start; changes = cs }) at) all
-          ∙ (ap (from_opening q moved (grown b late)) number
-          ∙ (from-here q moved b late ∙ ap (λ s. updates_from q moved s late 1) (sym state)))) in
+      whole-from q moved (book_of start events answers) at
+      ∙ (ap (λ cs. from_opening q moved (record { start = start; changes = cs }) at) all
+      ∙ (ap (from_opening q moved (grown b late)) number
+      ∙ (from-here q moved b late ∙ ap (λ s. updates_from q moved s late 1) (sym state)))) in
       subst (λ (ys : List Message). IsPrefixOf (reads_of slot after afters) ys) (sym list) reads.1

@@ -2,6 +2,7 @@
 use Rattle.std.specs.Prelude.{◌≡◌, ℕ, ◌+◌, ◌-◌, ◌*◌, ◌≤◌, List, [], ◌∷◌, ◌++◌, length, map, drop, Bool, Option, Some, None, ◌==◌, slice_get, slice_set, if◌then◌else◌}
 use Rattle.std.specs.List.{AllByRecursion}
 use Rattle.lq_value.specs.declared.refusal.Refusal.{Refusal}
+use Rattle.lq_value.specs.declared.refusal.Refusal.TheVariants.{NotOpen}
 use Rattle.lq_value.specs.Refusal.{first_refusal}
 use Rattle.lq_predicate.specs.Query.{Query}
 use Rattle.lq_volume.specs.declared.change.Change.{Change as Change_}
@@ -9,8 +10,8 @@ use Rattle.lq_volume.specs.State.{State}
 use Rattle.lq_volume.specs.Change.{after}
 use Rattle.lq_volume.specs.Book.{Book, number_of, state_of}
 use Rattle.lq_update.specs.declared.message.Message.{Message}
-use Rattle.lq_desk.specs.Held.{Held, held_after}
-use Rattle.lq_desk.specs.World.{World, Sub, whole, opening_refusals}
+use Rattle.lq_desk.specs.Held.{Held, held_after, taken_from}
+use Rattle.lq_desk.specs.World.{World, Sub, Answer, Took, Empty, Refused, whole, opening_refusals}
 
 -- the volume, the openings so far, and what is held for each slot
 pub record Kept : Type 0 where
@@ -31,12 +32,24 @@ opening_refusal k port backlog = first_refusal (opening_refusals port backlog (l
 abbrev pub held_at : Kept → ℕ → Option Held
 held_at k slot = if slot == 0 then None else slice_get k.held (slot - 1)
 
--- with the first message that waits taken
-abbrev pub taken_from : Held → Held
-taken_from h = record { query = h.query; moved = h.moved; sent = h.sent; waiting = drop 1 h.waiting }
+-- what taking answers, and what is kept then
+abbrev pub first_answer : Option Message → Answer
+first_answer None = Empty
+first_answer (Some m) = Took m
 
-abbrev pub taken : Kept → ℕ → Held → Kept
-taken k slot h = record { volume = k.volume; openings = k.openings; held = slice_set k.held (slot - 1) (taken_from h) }
+abbrev pub take_answer : Option Held → Answer
+take_answer None = Refused NotOpen
+take_answer (Some h) = first_answer (slice_get h.waiting 0)
+
+abbrev pub taken_if : List Held → ℕ → Option Held → List Held
+taken_if hs place None = hs
+taken_if hs place (Some h) = slice_set hs place (taken_from h)
+
+abbrev pub taken_at : List Held → ℕ → List Held
+taken_at hs place = taken_if hs place (slice_get hs place)
+
+abbrev pub taken : Kept → ℕ → Option Held → Kept
+taken k slot h = record { volume = k.volume; openings = k.openings; held = taken_if k.held (slot - 1) h }
 
 -- what a world's subscription leaves with the desk
 abbrev pub held_for : Book → Sub → Held
@@ -46,9 +59,8 @@ held_for b s = record { query = s.query; moved = s.moved; sent = length (whole b
 abbrev pub kept_of : World → Kept
 kept_of w = record { volume = state_of w.book; openings = w.openings; held = map (held_for w.book) w.slots }
 
--- no opening is before the book or past it, and no more was taken than there is
+-- no opening is past the book, and no more was taken than there is
 pub record IsFair (b : Book) (s : Sub) : Type 0 where
-  pub begun : b.start.number ≤ s.opened
   pub opened : s.opened ≤ number_of b
   pub taken : s.taken ≤ length (whole b s)
 

@@ -1,5 +1,5 @@
 -- What a subscription holds in the code: its query, how many messages were made, and those that wait.
-use Rattle.std.specs.Prelude.{ℕ, ◌+◌, List, [], ◌++◌, length, Bool}
+use Rattle.std.specs.Prelude.{ℕ, ◌+◌, List, [], ◌++◌, length, drop, Bool}
 use Rattle.lq_predicate.specs.Query.{Query}
 use Rattle.lq_volume.specs.declared.change.Change.{Change}
 use Rattle.lq_volume.specs.State.{State}
@@ -34,3 +34,7 @@ committed p = record { held = told p.held p.ready; ready = [] }
 
 abbrev pub held_of : Prepared → Held
 held_of p = p.held
+
+-- with the first message that waits taken, if there is one
+abbrev pub taken_from : Held → Held
+taken_from h = record { query = h.query; moved = h.moved; sent = h.sent; waiting = drop 1 h.waiting }

@@ -5,7 +5,10 @@
 //! Nothing here waits. Begin with `event`, then `desk`.
 #![tactic(auto)]
 
+mod desk;
 mod event;
 mod sub;
+mod subs;
 
+pub use desk::Desk;
 pub use event::{Event, Read, Reply};

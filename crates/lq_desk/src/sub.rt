@@ -1,6 +1,5 @@
 //! One subscription.
 ghost use Rattle.std.specs.Prelude.{◌≡◌, ◌+◌, ◌<◌, ◌≤◌, ◌^◌, [], ◌++◌, vec_len, None, IfOk, OnOk, OnErr};
-ghost use Rattle.std.specs.Option.{option_to_list};
 ghost use Rattle.std.specs.VecDeque.{deque_len, deque_capacity};
 ghost use Rattle.lq_value.specs.Refusal.{IsRefusedBy};
 ghost use Rattle.lq_volume.specs.Change.{IsLawful};
@@ -39,13 +38,16 @@ impl Model for Sub {
 }
 
 impl Sub {
-    ghost use Rattle.lq_desk.specs.Held.{Held, Prepared, prepared, committed};
+    ghost use Rattle.lq_desk.specs.Held.{Held, Prepared, prepared, committed, taken_from};
+    ghost use Rattle.std.specs.Prelude.{slice_get};
 
     /// A subscription that nothing was told yet. Refused: `NoMemory`.
     pub fn new(alloc: Global, predicate: &Predicate, moved: bool) -> Result<Sub, Refusal>
         ensures refused { IsRefusedBy result None }
         ensures value { IfOk result (λ s. s ≡ record {
-            held = record { query = predicate.now; moved = moved; sent = 0; waiting = [] }; ready = [] }) }
+          held = record { query = predicate.now; moved = moved; sent = 0; waiting = [] };
+          ready = [];
+        }) }
     {
         Ok(Sub {
             alloc,
@@ -66,7 +68,14 @@ impl Sub {
         ensures err { OnErr result (self.new.held ≡ self.old.held) }
     {
         let first = self.sent + 1;
-        let step = step(self.alloc, &self.predicate, volume, change, first, self.moved)?;
+        let step = step(
+            self.alloc,
+            &self.predicate,
+            volume,
+            change,
+            first,
+            self.moved,
+        )?;
         self.ready = Vec::new(self.alloc);
         self.waiting.reserve(step.len())?;
         self.ready = step;
@@ -85,10 +94,8 @@ impl Sub {
 
     /// Takes the first message that waits. It takes no memory.
     pub fn take(&mut self) -> Option<Message>
-        ensures taken { self.old.held.waiting ≡ option_to_list result ++ self.new.held.waiting }
-        ensures query { self.new.held.query ≡ self.old.held.query }
-        ensures moved { self.new.held.moved ≡ self.old.held.moved }
-        ensures sent { self.new.held.sent ≡ self.old.held.sent }
+        ensures first { result ≡ slice_get self.old.held.waiting 0 }
+        ensures rest { self.new.held ≡ taken_from self.old.held }
     {
         self.waiting.pop_front()
     }

@@ -32,7 +32,8 @@ updates-grow q moved b m n =
       | inl below ↦ ([], append-nil _ ∙ ap (λ k. updates_from q moved s (take k cs) 1) (let e : n - m ≡ n + 1 - m = omega arith in e))
       | inr reached ↦
           let more = take 1 (drop (n - m) cs) in
-          let e : n + 1 - m ≡ suc (n - m) = omega arith in
-          (updates_from q moved (after_all s (take (n - m) cs)) more (1 + length (updates_of q moved b m n)),
-            sym (ap (λ k. updates_from q moved s (take k cs) 1) e ∙ (ap (λ ds. updates_from q moved s ds 1) (take-plus (n - m) cs) ∙ updates-join q moved s (take (n - m) cs) more 1)))
+          let e : n + 1 - m ≡ suc (n - m) = omega arith in (
+            updates_from q moved (after_all s (take (n - m) cs)) more (1 + length (updates_of q moved b m n)),
+            sym (ap (λ k. updates_from q moved s (take k cs) 1) e ∙ (ap (λ ds. updates_from q moved s ds 1) (take-plus (n - m) cs) ∙ updates-join q moved s (take (n - m) cs) more 1)),
+          )
     ]

@@ -48,17 +48,19 @@ two-picked t a b (e ∷ es) lt h off =
     elim (cases_eq e.0 a) [
       | inl same ↦ let gone = lookup-below es a (rw (← same) h.0) in first same (t e) refl rest gone
       | inr differs ↦ elim (cases_eq e.0 b) [
-          | inl here ↦ let gone = lookup-below es b (rw (← here) h.0) in let before = lookup-below es a (All-above es a b lt (rw (← here) h.0)) in second here (t e) refl rest gone before
-          | inr other ↦ let fails = off.0 differs other in neither differs other fails rest
-        ]
+        | inl here ↦ let gone = lookup-below es b (rw (← here) h.0) in let before = lookup-below es a (All-above es a b lt (rw (← here) h.0)) in second here (t e) refl rest gone before
+        | inr other ↦ let fails = off.0 differs other in neither differs other fails rest
+      ]
     ]
   where
     first : e.0 ≡ a → (x : Bool) → t e ≡ x → map entry_of (filter t es) ≡ option_to_list (pick t es a) ++ option_to_list (pick t es b) → lookup (eqb a) es ≡ None → map entry_of (filter t (e ∷ es)) ≡ option_to_list (pick t (e ∷ es) a) ++ option_to_list (pick t (e ∷ es) b)
     first same true is rest gone = grind (arith, nat_tests)
     first same false is rest gone = grind (arith, nat_tests)
+
     second : e.0 ≡ b → (x : Bool) → t e ≡ x → map entry_of (filter t es) ≡ option_to_list (pick t es a) ++ option_to_list (pick t es b) → lookup (eqb b) es ≡ None → lookup (eqb a) es ≡ None → map entry_of (filter t (e ∷ es)) ≡ option_to_list (pick t (e ∷ es) a) ++ option_to_list (pick t (e ∷ es) b)
     second here true is rest gone before = grind (arith, nat_tests)
     second here false is rest gone before = grind (arith, nat_tests)
+
     neither : (e.0 ≡ a → ⊥) → (e.0 ≡ b → ⊥) → t e ≡ false → map entry_of (filter t es) ≡ option_to_list (pick t es a) ++ option_to_list (pick t es b) → map entry_of (filter t (e ∷ es)) ≡ option_to_list (pick t (e ∷ es) a) ++ option_to_list (pick t (e ∷ es) b)
     neither differs other fails rest = grind (arith, nat_tests)
 
@@ -78,9 +80,9 @@ module _ (test : ℕ × Record → Bool) where
   in_found : (e : ℕ × Record) (fs : Entries) → Rises fs → list_any (same_entry (entry_of e)) (map entry_of (filter test fs)) ≡ kept fs e
   in_found e [] h = refl
   in_found e (f ∷ fs) h = elim (cases_eq e.0 f.0) [
-      | inl same ↦ let off = not_found-below e fs (rw same h.0) in grind (arith, nat_tests)
-      | inr differs ↦ grind (arith, nat_tests, in_found e fs h.1)
-    ]
+    | inl same ↦ let off = not_found-below e fs (rw same h.0) in grind (arith, nat_tests)
+    | inr differs ↦ grind (arith, nat_tests, in_found e fs h.1)
+  ]
 
   missing-lost : (es fs : Entries) → Rises fs → missing (map entry_of (filter test es)) (map entry_of (filter test fs)) ≡ map entry_of (filter (lost fs) es)
   missing-lost [] fs h = refl
@@ -90,13 +92,15 @@ module _ (test : ℕ × Record → Bool) where
   lost-outside : (a b : ℕ) (es fs : Entries) → Rises es → ((n : ℕ) (r : Record) → (n ≡ a → ⊥) → (n ≡ b → ⊥) → lookup (eqb n) es ≡ Some r → lookup (eqb n) fs ≡ Some r)
       → AllByRecursion (λ e. (e.0 ≡ a → ⊥) → (e.0 ≡ b → ⊥) → lost fs e ≡ false) es
   lost-outside a b [] fs h agree = tt
-  lost-outside a b (e ∷ es) fs h agree =
-      ( (λ x y. let is = agree e.0 e.1 x y (grind (arith, nat_tests)) in let same = (bytes_eq-Decides e.1.name e.1.name).1 refl in here (test e) refl is same),
-        lost-outside a b es fs h.1 (λ n r x y is. agree n r x y (skip n r is)))
+  lost-outside a b (e ∷ es) fs h agree = (
+    (λ x y. let is = agree e.0 e.1 x y (grind (arith, nat_tests)) in let same = (bytes_eq-Decides e.1.name e.1.name).1 refl in here (test e) refl is same),
+    lost-outside a b es fs h.1 (λ n r x y is. agree n r x y (skip n r is)),
+  )
     where
       here : (x : Bool) → test e ≡ x → lookup (eqb e.0) fs ≡ Some e.1 → bytes_eq e.1.name e.1.name ≡ true → lost fs e ≡ false
       here true k is same = grind (arith, nat_tests)
       here false k is same = grind (arith, nat_tests)
+
       skip : (n : ℕ) (r : Record) → lookup (eqb n) es ≡ Some r → lookup (eqb n) (e ∷ es) ≡ Some r
       skip n r is = let gone = lookup-below es e.0 h.0 in grind (arith, nat_tests)
 
@@ -112,6 +116,7 @@ module _ (test : ℕ × Record → Bool) where
       both : (r : Record) → lookup (eqb n) es ≡ Some r → lookup (eqb n) fs ≡ Some r → bytes_eq r.name r.name ≡ true → (x : Bool) → test (n, r) ≡ x → pick (lost fs) es n ≡ None
       both r is there name true k = grind (arith, nat_tests)
       both r is there name false k = grind (arith, nat_tests)
+
       at : (o : Option Record) → lookup (eqb n) es ≡ o → pick (lost fs) es n ≡ None
       at None is = grind (arith, nat_tests)
       at (Some r) is = let there : lookup (eqb n) fs ≡ Some r = sym same ∙ is in let name = (bytes_eq-Decides r.name r.name).1 refl in both r is there name (test (n, r)) refl
@@ -124,9 +129,11 @@ pick-left q s t n = at (record_at s n) refl (record_at t n) refl
     both r v is there true k false l = rw (is, there, k, l) (grind (arith, nat_tests))
     both r v is there false k true l = rw (is, there, k) (grind (arith, nat_tests))
     both r v is there false k false l = rw (is, there, k) (grind (arith, nat_tests))
+
     one : (r : Record) → record_at s n ≡ Some r → record_at t n ≡ None → (x : Bool) → truth q (shown r) ≡ x → pick (lost (λ f. truth q (shown f.1)) t.records) s.records n ≡ left (match_at q s n) (match_at q t n)
     one r is there true k = rw (is, there, k) (grind (arith, nat_tests))
     one r is there false k = rw (is, there, k) (grind (arith, nat_tests))
+
     at : (o : Option Record) → record_at s n ≡ o → (p : Option Record) → record_at t n ≡ p → pick (lost (λ f. truth q (shown f.1)) t.records) s.records n ≡ left (match_at q s n) (match_at q t n)
     at None is p there = rw is refl
     at (Some r) is None there = one r is there (truth q (shown r)) refl
@@ -136,13 +143,13 @@ pick-left q s t n = at (record_at s n) refl (record_at t n) refl
 pub diff-touched : (q : Query) (moved : Bool) (s t : State) (a b : ℕ) → a < b → Rises s.records → Rises t.records
     → ((n : ℕ) → (n ≡ a → ⊥) → (n ≡ b → ⊥) → record_at s n ≡ record_at t n)
     → diff q moved s t ≡ map (λ e. (Removed, e)) (option_to_list (left (match_at q s a) (match_at q t a)) ++ option_to_list (left (match_at q s b) (match_at q t b)))
-        ++ map (λ e. (Created, e)) (option_to_list (left (match_at q t a) (match_at q s a)) ++ option_to_list (left (match_at q t b) (match_at q s b)))
+    ++ map (λ e. (Created, e)) (option_to_list (left (match_at q t a) (match_at q s a)) ++ option_to_list (left (match_at q t b) (match_at q s b)))
 diff-touched q moved s t a b lt h k same =
     let test : ℕ × Record → Bool = λ f. truth q (shown f.1) in
     let gone : missing (result_of q s) (result_of q t) ≡ option_to_list (left (match_at q s a) (match_at q t a)) ++ option_to_list (left (match_at q s b) (match_at q t b)) =
-      missing-two test a b s.records t.records lt h k (λ n r x y is. sym (same n x y) ∙ is) ∙ rw (pick-left q s t a, pick-left q s t b) refl in
+    missing-two test a b s.records t.records lt h k (λ n r x y is. sym (same n x y) ∙ is) ∙ rw (pick-left q s t a, pick-left q s t b) refl in
     let new : missing (result_of q t) (result_of q s) ≡ option_to_list (left (match_at q t a) (match_at q s a)) ++ option_to_list (left (match_at q t b) (match_at q s b)) =
-      missing-two test a b t.records s.records lt k h (λ n r x y is. same n x y ∙ is) ∙ rw (pick-left q t s a, pick-left q t s b) refl in
+    missing-two test a b t.records s.records lt k h (λ n r x y is. same n x y ∙ is) ∙ rw (pick-left q t s a, pick-left q t s b) refl in
     rw (gone, new) refl
 
 left-same : (o : Option Entry) → left o o ≡ None

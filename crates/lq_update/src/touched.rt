@@ -100,8 +100,15 @@ fn tell(
 }
 
 fn message(op: Opcode, entry: Entry, change: u64, seq: u64, last: bool) -> Message
-    ensures { result ≡ record { seq = seq; change = change; last = last; op = op;
-        dir = entry.dir; name = entry.name; node = entry.node } }
+    ensures { result ≡ record {
+      seq = seq;
+      change = change;
+      last = last;
+      op = op;
+      dir = entry.dir;
+      name = entry.name;
+      node = entry.node;
+    } }
 {
     let Entry { dir, name, node } = entry;
     Message {
