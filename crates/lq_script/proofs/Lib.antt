@@ -1,0 +1,4 @@
+pub mod Pieces
+pub mod LineLemmas
+pub mod ProgressLemmas
+pub mod Answered
