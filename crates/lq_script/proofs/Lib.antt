@@ -2,3 +2,4 @@ pub mod Pieces
 pub mod LineLemmas
 pub mod ProgressLemmas
 pub mod Answered
+pub mod RunLemmas

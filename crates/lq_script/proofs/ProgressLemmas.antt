@@ -170,7 +170,7 @@ given_rest : (given xs : List ℕ) (i : ℕ) → given ++ take i xs ++ drop i xs
 given_rest given xs i = append_assoc given (take i xs) (drop i xs) ∙ ap (λ l. given ++ l) (take-append-drop i xs)
 
 -- what has come of a piece, its next byte, and the rest
-given_next : (given xs : List ℕ) (i b : ℕ) → i < length xs → get_or xs i 0 ≡ b → given ++ take i xs ++ b ∷ drop (i + 1) xs ≡ given ++ xs
+pub given_next : (given xs : List ℕ) (i b : ℕ) → i < length xs → get_or xs i 0 ≡ b → given ++ take i xs ++ b ∷ drop (i + 1) xs ≡ given ++ xs
 given_next given xs i b h e =
     ap (λ x. given ++ take i xs ++ x ∷ drop (i + 1) xs) (sym e) ∙ ap (λ l. given ++ take i xs ++ l) (sym (drop_more xs i 0 h)) ∙ given_rest given xs i
 
@@ -201,3 +201,18 @@ stands_stops rules began given w state intake out s =
 -- a flush leaves a front as it was
 pub fronts_kept : {State : Type 0} (rules : Rules State) (began : Began State) (given : List ℕ) (w w' : Option (List ℕ)) → Fronts rules began given w [] → Keeps w w' → Fronts rules began given w' []
 fronts_kept rules began given w w' f k = record { text = f.text; appended = appends_kept began.written w w' f.text f.appended k; front = f.front }
+
+-- at a limit the replies that wait are written
+pub meets_handed : {State : Type 0} (rules : Rules State) (began : Began State) (given piece : List ℕ) (w w' : Option (List ℕ)) (state : State) (intake : Intake) (out : List ℕ)
+    → Meets rules began given piece w state intake out → Appends w w' out → Meets rules began given piece w' state intake []
+meets_handed rules began given piece w w' state intake out m a = record {
+  count = m.count;
+  follows = m.follows;
+  stands = stands_handed rules began (given ++ take m.count piece) w w' state intake out m.stands a;
+  at_limit = m.at_limit;
+}
+
+-- replies that wait are written, and none waits
+pub stands_empty : {State : Type 0} (rules : Rules State) (began : Began State) (given : List ℕ) (w w' : Option (List ℕ)) (state : State) (intake : Intake) (out out' : List ℕ)
+    → Stands rules began given w state intake out → Appends w w' out → out' ≡ [] → Stands rules began given w' state intake out'
+stands_empty rules began given w w' state intake out out' s a e = subst (Stands rules began given w' state intake) (sym e) (stands_handed rules began given w w' state intake out s a)

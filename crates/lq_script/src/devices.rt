@@ -153,7 +153,8 @@ pub fn write_all<W: Sink>(writer: &mut W, bytes: &[u8]) -> Result<(), Failed>
     ensures ok { OnOk result (Appends (W.written writer.old) (W.written writer.new) bytes.now) }
     ensures err { OnErr result ((n : ℕ)
         × Appends (W.written writer.old) (W.written writer.new) (take n bytes.now)) }
-    ensures works { OnOk result (W.failed writer.new ≡ W.failed writer.old) }
+    ensures works { OnOk result ((W.failed writer.new ≡ W.failed writer.old)
+        × (W.stalled writer.new ≡ W.stalled writer.old)) }
     ensures fails { OnErr result
         ((W.failed writer.new ≡ true) ⊎ (W.stalled writer.new ≡ true)) }
 {

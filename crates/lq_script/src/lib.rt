@@ -15,5 +15,6 @@ mod run_fault;
 
 pub use devices::{Failed, Host, Sink, Source};
 pub use responder::Responder;
+pub use run::run_lines;
 
 pub use run_fault::RunFault;

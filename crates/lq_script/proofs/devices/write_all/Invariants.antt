@@ -7,6 +7,7 @@ invariant-loop-at g l = record {
   in_range : l.at ≤ length l.bytes;
   taken : Appends (g.W.Sink.written l.initial.writer) (g.W.Sink.written l.writer) (take l.at l.bytes);
   works : g.W.Sink.failed l.writer ≡ g.W.Sink.failed l.initial.writer;
+  moves : g.W.Sink.stalled l.writer ≡ g.W.Sink.stalled l.initial.writer;
 }
 
 abbrev pub decreases-loop-at : goal.decreases-loop-at

@@ -1,24 +1,21 @@
 use Rattle.std.proofs.Common.{◌≡◌, ◌+◌, Err, refl, arith, rules, sym, ◌∙◌, drop, ap, inl, inr}
 use Rattle.std.proofs.lemmas.Bool.{ne_eqb}
-use Rattle.lq_script.specs.declared.run_fault.RunFault.TheVariants.{Memory, Write}
+use Rattle.lq_script.proofs.Answered.{on_err_any}
 use Rattle.lq_script.proofs.ProgressLemmas.{stands_byte, stands_further, stopped_at, stopped_in}
 use Rattle.lq_script.proofs.run.take_piece.Goals as goal
 use Rattle.lq_script.proofs.run.take_piece.Goals.{then-byte-eq-LF+in_ok-end_line, else-byte-eq-LF+in_ok-keep, then-intake-ge-MAX_LINES-via-then-intake-ge-MAX_LINES, then-intake-ge-MAX_LINES-via-else-intake-ge-MAX_LINES+then-intake-ge-MAX_BYTES}
 
-pub returns-in_err-end_line-clause-memory : goal.returns-in_err-end_line-clause-memory
-returns-in_err-end_line-clause-memory g c = λ memory began given s.
-    let is : c.in_err-end_line.field-0.0 ≡ Memory = search rules in
-    let same = c.in_err-end_line.ensures.memory (ap Err is) in
-    rw (same.0, same.1) (stopped_at g.S.Responder.rules began given c.args.piece.now c.loop-byte.byte-index _ _ _ _ (c.loop-byte.invariant.stands began given s))
-
-pub returns-in_err-end_line-clause-write : goal.returns-in_err-end_line-clause-write
-returns-in_err-end_line-clause-write g c = λ write began given s.
-    let is : c.in_err-end_line.field-0.0 ≡ Write = search rules in
+pub returns-in_err-end_line-clause-err : goal.returns-in_err-end_line-clause-err
+returns-in_err-end_line-clause-err g c = on_err_any c.from_residual.result (λ began given s.
     stopped_in g.S.Responder.rules began given c.args.piece.now c.loop-byte.byte-index 10 _ _ (omega arith) c.if-byte-eq-LF.true
-      (c.in_err-end_line.ensures.write (ap Err is) began _ (c.loop-byte.invariant.stands began given s) (drop (c.loop-byte.byte-index + 1) c.args.piece.now))
+      (c.in_err-end_line.ensures.err began _ (c.loop-byte.invariant.stands began given s) (drop (c.loop-byte.byte-index + 1) c.args.piece.now)))
 
-pub returns-in_err-keep-clause-memory : goal.returns-in_err-keep-clause-memory
-returns-in_err-keep-clause-memory g c = λ memory began given s.
+pub returns-in_err-keep-clause-err : goal.returns-in_err-keep-clause-err
+returns-in_err-keep-clause-err g c = on_err_any c.from_residual-in_err-keep.result (λ began given s.
+    stopped_at g.S.Responder.rules began given c.args.piece.now c.loop-byte.byte-index _ _ _ _ (c.loop-byte.invariant.stands began given s))
+
+pub returns-then-intake-ge-MAX_LINES-clause-err : goal.returns-then-intake-ge-MAX_LINES-clause-err
+returns-then-intake-ge-MAX_LINES-clause-err g c = λ began given s.
     stopped_at g.S.Responder.rules began given c.args.piece.now c.loop-byte.byte-index _ _ _ _ (c.loop-byte.invariant.stands began given s)
 
 pub returns-then-intake-ge-MAX_LINES-clause-limit : goal.returns-then-intake-ge-MAX_LINES-clause-limit
@@ -39,6 +36,7 @@ loop-byte-preserved g c = elim c.if-byte-eq-LF.branch [
       stands = λ began given s. rw (w.writer-is, w.responder-is, w.intake-is, w.out-is)
         (stands_further g.S.Responder.rules began given c.args.piece.now c.loop-byte.byte-index 10 _ _ _ _ (omega arith) w.if-byte-eq-LF.true
           (w.in_ok-end_line.ensures.ok began _ (c.loop-byte.invariant.stands began given s)));
+      works = rw w.writer-is (w.in_ok-end_line.ensures.works.0 ∙ c.loop-byte.invariant.works.0, w.in_ok-end_line.ensures.works.1 ∙ c.loop-byte.invariant.works.1);
       bytes = rw w.intake-is (omega (arith, w.in_ok-end_line.ensures.bytes, c.loop-byte.invariant.bytes));
     }
   | else-byte-eq-LF+in_ok-keep w ↦ record {
@@ -46,6 +44,7 @@ loop-byte-preserved g c = elim c.if-byte-eq-LF.branch [
         (stands_further g.S.Responder.rules began given c.args.piece.now c.loop-byte.byte-index _ _ _ _ _ (omega arith) refl
           (stands_byte g.S.Responder.rules began _ _ _ c.loop-byte.intake w.keep.new.self _ _ (c.loop-byte.invariant.stands began given s) (ne_eqb _ 10 w.if-byte-eq-LF.false)
             w.in_ok-keep.ensures.ok w.in_ok-keep.ensures.lines w.in_ok-keep.ensures.bytes (omega (arith, c.if-intake-ge-MAX_LINES.false)) (omega (arith, c.if-intake-ge-MAX_BYTES.false))));
+      works = rw w.writer-is c.loop-byte.invariant.works;
       bytes = rw w.intake-is (omega (arith, w.in_ok-keep.ensures.bytes, c.loop-byte.invariant.bytes));
     }
 ]
