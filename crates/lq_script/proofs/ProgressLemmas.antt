@@ -114,8 +114,8 @@ pub stands_output : {State : Type 0} (rules : Rules State) (began : Began State)
     → Appends w w' out' → Appends began.written w' (output_of rules began.state given)
 stands_output rules began given w w' state intake out out' s replies a =
     subst (Appends began.written w')
-      (ap (λ l. s.text ++ l) (replies s.bytes s.kept) ∙ sym (append_assoc s.text out _) ∙ ap (λ l. l ++ reply_to rules state (line_of s.bytes)) s.due ∙ ap (λ x. replies_to rules began.state s.lines ++ reply_to rules x (line_of s.bytes)) s.answered ∙ sym (output_cut rules began.state given s.lines s.bytes s.cut))
-      (Appends-trans began.written w w' s.text out' s.appended a)
+    (ap (λ l. s.text ++ l) (replies s.bytes s.kept) ∙ sym (append_assoc s.text out _) ∙ ap (λ l. l ++ reply_to rules state (line_of s.bytes)) s.due ∙ ap (λ x. replies_to rules began.state s.lines ++ reply_to rules x (line_of s.bytes)) s.answered ∙ sym (output_cut rules began.state given s.lines s.bytes s.cut))
+    (Appends-trans began.written w w' s.text out' s.appended a)
 
 -- the last line is answered, and waits
 pub stands_last : {State : Type 0} (rules : Rules State) (began : Began State) (given : List ℕ) (w : Option (List ℕ)) (state : State) (intake : Intake) (out out' : List ℕ)
@@ -136,8 +136,8 @@ pub stands_ended : {State : Type 0} (rules : Rules State) (began : Began State) 
     → Stands rules began given w state intake [] → Appends began.written w (replies_to rules began.state (ended_lines given))
 stands_ended rules began given w state intake s =
     subst (Appends began.written w)
-      (sym (append-nil s.text) ∙ s.due ∙ ap (replies_to rules began.state) (sym (cut_ended given s.lines s.bytes s.cut)))
-      s.appended
+    (sym (append-nil s.text) ∙ s.due ∙ ap (replies_to rules began.state) (sym (cut_ended given s.lines s.bytes s.cut)))
+    s.appended
 
 lines_below : (lines : List (List ℕ)) (bytes : List ℕ) (n : ℕ) → n ≡ length lines → IsUnbroken bytes → n ≤ 10000000 → (n ≡ 10000000 → bytes ≡ []) → length (lines ++ lines_of bytes) ≤ 10000000
 lines_below lines [] n e u h full = omega (arith, e, h, length-append lines [])

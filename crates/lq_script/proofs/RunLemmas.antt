@@ -81,7 +81,7 @@ stands_passes : {State : Type 0} (rules : Rules State) (began : Began State) (gi
     → Stands rules began given w state intake out → (intake.lines ≡ 10000000) ⊎ (intake.bytes ≡ 1073741824) → ¬ IsWithin (given ++ b ∷ [])
 stands_passes rules began given w state intake out b s (inl full) within =
     let lines : length (lines_of (given ++ b ∷ [])) ≡ length (s.lines ++ lines_of (b ∷ [])) =
-      ap length (s.cut.ahead (b ∷ []) ∙ ap (λ l. s.lines ++ lines_of (l ++ b ∷ [])) (s.full full)) in
+    ap length (s.cut.ahead (b ∷ []) ∙ ap (λ l. s.lines ++ lines_of (l ++ b ∷ [])) (s.full full)) in
     omega (arith, within.0, lines, s.lines_counted, full, byte_line b (b == 10) refl, length-append s.lines (lines_of (b ∷ [])))
 stands_passes rules began given w state intake out b s (inr full) within =
     omega (arith, within.1, s.bytes_counted, full, length-append given (b ∷ []))

@@ -89,7 +89,12 @@ impl<D> Host<D> {
     pub fn into_device(self) -> D
         ensures { result ≡ self.device }
     {
-        let Host { device, failed: _, stalled: _, flushed: _ } = self;
+        let Host {
+            device,
+            failed: _,
+            stalled: _,
+            flushed: _,
+        } = self;
         device
     }
 }

@@ -53,11 +53,10 @@ impl Intake {
     /// Puts the reply to the line in progress behind `out`.
     ///
     /// Refused: `Memory`, and then `out` is as before.
-    pub fn answer<S: Responder>(&self, responder: &mut S, out: &mut Vec<u8>)
-        -> Result<(), RunFault>
+    pub fn answer<S: Responder>(&self, responder: &mut S, out: &mut Vec<u8>) -> Result<(), RunFault>
         ensures ok { OnOk result ((bytes : List ℕ) → IsKept bytes self.now.long self.now.line.items
             → out.new.items ≡ out.old.items
-                ++ reply_to S.rules (S.state responder.old) (line_of bytes)) }
+            ++ reply_to S.rules (S.state responder.old) (line_of bytes)) }
         ensures after { OnOk result ((bytes : List ℕ) → IsKept bytes self.now.long self.now.line.items
             → S.state responder.new ≡ state_after S.rules (S.state responder.old) (line_of bytes)) }
         ensures err { OnErr result (out.new.items ≡ out.old.items) }
@@ -108,8 +107,11 @@ fn cut_cr(line: &[u8]) -> &[u8]
 }
 
 /// Puts the reply to a line, of which its CR was cut, behind `out`.
-fn answer_given<S: Responder>(line: &[u8], responder: &mut S, out: &mut Vec<u8>)
-    -> Result<(), Refusal>
+fn answer_given<S: Responder>(
+    line: &[u8],
+    responder: &mut S,
+    out: &mut Vec<u8>,
+) -> Result<(), Refusal>
     ensures ok { OnOk result (out.new.items ≡ out.old.items
         ++ reply_to S.rules (S.state responder.old) (given_line line.now)) }
     ensures after { OnOk result

@@ -10,11 +10,10 @@ mod intake;
 mod responder;
 mod run;
 mod run_fault;
-
-
+#[cfg(test)]
+mod tests;
 
 pub use devices::{Failed, Host, Sink, Source};
 pub use responder::Responder;
 pub use run::run_lines;
-
 pub use run_fault::RunFault;

@@ -66,15 +66,15 @@ fn end_line<S: Responder, W: Sink>(
     requires bytes { intake.old.bytes < MAX_BYTES }
     ensures ok { OnOk result ((began : Began S.State) → (given : List ℕ)
         → Stands S.rules began given (W.written writer.old) (S.state responder.old)
-            intake.old out.old.items
+        intake.old out.old.items
         → Stands S.rules began (given ++ LF ∷ []) (W.written writer.new) (S.state responder.new)
-            intake.new out.new.items) }
+        intake.new out.new.items) }
     ensures bytes { OnOk result (intake.new.bytes ≡ intake.old.bytes + 1) }
     ensures works { OnOk result ((W.failed writer.new ≡ W.failed writer.old)
         × (W.stalled writer.new ≡ W.stalled writer.old)) }
     ensures err { OnErr result ((began : Began S.State) → (given : List ℕ)
         → Stands S.rules began given (W.written writer.old) (S.state responder.old)
-            intake.old out.old.items
+        intake.old out.old.items
         → (rest : List ℕ)
         → Fronts S.rules began (given ++ LF ∷ rest) (W.written writer.new) out.new.items) }
     ensures fault { IfErr result (λ e. (e ≡ RunFault.Write) ⊎ (e ≡ RunFault.Memory)) }
@@ -102,21 +102,21 @@ fn take_piece<S: Responder, W: Sink>(
 ) -> Result<(), RunFault>
     ensures ok { OnOk result ((began : Began S.State) → (given : List ℕ)
         → Stands S.rules began given (W.written writer.old) (S.state responder.old)
-            intake.old out.old.items
+        intake.old out.old.items
         → Stands S.rules began (given ++ piece.now) (W.written writer.new)
-            (S.state responder.new) intake.new out.new.items) }
+        (S.state responder.new) intake.new out.new.items) }
     ensures bytes { OnOk result (intake.new.bytes ≡ intake.old.bytes + length piece.now) }
     ensures works { OnOk result ((W.failed writer.new ≡ W.failed writer.old)
         × (W.stalled writer.new ≡ W.stalled writer.old)) }
     ensures err { OnErr result ((began : Began S.State) → (given : List ℕ)
         → Stands S.rules began given (W.written writer.old) (S.state responder.old)
-            intake.old out.old.items
+        intake.old out.old.items
         → Fronts S.rules began (given ++ piece.now) (W.written writer.new) out.new.items) }
     ensures limit { IsErrOf result RunFault.Limit → (began : Began S.State) → (given : List ℕ)
         → Stands S.rules began given (W.written writer.old) (S.state responder.old)
-            intake.old out.old.items
+        intake.old out.old.items
         → Meets S.rules began given piece.now (W.written writer.new) (S.state responder.new)
-            intake.new out.new.items }
+        intake.new out.new.items }
     ensures not_read { IsErrOf result RunFault.Read → ⊥ }
     ensures not_thread { IsErrOf result RunFault.Thread → ⊥ }
     ensures cause { IsErrOf result RunFault.Write →
@@ -144,13 +144,13 @@ fn finish<S: Responder, W: Sink>(
 ) -> Result<(), RunFault>
     ensures ok { OnOk result ((began : Began S.State) → (given : List ℕ)
         → Stands S.rules began given (W.written writer.old) (S.state responder.old)
-            intake.now out.old.items
+        intake.now out.old.items
         → Appends began.written (W.written writer.new) (output_of S.rules began.state given)) }
     ensures works { OnOk result ((W.failed writer.new ≡ W.failed writer.old)
         × (W.stalled writer.new ≡ W.stalled writer.old)) }
     ensures err { OnErr result ((began : Began S.State) → (given : List ℕ)
         → Stands S.rules began given (W.written writer.old) (S.state responder.old)
-            intake.now out.old.items
+        intake.now out.old.items
         → Fronts S.rules began given (W.written writer.new) []) }
     ensures flushed { OnOk result (W.flushed writer.new ≡ true) }
     ensures fault { IfErr result (λ e. (e ≡ RunFault.Write) ⊎ (e ≡ RunFault.Memory)) }
@@ -181,21 +181,21 @@ fn take_block<S: Responder, W: Sink>(
 ) -> Result<(), RunFault>
     ensures ok { OnOk result ((began : Began S.State) → (given : List ℕ)
         → Stands S.rules began given (W.written writer.old) (S.state responder.old)
-            intake.old out.old.items
+        intake.old out.old.items
         → Stands S.rules began (given ++ piece.now) (W.written writer.new)
-            (S.state responder.new) intake.new out.new.items) }
+        (S.state responder.new) intake.new out.new.items) }
     ensures bytes { OnOk result (intake.new.bytes ≡ intake.old.bytes + length piece.now) }
     ensures works { OnOk result ((W.failed writer.new ≡ W.failed writer.old)
         × (W.stalled writer.new ≡ W.stalled writer.old)) }
     ensures err { OnErr result ((began : Began S.State) → (given : List ℕ)
         → Stands S.rules began given (W.written writer.old) (S.state responder.old)
-            intake.old out.old.items
+        intake.old out.old.items
         → Fronts S.rules began (given ++ piece.now) (W.written writer.new) out.new.items) }
     ensures limit { IsErrOf result RunFault.Limit → (began : Began S.State) → (given : List ℕ)
         → Stands S.rules began given (W.written writer.old) (S.state responder.old)
-            intake.old out.old.items
+        intake.old out.old.items
         → Meets S.rules began given piece.now (W.written writer.new) (S.state responder.new)
-            intake.new [] }
+        intake.new [] }
     ensures flushed { OnErr result ((result ≡ Err RunFault.Write)
         ⊎ ((W.flushed writer.new ≡ true) ⊎ (W.failed writer.new ≡ true))) }
     ensures not_read { IsErrOf result RunFault.Read → ⊥ }

@@ -21,4 +21,4 @@ pub returns-clause-err : goal.returns-clause-err
 returns-clause-err g c = on_err_weaker c.hand.result (λ part. λ began given s rest.
     let stood = stands_line g.S.Responder.rules began given _ _ _ c.args.intake.now (record { line = c.clear.new.self; long = false; lines = c.args.intake.now.lines + 1; bytes = c.args.intake.now.bytes + 1 }) _ _ 10 s refl c.in_ok-answer.ensures.ok c.in_ok-answer.ensures.after refl c.clear.ensures.items refl refl c.requires.lines c.requires.bytes in
     rw c.hand.ensures.empty (subst (λ l. Fronts g.S.Responder.rules began l (g.W.Sink.written c.hand.new.writer) []) (append_assoc given (10 ∷ []) rest)
-      (fronts_handed g.S.Responder.rules began _ _ _ _ part.0 (stands_fronts g.S.Responder.rules began _ _ _ _ _ rest stood) part.1))) c.hand.ensures.err
+    (fronts_handed g.S.Responder.rules began _ _ _ _ part.0 (stands_fronts g.S.Responder.rules began _ _ _ _ _ rest stood) part.1))) c.hand.ensures.err

@@ -29,21 +29,21 @@ returns-in_err-close-clause-err g c = on_err_any c.from_residual-in_err-close.re
     let stood = stands_empty g.S.Responder.rules _ i.given _ _ _ _ _ _ i.stands c.in_ok-hand.ensures.ok c.hand.ensures.empty in
     let part = c.in_err-close.ensures.err in
     run_stopped g.S.Responder.rules _ _ _ _ i.given _ (Consumes-kept _ _ _ _ i.consumed c.in_default.ensures.bytes)
-      (fronts_handed g.S.Responder.rules _ i.given _ _ _ part.0 (stands_stops g.S.Responder.rules _ i.given _ _ _ _ stood) part.1))
+    (fronts_handed g.S.Responder.rules _ i.given _ _ _ part.0 (stands_stops g.S.Responder.rules _ i.given _ _ _ _ stood) part.1))
 
 pub returns-in_default-clause-err : goal.returns-in_default-clause-err
 returns-in_default-clause-err g c =
     let i = c.loop-out.invariant in
     let stood = stands_empty g.S.Responder.rules _ i.given _ _ _ _ _ _ i.stands c.in_ok-hand.ensures.ok c.hand.ensures.empty in
     run_stopped g.S.Responder.rules _ _ _ _ i.given _ (Consumes-kept _ _ _ _ i.consumed c.in_default.ensures.bytes)
-      (fronts_all g.S.Responder.rules _ i.given _ _ _ (stands_stops g.S.Responder.rules _ i.given _ _ _ _ stood) c.in_ok-close.ensures.ok)
+    (fronts_all g.S.Responder.rules _ i.given _ _ _ (stands_stops g.S.Responder.rules _ i.given _ _ _ _ stood) c.in_ok-close.ensures.ok)
 
 pub returns-in_default-clause-read : goal.returns-in_default-clause-read
 returns-in_default-clause-read g c = λ _.
     let i = c.loop-out.invariant in
     let stood = stands_empty g.S.Responder.rules _ i.given _ _ _ _ _ _ i.stands c.in_ok-hand.ensures.ok c.hand.ensures.empty in
     run_ended g.S.Responder.rules _ _ _ _ i.given _ _ (Consumes-kept _ _ _ _ i.consumed c.in_default.ensures.bytes)
-      (stands_handed g.S.Responder.rules _ i.given _ _ _ _ _ stood c.in_ok-close.ensures.ok)
+    (stands_handed g.S.Responder.rules _ i.given _ _ _ _ _ stood c.in_ok-close.ensures.ok)
 
 pub returns-then-count-eq0-clause-ok : goal.returns-then-count-eq0-clause-ok
 returns-then-count-eq0-clause-ok g c =
@@ -51,14 +51,14 @@ returns-then-count-eq0-clause-ok g c =
     let stood = stands_empty g.S.Responder.rules _ i.given _ _ _ _ _ _ i.stands c.in_ok-hand.ensures.ok c.hand.ensures.empty in
     let read = c.in-Ok.ensures.bytes in
     on_ok_weaker c.finish.result (λ says. run_answered g.S.Responder.rules _ _ _ _ _ i.given _ _ _
-      (read_none _ _ _ i.given _ c.in-Ok.count c.if-count-eq0.true i.consumed read.0) (read.1 c.if-count-eq0.true (omega arith)) stood (says _ i.given stood)) c.finish.ensures.ok
+    (read_none _ _ _ i.given _ c.in-Ok.count c.if-count-eq0.true i.consumed read.0) (read.1 c.if-count-eq0.true (omega arith)) stood (says _ i.given stood)) c.finish.ensures.ok
 
 pub returns-then-count-eq0-clause-err : goal.returns-then-count-eq0-clause-err
 returns-then-count-eq0-clause-err g c =
     let i = c.loop-out.invariant in
     let stood = stands_empty g.S.Responder.rules _ i.given _ _ _ _ _ _ i.stands c.in_ok-hand.ensures.ok c.hand.ensures.empty in
     on_err_weaker c.finish.result (λ says. run_stopped g.S.Responder.rules _ _ _ _ i.given _
-      (read_none _ _ _ i.given _ c.in-Ok.count c.if-count-eq0.true i.consumed c.in-Ok.ensures.bytes.0) (says _ i.given stood)) c.finish.ensures.err
+    (read_none _ _ _ i.given _ c.in-Ok.count c.if-count-eq0.true i.consumed c.in-Ok.ensures.bytes.0) (says _ i.given stood)) c.finish.ensures.err
 
 pub loop-out-smaller : goal.loop-out-smaller
 loop-out-smaller g c =
