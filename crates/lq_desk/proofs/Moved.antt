@@ -18,10 +18,12 @@ use Rattle.lq_volume.specs.Book.{number_of, state_of}
 use Rattle.lq_update.specs.declared.message.Message.{Message}
 use Rattle.lq_desk.specs.Held.{Held, taken_from}
 use Rattle.lq_desk.specs.World.{World, Sub, Changing, Opening, Taking, Answer, Changed, Opened, Took, Empty, Refused, whole, changing, opening, opening_refusals, open_refusal, taking, taking_from, slot_at, with_change, with_sub, with_taken, outcome, Happening, Step, Run}
-use Rattle.lq_desk.specs.Desk.{Kept, Shows, kept_of, changed, held_for, opening_refusal, held_at, take_answer, first_answer, taken, taken_if}
+use Rattle.lq_desk.specs.Desk.{Kept, Shows, kept_of, changed, held_for, opening_refusal, held_at, take_answer, first_answer, taken, keeping, admitting}
+use Rattle.lq_update.specs.Laws.{UpdatesJoin}
+use Rattle.lq_desk.specs.Laws.{KeptShowsWorlds}
 use Rattle.lq_desk.specs.Reply.{Moves, Runs}
 use Rattle.lq_desk.proofs.Openings.{number-all}
-use Rattle.lq_desk.proofs.Shown.{shows-taken, shows-empty, slice_get-map, first-waiting}
+use Rattle.lq_desk.proofs.Shown.{shows-change, shows-open, shows-taken, shows-empty, slice_get-map, first-waiting}
 
 done_change : (w : World) (c : Change_) (a : Applied) (o : Option Refusal) → o ≡ None → a ≡ record { change = (state_of w.book).number + 1; node = node_of (state_of w.book) c } → (Changed a ≡ (changing w c o).0) × (with_change w c ≡ (changing w c o).1)
 done_change w c a o none is = subst (λ (p : Option Refusal). (Changed a ≡ (changing w c p).0) × (with_change w c ≡ (changing w c p).1)) (sym none) (ap (λ b. Changed b) is, refl)
@@ -143,3 +145,34 @@ runs-more mid new w events answers e a r m = record { end = m.next; run = run-mo
 pub map-more : {A B : Type 0} (f : A → B) (xs : List A) (x : A) → map f (xs ++ x ∷ []) ≡ map f xs ++ f x ∷ []
 map-more f [] x = refl
 map-more f (y ∷ xs) x = ap (λ zs. f y ∷ zs) (map-more f xs x)
+
+-- ---- what is kept answers as a world that it shows
+module _ (join : UpdatesJoin) where
+  alike-change : (k : Kept) (w : World) (c : Change_) (o p : Option Refusal) → o ≡ p → Shows k w → ((keeping k c o).0 ≡ (changing w c p).0) × Shows (keeping k c o).1 (changing w c p).1
+  alike-change k w c o p same shows = subst (λ (r : Option Refusal). ((keeping k c o).0 ≡ (changing w c r).0) × Shows (keeping k c o).1 (changing w c r).1) same (at o)
+    where
+      at : (r : Option Refusal) → ((keeping k c r).0 ≡ (changing w c r).0) × Shows (keeping k c r).1 (changing w c r).1
+      at (Some e) = (refl, shows)
+      at None = (ap (λ (s : State). Changed (record { change = s.number + 1; node = node_of s c })) (ap (λ (j : Kept). j.volume) shows.kept), shows-change join k w c shows)
+
+  alike-open : (k : Kept) (w : World) (q : Query) (moved : Bool) (o p : Option Refusal) → o ≡ p → Shows k w → ((admitting k q moved o).0 ≡ (opening w q moved p).0) × Shows (admitting k q moved o).1 (opening w q moved p).1
+  alike-open k w q moved o p same shows = subst (λ (r : Option Refusal). ((admitting k q moved o).0 ≡ (opening w q moved r).0) × Shows (admitting k q moved o).1 (opening w q moved r).1) same (at o)
+    where
+      at : (r : Option Refusal) → ((admitting k q moved r).0 ≡ (opening w q moved r).0) × Shows (admitting k q moved r).1 (opening w q moved r).1
+      at (Some e) = (refl, shows)
+      at None =
+          let volume : k.volume ≡ state_of w.book = ap (λ (j : Kept). j.volume) shows.kept in
+          let slots : length k.held ≡ length w.slots = ap (λ (j : Kept). length j.held) shows.kept ∙ length-map (held_for w.book) w.slots in
+          let slot_here : length k.held + 1 ≡ length w.slots + 1 = omega arith in
+          let at_here : k.volume.number ≡ number_of w.book = ap (λ (s : State). s.number) volume ∙ number-all w.book.start w.book.changes in
+          (ap (λ n. Opened n k.volume.number (result_of q k.volume)) slot_here
+            ∙ (ap (λ n. Opened (length w.slots + 1) n (result_of q k.volume)) at_here ∙ ap (λ s. Opened (length w.slots + 1) (number_of w.book) (result_of q s)) volume),
+           shows-open k w q moved shows)
+
+  pub kept-shows : KeptShowsWorlds
+  kept-shows k w (Changing c) shows = alike-change k w c (refused_by k.volume c) (refused_by (state_of w.book) c) (ap (λ (j : Kept). refused_by j.volume c) shows.kept) shows
+  kept-shows k w (Opening q port backlog moved) shows = alike-open k w q moved (opening_refusal k port backlog) (open_refusal w port backlog) (refusal_same k w port backlog shows) shows
+  kept-shows k w (Taking slot) shows =
+      let m = take-slot k w slot (slot_at w slot) shows refl in
+      let holds = held-slot k w slot shows in
+      (ap take_answer holds ∙ m.0, subst (λ (h : Option Held). Shows (taken k slot h) (outcome w (Taking slot)).1) (sym holds) m.1)

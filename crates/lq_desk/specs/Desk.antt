@@ -1,17 +1,19 @@
 -- What the desk keeps, and which worlds it shows.
-use Rattle.std.specs.Prelude.{◌≡◌, ℕ, ◌+◌, ◌-◌, ◌*◌, ◌≤◌, List, [], ◌∷◌, ◌++◌, length, map, drop, Bool, Option, Some, None, ◌==◌, slice_get, slice_set, if◌then◌else◌}
+use Rattle.std.specs.Prelude.{◌≡◌, ◌⊎◌, ℕ, ◌+◌, ◌-◌, ◌*◌, ◌≤◌, List, [], ◌∷◌, ◌++◌, length, map, drop, Bool, Option, Some, None, ◌==◌, slice_get, slice_set, if◌then◌else◌}
 use Rattle.std.specs.List.{AllByRecursion}
 use Rattle.lq_value.specs.declared.refusal.Refusal.{Refusal}
-use Rattle.lq_value.specs.declared.refusal.Refusal.TheVariants.{NotOpen}
+use Rattle.lq_value.specs.declared.refusal.Refusal.TheVariants.{NotOpen, NoMemory}
 use Rattle.lq_value.specs.Refusal.{first_refusal}
 use Rattle.lq_predicate.specs.Query.{Query}
 use Rattle.lq_volume.specs.declared.change.Change.{Change as Change_}
 use Rattle.lq_volume.specs.State.{State}
-use Rattle.lq_volume.specs.Change.{after}
+use Rattle.lq_volume.specs.declared.change.Applied.{Applied}
+use Rattle.lq_volume.specs.Change.{after, refused, node_of}
+use Rattle.lq_volume.specs.Result.{result_of}
 use Rattle.lq_volume.specs.Book.{Book, number_of, state_of}
 use Rattle.lq_update.specs.declared.message.Message.{Message}
 use Rattle.lq_desk.specs.Held.{Held, held_after, taken_from}
-use Rattle.lq_desk.specs.World.{World, Sub, Answer, Took, Empty, Refused, whole, opening_refusals}
+use Rattle.lq_desk.specs.World.{World, Sub, Happening, Changing, Opening, Taking, Answer, Changed, Opened, Took, Empty, Refused, MayRunOut, whole, opening_refusals}
 
 -- the volume, the openings so far, and what is held for each slot
 pub record Kept : Type 0 where
@@ -50,6 +52,25 @@ taken_at hs place = taken_if hs place (slice_get hs place)
 
 abbrev pub taken : Kept → ℕ → Option Held → Kept
 taken k slot h = record { volume = k.volume; openings = k.openings; held = taken_if k.held (slot - 1) h }
+
+-- an answer, and what is kept after it
+abbrev pub keeping : Kept → Change_ → Option Refusal → Answer × Kept
+keeping k c (Some e) = (Refused e, k)
+keeping k c None = (Changed (record { change = k.volume.number + 1; node = node_of k.volume c }), changed k c)
+
+abbrev pub admitting : Kept → Query → Bool → Option Refusal → Answer × Kept
+admitting k q moved (Some e) = (Refused e, k)
+admitting k q moved None = (Opened (length k.held + 1) k.volume.number (result_of q k.volume), opened k q moved)
+
+-- what an event is answered where this is kept, and what is kept then
+abbrev pub kept_outcome : Kept → Happening → Answer × Kept
+kept_outcome k (Changing c) = keeping k c (refused k.volume c)
+kept_outcome k (Opening q port backlog moved) = admitting k q moved (opening_refusal k port backlog)
+kept_outcome k (Taking slot) = (take_answer (held_at k slot), taken k slot (held_at k slot))
+
+-- that, or a want of memory that leaves what is kept
+abbrev pub KeptStep : Kept → Happening → Answer → Kept → Type 0
+KeptStep k e a l = ((a ≡ (kept_outcome k e).0) × (l ≡ (kept_outcome k e).1)) ⊎ (MayRunOut e × (a ≡ Refused NoMemory) × (l ≡ k))
 
 -- what a world's subscription leaves with the desk
 abbrev pub held_for : Book → Sub → Held

@@ -3,3 +3,4 @@ pub mod Headline
 pub mod Held
 pub mod Desk
 pub mod Reply
+pub mod Laws

@@ -49,7 +49,7 @@ impl Model for Desk {
 impl Desk {
     ghost use Rattle.lq_volume.specs.State.{State};
     ghost use Rattle.lq_volume.specs.Result.{result_of};
-    ghost use Rattle.lq_desk.specs.Desk.{Kept, Shows, changed, opened, opening_refusal, held_at, take_answer, taken};
+    ghost use Rattle.lq_desk.specs.Desk.{Kept, Shows, changed, opened, opening_refusal, held_at, take_answer, taken, KeptStep};
     ghost use Rattle.lq_desk.specs.Reply.{Moves, Runs, happening_of, answer_of};
     ghost use Rattle.lq_desk.specs.World.{World, Opened, Taking, first_world, with_change, with_sub};
     ghost use Rattle.lq_desk.specs.Headline.{ReadsArePrefixes};
@@ -81,7 +81,8 @@ impl Desk {
     /// `BadPort`, `BadBacklog`, `NoSlot`, `Exhausted`, `NoMemory`; a take of a slot where no query
     /// stands with `NotOpen`. A refused event changes nothing. A take takes no memory.
     pub fn event(&mut self, event: &Event) -> Reply
-        ensures { (w : World) → Shows self.old w →
+        ensures kept { KeptStep self.old (happening_of event.now) (answer_of result) self.new }
+        ensures world { (w : World) → Shows self.old w →
             Moves self.new w (happening_of event.now) (answer_of result) }
     {
         match event {

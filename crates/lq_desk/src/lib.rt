@@ -7,8 +7,10 @@
 
 mod desk;
 mod event;
+mod laws;
 mod sub;
 mod subs;
 
 pub use desk::Desk;
 pub use event::{Event, Read, Reply};
+pub use laws::kept_shows_worlds;

@@ -1,7 +1,7 @@
 use Rattle.lq_desk.proofs.Moved.{moves-opened}
 use Rattle.lq_desk.proofs.desk.Desk.event.Goals as goal
 
-pub returns-in-Ok-open : goal.returns-in-Ok-open
-returns-in-Ok-open c = λ w shows.
+pub returns-in-Ok-open-clause-world : goal.returns-in-Ok-open-clause-world
+returns-in-Ok-open-clause-world c = λ w shows.
     let e = c.in-Ok-open.ensures in
     rw c.in-Open.is (moves-opened c.args.self.now c.open.new.self w _ _ _ _ _ shows e.refused.0 e.reply (e.world w shows))

@@ -20,7 +20,7 @@ loop-event-preserved c =
       room = omega (arith, c.push_reserved.ensures.capacity, l.invariant.room);
       run = λ w shows.
           let r = l.invariant.run w shows in
-          rw (c.push_reserved.ensures.items, at, ← c.event-item.is, map-more, map-more) (runs-more _ _ w _ _ _ _ r (c.event-reply.ensures r.end r.shows));
+          rw (c.push_reserved.ensures.items, at, ← c.event-item.is, map-more, map-more) (runs-more _ _ w _ _ _ _ r (c.event-reply.ensures.world r.end r.shows));
     }
 
 pub returns-clause-run : goal.returns-clause-run

@@ -1,0 +1,5 @@
+pub mod Pieces
+pub mod LineLemmas
+pub mod ProgressLemmas
+pub mod Answered
+pub mod RunLemmas

@@ -1,0 +1,4 @@
+pub mod Device
+pub mod Lines
+pub mod Output
+pub mod Progress

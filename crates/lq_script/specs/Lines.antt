@@ -1,0 +1,71 @@
+-- The bytes of a script cut into lines, and the replies to them.
+use Rattle.std.specs.Prelude.{◌≡◌, ℕ, List, [], ◌∷◌, ◌++◌, Bool, true, false, if◌then◌else◌, ◌==◌, length, nat_lt}
+use Rattle.std.specs.Io.BufRead.{strip_last}
+
+-- front stands at the front of whole
+abbrev pub Begins : List ℕ → List ℕ → Type 0
+Begins whole front = (rest : List ℕ) × (whole ≡ front ++ rest)
+
+-- a byte before the first line, which is the whole text where there is none
+abbrev pub with_front : ℕ → List (List ℕ) → List (List ℕ)
+with_front b [] = (b ∷ []) ∷ []
+with_front b (line ∷ lines) = (b ∷ line) ∷ lines
+
+-- Cut at LF. A last line without LF is a line, and after a final LF there is none.
+abbrev pub lines_of : List ℕ → List (List ℕ)
+lines_of [] = []
+lines_of (b ∷ bs) = if b == 10 then [] ∷ lines_of bs else with_front b (lines_of bs)
+
+-- a byte before the first line that LF ended, if there is one
+abbrev pub before_ended : ℕ → List (List ℕ) → List (List ℕ)
+before_ended b [] = []
+before_ended b (line ∷ lines) = (b ∷ line) ∷ lines
+
+-- the lines that LF ended
+abbrev pub ended_lines : List ℕ → List (List ℕ)
+ended_lines [] = []
+ended_lines (b ∷ bs) = if b == 10 then [] ∷ ended_lines bs else before_ended b (ended_lines bs)
+
+-- without one CR at the end
+abbrev pub without_cr : List ℕ → List ℕ
+without_cr bytes = strip_last 13 bytes
+
+-- a line as it is answered
+pub data Line : Type 0 where
+  long : Line
+  empty : Line
+  whole : List ℕ → Line
+
+-- a line that is not too long, without its CR
+abbrev pub given_line : List ℕ → Line
+given_line [] = empty
+given_line (b ∷ bs) = whole (b ∷ bs)
+
+-- A line of more than 65,536 bytes is too long, also where the last one is a CR.
+abbrev pub line_of : List ℕ → Line
+line_of bytes = if nat_lt 65536 (length bytes) then long else given_line (without_cr bytes)
+
+-- how lines are answered: the reply at each state, the state after it, and the reply to a line that is too long
+pub record Rules (State : Type 0) : Type 0 where
+  pub reply : State → List ℕ → List ℕ
+  pub after : State → List ℕ → State
+  pub long : List ℕ
+
+-- what is written for a line
+abbrev pub reply_to : {State : Type 0} → Rules State → State → Line → List ℕ
+reply_to rules state long = rules.long
+reply_to rules state empty = []
+reply_to rules state (whole bytes) = rules.reply state bytes
+
+-- the state after a line
+abbrev pub state_after : {State : Type 0} → Rules State → State → Line → State
+state_after rules state long = state
+state_after rules state empty = state
+state_after rules state (whole bytes) = rules.after state bytes
+
+-- what is written for lines, one reply after another
+abbrev pub replies_to : {State : Type 0} → Rules State → State → List (List ℕ) → List ℕ
+replies_to rules state [] = []
+replies_to rules state (bytes ∷ lines) =
+    reply_to rules state (line_of bytes)
+    ++ replies_to rules (state_after rules state (line_of bytes)) lines
