@@ -1,5 +1,8 @@
 pub mod Pieces
-pub mod LineLemmas
+pub mod RequestLemmas
 pub mod ProgressLemmas
 pub mod Answered
 pub mod RunLemmas
+pub mod RequestLemmas
+pub mod ReplyLemmas
+pub mod ScriptLemmas

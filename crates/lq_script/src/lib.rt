@@ -5,15 +5,20 @@
 //! is in `specs/Output`. Nothing here waits. Begin with `devices`, then `responder`, then `run`.
 #![tactic(auto)]
 
+mod asking;
 mod devices;
 mod intake;
+mod reply;
+mod request;
 mod responder;
 mod run;
 mod run_fault;
+mod script;
+mod session;
 #[cfg(test)]
 mod tests;
 
 pub use devices::{Failed, Host, Sink, Source};
-pub use responder::Responder;
-pub use run::run_lines;
+
 pub use run_fault::RunFault;
+pub use script::run;

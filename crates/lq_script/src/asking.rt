@@ -1,0 +1,92 @@
+//! From the bytes of a line to its event.
+ghost use Rattle.std.specs.Prelude.{◌≡◌, ◌⊎◌, IfOk, IfErr, Ok, Err};
+ghost use Rattle.serde_json.specs.View.{view};
+ghost use Rattle.lq_value.specs.declared.refusal.Refusal.TheVariants.{NoMemory};
+ghost use Rattle.lq_value.specs.Refusal.{IsRefusedBy};
+ghost use Rattle.lq_desk.specs.Reply.{happening_of};
+ghost use Rattle.lq_script.specs.Asked.{asked};
+ghost use Rattle.lq_script.specs.Request.{asked_in, asked_of, asked_or, happening_for, happening_from, happening_in, refusal_in};
+
+use crate::request::{Request, request_in};
+use lq_desk::Event;
+use lq_predicate::read;
+use lq_value::{Name, Refusal};
+use lq_volume::Change;
+use serde_json::{Category, Value};
+use std::alloc::Global;
+
+/// The event that a line asks for, the line being without its LF and CR.
+///
+/// Refused: `NoMemory`; else, the first that fits, `NotUtf8`, `NotJson`, `BadLine` (no object, an
+/// unknown `do`, a field missing, of the wrong type or out of its range), then as the values are,
+/// `BadName` or `BadQuery`. The faults and their order are our own.
+pub fn event_in(alloc: Global, line: &[u8]) -> Result<Event, Refusal>
+    ensures value { IfOk result (λ event. happening_in line.now ≡ Ok (happening_of event)) }
+    ensures refused { IfErr result (λ e. (e ≡ NoMemory) ⊎ (happening_in line.now ≡ Err e)) }
+{
+    let value = value_in(alloc, line)?;
+    Ok(event_of(alloc, &value)?)
+}
+
+// The JSON value that a line writes.
+fn value_in(alloc: Global, line: &[u8]) -> Result<Value, Refusal>
+    ensures value { IfOk result (λ value. asked_in line.now ≡ asked_or (asked_of (view value))) }
+    ensures refused { IfErr result (λ e. (e ≡ NoMemory) ⊎ (asked_in line.now ≡ Err e)) }
+{
+    let Ok(text) = str::from_utf8(line) else {
+        return Err(Refusal::NotUtf8);
+    };
+    match Value::from_str(alloc, text) {
+        Ok(value) => Ok(value),
+        Err(error) => match error.classify() {
+            Category::Memory => Err(Refusal::NoMemory),
+            _ => Err(Refusal::NotJson),
+        },
+    }
+}
+
+// The event of a line's JSON value.
+fn event_of(alloc: Global, value: &Value) -> Result<Event, Refusal>
+    ensures refused { IsRefusedBy result (refusal_in (happening_from (asked_or (asked_of (view value.now))))) }
+    ensures value { IfOk result (λ event.
+        happening_from (asked_or (asked_of (view value.now))) ≡ Ok (happening_of event)) }
+{
+    match request_in(value) {
+        None => Err(Refusal::BadLine),
+        Some(request) => Ok(event_for(alloc, &request)?),
+    }
+}
+
+// The event of a request, its values read.
+fn event_for(alloc: Global, request: &Request<'_>) -> Result<Event, Refusal>
+    ensures refused { IsRefusedBy result (refusal_in (happening_for (asked request.now))) }
+    ensures value { IfOk result (λ event. happening_for (asked request.now) ≡ Ok (happening_of event)) }
+{
+    match request {
+        Request::Create {
+            dir,
+            name,
+            kind,
+            size,
+            time,
+        } => Ok(Event::Change(Change::Create {
+            dir: *dir,
+            name: Name::read(alloc, name)?,
+            kind: *kind,
+            size: *size,
+            time: *time,
+        })),
+        Request::Remove { node } => Ok(Event::Change(Change::Remove { node: *node })),
+        Request::Open {
+            query,
+            port,
+            backlog,
+        } => Ok(Event::Open {
+            predicate: read(alloc, query)?,
+            port: *port,
+            backlog: *backlog,
+            moved: false,
+        }),
+        Request::Read { slot } => Ok(Event::Take(*slot)),
+    }
+}

@@ -1,0 +1,141 @@
+//! The text of a reply.
+ghost use Rattle.std.specs.Prelude.{◌≡◌, ◌++◌, None, IfOk, IfErr, OnOk, OnErr, map, string_bytes};
+ghost use Rattle.serde_json.specs.View.{view, items_of};
+ghost use Rattle.serde_json.specs.Data.{array};
+ghost use Rattle.lq_value.specs.Refusal.{IsRefusedBy};
+ghost use Rattle.lq_desk.specs.Reply.{answer_of, answer_of_read};
+ghost use Rattle.lq_script.specs.Lines.{Begins};
+ghost use Rattle.lq_script.specs.Reply.{answer_data, applied_data, empty_data, entry_data, message_data, opcode_name, opened_data, place_of, refusal_data, reply_text};
+
+use lq_desk::{Read, Reply};
+use lq_update::{Message, Opcode};
+use lq_value::{Entry, Refusal};
+use lq_volume::Applied;
+use serde_json::{Value, json};
+use std::alloc::{AllocError, Global};
+
+/// Puts the text of a reply and LF behind `out`. Refused: `NoMemory`.
+pub fn put_reply(alloc: Global, out: &mut Vec<u8>, reply: &Reply) -> Result<(), Refusal>
+    ensures refused { IsRefusedBy result None }
+    ensures ok { OnOk result (out.new.items ≡ out.old.items ++ reply_text (answer_of reply.now)) }
+    ensures err { OnErr result (Begins out.new.items out.old.items) }
+{
+    let text = line_of(alloc, reply)?;
+    out.extend_from_slice(text.as_bytes())?;
+    Ok(())
+}
+
+fn line_of(alloc: Global, reply: &Reply) -> Result<String, AllocError>
+    ensures { IfOk result (λ s. string_bytes s ≡ reply_text (answer_of reply.now)) }
+{
+    let value = reply_value(alloc, reply)?;
+    let mut text = value.to_string(alloc)?;
+    text.push('\n')?;
+    Ok(text)
+}
+
+fn reply_value(alloc: Global, reply: &Reply) -> Result<Value, AllocError>
+    ensures { IfOk result (λ v. view v ≡ answer_data (answer_of reply.now)) }
+{
+    match reply {
+        Reply::Changed(applied) => applied_value(alloc, applied),
+        Reply::Opened {
+            slot,
+            at,
+            result: entries,
+        } => opened_value(alloc, *slot, *at, entries),
+        Reply::Took(read) => read_value(alloc, read),
+        Reply::Refused(refusal) => refusal_value(alloc, *refusal),
+    }
+}
+
+fn applied_value(alloc: Global, applied: &Applied) -> Result<Value, AllocError>
+    ensures { IfOk result (λ v. view v ≡ applied_data applied.now) }
+{
+    json!(in alloc; {"change": applied.change, "node": applied.node})
+}
+
+fn opened_value(alloc: Global, slot: u64, at: u64, entries: &[Entry]) -> Result<Value, AllocError>
+    ensures { IfOk result (λ v. view v ≡ opened_data slot at entries.now) }
+{
+    let list = entries_value(alloc, entries)?;
+    json!(in alloc; {"at": at, "result": list, "slot": slot})
+}
+
+fn entries_value(alloc: Global, entries: &[Entry]) -> Result<Value, AllocError>
+    ensures { IfOk result (λ v. view v ≡ array (items_of (map entry_data entries.now))) }
+{
+    let mut items = Vec::new(alloc);
+    for entry in entries {
+        items.push(entry_value(alloc, entry)?)?;
+    }
+    Ok(Value::Array(items))
+}
+
+fn entry_value(alloc: Global, entry: &Entry) -> Result<Value, AllocError>
+    ensures { IfOk result (λ v. view v ≡ entry_data entry.now) }
+{
+    let name = entry.name.as_str();
+    json!(in alloc; {"dir": entry.dir, "name": name, "node": entry.node})
+}
+
+fn read_value(alloc: Global, read: &Read) -> Result<Value, AllocError>
+    ensures { IfOk result (λ v. view v ≡ answer_data (answer_of_read read.now)) }
+{
+    match read {
+        Read::Update(message) => message_value(alloc, message),
+        Read::Empty => empty_value(alloc),
+    }
+}
+
+fn empty_value(alloc: Global) -> Result<Value, AllocError>
+    ensures { IfOk result (λ v. view v ≡ empty_data) }
+{
+    json!(in alloc; {"what": "EMPTY"})
+}
+
+fn opcode_name(op: Opcode) -> &'static str
+    ensures { result.now ≡ opcode_name op }
+{
+    match op {
+        Opcode::Created => "B_ENTRY_CREATED",
+        Opcode::Removed => "B_ENTRY_REMOVED",
+    }
+}
+
+fn message_value(alloc: Global, message: &Message) -> Result<Value, AllocError>
+    ensures { IfOk result (λ v. view v ≡ message_data message.now) }
+{
+    let name = message.name.as_str();
+    let op = opcode_name(message.op);
+    json!(in alloc; {
+        "change": message.change,
+        "dir": message.dir,
+        "last": message.last,
+        "name": name,
+        "node": message.node,
+        "op": op,
+        "seq": message.seq,
+        "what": "B_QUERY_UPDATE"
+    })
+}
+
+fn refusal_value(alloc: Global, refusal: Refusal) -> Result<Value, AllocError>
+    ensures { IfOk result (λ v. view v ≡ refusal_data refusal) }
+{
+    let code = refusal.code();
+    let error = refusal.name();
+    match place_of(refusal) {
+        None => json!(in alloc; {"code": code, "error": error}),
+        Some(place) => json!(in alloc; {"code": code, "error": error, "place": place}),
+    }
+}
+
+fn place_of(refusal: Refusal) -> Option<u64>
+    ensures { result ≡ place_of refusal }
+{
+    match refusal {
+        Refusal::BadQuery { place } => Some(place),
+        _ => None,
+    }
+}

@@ -1,0 +1,124 @@
+//! What a line of a script asks for.
+ghost use Rattle.std.specs.Prelude.{◌≡◌, pos};
+ghost use Rattle.std.specs.Option.{option_map};
+ghost use Rattle.lq_value.specs.declared.kind.Kind.TheVariants.{File};
+ghost use Rattle.serde_json.specs.View.{view};
+ghost use Rattle.lq_script.specs.Request.{asked_by, asked_of, create_of, remove_of, open_of, read_of, needed_text, needed_u64, u64_or, i64_or, kind_named, kind_or};
+ghost use Rattle.lq_script.specs.Asked.{asked};
+
+use lq_value::Kind;
+use serde_json::Value;
+
+/// What a line asks for, its texts borrowed from the line's JSON value.
+#[derive(Debug, Drop)]
+pub enum Request<'a> {
+    Create {
+        dir: u64,
+        name: &'a str,
+        kind: Kind,
+        size: u64,
+        time: i64,
+    },
+    Remove {
+        node: u64,
+    },
+    Open {
+        query: &'a str,
+        port: u64,
+        backlog: u64,
+    },
+    Read {
+        slot: u64,
+    },
+}
+
+/// The request of a line's JSON value; `None` where a field is missing or wrong.
+pub fn request_in(value: &Value) -> Option<Request<'_>>
+    ensures { option_map asked result ≡ asked_of (view value.now) }
+{
+    match value.get("do").and_then(Value::as_str)? {
+        "create" => create_in(value),
+        "remove" => remove_in(value),
+        "open" => open_in(value),
+        "read" => read_in(value),
+        _ => None,
+    }
+}
+
+fn create_in(value: &Value) -> Option<Request<'_>>
+    ensures { option_map asked result ≡ create_of (view value.now) }
+{
+    let name = value.get("name").and_then(Value::as_str)?;
+    let dir = u64_or(value.get("dir"), 1)?;
+    let kind = kind_or_file(value.get("kind"))?;
+    let size = u64_or(value.get("size"), 0)?;
+    let time = i64_or_zero(value.get("time"))?;
+    Some(Request::Create {
+        dir,
+        name,
+        kind,
+        size,
+        time,
+    })
+}
+
+fn remove_in(value: &Value) -> Option<Request<'_>>
+    ensures { option_map asked result ≡ remove_of (view value.now) }
+{
+    let node = value.get("node").and_then(Value::as_u64)?;
+    Some(Request::Remove { node })
+}
+
+fn open_in(value: &Value) -> Option<Request<'_>>
+    ensures { option_map asked result ≡ open_of (view value.now) }
+{
+    let query = value.get("query").and_then(Value::as_str)?;
+    let port = value.get("port").and_then(Value::as_u64)?;
+    let backlog = value.get("backlog").and_then(Value::as_u64)?;
+    Some(Request::Open {
+        query,
+        port,
+        backlog,
+    })
+}
+
+fn read_in(value: &Value) -> Option<Request<'_>>
+    ensures { option_map asked result ≡ read_of (view value.now) }
+{
+    let slot = value.get("slot").and_then(Value::as_u64)?;
+    Some(Request::Read { slot })
+}
+
+// A whole number from 0 up, or the default where there is none.
+fn u64_or(field: Option<&Value>, default: u64) -> Option<u64>
+    ensures { result ≡ u64_or default (option_map (λ v. view v.now) field.entry) }
+{
+    match field {
+        None => Some(default),
+        Some(value) => value.as_u64(),
+    }
+}
+
+// A whole number of 64 bits with a sign, or 0 where there is none.
+fn i64_or_zero(field: Option<&Value>) -> Option<i64>
+    ensures { result ≡ i64_or (pos 0) (option_map (λ v. view v.now) field.entry) }
+{
+    match field {
+        None => Some(0),
+        Some(value) => value.as_i64(),
+    }
+}
+
+// A kind, or a file where there is none.
+fn kind_or_file(field: Option<&Value>) -> Option<Kind>
+    ensures { result ≡ kind_or File (option_map (λ v. view v.now) field.entry) }
+{
+    match field {
+        None => Some(Kind::File),
+        Some(value) => match value.as_str()? {
+            "file" => Some(Kind::File),
+            "folder" => Some(Kind::Folder),
+            _ => None,
+        },
+    }
+}
