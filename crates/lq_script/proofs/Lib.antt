@@ -1,5 +1,5 @@
-pub mod Pieces
+pub mod WritingLemmas
 pub mod LineLemmas
 pub mod ProgressLemmas
-pub mod Answered
+pub mod ResultLemmas
 pub mod RunLemmas

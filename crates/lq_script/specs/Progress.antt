@@ -58,3 +58,18 @@ pub record Meets {State : Type 0} (rules : Rules State) (began : Began State) (g
   pub follows : count < length piece
   pub stands : Stands rules began (given ++ take count piece) written state intake out
   pub at_limit : (intake.lines ≡ 10000000) ⊎ (intake.bytes ≡ 1073741824)
+
+-- from one place to another over these bytes, wherever the run began
+abbrev pub Goes : {State : Type 0} → Rules State → List ℕ → Option (List ℕ) → State → Intake → List ℕ → Option (List ℕ) → State → Intake → List ℕ → Type 0
+Goes {State} rules bytes written state intake out written' state' intake' out' =
+    (began : Began State) → (given : List ℕ) → Stands rules began given written state intake out → Stands rules began (given ++ bytes) written' state' intake' out'
+
+-- from a place to a fault in these bytes: a front of the output is left
+abbrev pub Leaves : {State : Type 0} → Rules State → List ℕ → Option (List ℕ) → State → Intake → List ℕ → Option (List ℕ) → List ℕ → Type 0
+Leaves {State} rules bytes written state intake out written' out' =
+    (began : Began State) → (given : List ℕ) → Stands rules began given written state intake out → Fronts rules began (given ++ bytes) written' out'
+
+-- from a place to a limit in this piece
+abbrev pub MeetsLimit : {State : Type 0} → Rules State → List ℕ → Option (List ℕ) → State → Intake → List ℕ → Option (List ℕ) → State → Intake → List ℕ → Type 0
+MeetsLimit {State} rules piece written state intake out written' state' intake' out' =
+    (began : Began State) → (given : List ℕ) → Stands rules began given written state intake out → Meets rules began given piece written' state' intake' out'

@@ -7,11 +7,13 @@
 
 mod devices;
 mod intake;
+mod pieces;
 mod responder;
 mod run;
 mod run_fault;
 #[cfg(test)]
 mod tests;
+mod writing;
 
 pub use devices::{Failed, Host, Sink, Source};
 pub use responder::Responder;
