@@ -1,15 +1,15 @@
 -- How an input is cut into lines, and what is written for lines one after another.
 use Rattle.std.proofs.Common.{◌≡◌, ◌==◌, ℕ, ◌+◌, ◌≤◌, ◌<◌, ◌++◌, List, [], ◌∷◌, length, Bool, true, false, refl, sym, ap, ◌∙◌, subst, arith, append_assoc, append-nil}
-use Rattle.lq_script.specs.Lines.{Rules, before_ended, ended_lines, line_of, lines_of, replies_to, reply_to, state_after, with_front}
-use Rattle.lq_script.specs.Progress.{IsCut, IsUnbroken, state_after_all}
+use Rattle.lq_script.specs.Lines.{IsUnbroken, Rules, before_ended, ended_lines, line_of, lines_of, replies_to, reply_to, state_after, with_front}
+use Rattle.lq_script.specs.Progress.{IsCut, state_after_all}
 
 -- the first line ends at the first LF
-lines_cut : (bytes : List ℕ) (b : ℕ) (rest : List ℕ) → IsUnbroken bytes → (b == 10) ≡ true → lines_of (bytes ++ b ∷ rest) ≡ bytes ∷ lines_of rest
+pub lines_cut : (bytes : List ℕ) (b : ℕ) (rest : List ℕ) → IsUnbroken bytes → (b == 10) ≡ true → lines_of (bytes ++ b ∷ rest) ≡ bytes ∷ lines_of rest
 lines_cut [] b rest u e = rw e refl
 lines_cut (a ∷ bytes) b rest u e = rw u.0 (ap (with_front a) (lines_cut bytes b rest u.1 e))
 
 -- and so does the first line that LF ended
-ended_cut : (bytes : List ℕ) (b : ℕ) (rest : List ℕ) → IsUnbroken bytes → (b == 10) ≡ true → ended_lines (bytes ++ b ∷ rest) ≡ bytes ∷ ended_lines rest
+pub ended_cut : (bytes : List ℕ) (b : ℕ) (rest : List ℕ) → IsUnbroken bytes → (b == 10) ≡ true → ended_lines (bytes ++ b ∷ rest) ≡ bytes ∷ ended_lines rest
 ended_cut [] b rest u e = rw e refl
 ended_cut (a ∷ bytes) b rest u e = rw u.0 (ap (before_ended a) (ended_cut bytes b rest u.1 e))
 
@@ -19,7 +19,7 @@ lines_one a [] u = rw u.0 refl
 lines_one a (b ∷ bytes) u = rw u.0 (ap (with_front a) (lines_one b bytes u.1))
 
 -- and none that is ended
-ended_none : (bytes : List ℕ) → IsUnbroken bytes → ended_lines bytes ≡ []
+pub ended_none : (bytes : List ℕ) → IsUnbroken bytes → ended_lines bytes ≡ []
 ended_none [] u = refl
 ended_none (a ∷ bytes) u = rw u.0 (ap (before_ended a) (ended_none bytes u.1))
 
@@ -83,3 +83,17 @@ state_one rules state (x ∷ xs) y = state_one rules (state_after rules state (l
 pub output_cut : {State : Type 0} (rules : Rules State) (state : State) (given : List ℕ) (lines : List (List ℕ)) (bytes : List ℕ) → IsCut given lines bytes → replies_to rules state (lines_of given) ≡ replies_to rules state lines ++ reply_to rules (state_after_all rules state lines) (line_of bytes)
 output_cut rules state given lines bytes c =
     ap (replies_to rules state) (cut_lines given lines bytes c) ∙ replies_append rules state lines (lines_of bytes) ∙ ap (λ l. replies_to rules state lines ++ l) (last_reply rules (state_after_all rules state lines) bytes c.unbroken)
+
+front_stays : (b : ℕ) (xs ys rest : List (List ℕ)) → ys ≡ xs ++ rest → (rest' : List (List ℕ)) × (with_front b ys ≡ before_ended b xs ++ rest')
+front_stays b [] ys rest h = (with_front b ys, refl)
+front_stays b (x ∷ xs) ys rest h = (rest, ap (with_front b) h)
+
+byte_stays : (b : ℕ) (bs more : List ℕ) (c : Bool) → (b == 10) ≡ c → (rest : List (List ℕ)) × (lines_of (bs ++ more) ≡ ended_lines bs ++ rest)
+    → (rest : List (List ℕ)) × (lines_of (b ∷ (bs ++ more)) ≡ ended_lines (b ∷ bs) ++ rest)
+byte_stays b bs more true e h = rw e (h.0, ap (λ l. [] ∷ l) h.1)
+byte_stays b bs more false e h = rw e (front_stays b (ended_lines bs) (lines_of (bs ++ more)) h.0 h.1)
+
+-- lines that LF ended stay, whatever follows
+pub ended_stay : (bs more : List ℕ) → (rest : List (List ℕ)) × (lines_of (bs ++ more) ≡ ended_lines bs ++ rest)
+ended_stay [] more = (lines_of more, refl)
+ended_stay (b ∷ bs) more = byte_stays b bs more (b == 10) refl (ended_stay bs more)
