@@ -1,7 +1,7 @@
-pub mod Pieces
-pub mod RequestLemmas
+pub mod WritingLemmas
+pub mod LineLemmas
 pub mod ProgressLemmas
-pub mod Answered
+pub mod ResultLemmas
 pub mod RunLemmas
 pub mod RequestLemmas
 pub mod ReplyLemmas

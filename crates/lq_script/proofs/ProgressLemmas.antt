@@ -4,9 +4,9 @@ use Rattle.std.proofs.lemmas.List.{drop_more, take_more}
 use Rattle.std.proofs.KnownBytes.{Appends-trans}
 use Rattle.std.specs.Io.KnownBytes.{Appends, Keeps}
 use Rattle.lq_script.specs.declared.intake.Intake.{Intake}
-use Rattle.lq_script.specs.Lines.{Begins, Rules, ended_lines, line_of, lines_of, replies_to, reply_to, state_after}
+use Rattle.lq_script.specs.Lines.{Begins, IsUnbroken, Rules, ended_lines, line_of, lines_of, replies_to, reply_to, state_after}
 use Rattle.lq_script.specs.Output.{IsWithin, output_of}
-use Rattle.lq_script.specs.Progress.{Began, Fronts, IsCut, IsKept, IsUnbroken, Meets, Stands, state_after_all}
+use Rattle.lq_script.specs.Progress.{Began, Fronts, IsCut, IsKept, Meets, Stands, state_after_all}
 use Rattle.lq_script.proofs.LineLemmas.{cut_byte, cut_ended, cut_line, cut_lines, lines_one, output_cut, replies_append, replies_one, state_one}
 
 -- replies that wait are written

@@ -34,24 +34,37 @@ module _ (law : KeptShowsWorlds) where
   module _ (k : Kept) (w : World) (shows : Shows k w) (left left' written written' : Option (List ℕ)) where
     pub answered-world : Answered kept_rules k left left' written written' → Answered world_rules w left left' written written'
     answered-world a = record {
-        given = a.given; consumed = a.consumed; at_end = a.at_end; within = a.within;
-        appended = subst (Appends written written') (replies-alike k w (lines_of a.given) shows) a.appended;
-      }
+      given = a.given;
+      consumed = a.consumed;
+      at_end = a.at_end;
+      within = a.within;
+      appended = subst (Appends written written') (replies-alike k w (lines_of a.given) shows) a.appended;
+    }
 
     pub stopped-world : Stopped kept_rules k left left' written written' → Stopped world_rules w left left' written written'
     stopped-world a = record {
-        given = a.given; consumed = a.consumed; text = a.text; appended = a.appended;
-        front = subst (λ (out : List ℕ). Begins out a.text) (replies-alike k w (lines_of a.given) shows) a.front;
-      }
+      given = a.given;
+      consumed = a.consumed;
+      text = a.text;
+      appended = a.appended;
+      front = subst (λ (out : List ℕ). Begins out a.text) (replies-alike k w (lines_of a.given) shows) a.front;
+    }
 
     pub ended-world : Ended kept_rules k left left' written written' → Ended world_rules w left left' written written'
     ended-world a = record {
-        given = a.given; consumed = a.consumed; within = a.within;
-        appended = subst (Appends written written') (replies-alike k w (ended_lines a.given) shows) a.appended;
-      }
+      given = a.given;
+      consumed = a.consumed;
+      within = a.within;
+      appended = subst (Appends written written') (replies-alike k w (ended_lines a.given) shows) a.appended;
+    }
 
     pub passed-world : Passed kept_rules k left left' written written' → Passed world_rules w left left' written written'
     passed-world a = record {
-        given = a.given; next = a.next; rest = a.rest; consumed = a.consumed; within = a.within; passes = a.passes;
-        appended = subst (Appends written written') (replies-alike k w (ended_lines a.given) shows) a.appended;
-      }
+      given = a.given;
+      next = a.next;
+      rest = a.rest;
+      consumed = a.consumed;
+      within = a.within;
+      passes = a.passes;
+      appended = subst (Appends written written') (replies-alike k w (ended_lines a.given) shows) a.appended;
+    }

@@ -1,4 +1,3 @@
-pub mod Device
 pub mod Lines
 pub mod Output
 pub mod Progress

@@ -21,6 +21,11 @@ abbrev pub before_ended : ℕ → List (List ℕ) → List (List ℕ)
 before_ended b [] = []
 before_ended b (line ∷ lines) = (b ∷ line) ∷ lines
 
+-- no LF
+abbrev pub IsUnbroken : List ℕ → Type 0
+IsUnbroken [] = Unit {0}
+IsUnbroken (b ∷ bs) = ((b == 10) ≡ false) × IsUnbroken bs
+
 -- the lines that LF ended
 abbrev pub ended_lines : List ℕ → List (List ℕ)
 ended_lines [] = []
@@ -45,7 +50,8 @@ given_line (b ∷ bs) = whole (b ∷ bs)
 abbrev pub line_of : List ℕ → Line
 line_of bytes = if nat_lt 65536 (length bytes) then long else given_line (without_cr bytes)
 
--- how lines are answered: the reply at each state, the state after it, and the reply to a line that is too long
+-- how lines are answered: the reply at each state, the state after it, and the reply to a line
+-- that is too long
 pub record Rules (State : Type 0) : Type 0 where
   pub reply : State → List ℕ → List ℕ
   pub after : State → List ℕ → State

@@ -12,7 +12,8 @@ abbrev pub IsWithin : List ℕ → Type 0
 IsWithin bytes = (length (lines_of bytes) ≤ 10000000) × (length bytes ≤ 1073741824)
 
 -- a run that ended well: all was read, it was within the limits, and its output was written
-pub record Answered {State : Type 0} (rules : Rules State) (state : State) (left left' written written' : Option (List ℕ)) : Type 0 where
+pub record Answered {State : Type 0} (rules : Rules State) (state : State)
+    (left left' written written' : Option (List ℕ)) : Type 0 where
   pub given : List ℕ
   pub consumed : Consumes left left' given
   pub at_end : IsAtEnd left'
@@ -20,7 +21,8 @@ pub record Answered {State : Type 0} (rules : Rules State) (state : State) (left
   pub appended : Appends written written' (output_of rules state given)
 
 -- a run that stopped: what was written is a front of the output of what was read
-pub record Stopped {State : Type 0} (rules : Rules State) (state : State) (left left' written written' : Option (List ℕ)) : Type 0 where
+pub record Stopped {State : Type 0} (rules : Rules State) (state : State)
+    (left left' written written' : Option (List ℕ)) : Type 0 where
   pub given : List ℕ
   pub consumed : Consumes left left' given
   pub text : List ℕ
@@ -28,7 +30,8 @@ pub record Stopped {State : Type 0} (rules : Rules State) (state : State) (left 
   pub front : Begins (output_of rules state given) text
 
 -- a run that stopped between two reads: just the lines that LF ended were answered
-pub record Ended {State : Type 0} (rules : Rules State) (state : State) (left left' written written' : Option (List ℕ)) : Type 0 where
+pub record Ended {State : Type 0} (rules : Rules State) (state : State)
+    (left left' written written' : Option (List ℕ)) : Type 0 where
   pub given : List ℕ
   pub consumed : Consumes left left' given
   pub within : IsWithin given
@@ -36,7 +39,8 @@ pub record Ended {State : Type 0} (rules : Rules State) (state : State) (left le
 
 -- A run that stopped at a limit: one byte more than what is within the limits was read, and of
 -- what is within them just the lines that LF ended were answered.
-pub record Passed {State : Type 0} (rules : Rules State) (state : State) (left left' written written' : Option (List ℕ)) : Type 0 where
+pub record Passed {State : Type 0} (rules : Rules State) (state : State)
+    (left left' written written' : Option (List ℕ)) : Type 0 where
   pub given : List ℕ
   pub next : ℕ
   pub rest : List ℕ

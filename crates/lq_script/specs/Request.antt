@@ -51,11 +51,11 @@ create_of d =
     option_and_then (λ kind.
     option_and_then (λ size.
     option_map (λ time. asks_create dir name kind size time)
-      (i64_or (pos 0) (get (codes "time") d)))
-      (u64_or 0 (get (codes "size") d)))
-      (kind_or File (get (codes "kind") d)))
-      (u64_or 1 (get (codes "dir") d)))
-      (needed_text (codes "name") d)
+    (i64_or (pos 0) (get (codes "time") d)))
+    (u64_or 0 (get (codes "size") d)))
+    (kind_or File (get (codes "kind") d)))
+    (u64_or 1 (get (codes "dir") d)))
+    (needed_text (codes "name") d)
 
 abbrev pub remove_of : Data → Option Asked
 remove_of d = option_map (λ node. asks_remove node) (needed_u64 (codes "node") d)
@@ -65,9 +65,9 @@ open_of d =
     option_and_then (λ query.
     option_and_then (λ port.
     option_map (λ backlog. asks_open query port backlog)
-      (needed_u64 (codes "backlog") d))
-      (needed_u64 (codes "port") d))
-      (needed_text (codes "query") d)
+    (needed_u64 (codes "backlog") d))
+    (needed_u64 (codes "port") d))
+    (needed_text (codes "query") d)
 
 abbrev pub read_of : Data → Option Asked
 read_of d = option_map (λ slot. asks_read slot) (needed_u64 (codes "slot") d)

@@ -18,10 +18,10 @@ answered step s (Ok e) = step s e
 -- how lines are answered where events are
 abbrev pub rules_by : {State : Type 0} → (State → Happening → Answer × State) → Rules State
 rules_by step = record {
-    reply = λ s line. reply_text (answered step s (happening_in line)).0;
-    after = λ s line. (answered step s (happening_in line)).1;
-    long = reply_text (Refused LongLine);
-  }
+  reply = λ s line. reply_text (answered step s (happening_in line)).0;
+  after = λ s line. (answered step s (happening_in line)).1;
+  long = reply_text (Refused LongLine);
+}
 
 -- over worlds, and over what a desk keeps
 abbrev pub world_rules : Rules World

@@ -1,6 +1,6 @@
 //! A source of bytes and a sink for bytes, each of which may fail.
-ghost use Rattle.std.specs.Prelude.{◌≡◌, ◌+◌, ◌<◌, ◌≤◌, ◌⊎◌, ℕ, List, length, take, Bool, true, false, Option, IfOk, OnOk, OnErr, IsErrOf};
-ghost use Rattle.std.specs.Io.KnownBytes.{Keeps, Appends, WriteAppends, ReadConsumes};
+ghost use Rattle.std.specs.Prelude.{◌≡◌, ◌<◌, ◌≤◌, ℕ, List, length, Bool, true, false, Option, IfOk, OnOk, OnErr};
+ghost use Rattle.std.specs.Io.KnownBytes.{Keeps, WriteAppends, ReadConsumes};
 
 use std::io::{Read, Write};
 
@@ -151,25 +151,4 @@ impl<D: Write> Sink for Host<D> {
             }
         }
     }
-}
-
-/// Writes all of the bytes. On an error some of them were written, from the front.
-pub fn write_all<W: Sink>(writer: &mut W, bytes: &[u8]) -> Result<(), Failed>
-    ensures ok { OnOk result (Appends (W.written writer.old) (W.written writer.new) bytes.now) }
-    ensures err { OnErr result ((n : ℕ)
-        × Appends (W.written writer.old) (W.written writer.new) (take n bytes.now)) }
-    ensures works { OnOk result ((W.failed writer.new ≡ W.failed writer.old)
-        × (W.stalled writer.new ≡ W.stalled writer.old)) }
-    ensures fails { OnErr result
-        ((W.failed writer.new ≡ true) ⊎ (W.stalled writer.new ≡ true)) }
-{
-    let mut at = 0;
-    while at < bytes.len() {
-        match writer.write(&bytes[at..]) {
-            Ok(0) => return Err(Failed),
-            Ok(n) => at += n,
-            Err(e) => return Err(e),
-        }
-    }
-    Ok(())
 }

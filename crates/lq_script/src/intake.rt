@@ -1,9 +1,7 @@
 //! What has come of an input: the line in progress and the counts.
-ghost use Rattle.std.specs.Prelude.{◌≡◌, ◌+◌, ◌++◌, ◌⊎◌, ◌<◌, ℕ, List, [], ◌∷◌, length, true, false, IfErr, OnOk, OnErr, IsErrOf};
-ghost use Rattle.std.specs.Io.KnownBytes.{Appends};
+ghost use Rattle.std.specs.Prelude.{◌≡◌, ◌+◌, ◌++◌, ◌<◌, ℕ, List, [], ◌∷◌, false, IfErr, OnOk, OnErr};
 ghost use Rattle.lq_script.specs.Lines.{Begins, given_line, line_of, reply_to, state_after, without_cr};
 ghost use Rattle.lq_script.specs.Progress.{IsKept};
-ghost use Rattle.lq_script.specs.Device.{WroteFront};
 
 use crate::responder::Responder;
 use crate::run_fault::RunFault;

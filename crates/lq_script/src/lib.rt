@@ -1,24 +1,32 @@
 //! The script library: lines in, replies out, over devices that may fail.
 //!
-//! A contract sees a device as the bytes that it has left or has taken (`specs/Device`), an
-//! input as its list of lines, and what answers them as rules (`specs/Lines`); what a run does
-//! is in `specs/Output`. Nothing here waits. Begin with `devices`, then `responder`, then `run`.
+//! A contract sees a device as the bytes that it has left or has taken, an input as its list of
+//! lines (`specs/Lines`), and its output as the texts of what a world answers those lines
+//! (`specs/Script`); what a run has read and written when it answers is in `specs/Output`.
+//! Nothing here waits. Begin with `devices`, then `script`, then `session`.
 #![tactic(auto)]
 
 mod asking;
 mod devices;
 mod intake;
+mod laws;
+mod over_lines;
+mod pieces;
 mod reply;
 mod request;
 mod responder;
-mod run;
 mod run_fault;
 mod script;
 mod session;
 #[cfg(test)]
 mod tests;
+mod words;
+mod writing;
 
 pub use devices::{Failed, Host, Sink, Source};
-
+pub use laws::{a_last_line_needs_no_lf, a_line_ends_at_the_first_lf, ended_lines_stay};
+pub use over_lines::run_lines;
+pub use responder::Responder;
 pub use run_fault::RunFault;
 pub use script::run;
+pub use words::program;

@@ -1,5 +1,5 @@
 //! What answers the lines of a script.
-ghost use Rattle.std.specs.Prelude.{◌≡◌, ◌++◌, List, ℕ, IfErr, OnOk, OnErr};
+ghost use Rattle.std.specs.Prelude.{◌≡◌, ◌++◌, IfErr, OnOk, OnErr};
 ghost use Rattle.lq_script.specs.Lines.{Begins, Rules};
 
 use lq_value::Refusal;

@@ -4,7 +4,7 @@ ghost use Rattle.lq_script.specs.Output.{Answered, Ended, Passed, Stopped};
 ghost use Rattle.lq_script.specs.Script.{script_world, world_rules};
 
 use crate::devices::{Sink, Source};
-use crate::run::run_lines;
+use crate::over_lines::run_lines;
 use crate::run_fault::RunFault;
 use crate::session::Session;
 use lq_desk::{Desk, kept_shows_worlds};

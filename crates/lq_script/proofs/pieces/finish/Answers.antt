@@ -1,8 +1,8 @@
 use Rattle.std.proofs.Common.{sym, rules, ap, append-nil, ◌++◌, [], subst, ◌≡◌}
 use Rattle.std.proofs.Common.{OnOk, OnErr, is_err, true, false, IfErr}
-use Rattle.lq_script.proofs.Answered.{error_says, on_err_any, on_ok_both, when_err, when_ok}
+use Rattle.lq_script.proofs.ResultLemmas.{error_says, on_err_any, on_ok_both, when_err, when_ok}
 use Rattle.lq_script.proofs.ProgressLemmas.{appends_kept, fronts_all, fronts_handed, fronts_kept, stands_last, stands_stops, stands_output}
-use Rattle.lq_script.proofs.run.finish.Goals as goal
+use Rattle.lq_script.proofs.pieces.finish.Goals as goal
 
 pub returns-in_err-close-clause-err : goal.returns-in_err-close-clause-err
 returns-in_err-close-clause-err g c = on_err_any c.from_residual.result (λ began given s.

@@ -1,6 +1,6 @@
 use Rattle.std.proofs.Common.{length, ◌∙◌, ap, arith, length-drop}
-use Rattle.lq_script.proofs.Pieces.{appends_more, rest_is}
-use Rattle.lq_script.proofs.devices.write_all.Goals as goal
+use Rattle.lq_script.proofs.WritingLemmas.{appends_more, rest_is}
+use Rattle.lq_script.proofs.writing.write_all.Goals as goal
 
 pub loop-at-preserved : goal.loop-at-preserved
 loop-at-preserved g c = record {

@@ -1,6 +1,6 @@
 use Rattle.std.proofs.Common.{◌≡◌, ◌+◌, ◌++◌, ℕ, List, take}
 use Rattle.lq_script.specs.Progress.{Began, Stands}
-use Rattle.lq_script.proofs.run.take_piece.Given as goal
+use Rattle.lq_script.proofs.pieces.take_piece.Given as goal
 
 abbrev pub invariant-loop-byte : goal.invariant-loop-byte
 invariant-loop-byte g l = record {

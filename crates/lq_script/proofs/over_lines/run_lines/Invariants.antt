@@ -1,7 +1,7 @@
 use Rattle.std.proofs.Common.{◌≡◌, ◌-◌, ℕ, List, false}
 use Rattle.std.specs.Io.KnownBytes.{Consumes}
 use Rattle.lq_script.specs.Progress.{Stands}
-use Rattle.lq_script.proofs.run.run_lines.Given as goal
+use Rattle.lq_script.proofs.over_lines.run_lines.Given as goal
 
 abbrev pub invariant-loop-out : goal.invariant-loop-out
 invariant-loop-out g l = record {

@@ -2,10 +2,10 @@ use Rattle.std.proofs.Common.{refl, sym, ◌∙◌, rules, arith, ap, Err, ◌�
 use Rattle.std.proofs.KnownBytes.{Consumes-kept, Consumes-nil}
 use Rattle.std.proofs.lemmas.Result.{on_err_weaker, on_ok_weaker}
 use Rattle.lq_script.specs.declared.run_fault.RunFault.TheVariants.{Limit}
-use Rattle.lq_script.proofs.Answered.{on_err_any}
+use Rattle.lq_script.proofs.ResultLemmas.{on_err_any}
 use Rattle.lq_script.proofs.ProgressLemmas.{fronts_all, fronts_handed, stands_empty, stands_handed, stands_stops}
 use Rattle.lq_script.proofs.RunLemmas.{less_left, read_none, run_answered, run_ended, run_passed, run_reads, run_stopped, stands_none}
-use Rattle.lq_script.proofs.run.run_lines.Goals as goal
+use Rattle.lq_script.proofs.over_lines.run_lines.Goals as goal
 
 pub loop-out-init : goal.loop-out-init
 loop-out-init g c = record {

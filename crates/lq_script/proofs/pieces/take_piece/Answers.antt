@@ -1,14 +1,14 @@
 use Rattle.std.proofs.Common.{◌≡◌, ◌+◌, Err, refl, arith, rules, sym, ◌∙◌, drop, ap, inl, inr}
 use Rattle.std.proofs.lemmas.Bool.{ne_eqb}
-use Rattle.lq_script.proofs.Answered.{on_err_any}
+use Rattle.lq_script.proofs.ResultLemmas.{on_err_any}
 use Rattle.lq_script.proofs.ProgressLemmas.{stands_byte, stands_further, stopped_at, stopped_in}
-use Rattle.lq_script.proofs.run.take_piece.Goals as goal
-use Rattle.lq_script.proofs.run.take_piece.Goals.{then-byte-eq-LF+in_ok-end_line, else-byte-eq-LF+in_ok-keep, then-intake-ge-MAX_LINES-via-then-intake-ge-MAX_LINES, then-intake-ge-MAX_LINES-via-else-intake-ge-MAX_LINES+then-intake-ge-MAX_BYTES}
+use Rattle.lq_script.proofs.pieces.take_piece.Goals as goal
+use Rattle.lq_script.proofs.pieces.take_piece.Goals.{then-byte-eq-LF+in_ok-end_line, else-byte-eq-LF+in_ok-keep, then-intake-ge-MAX_LINES-via-then-intake-ge-MAX_LINES, then-intake-ge-MAX_LINES-via-else-intake-ge-MAX_LINES+then-intake-ge-MAX_BYTES}
 
 pub returns-in_err-end_line-clause-err : goal.returns-in_err-end_line-clause-err
 returns-in_err-end_line-clause-err g c = on_err_any c.from_residual.result (λ began given s.
     stopped_in g.S.Responder.rules began given c.args.piece.now c.loop-byte.byte-index 10 _ _ (omega arith) c.if-byte-eq-LF.true
-    (c.in_err-end_line.ensures.err began _ (c.loop-byte.invariant.stands began given s) (drop (c.loop-byte.byte-index + 1) c.args.piece.now)))
+    (c.in_err-end_line.ensures.err (drop (c.loop-byte.byte-index + 1) c.args.piece.now) began _ (c.loop-byte.invariant.stands began given s)))
 
 pub returns-in_err-keep-clause-err : goal.returns-in_err-keep-clause-err
 returns-in_err-keep-clause-err g c = on_err_any c.from_residual-in_err-keep.result (λ began given s.

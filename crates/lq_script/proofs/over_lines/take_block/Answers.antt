@@ -1,8 +1,8 @@
 use Rattle.std.proofs.Common.{◌≡◌, ◌++◌, Err, rules, sym, ◌∙◌, inl, inr}
 use Rattle.lq_script.specs.declared.run_fault.RunFault.TheVariants.{Limit, Read, Thread, Write}
-use Rattle.lq_script.proofs.Answered.{on_err_any}
+use Rattle.lq_script.proofs.ResultLemmas.{on_err_any}
 use Rattle.lq_script.proofs.ProgressLemmas.{fronts_all, fronts_handed, meets_handed}
-use Rattle.lq_script.proofs.run.take_block.Goals as goal
+use Rattle.lq_script.proofs.over_lines.take_block.Goals as goal
 
 pub returns-in_err-close-in-Err : goal.returns-in_err-close-in-Err
 returns-in_err-close-in-Err g c =

@@ -1,0 +1,67 @@
+//! Writing all of what is due to a sink.
+ghost use Rattle.std.specs.Prelude.{◌≡◌, ◌⊎◌, ℕ, [], take, true, IfErr, OnOk, OnErr};
+ghost use Rattle.std.specs.Io.KnownBytes.{Appends};
+
+use crate::devices::{Failed, Sink};
+use crate::run_fault::RunFault;
+
+/// Writes the replies that wait. After a fault none waits either.
+pub fn hand<W: Sink>(out: &mut Vec<u8>, writer: &mut W) -> Result<(), RunFault>
+    ensures ok { OnOk result
+        (Appends (W.written writer.old) (W.written writer.new) out.old.items) }
+    ensures empty { out.new.items ≡ [] }
+    ensures works { OnOk result ((W.failed writer.new ≡ W.failed writer.old)
+        × (W.stalled writer.new ≡ W.stalled writer.old)) }
+    ensures err { OnErr result ((n : ℕ)
+        × Appends (W.written writer.old) (W.written writer.new) (take n out.old.items)) }
+    ensures fault { IfErr result (λ e. e ≡ RunFault.Write) }
+    ensures cause { OnErr result ((W.failed writer.new ≡ true) ⊎ (W.stalled writer.new ≡ true)) }
+{
+    let written = write_all(writer, out);
+    out.clear();
+    match written {
+        Ok(()) => Ok(()),
+        Err(Failed) => Err(RunFault::Write),
+    }
+}
+
+/// Writes the replies that wait, and flushes once after another fault, which goes before one
+/// of this flush.
+pub fn close<W: Sink>(out: &mut Vec<u8>, writer: &mut W) -> Result<(), RunFault>
+    ensures ok { OnOk result
+        (Appends (W.written writer.old) (W.written writer.new) out.old.items) }
+    ensures empty { out.new.items ≡ [] }
+    ensures flushed { OnOk result ((W.flushed writer.new ≡ true) ⊎ (W.failed writer.new ≡ true)) }
+    ensures stays { (W.failed writer.old ≡ true) ⊎ (W.stalled writer.old ≡ true)
+        → (W.failed writer.new ≡ true) ⊎ (W.stalled writer.new ≡ true) }
+    ensures err { OnErr result ((n : ℕ)
+        × Appends (W.written writer.old) (W.written writer.new) (take n out.old.items)) }
+    ensures fault { IfErr result (λ e. e ≡ RunFault.Write) }
+    ensures cause { OnErr result ((W.failed writer.new ≡ true) ⊎ (W.stalled writer.new ≡ true)) }
+{
+    hand(out, writer)?;
+    match writer.flush() {
+        Ok(()) | Err(Failed) => Ok(()),
+    }
+}
+
+/// Writes all of the bytes. On an error some of them were written, from the front.
+pub fn write_all<W: Sink>(writer: &mut W, bytes: &[u8]) -> Result<(), Failed>
+    ensures ok { OnOk result (Appends (W.written writer.old) (W.written writer.new) bytes.now) }
+    ensures err { OnErr result ((n : ℕ)
+        × Appends (W.written writer.old) (W.written writer.new) (take n bytes.now)) }
+    ensures works { OnOk result ((W.failed writer.new ≡ W.failed writer.old)
+        × (W.stalled writer.new ≡ W.stalled writer.old)) }
+    ensures fails { OnErr result
+        ((W.failed writer.new ≡ true) ⊎ (W.stalled writer.new ≡ true)) }
+{
+    let mut at = 0;
+    while at < bytes.len() {
+        match writer.write(&bytes[at..]) {
+            Ok(0) => return Err(Failed),
+            Ok(n) => at += n,
+            Err(e) => return Err(e),
+        }
+    }
+    Ok(())
+}
