@@ -20,7 +20,8 @@ const MAX_PLACES: u64 = 1_024;
 /// The end of a port for puts.
 ///
 /// It knows all that was put, and a front of what was taken. It keeps a receiving end of its
-/// own, so a port whose `PortOut` was dropped fills up and is then full.
+/// own, so a port whose `PortOut` was dropped fills up and is then full. After 2^61 puts each
+/// further one waits for ever.
 #[derive(Drop)]
 pub struct PortIn<T: Follows + Drop> {
     sender: PortSender<T>,
@@ -77,7 +78,7 @@ impl<T: Follows + Drop> Model for PortOut<T> {
 ///
 /// `places` is 1 to 1,024. Contracts alone read the floor, which every item follows.
 /// Refused, the first that fits: `BadPort` where `places` is 0 or above 1,024, `NoMemory`.
-/// A put and a take need no more memory. The queue under a rule is our own.
+/// A put and a take need no more memory. The limit is our own.
 pub fn make<T: Follows + Drop>(
     alloc: Global,
     places: u64,
