@@ -1,0 +1,4 @@
+pub mod ListLemmas
+pub mod PortLemmas
+pub mod EndLemmas
+pub mod Crossing

@@ -1,0 +1,353 @@
+-- Each step of a port keeps its rule.
+use Rattle.std.proofs.Common.{◌≡◌, ◌≢◌, ℕ, ◌≤◌, true, false, true≢false, List, [], ◌∷◌, ◌++◌, length, drop, set, sym, refl, ap, ◌∙◌, subst, ⊎_elim, append_assoc, arith, length-append}
+use mathlib.Core.List.{IsPrefix, append_cancel_left}
+use mathlib.Core.Option.{some, some-ne-none}
+use lib.ListN.{get_elem?}
+use Rattle.crossbeam_channel.specs.Fifo.{Pushes, Pops, Forks, Merges, Learns}
+use Rattle.atomic_table.proofs.Lists.{at_set, at_snoc}
+use Rattle.lq_port.specs.declared.rule.Known.{Known}
+use Rattle.lq_port.specs.Port.{known, putter, taker, idle, together, put_of, Adds, Totals, IsLegal, Removes, Fits, Kept}
+use Rattle.lq_port.proofs.ListLemmas.{nil_has_no_place, split_at_back, drop-length_append, front_of, IsPrefix-snoc, IsPrefix-equal, place_at_back, AllAt, AllAt-set}
+
+module _ {T F : Type 0} (follows : List T → F → T → Type 0) where
+  -- an empty list is legal
+  pub nil_is_legal : (f : F) → IsLegal follows f []
+  nil_is_legal f before x after e = absurd (nil_has_no_place before x after e)
+
+  -- a legal list stays legal when an item joins that follows it
+  pub snoc_is_legal :
+      (f : F) (xs : List T) (x : T)
+      → IsLegal follows f xs → follows xs f x → IsLegal follows f (xs ++ x ∷ [])
+  snoc_is_legal f xs x legal ok before y after e =
+      ⊎_elim (λ (r : (xs ≡ before) × (x ≡ y)).
+      subst (λ (z : List T × T). follows z.0 f z.1) (λ i. (r.0 i, r.1 i)) ok)
+      (λ (r : (rest : List T) × (xs ≡ before ++ y ∷ rest)). legal before y r.0 r.1)
+      (split_at_back xs x before y after e)
+
+  -- The rule holds of a new channel, and its one pass.
+  pub begins : (f : F) → Kept follows [] (known true true f [] [] ∷ [])
+  begins f =
+      let k : Known T F = known true true f [] [] in
+      let none : IsPrefix {A = T} [] [] = ([], refl) in
+      record {
+        input = 0;
+        output = 0;
+        floor = f;
+        put = [];
+        taken = [];
+        in_order = refl;
+        legal = nil_is_legal f;
+        fits =
+            AllAt-set (Fits follows 0 0 f [] []) (k ∷ []) 0 k (
+              (λ _. (refl, refl, refl, none)),
+              (λ _. (refl, refl, refl, none)),
+              (λ _ _. (refl, none, refl)),
+            )
+            (λ j u other e.
+            absurd (other (place_at_back [] k u j (λ x. some-ne-none u (sym x)) e)));
+      }
+
+  -- A put keeps the rule.
+  pub adds :
+      (n pass : ℕ) (v : Known T F) (x : T) → v.puts ≡ true → follows (put_of v) v.floor x
+      → Pushes (Kept follows) n pass v x (Adds v x)
+  adds n pass v x may ok items views _ h at =
+      let w : Known T F = known true false v.floor v.taken (v.ahead ++ x ∷ []) in
+      let mine = h.fits pass v at in
+      let m = mine.0 may in
+      let put : List T = h.put ++ x ∷ [] in
+      let ok' : follows h.put h.floor x =
+      subst (λ (z : List T × F). follows z.0 z.1 x) (λ i. (m.2 i, m.1 i)) ok in
+      let all : put_of w ≡ put =
+      sym (append_assoc v.taken v.ahead (x ∷ [])) ∙ ap (λ l. l ++ x ∷ []) m.2 in
+      let fits : AllAt (Fits follows h.input h.output h.floor put h.taken) (set views pass w) =
+      AllAt-set (Fits follows h.input h.output h.floor put h.taken) views pass w (
+        (λ _. (m.0, m.1, all, m.3)),
+        (λ p. absurd (true≢false (sym p))),
+        (λ _ p. absurd (true≢false (sym p))),
+      )
+      (λ j u other e.
+      let o = h.fits j u e in (
+        (λ p. absurd (other ((o.0 p).0 ∙ sym m.0))),
+        (λ p.
+            let t = o.1 p in (t.0, t.1, t.2, IsPrefix-snoc (put_of u) h.put x t.3)),
+        (λ p _. absurd (other ((o.0 p).0 ∙ sym m.0))),
+      )) in (
+        w,
+        record {
+          input = h.input;
+          output = h.output;
+          floor = h.floor;
+          put = put;
+          taken = h.taken;
+          in_order = ap (λ l. l ++ x ∷ []) h.in_order ∙ append_assoc h.taken items (x ∷ []);
+          legal = snoc_is_legal h.floor h.put x h.legal ok';
+          fits = fits;
+        },
+        refl,
+      )
+
+  -- A take keeps the rule.
+  pub removes :
+      (pass : ℕ) (v : Known T F) → v.takes ≡ true
+      → Pops (Kept follows) pass v (Removes follows v)
+  removes pass v may x items views h at =
+      let w : Known T F = known false true v.floor (v.taken ++ x ∷ []) (drop 1 v.ahead) in
+      let mine = h.fits pass v at in
+      let t = mine.1 may in
+      let taken : List T = h.taken ++ x ∷ [] in
+      let now : x ∷ items ≡ v.ahead ++ t.3.0 =
+      append_cancel_left v.taken (x ∷ items) (v.ahead ++ t.3.0)
+      (ap (λ l. l ++ x ∷ items) t.2 ∙ sym h.in_order ∙ sym t.3.1
+      ∙ append_assoc v.taken v.ahead t.3.0) in
+      let f = front_of v.ahead t.3.0 items x now in
+      let step : h.put ≡ taken ++ items =
+      h.in_order ∙ sym (append_assoc h.taken (x ∷ []) items) in
+      let same : v.taken ++ x ∷ [] ≡ taken = ap (λ l. l ++ x ∷ []) t.2 in
+      let begin : put_of w ++ f.1.0 ≡ h.put =
+      append_assoc (v.taken ++ x ∷ []) (drop 1 v.ahead) f.1.0
+      ∙ (λ i. same i ++ f.1.1 i) ∙ sym step in
+      let fits : AllAt (Fits follows h.input h.output h.floor h.put taken) (set views pass w) =
+      AllAt-set (Fits follows h.input h.output h.floor h.put taken) views pass w (
+        (λ p. absurd (true≢false (sym p))),
+        (λ _. (t.0, t.1, same, (f.1.0, begin))),
+        (λ p _. absurd (true≢false (sym p))),
+      )
+      (λ j u other e.
+      let o = h.fits j u e in (
+        (λ p.
+            let m = o.0 p in (m.0, m.1, m.2, IsPrefix-snoc u.taken h.taken x m.3)),
+        (λ p. absurd (other ((o.1 p).0 ∙ sym t.0))),
+        (λ _ p. absurd (other ((o.1 p).0 ∙ sym t.0))),
+      )) in (
+        w,
+        record {
+          input = h.input;
+          output = h.output;
+          floor = h.floor;
+          put = h.put;
+          taken = taken;
+          in_order = step;
+          legal = h.legal;
+          fits = fits;
+        },
+        (
+          refl,
+          f.0,
+          subst (λ (z : List T × F). follows z.0 z.1 x) (λ i. (sym t.2 i, sym t.1 i))
+              (h.legal h.taken x items h.in_order),
+        ),
+      )
+
+  -- What the port holds is no more than what the end for puts knows to wait.
+  pub full :
+      (pass : ℕ) (v : Known T F) → v.puts ≡ true
+      → Learns (Kept follows) pass v (λ items. length items ≤ length v.ahead)
+  full pass v may items views h at =
+      let m = (h.fits pass v at).0 may in
+      let s = m.3 in
+      let e : v.taken ++ v.ahead ≡ (v.taken ++ s.0) ++ items =
+      m.2 ∙ h.in_order ∙ ap (λ l. l ++ items) (sym s.1) in
+      omega (
+        arith,
+        ap length e,
+        length-append v.taken v.ahead,
+        length-append (v.taken ++ s.0) items,
+        length-append v.taken s.0,
+      )
+
+  -- What the end for takes knows to wait is a front of what the port holds.
+  pub empty :
+      (pass : ℕ) (v : Known T F) → v.takes ≡ true
+      → Learns (Kept follows) pass v (λ items. IsPrefix v.ahead items)
+  empty pass v may items views h at =
+      let t = (h.fits pass v at).1 may in (
+        t.3.0,
+        append_cancel_left v.taken (v.ahead ++ t.3.0) items
+            (sym (append_assoc v.taken v.ahead t.3.0) ∙ t.3.1 ∙ h.in_order
+            ∙ ap (λ l. l ++ items) (sym t.2)),
+      )
+
+  -- A pass is cut into the two ends, with a floor under which the list stays legal.
+  cuts :
+      (pass : ℕ) (v : Known T F) (f : F) → v.puts ≡ true → v.takes ≡ true
+      → (IsLegal follows v.floor (put_of v) → IsLegal follows f (put_of v))
+      → Forks (Kept follows) pass v (putter f v) (taker f v)
+  cuts pass v f a b again items views h at =
+      let l : Known T F = putter f v in
+      let r : Known T F = taker f v in
+      let mine = h.fits pass v at in
+      let m = mine.0 a in
+      let t = mine.1 b in
+      let vs : List (Known T F) = set views pass l in
+      let legal : IsLegal follows f h.put =
+      subst (IsLegal follows f) m.2
+      (again (subst (λ (z : F × List T). IsLegal follows z.0 z.1)
+      (λ i. (sym m.1 i, sym m.2 i)) h.legal)) in
+      let Old : ℕ → Known T F → Type 0 =
+      λ j u.
+      (u.puts ≡ true
+      → (j ≡ h.input) × (u.floor ≡ f) × (put_of u ≡ h.put) × IsPrefix u.taken h.taken)
+      × (u.takes ≢ true) in
+      let old : AllAt Old vs =
+      AllAt-set Old views pass l
+      ((λ _. (m.0, refl, m.2, m.3)), (λ p. true≢false (sym p)))
+      (λ j u other e.
+      let o = h.fits j u e in (
+        (λ p. absurd (other ((o.0 p).0 ∙ sym m.0))),
+        (λ p. other ((o.1 p).0 ∙ sym t.0)),
+      )) in
+      let fits : Fits follows h.input (length vs) f h.put h.taken (length vs) r = (
+        (λ p. absurd (true≢false (sym p))),
+        (λ _. (refl, refl, t.2, t.3)),
+        (λ p _. absurd (true≢false (sym p))),
+      ) in
+      record {
+        input = h.input;
+        output = length vs;
+        floor = f;
+        put = h.put;
+        taken = h.taken;
+        in_order = h.in_order;
+        legal = legal;
+        fits = λ j u e.
+            ⊎_elim (λ x.
+            let o = old j u x in
+            (o.0, (λ p. absurd (o.1 p)), (λ _ p. absurd (o.1 p))))
+            (λ (is : r ≡ u).
+            let here : j ≡ length vs =
+            place_at_back vs r u j
+            (λ x. (old j u x).1 (ap (λ (y : Known T F). y.takes) (sym is))) e in
+            subst (λ (z : ℕ × Known T F).
+            Fits follows h.input (length vs) f h.put h.taken z.0 z.1)
+            (λ i. (sym here i, is i)) fits)
+            (at_snoc vs r u j e);
+      }
+
+  -- The joined pass is cut anew.
+  pub parts :
+      (pass : ℕ) (v : Known T F) → v.puts ≡ true → v.takes ≡ true
+      → Forks (Kept follows) pass v (putter v.floor v) (taker v.floor v)
+  parts pass v a b = cuts pass v v.floor a b (λ h. h)
+
+  -- The first pass is cut, and the floor is set.
+  pub opens :
+      (pass : ℕ) (v : Known T F) (f : F) → v.puts ≡ true → v.takes ≡ true → put_of v ≡ []
+      → Forks (Kept follows) pass v (putter f v) (taker f v)
+  opens pass v f a b none =
+      cuts pass v f a b (λ _. subst (IsLegal follows f) (sym none) (nil_is_legal f))
+
+  -- All that the end for takes knows leaves it.
+  pub leaves :
+      (pass : ℕ) (v : Known T F) → v.takes ≡ true → v.puts ≡ false
+      → Forks (Kept follows) pass v (idle v) v
+  leaves pass v b alone items views h at =
+      let l : Known T F = idle v in
+      let mine = h.fits pass v at in
+      let t = mine.1 b in
+      let vs : List (Known T F) = set views pass l in
+      let Old : ℕ → Known T F → Type 0 =
+      λ j u.
+      (u.puts ≡ true
+      → (j ≡ h.input) × (u.floor ≡ h.floor) × (put_of u ≡ h.put)
+      × IsPrefix u.taken h.taken)
+      × (u.takes ≢ true) in
+      let old : AllAt Old vs =
+      AllAt-set Old views pass l
+      ((λ p. absurd (true≢false (sym p))), (λ p. true≢false (sym p)))
+      (λ j u other e.
+      let o = h.fits j u e in (o.0, (λ p. other ((o.1 p).0 ∙ sym t.0)))) in
+      let fits : Fits follows h.input (length vs) h.floor h.put h.taken (length vs) v = (
+        (λ p. absurd (true≢false (sym p ∙ alone))),
+        (λ _. (refl, t.1, t.2, t.3)),
+        (λ p _. absurd (true≢false (sym p ∙ alone))),
+      ) in
+      record {
+        input = h.input;
+        output = length vs;
+        floor = h.floor;
+        put = h.put;
+        taken = h.taken;
+        in_order = h.in_order;
+        legal = h.legal;
+        fits = λ j u e.
+            ⊎_elim (λ x.
+            let o = old j u x in
+            (o.0, (λ p. absurd (o.1 p)), (λ _ p. absurd (o.1 p))))
+            (λ (is : v ≡ u).
+            let here : j ≡ length vs =
+            place_at_back vs v u j
+            (λ x. (old j u x).1 (ap (λ (y : Known T F). y.takes) (sym is) ∙ b)) e in
+            subst (λ (z : ℕ × Known T F).
+            Fits follows h.input (length vs) h.floor h.put h.taken z.0 z.1)
+            (λ i. (sym here i, is i)) fits)
+            (at_snoc vs v u j e);
+      }
+
+  -- The two ends are joined, and the other pass is spent.
+  pub merges :
+      (pass : ℕ) (v : Known T F) (other : ℕ) (w : Known T F) (f : F)
+      → v.puts ≡ true → w.takes ≡ true
+      → Merges (Kept follows) pass v other w (together v w) (known false false f [] [])
+  merges pass v other w f a b items views h at two at' =
+      let both : Known T F = together v w in
+      let mine = h.fits pass v at in
+      let m = mine.0 a in
+      let vs : List (Known T F) = set views pass both in
+      let was : get_elem? views other ≡ some w =
+      ⊎_elim (λ x. absurd (two x.0)) (λ x. x.1) (at_set views pass other both w at') in
+      let theirs = h.fits other w was in
+      let t = theirs.1 b in
+      let all : put_of v ≡ w.taken ++ items =
+      m.2 ∙ h.in_order ∙ ap (λ l. l ++ items) (sym t.2) in
+      let rest : drop (length w.taken) (put_of v) ≡ items =
+      ap (drop (length w.taken)) all ∙ drop-length_append w.taken items in
+      let put : put_of both ≡ h.put = ap (λ l. w.taken ++ l) rest ∙ sym all ∙ m.2 in
+      let fits : Fits follows h.input pass h.floor h.put h.taken pass both = (
+        (λ _. (m.0, m.1, put, IsPrefix-equal w.taken h.taken t.2)),
+        (λ _. (refl, m.1, t.2, IsPrefix-equal (put_of both) h.put put)),
+        (λ _ _. (m.2, t.3, t.1)),
+      ) in
+      let Now : ℕ → Known T F → Type 0 =
+      λ j y. j ≢ other → Fits follows h.input pass h.floor h.put h.taken j y in
+      let now : AllAt Now vs =
+      AllAt-set Now views pass both (λ _. fits)
+      (λ j y _ e apart.
+      let o = h.fits j y e in (
+        o.0,
+        (λ p. absurd (apart ((o.1 p).0 ∙ sym t.0))),
+        (λ _ p. absurd (apart ((o.1 p).0 ∙ sym t.0))),
+      )) in
+      let s : Known T F = known false false f [] [] in
+      record {
+        input = h.input;
+        output = pass;
+        floor = h.floor;
+        put = h.put;
+        taken = h.taken;
+        in_order = h.in_order;
+        legal = h.legal;
+        fits =
+            AllAt-set (Fits follows h.input pass h.floor h.put h.taken) vs other s (
+              (λ p. absurd (true≢false (sym p))),
+              (λ p. absurd (true≢false (sym p))),
+              (λ p _. absurd (true≢false (sym p))),
+            )
+            (λ j y apart e. now j y e apart);
+      }
+
+  -- The joined pass knows all that the port holds.
+  pub totals :
+      (pass : ℕ) (v : Known T F) → v.puts ≡ true → v.takes ≡ true
+      → Learns (Kept follows) pass v (Totals v)
+  totals pass v a b items views h at =
+      let mine = h.fits pass v at in
+      let m = mine.0 a in
+      let t = mine.1 b in
+      let j = mine.2 a b in (
+        append_cancel_left v.taken v.ahead items
+            (m.2 ∙ h.in_order ∙ ap (λ l. l ++ items) (sym t.2)),
+        m.2 ∙ sym j.0,
+        (j.1.0, j.1.1 ∙ sym m.2),
+        j.2 ∙ sym m.1,
+      )

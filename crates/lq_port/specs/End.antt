@@ -1,0 +1,81 @@
+-- What a contract sees of an end of a port.
+use Rattle.std.specs.Prelude.{◌≡◌, ◌≤◌, ℕ, true, false, List, [], ◌∷◌, ◌++◌, length}
+use Rattle.atomic_table.specs.Seated.{TableId}
+use Rattle.atomic_table.specs.declared.badge.Badge.{Badge}
+use Rattle.crossbeam_channel.specs.declared.flavors.array.Key.{Key}
+use Rattle.crossbeam_channel.specs.declared.flavors.array.Rows.{Rows}
+use Rattle.crossbeam_channel.specs.declared.flavors.array.Doing.{Doing}
+use Rattle.crossbeam_channel.specs.Claims.{Pass, view}
+use Rattle.lq_port.specs.declared.rule.Known.{Known}
+
+-- which port it is
+abbrev pub PortName : Type 0 → Type 0
+PortName T = TableId × Badge (Key T)
+
+-- What is known at one end: which port it is, how many items it holds at most, its floor, what
+-- was taken, and what was put behind that. The end for puts knows all that was put, and the end
+-- for takes all that was taken.
+pub record End (T F : Type 0) : Type 0 where
+  pub port : PortName T
+  pub places : ℕ
+  pub floor : F
+  pub taken : List T
+  pub ahead : List T
+
+-- x is the front of what was known to wait, if anything was, and `rest` is what is left of it
+abbrev pub IsFront : {T : Type 0} → List T → T → List T → Type 0
+IsFront [] x rest = rest ≡ []
+IsFront (y ∷ ys) x rest = (x ≡ y) × (rest ≡ ys)
+
+module _ {T F : Type 0} where
+  -- all that is known to be put
+  abbrev pub all_put : End T F → List T
+  all_put end = end.taken ++ end.ahead
+
+  -- only what is known of the items differs
+  abbrev pub IsSamePort : End T F → End T F → Type 0
+  IsSamePort old new =
+      (new.port ≡ old.port) × (new.places ≡ old.places) × (new.floor ≡ old.floor)
+
+  -- no place is known to be free
+  abbrev pub IsFull : End T F → Type 0
+  IsFull end = end.places ≤ length end.ahead
+
+  -- x was put at the back
+  abbrev pub Gains : End T F → T → End T F → Type 0
+  Gains old x new = (new.taken ≡ old.taken) × (new.ahead ≡ old.ahead ++ x ∷ [])
+
+  -- x was taken from the front
+  abbrev pub Loses : End T F → T → End T F → Type 0
+  Loses old x new = (new.taken ≡ old.taken ++ x ∷ []) × IsFront old.ahead x new.ahead
+
+  -- what a pass knows
+  abbrev pub known_of : Pass T (Known T F) → Known T F
+  known_of pass = view pass
+
+  -- it may put, and not take
+  abbrev pub IsPutter : Known T F → Type 0
+  IsPutter v = (v.puts ≡ true) × (v.takes ≡ false)
+
+  -- it may take, and not put
+  abbrev pub IsTaker : Known T F → Type 0
+  IsTaker v = (v.puts ≡ false) × (v.takes ≡ true)
+
+-- the port of a channel
+abbrev pub name_of :
+    {T V Q M L A : Type 0} → Rows (Badge (Key T)) (Doing T V) Q M (Key T) L A → PortName T
+name_of c = (c.stamps.shared.table_id, c.stamps.shared.key)
+
+-- the end that a channel and a pass make
+abbrev pub end_of :
+    {T F Q M L A : Type 0}
+    → Rows (Badge (Key T)) (Doing T (Known T F)) Q M (Key T) L A
+    → Pass T (Known T F) → End T F
+end_of c pass =
+    record {
+      port = name_of c;
+      places = c.cap;
+      floor = (known_of pass).floor;
+      taken = (known_of pass).taken;
+      ahead = (known_of pass).ahead;
+    }

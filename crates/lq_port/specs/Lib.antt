@@ -1,0 +1,2 @@
+pub mod End
+pub mod Port

@@ -1,0 +1,119 @@
+-- The rule of a port: what was taken and then what waits is what was put, and each item follows.
+use Rattle.std.specs.Prelude.{◌≡◌, ◌⊎◌, ℕ, Bool, true, false, List, [], ◌∷◌, ◌++◌, ◌||◌, ◌==◌, length, drop, nat_lt, Option, Some, None, if◌then◌else◌}
+use mathlib.Core.List.{IsPrefix}
+use mathlib.Core.Option.{some}
+use lib.ListN.{get_elem?}
+use Rattle.lq_value.specs.declared.refusal.Refusal.{Refusal}
+use Rattle.lq_value.specs.declared.refusal.Refusal.TheVariants.{BadPort}
+use Rattle.lq_port.specs.declared.ends.TheConstants.{MAX_PLACES}
+use Rattle.lq_port.specs.declared.rule.Known.{Known}
+
+-- why a port of this many places is refused
+abbrev pub port_refusal : ℕ → Option Refusal
+port_refusal places = if (places == 0) || nat_lt MAX_PLACES places then Some BadPort else None
+
+module _ {T F : Type 0} where
+  -- what an end knows that is not joined with the other
+  abbrev pub known : Bool → Bool → F → List T → List T → Known T F
+  known puts takes floor taken ahead =
+      record {
+        puts = puts;
+        takes = takes;
+        floor = floor;
+        taken = taken;
+        ahead = ahead;
+        whole = [];
+        seen = [];
+        told = floor;
+      }
+
+  -- the end for puts, as it is cut off
+  abbrev pub putter : F → Known T F → Known T F
+  putter floor v = known true false floor v.taken v.ahead
+
+  -- the end for takes, as it is cut off
+  abbrev pub taker : F → Known T F → Known T F
+  taker floor v = known false true floor v.taken v.ahead
+
+  -- an end that may do nothing
+  abbrev pub idle : Known T F → Known T F
+  idle v = known false false v.floor v.taken v.ahead
+
+  -- all that is known to be put
+  abbrev pub put_of : Known T F → List T
+  put_of v = v.taken ++ v.ahead
+
+  -- one end's list of all puts, beside the other's list of all takes
+  abbrev pub together : Known T F → Known T F → Known T F
+  together v w =
+      record {
+        puts = true;
+        takes = true;
+        floor = v.floor;
+        taken = w.taken;
+        ahead = drop (length w.taken) (put_of v);
+        whole = put_of v;
+        seen = put_of w;
+        told = w.floor;
+      }
+
+  -- x was put at the back
+  abbrev pub Adds : Known T F → T → Known T F → Type 0
+  Adds v x w = w ≡ known true false v.floor v.taken (v.ahead ++ x ∷ [])
+
+  -- what both ends together know is what the port holds
+  abbrev pub Totals : Known T F → List T → Type 0
+  Totals v items =
+      (v.ahead ≡ items) × (put_of v ≡ v.whole) × IsPrefix v.seen (put_of v) × (v.told ≡ v.floor)
+
+  -- The ends that knew v and w know v' and w' after they were side by side: v has the puts,
+  -- and w the takes.
+  pub record Shares (v w v' w' : Known T F) : Type 0 where
+    pub floor : w'.floor ≡ v'.floor
+    pub floor_in : v'.floor ≡ v.floor
+    pub floor_out : w'.floor ≡ w.floor
+    pub taken : w'.taken ≡ w.taken
+    pub taken_in : v'.taken ≡ w.taken
+    pub put : put_of w' ≡ put_of v
+    pub put_in : put_of v' ≡ put_of v
+    pub ahead : v'.ahead ≡ w'.ahead
+    pub later : IsPrefix w.ahead w'.ahead
+
+module _ {T F : Type 0} (follows : List T → F → T → Type 0) where
+  -- each item follows the list before it and the floor
+  abbrev pub IsLegal : F → List T → Type 0
+  IsLegal floor xs =
+      (before : List T) (x : T) (after : List T) → xs ≡ before ++ x ∷ after
+      → follows before floor x
+
+  -- x joins what was taken. It was the front of what was known to wait, if anything was.
+  abbrev pub Removes : Known T F → T → Known T F → Type 0
+  Removes v x w =
+      (w ≡ known false true v.floor (v.taken ++ x ∷ []) (drop 1 v.ahead))
+      × ((v.ahead ≡ []) ⊎ (v.ahead ≡ x ∷ drop 1 v.ahead))
+      × follows v.taken v.floor x
+
+  -- The pass `input` alone may put, and knows all puts. The pass `output` alone may take, and
+  -- knows all takes. What each knows of the other is a front. A pass that may do both keeps
+  -- what the two knew.
+  abbrev pub Fits : ℕ → ℕ → F → List T → List T → ℕ → Known T F → Type 0
+  Fits input output floor put taken pass v =
+      (v.puts ≡ true
+      → (pass ≡ input) × (v.floor ≡ floor) × (put_of v ≡ put) × IsPrefix v.taken taken)
+      × (v.takes ≡ true
+      → (pass ≡ output) × (v.floor ≡ floor) × (v.taken ≡ taken) × IsPrefix (put_of v) put)
+      × (v.puts ≡ true → v.takes ≡ true
+      → (v.whole ≡ put) × IsPrefix v.seen put × (v.told ≡ floor))
+
+  -- the rule of the items that wait, oldest first, and of what each pass knows
+  pub record Kept (items : List T) (views : List (Known T F)) : Type 0 where
+    pub input : ℕ
+    pub output : ℕ
+    pub floor : F
+    pub put : List T
+    pub taken : List T
+    pub in_order : put ≡ taken ++ items
+    pub legal : IsLegal floor put
+    pub fits :
+        (pass : ℕ) (v : Known T F) → get_elem? views pass ≡ some v
+        → Fits input output floor put taken pass v

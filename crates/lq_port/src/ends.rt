@@ -1,0 +1,225 @@
+//! The two ends of a port.
+ghost use Rattle.std.specs.Prelude.{◌≡◌, ◌++◌, ◌≤◌, [], length, IfOk, IfErr, IfSome, IfNone, OnOk, OnErr};
+ghost use mathlib.Core.List.{IsPrefix};
+ghost use Rattle.lq_value.specs.Refusal.{IsRefusedBy};
+ghost use Rattle.lq_port.specs.End.{all_put, IsSamePort, IsFull, Gains, Loses};
+ghost use Rattle.lq_port.specs.Port.{IsLegal, port_refusal};
+
+use crate::follows::Follows;
+use crate::rule::{InOrder, Known, Take};
+use crate::steps::{PortPass, PortReceiver, PortSender, count_on, meet, put_on};
+use crossbeam_channel::bounded_with;
+use lq_value::Refusal;
+use std::alloc::Global;
+use std::marker::{Brand, Model};
+use std::sync::Wait;
+
+/// The most items that a port holds.
+const MAX_PLACES: u64 = 1_024;
+
+/// The end of a port for puts.
+///
+/// It knows all that was put, and a front of what was taken. It keeps a receiving end of its
+/// own, so a port whose `PortOut` was dropped fills up and is then full. After 2^61 puts each
+/// further one waits for ever.
+#[derive(Drop)]
+pub struct PortIn<T: Follows + Drop> {
+    sender: PortSender<T>,
+    own: PortReceiver<T>,
+    pass: PortPass<T>,
+    count: u64,
+}
+
+/// The end of a port for takes.
+///
+/// It knows all that was taken, and a front of what was put.
+#[derive(Drop)]
+pub struct PortOut<T: Follows + Drop> {
+    receiver: PortReceiver<T>,
+    pass: PortPass<T>,
+    count: u64,
+}
+
+impl<T: Follows + Drop> Model for PortIn<T> {
+    ghost use Rattle.std.specs.Prelude.{◌≡◌, length};
+    ghost use Rattle.crossbeam_channel.specs.Claims.{IsSeatAt};
+    ghost use Rattle.crossbeam_channel.specs.Ends.{sends_on};
+    ghost use Rattle.lq_port.specs.End.{End, end_of, known_of, IsPutter};
+    ghost use Rattle.lq_port.specs.Port.{IsLegal, put_of};
+
+    ghost Value = { End T T.Floor };
+
+    ghost view = { λ end. end_of (sends_on end.sender) end.pass };
+
+    ghost invariant = { λ end. IsSeatAt (sends_on end.sender) end.pass
+        × IsPutter (known_of end.pass)
+        × (end.count ≡ length (put_of (known_of end.pass)))
+        × IsLegal T.follows (known_of end.pass).floor (put_of (known_of end.pass)) };
+}
+
+impl<T: Follows + Drop> Model for PortOut<T> {
+    ghost use Rattle.std.specs.Prelude.{◌≡◌, length};
+    ghost use Rattle.crossbeam_channel.specs.Claims.{IsSeatAt};
+    ghost use Rattle.crossbeam_channel.specs.Ends.{receives_on};
+    ghost use Rattle.lq_port.specs.End.{End, end_of, known_of, IsTaker};
+    ghost use Rattle.lq_port.specs.Port.{IsLegal, put_of};
+
+    ghost Value = { End T T.Floor };
+
+    ghost view = { λ end. end_of (receives_on end.receiver) end.pass };
+
+    ghost invariant = { λ end. IsSeatAt (receives_on end.receiver) end.pass
+        × IsTaker (known_of end.pass)
+        × (end.count ≡ length (known_of end.pass).taken)
+        × IsLegal T.follows (known_of end.pass).floor (put_of (known_of end.pass)) };
+}
+
+/// A new port of this many places, as its two ends.
+///
+/// `places` is 1 to 1,024. Contracts alone read the floor, which every item follows.
+/// Refused, the first that fits: `BadPort` where `places` is 0 or above 1,024, `NoMemory`.
+/// A put and a take need no more memory. The limit is our own.
+pub fn make<T: Follows + Drop>(
+    alloc: Global,
+    places: u64,
+    floor: &T::Floor,
+) -> Result<(PortIn<T>, PortOut<T>), Refusal>
+    ensures places { IfOk result (λ ends. ends.0.places ≡ places) }
+    ensures floor { IfOk result (λ ends. ends.0.floor ≡ floor.now) }
+    ensures empty { IfOk result (λ ends. (ends.0.taken ≡ []) × (ends.0.ahead ≡ [])) }
+    ensures ends { IfOk result (λ ends. ends.1 ≡ ends.0) }
+
+    // Memory alone can refuse a number of places that a port may have.
+    ensures refused { IsRefusedBy result (port_refusal places) }
+{
+    make_at(alloc, places, floor)
+}
+
+// `named` is for the proof: the call picks it, and the cut of the first pass picks it again.
+fn make_at<T: Follows + Drop>(
+    alloc: Global,
+    places: u64,
+    floor: &T::Floor,
+) -> Result<(PortIn<T>, PortOut<T>), Refusal>
+    ghost named: { T.Floor }
+    requires named { named ≡ floor.now }
+    ensures places { IfOk result (λ ends. ends.0.places ≡ places) }
+    ensures floor { IfOk result (λ ends. ends.0.floor ≡ floor.now) }
+    ensures empty { IfOk result (λ ends. (ends.0.taken ≡ []) × (ends.0.ahead ≡ [])) }
+    ensures ends { IfOk result (λ ends. ends.1 ≡ ends.0) }
+
+    ensures refused { IsRefusedBy result (port_refusal places) }
+{
+    let _ = floor;
+    if places == 0 || places > MAX_PLACES {
+        return Err(Refusal::BadPort);
+    }
+    let (sender, receiver, mut pass) = bounded_with::<T, Known<T, T::Floor>, InOrder, Global>(
+        alloc,
+        places as usize,
+    )?;
+    let own = receiver.try_clone()?;
+    let other = sender.another::<Brand>(&mut pass);
+    Ok((
+        PortIn {
+            sender,
+            own,
+            pass,
+            count: 0,
+        },
+        PortOut {
+            receiver,
+            pass: other,
+            count: 0,
+        },
+    ))
+}
+
+impl<T: Follows + Drop> PortIn<T> {
+    /// Puts an item at the back.
+    ///
+    /// It comes back only where the port was full at a moment of the call, so only where this end
+    /// knows of as many items that wait as the port has places. The end is then as it was.
+    /// It may wait for a step of the other end, but not for a place, and takes no memory.
+    pub fn put<R: Wait>(&mut self, rt: &R, item: T) -> Result<(), T>
+        requires follows { T.follows (all_put self.old) self.old.floor item }
+        ensures ok { OnOk result (Gains self.old item self.new) }
+        ensures port { IsSamePort self.old self.new }
+
+        // What comes back is the item, from a port that has no place free that this end knows of.
+        ensures back { IfErr result (λ back. back ≡ item) }
+        ensures full { OnErr result (IsFull self.old) }
+        ensures err { OnErr result (self.new ≡ self.old) }
+    {
+        count_on(rt, self.count);
+        put_on(rt, &self.sender, &mut self.pass, item)?;
+        self.count += 1;
+        Ok(())
+    }
+}
+
+impl<T: Follows + Drop> PortOut<T> {
+    /// Takes the item at the front.
+    ///
+    /// `None` only where the port was empty at a moment of the call, so never while this end
+    /// knows that something waits. The end is then as it was. It may wait for a step of the
+    /// other end, but not for an item, and takes no memory.
+    pub fn take<R: Wait>(&mut self, rt: &R) -> Option<T>
+        ensures some { IfSome result (λ item. Loses self.old item self.new) }
+        ensures follows { IfSome result (λ item. T.follows self.old.taken self.old.floor item) }
+        ensures port { IsSamePort self.old self.new }
+
+        // Nothing was known to wait.
+        ensures empty { IfNone result (self.old.ahead ≡ []) }
+        ensures none { IfNone result (self.new ≡ self.old) }
+    {
+        count_on(rt, self.count);
+        let Ok(item) = self.receiver.try_recv_as::<Take, R>(rt, &mut self.pass) else {
+            return None;
+        };
+        self.count += 1;
+        Some(item)
+    }
+
+    /// Takes the item at the front, and waits for one where there is none.
+    ///
+    /// `None` only where the port was empty at a moment of the call, and where its `PortIn` is
+    /// gone, which no clause says. The end is then as it was. It takes no memory.
+    pub fn take_waiting<R: Wait>(&mut self, rt: &R) -> Option<T>
+        ensures some { IfSome result (λ item. Loses self.old item self.new) }
+        ensures follows { IfSome result (λ item. T.follows self.old.taken self.old.floor item) }
+        ensures port { IsSamePort self.old self.new }
+
+        // Nothing was known to wait.
+        ensures empty { IfNone result (self.old.ahead ≡ []) }
+        ensures none { IfNone result (self.new ≡ self.old) }
+    {
+        count_on(rt, self.count);
+        let Ok(item) = self.receiver.recv_as::<Take, R>(rt, &mut self.pass) else {
+            return None;
+        };
+        self.count += 1;
+        Some(item)
+    }
+
+    /// How many items wait, where the two ends stand side by side.
+    ///
+    /// Each end then knows all that was put and all that was taken: what waits is the same for
+    /// both, and begins with what this end knew to wait. It neither waits nor takes memory.
+    pub fn beside(&mut self, input: &mut PortIn<T>) -> u64
+        requires port { self.old.port ≡ input.old.port }
+        ensures value { result ≡ length self.new.ahead }
+        ensures put { all_put self.new ≡ all_put input.old }
+        ensures taken { self.new.taken ≡ self.old.taken }
+        ensures known { IsPrefix self.old.ahead self.new.ahead }
+        ensures input { (input.new.taken ≡ self.new.taken) × (input.new.ahead ≡ self.new.ahead) }
+
+        // The ends have one floor, and each item follows.
+        ensures floor { self.old.floor ≡ input.old.floor }
+        ensures legal { IsLegal T.follows self.new.floor (all_put self.new) }
+        ensures ports { IsSamePort self.old self.new × IsSamePort input.old input.new }
+    {
+        meet(&input.sender, &mut input.pass, &mut self.pass);
+        input.count - self.count
+    }
+}

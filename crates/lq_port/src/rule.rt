@@ -1,0 +1,115 @@
+//! What an end knows of its port, and the steps that change it. No value of these types is made.
+use crate::follows::Follows;
+use crossbeam_channel::protocol::{Join, Lesson, Outcome, Protocol, Split};
+use std::collections::LinkedList;
+use std::marker::Brand;
+
+/// What one end knows: `taken` was taken, `ahead` was put and is not in `taken`.
+///
+/// `puts` and `takes` say what the end may do. `whole`, `seen` and `told` count while the two
+/// ends are joined: all that the one knew to be put, and what the other knew to be put, and
+/// its floor. The form is our own.
+pub struct Known<T, F> {
+    pub puts: bool,
+    pub takes: bool,
+    pub floor: F,
+    pub taken: LinkedList<T>,
+    pub ahead: LinkedList<T>,
+    pub whole: LinkedList<T>,
+    pub seen: LinkedList<T>,
+    pub told: F,
+}
+
+/// The rule of a port's channel: its items leave in the order in which they were put.
+pub struct InOrder;
+
+impl<T: Follows> Protocol<T, Known<T, T::Floor>> for InOrder {
+    ghost use Rattle.std.specs.Prelude.{true, []};
+    ghost use Rattle.lq_port.specs.Port.{Kept, known};
+
+    ghost holds = { Kept T.follows };
+
+    ghost first = { known true true T.no_floor [] [] };
+}
+
+// An end for puts and one for takes are cut of a pass that has both roles.
+pub(crate) struct Apart;
+
+impl<T, F> Split<Known<T, F>> for Apart {
+    ghost use Rattle.lq_port.specs.Port.{putter, taker};
+
+    ghost left = { λ v. putter v.floor v };
+
+    ghost right = { λ v. taker v.floor v };
+}
+
+// The same for a new port, whose floor the call picks.
+impl<T, F> Split<Known<T, F>> for Brand {
+    ghost use Rattle.lq_port.specs.Port.{putter, taker};
+
+    ghost left = { λ v. putter v.floor v };
+
+    ghost right = { λ v. taker v.floor v };
+}
+
+// All that the end for takes knows leaves it, and it may do nothing more.
+pub(crate) struct Away;
+
+impl<T, F> Split<Known<T, F>> for Away {
+    ghost use Rattle.lq_port.specs.Port.{idle};
+
+    ghost left = { λ v. idle v };
+
+    ghost right = { λ v. v };
+}
+
+// Both ends are one pass, which knows what each of them knew.
+pub(crate) struct Beside;
+
+impl<T: Follows> Join<Known<T, T::Floor>> for Beside {
+    ghost use Rattle.std.specs.Prelude.{false, []};
+    ghost use Rattle.lq_port.specs.Port.{known, together};
+
+    ghost both = { together };
+
+    ghost spent = { known false false T.no_floor [] [] };
+}
+
+// What a put tells, and what it tells where it finds the port full.
+pub(crate) struct Put;
+
+impl<T, F> Outcome<T, Known<T, F>> for Put {
+    ghost use Rattle.lq_port.specs.Port.{Adds};
+
+    ghost then = { Adds };
+}
+
+impl<T, F> Lesson<T, Known<T, F>> for Put {
+    ghost use Rattle.std.specs.Prelude.{◌≤◌, length};
+
+    ghost fact = { λ v items. length items ≤ length v.ahead };
+}
+
+// What a take tells, and what it tells where it finds the port empty.
+pub(crate) struct Take;
+
+impl<T: Follows> Outcome<T, Known<T, T::Floor>> for Take {
+    ghost use Rattle.lq_port.specs.Port.{Removes};
+
+    ghost then = { Removes T.follows };
+}
+
+impl<T, F> Lesson<T, Known<T, F>> for Take {
+    ghost use mathlib.Core.List.{IsPrefix};
+
+    ghost fact = { λ v items. IsPrefix v.ahead items };
+}
+
+// What the joined pass knows of what the port holds.
+pub(crate) struct Total;
+
+impl<T, F> Lesson<T, Known<T, F>> for Total {
+    ghost use Rattle.lq_port.specs.Port.{Totals};
+
+    ghost fact = { Totals };
+}
