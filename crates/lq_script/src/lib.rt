@@ -2,7 +2,8 @@
 //!
 //! A contract sees a device as the bytes that it has left or has taken, an input as its list of
 //! lines, and what answers them as rules (`specs/Lines`); what a run has read and written when
-//! it answers is in `specs/Output`. Nothing here waits. Begin with `devices`, then `responder`, then `run`.
+//! it answers is in `specs/Output`. Nothing here waits. Begin with `devices`, then `responder`,
+//! then `run`.
 #![tactic(auto)]
 
 mod devices;
