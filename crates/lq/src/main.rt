@@ -2,9 +2,8 @@
 #![tactic(auto)]
 
 use lq_script::{Host, Sink, program};
-use std::env;
-use std::io;
 use std::process::ExitCode;
+use std::{env, io};
 
 /// The status of a run that had no memory for its words, or that couldn't read them.
 const FAULT: u8 = 1;
@@ -17,13 +16,7 @@ fn main(rt: HostRuntime) -> ExitCode {
     };
     let mut reader = Host::new(rt.stdin());
     let mut writer = Host::new(rt.stdout());
-    ExitCode::from(program(
-        rt.alloc(),
-        &words,
-        &mut reader,
-        &mut writer,
-        &mut faults,
-    ))
+    ExitCode::from(program(rt.alloc(), &words, &mut reader, &mut writer, &mut faults))
 }
 
 // The words after the program's name.

@@ -164,10 +164,11 @@ module _ (join : UpdatesJoin) where
           let volume : k.volume ≡ state_of w.book = ap (λ (j : Kept). j.volume) shows.kept in
           let slots : length k.held ≡ length w.slots = ap (λ (j : Kept). length j.held) shows.kept ∙ length-map (held_for w.book) w.slots in
           let slot_here : length k.held + 1 ≡ length w.slots + 1 = omega arith in
-          let at_here : k.volume.number ≡ number_of w.book = ap (λ (s : State). s.number) volume ∙ number-all w.book.start w.book.changes in
-          (ap (λ n. Opened n k.volume.number (result_of q k.volume)) slot_here
-            ∙ (ap (λ n. Opened (length w.slots + 1) n (result_of q k.volume)) at_here ∙ ap (λ s. Opened (length w.slots + 1) (number_of w.book) (result_of q s)) volume),
-           shows-open k w q moved shows)
+          let at_here : k.volume.number ≡ number_of w.book = ap (λ (s : State). s.number) volume ∙ number-all w.book.start w.book.changes in (
+            ap (λ n. Opened n k.volume.number (result_of q k.volume)) slot_here
+                ∙ (ap (λ n. Opened (length w.slots + 1) n (result_of q k.volume)) at_here ∙ ap (λ s. Opened (length w.slots + 1) (number_of w.book) (result_of q s)) volume),
+            shows-open k w q moved shows,
+          )
 
   pub kept-shows : KeptShowsWorlds
   kept-shows k w (Changing c) shows = alike-change k w c (refused_by k.volume c) (refused_by (state_of w.book) c) (ap (λ (j : Kept). refused_by j.volume c) shows.kept) shows

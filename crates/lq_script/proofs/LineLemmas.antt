@@ -1,5 +1,5 @@
 -- How an input is cut into lines, and what is written for lines one after another.
-use Rattle.std.proofs.Common.{◌≡◌, ◌==◌, ℕ, ◌+◌, ◌≤◌, ◌<◌, ◌++◌, List, [], ◌∷◌, length, Bool, true, false, refl, sym, ap, ◌∙◌, subst, arith, append_assoc, append-nil}
+use Rattle.std.proofs.Common.{◌≡◌, ◌==◌, ℕ, ◌++◌, List, [], ◌∷◌, Bool, true, false, refl, sym, ap, ◌∙◌, append_assoc, append-nil}
 use Rattle.lq_script.specs.Lines.{IsUnbroken, Rules, before_ended, ended_lines, line_of, lines_of, replies_to, reply_to, state_after, with_front}
 use Rattle.lq_script.specs.Progress.{IsCut, state_after_all}
 

@@ -1,12 +1,12 @@
 -- What a byte, an LF, a write and the end of an input do to a run.
-use Rattle.std.proofs.Common.{◌≡◌, ◌==◌, ℕ, ◌+◌, ◌≤◌, ◌<◌, ◌⊎◌, ◌≢◌, ◌++◌, List, [], ◌∷◌, length, take, drop, get_or, Bool, true, false, None, Some, Option, refl, sym, ap, ◌∙◌, subst, arith, append_assoc, append-nil, length-append, take-append-drop}
+use Rattle.std.proofs.Common.{◌≡◌, ◌==◌, ℕ, ◌+◌, ◌≤◌, ◌<◌, ◌≢◌, ◌++◌, List, [], ◌∷◌, length, take, drop, get_or, true, false, None, Some, Option, refl, sym, ap, ◌∙◌, subst, arith, append_assoc, append-nil, length-append, take-append-drop}
 use Rattle.std.proofs.lemmas.List.{drop_more, take_more}
 use Rattle.std.proofs.KnownBytes.{Appends-trans}
 use Rattle.std.specs.Io.KnownBytes.{Appends, Keeps}
 use Rattle.lq_script.specs.declared.intake.Intake.{Intake}
-use Rattle.lq_script.specs.Lines.{Begins, IsUnbroken, Rules, ended_lines, line_of, lines_of, replies_to, reply_to, state_after}
+use Rattle.lq_script.specs.Lines.{IsUnbroken, Rules, ended_lines, line_of, lines_of, replies_to, reply_to, state_after}
 use Rattle.lq_script.specs.Output.{IsWithin, output_of}
-use Rattle.lq_script.specs.Progress.{Began, Fronts, IsCut, IsKept, Meets, Stands, state_after_all}
+use Rattle.lq_script.specs.Progress.{Began, Fronts, IsKept, Meets, Stands, state_after_all}
 use Rattle.lq_script.proofs.LineLemmas.{cut_byte, cut_ended, cut_line, cut_lines, lines_one, output_cut, replies_append, replies_one, state_one}
 
 -- replies that wait are written

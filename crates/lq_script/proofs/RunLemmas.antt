@@ -1,9 +1,9 @@
 -- What a whole run has read and written, from what it knows at its end.
 use Rattle.std.proofs.Common.{◌≡◌, ◌==◌, ℕ, ◌+◌, ◌-◌, ◌≢◌, ◌≤◌, ◌<◌, ◌⊎◌, ◌++◌, List, [], ◌∷◌, length, take, drop, get_or, Bool, true, false, Option, refl, sym, ap, ◌∙◌, subst, arith, append_assoc, append-nil, length-append, length-take, inl, inr}
-use Rattle.std.proofs.KnownBytes.{Appends-nil, Consumes-nil, Consumes-trans}
+use Rattle.std.proofs.KnownBytes.{Appends-nil, Consumes-trans}
 use Rattle.std.specs.Io.KnownBytes.{Appends, Consumes, IsAtEnd}
 use Rattle.lq_script.specs.declared.intake.Intake.{Intake}
-use Rattle.lq_script.specs.Lines.{Rules, ended_lines, lines_of, replies_to}
+use Rattle.lq_script.specs.Lines.{Rules, lines_of}
 use Rattle.lq_script.specs.Output.{Answered, Ended, IsWithin, Passed, Stopped, output_of}
 use Rattle.lq_script.specs.Progress.{Began, Fronts, Meets, Stands}
 use Rattle.lq_script.proofs.LineLemmas.{cut_none}

@@ -1,5 +1,5 @@
 -- The bytes of a script cut into lines, and the replies to them.
-use Rattle.std.specs.Prelude.{◌≡◌, ℕ, List, [], ◌∷◌, ◌++◌, Bool, true, false, if◌then◌else◌, ◌==◌, length, nat_lt}
+use Rattle.std.specs.Prelude.{◌≡◌, ℕ, List, [], ◌∷◌, ◌++◌, false, if◌then◌else◌, ◌==◌, length, nat_lt}
 use Rattle.std.specs.Io.BufRead.{strip_last}
 
 -- front stands at the front of whole

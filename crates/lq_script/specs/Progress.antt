@@ -1,5 +1,5 @@
 -- How far a run over a script has come.
-use Rattle.std.specs.Prelude.{◌≡◌, ◌<◌, ◌≤◌, ◌==◌, ◌⊎◌, ℕ, List, [], ◌∷◌, ◌++◌, Bool, true, false, length, take, Option}
+use Rattle.std.specs.Prelude.{◌≡◌, ◌<◌, ◌≤◌, ◌⊎◌, ℕ, List, [], ◌∷◌, ◌++◌, Bool, true, false, length, take, Option}
 use Rattle.std.specs.Io.KnownBytes.{Appends}
 use Rattle.lq_script.specs.declared.intake.Intake.{Intake}
 use Rattle.lq_script.specs.Lines.{Begins, IsUnbroken, Rules, ended_lines, line_of, lines_of, replies_to, state_after}

@@ -52,10 +52,12 @@ impl Intake {
     ///
     /// Refused: `Memory`, and then `out` is as before.
     pub fn answer<S: Responder>(&self, responder: &mut S, out: &mut Vec<u8>) -> Result<(), RunFault>
-        ensures ok { OnOk result ((bytes : List ℕ) → IsKept bytes self.now.long self.now.line.items
+        ensures ok { OnOk result ((bytes : List ℕ)
+            → IsKept bytes self.now.long self.now.line.items
             → out.new.items ≡ out.old.items
             ++ reply_to S.rules (S.state responder.old) (line_of bytes)) }
-        ensures after { OnOk result ((bytes : List ℕ) → IsKept bytes self.now.long self.now.line.items
+        ensures after { OnOk result ((bytes : List ℕ)
+            → IsKept bytes self.now.long self.now.line.items
             → S.state responder.new ≡ state_after S.rules (S.state responder.old) (line_of bytes)) }
         ensures err { OnErr result (out.new.items ≡ out.old.items) }
         ensures memory { IfErr result (λ e. e ≡ RunFault.Memory) }
@@ -113,7 +115,8 @@ fn answer_given<S: Responder>(
     ensures ok { OnOk result (out.new.items ≡ out.old.items
         ++ reply_to S.rules (S.state responder.old) (given_line line.now)) }
     ensures after { OnOk result
-        (S.state responder.new ≡ state_after S.rules (S.state responder.old) (given_line line.now)) }
+        (S.state responder.new
+        ≡ state_after S.rules (S.state responder.old) (given_line line.now)) }
     ensures err { OnErr result (Begins out.new.items out.old.items) }
 {
     if line.is_empty() {

@@ -1,4 +1,4 @@
-use Rattle.std.proofs.Common.{refl, sym, ◌∙◌, rules, arith, ap, Err, ◌≡◌, ◌++◌, [], length, take, length-take}
+use Rattle.std.proofs.Common.{refl, ◌∙◌, rules, arith, ap, Err, ◌≡◌, []}
 use Rattle.std.proofs.KnownBytes.{Consumes-kept, Consumes-nil}
 use Rattle.std.proofs.lemmas.Result.{on_err_weaker, on_ok_weaker}
 use Rattle.lq_script.specs.declared.run_fault.RunFault.TheVariants.{Limit}

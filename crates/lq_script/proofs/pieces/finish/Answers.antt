@@ -1,6 +1,5 @@
-use Rattle.std.proofs.Common.{sym, rules, ap, append-nil, ◌++◌, [], subst, ◌≡◌}
-use Rattle.std.proofs.Common.{OnOk, OnErr, is_err, true, false, IfErr}
-use Rattle.lq_script.proofs.ResultLemmas.{error_says, on_err_any, on_ok_both, when_err, when_ok}
+use Rattle.std.proofs.Common.{rules}
+use Rattle.lq_script.proofs.ResultLemmas.{on_err_any, when_err, when_ok}
 use Rattle.lq_script.proofs.ProgressLemmas.{appends_kept, fronts_all, fronts_handed, fronts_kept, stands_last, stands_stops, stands_output}
 use Rattle.lq_script.proofs.pieces.finish.Goals as goal
 

@@ -1,4 +1,4 @@
-use Rattle.std.proofs.Common.{◌≡◌, ◌+◌, Err, refl, arith, rules, sym, ◌∙◌, drop, ap, inl, inr}
+use Rattle.std.proofs.Common.{◌+◌, refl, arith, ◌∙◌, drop, inl, inr}
 use Rattle.std.proofs.lemmas.Bool.{ne_eqb}
 use Rattle.lq_script.proofs.ResultLemmas.{on_err_any}
 use Rattle.lq_script.proofs.ProgressLemmas.{stands_byte, stands_further, stopped_at, stopped_in}
