@@ -1,4 +1,4 @@
-pub mod Entries
+pub mod RecordLemmas
 pub mod Climbs
 pub mod Tree
 pub mod Changes

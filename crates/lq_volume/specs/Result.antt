@@ -6,8 +6,8 @@ use Rattle.lq_value.specs.Compare.{Held, Words, Number}
 use Rattle.lq_predicate.specs.Truth.{truth}
 use Rattle.lq_value.specs.declared.entry.Entry.{Entry}
 use Rattle.lq_volume.specs.declared.change.Change.{Change}
-use Rattle.lq_volume.specs.declared.change.Change.TheVariants.{Create, Remove}
 use Rattle.lq_volume.specs.State.{State, Record, record_at}
+use Rattle.lq_volume.specs.Change.{node_of, record_left}
 
 -- what a record shows under each name
 abbrev pub shown : Record → List ℕ → Option Held
@@ -33,5 +33,4 @@ match_at q s node = option_and_then (λ r. entry_if q (node, r)) (record_at s no
 
 -- the entry that a change leaves at its own node, where the predicate holds of it
 abbrev pub left_by : Query → State → Change → Option Entry
-left_by q s (Create dir name kind size time) = entry_if q (s.next, record { dir = dir; name = name; kind = kind; size = size; time = time })
-left_by q s (Remove node) = None
+left_by q s c = option_and_then (λ r. entry_if q (node_of s c, r)) (record_left s c)

@@ -16,6 +16,19 @@ pub enum Change {
     Remove {
         node: u64,
     },
+    /// The entry of a node has another place; with `clobber` another node there goes.
+    Move {
+        node: u64,
+        dir: u64,
+        name: Name,
+        clobber: bool,
+    },
+    /// A file has another size, in bytes, and `last_modified`.
+    Write {
+        node: u64,
+        size: u64,
+        time: i64,
+    },
 }
 
 /// What an accepted change did: its number, from 1 on, and the node that it created or named.

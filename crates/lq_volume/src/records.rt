@@ -1,16 +1,14 @@
 //! The records of a volume, by node.
 ghost use Rattle.std.specs.List.{list_any, AllByRecursion};
 ghost use Rattle.lq_value.specs.Refusal.{IsRefusedBy};
-ghost use Rattle.lq_volume.specs.State.{Rises};
-ghost use Rattle.lq_volume.specs.Result.{entry_if};
+ghost use Rattle.lq_volume.specs.State.{Rises, climbs, dir_of, node_in};
+ghost use Rattle.lq_volume.specs.Change.{without, altered, at_place, written};
 ghost use Rattle.std.specs.Map.{values_of};
 ghost use Rattle.std.specs.Str.{bytes_eq};
-ghost use Rattle.std.specs.Prelude.{◌≡◌, ◌==◌, ◌&&◌, ◌<◌, [], ◌∷◌, ◌++◌, filter, not, None, IfOk, OnErr, OnOk};
+ghost use Rattle.std.specs.Prelude.{◌≡◌, ◌==◌, ◌&&◌, ◌<◌, ◌^◌, [], ◌∷◌, ◌++◌, length, filter, not, None, OnErr, OnOk};
 
 use crate::stored::Stored;
-use lq_predicate::{Predicate, holds};
-use lq_value::{Entry, Name, Refusal};
-use std::alloc::Global;
+use lq_value::{Name, Refusal};
 use std::collections::BTreeMap;
 
 /// Whether a record is in the folder.
@@ -20,11 +18,33 @@ pub fn any_in(records: &BTreeMap<u64, Stored>, dir: u64) -> bool
     records.values().any(|record| record.is_in(dir))
 }
 
-/// Whether a record has the place.
-pub fn any_at(records: &BTreeMap<u64, Stored>, dir: u64, name: &Name) -> bool
-    ensures { result ≡ list_any (λ r. (r.dir == dir) && bytes_eq r.name name.now) (values_of records.now.entries) }
+/// The node that has the place.
+pub fn node_in(records: &BTreeMap<u64, Stored>, dir: u64, name: &Name) -> Option<u64>
+    ensures { result ≡ node_in records.now.entries dir name.now }
 {
-    records.values().any(|record| record.is_at(dir, name))
+    for (node, record) in records {
+        if record.is_at(dir, name) {
+            return Some(*node);
+        }
+    }
+    None
+}
+
+/// Whether a walk up by the folders comes from one node to another.
+pub fn climbs(records: &BTreeMap<u64, Stored>, from: u64, to: u64) -> bool
+    ensures { result ≡ climbs (length records.now.entries) (dir_of records.now.entries) to from }
+{
+    let mut at = from;
+    for _ in 0..records.len() {
+        if at == to {
+            return true;
+        }
+        match records.get(&at) {
+            None => return false,
+            Some(record) => at = record.dir(),
+        }
+    }
+    at == to
 }
 
 /// Adds a record under a node above all others.
@@ -50,35 +70,33 @@ pub fn take_out(records: &mut BTreeMap<u64, Stored>, node: u64)
     records.remove(&node);
 }
 
-/// The entry of a record, where the predicate holds of it.
-pub fn entry_if(
-    alloc: Global,
-    predicate: &Predicate,
-    stored: &Stored,
-    node: u64,
-) -> Result<Option<Entry>, Refusal>
-    ensures refused { IsRefusedBy result None }
-    ensures value { IfOk result (λ found. found ≡ entry_if predicate.now (node, stored.now)) }
+/// Takes a node's record out, if one is named.
+pub fn take_out_if(records: &mut BTreeMap<u64, Stored>, node: Option<u64>)
+    requires { Rises records.old.entries }
+    ensures { records.new.entries ≡ without node records.old.entries }
 {
-    if holds(predicate, stored) {
-        Ok(Some(stored.entry(alloc, node)?))
-    } else {
-        Ok(None)
+    if let Some(node) = node {
+        take_out(records, node);
     }
 }
 
-/// The same records under the same nodes.
-pub fn copy_all(
-    alloc: Global,
-    records: &BTreeMap<u64, Stored>,
-) -> Result<BTreeMap<u64, Stored>, Refusal>
-    requires { Rises records.now.entries }
-    ensures refused { IsRefusedBy result None }
-    ensures value { IfOk result (λ copy. copy.entries ≡ records.now.entries) }
+/// Gives a node another place.
+pub fn place(records: &mut BTreeMap<u64, Stored>, node: u64, dir: u64, name: Name)
+    requires { Rises records.old.entries }
+    ensures { records.new.entries ≡ altered node (at_place dir name) records.old.entries }
 {
-    let mut copy = BTreeMap::new(alloc);
-    for (node, record) in records {
-        add_last(&mut copy, *node, record.copy(alloc)?)?;
+    if let Some(record) = records.get_mut(&node) {
+        record.relocate(dir, name);
     }
-    Ok(copy)
+}
+
+/// Gives a node another size and time.
+pub fn write(records: &mut BTreeMap<u64, Stored>, node: u64, size: u64, time: i64)
+    requires rise { Rises records.old.entries }
+    requires small { size < 2 ^ 63 }
+    ensures { records.new.entries ≡ altered node (written size time) records.old.entries }
+{
+    if let Some(record) = records.get_mut(&node) {
+        record.write(size, time);
+    }
 }

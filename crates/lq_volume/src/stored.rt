@@ -3,8 +3,8 @@ ghost use Rattle.std.specs.Prelude.{◌≡◌, ◌==◌, ◌&&◌, ◌<◌, ◌^
 ghost use Rattle.std.specs.Str.{bytes_eq};
 ghost use Rattle.lq_value.specs.Refusal.{IsRefusedBy};
 
-use lq_predicate::Row;
-use lq_value::{AttrName, Entry, Kind, Name, Refusal, View};
+use crate::seen::Seen;
+use lq_value::{Kind, Name, Refusal};
 use std::alloc::Global;
 use std::marker::Model;
 
@@ -31,7 +31,7 @@ impl Model for Stored {
 
 impl Stored {
     ghost use Rattle.lq_volume.specs.State.{Record};
-    ghost use Rattle.lq_volume.specs.Result.{entry_of};
+    ghost use Rattle.lq_volume.specs.Change.{at_place, written};
 
     pub fn new(dir: u64, name: Name, kind: Kind, size: u64, time: i64) -> Stored
         requires { size < 2 ^ 63 }
@@ -46,10 +46,35 @@ impl Stored {
         }
     }
 
+    pub fn dir(&self) -> u64
+        ensures { result ≡ self.now.dir }
+    {
+        self.dir
+    }
+
+    pub fn name(&self) -> &Name
+        ensures { result.now ≡ self.now.name }
+    {
+        &self.name
+    }
+
     pub fn kind(&self) -> Kind
         ensures { result ≡ self.now.kind }
     {
         self.kind
+    }
+
+    pub fn size(&self) -> u64
+        ensures value { result ≡ self.now.size }
+        ensures small { result < 2 ^ 63 }
+    {
+        self.size
+    }
+
+    pub fn time(&self) -> i64
+        ensures { result ≡ self.now.time }
+    {
+        self.time
     }
 
     pub fn is_in(&self, dir: u64) -> bool
@@ -64,16 +89,43 @@ impl Stored {
         self.dir == dir && self.name == *name
     }
 
-    /// The entry under a node.
-    pub fn entry(&self, alloc: Global, node: u64) -> Result<Entry, Refusal>
-        ensures refused { IsRefusedBy result None }
-        ensures value { IfOk result (λ entry. entry ≡ entry_of (node, self.now)) }
+    /// Gives the entry another place.
+    pub fn relocate(&mut self, dir: u64, name: Name)
+        ensures { self.new ≡ at_place dir name self.old }
     {
-        Ok(Entry {
-            dir: self.dir,
-            name: self.name.copy(alloc)?,
-            node,
-        })
+        self.dir = dir;
+        self.name = name;
+    }
+
+    /// Gives the entry another size and time.
+    pub fn write(&mut self, size: u64, time: i64)
+        requires { size < 2 ^ 63 }
+        ensures { self.new ≡ written size time self.old }
+    {
+        self.size = size;
+        self.time = time;
+    }
+
+    /// What a predicate sees of it.
+    pub fn seen(&self) -> Seen<'_>
+        ensures { result ≡ self.now }
+    {
+        Seen::new(self.dir, &self.name, self.kind, self.size, self.time)
+    }
+
+    /// What a predicate would see of it at another place.
+    pub fn seen_at<'a>(&'a self, dir: u64, name: &'a Name) -> Seen<'a>
+        ensures { result ≡ at_place dir name.now self.now }
+    {
+        Seen::new(dir, name, self.kind, self.size, self.time)
+    }
+
+    /// What a predicate would see of it with another size and time.
+    pub fn seen_with(&self, size: u64, time: i64) -> Seen<'_>
+        requires { size < 2 ^ 63 }
+        ensures { result ≡ written size time self.now }
+    {
+        Seen::new(self.dir, &self.name, self.kind, size, time)
     }
 
     /// Another that is the same.
@@ -88,23 +140,5 @@ impl Stored {
             size: self.size,
             time: self.time,
         })
-    }
-}
-
-impl Row for Stored {
-    ghost use Rattle.lq_volume.specs.Result.{shown};
-
-    ghost looks = { shown };
-
-    fn look(&self, attr: &AttrName) -> Option<View<'_>> {
-        if attr.as_str() == "name" {
-            Some(View::Text(self.name.as_str()))
-        } else if attr.as_str() == "size" {
-            Some(View::Int64(self.size as i64))
-        } else if attr.as_str() == "last_modified" {
-            Some(View::Int64(self.time))
-        } else {
-            None
-        }
     }
 }

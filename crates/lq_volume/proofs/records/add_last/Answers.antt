@@ -1,5 +1,5 @@
 use Rattle.std.proofs.Common.{◌∙◌}
-use Rattle.lq_volume.proofs.Entries.{insert_entry-above}
+use Rattle.lq_volume.proofs.RecordLemmas.{insert_entry-above}
 use Rattle.lq_volume.proofs.records.add_last.Goals as goal
 
 pub returns-clause-ok : goal.returns-clause-ok

@@ -1,15 +1,16 @@
 -- What one more node at the end, and one node less, make of entries whose nodes rise.
-use Rattle.std.proofs.Common.{◌≡◌, ℕ, ◌<◌, List, [], ◌∷◌, ◌++◌, refl, arith, eqb, ap}
-use Rattle.std.specs.Prelude.{not, ◌&&◌, ◌==◌, filter, map, Bool, true, false, cond, nat_eq, Option, Some, None, length, ◌≤◌, IsSome, is_none}
+use Rattle.std.proofs.Common.{◌≡◌, ℕ, ◌<◌, List, [], ◌∷◌, ◌++◌, refl, arith, eqb}
+use Rattle.std.specs.Prelude.{not, ◌&&◌, ◌==◌, filter, Bool, true, false, cond, nat_eq, Option, Some, None, length, ◌≤◌, is_some}
 use Rattle.std.specs.Option.{option_map}
 use Rattle.std.specs.List.{AllByRecursion, list_any}
 use Rattle.std.specs.Str.{bytes_eq}
 use Rattle.std.proofs.lemmas.Slice.Eq.{bytes_eq-Decides}
 use Rattle.std.specs.BTreeMap.{insert_entry, is_at}
-use Rattle.std.specs.Map.{remove_entry, lookup, values_of}
+use Rattle.std.specs.Map.{remove_entry, lookup, set_value, values_of}
 use Rattle.std.specs.Ordering.{nat_cmp}
 use Rattle.std.proofs.lemmas.Bool.Decides.{nat_tests}
-use Rattle.lq_volume.specs.State.{Record, Rises}
+use Rattle.lq_volume.specs.State.{Record, Rises, node_in}
+use Rattle.lq_volume.specs.Change.{altered, without}
 
 abbrev pub Entries : Type 0
 Entries = List (ℕ × Record)
@@ -33,6 +34,21 @@ remove_entry-node (e ∷ es) k h = grind (arith, nat_tests, remove_entry-node es
 pub lookup-node : (es : Entries) (k : ℕ) → lookup (is_at (nat_cmp k)) es ≡ lookup (nat_eq k) es
 lookup-node [] k = refl
 lookup-node (e ∷ es) k = grind (arith, nat_tests, lookup-node es k)
+
+-- entries above a node all stay as they are
+altered-above : (es : Entries) (k : ℕ) (g : Record → Record) → AllByRecursion (λ f. k < f.0) es → altered k g es ≡ es
+altered-above [] k g h = refl
+altered-above (e ∷ es) k g h = grind (arith, nat_tests, altered-above es k g h.1)
+
+-- the record under a node, altered
+pub set_value-altered : (es : Entries) (k : ℕ) (g : Record → Record) (r : Record) → Rises es → lookup (is_at (nat_cmp k)) es ≡ Some r → set_value (is_at (nat_cmp k)) es (g r) ≡ altered k g es
+set_value-altered [] k g r h found = refl
+set_value-altered (e ∷ es) k g r h found = grind (arith, nat_tests, set_value-altered es k g r h.1, λ (same : e.0 ≡ k). altered-above es k g (rw (← same) h.0))
+
+-- a node that is absent has no record to alter
+pub altered-absent : (es : Entries) (k : ℕ) (g : Record → Record) → lookup (is_at (nat_cmp k)) es ≡ None → altered k g es ≡ es
+altered-absent [] k g h = refl
+altered-absent (e ∷ es) k g h = grind (arith, nat_tests, altered-absent es k g)
 
 pub All-push : (P : ℕ × Record → Type 0) (es : Entries) (e : ℕ × Record) → AllByRecursion P es → P e → AllByRecursion P (es ++ e ∷ [])
 All-push P [] e h p = (p, tt)
@@ -59,9 +75,29 @@ pub lookup-filter : (es : Entries) (k n : ℕ) → lookup (nat_eq n) (filter (λ
 lookup-filter [] k n = grind (arith, nat_tests)
 lookup-filter (e ∷ es) k n = grind (arith, nat_tests, lookup-filter es k n)
 
+pub lookup-altered : (es : Entries) (k : ℕ) (g : Record → Record) (n : ℕ) → lookup (nat_eq n) (altered k g es) ≡ cond (eqb n k) (option_map g (lookup (nat_eq n) es)) (lookup (nat_eq n) es)
+lookup-altered [] k g n = grind (arith, nat_tests)
+lookup-altered (e ∷ es) k g n = grind (arith, nat_tests, lookup-altered es k g n)
+
 pub lookup-push : (es : Entries) (k : ℕ) (v : Record) (n : ℕ) → AllByRecursion (λ e. e.0 < k) es → lookup (nat_eq n) (es ++ (k, v) ∷ []) ≡ cond (eqb n k) (Some v) (lookup (nat_eq n) es)
 lookup-push [] k v n h = grind (arith, nat_tests)
 lookup-push (e ∷ es) k v n h = grind (arith, nat_tests, lookup-push es k v n h.1)
+
+pub All-without : (P : ℕ × Record → Type 0) (other : Option ℕ) (es : Entries) → AllByRecursion P es → AllByRecursion P (without other es)
+All-without P None es h = h
+All-without P (Some k) es h = All-filter P (λ e. not (eqb e.0 k)) es h
+
+pub Rises-without : (other : Option ℕ) (es : Entries) → Rises es → Rises (without other es)
+Rises-without None es h = h
+Rises-without (Some k) es h = Rises-filter (λ e. not (eqb e.0 k)) es h
+
+pub All-altered : (P : ℕ → Type 0) (k : ℕ) (g : Record → Record) (es : Entries) → AllByRecursion (λ e. P e.0) es → AllByRecursion (λ e. P e.0) (altered k g es)
+All-altered P k g [] h = tt
+All-altered P k g (e ∷ es) h = (h.0, All-altered P k g es h.1)
+
+pub Rises-altered : (k : ℕ) (g : Record → Record) (es : Entries) → Rises es → Rises (altered k g es)
+Rises-altered k g [] h = tt
+Rises-altered k g (e ∷ es) h = (All-altered (λ n. e.0 < n) k g es h.0, Rises-altered k g es h.1)
 
 -- one that is there makes the others fewer
 pub length-filter_le : (es : Entries) (k : ℕ) → length (filter (λ e. not (eqb e.0 k)) es) ≤ length es
@@ -95,3 +131,29 @@ Rises-front (f ∷ es) fs e h = (below es h.0, Rises-front es fs e h.1)
     below : (gs : Entries) → AllByRecursion (λ g. f.0 < g.0) (gs ++ e ∷ fs) → f.0 < e.0
     below [] k = k.0
     below (g ∷ gs) k = below gs k.1
+
+-- what the search for a place finds
+pub node_in-some : (es : Entries) (dir : ℕ) (name : List ℕ) (x : ℕ) → Rises es → node_in es dir name ≡ Some x → (r : Record) × (lookup (nat_eq x) es ≡ Some r) × (r.dir ≡ dir) × (r.name ≡ name)
+node_in-some [] dir name x h found = cc
+node_in-some (e ∷ es) dir name x h found = at (node_in-some es dir name x h.1) ((e.1.dir == dir) && bytes_eq e.1.name name) refl
+  where
+    at : (node_in es dir name ≡ Some x → (r : Record) × (lookup (nat_eq x) es ≡ Some r) × (r.dir ≡ dir) × (r.name ≡ name)) → (b : Bool) → ((e.1.dir == dir) && bytes_eq e.1.name name) ≡ b → (r : Record) × (lookup (nat_eq x) (e ∷ es) ≡ Some r) × (r.dir ≡ dir) × (r.name ≡ name)
+    at hyp true is =
+        let same = bytes_eq-Decides e.1.name name in
+        let here : e.0 ≡ x = grind (arith, nat_tests) in
+        (e.1, grind (arith, nat_tests), grind (arith, nat_tests), grind (arith, nat_tests))
+    at hyp false is =
+        let rest : (r : Record) × (lookup (nat_eq x) es ≡ Some r) × (r.dir ≡ dir) × (r.name ≡ name) = hyp (grind (arith, nat_tests)) in
+        let l = rest.1 in
+        let off = lookup-below es e.0 h.0 in
+        let differs : eqb x e.0 ≡ false = grind (arith, nat_tests) in
+        (rest.0, grind (arith, nat_tests), rest.2, rest.3)
+
+pub node_in-none : (es : Entries) (dir : ℕ) (name : List ℕ) (n : ℕ) (r : Record) → node_in es dir name ≡ None → lookup (nat_eq n) es ≡ Some r → r.dir ≡ dir → r.name ≡ name → ⊥
+node_in-none [] dir name n r none found same_dir same_name = cc
+node_in-none (e ∷ es) dir name n r none found same_dir same_name = let same = bytes_eq-Decides e.1.name name in grind (arith, nat_tests, node_in-none es dir name n r)
+
+-- a place is taken where the search finds a node
+pub is_taken-node_in : (es : Entries) (dir : ℕ) (name : List ℕ) → list_any (λ r. (r.dir == dir) && bytes_eq r.name name) (values_of es) ≡ is_some (node_in es dir name)
+is_taken-node_in [] dir name = refl
+is_taken-node_in (e ∷ es) dir name = grind (arith, nat_tests, is_taken-node_in es dir name)

@@ -1,0 +1,5 @@
+use Rattle.lq_volume.proofs.RecordLemmas.{Rises-push}
+use Rattle.lq_volume.proofs.entries.Entries.add.Goals as goal
+
+pub invariant_of-self-2 : goal.invariant_of-self-2
+invariant_of-self-2 c = rw c.in_ok-add_last.ensures.ok (Rises-push _ _ _ c.self.invariant (rw c.self.view_is c.requires.last))

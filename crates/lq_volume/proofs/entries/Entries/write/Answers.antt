@@ -1,0 +1,10 @@
+use Rattle.std.proofs.Common.{refl}
+use Rattle.std.proofs.Math.Facts.{to_z-of_z}
+use Rattle.lq_volume.proofs.RecordLemmas.{Rises-altered}
+use Rattle.lq_volume.proofs.entries.Entries.write.Goals as goal
+
+pub invariant_of-self : goal.invariant_of-self
+invariant_of-self c = rw c.write.ensures (Rises-altered _ _ _ c.self.invariant)
+
+pub returns : goal.returns
+returns c = rw (c.write.ensures, to_z-of_z c.ranges.time, ← c.self.view_is) refl
