@@ -1,6 +1,6 @@
 -- An accepted change keeps the numbers, the nodes and the tree, and alters no record but those it touches.
 use Rattle.std.proofs.Common.{◌≡◌, ◌≢◌, ℕ, ℤ, ◌+◌, List, [], ◌∷◌, ◌++◌, refl, sym, arith, eqb, ap, ◌∙◌, Bool, true, false, length}
-use Rattle.std.specs.Prelude.{not, filter, nat_eq, Option, Some, None, is_none, is_some, ◌&&◌, option_and_then}
+use Rattle.std.specs.Prelude.{not, filter, nat_eq, Option, Some, None, is_none, is_some, IsSome, ◌&&◌, option_and_then}
 use Rattle.std.specs.Option.{option_map, option_map_or, option_to_list}
 use Rattle.std.specs.List.{AllByRecursion}
 use Rattle.std.specs.Map.{lookup}
@@ -13,10 +13,11 @@ use Rattle.lq_volume.specs.declared.change.Change.TheVariants.{Create, Remove, M
 use Rattle.lq_volume.specs.Kind.{is_folder}
 use Rattle.lq_volume.specs.State.{State, Record, root, record_at, kind_at, is_folder_at, dir_of, reaches, node_in, has_entries, IsTree, IsVolume}
 use Rattle.lq_volume.specs.Change.{refused, refusals, after, node_of, record_left, at_place, written, altered, without, other_at, other_than, is_other}
+use Rattle.lq_volume.specs.Places.{CanMove}
 use Rattle.lq_volume.specs.Result.{entry_if, match_at, left_by, shown}
 use Rattle.lq_predicate.specs.Truth.{truth}
 use Rattle.lq_volume.specs.Laws.{ChangesKeepTrees, UntouchedStay}
-use Rattle.lq_volume.proofs.RecordLemmas.{Entries, lookup-filter, lookup-push, lookup-altered, node_in-some, node_in-none, length-filter_le}
+use Rattle.lq_volume.proofs.RecordLemmas.{Entries, lookup-filter, lookup-push, lookup-altered, node_in-some, node_in-none, is_taken-node_in, length-filter_le}
 use Rattle.lq_volume.proofs.Climbs.{climbs-sound, climbs-complete, Climb-more}
 use Rattle.lq_volume.proofs.Changes.{none_holds, accepted_number, IsNumbered-create, IsNumbered-filter, IsNumbered-altered}
 use Rattle.lq_volume.proofs.Tree.{IsChildless, childless-from_test, less-folder, IsTree-less, IsTree-moved, IsTree-kept, IsTree-more, dir_of-is, record-of}
@@ -129,6 +130,30 @@ keeps-write s node size time v h =
       numbered = IsNumbered-altered s None node (written size time) v.numbered (accepted_number s (Write node size time) h);
       tree = IsTree-kept s s.limit (s.number + 1) s.next node (written size time) v.tree (λ r. refl) (λ r. refl) (λ r. refl) (λ r is folder. absurd (let clash : is_folder_at s node ≡ true = grind (arith, nat_tests) in let no : ⊥ = cc in no));
     }
+
+-- what the entries need of a creation and of a move
+pub free-create : (s : State) (new : Record) → refused s (Create new.dir new.name new.kind new.size new.time) ≡ None → node_in s.records new.dir new.name ≡ None
+free-create s new h =
+    let rows = none_holds (refusals s (Create new.dir new.name new.kind new.size new.time)) h in
+    none (node_in s.records new.dir new.name) (sym (is_taken-node_in s.records new.dir new.name) ∙ rows.1.1.0)
+  where
+    none : (o : Option ℕ) → is_some o ≡ false → o ≡ None
+    none None e = refl
+    none (Some x) e = cc
+
+pub can-move : (s : State) (node dir : ℕ) (name : List ℕ) (clobber : Bool) → IsVolume s → refused s (Move node dir name clobber) ≡ None → CanMove s.records node dir name (other_at s node dir name)
+can-move s node dir name clobber v h =
+    let rows = none_holds (refusals s (Move node dir name clobber)) h in
+    record {
+      apart = v.tree.apart;
+      there = some (record_at s node) refl rows.0 rows.1.0;
+      other_is = refl;
+      stays_apart = (keeps-move s node dir name clobber v h).tree.apart;
+    }
+  where
+    some : (o : Option Record) → record_at s node ≡ o → is_none (kind_at s node) ≡ false → eqb node root ≡ false → IsSome (record_at s node)
+    some None is k l = absurd (grind (arith, nat_tests))
+    some (Some r) is k l = rw is refl
 
 pub keeps-all : ChangesKeepTrees
 keeps-all s (Create dir name kind size time) v h = keeps-create s (record { dir = dir; name = name; kind = kind; size = size; time = time }) v h

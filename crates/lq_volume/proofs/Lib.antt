@@ -3,3 +3,4 @@ pub mod Climbs
 pub mod Tree
 pub mod Changes
 pub mod Keeps
+pub mod PlaceLemmas

@@ -132,6 +132,14 @@ Rises-front (f ∷ es) fs e h = (below es h.0, Rises-front es fs e h.1)
     below [] k = k.0
     below (g ∷ gs) k = below gs k.1
 
+pub Rises-start : (es fs : Entries) → Rises (es ++ fs) → Rises es
+Rises-start [] fs h = tt
+Rises-start (e ∷ es) fs h = (front es h.0, Rises-start es fs h.1)
+  where
+    front : (gs : Entries) → AllByRecursion (λ g. e.0 < g.0) (gs ++ fs) → AllByRecursion (λ g. e.0 < g.0) gs
+    front [] k = tt
+    front (g ∷ gs) k = (k.0, front gs k.1)
+
 -- what the search for a place finds
 pub node_in-some : (es : Entries) (dir : ℕ) (name : List ℕ) (x : ℕ) → Rises es → node_in es dir name ≡ Some x → (r : Record) × (lookup (nat_eq x) es ≡ Some r) × (r.dir ≡ dir) × (r.name ≡ name)
 node_in-some [] dir name x h found = cc

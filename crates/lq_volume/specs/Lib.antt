@@ -2,6 +2,7 @@ pub mod Kind
 pub mod State
 pub mod Walk
 pub mod Change
+pub mod Places
 pub mod Lookup
 pub mod Result
 pub mod Book

@@ -1,12 +1,17 @@
 //! The entries of a volume.
-ghost use Rattle.std.specs.Prelude.{◌≡◌, ◌==◌, ◌<◌, ◌^◌, [], ◌∷◌, ◌++◌, filter, length, map, nat_eq, not, None, IfOk, OnErr, OnOk};
+ghost use Rattle.std.specs.Prelude.{◌≡◌, ◌==◌, ◌<◌, ◌^◌, [], ◌∷◌, ◌++◌, ◌&&◌, ℕ, List, if◌then◌else◌, filter, length, map, nat_eq, not, None, IfOk, OnErr, OnOk};
 ghost use Rattle.std.specs.List.{list_any, AllByRecursion};
 ghost use Rattle.std.specs.Map.{lookup, values_of};
 ghost use Rattle.std.specs.Option.{option_copied};
+ghost use Rattle.std.specs.Str.{bytes_eq};
 ghost use Rattle.lq_predicate.specs.Truth.{truth};
 ghost use Rattle.lq_value.specs.Refusal.{IsRefusedBy};
+ghost use Rattle.lq_volume.specs.State.{Rises, node_in};
+ghost use Rattle.lq_volume.specs.Change.{without, altered, at_place};
+ghost use Rattle.lq_volume.specs.Places.{place_at, IsIndex, IsApart, CanMove};
 
-use crate::records::{add_last, any_in, climbs, node_in, place, take_out, take_out_if, write};
+use crate::places::{has_names, node_at, put, take};
+use crate::records::{add_last, climbs, place, take_out, take_out_if, write};
 use crate::stored::Stored;
 use lq_predicate::{Predicate, holds};
 use lq_value::{Entry, Name, Refusal};
@@ -14,27 +19,33 @@ use std::alloc::Global;
 use std::collections::BTreeMap;
 use std::marker::Model;
 
-/// The records of all entries, by rising node.
+/// The records of all entries, by rising node, and an index of their places.
+///
+/// What it has costs time logarithmic in the entries to look up, add, take out and alter. A
+/// contract sees the records alone.
 #[derive(Debug, Drop)]
 pub struct Entries {
     alloc: Global,
     records: BTreeMap<u64, Stored>,
+    places: BTreeMap<u64, BTreeMap<Name, u64>>,
 }
 
 impl Model for Entries {
     ghost use Rattle.std.specs.Prelude.{ℕ, List};
-    ghost use Rattle.lq_volume.specs.State.{Record, Rises};
+    ghost use Rattle.lq_volume.specs.State.{Record};
+    ghost use Rattle.lq_volume.specs.Places.{IsIndexed};
 
     ghost Value = { List (ℕ × Record) };
 
     ghost view = { λ e. e.records.entries };
 
-    ghost invariant = { λ e. Rises e.records.entries };
+    ghost invariant = { λ e. IsIndexed e.places e.records.entries };
 }
 
 impl Entries {
     ghost use Rattle.lq_volume.specs.State.{climbs, dir_of, node_in};
     ghost use Rattle.lq_volume.specs.Change.{without, altered, at_place, written};
+    ghost use Rattle.lq_volume.specs.Places.{IsApart, CanMove};
     ghost use Rattle.lq_volume.specs.Result.{shown, entry_of};
 
     /// No entries.
@@ -44,6 +55,7 @@ impl Entries {
         Entries {
             alloc,
             records: BTreeMap::new(alloc),
+            places: BTreeMap::new(alloc),
         }
     }
 
@@ -58,14 +70,14 @@ impl Entries {
     pub fn node_in(&self, dir: u64, name: &Name) -> Option<u64>
         ensures { result ≡ node_in self.now dir name.now }
     {
-        node_in(&self.records, dir, name)
+        node_at(&self.places, dir, name)
     }
 
     /// Whether an entry is in the folder.
     pub fn has_any(&self, dir: u64) -> bool
         ensures { result ≡ list_any (λ r. r.dir == dir) (values_of self.now) }
     {
-        any_in(&self.records, dir)
+        has_names(&self.places, dir)
     }
 
     /// Whether a walk up by the folders comes from one node to another.
@@ -75,22 +87,30 @@ impl Entries {
         climbs(&self.records, from, to)
     }
 
-    /// Adds a record under a node above all others. Refused: `NoMemory`.
+    /// Adds a record under a node above all others, at a free place. Refused: `NoMemory`.
     pub fn add(&mut self, node: u64, stored: Stored) -> Result<(), Refusal>
         requires last { AllByRecursion (λ e. e.0 < node) self.old }
+        requires free { node_in self.old stored.dir stored.name ≡ None }
         ensures refused { IsRefusedBy result None }
         ensures ok { OnOk result (self.new ≡ self.old ++ (node, stored) ∷ []) }
         ensures err { OnErr result (self.new ≡ self.old) }
     {
-        add_last(&mut self.records, node, stored)?;
+        add(
+            self.alloc,
+            &mut self.records,
+            &mut self.places,
+            node,
+            stored,
+        )?;
         Ok(())
     }
 
     /// Takes a node's record out.
     pub fn remove(&mut self, node: u64)
+        requires { IsApart self.old }
         ensures { self.new ≡ filter (λ e. not (e.0 == node)) self.old }
     {
-        take_out(&mut self.records, node);
+        remove(&mut self.records, &mut self.places, node);
     }
 
     /// Gives a node another place, from which another node goes. Refused: `NoMemory`.
@@ -101,14 +121,21 @@ impl Entries {
         name: &Name,
         other: Option<u64>,
     ) -> Result<(), Refusal>
+        requires { CanMove self.old node dir name.now other }
         ensures refused { IsRefusedBy result None }
         ensures ok { OnOk result
             (self.new ≡ altered node (at_place dir name.now) (without other self.old)) }
         ensures err { OnErr result (self.new ≡ self.old) }
     {
-        let name = name.copy(self.alloc)?;
-        take_out_if(&mut self.records, other);
-        place(&mut self.records, node, dir, name);
+        shift(
+            self.alloc,
+            &mut self.records,
+            &mut self.places,
+            node,
+            dir,
+            name,
+            other,
+        )?;
         Ok(())
     }
 
@@ -138,6 +165,7 @@ impl Entries {
 
     /// The same records under the same nodes. Refused: `NoMemory`.
     pub fn copy(&self) -> Result<Entries, Refusal>
+        requires { IsApart self.now }
         ensures refused { IsRefusedBy result None }
         ensures value { IfOk result (λ copy. copy ≡ self.now) }
     {
@@ -146,5 +174,96 @@ impl Entries {
             copy.add(*node, record.copy(self.alloc)?)?;
         }
         Ok(copy)
+    }
+}
+
+// Adds a record and its place, or neither: what grows first is taken back without memory.
+fn add(
+    alloc: Global,
+    records: &mut BTreeMap<u64, Stored>,
+    places: &mut BTreeMap<u64, BTreeMap<Name, u64>>,
+    node: u64,
+    stored: Stored,
+) -> Result<(), Refusal>
+    requires index { IsIndex places.old records.old.entries }
+    requires last { AllByRecursion (λ e. e.0 < node) records.old.entries }
+    requires free { node_in records.old.entries stored.dir stored.name ≡ None }
+    ensures refused { IsRefusedBy result None }
+    ensures ok { OnOk result (records.new.entries ≡ records.old.entries ++ (node, stored) ∷ []) }
+    ensures err { OnErr result (records.new.entries ≡ records.old.entries) }
+    ensures index { IsIndex places.new records.new.entries }
+{
+    put(
+        alloc,
+        places,
+        stored.dir(),
+        stored.name().copy(alloc)?,
+        node,
+    )?;
+    match add_last(records, node, stored) {
+        Ok(()) => Ok(()),
+        Err(stored) => {
+            take(places, stored.dir(), stored.name());
+            Err(Refusal::NoMemory)
+        }
+    }
+}
+
+// Takes a record and its place out.
+fn remove(
+    records: &mut BTreeMap<u64, Stored>,
+    places: &mut BTreeMap<u64, BTreeMap<Name, u64>>,
+    node: u64,
+)
+    requires index { IsIndex places.old records.old.entries }
+    requires rise { Rises records.old.entries }
+    requires apart { IsApart records.old.entries }
+    ensures ok { records.new.entries ≡ filter (λ e. not (e.0 == node)) records.old.entries }
+    ensures index { IsIndex places.new records.new.entries }
+{
+    if let Some(record) = records.get(&node) {
+        take(places, record.dir(), record.name());
+    }
+    take_out(records, node);
+}
+
+// Moves a node in both maps, or in neither: what grows comes first.
+fn shift(
+    alloc: Global,
+    records: &mut BTreeMap<u64, Stored>,
+    places: &mut BTreeMap<u64, BTreeMap<Name, u64>>,
+    node: u64,
+    dir: u64,
+    name: &Name,
+    other: Option<u64>,
+) -> Result<(), Refusal>
+    requires index { IsIndex places.old records.old.entries }
+    requires rise { Rises records.old.entries }
+    requires moves { CanMove records.old.entries node dir name.now other }
+    ensures refused { IsRefusedBy result None }
+    ensures ok { OnOk result (records.new.entries
+        ≡ altered node (at_place dir name.now) (without other records.old.entries)) }
+    ensures err { OnErr result (records.new.entries ≡ records.old.entries) }
+    ensures index { IsIndex places.new records.new.entries }
+{
+    let key = name.copy(alloc)?;
+    let kept = name.copy(alloc)?;
+    put(alloc, places, dir, key, node)?;
+    if let Some(record) = records.get(&node) {
+        leave(places, record, dir, name);
+    }
+    take_out_if(records, other);
+    place(records, node, dir, kept);
+    Ok(())
+}
+
+// Empties the place that a record has, unless it is the new one.
+fn leave(places: &mut BTreeMap<u64, BTreeMap<Name, u64>>, stored: &Stored, dir: u64, name: &Name)
+    ensures { (d : ℕ) (n : List ℕ) → place_at places.new d n
+        ≡ (if (stored.now.dir == d) && bytes_eq stored.now.name n && not ((dir == d) && bytes_eq name.now n)
+        then None else place_at places.old d n) }
+{
+    if !stored.is_at(dir, name) {
+        take(places, stored.dir(), stored.name());
     }
 }

@@ -11,6 +11,7 @@ mod checks;
 mod entries;
 mod entry_ref;
 mod laws;
+mod places;
 mod records;
 mod seen;
 mod stored;

@@ -1,34 +1,12 @@
 //! The records of a volume, by node.
-ghost use Rattle.std.specs.List.{list_any, AllByRecursion};
-ghost use Rattle.lq_value.specs.Refusal.{IsRefusedBy};
-ghost use Rattle.lq_volume.specs.State.{Rises, climbs, dir_of, node_in};
+ghost use Rattle.std.specs.List.{AllByRecursion};
+ghost use Rattle.lq_volume.specs.State.{Rises, climbs, dir_of};
 ghost use Rattle.lq_volume.specs.Change.{without, altered, at_place, written};
-ghost use Rattle.std.specs.Map.{values_of};
-ghost use Rattle.std.specs.Str.{bytes_eq};
-ghost use Rattle.std.specs.Prelude.{◌≡◌, ◌==◌, ◌&&◌, ◌<◌, ◌^◌, [], ◌∷◌, ◌++◌, length, filter, not, None, OnErr, OnOk};
+ghost use Rattle.std.specs.Prelude.{◌≡◌, ◌==◌, ◌<◌, ◌^◌, [], ◌∷◌, ◌++◌, length, filter, not, IfErr, OnErr, OnOk};
 
 use crate::stored::Stored;
-use lq_value::{Name, Refusal};
+use lq_value::Name;
 use std::collections::BTreeMap;
-
-/// Whether a record is in the folder.
-pub fn any_in(records: &BTreeMap<u64, Stored>, dir: u64) -> bool
-    ensures { result ≡ list_any (λ r. r.dir == dir) (values_of records.now.entries) }
-{
-    records.values().any(|record| record.is_in(dir))
-}
-
-/// The node that has the place.
-pub fn node_in(records: &BTreeMap<u64, Stored>, dir: u64, name: &Name) -> Option<u64>
-    ensures { result ≡ node_in records.now.entries dir name.now }
-{
-    for (node, record) in records {
-        if record.is_at(dir, name) {
-            return Some(*node);
-        }
-    }
-    None
-}
 
 /// Whether a walk up by the folders comes from one node to another.
 pub fn climbs(records: &BTreeMap<u64, Stored>, from: u64, to: u64) -> bool
@@ -47,19 +25,21 @@ pub fn climbs(records: &BTreeMap<u64, Stored>, from: u64, to: u64) -> bool
     at == to
 }
 
-/// Adds a record under a node above all others.
+/// Adds a record under a node above all others, or hands it back where there is no memory.
 pub fn add_last(
     records: &mut BTreeMap<u64, Stored>,
     node: u64,
     stored: Stored,
-) -> Result<(), Refusal>
+) -> Result<(), Stored>
     requires { AllByRecursion (λ e. e.0 < node) records.old.entries }
-    ensures refused { IsRefusedBy result None }
     ensures ok { OnOk result (records.new.entries ≡ records.old.entries ++ (node, stored) ∷ []) }
     ensures err { OnErr result (records.new.entries ≡ records.old.entries) }
+    ensures back { IfErr result (λ back. back ≡ stored) }
 {
-    records.insert(node, stored)?;
-    Ok(())
+    match records.insert(node, stored) {
+        Ok(_) => Ok(()),
+        Err(failed) => Err(failed.value.1),
+    }
 }
 
 /// Takes a node's record out.

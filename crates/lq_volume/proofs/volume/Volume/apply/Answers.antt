@@ -2,10 +2,22 @@ use Rattle.std.proofs.Common.{◌≡◌, refl, sym, subst, None, rules}
 use Rattle.std.proofs.Math.Facts.{to_z-of_z}
 use mir.Val.{SFits}
 use mir.Syntax.{w64}
-use Rattle.lq_volume.specs.State.{State}
+use Rattle.lq_volume.specs.State.{State, Record}
 use Rattle.lq_volume.specs.Change.{refused}
-use Rattle.lq_volume.proofs.Keeps.{keeps-create, keeps-remove, keeps-move, keeps-write}
+use Rattle.lq_volume.proofs.Keeps.{can-move, free-create, keeps-create, keeps-remove, keeps-move, keeps-write}
 use Rattle.lq_volume.proofs.volume.Volume.apply.Goals as goal
+
+pub add-requires-clause-free : goal.add-requires-clause-free
+add-requires-clause-free c =
+    let may = subst (λ (s : State). refused s c.args.change.now ≡ None) (sym c.self.view_is) c.in_ok-applied.ensures.ok in
+    let s : State = record { limit = c.self.inside.limit; number = c.self.inside.changes; next = c.self.inside.next; records = c.self.inside.entries } in
+    let new : Record = record { dir = c.in-Create.dir; name = c.in-Create.name; kind = c.in-Create.kind; size = c.in-Create.size; time = c.in-Create.time } in
+    rw (c.new-record.ensures, c.in_ok-copy-in-Create.ensures.value) (free-create s new (rw c.in-Create.is at may))
+
+pub shift-requires : goal.shift-requires
+shift-requires c =
+    let may = subst (λ (s : State). refused s c.args.change.now ≡ None) (sym c.self.view_is) c.in_ok-applied.ensures.ok in
+    rw (c.other_at-other.ensures, ← c.self.view_is) (can-move _ _ _ _ _ c.self.invariant (rw c.in-Move.is at may))
 
 pub invariant_of-self-in-Create : goal.invariant_of-self-in-Create
 invariant_of-self-in-Create c =
