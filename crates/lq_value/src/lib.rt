@@ -17,6 +17,8 @@ mod refusal;
 #[cfg(test)]
 mod tests;
 mod text;
+mod value;
+mod value_text;
 mod view;
 
 pub use attr_name::AttrName;
@@ -28,4 +30,6 @@ pub use op::Op;
 pub use pattern::{Element, Pattern};
 pub use refusal::Refusal;
 pub use text::Text;
+pub use value::Value;
+pub use value_text::ValueText;
 pub use view::View;
