@@ -1,1 +1,2 @@
 pub mod PatternLemmas
+pub mod MatchingLemmas

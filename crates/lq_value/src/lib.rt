@@ -7,9 +7,12 @@
 
 mod attr_name;
 mod digits;
+mod element;
 mod entry;
+mod first;
 mod kind;
 mod literal;
+mod matching;
 mod name;
 mod op;
 mod pattern;
@@ -22,12 +25,13 @@ mod value_text;
 mod view;
 
 pub use attr_name::AttrName;
+pub use element::{Element, Item, Items};
 pub use entry::Entry;
 pub use kind::Kind;
 pub use literal::{Literal, compare};
 pub use name::Name;
 pub use op::Op;
-pub use pattern::{Element, Pattern};
+pub use pattern::Pattern;
 pub use refusal::Refusal;
 pub use text::Text;
 pub use value::Value;
