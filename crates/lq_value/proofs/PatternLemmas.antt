@@ -1,11 +1,14 @@
 -- What a pattern's test says of splits of a text, and what plain elements fit.
-use Rattle.std.proofs.Common.{◌≡◌, ℕ, List, [], ◌∷◌, ◌++◌, refl, sym, ap, ◌∙◌, Bool, true, false, Some, ◌⊎◌, inl, inr, eq-eqb}
+use Rattle.std.proofs.Common.{◌≡◌, ℕ, List, [], ◌∷◌, ◌++◌, refl, sym, ap, ◌∙◌, Bool, true, false, Some, ◌⊎◌, inl, inr, eq-eqb, suc, ◌+◌, ◌<◌, length, take, drop, get_or, None}
 use Rattle.std.specs.Prelude.{IsTrue, ◌↔◌, ◌&&◌, ◌||◌, ◌==◌, not, Option, if◌then◌else◌}
 use Rattle.std.specs.Option.{option_map}
 use Rattle.std.specs.Str.{bytes_eq, chars, IsUtf8, encode_utf8_all}
 use Rattle.std.proofs.lemmas.Bool.{eqb-true}
 use Rattle.std.proofs.lemmas.Slice.Eq.{bytes_eq-Decides}
-use Rattle.std.proofs.lemmas.Str.{encodes-chars}
+use Rattle.std.specs.Prelude.{encode_utf8}
+use Rattle.std.proofs.Math.Seq.{drop-cons}
+use Rattle.std.proofs.lemmas.List.{append-nil, take_more, take-append-drop}
+use Rattle.std.proofs.lemmas.Str.{encodes-chars, encodes-append, chars_from_encodes}
 use Rattle.lq_value.specs.declared.element.Element.{Element}
 use Rattle.lq_value.specs.declared.element.Element.TheVariants.{Star, Any, Plain, Set}
 use Rattle.lq_value.specs.Element.{set_has, takes}
@@ -112,3 +115,36 @@ plain_chars-plain (c ∷ cs) = ap (option_map (λ ds. c ∷ ds)) (plain_chars-pl
 
 pub number-plain : (bs : List ℕ) → IsUtf8 bs → pattern_number (plain_elements (chars bs)) ≡ number_of bs
 number-plain bs u = rw (plain_chars-plain (chars bs)) (ap number_of (encodes-chars bs u))
+
+-- ---- the text of plain elements, character by character
+
+plain_elements-push : (cs : List ℕ) (c : ℕ) → plain_elements (cs ++ c ∷ []) ≡ plain_elements cs ++ Plain c ∷ []
+plain_elements-push [] c = refl
+plain_elements-push (d ∷ cs) c = ap (λ es. Plain d ∷ es) (plain_elements-push cs c)
+
+chars-push : (a b : List ℕ) (c : ℕ) → IsUtf8 a → IsUtf8 b → b ≡ a ++ encode_utf8 c → chars b ≡ chars a ++ c ∷ []
+chars-push a b c u v e =
+    let spelled : encode_utf8_all (chars a ++ c ∷ []) ≡ b =
+    encodes-append (chars a) (c ∷ []) ∙ ap (λ l. l ++ (encode_utf8 c ++ [])) (encodes-chars a u) ∙ ap (λ l. a ++ l) (append-nil (encode_utf8 c)) ∙ sym e in
+    sym (chars_from_encodes (chars a ++ c ∷ []) b v spelled)
+
+-- one plain element more
+pub text_more : (es : List Element) (i : ℕ) (x : Element) (c : ℕ) (a b : List ℕ) → i < length es → x ≡ get_or es i x → x ≡ Plain c → IsUtf8 a → IsUtf8 b → b ≡ a ++ encode_utf8 c → plain_elements (chars a) ≡ take i es → plain_elements (chars b) ≡ take (i + 1) es
+text_more es i x c a b h is plain u v e so_far =
+    ap plain_elements (chars-push a b c u v e) ∙ plain_elements-push (chars a) c ∙ ap (λ l. l ++ Plain c ∷ []) so_far
+    ∙ ap (λ y. take i es ++ y ∷ []) (sym plain ∙ is) ∙ sym (take_more es i x h)
+
+not_plain : (cs : List ℕ) (x : Element) (rest : List Element) → ((c : ℕ) → x ≡ Plain c → ⊥) → plain_chars (plain_elements cs ++ x ∷ rest) ≡ None
+not_plain [] Star rest h = refl
+not_plain [] Any rest h = refl
+not_plain [] (Plain c) rest h = absurd (h c refl)
+not_plain [] (Set n is) rest h = refl
+not_plain (c ∷ cs) x rest h = ap (option_map (λ ds. c ∷ ds)) (not_plain cs x rest h)
+
+-- one that isn't plain
+pub text_none : (es : List Element) (i : ℕ) (x : Element) (cs : List ℕ) → i < length es → x ≡ get_or es i x → ((c : ℕ) → x ≡ Plain c → ⊥) → plain_elements cs ≡ take i es → plain_chars es ≡ None
+text_none es i x cs h is other so_far =
+    let all : es ≡ plain_elements cs ++ x ∷ drop (suc i) es =
+    sym (take-append-drop i es) ∙ ap (λ l. take i es ++ l) (drop-cons es i x h) ∙ ap (λ y. take i es ++ y ∷ drop (suc i) es) (sym is)
+    ∙ ap (λ l. l ++ x ∷ drop (suc i) es) (sym so_far) in
+    ap plain_chars all ∙ not_plain cs x (drop (suc i) es) other

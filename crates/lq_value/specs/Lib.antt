@@ -6,3 +6,8 @@ pub mod Element
 pub mod Pattern
 pub mod Matching
 pub mod Compare
+pub mod Sign
+pub mod Source
+pub mod Written
+pub mod Laws
+pub mod Reading

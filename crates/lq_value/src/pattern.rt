@@ -1,13 +1,19 @@
 //! Patterns, and the texts that they fit.
-ghost use Rattle.std.specs.Prelude.{◌≡◌, ◌↔◌, None, IfOk, IsTrue};
+ghost use Rattle.std.specs.Prelude.{◌≡◌, ◌↔◌, ℕ, None, Ok, IfOk, IfErr, IsTrue, MatchOption};
 ghost use Rattle.std.specs.Str.{chars};
+ghost use Rattle.std.specs.String.{string_bytes};
 ghost use Rattle.lq_value.specs.Refusal.{IsRefusedBy};
-ghost use Rattle.lq_value.specs.Pattern.{Fits, fits, plain_elements, pattern_number};
+ghost use Rattle.lq_value.specs.Pattern.{Fits, fits, plain_chars, plain_elements, pattern_number};
+ghost use Rattle.lq_value.specs.Sign.{signs_of};
+ghost use Rattle.lq_value.specs.Source.{pattern_of, source_refusal};
+ghost use Rattle.lq_value.specs.Written.{HasFaultAt, Writes};
+ghost use Rattle.lq_value.specs.declared.refusal.Refusal.TheVariants.{BadQuery};
 
 use crate::digits::number_of_bytes;
 use crate::element::Element;
 use crate::matching::{Left, fits_text};
 use crate::refusal::Refusal;
+use crate::source::read_elements;
 use std::alloc::Global;
 use std::marker::Model;
 
@@ -51,6 +57,39 @@ impl Pattern {
         })
     }
 
+    /// The pattern that a source text writes.
+    ///
+    /// `*` is a star, `?` any character, `[..]` a set and `[^..]` a negated one; `\` before a
+    /// character makes it plain. Refused, the first that fits: `BadQuery` with the byte place of
+    /// the leftmost fault (the `[` of a set that is empty, has no end, or has a range that falls; a
+    /// `\` that ends the source), `NoMemory`.
+    pub fn read(alloc: Global, source: &str) -> Result<Pattern, Refusal>
+        ensures value { IfOk result (λ pattern. pattern_of source.now ≡ Ok pattern) }
+        ensures written { IfOk result (λ pattern. Writes (signs_of source.now) pattern) }
+
+        // The leftmost fault, and where it is.
+        ensures refused { IsRefusedBy result (source_refusal source.now) }
+        ensures fault { IfErr result (λ e. (place : ℕ) → e ≡ BadQuery place → HasFaultAt source.now place) }
+    {
+        let elements = read_elements(alloc, source)?;
+        Pattern::of(alloc, elements)
+    }
+
+    // The pattern with these elements.
+    fn of(alloc: Global, elements: Vec<Element>) -> Result<Pattern, Refusal>
+        ensures refused { IsRefusedBy result None }
+        ensures value { IfOk result (λ pattern. pattern ≡ elements.items) }
+    {
+        match plain_text(alloc, elements.as_slice())? {
+            Some(text) => Ok(Pattern {
+                form: Form::PlainText(text),
+            }),
+            None => Ok(Pattern {
+                form: Form::Elements(elements),
+            }),
+        }
+    }
+
     /// Whether the pattern fits the whole text. It takes no memory.
     ///
     /// It takes at most about as many steps as the pattern's length times the text's.
@@ -90,6 +129,22 @@ impl Pattern {
             }),
         }
     }
+}
+
+// The text of the elements, if all are plain.
+fn plain_text(alloc: Global, elements: &[Element]) -> Result<Option<String>, Refusal>
+    ensures refused { IsRefusedBy result None }
+    ensures value { IfOk result (λ text. MatchOption text (plain_chars elements.now ≡ None)
+        (λ plain. plain_elements (chars (string_bytes plain)) ≡ elements.now)) }
+{
+    let mut text = String::new(alloc);
+    for element in elements {
+        let Element::Plain(c) = element else {
+            return Ok(None);
+        };
+        text.push(*c)?;
+    }
+    Ok(Some(text))
 }
 
 fn fits_plain(plain: &str, text: &str) -> bool
