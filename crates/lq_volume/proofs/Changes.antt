@@ -6,7 +6,7 @@ use Rattle.lq_value.specs.declared.refusal.Refusal.{Refusal}
 use Rattle.lq_value.specs.Refusal.{first_refusal}
 use Rattle.lq_value.specs.declared.kind.Kind.{Kind}
 use Rattle.lq_volume.specs.declared.change.Change.{Change}
-use Rattle.lq_volume.specs.declared.change.Change.TheVariants.{Create, Remove, Move, Write}
+use Rattle.lq_volume.specs.declared.change.Change.TheVariants.{Create, Remove, Move, Write, SetAttr, RemoveAttr}
 use Rattle.lq_volume.specs.State.{State, Record, IsNumbered}
 use Rattle.lq_volume.specs.Change.{refused, refusals, changed, altered, without}
 use Rattle.lq_volume.proofs.RecordLemmas.{All-push, All-weaker, All-filter, Rises-push, Rises-filter, All-without, Rises-without, All-altered, Rises-altered}
@@ -25,6 +25,8 @@ accepted_number s (Create dir name kind size time) h = let rows = none_holds (re
 accepted_number s (Remove node) h = let rows = none_holds (refusals s (Remove node)) h in grind (arith, nat_tests)
 accepted_number s (Move node dir name clobber) h = let rows = none_holds (refusals s (Move node dir name clobber)) h in grind (arith, nat_tests)
 accepted_number s (Write node size time) h = let rows = none_holds (refusals s (Write node size time)) h in grind (arith, nat_tests)
+accepted_number s (SetAttr node attr value) h = let rows = none_holds (refusals s (SetAttr node attr value)) h in grind (arith, nat_tests)
+accepted_number s (RemoveAttr node attr) h = let rows = none_holds (refusals s (RemoveAttr node attr)) h in grind (arith, nat_tests)
 
 pub written_size : (s : State) (node size : ℕ) (time : ℤ) → refused s (Write node size time) ≡ None → size < 2 ^ 63
 written_size s node size time h = let rows = none_holds (refusals s (Write node size time)) h in grind (arith, nat_tests)

@@ -1,5 +1,5 @@
 -- An accepted change keeps the numbers, the nodes and the tree, and alters no record but those it touches.
-use Rattle.std.proofs.Common.{◌≡◌, ◌≢◌, ℕ, ℤ, ◌+◌, List, [], ◌∷◌, ◌++◌, refl, sym, arith, eqb, ap, ◌∙◌, Bool, true, false, length}
+use Rattle.std.proofs.Common.{◌≡◌, ◌≢◌, ℕ, ℤ, ◌+◌, ◌<◌, List, [], ◌∷◌, ◌++◌, refl, sym, arith, eqb, ap, ◌∙◌, Bool, true, false, length}
 use Rattle.std.specs.Prelude.{not, filter, nat_eq, Option, Some, None, is_none, is_some, IsSome, ◌&&◌, option_and_then}
 use Rattle.std.specs.Option.{option_map, option_map_or, option_to_list}
 use Rattle.std.specs.List.{AllByRecursion}
@@ -9,10 +9,11 @@ use Rattle.lq_value.specs.declared.kind.Kind.{Kind}
 use Rattle.lq_value.specs.declared.kind.Kind.TheVariants.{File, Folder}
 use Rattle.lq_predicate.specs.Query.{Query}
 use Rattle.lq_volume.specs.declared.change.Change.{Change}
-use Rattle.lq_volume.specs.declared.change.Change.TheVariants.{Create, Remove, Move, Write}
+use Rattle.lq_volume.specs.declared.change.Change.TheVariants.{Create, Remove, Move, Write, SetAttr, RemoveAttr}
+use Rattle.lq_volume.specs.Attributes.{Attributes, with_attr, without_attr}
 use Rattle.lq_volume.specs.Kind.{is_folder}
 use Rattle.lq_volume.specs.State.{State, Record, root, record_at, kind_at, is_folder_at, dir_of, reaches, node_in, has_entries, IsTree, IsVolume}
-use Rattle.lq_volume.specs.Change.{refused, refusals, after, node_of, record_left, at_place, written, altered, without, other_at, other_than, is_other}
+use Rattle.lq_volume.specs.Change.{refused, refusals, after, node_of, record_left, at_place, written, setting, unsetting, with_attrs, changed, altered, without, other_at, other_than, is_other}
 use Rattle.lq_volume.specs.Places.{CanMove}
 use Rattle.lq_volume.specs.Result.{entry_if, match_at, left_by, shown}
 use Rattle.lq_predicate.specs.Truth.{truth}
@@ -131,6 +132,13 @@ keeps-write s node size time v h =
       tree = IsTree-kept s s.limit (s.number + 1) s.next node (written size time) v.tree (λ r. refl) (λ r. refl) (λ r. refl) (λ r is folder. absurd (let clash : is_folder_at s node ≡ true = grind (arith, nat_tests) in let no : ⊥ = cc in no));
     }
 
+-- attributes are no part of a tree
+pub keeps-attrs : (s : State) (node : ℕ) (f : Record → Attributes) → IsVolume s → s.number < s.limit → IsVolume (changed s (altered node (λ r. with_attrs (f r) r) s.records))
+keeps-attrs s node f v more = record {
+  numbered = IsNumbered-altered s None node (λ r. with_attrs (f r) r) v.numbered more;
+  tree = IsTree-kept s s.limit (s.number + 1) s.next node (λ r. with_attrs (f r) r) v.tree (λ r. refl) (λ r. refl) (λ r. refl) (λ r is folder. v.tree.sizes node r is folder);
+}
+
 -- what the entries need of a creation and of a move
 pub free-create : (s : State) (new : Record) → refused s (Create new.dir new.name new.kind new.size new.time) ≡ None → node_in s.records new.dir new.name ≡ None
 free-create s new h =
@@ -156,10 +164,12 @@ can-move s node dir name clobber v h =
     some (Some r) is k l = rw is refl
 
 pub keeps-all : ChangesKeepTrees
-keeps-all s (Create dir name kind size time) v h = keeps-create s (record { dir = dir; name = name; kind = kind; size = size; time = time }) v h
+keeps-all s (Create dir name kind size time) v h = keeps-create s (record { dir = dir; name = name; kind = kind; size = size; time = time; attrs = [] }) v h
 keeps-all s (Remove node) v h = keeps-remove s node v h
 keeps-all s (Move node dir name clobber) v h = keeps-move s node dir name clobber v h
 keeps-all s (Write node size time) v h = keeps-write s node size time v h
+keeps-all s (SetAttr node attr value) v h = keeps-attrs s node (λ r. with_attr r.attrs attr value) v (accepted_number s (SetAttr node attr value) h)
+keeps-all s (RemoveAttr node attr) v h = keeps-attrs s node (λ r. without_attr r.attrs attr) v (accepted_number s (RemoveAttr node attr) h)
 
 -- the record of a node that isn't the one taken away
 look-without : (es : Entries) (p : Option ℕ) (x : ℕ) → (p ≡ Some x → ⊥) → lookup (nat_eq x) (without p es) ≡ lookup (nat_eq x) es
@@ -176,7 +186,7 @@ other-differs node (Some x) h = grind (arith, nat_tests)
 
 pub untouched-all : UntouchedStay
 untouched-all s (Create dir name kind size time) n v h off =
-    let l = lookup-push s.records s.next (record { dir = dir; name = name; kind = kind; size = size; time = time }) n v.numbered.below in
+    let l = lookup-push s.records s.next (record { dir = dir; name = name; kind = kind; size = size; time = time; attrs = [] }) n v.numbered.below in
     let differs = off.0 in grind (arith, nat_tests)
 untouched-all s (Remove node) n v h off = let l = lookup-filter s.records node n in let differs = off.0 in grind (arith, nat_tests)
 untouched-all s (Move node dir name clobber) n v h off =
@@ -184,11 +194,13 @@ untouched-all s (Move node dir name clobber) n v h off =
     let k = look-without s.records (other_at s node dir name) n (off-option (other_at s node dir name) n off.1) in
     let differs = off.0 in grind (arith, nat_tests)
 untouched-all s (Write node size time) n v h off = let l = lookup-altered s.records node (written size time) n in let differs = off.0 in grind (arith, nat_tests)
+untouched-all s (SetAttr node attr value) n v h off = let l = lookup-altered s.records node (setting attr value) n in let differs = off.0 in grind (arith, nat_tests)
+untouched-all s (RemoveAttr node attr) n v h off = let l = lookup-altered s.records node (unsetting attr) n in let differs = off.0 in grind (arith, nat_tests)
 
 -- the record that is at the node of a change afterwards
 pub record-left : (s : State) (c : Change) → IsVolume s → record_at (after s c) (node_of s c) ≡ record_left s c
 record-left s (Create dir name kind size time) v =
-    let new : Record = record { dir = dir; name = name; kind = kind; size = size; time = time } in
+    let new : Record = record { dir = dir; name = name; kind = kind; size = size; time = time; attrs = [] } in
     let l = lookup-push s.records s.next new s.next v.numbered.below in grind (arith, nat_tests)
 record-left s (Remove node) v = let l = lookup-filter s.records node node in grind (arith, nat_tests)
 record-left s (Move node dir name clobber) v =
@@ -197,6 +209,8 @@ record-left s (Move node dir name clobber) v =
     let j = ap (option_map (at_place dir name)) k in
     grind (arith, nat_tests)
 record-left s (Write node size time) v = let l = lookup-altered s.records node (written size time) node in grind (arith, nat_tests)
+record-left s (SetAttr node attr value) v = let l = lookup-altered s.records node (setting attr value) node in grind (arith, nat_tests)
+record-left s (RemoveAttr node attr) v = let l = lookup-altered s.records node (unsetting attr) node in grind (arith, nat_tests)
 
 -- what is found there
 pub match-left : (q : Query) (s : State) (c : Change) → IsVolume s → match_at q (after s c) (node_of s c) ≡ left_by q s c

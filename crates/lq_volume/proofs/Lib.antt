@@ -4,3 +4,4 @@ pub mod Tree
 pub mod Changes
 pub mod Keeps
 pub mod PlaceLemmas
+pub mod AttributeLemmas

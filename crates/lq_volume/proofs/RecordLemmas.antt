@@ -1,6 +1,6 @@
 -- What one more node at the end, and one node less, make of entries whose nodes rise.
-use Rattle.std.proofs.Common.{◌≡◌, ℕ, ◌<◌, List, [], ◌∷◌, ◌++◌, refl, arith, eqb}
-use Rattle.std.specs.Prelude.{not, ◌&&◌, ◌==◌, filter, Bool, true, false, cond, nat_eq, Option, Some, None, length, ◌≤◌, is_some}
+use Rattle.std.proofs.Common.{◌≡◌, ℕ, ◌<◌, Result, List, [], ◌∷◌, ◌++◌, refl, arith, eqb}
+use Rattle.std.specs.Prelude.{not, ◌&&◌, ◌==◌, filter, Bool, true, false, cond, nat_eq, Option, Some, None, length, ◌≤◌, is_some, Ok, Err, OnErr}
 use Rattle.std.specs.Option.{option_map}
 use Rattle.std.specs.List.{AllByRecursion, list_any}
 use Rattle.std.specs.Str.{bytes_eq}
@@ -44,6 +44,16 @@ altered-above (e ∷ es) k g h = grind (arith, nat_tests, altered-above es k g h
 pub set_value-altered : (es : Entries) (k : ℕ) (g : Record → Record) (r : Record) → Rises es → lookup (is_at (nat_cmp k)) es ≡ Some r → set_value (is_at (nat_cmp k)) es (g r) ≡ altered k g es
 set_value-altered [] k g r h found = refl
 set_value-altered (e ∷ es) k g r h found = grind (arith, nat_tests, set_value-altered es k g r h.1, λ (same : e.0 ≡ k). altered-above es k g (rw (← same) h.0))
+
+-- what is so anyway is so after an error
+pub on_err : {T E P : Type 0} (r : Result T E) → P → OnErr r P
+on_err (Ok x) p = tt
+on_err (Err e) p = p
+
+-- a record that is written as it was
+pub set_value-same : (es : Entries) (k : ℕ) (r : Record) → lookup (is_at (nat_cmp k)) es ≡ Some r → set_value (is_at (nat_cmp k)) es r ≡ es
+set_value-same [] k r found = refl
+set_value-same (e ∷ es) k r found = grind (arith, nat_tests, set_value-same es k r)
 
 -- a node that is absent has no record to alter
 pub altered-absent : (es : Entries) (k : ℕ) (g : Record → Record) → lookup (is_at (nat_cmp k)) es ≡ None → altered k g es ≡ es

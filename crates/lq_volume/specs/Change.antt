@@ -1,12 +1,14 @@
 -- When a change is refused, and the state after one that is not.
-use Rattle.std.specs.Prelude.{◌≡◌, ℕ, ℤ, ◌+◌, List, [], ◌∷◌, ◌++◌, Bool, false, not, ◌&&◌, ◌==◌, nat_le, nat_lt, Option, Some, None, is_none, filter, map, if◌then◌else◌}
+use Rattle.std.specs.Prelude.{◌≡◌, ℕ, ℤ, ◌+◌, List, [], ◌∷◌, ◌++◌, Bool, false, not, ◌&&◌, ◌==◌, nat_le, nat_lt, Option, Some, None, is_none, filter, map, option_and_then, if◌then◌else◌}
 use Rattle.std.specs.Option.{option_map, option_map_or, option_to_list}
 use Rattle.lq_value.specs.declared.kind.Kind.{Kind}
 use Rattle.lq_value.specs.declared.refusal.Refusal.{Refusal}
-use Rattle.lq_value.specs.declared.refusal.Refusal.TheVariants.{NoNode, NotFolder, Exists, WouldLoop, NotEmpty, KindClash, IsFolder, Reserved, TooLong, Exhausted}
+use Rattle.lq_value.specs.declared.refusal.Refusal.TheVariants.{NoNode, NotFolder, Exists, WouldLoop, NotEmpty, KindClash, IsFolder, NoAttr, Reserved, TooLong, Exhausted}
 use Rattle.lq_value.specs.Refusal.{first_refusal}
 use Rattle.lq_volume.specs.declared.change.Change.{Change}
-use Rattle.lq_volume.specs.declared.change.Change.TheVariants.{Create, Remove, Move, Write}
+use Rattle.lq_volume.specs.declared.change.Change.TheVariants.{Create, Remove, Move, Write, SetAttr, RemoveAttr}
+use Rattle.lq_value.specs.declared.value.Value.{Value}
+use Rattle.lq_volume.specs.Attributes.{Attributes, value_of, with_attr, without_attr, is_reserved}
 use Rattle.lq_volume.specs.Kind.{is_folder}
 use Rattle.lq_volume.specs.State.{State, Record, root, record_at, kind_at, is_folder_at, has_entries, is_taken, node_in, reaches}
 
@@ -32,6 +34,10 @@ is_other other test = option_map_or test other false
 
 abbrev pub differ : Bool → Bool → Bool
 differ a b = if a then not b else b
+
+-- the value of an attribute of a node
+abbrev pub attr_of : State → ℕ → List ℕ → Option Value
+attr_of s node attr = option_and_then (λ r. value_of r.attrs attr) (record_at s node)
 
 -- the tests of a change in their order, and what each that holds refuses it with
 abbrev pub create_refusals : State → ℕ → List ℕ → Kind → ℕ → List (Bool × Refusal)
@@ -75,11 +81,30 @@ write_refusals s node size =
     ∷ (is_full s, Exhausted)
     ∷ []
 
+abbrev pub set_refusals : State → ℕ → List ℕ → List (Bool × Refusal)
+set_refusals s node attr =
+    (is_none (kind_at s node), NoNode)
+    ∷ (node == root, Reserved)
+    ∷ (is_reserved attr, Reserved)
+    ∷ (is_full s, Exhausted)
+    ∷ []
+
+abbrev pub unset_refusals : State → ℕ → List ℕ → List (Bool × Refusal)
+unset_refusals s node attr =
+    (is_none (kind_at s node), NoNode)
+    ∷ (node == root, Reserved)
+    ∷ (is_reserved attr, Reserved)
+    ∷ (is_none (attr_of s node attr), NoAttr)
+    ∷ (is_full s, Exhausted)
+    ∷ []
+
 abbrev pub refusals : State → Change → List (Bool × Refusal)
 refusals s (Create dir name kind size time) = create_refusals s dir name kind size
 refusals s (Remove node) = remove_refusals s node
 refusals s (Move node dir name clobber) = move_refusals s node dir name clobber
 refusals s (Write node size time) = write_refusals s node size
+refusals s (SetAttr node attr value) = set_refusals s node attr
+refusals s (RemoveAttr node attr) = unset_refusals s node attr
 
 -- the first of them that holds
 abbrev pub refused : State → Change → Option Refusal
@@ -101,12 +126,21 @@ altered_at node f e = (e.0, if e.0 == node then f e.1 else e.1)
 abbrev pub altered : ℕ → (Record → Record) → List (ℕ × Record) → List (ℕ × Record)
 altered node f es = map (altered_at node f) es
 
--- a record at another place, and one with another size
+-- a record at another place, one with another size, and one with other attributes
 abbrev pub at_place : ℕ → List ℕ → Record → Record
-at_place dir name r = record { dir = dir; name = name; kind = r.kind; size = r.size; time = r.time }
+at_place dir name r = record { dir = dir; name = name; kind = r.kind; size = r.size; time = r.time; attrs = r.attrs }
 
 abbrev pub written : ℕ → ℤ → Record → Record
-written size time r = record { dir = r.dir; name = r.name; kind = r.kind; size = size; time = time }
+written size time r = record { dir = r.dir; name = r.name; kind = r.kind; size = size; time = time; attrs = r.attrs }
+
+abbrev pub with_attrs : Attributes → Record → Record
+with_attrs attrs r = record { dir = r.dir; name = r.name; kind = r.kind; size = r.size; time = r.time; attrs = attrs }
+
+abbrev pub setting : List ℕ → Value → Record → Record
+setting attr value r = with_attrs (with_attr r.attrs attr value) r
+
+abbrev pub unsetting : List ℕ → Record → Record
+unsetting attr r = with_attrs (without_attr r.attrs attr) r
 
 -- one change more, and other records
 abbrev pub changed : State → List (ℕ × Record) → State
@@ -119,11 +153,13 @@ after s (Create dir name kind size time) =
       limit = s.limit;
       number = s.number + 1;
       next = s.next + 1;
-      records = s.records ++ (s.next, record { dir = dir; name = name; kind = kind; size = size; time = time }) ∷ [];
+      records = s.records ++ (s.next, record { dir = dir; name = name; kind = kind; size = size; time = time; attrs = [] }) ∷ [];
     }
 after s (Remove node) = changed s (filter (λ e. not (e.0 == node)) s.records)
 after s (Move node dir name clobber) = changed s (altered node (at_place dir name) (without (other_at s node dir name) s.records))
 after s (Write node size time) = changed s (altered node (written size time) s.records)
+after s (SetAttr node attr value) = changed s (altered node (setting attr value) s.records)
+after s (RemoveAttr node attr) = changed s (altered node (unsetting attr) s.records)
 
 -- the node that a change creates or names
 abbrev pub node_of : State → Change → ℕ
@@ -131,6 +167,8 @@ node_of s (Create dir name kind size time) = s.next
 node_of s (Remove node) = node
 node_of s (Move node dir name clobber) = node
 node_of s (Write node size time) = node
+node_of s (SetAttr node attr value) = node
+node_of s (RemoveAttr node attr) = node
 
 -- the other node that a move takes away
 abbrev pub clobbered : State → Change → Option ℕ
@@ -138,6 +176,8 @@ clobbered s (Create dir name kind size time) = None
 clobbered s (Remove node) = None
 clobbered s (Move node dir name clobber) = other_at s node dir name
 clobbered s (Write node size time) = None
+clobbered s (SetAttr node attr value) = None
+clobbered s (RemoveAttr node attr) = None
 
 -- the nodes whose records an accepted change may alter
 abbrev pub touched_by : State → Change → List ℕ
@@ -145,7 +185,9 @@ touched_by s c = node_of s c ∷ option_to_list (clobbered s c)
 
 -- the record that a change leaves at its own node
 abbrev pub record_left : State → Change → Option Record
-record_left s (Create dir name kind size time) = Some (record { dir = dir; name = name; kind = kind; size = size; time = time })
+record_left s (Create dir name kind size time) = Some (record { dir = dir; name = name; kind = kind; size = size; time = time; attrs = [] })
 record_left s (Remove node) = None
 record_left s (Move node dir name clobber) = option_map (at_place dir name) (record_at s node)
 record_left s (Write node size time) = option_map (written size time) (record_at s node)
+record_left s (SetAttr node attr value) = option_map (setting attr value) (record_at s node)
+record_left s (RemoveAttr node attr) = option_map (unsetting attr) (record_at s node)

@@ -2,7 +2,8 @@
 use Rattle.std.specs.Prelude.{ℕ, List, [], ◌∷◌, Bool, ◌==◌, is_none}
 use Rattle.lq_value.specs.declared.refusal.Refusal.{Refusal}
 use Rattle.lq_value.specs.declared.refusal.Refusal.TheVariants.{NoNode, NotFolder, NoEntry}
-use Rattle.lq_volume.specs.State.{State, root, kind_at, node_in}
+use Rattle.lq_volume.specs.declared.entry_ref.Listing.{Listing}
+use Rattle.lq_volume.specs.State.{State, Record, root, kind_at, node_in}
 use Rattle.lq_volume.specs.Change.{is_file_at}
 
 -- of the node at a place
@@ -19,3 +20,7 @@ entry_refusals s node =
     (is_none (kind_at s node), NoNode)
     ∷ (node == root, NoEntry)
     ∷ []
+
+-- the record that a listing shows
+abbrev pub listed : Listing → Record
+listed l = record { dir = l.dir; name = l.name; kind = l.kind; size = l.size; time = l.time; attrs = l.attrs.items }

@@ -1,10 +1,11 @@
 //! Why each change is refused: the first test of its table that holds.
 ghost use Rattle.std.specs.Prelude.{◌≡◌, Some, None, IfErr, OnOk};
 ghost use Rattle.lq_value.specs.Refusal.{first_refusal};
-ghost use Rattle.lq_volume.specs.Change.{create_refusals, remove_refusals, move_refusals, write_refusals};
+ghost use Rattle.lq_volume.specs.Change.{create_refusals, remove_refusals, move_refusals, write_refusals, set_refusals, unset_refusals};
+ghost use Rattle.lq_volume.specs.Attributes.{is_reserved};
 
 use crate::volume::{ROOT, Volume};
-use lq_value::{Kind, Name, Refusal};
+use lq_value::{AttrName, Kind, Name, Refusal};
 
 /// The most bytes of a file: it shows as an `i64`.
 const MAX_SIZE: u64 = 9_223_372_036_854_775_807;
@@ -120,4 +121,45 @@ pub fn check_write(volume: &Volume, node: u64, size: u64) -> Result<(), Refusal>
         return Err(Refusal::Exhausted);
     }
     Ok(())
+}
+
+pub fn check_set_attr(volume: &Volume, node: u64, attr: &AttrName) -> Result<(), Refusal>
+    ensures ok { OnOk result (first_refusal (set_refusals volume.now node attr.now) ≡ None) }
+    ensures err { IfErr result (λ e. first_refusal (set_refusals volume.now node attr.now) ≡ Some e) }
+{
+    if volume.kind(node).is_none() {
+        return Err(Refusal::NoNode);
+    }
+    if node == ROOT || is_reserved(attr) {
+        return Err(Refusal::Reserved);
+    }
+    if volume.is_full() {
+        return Err(Refusal::Exhausted);
+    }
+    Ok(())
+}
+
+pub fn check_remove_attr(volume: &Volume, node: u64, attr: &AttrName) -> Result<(), Refusal>
+    ensures ok { OnOk result (first_refusal (unset_refusals volume.now node attr.now) ≡ None) }
+    ensures err { IfErr result (λ e. first_refusal (unset_refusals volume.now node attr.now) ≡ Some e) }
+{
+    if volume.kind(node).is_none() {
+        return Err(Refusal::NoNode);
+    }
+    if node == ROOT || is_reserved(attr) {
+        return Err(Refusal::Reserved);
+    }
+    if !volume.has_attr(node, attr) {
+        return Err(Refusal::NoAttr);
+    }
+    if volume.is_full() {
+        return Err(Refusal::Exhausted);
+    }
+    Ok(())
+}
+
+fn is_reserved(attr: &AttrName) -> bool
+    ensures { result ≡ is_reserved attr.now }
+{
+    attr.as_str() == "name" || attr.as_str() == "size" || attr.as_str() == "last_modified"
 }

@@ -11,10 +11,11 @@ ghost use Rattle.lq_volume.specs.Change.{without, altered, at_place};
 ghost use Rattle.lq_volume.specs.Places.{place_at, IsIndex, IsApart, CanMove};
 
 use crate::places::{has_names, node_at, put, take};
-use crate::records::{add_last, climbs, place, take_out, take_out_if, write};
+use crate::records::{add_last, climbs, place, set_attr, take_out, take_out_if, unset_attr, write};
+use crate::seen::Difference;
 use crate::stored::Stored;
 use lq_predicate::{Predicate, holds};
-use lq_value::{Entry, Name, Refusal};
+use lq_value::{AttrName, Entry, Name, Refusal, Value};
 use std::alloc::Global;
 use std::collections::BTreeMap;
 use std::marker::Model;
@@ -44,7 +45,7 @@ impl Model for Entries {
 
 impl Entries {
     ghost use Rattle.lq_volume.specs.State.{climbs, dir_of, node_in};
-    ghost use Rattle.lq_volume.specs.Change.{without, altered, at_place, written};
+    ghost use Rattle.lq_volume.specs.Change.{without, altered, at_place, written, setting, unsetting};
     ghost use Rattle.lq_volume.specs.Places.{IsApart, CanMove};
     ghost use Rattle.lq_volume.specs.Result.{shown, entry_of};
 
@@ -147,6 +148,26 @@ impl Entries {
         write(&mut self.records, node, size, time);
     }
 
+    /// Sets an attribute of a node. Refused: `NoMemory`, and then nothing changes.
+    pub fn set_attr(&mut self, node: u64, attr: &AttrName, value: &Value) -> Result<(), Refusal>
+        ensures refused { IsRefusedBy result None }
+        ensures ok { OnOk result
+            (self.new ≡ altered node (setting attr.now value.now) self.old) }
+        ensures err { OnErr result (self.new ≡ self.old) }
+    {
+        let attr = attr.copy(self.alloc)?;
+        let value = value.copy(self.alloc)?;
+        set_attr(&mut self.records, node, attr, value)?;
+        Ok(())
+    }
+
+    /// Takes an attribute of a node out.
+    pub fn unset_attr(&mut self, node: u64, attr: &AttrName)
+        ensures { self.new ≡ altered node (unsetting attr.now) self.old }
+    {
+        unset_attr(&mut self.records, node, attr);
+    }
+
     /// The entries that the predicate holds of. Refused: `NoMemory`.
     pub fn fetch(&self, predicate: &Predicate) -> Result<Vec<Entry>, Refusal>
         ensures refused { IsRefusedBy result None }
@@ -155,7 +176,7 @@ impl Entries {
     {
         let mut entries = Vec::new(self.alloc);
         for (node, record) in &self.records {
-            let seen = record.seen();
+            let seen = record.seen(Difference::None);
             if holds(predicate, &seen) {
                 entries.push(seen.entry(self.alloc, *node)?)?;
             }

@@ -1,9 +1,10 @@
 //! One entry of a volume, as a look-up shows it.
-ghost use Rattle.std.specs.Prelude.{◌≡◌, ◌<◌, ◌^◌, None, IfOk};
+ghost use Rattle.std.specs.Prelude.{◌≡◌, None, IfOk, length, slice_get};
+ghost use Rattle.std.specs.Option.{option_map};
 ghost use Rattle.lq_value.specs.Refusal.{IsRefusedBy};
 
 use crate::stored::Stored;
-use lq_value::{Kind, Name, Refusal};
+use lq_value::{AttrName, Kind, Name, Refusal, Value, View};
 use std::alloc::Global;
 use std::marker::Model;
 
@@ -30,10 +31,14 @@ pub struct Listing {
     pub kind: Kind,
     pub size: u64,
     pub time: i64,
+    /// The attributes, in the order in which they were first set.
+    pub attrs: Vec<(AttrName, Value)>,
 }
 
 impl<'a> EntryRef<'a> {
-    ghost use Rattle.lq_volume.specs.State.{Record};
+    ghost use Rattle.lq_value.specs.Value.{shown_by};
+    ghost use Rattle.lq_volume.specs.Attributes.{value_of};
+    ghost use Rattle.lq_volume.specs.Lookup.{listed};
 
     pub(crate) fn new(stored: &'a Stored) -> EntryRef<'a>
         ensures { result ≡ stored.now }
@@ -76,16 +81,37 @@ impl<'a> EntryRef<'a> {
         self.stored.time()
     }
 
+    /// The value of an attribute, if it has one of that name.
+    pub fn attr(&self, attr: &AttrName) -> Option<View<'_>>
+        ensures { option_map shown_by result ≡ value_of self.now.attrs attr.now }
+    {
+        match self.stored.attrs().get(attr) {
+            None => None,
+            Some(value) => Some(value.view()),
+        }
+    }
+
+    /// How many attributes it has.
+    pub fn attr_count(&self) -> usize
+        ensures { result ≡ length self.now.attrs }
+    {
+        self.stored.attrs().len()
+    }
+
+    /// The attribute at a place, counted from 0 in the order in which they were first set.
+    pub fn attr_at(&self, place: usize) -> Option<(&AttrName, View<'_>)>
+        ensures { option_map (λ p. (p.0.now, shown_by p.1)) result ≡ slice_get self.now.attrs place }
+    {
+        match self.stored.attrs().at(place) {
+            None => None,
+            Some((name, value)) => Some((name, value.view())),
+        }
+    }
+
     /// All of it, copied. Refused: `NoMemory`.
     pub(crate) fn listing(&self, alloc: Global) -> Result<Listing, Refusal>
         ensures refused { IsRefusedBy result None }
-        ensures value { IfOk result (λ listing. listing ≡ record {
-          dir = self.now.dir;
-          name = self.now.name;
-          kind = self.now.kind;
-          size = self.now.size;
-          time = self.now.time;
-        }) }
+        ensures value { IfOk result (λ listing. listed listing ≡ self.now) }
     {
         Ok(Listing {
             dir: self.dir(),
@@ -93,6 +119,7 @@ impl<'a> EntryRef<'a> {
             kind: self.kind(),
             size: self.size(),
             time: self.time(),
+            attrs: self.stored.attrs().list(alloc)?,
         })
     }
 }

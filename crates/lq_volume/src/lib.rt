@@ -6,6 +6,7 @@
 //! `change`, then `volume`.
 #![tactic(auto)]
 
+mod attributes;
 mod change;
 mod checks;
 mod entries;

@@ -1,11 +1,12 @@
 //! The records of a volume, by node.
 ghost use Rattle.std.specs.List.{AllByRecursion};
 ghost use Rattle.lq_volume.specs.State.{Rises, climbs, dir_of};
-ghost use Rattle.lq_volume.specs.Change.{without, altered, at_place, written};
-ghost use Rattle.std.specs.Prelude.{◌≡◌, ◌==◌, ◌<◌, ◌^◌, [], ◌∷◌, ◌++◌, length, filter, not, IfErr, OnErr, OnOk};
+ghost use Rattle.lq_volume.specs.Change.{without, altered, at_place, written, setting, unsetting};
+ghost use Rattle.lq_value.specs.Refusal.{IsRefusedBy};
+ghost use Rattle.std.specs.Prelude.{◌≡◌, ◌==◌, ◌<◌, ◌^◌, [], ◌∷◌, ◌++◌, length, filter, not, None, IfErr, OnErr, OnOk};
 
 use crate::stored::Stored;
-use lq_value::Name;
+use lq_value::{AttrName, Name, Refusal, Value};
 use std::collections::BTreeMap;
 
 /// Whether a walk up by the folders comes from one node to another.
@@ -67,6 +68,34 @@ pub fn place(records: &mut BTreeMap<u64, Stored>, node: u64, dir: u64, name: Nam
 {
     if let Some(record) = records.get_mut(&node) {
         record.relocate(dir, name);
+    }
+}
+
+/// Sets an attribute of a node. Refused: `NoMemory`, and then nothing changes.
+pub fn set_attr(
+    records: &mut BTreeMap<u64, Stored>,
+    node: u64,
+    attr: AttrName,
+    value: Value,
+) -> Result<(), Refusal>
+    requires { Rises records.old.entries }
+    ensures refused { IsRefusedBy result None }
+    ensures ok { OnOk result (records.new.entries ≡ altered node (setting attr value) records.old.entries) }
+    ensures err { OnErr result (records.new.entries ≡ records.old.entries) }
+{
+    if let Some(record) = records.get_mut(&node) {
+        record.set_attr(attr, value)?;
+    }
+    Ok(())
+}
+
+/// Takes an attribute of a node out.
+pub fn unset_attr(records: &mut BTreeMap<u64, Stored>, node: u64, attr: &AttrName)
+    requires { Rises records.old.entries }
+    ensures { records.new.entries ≡ altered node (unsetting attr.now) records.old.entries }
+{
+    if let Some(record) = records.get_mut(&node) {
+        record.unset_attr(attr);
     }
 }
 

@@ -1,10 +1,11 @@
 //! An entry, as a volume keeps it.
-ghost use Rattle.std.specs.Prelude.{◌≡◌, ◌==◌, ◌&&◌, ◌<◌, ◌^◌, None, IfOk};
+ghost use Rattle.std.specs.Prelude.{◌≡◌, ◌==◌, ◌&&◌, ◌<◌, ◌^◌, [], None, IfOk, OnOk, OnErr};
 ghost use Rattle.std.specs.Str.{bytes_eq};
 ghost use Rattle.lq_value.specs.Refusal.{IsRefusedBy};
 
-use crate::seen::Seen;
-use lq_value::{Kind, Name, Refusal};
+use crate::attributes::Attributes;
+use crate::seen::{Difference, Seen};
+use lq_value::{AttrName, Kind, Name, Refusal, Value};
 use std::alloc::Global;
 use std::marker::Model;
 
@@ -16,6 +17,7 @@ pub struct Stored {
     kind: Kind,
     size: u64,
     time: i64,
+    attrs: Attributes,
 }
 
 impl Model for Stored {
@@ -24,18 +26,20 @@ impl Model for Stored {
 
     ghost Value = { Record };
 
-    ghost view = { λ r. record { dir = r.dir; name = r.name; kind = r.kind; size = r.size; time = r.time } };
+    ghost view = { λ r. record { dir = r.dir; name = r.name; kind = r.kind; size = r.size; time = r.time; attrs = r.attrs } };
 
     ghost invariant = { λ r. r.size < 2 ^ 63 };
 }
 
 impl Stored {
     ghost use Rattle.lq_volume.specs.State.{Record};
-    ghost use Rattle.lq_volume.specs.Change.{at_place, written};
+    ghost use Rattle.lq_volume.specs.Change.{at_place, written, setting, unsetting, with_attrs};
+    ghost use Rattle.lq_volume.specs.Seen.{attrs_after};
 
-    pub fn new(dir: u64, name: Name, kind: Kind, size: u64, time: i64) -> Stored
+    /// A record without attributes.
+    pub fn new(alloc: Global, dir: u64, name: Name, kind: Kind, size: u64, time: i64) -> Stored
         requires { size < 2 ^ 63 }
-        ensures { result ≡ record { dir = dir; name = name; kind = kind; size = size; time = time } }
+        ensures { result ≡ record { dir = dir; name = name; kind = kind; size = size; time = time; attrs = [] } }
     {
         Stored {
             dir,
@@ -43,6 +47,7 @@ impl Stored {
             kind,
             size,
             time,
+            attrs: Attributes::new(alloc),
         }
     }
 
@@ -77,10 +82,10 @@ impl Stored {
         self.time
     }
 
-    pub fn is_in(&self, dir: u64) -> bool
-        ensures { result ≡ (self.now.dir == dir) }
+    pub fn attrs(&self) -> &Attributes
+        ensures { result.now ≡ self.now.attrs }
     {
-        self.dir == dir
+        &self.attrs
     }
 
     pub fn is_at(&self, dir: u64, name: &Name) -> bool
@@ -106,18 +111,47 @@ impl Stored {
         self.time = time;
     }
 
-    /// What a predicate sees of it.
-    pub fn seen(&self) -> Seen<'_>
-        ensures { result ≡ self.now }
+    /// Sets an attribute. Refused: `NoMemory`, and then nothing changes.
+    pub fn set_attr(&mut self, attr: AttrName, value: Value) -> Result<(), Refusal>
+        ensures refused { IsRefusedBy result None }
+        ensures ok { OnOk result (self.new ≡ setting attr value self.old) }
+        ensures err { OnErr result (self.new ≡ self.old) }
     {
-        Seen::new(self.dir, &self.name, self.kind, self.size, self.time)
+        self.attrs.set(attr, value)?;
+        Ok(())
+    }
+
+    /// Takes an attribute out.
+    pub fn unset_attr(&mut self, attr: &AttrName)
+        ensures { self.new ≡ unsetting attr.now self.old }
+    {
+        self.attrs.unset(attr);
+    }
+
+    /// What a predicate sees of it, but for a difference.
+    pub fn seen<'a>(&'a self, difference: Difference<'a>) -> Seen<'a>
+        ensures { result ≡ with_attrs (attrs_after difference.entry self.now.attrs) self.now }
+    {
+        Seen {
+            dir: self.dir,
+            name: &self.name,
+            kind: self.kind,
+            size: self.size,
+            time: self.time,
+            attrs: Some(&self.attrs),
+            difference,
+        }
     }
 
     /// What a predicate would see of it at another place.
     pub fn seen_at<'a>(&'a self, dir: u64, name: &'a Name) -> Seen<'a>
         ensures { result ≡ at_place dir name.now self.now }
     {
-        Seen::new(dir, name, self.kind, self.size, self.time)
+        Seen {
+            dir,
+            name,
+            ..self.seen(Difference::None)
+        }
     }
 
     /// What a predicate would see of it with another size and time.
@@ -125,7 +159,11 @@ impl Stored {
         requires { size < 2 ^ 63 }
         ensures { result ≡ written size time self.now }
     {
-        Seen::new(self.dir, &self.name, self.kind, size, time)
+        Seen {
+            size,
+            time,
+            ..self.seen(Difference::None)
+        }
     }
 
     /// Another that is the same.
@@ -139,6 +177,7 @@ impl Stored {
             kind: self.kind,
             size: self.size,
             time: self.time,
+            attrs: self.attrs.copy(alloc)?,
         })
     }
 }

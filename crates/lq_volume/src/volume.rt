@@ -4,13 +4,15 @@ ghost use Rattle.lq_volume.specs.Result.{entry_if};
 ghost use Rattle.std.specs.Prelude.{◌≡◌, ◌≤◌, ◌+◌, Some, None, IfOk, IfErr, OnErr, OnOk, nat_le, is_some};
 
 use crate::change::{Applied, Change};
-use crate::checks::{check_create, check_move, check_remove, check_write};
+use crate::checks::{
+    check_create, check_move, check_remove, check_remove_attr, check_set_attr, check_write,
+};
 use crate::entries::Entries;
 use crate::entry_ref::{EntryRef, Listing};
-use crate::seen::Seen;
+use crate::seen::{Difference, Seen};
 use crate::stored::Stored;
 use lq_predicate::{Predicate, holds};
-use lq_value::{Entry, Kind, Name, Refusal};
+use lq_value::{AttrName, Entry, Kind, Name, Refusal};
 use std::alloc::Global;
 use std::marker::Model;
 
@@ -43,8 +45,8 @@ impl Model for Volume {
 impl Volume {
     ghost use Rattle.lq_value.specs.Refusal.{IsRefusedBy, first_refusal};
     ghost use Rattle.lq_volume.specs.State.{empty_state, record_at, kind_at, is_folder_at, has_entries, is_taken, node_in, reaches, IsVolume};
-    ghost use Rattle.lq_volume.specs.Change.{refused, after, node_of, clobbered, other_at, is_full, record_left, IsLawful};
-    ghost use Rattle.lq_volume.specs.Lookup.{find_refusals, entry_refusals};
+    ghost use Rattle.lq_volume.specs.Change.{refused, after, node_of, clobbered, other_at, attr_of, is_full, record_left, IsLawful};
+    ghost use Rattle.lq_volume.specs.Lookup.{find_refusals, entry_refusals, listed};
     ghost use Rattle.lq_volume.specs.Result.{result_of, match_at, left_by};
 
     /// The root alone, which takes at most `limit` changes, 1 to 1,000,000,000,000.
@@ -121,13 +123,7 @@ impl Volume {
     /// Refused, the first that fits: `NoNode` where there is no such node, `NoEntry` for the
     /// root, `NoMemory`.
     pub fn listing(&self, node: u64) -> Result<Listing, Refusal>
-        ensures value { IfOk result (λ listing. record_at self.now node ≡ Some (record {
-          dir = listing.dir;
-          name = listing.name;
-          kind = listing.kind;
-          size = listing.size;
-          time = listing.time;
-        })) }
+        ensures value { IfOk result (λ listing. record_at self.now node ≡ Some (listed listing)) }
         ensures refused { IsRefusedBy result (first_refusal (entry_refusals self.now node)) }
     {
         let entry = self.entry(node)?;
@@ -164,6 +160,8 @@ impl Volume {
                 clobber,
             } => check_move(self, *node, *dir, name, *clobber)?,
             Change::Write { node, size, .. } => check_write(self, *node, *size)?,
+            Change::SetAttr { node, attr, .. } => check_set_attr(self, *node, attr)?,
+            Change::RemoveAttr { node, attr } => check_remove_attr(self, *node, attr)?,
         }
         Ok(Applied {
             change: self.changes + 1,
@@ -190,7 +188,14 @@ impl Volume {
                 size,
                 time,
             } => {
-                let record = Stored::new(*dir, name.copy(self.alloc)?, *kind, *size, *time);
+                let record = Stored::new(
+                    self.alloc,
+                    *dir,
+                    name.copy(self.alloc)?,
+                    *kind,
+                    *size,
+                    *time,
+                );
                 self.entries.add(self.next, record)?;
                 self.next += 1;
                 self.changes += 1;
@@ -214,6 +219,16 @@ impl Volume {
             }
             Change::Write { node, size, time } => {
                 self.entries.write(*node, *size, *time);
+                self.changes += 1;
+                Ok(applied)
+            }
+            Change::SetAttr { node, attr, value } => {
+                self.entries.set_attr(*node, attr, value)?;
+                self.changes += 1;
+                Ok(applied)
+            }
+            Change::RemoveAttr { node, attr } => {
+                self.entries.unset_attr(*node, attr);
                 self.changes += 1;
                 Ok(applied)
             }
@@ -250,8 +265,11 @@ impl Volume {
     {
         match change {
             Change::Create { .. } => self.next,
-            Change::Remove { node } | Change::Move { node, .. } | Change::Write { node, .. } =>
-                *node,
+            Change::Remove { node }
+            | Change::Move { node, .. }
+            | Change::Write { node, .. }
+            | Change::SetAttr { node, .. }
+            | Change::RemoveAttr { node, .. } => *node,
         }
     }
 
@@ -268,7 +286,11 @@ impl Volume {
                 name,
                 ..
             } => self.other_at(*node, *dir, name),
-            Change::Create { .. } | Change::Remove { .. } | Change::Write { .. } => None,
+            Change::Create { .. }
+            | Change::Remove { .. }
+            | Change::Write { .. }
+            | Change::SetAttr { .. }
+            | Change::RemoveAttr { .. } => None,
         }
     }
 
@@ -278,7 +300,7 @@ impl Volume {
     {
         match self.entries.get(node) {
             None => false,
-            Some(record) => holds(predicate, &record.seen()),
+            Some(record) => holds(predicate, &record.seen(Difference::None)),
         }
     }
 
@@ -291,7 +313,7 @@ impl Volume {
     {
         match self.entries.get(node) {
             None => Ok(None),
-            Some(record) => entry_if(self.alloc, predicate, &record.seen(), node),
+            Some(record) => entry_if(self.alloc, predicate, &record.seen(Difference::None), node),
         }
     }
 
@@ -342,7 +364,15 @@ impl Volume {
                 kind,
                 size,
                 time,
-            } => Some(Seen::new(*dir, name, *kind, *size, *time)),
+            } => Some(Seen {
+                dir: *dir,
+                name,
+                kind: *kind,
+                size: *size,
+                time: *time,
+                attrs: None,
+                difference: Difference::None,
+            }),
             Change::Remove { .. } => None,
             Change::Move {
                 node,
@@ -356,6 +386,14 @@ impl Volume {
             Change::Write { node, size, time } => match self.entries.get(*node) {
                 None => None,
                 Some(record) => Some(record.seen_with(*size, *time)),
+            },
+            Change::SetAttr { node, attr, value } => match self.entries.get(*node) {
+                None => None,
+                Some(record) => Some(record.seen(Difference::Set { attr, value })),
+            },
+            Change::RemoveAttr { node, attr } => match self.entries.get(*node) {
+                None => None,
+                Some(record) => Some(record.seen(Difference::Unset { attr })),
             },
         }
     }
@@ -407,6 +445,15 @@ impl Volume {
         ensures { result ≡ reaches self.now from to }
     {
         self.entries.reaches(from, to)
+    }
+
+    pub(crate) fn has_attr(&self, node: u64, attr: &AttrName) -> bool
+        ensures { result ≡ is_some (attr_of self.now node attr.now) }
+    {
+        match self.entries.get(node) {
+            None => false,
+            Some(record) => record.attrs().get(attr).is_some(),
+        }
     }
 
     pub(crate) fn is_full(&self) -> bool
