@@ -12,6 +12,7 @@ mod checks;
 mod entries;
 mod entry_ref;
 mod laws;
+mod matching;
 mod places;
 mod records;
 mod seen;

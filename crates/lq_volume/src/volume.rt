@@ -1,6 +1,5 @@
 //! The volume.
-ghost use Rattle.lq_value.specs.Refusal.{IsRefusedBy};
-ghost use Rattle.lq_volume.specs.Result.{entry_if};
+ghost use Rattle.std.specs.Option.{option_copied};
 ghost use Rattle.std.specs.Prelude.{◌≡◌, ◌≤◌, ◌+◌, Some, None, IfOk, IfErr, OnErr, OnOk, nat_le, is_some};
 
 use crate::change::{Applied, Change};
@@ -9,9 +8,8 @@ use crate::checks::{
 };
 use crate::entries::Entries;
 use crate::entry_ref::{EntryRef, Listing};
-use crate::seen::{Difference, Seen};
 use crate::stored::Stored;
-use lq_predicate::{Predicate, holds};
+use lq_predicate::Predicate;
 use lq_value::{AttrName, Entry, Kind, Name, Refusal};
 use std::alloc::Global;
 use std::marker::Model;
@@ -45,9 +43,9 @@ impl Model for Volume {
 impl Volume {
     ghost use Rattle.lq_value.specs.Refusal.{IsRefusedBy, first_refusal};
     ghost use Rattle.lq_volume.specs.State.{empty_state, record_at, kind_at, is_folder_at, has_entries, is_taken, node_in, reaches, IsVolume};
-    ghost use Rattle.lq_volume.specs.Change.{refused, after, node_of, clobbered, other_at, attr_of, is_full, record_left, IsLawful};
+    ghost use Rattle.lq_volume.specs.Change.{refused, after, node_of, clobbered, other_at, attr_of, is_full};
     ghost use Rattle.lq_volume.specs.Lookup.{find_refusals, entry_refusals, listed};
-    ghost use Rattle.lq_volume.specs.Result.{result_of, match_at, left_by};
+    ghost use Rattle.lq_volume.specs.Result.{result_of};
 
     /// The root alone, which takes at most `limit` changes, 1 to 1,000,000,000,000.
     ///
@@ -294,108 +292,15 @@ impl Volume {
         }
     }
 
-    /// Whether a query's result has an entry of this node. It takes no memory.
-    pub fn matches(&self, predicate: &Predicate, node: u64) -> bool
-        ensures { result ≡ is_some (match_at predicate.now self.now node) }
-    {
-        match self.entries.get(node) {
-            None => false,
-            Some(record) => holds(predicate, &record.seen(Difference::None)),
-        }
+    pub(crate) fn alloc(&self) -> Global {
+        self.alloc
     }
 
-    /// The entry of a query's result that has this node, if there is one.
-    ///
-    /// Refused: `NoMemory`. It changes nothing.
-    pub fn matching(&self, predicate: &Predicate, node: u64) -> Result<Option<Entry>, Refusal>
-        ensures refused { IsRefusedBy result None }
-        ensures value { IfOk result (λ found. found ≡ match_at predicate.now self.now node) }
+    /// The record of a node.
+    pub(crate) fn record(&self, node: u64) -> Option<&Stored>
+        ensures { option_copied result ≡ record_at self.now node }
     {
-        match self.entries.get(node) {
-            None => Ok(None),
-            Some(record) => entry_if(self.alloc, predicate, &record.seen(Difference::None), node),
-        }
-    }
-
-    /// Whether the result after an accepted change has an entry of the change's own node.
-    ///
-    /// It takes no memory and makes no change.
-    pub fn matches_after(&self, predicate: &Predicate, change: &Change) -> bool
-        requires { IsLawful self.now change.now }
-        ensures { result
-            ≡ is_some (match_at predicate.now (after self.now change.now) (node_of self.now change.now)) }
-    {
-        match self.left(change) {
-            None => false,
-            Some(seen) => holds(predicate, &seen),
-        }
-    }
-
-    /// The entry of the result after an accepted change that has the change's own node.
-    ///
-    /// Refused: `NoMemory`. It makes no change.
-    pub fn matching_after(
-        &self,
-        predicate: &Predicate,
-        change: &Change,
-    ) -> Result<Option<Entry>, Refusal>
-        requires { IsLawful self.now change.now }
-        ensures refused { IsRefusedBy result None }
-        ensures value { IfOk result (λ found. found ≡
-            match_at predicate.now (after self.now change.now) (node_of self.now change.now)) }
-    {
-        match self.left(change) {
-            None => Ok(None),
-            Some(seen) => entry_if(self.alloc, predicate, &seen, self.node_of(change)),
-        }
-    }
-
-    // What an accepted change leaves at its own node.
-    fn left<'a>(&'a self, change: &'a Change) -> Option<Seen<'a>>
-        requires { IsLawful self.now change.now }
-        ensures value { result ≡ record_left self.now change.now }
-        ensures volume { IsVolume self.now }
-    {
-        let _ = &self.limit;
-        match change {
-            Change::Create {
-                dir,
-                name,
-                kind,
-                size,
-                time,
-            } => Some(Seen {
-                dir: *dir,
-                name,
-                kind: *kind,
-                size: *size,
-                time: *time,
-                attrs: None,
-                difference: Difference::None,
-            }),
-            Change::Remove { .. } => None,
-            Change::Move {
-                node,
-                dir,
-                name,
-                ..
-            } => match self.entries.get(*node) {
-                None => None,
-                Some(record) => Some(record.seen_at(*dir, name)),
-            },
-            Change::Write { node, size, time } => match self.entries.get(*node) {
-                None => None,
-                Some(record) => Some(record.seen_with(*size, *time)),
-            },
-            Change::SetAttr { node, attr, value } => match self.entries.get(*node) {
-                None => None,
-                Some(record) => Some(record.seen(Difference::Set { attr, value })),
-            },
-            Change::RemoveAttr { node, attr } => match self.entries.get(*node) {
-                None => None,
-                Some(record) => Some(record.seen(Difference::Unset { attr })),
-            },
-        }
+        self.entries.get(node)
     }
 
     pub(crate) fn kind(&self, node: u64) -> Option<Kind>
@@ -460,22 +365,5 @@ impl Volume {
         ensures { result ≡ is_full self.now }
     {
         self.limit <= self.changes
-    }
-}
-
-// The entry of a record, where the predicate holds of it.
-fn entry_if(
-    alloc: Global,
-    predicate: &Predicate,
-    seen: &Seen<'_>,
-    node: u64,
-) -> Result<Option<Entry>, Refusal>
-    ensures refused { IsRefusedBy result None }
-    ensures value { IfOk result (λ found. found ≡ entry_if predicate.now (node, seen.now)) }
-{
-    if holds(predicate, seen) {
-        Ok(Some(seen.entry(alloc, node)?))
-    } else {
-        Ok(None)
     }
 }
