@@ -34,7 +34,12 @@ impl Volume {
     {
         match self.record(node) {
             None => Ok(None),
-            Some(record) => entry_if(self.alloc(), predicate, &record.seen(Difference::None), node),
+            Some(record) => entry_if(
+                self.alloc(),
+                predicate,
+                &record.seen(Difference::None),
+                node,
+            ),
         }
     }
 
