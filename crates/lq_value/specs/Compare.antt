@@ -1,5 +1,5 @@
 -- What an attribute holds, and when a comparison of it with a literal is true.
-use Rattle.std.specs.Prelude.{ℕ, ℤ, List, Bool, true, false, not, Option, Some, None}
+use Rattle.std.specs.Prelude.{ℕ, ℤ, pos, List, Bool, true, false, not, Option, Some, None}
 use Rattle.std.specs.Cmp.Lexicographic.{slice_cmp}
 use Rattle.std.specs.Ordering.{nat_cmp, int_cmp, is_lt, is_le, is_gt, is_ge, is_eq}
 use Rattle.std.specs.Str.{chars}
@@ -21,7 +21,10 @@ pub data Held : Type 0 where
 -- what a view holds
 abbrev pub held_of : View → Held
 held_of (view.Text text) = Words text.now
+held_of (view.Int32 value) = Number value
 held_of (view.Int64 value) = Number value
+held_of (view.UInt32 value) = Number (pos value)
+held_of (view.UInt64 value) = Number (pos value)
 
 -- whether an operator accepts the order of the two sides
 abbrev pub accepts : Op → Ordering → Bool

@@ -1,5 +1,13 @@
 pub mod Refusal
 pub mod Name
+pub mod Value
 pub mod Number
+pub mod Element
 pub mod Pattern
+pub mod Matching
 pub mod Compare
+pub mod Sign
+pub mod Source
+pub mod Written
+pub mod Laws
+pub mod Reading

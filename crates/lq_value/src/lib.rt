@@ -7,25 +7,38 @@
 
 mod attr_name;
 mod digits;
+mod element;
 mod entry;
+mod first;
 mod kind;
+mod laws;
 mod literal;
+mod matching;
 mod name;
 mod op;
 mod pattern;
 mod refusal;
+mod set;
+mod sign;
+mod source;
 #[cfg(test)]
 mod tests;
 mod text;
+mod value;
+mod value_text;
 mod view;
 
 pub use attr_name::AttrName;
+pub use element::{Element, Item, Items};
 pub use entry::Entry;
 pub use kind::Kind;
+pub use laws::{faults_are_found, sources_are_read};
 pub use literal::{Literal, compare};
 pub use name::Name;
 pub use op::Op;
-pub use pattern::{Element, Pattern};
+pub use pattern::Pattern;
 pub use refusal::Refusal;
 pub use text::Text;
+pub use value::Value;
+pub use value_text::ValueText;
 pub use view::View;

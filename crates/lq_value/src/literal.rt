@@ -1,7 +1,7 @@
 //! What an attribute is compared with, and the comparison.
 ghost use Rattle.std.specs.Prelude.{◌≡◌, None, IfOk, IsTrue};
 ghost use Rattle.lq_value.specs.Refusal.{IsRefusedBy};
-ghost use Rattle.lq_value.specs.Compare.{compares, compares_text, held_of, literal_number, suits};
+ghost use Rattle.lq_value.specs.Compare.{compares, compares_number, compares_text, held_of, literal_number, suits};
 
 use crate::op::Op;
 use crate::pattern::Pattern;
@@ -63,10 +63,19 @@ pub fn compare(view: View<'_>, op: Op, literal: &Literal) -> bool
 {
     match view {
         View::Text(text) => compare_text(text, op, literal),
-        View::Int64(value) => match literal.number() {
-            None => false,
-            Some(number) => op.accepts((value as i128).cmp(&number)),
-        },
+        View::Int32(value) => compare_number(value as i128, op, literal),
+        View::Int64(value) => compare_number(value as i128, op, literal),
+        View::UInt32(value) => compare_number(value as i128, op, literal),
+        View::UInt64(value) => compare_number(value as i128, op, literal),
+    }
+}
+
+fn compare_number(value: i128, op: Op, literal: &Literal) -> bool
+    ensures { result ≡ compares_number value op (literal_number literal.now) }
+{
+    match literal.number() {
+        None => false,
+        Some(number) => op.accepts(value.cmp(&number)),
     }
 }
 

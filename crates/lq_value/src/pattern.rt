@@ -1,40 +1,49 @@
 //! Patterns, and the texts that they fit.
-ghost use Rattle.std.specs.Prelude.{◌≡◌, ◌↔◌, None, IfOk, IsTrue};
+ghost use Rattle.std.specs.Prelude.{◌≡◌, ◌↔◌, ℕ, None, Ok, IfOk, IfErr, IsTrue, MatchOption};
 ghost use Rattle.std.specs.Str.{chars};
+ghost use Rattle.std.specs.String.{string_bytes};
 ghost use Rattle.lq_value.specs.Refusal.{IsRefusedBy};
-ghost use Rattle.lq_value.specs.Pattern.{Fits, fits, plain_elements, pattern_number};
+ghost use Rattle.lq_value.specs.Pattern.{Fits, fits, plain_chars, plain_elements, pattern_number};
+ghost use Rattle.lq_value.specs.Sign.{signs_of};
+ghost use Rattle.lq_value.specs.Source.{pattern_of, source_refusal};
+ghost use Rattle.lq_value.specs.Written.{HasFaultAt, Writes};
+ghost use Rattle.lq_value.specs.declared.refusal.Refusal.TheVariants.{BadQuery};
 
 use crate::digits::number_of_bytes;
+use crate::element::Element;
+use crate::matching::{Left, fits_text};
 use crate::refusal::Refusal;
+use crate::source::read_elements;
 use std::alloc::Global;
 use std::marker::Model;
-
-/// One element of a pattern, and what part of a text it fits.
-#[derive(Clone, Copy, Debug, PartialEq, Eq)]
-pub enum Element {
-    /// The character itself.
-    Plain(char),
-}
 
 /// A pattern: a list of elements, read from the left, that a whole text fits or doesn't.
 ///
 /// A contract sees it as its list of elements. The patterns are this project's own.
 #[derive(Debug, Drop)]
 pub struct Pattern {
-    /// The text of the plain elements.
-    plain: String,
+    form: Form,
+}
+
+// How the elements are kept.
+#[derive(Debug, Drop)]
+pub(crate) enum Form {
+    // The text of plain elements, which compares and writes a number by its bytes.
+    PlainText(String),
+    // Elements that are not all plain.
+    Elements(Vec<Element>),
 }
 
 impl Model for Pattern {
     ghost use Rattle.std.specs.Prelude.{List};
-    ghost use Rattle.std.specs.Str.{chars};
-    ghost use Rattle.std.specs.String.{string_bytes};
-    ghost use Rattle.lq_value.specs.declared.pattern.Element.{Element};
-    ghost use Rattle.lq_value.specs.Pattern.{plain_elements};
+    ghost use Rattle.lq_value.specs.declared.element.Element.{Element};
+    ghost use Rattle.lq_value.specs.Pattern.{elements_of, IsTextIfPlain};
 
     ghost Value = { List Element };
 
-    ghost view = { λ pattern. plain_elements (chars (string_bytes pattern.plain)) };
+    ghost view = { λ pattern. elements_of pattern.form };
+
+    ghost invariant = { λ pattern. IsTextIfPlain pattern.form };
 }
 
 impl Pattern {
@@ -44,16 +53,57 @@ impl Pattern {
         ensures value { IfOk result (λ pattern. pattern ≡ plain_elements (chars text.now)) }
     {
         Ok(Pattern {
-            plain: String::from_str(alloc, text)?,
+            form: Form::PlainText(String::from_str(alloc, text)?),
         })
     }
 
+    /// The pattern that a source text writes.
+    ///
+    /// `*` is a star, `?` any character, `[..]` a set and `[^..]` a negated one; `\` before a
+    /// character makes it plain. Refused, the first that fits: `BadQuery` with the byte place of
+    /// the leftmost fault (the `[` of a set that is empty, has no end, or has a range that falls; a
+    /// `\` that ends the source), `NoMemory`.
+    pub fn read(alloc: Global, source: &str) -> Result<Pattern, Refusal>
+        ensures value { IfOk result (λ pattern. pattern_of source.now ≡ Ok pattern) }
+        ensures written { IfOk result (λ pattern. Writes (signs_of source.now) pattern) }
+
+        // The leftmost fault, and where it is.
+        ensures refused { IsRefusedBy result (source_refusal source.now) }
+        ensures fault { IfErr result (λ e. (place : ℕ) → e ≡ BadQuery place → HasFaultAt source.now place) }
+    {
+        let elements = read_elements(alloc, source)?;
+        Pattern::of(alloc, elements)
+    }
+
+    // The pattern with these elements.
+    fn of(alloc: Global, elements: Vec<Element>) -> Result<Pattern, Refusal>
+        ensures refused { IsRefusedBy result None }
+        ensures value { IfOk result (λ pattern. pattern ≡ elements.items) }
+    {
+        match plain_text(alloc, elements.as_slice())? {
+            Some(text) => Ok(Pattern {
+                form: Form::PlainText(text),
+            }),
+            None => Ok(Pattern {
+                form: Form::Elements(elements),
+            }),
+        }
+    }
+
     /// Whether the pattern fits the whole text. It takes no memory.
+    ///
+    /// It takes at most about as many steps as the pattern's length times the text's.
     pub fn matches(&self, text: &str) -> bool
         ensures fits { result ≡ fits self.now (chars text.now) }
         ensures split { IsTrue result ↔ Fits self.now (chars text.now) }
     {
-        self.plain.as_str() == text
+        match &self.form {
+            Form::PlainText(plain) => fits_plain(plain.as_str(), text),
+            Form::Elements(elements) => fits_text(Left {
+                elements: elements.as_slice(),
+                text,
+            }),
+        }
     }
 
     /// The whole number that the pattern writes, if all its elements are plain and their text is
@@ -61,7 +111,10 @@ impl Pattern {
     pub fn number(&self) -> Option<i128>
         ensures { result ≡ pattern_number self.now }
     {
-        number_of_bytes(self.plain.as_str().as_bytes())
+        match &self.form {
+            Form::PlainText(plain) => plain_number(plain.as_str()),
+            Form::Elements(_) => None,
+        }
     }
 
     /// Another pattern with the same elements. Refused: `NoMemory`.
@@ -69,6 +122,50 @@ impl Pattern {
         ensures refused { IsRefusedBy result None }
         ensures value { IfOk result (λ pattern. pattern ≡ self.now) }
     {
-        Pattern::plain(alloc, self.plain.as_str())
+        match &self.form {
+            Form::PlainText(plain) => Pattern::plain(alloc, plain.as_str()),
+            Form::Elements(elements) => Ok(Pattern {
+                form: Form::Elements(copy_elements(alloc, elements.as_slice())?),
+            }),
+        }
     }
+}
+
+// The text of the elements, if all are plain.
+fn plain_text(alloc: Global, elements: &[Element]) -> Result<Option<String>, Refusal>
+    ensures refused { IsRefusedBy result None }
+    ensures value { IfOk result (λ text. MatchOption text (plain_chars elements.now ≡ None)
+        (λ plain. plain_elements (chars (string_bytes plain)) ≡ elements.now)) }
+{
+    let mut text = String::new(alloc);
+    for element in elements {
+        let Element::Plain(c) = element else {
+            return Ok(None);
+        };
+        text.push(*c)?;
+    }
+    Ok(Some(text))
+}
+
+fn fits_plain(plain: &str, text: &str) -> bool
+    ensures { result ≡ fits (plain_elements (chars plain.now)) (chars text.now) }
+{
+    plain == text
+}
+
+fn plain_number(plain: &str) -> Option<i128>
+    ensures { result ≡ pattern_number (plain_elements (chars plain.now)) }
+{
+    number_of_bytes(plain.as_bytes())
+}
+
+fn copy_elements(alloc: Global, elements: &[Element]) -> Result<Vec<Element>, Refusal>
+    ensures refused { IsRefusedBy result None }
+    ensures value { IfOk result (λ copies. copies.items ≡ elements.now) }
+{
+    let mut copies = Vec::new(alloc);
+    for element in elements {
+        copies.push(element.copy(alloc)?)?;
+    }
+    Ok(copies)
 }

@@ -1,8 +1,13 @@
 //! What an attribute holds, as it is shown.
 
-/// What an attribute holds, borrowed: a text, or a whole number.
+/// What an attribute holds, borrowed: a text, or a whole number of one of four types.
+///
+/// The types are among the attribute types of Be's `TypeConstants.h`.
 #[derive(Clone, Copy, Debug)]
 pub enum View<'a> {
     Text(&'a str),
+    Int32(i32),
     Int64(i64),
+    UInt32(u32),
+    UInt64(u64),
 }

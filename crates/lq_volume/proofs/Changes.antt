@@ -1,15 +1,15 @@
 -- An accepted change keeps the numbers and nodes of a volume.
-use Rattle.std.proofs.Common.{◌≡◌, ℕ, ◌+◌, ◌^◌, List, [], ◌∷◌, arith, Bool, true, false, None, Option, ◌++◌, ◌<◌, ℤ, filter, map}
+use Rattle.std.proofs.Common.{◌≡◌, ℕ, ◌+◌, ◌^◌, List, [], ◌∷◌, arith, Bool, false, None, Option, ◌++◌, ◌<◌, ℤ, filter}
 use Rattle.std.specs.List.{AllByRecursion}
 use Rattle.std.proofs.lemmas.Bool.Decides.{nat_tests}
 use Rattle.lq_value.specs.declared.refusal.Refusal.{Refusal}
 use Rattle.lq_value.specs.Refusal.{first_refusal}
 use Rattle.lq_value.specs.declared.kind.Kind.{Kind}
 use Rattle.lq_volume.specs.declared.change.Change.{Change}
-use Rattle.lq_volume.specs.declared.change.Change.TheVariants.{Create, Remove}
+use Rattle.lq_volume.specs.declared.change.Change.TheVariants.{Create, Remove, Move, Write, SetAttr, RemoveAttr}
 use Rattle.lq_volume.specs.State.{State, Record, IsNumbered}
-use Rattle.lq_volume.specs.Change.{refused, refusals, after}
-use Rattle.lq_volume.proofs.Entries.{All-push, All-weaker, All-filter, Rises-push, Rises-filter}
+use Rattle.lq_volume.specs.Change.{refused, refusals, changed, altered, without}
+use Rattle.lq_volume.proofs.RecordLemmas.{All-push, All-weaker, All-filter, Rises-push, Rises-filter, All-without, Rises-without, All-altered, Rises-altered}
 
 -- where nothing refuses, no row's test holds
 pub none_holds : (rows : List (Bool × Refusal)) → first_refusal rows ≡ None → AllByRecursion (λ row. row.0 ≡ false) rows
@@ -23,6 +23,13 @@ accepted_size s dir name kind size time h = let rows = none_holds (refusals s (C
 pub accepted_number : (s : State) (c : Change) → refused s c ≡ None → s.number < s.limit
 accepted_number s (Create dir name kind size time) h = let rows = none_holds (refusals s (Create dir name kind size time)) h in grind (arith, nat_tests)
 accepted_number s (Remove node) h = let rows = none_holds (refusals s (Remove node)) h in grind (arith, nat_tests)
+accepted_number s (Move node dir name clobber) h = let rows = none_holds (refusals s (Move node dir name clobber)) h in grind (arith, nat_tests)
+accepted_number s (Write node size time) h = let rows = none_holds (refusals s (Write node size time)) h in grind (arith, nat_tests)
+accepted_number s (SetAttr node attr value) h = let rows = none_holds (refusals s (SetAttr node attr value)) h in grind (arith, nat_tests)
+accepted_number s (RemoveAttr node attr) h = let rows = none_holds (refusals s (RemoveAttr node attr)) h in grind (arith, nat_tests)
+
+pub written_size : (s : State) (node size : ℕ) (time : ℤ) → refused s (Write node size time) ≡ None → size < 2 ^ 63
+written_size s node size time h = let rows = none_holds (refusals s (Write node size time)) h in grind (arith, nat_tests)
 
 -- one more change, with a record under the next node
 pub IsNumbered-create : (s : State) (v : Record) → IsNumbered s → s.number < s.limit → IsNumbered (record { limit = s.limit; number = s.number + 1; next = s.next + 1; records = s.records ++ (s.next, v) ∷ [] })
@@ -44,4 +51,15 @@ IsNumbered-filter s test n more = record {
   few = omega (arith, n.few);
   rise = Rises-filter test s.records n.rise;
   below = All-filter (λ e. e.0 < s.next) test s.records n.below;
+}
+
+-- one more change, with a record altered, and perhaps one node less
+pub IsNumbered-altered : (s : State) (other : Option ℕ) (node : ℕ) (f : Record → Record) → IsNumbered s → s.number < s.limit → IsNumbered (changed s (altered node f (without other s.records)))
+IsNumbered-altered s other node f n more = record {
+  limit = n.limit;
+  number = omega arith;
+  next = n.next;
+  few = omega (arith, n.few);
+  rise = Rises-altered node f (without other s.records) (Rises-without other s.records n.rise);
+  below = All-altered (λ k. k < s.next) node f (without other s.records) (All-without (λ e. e.0 < s.next) other s.records n.below);
 }

@@ -1,13 +1,13 @@
 -- Walks up a tree: what a bounded walk finds, that it needs no more steps than there are records, and what an edit leaves of it.
-use Rattle.std.proofs.Common.{◌≡◌, subst, ℕ, zero, suc, ◌+◌, ◌<◌, ◌≤◌, List, [], ◌∷◌, refl, sym, arith, eqb, ap, ◌∙◌, Bool, true, false, Some, None, length, inl, inr}
-use Rattle.std.specs.Prelude.{not, filter, cond, nat_eq, Option, ◌||◌, ◌==◌}
+use Rattle.std.proofs.Common.{◌≡◌, subst, ℕ, zero, suc, ◌<◌, ◌≤◌, refl, sym, arith, eqb, ap, ◌∙◌, true, false, Some, None, length, inl, inr}
+use Rattle.std.specs.Prelude.{not, filter, nat_eq, Option}
 use Rattle.std.specs.Option.{option_map, option_map_or}
 use Rattle.std.specs.Map.{lookup}
 use Rattle.std.proofs.lemmas.Bool.Decides.{nat_tests}
 use Rattle.std.proofs.lemmas.Bool.{cases_eq}
 use Rattle.lq_volume.specs.State.{Record, climbs, dir_of}
 use Rattle.lq_volume.specs.Walk.{Climb}
-use Rattle.lq_volume.proofs.Entries.{Entries, lookup-filter, length-filter_lt, lookup-node}
+use Rattle.lq_volume.proofs.RecordLemmas.{Entries, lookup-filter, length-filter_lt, lookup-node}
 use Rattle.std.specs.BTreeMap.{is_at}
 use Rattle.std.specs.Ordering.{nat_cmp}
 

@@ -1,22 +1,27 @@
--- A change that nothing refuses keeps the numbers, the nodes and the tree, and touches few nodes.
-use Rattle.std.proofs.Common.{◌≡◌, ◌≢◌, ℕ, ◌+◌, List, [], ◌∷◌, ◌++◌, refl, sym, ap, arith, eqb, Bool, true, false}
-use Rattle.std.specs.Prelude.{not, Option, Some, None, is_none, ◌&&◌, ◌==◌, option_and_then}
-use Rattle.std.specs.Option.{option_map_or}
+-- An accepted change keeps the numbers, the nodes and the tree, and alters no record but those it touches.
+use Rattle.std.proofs.Common.{◌≡◌, ◌≢◌, ℕ, ℤ, ◌+◌, ◌<◌, List, [], ◌∷◌, ◌++◌, refl, sym, arith, eqb, ap, ◌∙◌, Bool, true, false, length}
+use Rattle.std.specs.Prelude.{not, filter, nat_eq, Option, Some, None, is_none, is_some, IsSome, ◌&&◌, option_and_then}
+use Rattle.std.specs.Option.{option_map, option_map_or, option_to_list}
 use Rattle.std.specs.List.{AllByRecursion}
+use Rattle.std.specs.Map.{lookup}
 use Rattle.std.proofs.lemmas.Bool.Decides.{nat_tests}
 use Rattle.lq_value.specs.declared.kind.Kind.{Kind}
 use Rattle.lq_value.specs.declared.kind.Kind.TheVariants.{File, Folder}
 use Rattle.lq_predicate.specs.Query.{Query}
 use Rattle.lq_volume.specs.declared.change.Change.{Change}
-use Rattle.lq_volume.specs.declared.change.Change.TheVariants.{Create, Remove}
+use Rattle.lq_volume.specs.declared.change.Change.TheVariants.{Create, Remove, Move, Write, SetAttr, RemoveAttr}
+use Rattle.lq_volume.specs.Attributes.{Attributes, with_attr, without_attr}
 use Rattle.lq_volume.specs.Kind.{is_folder}
-use Rattle.lq_volume.specs.State.{State, Record, root, record_at, kind_at, IsVolume}
-use Rattle.lq_volume.specs.Change.{refused, refusals, after, node_of, touched_by, IsLawful}
-use Rattle.lq_volume.specs.Result.{entry_if, match_at, left_by}
+use Rattle.lq_volume.specs.State.{State, Record, root, record_at, kind_at, is_folder_at, dir_of, reaches, node_in, has_entries, IsTree, IsVolume}
+use Rattle.lq_volume.specs.Change.{refused, refusals, after, node_of, record_left, at_place, written, setting, unsetting, with_attrs, changed, altered, without, other_at, other_than, is_other}
+use Rattle.lq_volume.specs.Places.{CanMove}
+use Rattle.lq_volume.specs.Result.{entry_if, match_at, left_by, shown}
+use Rattle.lq_predicate.specs.Truth.{truth}
 use Rattle.lq_volume.specs.Laws.{ChangesKeepTrees, UntouchedStay}
-use Rattle.lq_volume.proofs.Entries.{lookup-filter, lookup-push}
-use Rattle.lq_volume.proofs.Changes.{none_holds, accepted_number, IsNumbered-create, IsNumbered-filter}
-use Rattle.lq_volume.proofs.Tree.{childless-from_test, IsTree-less, IsTree-more}
+use Rattle.lq_volume.proofs.RecordLemmas.{Entries, lookup-filter, lookup-push, lookup-altered, node_in-some, node_in-none, is_taken-node_in, length-filter_le}
+use Rattle.lq_volume.proofs.Climbs.{climbs-sound, climbs-complete, Climb-more}
+use Rattle.lq_volume.proofs.Changes.{none_holds, accepted_number, IsNumbered-create, IsNumbered-filter, IsNumbered-altered}
+use Rattle.lq_volume.proofs.Tree.{IsChildless, childless-from_test, less-folder, IsTree-less, IsTree-moved, IsTree-kept, IsTree-more, dir_of-is, record-of}
 
 -- a node that is there and is no file is a folder
 is_folder-from_tests : (o : Option Kind) → is_none o ≡ false → option_map_or (λ k. not (is_folder k)) o false ≡ false → option_map_or is_folder o false ≡ true
@@ -42,24 +47,181 @@ keeps-remove s node v h =
       tree = IsTree-less s s.limit (s.number + 1) s.next node v.tree (childless-from_test s node v.tree rows.1.1.0) differs;
     }
 
+-- a move takes no other node away
+keeps-move_none : (s : State) (node dir : ℕ) (name : List ℕ) → IsVolume s → other_at s node dir name ≡ None
+    → (node ≡ root → ⊥) → is_folder_at s dir ≡ true → reaches s dir node ≡ false
+    → IsTree (record { limit = s.limit; number = s.number + 1; next = s.next; records = altered node (at_place dir name) s.records })
+keeps-move_none s node dir name v is no_root folder below =
+    IsTree-moved s s.limit (s.number + 1) s.next node dir name v.tree no_root folder below (λ n r at e f. alone n r at e f (node_in s.records dir name) refl)
+  where
+    alone : (n : ℕ) (r : Record) → record_at s n ≡ Some r → r.dir ≡ dir → r.name ≡ name → (o : Option ℕ) → node_in s.records dir name ≡ o → n ≡ node
+    alone n r at e f None found = absurd (node_in-none s.records dir name n r found at e f)
+    alone n r at e f (Some x) found =
+        let there = node_in-some s.records dir name x v.numbered.rise found in
+        let same : n ≡ x = v.tree.apart n x r there.0 at there.1 (e ∙ sym there.2) (f ∙ sym there.3) in
+        let clash : other_than node (Some x) ≡ None = rw found at is in
+        grind (arith, nat_tests)
+
+-- a move takes another node away: it is at that place, and nothing is in it
+module _ (s : State) (x node dir : ℕ) (name : List ℕ) (v : IsVolume s) (is : other_at s node dir name ≡ Some x) (folder : is_folder_at s dir ≡ true) (empty : (is_folder_at s x && has_entries s x) ≡ false) where
+  found-of : (o : Option ℕ) → other_than node o ≡ Some x → (o ≡ Some x) × (x ≡ node → ⊥)
+  found-of None e = cc
+  found-of (Some y) e = (grind (arith, nat_tests), grind (arith, nat_tests))
+
+  found : (node_in s.records dir name ≡ Some x) × (x ≡ node → ⊥)
+  found = found-of (node_in s.records dir name) is
+
+  there : (r : Record) × (record_at s x ≡ Some r) × (r.dir ≡ dir) × (r.name ≡ name)
+  there = node_in-some s.records dir name x v.numbered.rise found.0
+
+  childless : IsChildless s x
+  childless = childless-from_test s x v.tree empty
+
+  no_root : x ≡ root → ⊥
+  no_root e = let a = v.tree.no_root in let b : record_at s root ≡ Some there.0 = rw (← e) there.1 in cc
+
+  dir_stays : dir ≡ x → ⊥
+  dir_stays e = childless x there.0 there.1 (there.2 ∙ e)
+
+  abbrev without_x : State
+  without_x = record { limit = s.limit; number = s.number; next = s.next; records = filter (λ e. not (eqb e.0 x)) s.records }
+
+  tree : IsTree without_x
+  tree = IsTree-less s s.limit s.number s.next x v.tree childless no_root
+
+  was : (n : ℕ) (r : Record) → record_at without_x n ≡ Some r → (record_at s n ≡ Some r) × (n ≡ x → ⊥)
+  was n r e = let l = lookup-filter s.records x n in (grind (arith, nat_tests), grind (arith, nat_tests))
+
+  below : reaches s dir node ≡ false → (b : Bool) → reaches without_x dir node ≡ b → reaches without_x dir node ≡ false
+  below off false e = e
+  below off true e =
+      let c = climbs-sound (length without_x.records) (dir_of without_x.records) node dir e in
+      let le = length-filter_le s.records x in
+      let d = Climb-more (dir_of without_x.records) (dir_of s.records) node c.0 dir (λ n d h. let r = record-of without_x n d h in dir_of-is s n r.0 (was n r.0 r.1).0 ∙ ap Some r.2) c.2 in
+      let hit = climbs-complete (length s.records) c.0 (dir_of s.records) node dir (omega arith) d in
+      let clash : true ≡ false = sym hit ∙ off in
+      cc
+
+  keeps-move_some : (node ≡ root → ⊥) → reaches s dir node ≡ false → IsTree (record { limit = s.limit; number = s.number + 1; next = s.next; records = altered node (at_place dir name) (filter (λ e. not (eqb e.0 x)) s.records) })
+  keeps-move_some root_no off =
+      IsTree-moved without_x s.limit (s.number + 1) s.next node dir name tree root_no (less-folder s s.limit s.number s.next x v.tree childless no_root dir dir_stays folder) (below off (reaches without_x dir node) refl)
+      (λ n r at e f. let w = was n r at in absurd (w.1 (v.tree.apart n x r there.0 w.0 there.1 (e ∙ sym there.2) (f ∙ sym there.3))))
+
+keeps-moved : (s : State) (node dir : ℕ) (name : List ℕ) (other : Option ℕ) → IsVolume s → other_at s node dir name ≡ other
+    → (node ≡ root → ⊥) → is_folder_at s dir ≡ true → reaches s dir node ≡ false → is_other other (λ x. is_folder_at s x && has_entries s x) ≡ false
+    → IsTree (record { limit = s.limit; number = s.number + 1; next = s.next; records = altered node (at_place dir name) (without other s.records) })
+keeps-moved s node dir name None v is not_root folder off empty = keeps-move_none s node dir name v is not_root folder off
+keeps-moved s node dir name (Some x) v is not_root folder off empty = keeps-move_some s x node dir name v is folder empty not_root off
+
+pub keeps-move : (s : State) (node dir : ℕ) (name : List ℕ) (clobber : Bool) → IsVolume s → refused s (Move node dir name clobber) ≡ None → IsVolume (after s (Move node dir name clobber))
+keeps-move s node dir name clobber v h =
+    let rows = none_holds (refusals s (Move node dir name clobber)) h in
+    let differs : node ≡ root → ⊥ = let r = rows.1.0 in grind (arith, nat_tests) in
+    record {
+      numbered = IsNumbered-altered s (other_at s node dir name) node (at_place dir name) v.numbered (accepted_number s (Move node dir name clobber) h);
+      tree = keeps-moved s node dir name (other_at s node dir name) v refl differs (is_folder-from_tests (kind_at s dir) rows.1.1.0 rows.1.1.1.0) rows.1.1.1.1.0 rows.1.1.1.1.1.1.1.0;
+    }
+
+pub keeps-write : (s : State) (node size : ℕ) (time : ℤ) → IsVolume s → refused s (Write node size time) ≡ None → IsVolume (after s (Write node size time))
+keeps-write s node size time v h =
+    let rows = none_holds (refusals s (Write node size time)) h in
+    let file = rows.1.1.0 in
+    let differs : eqb node root ≡ false = rows.1.0 in
+    record {
+      numbered = IsNumbered-altered s None node (written size time) v.numbered (accepted_number s (Write node size time) h);
+      tree = IsTree-kept s s.limit (s.number + 1) s.next node (written size time) v.tree (λ r. refl) (λ r. refl) (λ r. refl) (λ r is folder. absurd (let clash : is_folder_at s node ≡ true = grind (arith, nat_tests) in let no : ⊥ = cc in no));
+    }
+
+-- attributes are no part of a tree
+pub keeps-attrs : (s : State) (node : ℕ) (f : Record → Attributes) → IsVolume s → s.number < s.limit → IsVolume (changed s (altered node (λ r. with_attrs (f r) r) s.records))
+keeps-attrs s node f v more = record {
+  numbered = IsNumbered-altered s None node (λ r. with_attrs (f r) r) v.numbered more;
+  tree = IsTree-kept s s.limit (s.number + 1) s.next node (λ r. with_attrs (f r) r) v.tree (λ r. refl) (λ r. refl) (λ r. refl) (λ r is folder. v.tree.sizes node r is folder);
+}
+
+-- what the entries need of a creation and of a move
+pub free-create : (s : State) (new : Record) → refused s (Create new.dir new.name new.kind new.size new.time) ≡ None → node_in s.records new.dir new.name ≡ None
+free-create s new h =
+    let rows = none_holds (refusals s (Create new.dir new.name new.kind new.size new.time)) h in
+    none (node_in s.records new.dir new.name) (sym (is_taken-node_in s.records new.dir new.name) ∙ rows.1.1.0)
+  where
+    none : (o : Option ℕ) → is_some o ≡ false → o ≡ None
+    none None e = refl
+    none (Some x) e = cc
+
+pub can-move : (s : State) (node dir : ℕ) (name : List ℕ) (clobber : Bool) → IsVolume s → refused s (Move node dir name clobber) ≡ None → CanMove s.records node dir name (other_at s node dir name)
+can-move s node dir name clobber v h =
+    let rows = none_holds (refusals s (Move node dir name clobber)) h in
+    record {
+      apart = v.tree.apart;
+      there = some (record_at s node) refl rows.0 rows.1.0;
+      other_is = refl;
+      stays_apart = (keeps-move s node dir name clobber v h).tree.apart;
+    }
+  where
+    some : (o : Option Record) → record_at s node ≡ o → is_none (kind_at s node) ≡ false → eqb node root ≡ false → IsSome (record_at s node)
+    some None is k l = absurd (grind (arith, nat_tests))
+    some (Some r) is k l = rw is refl
+
 pub keeps-all : ChangesKeepTrees
-keeps-all s (Create dir name kind size time) v h = keeps-create s (record { dir = dir; name = name; kind = kind; size = size; time = time }) v h
+keeps-all s (Create dir name kind size time) v h = keeps-create s (record { dir = dir; name = name; kind = kind; size = size; time = time; attrs = [] }) v h
 keeps-all s (Remove node) v h = keeps-remove s node v h
+keeps-all s (Move node dir name clobber) v h = keeps-move s node dir name clobber v h
+keeps-all s (Write node size time) v h = keeps-write s node size time v h
+keeps-all s (SetAttr node attr value) v h = keeps-attrs s node (λ r. with_attr r.attrs attr value) v (accepted_number s (SetAttr node attr value) h)
+keeps-all s (RemoveAttr node attr) v h = keeps-attrs s node (λ r. without_attr r.attrs attr) v (accepted_number s (RemoveAttr node attr) h)
+
+-- the record of a node that isn't the one taken away
+look-without : (es : Entries) (p : Option ℕ) (x : ℕ) → (p ≡ Some x → ⊥) → lookup (nat_eq x) (without p es) ≡ lookup (nat_eq x) es
+look-without es None x off = refl
+look-without es (Some y) x off = let l = lookup-filter es y x in let differs : x ≡ y → ⊥ = λ e. off (ap Some (sym e)) in grind (arith, nat_tests)
+
+off-option : (o : Option ℕ) (n : ℕ) → AllByRecursion (λ node. n ≢ node) (option_to_list o) → o ≡ Some n → ⊥
+off-option None n off e = cc
+off-option (Some x) n off e = let differs = off.0 in grind (arith, nat_tests)
+
+other-differs : (node : ℕ) (o : Option ℕ) → other_than node o ≡ Some node → ⊥
+other-differs node None h = cc
+other-differs node (Some x) h = grind (arith, nat_tests)
 
 pub untouched-all : UntouchedStay
 untouched-all s (Create dir name kind size time) n v h off =
-    let l = lookup-push s.records s.next (record { dir = dir; name = name; kind = kind; size = size; time = time }) n v.numbered.below in
+    let l = lookup-push s.records s.next (record { dir = dir; name = name; kind = kind; size = size; time = time; attrs = [] }) n v.numbered.below in
     let differs = off.0 in grind (arith, nat_tests)
 untouched-all s (Remove node) n v h off = let l = lookup-filter s.records node n in let differs = off.0 in grind (arith, nat_tests)
+untouched-all s (Move node dir name clobber) n v h off =
+    let l = lookup-altered (without (other_at s node dir name) s.records) node (at_place dir name) n in
+    let k = look-without s.records (other_at s node dir name) n (off-option (other_at s node dir name) n off.1) in
+    let differs = off.0 in grind (arith, nat_tests)
+untouched-all s (Write node size time) n v h off = let l = lookup-altered s.records node (written size time) n in let differs = off.0 in grind (arith, nat_tests)
+untouched-all s (SetAttr node attr value) n v h off = let l = lookup-altered s.records node (setting attr value) n in let differs = off.0 in grind (arith, nat_tests)
+untouched-all s (RemoveAttr node attr) n v h off = let l = lookup-altered s.records node (unsetting attr) n in let differs = off.0 in grind (arith, nat_tests)
 
--- what is found at the node of a change
+-- the record that is at the node of a change afterwards
+pub record-left : (s : State) (c : Change) → IsVolume s → record_at (after s c) (node_of s c) ≡ record_left s c
+record-left s (Create dir name kind size time) v =
+    let new : Record = record { dir = dir; name = name; kind = kind; size = size; time = time; attrs = [] } in
+    let l = lookup-push s.records s.next new s.next v.numbered.below in grind (arith, nat_tests)
+record-left s (Remove node) v = let l = lookup-filter s.records node node in grind (arith, nat_tests)
+record-left s (Move node dir name clobber) v =
+    let l = lookup-altered (without (other_at s node dir name) s.records) node (at_place dir name) node in
+    let k = look-without s.records (other_at s node dir name) node (other-differs node (node_in s.records dir name)) in
+    let j = ap (option_map (at_place dir name)) k in
+    grind (arith, nat_tests)
+record-left s (Write node size time) v = let l = lookup-altered s.records node (written size time) node in grind (arith, nat_tests)
+record-left s (SetAttr node attr value) v = let l = lookup-altered s.records node (setting attr value) node in grind (arith, nat_tests)
+record-left s (RemoveAttr node attr) v = let l = lookup-altered s.records node (unsetting attr) node in grind (arith, nat_tests)
+
+-- what is found there
 pub match-left : (q : Query) (s : State) (c : Change) → IsVolume s → match_at q (after s c) (node_of s c) ≡ left_by q s c
-match-left q s (Create dir name kind size time) v =
-    let new : Record = record { dir = dir; name = name; kind = kind; size = size; time = time } in
-    let l = lookup-push s.records s.next new s.next v.numbered.below in
-    let is : record_at (after s (Create dir name kind size time)) s.next ≡ Some new = grind (arith, nat_tests) in
-    ap (option_and_then (λ r. entry_if q (s.next, r))) is
-match-left q s (Remove node) v =
-    let l = lookup-filter s.records node node in
-    let is : record_at (after s (Remove node)) node ≡ None = grind (arith, nat_tests) in
-    ap (option_and_then (λ r. entry_if q (node, r))) is
+match-left q s c v = ap (option_and_then (λ r. entry_if q (node_of s c, r))) (record-left s c v)
+
+pub match-none : (q : Query) (s : State) (c : Change) → IsVolume s → record_left s c ≡ None → match_at q (after s c) (node_of s c) ≡ None
+match-none q s c v is = match-left q s c v ∙ ap (option_and_then (λ r. entry_if q (node_of s c, r))) is
+
+pub match-some : (q : Query) (s : State) (c : Change) (r : Record) → IsVolume s → record_left s c ≡ Some r → match_at q (after s c) (node_of s c) ≡ entry_if q (node_of s c, r)
+match-some q s c r v is = match-left q s c v ∙ ap (option_and_then (λ r. entry_if q (node_of s c, r))) is
+
+-- there is an entry where the predicate holds
+pub is_some-entry_if : (q : Query) (n : ℕ) (r : Record) → is_some (entry_if q (n, r)) ≡ truth q (shown r)
+is_some-entry_if q n r = grind arith

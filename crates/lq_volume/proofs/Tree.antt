@@ -1,19 +1,18 @@
 -- An accepted change keeps the tree.
-use Rattle.std.proofs.Common.{◌≡◌, subst, ℕ, zero, suc, ◌+◌, ◌<◌, ◌≤◌, List, [], ◌∷◌, ◌++◌, refl, sym, arith, eqb, ap, ◌∙◌, Bool, true, false, length, inl, inr}
-use Rattle.std.specs.Prelude.{not, filter, map, cond, nat_eq, Option, Some, None, is_none, ◌||◌, ◌&&◌, ◌==◌}
+use Rattle.std.proofs.Common.{◌≡◌, subst, ℕ, suc, ◌<◌, List, [], ◌∷◌, ◌++◌, refl, sym, arith, eqb, ap, ◌∙◌, true, false, length, inl, inr}
+use Rattle.std.specs.Prelude.{not, filter, cond, Option, Some, None, ◌&&◌, ◌==◌}
 use Rattle.std.specs.Option.{option_map, option_map_or}
-use Rattle.std.specs.List.{list_any}
 use Rattle.std.specs.Str.{bytes_eq}
-use Rattle.std.specs.Map.{lookup, values_of}
 use Rattle.std.proofs.lemmas.Bool.Decides.{nat_tests}
 use Rattle.std.proofs.lemmas.Bool.{cases_eq}
 use Rattle.std.proofs.lemmas.Slice.Eq.{bytes_eq-Decides}
 use Rattle.lq_value.specs.declared.kind.Kind.{Kind}
-use Rattle.lq_value.specs.declared.kind.Kind.TheVariants.{File, Folder}
+use Rattle.lq_value.specs.declared.kind.Kind.TheVariants.{Folder}
 use Rattle.lq_volume.specs.Kind.{is_folder}
-use Rattle.lq_volume.specs.State.{State, Record, root, record_at, kind_at, is_folder_at, dir_of, climbs, reaches, node_in, has_entries, is_taken, IsNumbered, IsTree, empty_state}
-use Rattle.lq_volume.proofs.Entries.{Entries, lookup-filter, lookup-push, lookup-above, fails-lookup}
-use Rattle.lq_volume.proofs.Climbs.{climbs-sound, climbs-complete, Climb-short, Climb-avoid, Climb-more, Climb-childless, Climb-within}
+use Rattle.lq_volume.specs.State.{State, Record, root, record_at, is_folder_at, dir_of, reaches, has_entries, is_taken, IsNumbered, IsTree, empty_state}
+use Rattle.lq_volume.specs.Change.{at_place, altered}
+use Rattle.lq_volume.proofs.RecordLemmas.{lookup-filter, lookup-altered, lookup-push, lookup-above, fails-lookup}
+use Rattle.lq_volume.proofs.Climbs.{climbs-sound, climbs-complete, Climb-short, Climb-avoid, Climb-more, Climb-childless, Climb-moved, Climb-within}
 use Rattle.lq_volume.specs.Walk.{Climb, ReachesAll}
 
 -- a folder has a walk to the root
@@ -94,6 +93,154 @@ module _ (s : State) (limit number next x : ℕ) (t : IsTree s) (childless : IsC
     apart = λ m n q r a b e f. t.apart m n q r (less-old m q a) (less-old n r b) e f;
     sizes = λ n r is. t.sizes n r (less-old n r is);
     no_root = less-top;
+  }
+
+-- one node at another place
+module _ (s : State) (limit number next node dir : ℕ) (name : List ℕ) (t : IsTree s) (no_root : node ≡ root → ⊥) where
+  abbrev moved : State
+  moved = record { limit = limit; number = number; next = next; records = altered node (at_place dir name) s.records }
+
+  moved-same : (n : ℕ) → (n ≡ node → ⊥) → record_at moved n ≡ record_at s n
+  moved-same n differs = let l = lookup-altered s.records node (at_place dir name) n in grind (arith, nat_tests)
+
+  -- a record as it was
+  moved-old : (n : ℕ) (r : Record) → record_at moved n ≡ Some r → (v : Record) × (record_at s n ≡ Some v) × (v.kind ≡ r.kind) × (v.size ≡ r.size) × (n ≡ node → (r.dir ≡ dir) × (r.name ≡ name)) × ((n ≡ node → ⊥) → v ≡ r)
+  moved-old n r is = at (record_at s n) refl (sym (lookup-altered s.records node (at_place dir name) n) ∙ is)
+    where
+      at : (o : Option Record) → record_at s n ≡ o → cond (eqb n node) (option_map (at_place dir name) (record_at s n)) (record_at s n) ≡ Some r → (v : Record) × (record_at s n ≡ Some v) × (v.kind ≡ r.kind) × (v.size ≡ r.size) × (n ≡ node → (r.dir ≡ dir) × (r.name ≡ name)) × ((n ≡ node → ⊥) → v ≡ r)
+      at None e h = absurd (grind (arith, nat_tests))
+      at (Some v) e h = elim (cases_eq n node) [
+        | inl same ↦
+            let b : eqb n node ≡ true = grind (arith, nat_tests) in
+            let k : Some (at_place dir name v) ≡ Some r = rw (b, e) at h in
+            let m : at_place dir name v ≡ r = cc in
+            (v, e, ap (λ (w : Record). w.kind) m, ap (λ (w : Record). w.size) m, λ _. (sym (ap (λ (w : Record). w.dir) m), sym (ap (λ (w : Record). w.name) m)), λ d. absurd (d same))
+        | inr differs ↦
+            let b : eqb n node ≡ false = grind (arith, nat_tests) in
+            let k : Some v ≡ Some r = rw (b, e) at h in
+            let m : v ≡ r = cc in
+            (v, e, ap (λ (w : Record). w.kind) m, ap (λ (w : Record). w.size) m, λ d. absurd (differs d), λ _. m)
+      ]
+
+  moved-kind : (d : ℕ) → is_folder_at moved d ≡ is_folder_at s d
+  moved-kind d = ap (λ (o : Option Kind). option_map_or is_folder (cond (eqb d root) (Some Folder) o) false) (kinds (record_at s d) refl)
+    where
+      kinds : (o : Option Record) → record_at s d ≡ o → option_map (λ r. r.kind) (record_at moved d) ≡ option_map (λ r. r.kind) (record_at s d)
+      kinds None e = let l = lookup-altered s.records node (at_place dir name) d in grind (arith, nat_tests)
+      kinds (Some v) e = let l = lookup-altered s.records node (at_place dir name) d in grind (arith, nat_tests)
+
+  moved-top : record_at moved root ≡ None
+  moved-top = moved-same root (λ e. no_root (sym e)) ∙ t.no_root
+
+  moved-dir : (n : ℕ) → (n ≡ node → ⊥) → dir_of moved.records n ≡ dir_of s.records n
+  moved-dir n differs = ap (option_map (λ (r : Record). r.dir)) (moved-same n differs)
+
+  moved-here : (r : Record) → record_at moved node ≡ Some r → dir_of moved.records node ≡ Some dir
+  moved-here r is = let o = moved-old node r is in dir_of-is moved node r is ∙ ap Some (o.4 refl).0
+
+  -- the walk from the new folder keeps off the node
+  moved-climb : is_folder_at s dir ≡ true → reaches s dir node ≡ false → (r : Record) → record_at moved node ≡ Some r → (j : ℕ) × Climb (dir_of moved.records) root j node
+  moved-climb folder below r is =
+      let c = folder-climb s dir t folder in
+      let top : dir_of s.records root ≡ None = ap (option_map (λ (v : Record). v.dir)) t.no_root in
+      let short = Climb-short c.0 s.records root dir top c.1 in
+      let off = λ (j : ℕ) (lt : j < c.0) (d : Climb (dir_of s.records) node j dir). let hit = climbs-complete (length s.records) j (dir_of s.records) node dir (omega arith) d in let clash : true ≡ false = sym hit ∙ below in let no : ⊥ = cc in no in
+      (suc c.0, (dir, moved-here r is, Climb-avoid (dir_of s.records) (dir_of moved.records) root node c.0 dir moved-dir off c.1))
+
+  moved-any : is_folder_at s dir ≡ true → reaches s dir node ≡ false → (n : ℕ) (r : Record) → record_at moved n ≡ Some r → (j : ℕ) × Climb (dir_of moved.records) root j n
+  moved-any folder below n r is =
+      let o = moved-old n r is in
+      let c = node-climb s n o.0 t o.1 in
+      elim (cases_eq n node) [
+        | inl same ↦ subst (λ (m : ℕ). (j : ℕ) × Climb (dir_of moved.records) root j m) (sym same) (moved-climb folder below r (subst (λ (m : ℕ). record_at moved m ≡ Some r) same is))
+        | inr differs ↦ there (record_at moved node) refl c
+      ]
+    where
+      gone : record_at moved node ≡ None → (d : ℕ) → dir_of s.records node ≡ Some d → ⊥
+      gone e d is = let v = record-of s node d is in let w = v.1 in let l = lookup-altered s.records node (at_place dir name) node in grind (arith, nat_tests)
+
+      there : (o : Option Record) → record_at moved node ≡ o → (k : ℕ) × Climb (dir_of s.records) root k n → (j : ℕ) × Climb (dir_of moved.records) root j n
+      there None e c = (c.0, Climb-more (dir_of s.records) (dir_of moved.records) root c.0 n (λ m d is. elim (cases_eq m node) [ inl same ↦ absurd (gone e d (rw same at is)) | inr differs ↦ moved-dir m differs ∙ is ]) c.1)
+      there (Some r) e c = Climb-moved (dir_of s.records) (dir_of moved.records) root node c.0 n moved-dir (moved-climb folder below r e) c.1
+
+  pub IsTree-moved : is_folder_at s dir ≡ true → reaches s dir node ≡ false → ((n : ℕ) (r : Record) → record_at s n ≡ Some r → r.dir ≡ dir → r.name ≡ name → n ≡ node) → IsTree moved
+  IsTree-moved folder below alone = record {
+    folders = λ n r is. let o = moved-old n r is in elim (cases_eq n node) [
+      | inl e ↦ rw (moved-kind r.dir, (o.4 e).0) folder
+      | inr differs ↦ rw (moved-kind r.dir, ← o.5 differs) (t.folders n o.0 o.1)
+    ];
+    climb = λ n r is. let c = moved-any folder below n r is in climb-reaches moved n c.0 moved-top c.1;
+    apart = λ m n q r a b e f. let o = moved-old m q a in let p = moved-old n r b in elim (cases_eq m node) [
+      | inl x ↦ elim (cases_eq n node) [
+        | inl y ↦ x ∙ sym y
+        | inr differs ↦ let same = p.5 differs in absurd (differs (alone n p.0 p.1 (ap (λ (w : Record). w.dir) same ∙ (sym e ∙ (o.4 x).0)) (ap (λ (w : Record). w.name) same ∙ (sym f ∙ (o.4 x).1))))
+      ]
+      | inr apart ↦ let here = o.5 apart in elim (cases_eq n node) [
+        | inl y ↦ absurd (apart (alone m o.0 o.1 (ap (λ (w : Record). w.dir) here ∙ (e ∙ (p.4 y).0)) (ap (λ (w : Record). w.name) here ∙ (f ∙ (p.4 y).1))))
+        | inr differs ↦ let same = p.5 differs in t.apart m n o.0 p.0 o.1 p.1 (ap (λ (w : Record). w.dir) here ∙ (e ∙ sym (ap (λ (w : Record). w.dir) same))) (ap (λ (w : Record). w.name) here ∙ (f ∙ sym (ap (λ (w : Record). w.name) same)))
+      ]
+    ];
+    sizes = λ n r is h. let o = moved-old n r is in sym o.3 ∙ t.sizes n o.0 o.1 (ap is_folder o.2 ∙ h);
+    no_root = moved-top;
+  }
+
+-- one node's record altered, which keeps its place and kind
+module _ (s : State) (limit number next node : ℕ) (f : Record → Record) (t : IsTree s) (dirs : (r : Record) → (f r).dir ≡ r.dir) (names : (r : Record) → (f r).name ≡ r.name) (kinds : (r : Record) → (f r).kind ≡ r.kind) (empty : (r : Record) → record_at s node ≡ Some r → is_folder r.kind ≡ true → (f r).size ≡ 0) where
+  abbrev kept : State
+  kept = record { limit = limit; number = number; next = next; records = altered node f s.records }
+
+  -- a record as it was
+  kept-old : (n : ℕ) (r : Record) → record_at kept n ≡ Some r → (v : Record) × (record_at s n ≡ Some v) × (v.dir ≡ r.dir) × (v.name ≡ r.name) × (v.kind ≡ r.kind) × (is_folder r.kind ≡ true → r.size ≡ 0)
+  kept-old n r is = at (record_at s n) refl (sym (lookup-altered s.records node f n) ∙ is)
+    where
+      at : (o : Option Record) → record_at s n ≡ o → cond (eqb n node) (option_map f (record_at s n)) (record_at s n) ≡ Some r → (v : Record) × (record_at s n ≡ Some v) × (v.dir ≡ r.dir) × (v.name ≡ r.name) × (v.kind ≡ r.kind) × (is_folder r.kind ≡ true → r.size ≡ 0)
+      at None e h = absurd (grind (arith, nat_tests))
+      at (Some v) e h = elim (cases_eq n node) [
+        | inl same ↦
+            let b : eqb n node ≡ true = grind (arith, nat_tests) in
+            let k : Some (f v) ≡ Some r = rw (b, e) at h in
+            let m : f v ≡ r = cc in
+            let kind : v.kind ≡ r.kind = sym (kinds v) ∙ ap (λ (w : Record). w.kind) m in
+            (v, e, sym (dirs v) ∙ ap (λ (w : Record). w.dir) m, sym (names v) ∙ ap (λ (w : Record). w.name) m, kind, λ folder. sym (ap (λ (w : Record). w.size) m) ∙ empty v (subst (λ (k : ℕ). record_at s k ≡ Some v) same e) (ap is_folder kind ∙ folder))
+        | inr differs ↦
+            let b : eqb n node ≡ false = grind (arith, nat_tests) in
+            let k : Some v ≡ Some r = rw (b, e) at h in
+            let m : v ≡ r = cc in
+            (v, e, ap (λ (w : Record). w.dir) m, ap (λ (w : Record). w.name) m, ap (λ (w : Record). w.kind) m, λ folder. sym (ap (λ (w : Record). w.size) m) ∙ t.sizes n v e (ap (λ (w : Record). is_folder w.kind) m ∙ folder))
+      ]
+
+  kept-kind : (d : ℕ) → is_folder_at kept d ≡ is_folder_at s d
+  kept-kind d = ap (λ (o : Option Kind). option_map_or is_folder (cond (eqb d root) (Some Folder) o) false) (same (record_at s d) refl)
+    where
+      same : (o : Option Record) → record_at s d ≡ o → option_map (λ r. r.kind) (record_at kept d) ≡ option_map (λ r. r.kind) (record_at s d)
+      same None e = let l = lookup-altered s.records node f d in grind (arith, nat_tests)
+      same (Some v) e = let l = lookup-altered s.records node f d in let k = kinds v in grind (arith, nat_tests)
+
+  kept-dir : (n d : ℕ) → dir_of s.records n ≡ Some d → dir_of kept.records n ≡ Some d
+  kept-dir n d is =
+      let v = record-of s n d is in
+      let l = lookup-altered s.records node f n in
+      let e = v.1 in
+      let k = dirs v.0 in
+      let there : option_map (λ (r : Record). r.dir) (record_at kept n) ≡ Some v.0.dir = grind (arith, nat_tests) in
+      there ∙ ap Some v.2
+
+  kept-top : record_at kept root ≡ None
+  kept-top = let l = lookup-altered s.records node f root in let none = t.no_root in grind (arith, nat_tests)
+
+  pub IsTree-kept : IsTree kept
+  IsTree-kept = record {
+    folders = λ n r is. let o = kept-old n r is in rw (kept-kind r.dir, ← o.2) (t.folders n o.0 o.1);
+    climb = λ n r is.
+        let o = kept-old n r is in
+        let c = node-climb s n o.0 t o.1 in
+        climb-reaches kept n c.0 kept-top (Climb-more (dir_of s.records) (dir_of kept.records) root c.0 n kept-dir c.1);
+    apart = λ m n q r a b e f.
+        let o = kept-old m q a in
+        let p = kept-old n r b in
+        t.apart m n o.0 p.0 o.1 p.1 (o.2 ∙ (e ∙ sym p.2)) (o.3 ∙ (f ∙ sym p.3));
+    sizes = λ n r is h. (kept-old n r is).5 h;
+    no_root = kept-top;
   }
 
 -- one node more

@@ -1,34 +1,110 @@
 -- When a change is refused, and the state after one that is not.
-use Rattle.std.specs.Prelude.{◌≡◌, ℕ, ◌+◌, List, [], ◌∷◌, ◌++◌, Bool, false, not, ◌&&◌, ◌==◌, nat_le, nat_lt, Option, None, is_none, filter}
-use Rattle.std.specs.Option.{option_map_or}
+use Rattle.std.specs.Prelude.{◌≡◌, ℕ, ℤ, ◌+◌, List, [], ◌∷◌, ◌++◌, Bool, false, not, ◌&&◌, ◌==◌, nat_le, nat_lt, Option, Some, None, is_none, filter, map, option_and_then, if◌then◌else◌}
+use Rattle.std.specs.Option.{option_map, option_map_or, option_to_list}
+use Rattle.lq_value.specs.declared.kind.Kind.{Kind}
 use Rattle.lq_value.specs.declared.refusal.Refusal.{Refusal}
-use Rattle.lq_value.specs.declared.refusal.Refusal.TheVariants.{NoNode, NotFolder, Exists, NotEmpty, IsFolder, Reserved, TooLong, Exhausted}
+use Rattle.lq_value.specs.declared.refusal.Refusal.TheVariants.{NoNode, NotFolder, Exists, WouldLoop, NotEmpty, KindClash, IsFolder, NoAttr, Reserved, TooLong, Exhausted}
 use Rattle.lq_value.specs.Refusal.{first_refusal}
 use Rattle.lq_volume.specs.declared.change.Change.{Change}
-use Rattle.lq_volume.specs.declared.change.Change.TheVariants.{Create, Remove}
+use Rattle.lq_volume.specs.declared.change.Change.TheVariants.{Create, Remove, Move, Write, SetAttr, RemoveAttr}
+use Rattle.lq_value.specs.declared.value.Value.{Value}
+use Rattle.lq_volume.specs.Attributes.{Attributes, value_of, with_attr, without_attr, is_reserved}
 use Rattle.lq_volume.specs.Kind.{is_folder}
-use Rattle.lq_volume.specs.State.{State, Record, root, kind_at, is_folder_at, has_entries, is_taken}
+use Rattle.lq_volume.specs.State.{State, Record, root, record_at, kind_at, is_folder_at, has_entries, is_taken, node_in, reaches}
 
 -- whether the node is there and is no folder
 abbrev pub is_file_at : State → ℕ → Bool
 is_file_at s node = option_map_or (λ k. not (is_folder k)) (kind_at s node) false
 
+-- whether no change more is accepted
+abbrev pub is_full : State → Bool
+is_full s = nat_le s.limit s.number
+
+-- the node that has a place, if it is another one
+abbrev pub other_than : ℕ → Option ℕ → Option ℕ
+other_than node None = None
+other_than node (Some there) = if there == node then None else Some there
+
+abbrev pub other_at : State → ℕ → ℕ → List ℕ → Option ℕ
+other_at s node dir name = other_than node (node_in s.records dir name)
+
+-- whether another node is there, with a property
+abbrev pub is_other : Option ℕ → (ℕ → Bool) → Bool
+is_other other test = option_map_or test other false
+
+abbrev pub differ : Bool → Bool → Bool
+differ a b = if a then not b else b
+
+-- the value of an attribute of a node
+abbrev pub attr_of : State → ℕ → List ℕ → Option Value
+attr_of s node attr = option_and_then (λ r. value_of r.attrs attr) (record_at s node)
+
 -- the tests of a change in their order, and what each that holds refuses it with
-abbrev pub refusals : State → Change → List (Bool × Refusal)
-refusals s (Create dir name kind size time) =
+abbrev pub create_refusals : State → ℕ → List ℕ → Kind → ℕ → List (Bool × Refusal)
+create_refusals s dir name kind size =
     (is_none (kind_at s dir), NoNode)
     ∷ (is_file_at s dir, NotFolder)
     ∷ (is_taken s dir name, Exists)
     ∷ (is_folder kind && not (size == 0), IsFolder)
     ∷ (nat_lt 9223372036854775807 size, TooLong)
-    ∷ (nat_le s.limit s.number, Exhausted)
+    ∷ (is_full s, Exhausted)
     ∷ []
-refusals s (Remove node) =
+
+abbrev pub remove_refusals : State → ℕ → List (Bool × Refusal)
+remove_refusals s node =
     (is_none (kind_at s node), NoNode)
     ∷ (node == root, Reserved)
     ∷ (is_folder_at s node && has_entries s node, NotEmpty)
-    ∷ (nat_le s.limit s.number, Exhausted)
+    ∷ (is_full s, Exhausted)
     ∷ []
+
+-- a node that has its place already is refused by none of the three tests of the other there
+abbrev pub move_refusals : State → ℕ → ℕ → List ℕ → Bool → List (Bool × Refusal)
+move_refusals s node dir name clobber =
+    (is_none (kind_at s node), NoNode)
+    ∷ (node == root, Reserved)
+    ∷ (is_none (kind_at s dir), NoNode)
+    ∷ (is_file_at s dir, NotFolder)
+    ∷ (reaches s dir node, WouldLoop)
+    ∷ (is_other (other_at s node dir name) (λ other. not clobber), Exists)
+    ∷ (is_other (other_at s node dir name) (λ other. differ (is_folder_at s other) (is_folder_at s node)), KindClash)
+    ∷ (is_other (other_at s node dir name) (λ other. is_folder_at s other && has_entries s other), NotEmpty)
+    ∷ (is_full s, Exhausted)
+    ∷ []
+
+abbrev pub write_refusals : State → ℕ → ℕ → List (Bool × Refusal)
+write_refusals s node size =
+    (is_none (kind_at s node), NoNode)
+    ∷ (node == root, Reserved)
+    ∷ (is_folder_at s node, IsFolder)
+    ∷ (nat_lt 9223372036854775807 size, TooLong)
+    ∷ (is_full s, Exhausted)
+    ∷ []
+
+abbrev pub set_refusals : State → ℕ → List ℕ → List (Bool × Refusal)
+set_refusals s node attr =
+    (is_none (kind_at s node), NoNode)
+    ∷ (node == root, Reserved)
+    ∷ (is_reserved attr, Reserved)
+    ∷ (is_full s, Exhausted)
+    ∷ []
+
+abbrev pub unset_refusals : State → ℕ → List ℕ → List (Bool × Refusal)
+unset_refusals s node attr =
+    (is_none (kind_at s node), NoNode)
+    ∷ (node == root, Reserved)
+    ∷ (is_reserved attr, Reserved)
+    ∷ (is_none (attr_of s node attr), NoAttr)
+    ∷ (is_full s, Exhausted)
+    ∷ []
+
+abbrev pub refusals : State → Change → List (Bool × Refusal)
+refusals s (Create dir name kind size time) = create_refusals s dir name kind size
+refusals s (Remove node) = remove_refusals s node
+refusals s (Move node dir name clobber) = move_refusals s node dir name clobber
+refusals s (Write node size time) = write_refusals s node size
+refusals s (SetAttr node attr value) = set_refusals s node attr
+refusals s (RemoveAttr node attr) = unset_refusals s node attr
 
 -- the first of them that holds
 abbrev pub refused : State → Change → Option Refusal
@@ -38,6 +114,38 @@ refused s c = first_refusal (refusals s c)
 abbrev pub IsLawful : State → Change → Type 0
 IsLawful s c = refused s c ≡ None
 
+-- the records without a node
+abbrev pub without : Option ℕ → List (ℕ × Record) → List (ℕ × Record)
+without None es = es
+without (Some node) es = filter (λ e. not (e.0 == node)) es
+
+-- an entry, where the record of one node is altered
+abbrev pub altered_at : ℕ → (Record → Record) → ℕ × Record → ℕ × Record
+altered_at node f e = (e.0, if e.0 == node then f e.1 else e.1)
+
+abbrev pub altered : ℕ → (Record → Record) → List (ℕ × Record) → List (ℕ × Record)
+altered node f es = map (altered_at node f) es
+
+-- a record at another place, one with another size, and one with other attributes
+abbrev pub at_place : ℕ → List ℕ → Record → Record
+at_place dir name r = record { dir = dir; name = name; kind = r.kind; size = r.size; time = r.time; attrs = r.attrs }
+
+abbrev pub written : ℕ → ℤ → Record → Record
+written size time r = record { dir = r.dir; name = r.name; kind = r.kind; size = size; time = time; attrs = r.attrs }
+
+abbrev pub with_attrs : Attributes → Record → Record
+with_attrs attrs r = record { dir = r.dir; name = r.name; kind = r.kind; size = r.size; time = r.time; attrs = attrs }
+
+abbrev pub setting : List ℕ → Value → Record → Record
+setting attr value r = with_attrs (with_attr r.attrs attr value) r
+
+abbrev pub unsetting : List ℕ → Record → Record
+unsetting attr r = with_attrs (without_attr r.attrs attr) r
+
+-- one change more, and other records
+abbrev pub changed : State → List (ℕ × Record) → State
+changed s records = record { limit = s.limit; number = s.number + 1; next = s.next; records = records }
+
 -- the state after a change that is not refused
 abbrev pub after : State → Change → State
 after s (Create dir name kind size time) =
@@ -45,21 +153,41 @@ after s (Create dir name kind size time) =
       limit = s.limit;
       number = s.number + 1;
       next = s.next + 1;
-      records = s.records ++ (s.next, record { dir = dir; name = name; kind = kind; size = size; time = time }) ∷ [];
+      records = s.records ++ (s.next, record { dir = dir; name = name; kind = kind; size = size; time = time; attrs = [] }) ∷ [];
     }
-after s (Remove node) =
-    record {
-      limit = s.limit;
-      number = s.number + 1;
-      next = s.next;
-      records = filter (λ e. not (e.0 == node)) s.records;
-    }
+after s (Remove node) = changed s (filter (λ e. not (e.0 == node)) s.records)
+after s (Move node dir name clobber) = changed s (altered node (at_place dir name) (without (other_at s node dir name) s.records))
+after s (Write node size time) = changed s (altered node (written size time) s.records)
+after s (SetAttr node attr value) = changed s (altered node (setting attr value) s.records)
+after s (RemoveAttr node attr) = changed s (altered node (unsetting attr) s.records)
 
 -- the node that a change creates or names
 abbrev pub node_of : State → Change → ℕ
 node_of s (Create dir name kind size time) = s.next
 node_of s (Remove node) = node
+node_of s (Move node dir name clobber) = node
+node_of s (Write node size time) = node
+node_of s (SetAttr node attr value) = node
+node_of s (RemoveAttr node attr) = node
+
+-- the other node that a move takes away
+abbrev pub clobbered : State → Change → Option ℕ
+clobbered s (Create dir name kind size time) = None
+clobbered s (Remove node) = None
+clobbered s (Move node dir name clobber) = other_at s node dir name
+clobbered s (Write node size time) = None
+clobbered s (SetAttr node attr value) = None
+clobbered s (RemoveAttr node attr) = None
 
 -- the nodes whose records an accepted change may alter
 abbrev pub touched_by : State → Change → List ℕ
-touched_by s c = node_of s c ∷ []
+touched_by s c = node_of s c ∷ option_to_list (clobbered s c)
+
+-- the record that a change leaves at its own node
+abbrev pub record_left : State → Change → Option Record
+record_left s (Create dir name kind size time) = Some (record { dir = dir; name = name; kind = kind; size = size; time = time; attrs = [] })
+record_left s (Remove node) = None
+record_left s (Move node dir name clobber) = option_map (at_place dir name) (record_at s node)
+record_left s (Write node size time) = option_map (written size time) (record_at s node)
+record_left s (SetAttr node attr value) = option_map (setting attr value) (record_at s node)
+record_left s (RemoveAttr node attr) = option_map (unsetting attr) (record_at s node)

@@ -1,7 +1,11 @@
+pub mod Attributes
 pub mod Kind
 pub mod State
 pub mod Walk
 pub mod Change
+pub mod Places
+pub mod Lookup
+pub mod Seen
 pub mod Result
 pub mod Book
 pub mod Laws

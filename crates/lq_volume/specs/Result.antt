@@ -1,13 +1,15 @@
 -- What a query gives: the entries of the records that its predicate holds of, by rising node.
 use Rattle.std.specs.Prelude.{ℕ, pos, List, Option, Some, None, option_and_then, map, filter, codes, if◌then◌else◌}
+use Rattle.std.specs.Option.{option_map}
 use Rattle.std.specs.Str.{bytes_eq}
 use Rattle.lq_predicate.specs.Query.{Query}
 use Rattle.lq_value.specs.Compare.{Held, Words, Number}
 use Rattle.lq_predicate.specs.Truth.{truth}
 use Rattle.lq_value.specs.declared.entry.Entry.{Entry}
 use Rattle.lq_volume.specs.declared.change.Change.{Change}
-use Rattle.lq_volume.specs.declared.change.Change.TheVariants.{Create, Remove}
+use Rattle.lq_volume.specs.Attributes.{value_of, held}
 use Rattle.lq_volume.specs.State.{State, Record, record_at}
+use Rattle.lq_volume.specs.Change.{node_of, record_left}
 
 -- what a record shows under each name
 abbrev pub shown : Record → List ℕ → Option Held
@@ -15,7 +17,7 @@ shown r attr =
     if bytes_eq attr (codes "name") then Some (Words r.name)
     else if bytes_eq attr (codes "size") then Some (Number (pos r.size))
     else if bytes_eq attr (codes "last_modified") then Some (Number r.time)
-    else None
+    else option_map held (value_of r.attrs attr)
 
 abbrev pub entry_of : ℕ × Record → Entry
 entry_of e = record { dir = e.1.dir; name = e.1.name; node = e.0 }
@@ -33,5 +35,4 @@ match_at q s node = option_and_then (λ r. entry_if q (node, r)) (record_at s no
 
 -- the entry that a change leaves at its own node, where the predicate holds of it
 abbrev pub left_by : Query → State → Change → Option Entry
-left_by q s (Create dir name kind size time) = entry_if q (s.next, record { dir = dir; name = name; kind = kind; size = size; time = time })
-left_by q s (Remove node) = None
+left_by q s c = option_and_then (λ r. entry_if q (node_of s c, r)) (record_left s c)

@@ -5,7 +5,8 @@ use Rattle.std.specs.List.{list_any, AllByRecursion}
 use Rattle.std.specs.Map.{lookup, values_of}
 use Rattle.std.specs.Str.{bytes_eq}
 use Rattle.lq_value.specs.declared.kind.Kind.{Kind}
-use Rattle.lq_value.specs.declared.kind.Kind.TheVariants.{File, Folder}
+use Rattle.lq_value.specs.declared.kind.Kind.TheVariants.{Folder}
+use Rattle.lq_volume.specs.Attributes.{Attributes}
 use Rattle.lq_volume.specs.Kind.{is_folder}
 
 -- an entry, under its node
@@ -15,6 +16,7 @@ pub record Record : Type 0 where
   pub kind : Kind
   pub size : ℕ
   pub time : ℤ
+  pub attrs : Attributes
 
 pub record State : Type 0 where
   pub limit : ℕ

@@ -1,45 +1,46 @@
 //! The records of a volume, by node.
-ghost use Rattle.std.specs.List.{list_any, AllByRecursion};
+ghost use Rattle.std.specs.List.{AllByRecursion};
+ghost use Rattle.lq_volume.specs.State.{Rises, climbs, dir_of};
+ghost use Rattle.lq_volume.specs.Change.{without, altered, at_place, written, setting, unsetting};
 ghost use Rattle.lq_value.specs.Refusal.{IsRefusedBy};
-ghost use Rattle.lq_volume.specs.State.{Rises};
-ghost use Rattle.lq_volume.specs.Result.{entry_if};
-ghost use Rattle.std.specs.Map.{values_of};
-ghost use Rattle.std.specs.Str.{bytes_eq};
-ghost use Rattle.std.specs.Prelude.{◌≡◌, ◌==◌, ◌&&◌, ◌<◌, [], ◌∷◌, ◌++◌, filter, not, None, IfOk, OnErr, OnOk};
+ghost use Rattle.std.specs.Prelude.{◌≡◌, ◌==◌, ◌<◌, ◌^◌, [], ◌∷◌, ◌++◌, length, filter, not, None, IfErr, OnErr, OnOk};
 
 use crate::stored::Stored;
-use lq_predicate::{Predicate, holds};
-use lq_value::{Entry, Name, Refusal};
-use std::alloc::Global;
+use lq_value::{AttrName, Name, Refusal, Value};
 use std::collections::BTreeMap;
 
-/// Whether a record is in the folder.
-pub fn any_in(records: &BTreeMap<u64, Stored>, dir: u64) -> bool
-    ensures { result ≡ list_any (λ r. r.dir == dir) (values_of records.now.entries) }
+/// Whether a walk up by the folders comes from one node to another.
+pub fn climbs(records: &BTreeMap<u64, Stored>, from: u64, to: u64) -> bool
+    ensures { result ≡ climbs (length records.now.entries) (dir_of records.now.entries) to from }
 {
-    records.values().any(|record| record.is_in(dir))
+    let mut at = from;
+    for _ in 0..records.len() {
+        if at == to {
+            return true;
+        }
+        match records.get(&at) {
+            None => return false,
+            Some(record) => at = record.dir(),
+        }
+    }
+    at == to
 }
 
-/// Whether a record has the place.
-pub fn any_at(records: &BTreeMap<u64, Stored>, dir: u64, name: &Name) -> bool
-    ensures { result ≡ list_any (λ r. (r.dir == dir) && bytes_eq r.name name.now) (values_of records.now.entries) }
-{
-    records.values().any(|record| record.is_at(dir, name))
-}
-
-/// Adds a record under a node above all others.
+/// Adds a record under a node above all others, or hands it back where there is no memory.
 pub fn add_last(
     records: &mut BTreeMap<u64, Stored>,
     node: u64,
     stored: Stored,
-) -> Result<(), Refusal>
+) -> Result<(), Stored>
     requires { AllByRecursion (λ e. e.0 < node) records.old.entries }
-    ensures refused { IsRefusedBy result None }
     ensures ok { OnOk result (records.new.entries ≡ records.old.entries ++ (node, stored) ∷ []) }
     ensures err { OnErr result (records.new.entries ≡ records.old.entries) }
+    ensures back { IfErr result (λ back. back ≡ stored) }
 {
-    records.insert(node, stored)?;
-    Ok(())
+    match records.insert(node, stored) {
+        Ok(_) => Ok(()),
+        Err(failed) => Err(failed.value.1),
+    }
 }
 
 /// Takes a node's record out.
@@ -50,35 +51,61 @@ pub fn take_out(records: &mut BTreeMap<u64, Stored>, node: u64)
     records.remove(&node);
 }
 
-/// The entry of a record, where the predicate holds of it.
-pub fn entry_if(
-    alloc: Global,
-    predicate: &Predicate,
-    stored: &Stored,
-    node: u64,
-) -> Result<Option<Entry>, Refusal>
-    ensures refused { IsRefusedBy result None }
-    ensures value { IfOk result (λ found. found ≡ entry_if predicate.now (node, stored.now)) }
+/// Takes a node's record out, if one is named.
+pub fn take_out_if(records: &mut BTreeMap<u64, Stored>, node: Option<u64>)
+    requires { Rises records.old.entries }
+    ensures { records.new.entries ≡ without node records.old.entries }
 {
-    if holds(predicate, stored) {
-        Ok(Some(stored.entry(alloc, node)?))
-    } else {
-        Ok(None)
+    if let Some(node) = node {
+        take_out(records, node);
     }
 }
 
-/// The same records under the same nodes.
-pub fn copy_all(
-    alloc: Global,
-    records: &BTreeMap<u64, Stored>,
-) -> Result<BTreeMap<u64, Stored>, Refusal>
-    requires { Rises records.now.entries }
-    ensures refused { IsRefusedBy result None }
-    ensures value { IfOk result (λ copy. copy.entries ≡ records.now.entries) }
+/// Gives a node another place.
+pub fn place(records: &mut BTreeMap<u64, Stored>, node: u64, dir: u64, name: Name)
+    requires { Rises records.old.entries }
+    ensures { records.new.entries ≡ altered node (at_place dir name) records.old.entries }
 {
-    let mut copy = BTreeMap::new(alloc);
-    for (node, record) in records {
-        add_last(&mut copy, *node, record.copy(alloc)?)?;
+    if let Some(record) = records.get_mut(&node) {
+        record.relocate(dir, name);
     }
-    Ok(copy)
+}
+
+/// Sets an attribute of a node. Refused: `NoMemory`, and then nothing changes.
+pub fn set_attr(
+    records: &mut BTreeMap<u64, Stored>,
+    node: u64,
+    attr: AttrName,
+    value: Value,
+) -> Result<(), Refusal>
+    requires { Rises records.old.entries }
+    ensures refused { IsRefusedBy result None }
+    ensures ok { OnOk result (records.new.entries ≡ altered node (setting attr value) records.old.entries) }
+    ensures err { OnErr result (records.new.entries ≡ records.old.entries) }
+{
+    if let Some(record) = records.get_mut(&node) {
+        record.set_attr(attr, value)?;
+    }
+    Ok(())
+}
+
+/// Takes an attribute of a node out.
+pub fn unset_attr(records: &mut BTreeMap<u64, Stored>, node: u64, attr: &AttrName)
+    requires { Rises records.old.entries }
+    ensures { records.new.entries ≡ altered node (unsetting attr.now) records.old.entries }
+{
+    if let Some(record) = records.get_mut(&node) {
+        record.unset_attr(attr);
+    }
+}
+
+/// Gives a node another size and time.
+pub fn write(records: &mut BTreeMap<u64, Stored>, node: u64, size: u64, time: i64)
+    requires rise { Rises records.old.entries }
+    requires small { size < 2 ^ 63 }
+    ensures { records.new.entries ≡ altered node (written size time) records.old.entries }
+{
+    if let Some(record) = records.get_mut(&node) {
+        record.write(size, time);
+    }
 }

@@ -1,10 +1,11 @@
 //! An entry, as a volume keeps it.
-ghost use Rattle.std.specs.Prelude.{◌≡◌, ◌==◌, ◌&&◌, ◌<◌, ◌^◌, None, IfOk};
+ghost use Rattle.std.specs.Prelude.{◌≡◌, ◌==◌, ◌&&◌, ◌<◌, ◌^◌, [], None, IfOk, OnOk, OnErr};
 ghost use Rattle.std.specs.Str.{bytes_eq};
 ghost use Rattle.lq_value.specs.Refusal.{IsRefusedBy};
 
-use lq_predicate::Row;
-use lq_value::{AttrName, Entry, Kind, Name, Refusal, View};
+use crate::attributes::Attributes;
+use crate::seen::{Difference, Seen};
+use lq_value::{AttrName, Kind, Name, Refusal, Value};
 use std::alloc::Global;
 use std::marker::Model;
 
@@ -16,6 +17,7 @@ pub struct Stored {
     kind: Kind,
     size: u64,
     time: i64,
+    attrs: Attributes,
 }
 
 impl Model for Stored {
@@ -24,18 +26,20 @@ impl Model for Stored {
 
     ghost Value = { Record };
 
-    ghost view = { λ r. record { dir = r.dir; name = r.name; kind = r.kind; size = r.size; time = r.time } };
+    ghost view = { λ r. record { dir = r.dir; name = r.name; kind = r.kind; size = r.size; time = r.time; attrs = r.attrs } };
 
     ghost invariant = { λ r. r.size < 2 ^ 63 };
 }
 
 impl Stored {
     ghost use Rattle.lq_volume.specs.State.{Record};
-    ghost use Rattle.lq_volume.specs.Result.{entry_of};
+    ghost use Rattle.lq_volume.specs.Change.{at_place, written, setting, unsetting, with_attrs};
+    ghost use Rattle.lq_volume.specs.Seen.{attrs_after};
 
-    pub fn new(dir: u64, name: Name, kind: Kind, size: u64, time: i64) -> Stored
+    /// A record without attributes.
+    pub fn new(alloc: Global, dir: u64, name: Name, kind: Kind, size: u64, time: i64) -> Stored
         requires { size < 2 ^ 63 }
-        ensures { result ≡ record { dir = dir; name = name; kind = kind; size = size; time = time } }
+        ensures { result ≡ record { dir = dir; name = name; kind = kind; size = size; time = time; attrs = [] } }
     {
         Stored {
             dir,
@@ -43,7 +47,20 @@ impl Stored {
             kind,
             size,
             time,
+            attrs: Attributes::new(alloc),
         }
+    }
+
+    pub fn dir(&self) -> u64
+        ensures { result ≡ self.now.dir }
+    {
+        self.dir
+    }
+
+    pub fn name(&self) -> &Name
+        ensures { result.now ≡ self.now.name }
+    {
+        &self.name
     }
 
     pub fn kind(&self) -> Kind
@@ -52,10 +69,23 @@ impl Stored {
         self.kind
     }
 
-    pub fn is_in(&self, dir: u64) -> bool
-        ensures { result ≡ (self.now.dir == dir) }
+    pub fn size(&self) -> u64
+        ensures value { result ≡ self.now.size }
+        ensures small { result < 2 ^ 63 }
     {
-        self.dir == dir
+        self.size
+    }
+
+    pub fn time(&self) -> i64
+        ensures { result ≡ self.now.time }
+    {
+        self.time
+    }
+
+    pub fn attrs(&self) -> &Attributes
+        ensures { result.now ≡ self.now.attrs }
+    {
+        &self.attrs
     }
 
     pub fn is_at(&self, dir: u64, name: &Name) -> bool
@@ -64,16 +94,76 @@ impl Stored {
         self.dir == dir && self.name == *name
     }
 
-    /// The entry under a node.
-    pub fn entry(&self, alloc: Global, node: u64) -> Result<Entry, Refusal>
-        ensures refused { IsRefusedBy result None }
-        ensures value { IfOk result (λ entry. entry ≡ entry_of (node, self.now)) }
+    /// Gives the entry another place.
+    pub fn relocate(&mut self, dir: u64, name: Name)
+        ensures { self.new ≡ at_place dir name self.old }
     {
-        Ok(Entry {
+        self.dir = dir;
+        self.name = name;
+    }
+
+    /// Gives the entry another size and time.
+    pub fn write(&mut self, size: u64, time: i64)
+        requires { size < 2 ^ 63 }
+        ensures { self.new ≡ written size time self.old }
+    {
+        self.size = size;
+        self.time = time;
+    }
+
+    /// Sets an attribute. Refused: `NoMemory`, and then nothing changes.
+    pub fn set_attr(&mut self, attr: AttrName, value: Value) -> Result<(), Refusal>
+        ensures refused { IsRefusedBy result None }
+        ensures ok { OnOk result (self.new ≡ setting attr value self.old) }
+        ensures err { OnErr result (self.new ≡ self.old) }
+    {
+        self.attrs.set(attr, value)?;
+        Ok(())
+    }
+
+    /// Takes an attribute out.
+    pub fn unset_attr(&mut self, attr: &AttrName)
+        ensures { self.new ≡ unsetting attr.now self.old }
+    {
+        self.attrs.unset(attr);
+    }
+
+    /// What a predicate sees of it, but for a difference.
+    pub fn seen<'a>(&'a self, difference: Difference<'a>) -> Seen<'a>
+        ensures { result ≡ with_attrs (attrs_after difference.entry self.now.attrs) self.now }
+    {
+        Seen {
             dir: self.dir,
-            name: self.name.copy(alloc)?,
-            node,
-        })
+            name: &self.name,
+            kind: self.kind,
+            size: self.size,
+            time: self.time,
+            attrs: Some(&self.attrs),
+            difference,
+        }
+    }
+
+    /// What a predicate would see of it at another place.
+    pub fn seen_at<'a>(&'a self, dir: u64, name: &'a Name) -> Seen<'a>
+        ensures { result ≡ at_place dir name.now self.now }
+    {
+        Seen {
+            dir,
+            name,
+            ..self.seen(Difference::None)
+        }
+    }
+
+    /// What a predicate would see of it with another size and time.
+    pub fn seen_with(&self, size: u64, time: i64) -> Seen<'_>
+        requires { size < 2 ^ 63 }
+        ensures { result ≡ written size time self.now }
+    {
+        Seen {
+            size,
+            time,
+            ..self.seen(Difference::None)
+        }
     }
 
     /// Another that is the same.
@@ -87,24 +177,7 @@ impl Stored {
             kind: self.kind,
             size: self.size,
             time: self.time,
+            attrs: self.attrs.copy(alloc)?,
         })
-    }
-}
-
-impl Row for Stored {
-    ghost use Rattle.lq_volume.specs.Result.{shown};
-
-    ghost looks = { shown };
-
-    fn look(&self, attr: &AttrName) -> Option<View<'_>> {
-        if attr.as_str() == "name" {
-            Some(View::Text(self.name.as_str()))
-        } else if attr.as_str() == "size" {
-            Some(View::Int64(self.size as i64))
-        } else if attr.as_str() == "last_modified" {
-            Some(View::Int64(self.time))
-        } else {
-            None
-        }
     }
 }

@@ -1,20 +1,21 @@
 //! The volume.
-ghost use Rattle.std.specs.Prelude.{◌≡◌, ◌≤◌, ◌+◌, Some, None, IfOk, IfErr, OnErr, OnOk};
+ghost use Rattle.std.specs.Option.{option_copied};
+ghost use Rattle.std.specs.Prelude.{◌≡◌, ◌≤◌, ◌+◌, Some, None, IfOk, IfErr, OnErr, OnOk, nat_le, is_some};
 
 use crate::change::{Applied, Change};
-use crate::records::{add_last, any_at, any_in, copy_all, entry_if, take_out};
+use crate::checks::{
+    check_create, check_move, check_remove, check_remove_attr, check_set_attr, check_write,
+};
+use crate::entries::Entries;
+use crate::entry_ref::{EntryRef, Listing};
 use crate::stored::Stored;
-use lq_predicate::{Predicate, holds};
-use lq_value::{Entry, Kind, Name, Refusal};
+use lq_predicate::Predicate;
+use lq_value::{AttrName, Entry, Kind, Name, Refusal};
 use std::alloc::Global;
-use std::collections::BTreeMap;
 use std::marker::Model;
 
 /// The node of the root, which is a folder and no entry.
-const ROOT: u64 = 1;
-
-/// The most bytes of a file: it shows as an `i64`.
-const MAX_SIZE: u64 = 9_223_372_036_854_775_807;
+pub(crate) const ROOT: u64 = 1;
 
 /// A tree of entries below one root, and the number of changes that it took.
 ///
@@ -26,7 +27,7 @@ pub struct Volume {
     changes: u64,
     next: u64,
     alloc: Global,
-    records: BTreeMap<u64, Stored>,
+    entries: Entries,
 }
 
 impl Model for Volume {
@@ -34,16 +35,17 @@ impl Model for Volume {
 
     ghost Value = { State };
 
-    ghost view = { λ v. record { limit = v.limit; number = v.changes; next = v.next; records = v.records.entries } };
+    ghost view = { λ v. record { limit = v.limit; number = v.changes; next = v.next; records = v.entries } };
 
-    ghost invariant = { λ v. IsVolume (record { limit = v.limit; number = v.changes; next = v.next; records = v.records.entries }) };
+    ghost invariant = { λ v. IsVolume (record { limit = v.limit; number = v.changes; next = v.next; records = v.entries }) };
 }
 
 impl Volume {
-    ghost use Rattle.lq_value.specs.Refusal.{IsRefusedBy};
-    ghost use Rattle.lq_volume.specs.State.{empty_state, kind_at, has_entries, is_taken, IsVolume};
-    ghost use Rattle.lq_volume.specs.Change.{refused, after, node_of, IsLawful};
-    ghost use Rattle.lq_volume.specs.Result.{result_of, match_at, left_by};
+    ghost use Rattle.lq_value.specs.Refusal.{IsRefusedBy, first_refusal};
+    ghost use Rattle.lq_volume.specs.State.{empty_state, record_at, kind_at, is_folder_at, has_entries, is_taken, node_in, reaches, IsVolume};
+    ghost use Rattle.lq_volume.specs.Change.{refused, after, node_of, clobbered, other_at, attr_of, is_full};
+    ghost use Rattle.lq_volume.specs.Lookup.{find_refusals, entry_refusals, listed};
+    ghost use Rattle.lq_volume.specs.Result.{result_of};
 
     /// The root alone, which takes at most `limit` changes, 1 to 1,000,000,000,000.
     ///
@@ -57,7 +59,7 @@ impl Volume {
             changes: 0,
             next: 2,
             alloc,
-            records: BTreeMap::new(alloc),
+            entries: Entries::new(alloc),
         }
     }
 
@@ -76,11 +78,64 @@ impl Volume {
         self.limit
     }
 
+    /// The node that has a place. It takes no memory.
+    ///
+    /// Refused, the first that fits: `NoNode` where there is no node `dir`, `NotFolder` where it
+    /// is a file, `NoEntry` where it has no entry of that name.
+    pub fn find(&self, dir: u64, name: &Name) -> Result<u64, Refusal>
+        ensures value { IfOk result (λ node. node_in self.now.records dir name.now ≡ Some node) }
+        ensures ok { OnOk result (first_refusal (find_refusals self.now dir name.now) ≡ None) }
+        ensures err { IfErr result (λ e. first_refusal (find_refusals self.now dir name.now) ≡ Some e) }
+    {
+        match self.kind(dir) {
+            None => return Err(Refusal::NoNode),
+            Some(Kind::File) => return Err(Refusal::NotFolder),
+            Some(Kind::Folder) => {}
+        }
+        match self.entries.node_in(dir, name) {
+            None => Err(Refusal::NoEntry),
+            Some(node) => Ok(node),
+        }
+    }
+
+    /// The entry of a node. It takes no memory.
+    ///
+    /// Refused, the first that fits: `NoNode` where there is no such node, `NoEntry` for the
+    /// root, which is none.
+    pub fn entry(&self, node: u64) -> Result<EntryRef<'_>, Refusal>
+        ensures value { IfOk result (λ entry. record_at self.now node ≡ Some entry) }
+        ensures ok { OnOk result (first_refusal (entry_refusals self.now node) ≡ None) }
+        ensures err { IfErr result (λ e. first_refusal (entry_refusals self.now node) ≡ Some e) }
+    {
+        if node == ROOT {
+            return Err(Refusal::NoEntry);
+        }
+        match self.entries.get(node) {
+            None => Err(Refusal::NoNode),
+            Some(stored) => Ok(EntryRef::new(stored)),
+        }
+    }
+
+    /// All of the entry of a node, copied.
+    ///
+    /// Refused, the first that fits: `NoNode` where there is no such node, `NoEntry` for the
+    /// root, `NoMemory`.
+    pub fn listing(&self, node: u64) -> Result<Listing, Refusal>
+        ensures value { IfOk result (λ listing. record_at self.now node ≡ Some (listed listing)) }
+        ensures refused { IsRefusedBy result (first_refusal (entry_refusals self.now node)) }
+    {
+        let entry = self.entry(node)?;
+        Ok(entry.listing(self.alloc)?)
+    }
+
     /// What `apply` would answer. It takes no memory and changes nothing.
     ///
-    /// Refused, the first that fits: a creation `NoNode`, `NotFolder`, `Exists`, `IsFolder` (a
-    /// folder with a size), `TooLong`, `Exhausted`; a removal `NoNode`, `Reserved` (the root),
-    /// `NotEmpty`, `Exhausted`. The order is our own.
+    /// Refused, the first that fits. A creation: `NoNode`, `NotFolder`, `Exists`, `IsFolder` (a
+    /// folder with a size), `TooLong`, `Exhausted`. A removal: `NoNode`, `Reserved` (the root),
+    /// `NotEmpty`, `Exhausted`. A move: `NoNode`, `Reserved`, `NoNode` and `NotFolder` (of `dir`),
+    /// `WouldLoop`, then of another node at the place `Exists` (without `clobber`), `KindClash`
+    /// and `NotEmpty`, then `Exhausted`. A write: `NoNode`, `Reserved`, `IsFolder`, `TooLong`,
+    /// `Exhausted`. The order is our own.
     pub fn check(&self, change: &Change) -> Result<Applied, Refusal>
         ensures ok { OnOk result (refused self.now change.now ≡ None) }
         ensures err { IfErr result (λ e. refused self.now change.now ≡ Some e) }
@@ -94,49 +149,22 @@ impl Volume {
                 kind,
                 size,
                 ..
-            } => {
-                match self.kind(*dir) {
-                    None => return Err(Refusal::NoNode),
-                    Some(Kind::File) => return Err(Refusal::NotFolder),
-                    Some(Kind::Folder) => {}
-                }
-                if self.is_taken(*dir, name) {
-                    return Err(Refusal::Exists);
-                }
-                if *kind == Kind::Folder && *size != 0 {
-                    return Err(Refusal::IsFolder);
-                }
-                if *size > MAX_SIZE {
-                    return Err(Refusal::TooLong);
-                }
-                if self.limit <= self.changes {
-                    return Err(Refusal::Exhausted);
-                }
-                Ok(Applied {
-                    change: self.changes + 1,
-                    node: self.next,
-                })
-            }
-            Change::Remove { node } => {
-                let kind = match self.kind(*node) {
-                    None => return Err(Refusal::NoNode),
-                    Some(kind) => kind,
-                };
-                if *node == ROOT {
-                    return Err(Refusal::Reserved);
-                }
-                if kind == Kind::Folder && self.has_entries(*node) {
-                    return Err(Refusal::NotEmpty);
-                }
-                if self.limit <= self.changes {
-                    return Err(Refusal::Exhausted);
-                }
-                Ok(Applied {
-                    change: self.changes + 1,
-                    node: *node,
-                })
-            }
+            } => check_create(self, *dir, name, *kind, *size)?,
+            Change::Remove { node } => check_remove(self, *node)?,
+            Change::Move {
+                node,
+                dir,
+                name,
+                clobber,
+            } => check_move(self, *node, *dir, name, *clobber)?,
+            Change::Write { node, size, .. } => check_write(self, *node, *size)?,
+            Change::SetAttr { node, attr, .. } => check_set_attr(self, *node, attr)?,
+            Change::RemoveAttr { node, attr } => check_remove_attr(self, *node, attr)?,
         }
+        Ok(Applied {
+            change: self.changes + 1,
+            node: self.node_of(change),
+        })
     }
 
     /// Makes a change, or is refused as `check` is, or with `NoMemory`.
@@ -158,14 +186,47 @@ impl Volume {
                 size,
                 time,
             } => {
-                let record = Stored::new(*dir, name.copy(self.alloc)?, *kind, *size, *time);
-                add_last(&mut self.records, self.next, record)?;
+                let record = Stored::new(
+                    self.alloc,
+                    *dir,
+                    name.copy(self.alloc)?,
+                    *kind,
+                    *size,
+                    *time,
+                );
+                self.entries.add(self.next, record)?;
                 self.next += 1;
                 self.changes += 1;
                 Ok(applied)
             }
             Change::Remove { node } => {
-                take_out(&mut self.records, *node);
+                self.entries.remove(*node);
+                self.changes += 1;
+                Ok(applied)
+            }
+            Change::Move {
+                node,
+                dir,
+                name,
+                ..
+            } => {
+                let other = self.other_at(*node, *dir, name);
+                self.entries.shift(*node, *dir, name, other)?;
+                self.changes += 1;
+                Ok(applied)
+            }
+            Change::Write { node, size, time } => {
+                self.entries.write(*node, *size, *time);
+                self.changes += 1;
+                Ok(applied)
+            }
+            Change::SetAttr { node, attr, value } => {
+                self.entries.set_attr(*node, attr, value)?;
+                self.changes += 1;
+                Ok(applied)
+            }
+            Change::RemoveAttr { node, attr } => {
+                self.entries.unset_attr(*node, attr);
                 self.changes += 1;
                 Ok(applied)
             }
@@ -182,7 +243,7 @@ impl Volume {
             changes: self.changes,
             next: self.next,
             alloc: self.alloc,
-            records: copy_all(self.alloc, &self.records)?,
+            entries: self.entries.copy()?,
         })
     }
 
@@ -193,13 +254,7 @@ impl Volume {
         ensures refused { IsRefusedBy result None }
         ensures entries { IfOk result (λ entries. entries.items ≡ result_of predicate.now self.now) }
     {
-        let mut entries = Vec::new(self.alloc);
-        for (node, record) in &self.records {
-            if holds(predicate, record) {
-                entries.push(record.entry(self.alloc, *node)?)?;
-            }
-        }
-        Ok(entries)
+        self.entries.fetch(predicate)
     }
 
     /// The node that an accepted change creates or names. It takes no memory.
@@ -208,82 +263,107 @@ impl Volume {
     {
         match change {
             Change::Create { .. } => self.next,
-            Change::Remove { node } => *node,
+            Change::Remove { node }
+            | Change::Move { node, .. }
+            | Change::Write { node, .. }
+            | Change::SetAttr { node, .. }
+            | Change::RemoveAttr { node, .. } => *node,
         }
     }
 
-    /// The entry of a query's result that has this node, if there is one.
+    /// The other node that an accepted change takes away: that of a move's place.
     ///
-    /// Refused: `NoMemory`. It changes nothing.
-    pub fn matching(&self, predicate: &Predicate, node: u64) -> Result<Option<Entry>, Refusal>
-        ensures refused { IsRefusedBy result None }
-        ensures value { IfOk result (λ found. found ≡ match_at predicate.now self.now node) }
-    {
-        match self.records.get(&node) {
-            None => Ok(None),
-            Some(record) => Ok(entry_if(self.alloc, predicate, record, node)?),
-        }
-    }
-
-    /// The entry of the result after an accepted change that has the change's own node.
-    ///
-    /// Refused: `NoMemory`. It makes no change.
-    pub fn matching_after(
-        &self,
-        predicate: &Predicate,
-        change: &Change,
-    ) -> Result<Option<Entry>, Refusal>
-        requires { IsLawful self.now change.now }
-        ensures refused { IsRefusedBy result None }
-        ensures value { IfOk result (λ found. found ≡
-            match_at predicate.now (after self.now change.now) (node_of self.now change.now)) }
-    {
-        Ok(self.left_by(predicate, change)?)
-    }
-
-    // What a change leaves at its own node, where the predicate holds of it.
-    fn left_by(&self, predicate: &Predicate, change: &Change) -> Result<Option<Entry>, Refusal>
-        requires { IsLawful self.now change.now }
-        ensures refused { IsRefusedBy result None }
-        ensures value { IfOk result (λ found. found ≡ left_by predicate.now self.now change.now) }
-        ensures volume { IsVolume self.now }
+    /// It takes no memory.
+    pub fn clobbered(&self, change: &Change) -> Option<u64>
+        ensures { result ≡ clobbered self.now change.now }
     {
         match change {
-            Change::Create {
+            Change::Move {
+                node,
                 dir,
                 name,
-                kind,
-                size,
-                time,
-            } => {
-                let record = Stored::new(*dir, name.copy(self.alloc)?, *kind, *size, *time);
-                Ok(entry_if(self.alloc, predicate, &record, self.next)?)
-            }
-            Change::Remove { .. } => Ok(None),
+                ..
+            } => self.other_at(*node, *dir, name),
+            Change::Create { .. }
+            | Change::Remove { .. }
+            | Change::Write { .. }
+            | Change::SetAttr { .. }
+            | Change::RemoveAttr { .. } => None,
         }
     }
 
-    fn kind(&self, node: u64) -> Option<Kind>
+    pub(crate) fn alloc(&self) -> Global {
+        self.alloc
+    }
+
+    /// The record of a node.
+    pub(crate) fn record(&self, node: u64) -> Option<&Stored>
+        ensures { option_copied result ≡ record_at self.now node }
+    {
+        self.entries.get(node)
+    }
+
+    pub(crate) fn kind(&self, node: u64) -> Option<Kind>
         ensures { result ≡ kind_at self.now node }
     {
         if node == ROOT {
             return Some(Kind::Folder);
         }
-        match self.records.get(&node) {
+        match self.entries.get(node) {
             Some(record) => Some(record.kind()),
             None => None,
         }
     }
 
-    fn has_entries(&self, dir: u64) -> bool
-        ensures { result ≡ has_entries self.now dir }
+    pub(crate) fn is_folder(&self, node: u64) -> bool
+        ensures { result ≡ is_folder_at self.now node }
     {
-        any_in(&self.records, dir)
+        match self.kind(node) {
+            None => false,
+            Some(kind) => kind == Kind::Folder,
+        }
     }
 
-    fn is_taken(&self, dir: u64, name: &Name) -> bool
+    pub(crate) fn has_entries(&self, dir: u64) -> bool
+        ensures { result ≡ has_entries self.now dir }
+    {
+        self.entries.has_any(dir)
+    }
+
+    pub(crate) fn is_taken(&self, dir: u64, name: &Name) -> bool
         ensures { result ≡ is_taken self.now dir name.now }
     {
-        any_at(&self.records, dir, name)
+        self.entries.node_in(dir, name).is_some()
+    }
+
+    // The node that has the place, if it is another one.
+    pub(crate) fn other_at(&self, node: u64, dir: u64, name: &Name) -> Option<u64>
+        ensures { result ≡ other_at self.now node dir name.now }
+    {
+        match self.entries.node_in(dir, name) {
+            None => None,
+            Some(there) => { if there == node { None } else { Some(there) } }
+        }
+    }
+
+    pub(crate) fn reaches(&self, from: u64, to: u64) -> bool
+        ensures { result ≡ reaches self.now from to }
+    {
+        self.entries.reaches(from, to)
+    }
+
+    pub(crate) fn has_attr(&self, node: u64, attr: &AttrName) -> bool
+        ensures { result ≡ is_some (attr_of self.now node attr.now) }
+    {
+        match self.entries.get(node) {
+            None => false,
+            Some(record) => record.attrs().get(attr).is_some(),
+        }
+    }
+
+    pub(crate) fn is_full(&self) -> bool
+        ensures { result ≡ is_full self.now }
+    {
+        self.limit <= self.changes
     }
 }

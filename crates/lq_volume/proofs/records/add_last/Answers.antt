@@ -1,6 +1,6 @@
 use Rattle.std.proofs.Common.{◌∙◌}
-use Rattle.lq_volume.proofs.Entries.{insert_entry-above}
+use Rattle.lq_volume.proofs.RecordLemmas.{insert_entry-above}
 use Rattle.lq_volume.proofs.records.add_last.Goals as goal
 
-pub returns-clause-ok : goal.returns-clause-ok
-returns-clause-ok c = c.in_ok-insert.ensures.entries ∙ insert_entry-above _ _ _ c.requires
+pub returns-in-Ok-clause-ok : goal.returns-in-Ok-clause-ok
+returns-in-Ok-clause-ok c = c.in-Ok.ensures.entries ∙ insert_entry-above _ _ _ c.requires

@@ -1,5 +1,5 @@
 use Rattle.std.proofs.Common.{◌∙◌}
-use Rattle.lq_volume.proofs.Entries.{remove_entry-node}
+use Rattle.lq_volume.proofs.RecordLemmas.{remove_entry-node}
 use Rattle.lq_volume.proofs.records.take_out.Goals as goal
 
 pub returns : goal.returns

@@ -1,13 +1,15 @@
-use Rattle.std.proofs.Common.{◌≡◌, ◌∙◌, sym, ap}
-use Rattle.std.specs.Str.{bytes_eq, chars}
+use Rattle.std.proofs.Common.{◌≡◌, rules}
+use Rattle.std.specs.Str.{chars}
 use Rattle.lq_value.specs.Pattern.{fits}
-use Rattle.lq_value.proofs.PatternLemmas.{fits-sound, fits-complete, fits-text}
+use Rattle.lq_value.proofs.PatternLemmas.{fits-tells}
 use Rattle.lq_value.proofs.pattern.Pattern.matches.Goals as goal
 
-pub returns-clause-fits : goal.returns-clause-fits
-returns-clause-fits c =
-    c.eq.ensures ∙ ap (λ a. bytes_eq a c.args.text.now) c.as_str.ensures.value
-    ∙ sym (fits-text _ _ (rw (← c.as_str.ensures.value) c.as_str.utf8) c.utf8.text) ∙ ap (λ es. fits es (chars c.args.text.now)) c.self.view_is
+pub returns-in-PlainText-clause-split : goal.returns-in-PlainText-clause-split
+returns-in-PlainText-clause-split c =
+    let same : c.fits_plain.result ≡ fits c.args.self.now (chars c.args.text.now) = search rules in
+    fits-tells _ _ _ same
 
-pub returns-clause-split : goal.returns-clause-split
-returns-clause-split c = (λ h. fits-sound _ _ (sym (returns-clause-fits c) ∙ h), λ h. returns-clause-fits c ∙ fits-complete _ _ h)
+pub returns-in-Elements-clause-split : goal.returns-in-Elements-clause-split
+returns-in-Elements-clause-split c =
+    let same : c.fits_text.result ≡ fits c.args.self.now (chars c.args.text.now) = search rules in
+    fits-tells _ _ _ same

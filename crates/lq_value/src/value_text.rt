@@ -1,0 +1,66 @@
+//! The text of a value.
+ghost use Rattle.std.specs.Prelude.{◌≡◌, ◌≤◌, Some, None, IfOk, nat_le, length, if◌then◌else◌};
+ghost use Rattle.lq_value.specs.declared.refusal.Refusal.TheVariants.{TooLong};
+ghost use Rattle.lq_value.specs.Refusal.{IsRefusedBy};
+
+use crate::refusal::Refusal;
+use std::alloc::Global;
+use std::marker::Model;
+
+/// The longest text of a value, in bytes.
+const MAX_VALUE_TEXT: usize = 4096;
+
+/// The text of a value: at most 4,096 bytes of UTF-8.
+///
+/// A contract sees it as its bytes.
+#[derive(Debug, Drop)]
+pub struct ValueText {
+    text: String,
+}
+
+impl Model for ValueText {
+    ghost use Rattle.std.specs.Prelude.{ℕ, List, length, ◌≤◌};
+    ghost use Rattle.std.specs.String.{string_bytes};
+
+    ghost Value = { List ℕ };
+
+    ghost view = { λ value. string_bytes value.text };
+
+    ghost invariant = { λ value. length (string_bytes value.text) ≤ 4096 };
+}
+
+impl ValueText {
+    /// The value's text with these bytes.
+    ///
+    /// Refused, the first that fits: `TooLong` above 4,096 bytes, `NoMemory`. The limit is our
+    /// own.
+    pub fn read(alloc: Global, text: &str) -> Result<ValueText, Refusal>
+        ensures refused { IsRefusedBy result (if nat_le (length text.now) 4096 then None else Some TooLong) }
+        ensures value { IfOk result (λ value. value ≡ text.now) }
+    {
+        if text.len() > MAX_VALUE_TEXT {
+            return Err(Refusal::TooLong);
+        }
+        Ok(ValueText {
+            text: String::from_str(alloc, text)?,
+        })
+    }
+
+    /// The text, of at most 4,096 bytes. It takes no memory.
+    pub fn as_str(&self) -> &str
+        ensures value { result.now ≡ self.now }
+        ensures short { length self.now ≤ 4096 }
+    {
+        self.text.as_str()
+    }
+
+    /// Another text with the same bytes. Refused: `NoMemory`.
+    pub fn copy(&self, alloc: Global) -> Result<ValueText, Refusal>
+        ensures refused { IsRefusedBy result None }
+        ensures value { IfOk result (λ value. value ≡ self.now) }
+    {
+        Ok(ValueText {
+            text: String::from_str(alloc, self.text.as_str())?,
+        })
+    }
+}

@@ -1,0 +1,35 @@
+-- The attributes of an entry: names with their values, in the order in which they were first set.
+use Rattle.std.specs.Prelude.{ℕ, pos, List, Bool, not, ◌||◌, filter, codes, Option}
+use Rattle.std.specs.Map.{lookup}
+use Rattle.std.specs.Str.{bytes_eq}
+use Rattle.indexmap.specs.IndexMap.{insert_entry}
+use Rattle.lq_value.specs.Compare.{Held, Words, Number}
+use Rattle.lq_value.specs.declared.value.Value.{Value}
+use Rattle.lq_value.specs.declared.value.Value.TheVariants as value
+
+abbrev pub Attributes : Type 0
+Attributes = List (List ℕ × Value)
+
+-- the value of an attribute
+abbrev pub value_of : Attributes → List ℕ → Option Value
+value_of attrs attr = lookup (bytes_eq attr) attrs
+
+-- a present attribute keeps its place and takes the value, another goes last
+abbrev pub with_attr : Attributes → List ℕ → Value → Attributes
+with_attr attrs attr value = insert_entry bytes_eq attrs attr value
+
+-- the others keep their order
+abbrev pub without_attr : Attributes → List ℕ → Attributes
+without_attr attrs attr = filter (λ a. not (bytes_eq attr a.0)) attrs
+
+-- the names that show what every entry has
+abbrev pub is_reserved : List ℕ → Bool
+is_reserved attr = bytes_eq attr (codes "name") || bytes_eq attr (codes "size") || bytes_eq attr (codes "last_modified")
+
+-- what a value holds
+abbrev pub held : Value → Held
+held (value.Text text) = Words text
+held (value.Int32 number) = Number number
+held (value.Int64 number) = Number number
+held (value.UInt32 number) = Number (pos number)
+held (value.UInt64 number) = Number (pos number)

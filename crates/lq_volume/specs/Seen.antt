@@ -1,0 +1,17 @@
+-- The attributes that a change would leave.
+use Rattle.std.specs.Prelude.{Option, []}
+use Rattle.std.specs.Borrow.{Bor}
+use Rattle.std.specs.Option.{option_map_or}
+use Rattle.lq_volume.specs.Attributes.{Attributes, with_attr, without_attr}
+use Rattle.lq_volume.specs.declared.seen.Difference.{Difference}
+use Rattle.lq_volume.specs.declared.seen.Difference.TheVariants as difference
+
+-- those of an entry, none of one that a change would create
+abbrev pub attrs_of : Option (Bor Attributes) → Attributes
+attrs_of attrs = option_map_or (λ a. a.now) attrs []
+
+-- those of an entry, but for what a change sets or takes out
+abbrev pub attrs_after : Difference → Attributes → Attributes
+attrs_after difference.None attrs = attrs
+attrs_after (difference.Set attr value) attrs = with_attr attrs attr.now value.now
+attrs_after (difference.Unset attr) attrs = without_attr attrs attr.now

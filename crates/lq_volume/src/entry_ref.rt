@@ -1,0 +1,125 @@
+//! One entry of a volume, as a look-up shows it.
+ghost use Rattle.std.specs.Prelude.{◌≡◌, None, IfOk, length, slice_get};
+ghost use Rattle.std.specs.Option.{option_map};
+ghost use Rattle.lq_value.specs.Refusal.{IsRefusedBy};
+
+use crate::stored::Stored;
+use lq_value::{AttrName, Kind, Name, Refusal, Value, View};
+use std::alloc::Global;
+use std::marker::Model;
+
+/// One entry of a volume, borrowed. A contract sees it as its `Record`.
+#[derive(Debug, Drop)]
+pub struct EntryRef<'a> {
+    stored: &'a Stored,
+}
+
+impl<'a> Model for EntryRef<'a> {
+    ghost use Rattle.lq_volume.specs.State.{Record};
+
+    ghost Value = { Record };
+
+    ghost view = { λ e. e.stored.now };
+}
+
+/// What a volume holds of an entry: its place, its kind, its size in bytes and `last_modified`
+/// in seconds since 1970.
+#[derive(Debug, Drop)]
+pub struct Listing {
+    pub dir: u64,
+    pub name: Name,
+    pub kind: Kind,
+    pub size: u64,
+    pub time: i64,
+    /// The attributes, in the order in which they were first set.
+    pub attrs: Vec<(AttrName, Value)>,
+}
+
+impl<'a> EntryRef<'a> {
+    ghost use Rattle.lq_value.specs.Value.{shown_by};
+    ghost use Rattle.lq_volume.specs.Attributes.{value_of};
+    ghost use Rattle.lq_volume.specs.Lookup.{listed};
+
+    pub(crate) fn new(stored: &'a Stored) -> EntryRef<'a>
+        ensures { result ≡ stored.now }
+    {
+        EntryRef { stored }
+    }
+
+    /// The node of the folder that it is in. It takes no memory, as each call here but `listing`.
+    pub fn dir(&self) -> u64
+        ensures { result ≡ self.now.dir }
+    {
+        self.stored.dir()
+    }
+
+    /// Its name.
+    pub fn name(&self) -> &'a Name
+        ensures { result.now ≡ self.now.name }
+    {
+        self.stored.name()
+    }
+
+    /// Whether it is a file or a folder.
+    pub fn kind(&self) -> Kind
+        ensures { result ≡ self.now.kind }
+    {
+        self.stored.kind()
+    }
+
+    /// Its size in bytes, 0 of a folder.
+    pub fn size(&self) -> u64
+        ensures { result ≡ self.now.size }
+    {
+        self.stored.size()
+    }
+
+    /// Its `last_modified`, in seconds since 1970.
+    pub fn time(&self) -> i64
+        ensures { result ≡ self.now.time }
+    {
+        self.stored.time()
+    }
+
+    /// The value of an attribute, if it has one of that name.
+    pub fn attr(&self, attr: &AttrName) -> Option<View<'_>>
+        ensures { option_map shown_by result ≡ value_of self.now.attrs attr.now }
+    {
+        match self.stored.attrs().get(attr) {
+            None => None,
+            Some(value) => Some(value.view()),
+        }
+    }
+
+    /// How many attributes it has.
+    pub fn attr_count(&self) -> usize
+        ensures { result ≡ length self.now.attrs }
+    {
+        self.stored.attrs().len()
+    }
+
+    /// The attribute at a place, counted from 0 in the order in which they were first set.
+    pub fn attr_at(&self, place: usize) -> Option<(&AttrName, View<'_>)>
+        ensures { option_map (λ p. (p.0.now, shown_by p.1)) result ≡ slice_get self.now.attrs place }
+    {
+        match self.stored.attrs().at(place) {
+            None => None,
+            Some((name, value)) => Some((name, value.view())),
+        }
+    }
+
+    /// All of it, copied. Refused: `NoMemory`.
+    pub(crate) fn listing(&self, alloc: Global) -> Result<Listing, Refusal>
+        ensures refused { IsRefusedBy result None }
+        ensures value { IfOk result (λ listing. listed listing ≡ self.now) }
+    {
+        Ok(Listing {
+            dir: self.dir(),
+            name: self.name().copy(alloc)?,
+            kind: self.kind(),
+            size: self.size(),
+            time: self.time(),
+            attrs: self.stored.attrs().list(alloc)?,
+        })
+    }
+}

@@ -1,0 +1,127 @@
+//! An entry, as a predicate sees it.
+ghost use Rattle.std.specs.Prelude.{◌≡◌, None, IfOk};
+ghost use Rattle.std.specs.Option.{option_copied};
+ghost use Rattle.lq_value.specs.Refusal.{IsRefusedBy};
+ghost use Rattle.lq_volume.specs.Attributes.{value_of};
+ghost use Rattle.lq_volume.specs.Seen.{attrs_of};
+
+use crate::attributes::Attributes;
+use lq_predicate::Row;
+use lq_value::{AttrName, Entry, Kind, Name, Refusal, Value, View};
+use std::alloc::Global;
+use std::marker::Model;
+
+/// What a change would make of the attributes of an entry.
+#[derive(Clone, Copy, Debug)]
+pub enum Difference<'a> {
+    None,
+    Set {
+        attr: &'a AttrName,
+        value: &'a Value,
+    },
+    Unset {
+        attr: &'a AttrName,
+    },
+}
+
+/// An entry as it is, or as a change would leave it, borrowed. Its size shows as an `i64`.
+#[derive(Debug, Drop)]
+pub struct Seen<'a> {
+    pub dir: u64,
+    pub name: &'a Name,
+    pub kind: Kind,
+    pub size: u64,
+    pub time: i64,
+    pub attrs: Option<&'a Attributes>,
+    pub difference: Difference<'a>,
+}
+
+impl<'a> Model for Seen<'a> {
+    ghost use Rattle.std.specs.Prelude.{◌<◌, ◌^◌};
+    ghost use Rattle.lq_volume.specs.State.{Record};
+    ghost use Rattle.lq_volume.specs.Seen.{attrs_of, attrs_after};
+
+    ghost Value = { Record };
+
+    ghost view = { λ s. record {
+      dir = s.dir;
+      name = s.name.now;
+      kind = s.kind;
+      size = s.size;
+      time = s.time;
+      attrs = attrs_after s.difference (attrs_of s.attrs);
+    } };
+
+    ghost invariant = { λ s. s.size < 2 ^ 63 };
+}
+
+impl<'a> Seen<'a> {
+    ghost use Rattle.lq_volume.specs.Attributes.{value_of, held};
+    ghost use Rattle.lq_volume.specs.Result.{entry_of};
+
+    /// The entry under a node.
+    pub fn entry(&self, alloc: Global, node: u64) -> Result<Entry, Refusal>
+        ensures refused { IsRefusedBy result None }
+        ensures value { IfOk result (λ entry. entry ≡ entry_of (node, self.now)) }
+    {
+        Ok(Entry {
+            dir: self.dir,
+            name: self.name.copy(alloc)?,
+            node,
+        })
+    }
+
+    // The value of an attribute.
+    fn value(&self, asked: &AttrName) -> Option<&Value>
+        ensures { option_copied result ≡ value_of self.now.attrs asked.now }
+    {
+        match self.difference {
+            Difference::None => kept(self.attrs, asked),
+            Difference::Set { attr, value } => {
+                if asked.as_str() == attr.as_str() {
+                    Some(value)
+                } else {
+                    kept(self.attrs, asked)
+                }
+            }
+            Difference::Unset { attr } => {
+                if asked.as_str() == attr.as_str() {
+                    None
+                } else {
+                    kept(self.attrs, asked)
+                }
+            }
+        }
+    }
+}
+
+// The value of an attribute of an entry, as it is.
+fn kept<'a>(attrs: Option<&'a Attributes>, asked: &AttrName) -> Option<&'a Value>
+    ensures { option_copied result ≡ value_of (attrs_of attrs.entry) asked.now }
+{
+    match attrs {
+        None => None,
+        Some(attrs) => attrs.get(asked),
+    }
+}
+
+impl<'a> Row for Seen<'a> {
+    ghost use Rattle.lq_volume.specs.Result.{shown};
+
+    ghost looks = { shown };
+
+    fn look(&self, attr: &AttrName) -> Option<View<'_>> {
+        if attr.as_str() == "name" {
+            Some(View::Text(self.name.as_str()))
+        } else if attr.as_str() == "size" {
+            Some(View::Int64(self.size as i64))
+        } else if attr.as_str() == "last_modified" {
+            Some(View::Int64(self.time))
+        } else {
+            match self.value(attr) {
+                None => None,
+                Some(value) => Some(value.view()),
+            }
+        }
+    }
+}
