@@ -7,11 +7,11 @@ use Rattle.lq_predicate.specs.Query.{Query}
 use Rattle.lq_volume.specs.declared.change.Change.{Change as Change_}
 use Rattle.lq_volume.specs.State.{State, IsVolume}
 use Rattle.lq_volume.specs.Change.{after, IsLawful}
+use Rattle.lq_volume.specs.Laws.{ChangesCount}
 use Rattle.lq_update.specs.Laws.{UpdatesJoin, StepsAreFew}
 use Rattle.lq_desk.specs.Held.{Held, held_after, taken_from}
 use Rattle.lq_desk.specs.World.{first_world, with_change, with_sub}
 use Rattle.lq_desk.specs.Desk.{Kept, IsDesk, Shows, changed, opened, held_at, taken, taken_if}
-use Rattle.lq_desk.proofs.Openings.{number-after}
 use Rattle.lq_desk.proofs.KeptLemmas.{few-push, few-after}
 use Rattle.lq_desk.proofs.Shown.{shows-change, shows-open}
 use Rattle.lq_desk.proofs.Moved.{moves-take}
@@ -23,9 +23,9 @@ IsDesk-new s = record {
   shows = record { fair = tt; kept = refl };
 }
 
-pub IsDesk-change : UpdatesJoin → StepsAreFew → (k : Kept) (c : Change_) → IsDesk k → IsVolume k.volume → IsLawful k.volume c → IsDesk (changed k c)
-IsDesk-change join steps k c d v lawful = record {
-  few = subst (λ (n : ℕ). AllByRecursion (λ (h : Held). h.sent ≤ 3 * n) (changed k c).held) (sym (number-after k.volume c)) (few-after steps k.volume c k.held v lawful d.few);
+pub IsDesk-change : UpdatesJoin → StepsAreFew → ChangesCount → (k : Kept) (c : Change_) → IsDesk k → IsVolume k.volume → IsLawful k.volume c → IsDesk (changed k c)
+IsDesk-change join steps count k c d v lawful = record {
+  few = subst (λ (n : ℕ). AllByRecursion (λ (h : Held). h.sent ≤ 3 * n) (changed k c).held) (sym (count k.volume c)) (few-after steps k.volume c k.held v lawful d.few);
   world = with_change d.world c;
   shows = shows-change join k d.world c d.shows;
 }

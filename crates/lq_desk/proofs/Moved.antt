@@ -14,6 +14,7 @@ use Rattle.lq_volume.specs.declared.change.Applied.{Applied}
 use Rattle.lq_volume.specs.State.{State}
 use Rattle.lq_volume.specs.Change.{refused as refused_by, node_of, after}
 use Rattle.lq_volume.specs.Result.{result_of}
+use Rattle.lq_volume.specs.Laws.{ChangesCount}
 use Rattle.lq_volume.specs.Book.{number_of, state_of}
 use Rattle.lq_update.specs.declared.message.Message.{Message}
 use Rattle.lq_desk.specs.Held.{Held, taken_from}
@@ -74,13 +75,13 @@ moves-not_opened old new w q port backlog moved e shows same was = record {
 done_open : (w : World) (q : Query) (moved : Bool) (a : Answer) (o : Option Refusal) → o ≡ None → a ≡ Opened (length w.slots + 1) (number_of w.book) (result_of q (state_of w.book)) → (a ≡ (opening w q moved o).0) × (with_sub w q moved ≡ (opening w q moved o).1)
 done_open w q moved a o none is = subst (λ (p : Option Refusal). (a ≡ (opening w q moved p).0) × (with_sub w q moved ≡ (opening w q moved p).1)) (sym none) (is, refl)
 
-pub moves-opened : (old new : Kept) (w : World) (q : Query) (port backlog : ℕ) (moved : Bool) (a : Answer) → Shows old w → opening_refusal old port backlog ≡ None
+pub moves-opened : ChangesCount → (old new : Kept) (w : World) (q : Query) (port backlog : ℕ) (moved : Bool) (a : Answer) → Shows old w → opening_refusal old port backlog ≡ None
     → a ≡ Opened (length old.held + 1) old.volume.number (result_of q old.volume) → Shows new (with_sub w q moved) → Moves new w (Opening q port backlog moved) a
-moves-opened old new w q port backlog moved a shows none is after =
+moves-opened count old new w q port backlog moved a shows none is after =
     let volume : old.volume ≡ state_of w.book = ap (λ (k : Kept). k.volume) shows.kept in
     let slots : length old.held ≡ length w.slots = ap (λ (k : Kept). length k.held) shows.kept ∙ length-map (held_for w.book) w.slots in
     let slot_here : length old.held + 1 ≡ length w.slots + 1 = omega arith in
-    let at_here : old.volume.number ≡ number_of w.book = ap (λ (s : State). s.number) volume ∙ number-all w.book.start w.book.changes in
+    let at_here : old.volume.number ≡ number_of w.book = ap (λ (s : State). s.number) volume ∙ number-all count w.book.start w.book.changes in
     let first_here : result_of q old.volume ≡ result_of q (state_of w.book) = ap (result_of q) volume in
     record {
       next = with_sub w q moved;
@@ -147,7 +148,7 @@ map-more f [] x = refl
 map-more f (y ∷ xs) x = ap (λ zs. f y ∷ zs) (map-more f xs x)
 
 -- ---- what is kept answers as a world that it shows
-module _ (join : UpdatesJoin) where
+module _ (join : UpdatesJoin) (count : ChangesCount) where
   alike-change : (k : Kept) (w : World) (c : Change_) (o p : Option Refusal) → o ≡ p → Shows k w → ((keeping k c o).0 ≡ (changing w c p).0) × Shows (keeping k c o).1 (changing w c p).1
   alike-change k w c o p same shows = subst (λ (r : Option Refusal). ((keeping k c o).0 ≡ (changing w c r).0) × Shows (keeping k c o).1 (changing w c r).1) same (at o)
     where
@@ -164,7 +165,7 @@ module _ (join : UpdatesJoin) where
           let volume : k.volume ≡ state_of w.book = ap (λ (j : Kept). j.volume) shows.kept in
           let slots : length k.held ≡ length w.slots = ap (λ (j : Kept). length j.held) shows.kept ∙ length-map (held_for w.book) w.slots in
           let slot_here : length k.held + 1 ≡ length w.slots + 1 = omega arith in
-          let at_here : k.volume.number ≡ number_of w.book = ap (λ (s : State). s.number) volume ∙ number-all w.book.start w.book.changes in (
+          let at_here : k.volume.number ≡ number_of w.book = ap (λ (s : State). s.number) volume ∙ number-all count w.book.start w.book.changes in (
             ap (λ n. Opened n k.volume.number (result_of q k.volume)) slot_here
                 ∙ (ap (λ n. Opened (length w.slots + 1) n (result_of q k.volume)) at_here ∙ ap (λ s. Opened (length w.slots + 1) (number_of w.book) (result_of q s)) volume),
             shows-open k w q moved shows,

@@ -5,9 +5,9 @@ use Rattle.lq_value.specs.declared.refusal.Refusal.{Refusal}
 use Rattle.lq_value.specs.declared.entry.Entry.{Entry}
 use Rattle.lq_predicate.specs.Query.{Query}
 use Rattle.lq_volume.specs.declared.change.Change.{Change as Change_}
-use Rattle.lq_volume.specs.declared.change.Change.TheVariants.{Create, Remove}
 use Rattle.lq_volume.specs.State.{State}
 use Rattle.lq_volume.specs.Change.{refused as refused_by, after}
+use Rattle.lq_volume.specs.Laws.{ChangesCount}
 use Rattle.lq_volume.specs.Book.{Book, after_all, grown, number_of, state_of, state_at}
 use Rattle.lq_update.specs.declared.message.Message.{Message}
 use Rattle.lq_update.specs.Updates.{updates_from, updates_of, IsPrefixOf}
@@ -89,13 +89,9 @@ prefix_from_taken n xs ys e = (drop n ys, ap (λ zs. zs ++ drop n ys) e ∙ take
     take-drop (suc n) (y ∷ ys) = ap (λ zs. y ∷ zs) (take-drop n ys)
 
 -- the number of the state that a book leads to
-pub number-after : (s : State) (c : Change_) → (after s c).number ≡ s.number + 1
-number-after s (Create dir name kind size time) = refl
-number-after s (Remove node) = refl
-
-pub number-all : (s : State) (cs : List Change_) → (after_all s cs).number ≡ s.number + length cs
-number-all s [] = omega arith
-number-all s (c ∷ cs) = omega (arith, number-all (after s c) cs, number-after s c)
+pub number-all : ChangesCount → (s : State) (cs : List Change_) → (after_all s cs).number ≡ s.number + length cs
+number-all count s [] = omega arith
+number-all count s (c ∷ cs) = omega (arith, number-all count (after s c) cs, count s c)
 
 -- the update list from the end of a book on goes by that state and the later changes alone
 from-here : (q : Query) (moved : Bool) (b : Book) (cs : List Change_) → from_opening q moved (grown b cs) (number_of b) ≡ updates_from q moved (state_of b) cs 1
@@ -123,7 +119,7 @@ run_parts w (e ∷ before) events (a ∷ befores) answers end same run =
     let rest = run_parts run.0 before events befores answers end (omega arith) run.2 in
     (rest.0, (run.0, run.1, rest.1), rest.2)
 
-module _ (join : UpdatesJoin) where
+module _ (join : UpdatesJoin) (count : ChangesCount) where
   opened_reads : (w : World) (q : Query) (port backlog : ℕ) (moved : Bool) (slot at : ℕ) (first : List Entry) (events : List Happening) (answers : List Answer) (end : World)
       → Run w (Opening q port backlog moved ∷ events) (Opened slot at first ∷ answers) end
       → (at ≡ number_of w.book) × IsPrefixOf (reads_of slot events answers) (updates_from q moved (state_of w.book) (accepted events answers) 1)
@@ -151,7 +147,7 @@ module _ (join : UpdatesJoin) where
       let state : state_of mid.book ≡ after_all start early = ap state_of here ∙ after_all-append w.book.start w.book.changes early in
       let all : accepted events answers ≡ early ++ late = ap (λ es. accepted es answers) is ∙ (ap (accepted (before ++ Opening q port backlog moved ∷ after)) told ∙ accepted-append before (Opening q port backlog moved ∷ after) befores (Opened slot at first ∷ afters) same) in
       let b : Book = record { start = start; changes = early } in
-      let number : at ≡ number_of b = reads.0 ∙ (ap number_of here ∙ omega (arith, length-append w.book.changes early, number-all w.book.start w.book.changes)) in
+      let number : at ≡ number_of b = reads.0 ∙ (ap number_of here ∙ omega (arith, length-append w.book.changes early, number-all count w.book.start w.book.changes)) in
       let list : updates_of q moved (book_of start events answers) at (number_of (book_of start events answers)) ≡ updates_from q moved (state_of mid.book) late 1 =
       whole-from q moved (book_of start events answers) at
       ∙ (ap (λ cs. from_opening q moved (record { start = start; changes = cs }) at) all

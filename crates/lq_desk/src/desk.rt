@@ -10,7 +10,7 @@ use crate::subs::{commit_all, prepare_all, take_at};
 use lq_predicate::Predicate;
 use lq_update::{steps_are_few, updates_join};
 use lq_value::Refusal;
-use lq_volume::{Applied, Change, Volume};
+use lq_volume::{Applied, Change, Volume, changes_are_counted};
 use std::alloc::Global;
 use std::marker::Model;
 
@@ -85,6 +85,7 @@ impl Desk {
         ensures world { (w : World) → Shows self.old w →
             Moves self.new w (happening_of event.now) (answer_of result) }
     {
+        changes_are_counted();
         match event {
             Event::Change(change) => match self.change(change) {
                 Ok(applied) => Reply::Changed(applied),
@@ -116,6 +117,7 @@ impl Desk {
         ensures err { OnErr result (self.new ≡ self.old) }
     {
         updates_join();
+        changes_are_counted();
         let mut replies = Vec::with_capacity(self.alloc, events.len())?;
         for event in events {
             let reply = self.event(event);
@@ -137,6 +139,7 @@ impl Desk {
     {
         updates_join();
         steps_are_few();
+        changes_are_counted();
         let _ = self.volume.changes();
         let _ = self.volume.check(change)?;
         prepare_all(&mut self.subs, &self.volume, change)?;

@@ -1,11 +1,12 @@
 -- What a query's result loses between two states that differ at two nodes alone.
-use Rattle.std.proofs.Common.{◌≡◌, ℕ, ◌+◌, ◌<◌, ◌≤◌, length, List, [], ◌∷◌, ◌++◌, refl, sym, arith, ap, ◌∙◌, Bool, true, false, eqb, inl, inr, append-nil}
-use Rattle.std.specs.Prelude.{not, filter, map, cond, ◌&&◌, ◌==◌, Option, Some, None, option_and_then}
+use Rattle.std.proofs.Common.{◌≡◌, ◌≢◌, ℕ, suc, ◌+◌, ◌<◌, ◌≤◌, length, List, [], ◌∷◌, ◌++◌, refl, sym, arith, ap, ◌∙◌, Bool, true, false, eqb, inl, inr, append-nil}
+use Rattle.std.specs.Prelude.{nat_lt, not, filter, map, cond, ◌&&◌, ◌==◌, Option, Some, None, option_and_then}
 use Rattle.std.specs.Option.{option_map_or, option_to_list}
 use Rattle.std.specs.List.{AllByRecursion, list_any}
 use Rattle.std.specs.Str.{bytes_eq}
 use Rattle.std.specs.Map.{lookup}
-use Rattle.std.proofs.lemmas.Bool.{cases_eq}
+use Rattle.std.proofs.lemmas.Bool.{cases_eq, cases_lt}
+use Rattle.std.proofs.lemmas.List.{length-append, length-map}
 use Rattle.std.proofs.lemmas.Bool.Decides.{nat_tests}
 use Rattle.std.proofs.lemmas.Slice.Eq.{bytes_eq-Decides}
 use Rattle.lq_value.specs.declared.entry.Entry.{Entry}
@@ -13,7 +14,7 @@ use Rattle.lq_predicate.specs.Query.{Query}
 use Rattle.lq_predicate.specs.Truth.{truth}
 use Rattle.lq_volume.specs.declared.change.Change.{Change}
 use Rattle.lq_volume.specs.State.{State, Record, Rises, record_at, IsVolume}
-use Rattle.lq_volume.specs.Change.{after, node_of}
+use Rattle.lq_volume.specs.Change.{after, clobbered, node_of, touched_by}
 use Rattle.lq_volume.specs.Result.{entry_of, shown, result_of, match_at, entry_if}
 use Rattle.lq_update.specs.declared.message.Opcode.{Opcode}
 use Rattle.lq_update.specs.declared.message.Opcode.TheVariants.{Created, Removed}
@@ -163,26 +164,121 @@ diff-one q moved s t a h k same =
     let next : match_at q s (a + 1) ≡ match_at q t (a + 1) = ap (option_and_then (λ r. entry_if q (a + 1, r))) (same (a + 1) (λ e. let f : ⊥ = omega arith in f)) in
     diff-touched q moved s t a (a + 1) (omega arith) h k (λ n x y. same n x) ∙ rw (next, left-same, append-nil, append-nil) refl
 
--- a change that touches one node tells just what matched there before and after
-pub step-one : (q : Query) (moved : Bool) (s : State) (c : Change) (seq : ℕ) (removed created : Option Entry)
-    → IsVolume s → IsVolume (after s c) → ((n : ℕ) → (n ≡ node_of s c → ⊥) → record_at s n ≡ record_at (after s c) n)
-    → removed ≡ left (match_at q s (node_of s c)) (match_at q (after s c) (node_of s c))
-    → created ≡ left (match_at q (after s c) (node_of s c)) (match_at q s (node_of s c))
-    → numbered seq (s.number + 1) (map (λ e. (Removed, e)) (option_to_list removed) ++ map (λ e. (Created, e)) (option_to_list created)) ≡ step_of q moved s c seq
-step-one q moved s c seq removed created v w same gone came =
-    let all = diff-one q moved s (after s c) (node_of s c) v.numbered.rise w.numbered.rise same in
-    ap (λ o. numbered seq (s.number + 1) (map (λ e. (Removed, e)) (option_to_list o) ++ map (λ e. (Created, e)) (option_to_list created))) gone
-    ∙ (ap (λ o. numbered seq (s.number + 1) (map (λ e. (Removed, e)) (option_to_list (left (match_at q s (node_of s c)) (match_at q (after s c) (node_of s c)))) ++ map (λ e. (Created, e)) (option_to_list o))) came
-    ∙ ap (numbered seq (s.number + 1)) (sym all))
+-- what one node and perhaps another tell, the other having no entry afterwards
+abbrev pub removed_of : Query → State → State → ℕ → Option ℕ → List Entry
+removed_of q s t node None = option_to_list (left (match_at q s node) (match_at q t node))
+removed_of q s t node (Some other) =
+    cond (nat_lt other node)
+    (option_to_list (match_at q s other) ++ option_to_list (left (match_at q s node) (match_at q t node)))
+    (option_to_list (left (match_at q s node) (match_at q t node)) ++ option_to_list (match_at q s other))
+
+left-none : (o : Option Entry) → left o None ≡ o
+left-none None = refl
+left-none (Some e) = refl
+
+-- a node that goes has no entry
+match-gone : (q : Query) (t : State) (n : ℕ) → record_at t n ≡ None → match_at q t n ≡ None
+match-gone q t n is = ap (option_and_then (λ r. entry_if q (n, r))) is
+
+pub step-touched : (q : Query) (moved : Bool) (s : State) (c : Change) (seq : ℕ)
+    → IsVolume s → IsVolume (after s c)
+    → ((n : ℕ) → AllByRecursion (λ k. n ≢ k) (touched_by s c) → record_at s n ≡ record_at (after s c) n)
+    → ((n : ℕ) → clobbered s c ≡ Some n → (n ≢ node_of s c) × (record_at (after s c) n ≡ None))
+    → numbered seq (s.number + 1)
+    (map (λ e. (Removed, e)) (removed_of q s (after s c) (node_of s c) (clobbered s c))
+    ++ map (λ e. (Created, e)) (option_to_list (left (match_at q (after s c) (node_of s c)) (match_at q s (node_of s c)))))
+    ≡ step_of q moved s c seq
+step-touched q moved s c seq v w same gone = ap (numbered seq (s.number + 1)) (sym (at (clobbered s c) refl))
+  where
+    t : State
+    t = after s c
+
+    a : ℕ
+    a = node_of s c
+
+    at : (o : Option ℕ) → clobbered s c ≡ o
+        → diff q moved s (after s c) ≡ map (λ e. (Removed, e)) (removed_of q s (after s c) (node_of s c) (clobbered s c)) ++ map (λ e. (Created, e)) (option_to_list (left (match_at q (after s c) (node_of s c)) (match_at q s (node_of s c))))
+    at None is =
+        rw is (diff-one q moved s (after s c) (node_of s c) v.numbered.rise w.numbered.rise (λ n off. same n (rw is (off, tt))))
+    at (Some x) is = elim (cases_lt x (node_of s c)) [
+      | inl low ↦
+          let g = gone x is in
+          let none = match-gone q (after s c) x g.1 in
+          let below : nat_lt x (node_of s c) ≡ true = grind (arith, nat_tests) in
+          let all = diff-touched q moved s (after s c) x (node_of s c) low v.numbered.rise w.numbered.rise (λ n p r. same n (rw is (r, (p, tt)))) in
+          rw (is, below) (all ∙ rw (none, left-none) refl)
+      | inr high ↦
+          let g = gone x is in
+          let none = match-gone q (after s c) x g.1 in
+          let differs = g.0 in
+          let above : node_of s c < x = grind (arith, nat_tests) in
+          let below : nat_lt x (node_of s c) ≡ false = grind (arith, nat_tests) in
+          let all = diff-touched q moved s (after s c) (node_of s c) x above v.numbered.rise w.numbered.rise (λ n p r. same n (rw is (p, (r, tt)))) in
+          rw (is, below) (all ∙ rw (none, left-none, append-nil) refl)
+    ]
 
 -- so few messages
-pub few-numbered : (seq number : ℕ) (o p : Option Entry) → length (numbered seq number (map (λ e. (Removed, e)) (option_to_list o) ++ map (λ e. (Created, e)) (option_to_list p))) ≤ 3
-few-numbered seq number None None = omega arith
-few-numbered seq number None (Some b) = omega arith
-few-numbered seq number (Some a) None = omega arith
-few-numbered seq number (Some a) (Some b) = omega arith
+few-numbered : (seq number : ℕ) (xs : List Entry) (o : Option Entry) → length xs ≤ 2 → length (numbered seq number (map (λ e. (Removed, e)) xs ++ map (λ e. (Created, e)) (option_to_list o))) ≤ 3
+few-numbered seq number xs o few = rw (length-numbered seq number (map (λ e. (Removed, e)) xs ++ map (λ e. (Created, e)) (option_to_list o))) (simp (length-append, length-map) (let k = one o in omega arith))
+  where
+    one : (p : Option Entry) → length (option_to_list p) ≤ 1
+    one None = omega arith
+    one (Some e) = omega arith
 
-pub few-one : (q : Query) (moved : Bool) (s : State) (c : Change) (seq : ℕ) → IsVolume s → IsVolume (after s c)
-    → ((n : ℕ) → (n ≡ node_of s c → ⊥) → record_at s n ≡ record_at (after s c) n) → length (step_of q moved s c seq) ≤ 3
-few-one q moved s c seq v w same =
-    rw (← step-one q moved s c seq _ _ v w same refl refl) (few-numbered seq (s.number + 1) _ _)
+    length-numbered : (seq number : ℕ) (ys : List (Opcode × Entry)) → length (numbered seq number ys) ≡ length ys
+    length-numbered seq number [] = refl
+    length-numbered seq number (y ∷ ys) = ap suc (length-numbered (seq + 1) number ys)
+
+few-removed : (q : Query) (s t : State) (node : ℕ) (o : Option ℕ) → length (removed_of q s t node o) ≤ 2
+few-removed q s t node None = one (left (match_at q s node) (match_at q t node))
+  where
+    one : (p : Option Entry) → length (option_to_list p) ≤ 2
+    one None = omega arith
+    one (Some e) = omega arith
+few-removed q s t node (Some other) = both (nat_lt other node) (match_at q s other) (left (match_at q s node) (match_at q t node))
+  where
+    both : (b : Bool) (o p : Option Entry) → length (cond b (option_to_list o ++ option_to_list p) (option_to_list p ++ option_to_list o)) ≤ 2
+    both true None None = omega arith
+    both true None (Some e) = omega arith
+    both true (Some d) None = omega arith
+    both true (Some d) (Some e) = omega arith
+    both false None None = omega arith
+    both false None (Some e) = omega arith
+    both false (Some d) None = omega arith
+    both false (Some d) (Some e) = omega arith
+
+pub few-touched : (q : Query) (moved : Bool) (s : State) (c : Change) (seq : ℕ)
+    → IsVolume s → IsVolume (after s c)
+    → ((n : ℕ) → AllByRecursion (λ k. n ≢ k) (touched_by s c) → record_at s n ≡ record_at (after s c) n)
+    → ((n : ℕ) → clobbered s c ≡ Some n → (n ≢ node_of s c) × (record_at (after s c) n ≡ None))
+    → length (step_of q moved s c seq) ≤ 3
+few-touched q moved s c seq v w same gone =
+    rw (← step-touched q moved s c seq v w same gone) (few-numbered seq (s.number + 1) _ _ (few-removed q s (after s c) (node_of s c) (clobbered s c)))
+
+-- the same, for the entries that the code has at hand
+module _ (q : Query) (moved : Bool) (s : State) (c : Change) (seq number : ℕ) (removed created : Option Entry)
+    (v : IsVolume s) (w : IsVolume (after s c))
+    (same : (n : ℕ) → AllByRecursion (λ k. n ≢ k) (touched_by s c) → record_at s n ≡ record_at (after s c) n)
+    (gone : (n : ℕ) → clobbered s c ≡ Some n → (n ≢ node_of s c) × (record_at (after s c) n ≡ None))
+    (number_is : number ≡ s.number)
+    (removed_is : removed ≡ left (match_at q s (node_of s c)) (match_at q (after s c) (node_of s c)))
+    (created_is : created ≡ left (match_at q (after s c) (node_of s c)) (match_at q s (node_of s c))) where
+  told : (xs : List Entry) → xs ≡ removed_of q s (after s c) (node_of s c) (clobbered s c)
+      → numbered seq (number + 1) (map (λ e. (Removed, e)) xs ++ map (λ e. (Created, e)) (option_to_list created)) ≡ step_of q moved s c seq
+  told xs is = rw (is, created_is, number_is) (step-touched q moved s c seq v w same gone)
+
+  pub told-alone : clobbered s c ≡ None
+      → numbered seq (number + 1) (map (λ e. (Removed, e)) (option_to_list removed ++ option_to_list None) ++ map (λ e. (Created, e)) (option_to_list created)) ≡ step_of q moved s c seq
+  told-alone none = told _ (append-nil _ ∙ (ap option_to_list removed_is ∙ sym (ap (removed_of q s (after s c) (node_of s c)) none)))
+
+  pub told-low : (x : ℕ) (other : Option Entry) → clobbered s c ≡ Some x → x < node_of s c → other ≡ match_at q s x
+      → numbered seq (number + 1) (map (λ e. (Removed, e)) (option_to_list other ++ option_to_list removed) ++ map (λ e. (Created, e)) (option_to_list created)) ≡ step_of q moved s c seq
+  told-low x other is low other_is =
+      let below : nat_lt x (node_of s c) ≡ true = grind (arith, nat_tests) in
+      told _ (rw (is, below, removed_is, other_is) refl)
+
+  pub told-high : (x : ℕ) (other : Option Entry) → clobbered s c ≡ Some x → (x < node_of s c → ⊥) → other ≡ match_at q s x
+      → numbered seq (number + 1) (map (λ e. (Removed, e)) (option_to_list removed ++ option_to_list other) ++ map (λ e. (Created, e)) (option_to_list created)) ≡ step_of q moved s c seq
+  told-high x other is high other_is =
+      let below : nat_lt x (node_of s c) ≡ false = grind (arith, nat_tests) in
+      told _ (rw (is, below, removed_is, other_is) refl)

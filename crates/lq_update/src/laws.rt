@@ -1,7 +1,7 @@
 //! Laws of the update lists: each is the contract of a function with no body.
 ghost use Rattle.lq_update.specs.Laws.{StepsAreFew, UpdatesGrow, UpdatesJoin};
 
-use lq_volume::{accepted_changes_keep_trees, untouched_nodes_stay};
+use lq_volume::{accepted_changes_keep_trees, clobbered_nodes_go, untouched_nodes_stay};
 
 /// A longer book only adds to the end of an update list: the prefix law.
 pub fn updates_grow()
@@ -20,4 +20,5 @@ pub fn steps_are_few()
 {
     accepted_changes_keep_trees();
     untouched_nodes_stay();
+    clobbered_nodes_go();
 }

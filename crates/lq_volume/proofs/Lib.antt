@@ -5,3 +5,4 @@ pub mod Changes
 pub mod Keeps
 pub mod PlaceLemmas
 pub mod AttributeLemmas
+pub mod Touches

@@ -1,9 +1,9 @@
 -- What is so of every accepted change.
-use Rattle.std.specs.Prelude.{◌≡◌, ℕ, ◌≢◌}
+use Rattle.std.specs.Prelude.{◌≡◌, ℕ, ◌+◌, ◌≢◌, Some, None}
 use Rattle.std.specs.List.{AllByRecursion}
 use Rattle.lq_volume.specs.declared.change.Change.{Change}
 use Rattle.lq_volume.specs.State.{State, IsVolume, record_at}
-use Rattle.lq_volume.specs.Change.{after, touched_by, IsLawful}
+use Rattle.lq_volume.specs.Change.{after, clobbered, node_of, touched_by, IsLawful}
 
 -- the state after an accepted change is a tree again
 abbrev pub ChangesKeepTrees : Type 0
@@ -13,3 +13,11 @@ ChangesKeepTrees = (s : State) (c : Change) → IsVolume s → IsLawful s c → 
 abbrev pub UntouchedStay : Type 0
 UntouchedStay = (s : State) (c : Change) (n : ℕ) → IsVolume s → IsLawful s c
     → AllByRecursion (λ node. n ≢ node) (touched_by s c) → record_at s n ≡ record_at (after s c) n
+
+-- a change adds one to the number of changes
+abbrev pub ChangesCount : Type 0
+ChangesCount = (s : State) (c : Change) → (after s c).number ≡ s.number + 1
+
+-- the other node that a change takes away is another one, and has no record after it
+abbrev pub ClobberedGo : Type 0
+ClobberedGo = (s : State) (c : Change) (n : ℕ) → clobbered s c ≡ Some n → (n ≢ node_of s c) × (record_at (after s c) n ≡ None)

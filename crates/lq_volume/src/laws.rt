@@ -1,5 +1,5 @@
 //! Laws of trees and changes: each is the contract of a function with no body.
-ghost use Rattle.lq_volume.specs.Laws.{ChangesKeepTrees, UntouchedStay};
+ghost use Rattle.lq_volume.specs.Laws.{ChangesCount, ChangesKeepTrees, ClobberedGo, UntouchedStay};
 ghost use Rattle.lq_volume.specs.Walk.{ReachesAll};
 
 /// A node is found to be within another just where some walk up leads there.
@@ -15,4 +15,14 @@ pub fn accepted_changes_keep_trees()
 /// A node that an accepted change doesn't touch has the record that it had.
 pub fn untouched_nodes_stay()
     ensures { UntouchedStay }
+{}
+
+/// A change adds one to the number of changes.
+pub fn changes_are_counted()
+    ensures { ChangesCount }
+{}
+
+/// The other node that a change takes away has no record after it.
+pub fn clobbered_nodes_go()
+    ensures { ClobberedGo }
 {}

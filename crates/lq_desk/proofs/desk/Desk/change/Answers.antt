@@ -23,7 +23,7 @@ commit_all-requires c =
 pub invariant_of-self-2 : goal.invariant_of-self-2
 invariant_of-self-2 c =
     rw (c.commit_all.ensures, c.in_ok-prepare_all.ensures.ok, c.in_ok-applied.ensures.ok, map-committed)
-    (IsDesk-change c.updates_join.ensures c.steps_are_few.ensures _ c.args.change.now c.self.invariant c.changes.ensures.volume c.in_ok-check.ensures.ok)
+    (IsDesk-change c.updates_join.ensures c.steps_are_few.ensures c.changes_are_counted.ensures _ c.args.change.now c.self.invariant c.changes.ensures.volume c.in_ok-check.ensures.ok)
 
 pub returns-clause-ok : goal.returns-clause-ok
 returns-clause-ok c =

@@ -36,4 +36,4 @@ returns-clause-reads c =
     let events = map happening_of c.args.events.now in
     let answers = map answer_of c.loop-event.replies.items in
     subst (λ (s : State). ReadsArePrefixes s events answers) (sym (ap (λ (k : Kept). k.volume) shows.kept))
-    (headline c.updates_join.ensures w events answers runs.end runs.run)
+    (headline c.updates_join.ensures c.changes_are_counted.ensures w events answers runs.end runs.run)
