@@ -1,6 +1,5 @@
 -- What single elements take, and that going back to the latest star is enough.
-use Rattle.std.proofs.Common.{◌≡◌, ◌≤◌, ◌||◌, ◌&&◌, ℕ, suc, ◌+◌, List, [], ◌∷◌, ◌++◌, length, Bool, true, false, refl, sym, ap, ◌∙◌, subst, arith, append_assoc, length-append}
-use Rattle.std.proofs.lemmas.List.{append-nil}
+use Rattle.std.proofs.Common.{◌≡◌, ◌≤◌, ℕ, suc, ◌+◌, List, [], ◌∷◌, ◌++◌, length, Bool, true, false, refl, sym, ap, ◌∙◌, subst, arith, append_assoc, length-append}
 use Rattle.lq_value.specs.declared.element.Element.{Element}
 use Rattle.lq_value.specs.declared.element.Element.TheVariants.{Star, Any, Plain, Set}
 use Rattle.lq_value.specs.Element.{takes}

@@ -1,6 +1,6 @@
 -- What a pattern's test says of splits of a text, and what plain elements fit.
 use Rattle.std.proofs.Common.{◌≡◌, ℕ, List, [], ◌∷◌, ◌++◌, refl, sym, ap, ◌∙◌, Bool, true, false, Some, ◌⊎◌, inl, inr, eq-eqb, suc, ◌+◌, ◌<◌, length, take, drop, get_or, None}
-use Rattle.std.specs.Prelude.{IsTrue, ◌↔◌, ◌&&◌, ◌||◌, ◌==◌, not, Option, if◌then◌else◌}
+use Rattle.std.specs.Prelude.{IsTrue, ◌↔◌, ◌&&◌, ◌||◌, ◌==◌, not, if◌then◌else◌}
 use Rattle.std.specs.Option.{option_map}
 use Rattle.std.specs.Str.{bytes_eq, chars, IsUtf8, encode_utf8_all}
 use Rattle.std.proofs.lemmas.Bool.{eqb-true}

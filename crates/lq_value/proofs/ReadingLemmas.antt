@@ -1,15 +1,14 @@
 -- That each item and each element has a sign at least, and what the reader knows at each step.
-use Rattle.std.proofs.Common.{◌≡◌, ◌<◌, ◌+◌, ℕ, suc, List, [], ◌∷◌, ◌++◌, length, refl, sym, ap, ◌∙◌, arith, Bool, true, false, subst}
+use Rattle.std.proofs.Common.{◌≡◌, ◌<◌, ℕ, suc, List, [], ◌∷◌, ◌++◌, length, refl, sym, ap, ◌∙◌, arith, Bool, true, false, subst}
 use Rattle.std.specs.Prelude.{Result, Ok, Err, nat_le, ◌==◌, if◌then◌else◌}
 use Rattle.lq_value.specs.declared.element.Item.{Item}
 use Rattle.lq_value.specs.declared.element.Item.TheVariants.{One, Range}
 use Rattle.lq_value.specs.declared.refusal.Refusal.{Refusal}
-use Rattle.lq_value.specs.declared.refusal.Refusal.TheVariants.{NoMemory}
 use Rattle.lq_value.specs.declared.sign.Sign.{Sign}
 use Rattle.lq_value.specs.declared.sign.Sign.TheVariants.{Bare, Escaped, Dangling}
-use Rattle.lq_value.specs.Source.{First, ends, has, faulty, Pieces, whole, stuck, pieces_of, item_at, behind_char, behind_dash, range_at, is_bare}
+use Rattle.lq_value.specs.Source.{First, ends, has, faulty, pieces_of, item_at, behind_char, behind_dash, range_at, is_bare}
 use Rattle.lq_value.specs.Reading.{IsStuck, IsWithItem, AreGathered, ReadsItems}
-use Rattle.lq_value.proofs.PieceLemmas.{Shrinks, SoFar, begins, so_far_more, so_far_end, so_far_stuck}
+use Rattle.lq_value.proofs.PieceLemmas.{Shrinks, SoFar, so_far_more, so_far_end, so_far_stuck}
 
 -- ---- each item has a sign at least
 

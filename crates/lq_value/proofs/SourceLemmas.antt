@@ -1,11 +1,10 @@
 -- Reading a whole source: its bytes, what is known at each step, and that the definition is what is written.
-use Rattle.std.proofs.Common.{◌≡◌, ◌<◌, ◌≤◌, ◌+◌, ◌-◌, ℕ, zero, suc, List, [], ◌∷◌, ◌++◌, length, refl, sym, ap, ◌∙◌, arith, subst, Bool, true, false, append_assoc, length-append, add_assoc, zero-add}
-use Rattle.std.specs.Prelude.{◌==◌, ◌↔◌, if◌then◌else◌, Option, Some, None, Result, Ok, Err, OnOk, IfErr, IfOk, unwrap_or}
+use Rattle.std.proofs.Common.{◌≡◌, ◌<◌, ◌≤◌, ◌+◌, ◌-◌, ℕ, List, [], ◌∷◌, ◌++◌, length, refl, sym, ap, ◌∙◌, arith, subst, Bool, true, false, append_assoc, length-append}
+use Rattle.std.specs.Prelude.{◌==◌, if◌then◌else◌, None, Result, Ok, Err, IfOk, unwrap_or}
 use Rattle.std.specs.Char.{len_utf8}
 use Rattle.std.specs.Global.{Vec}
 use Rattle.std.specs.Str.{chars, IsUtf8, encode_utf8_all}
 use Rattle.std.proofs.lemmas.Bool.{eqb-true}
-use Rattle.std.proofs.lemmas.List.{append-nil}
 use Rattle.std.proofs.lemmas.Str.{encodes-chars, length-encode, len_utf8_ascii}
 use Rattle.std.specs.Prelude.{encode_utf8}
 use Rattle.lq_value.specs.declared.element.Element.{Element}
@@ -13,14 +12,14 @@ use Rattle.lq_value.specs.declared.element.Element.TheVariants.{Star, Any, Plain
 use Rattle.lq_value.specs.declared.refusal.Refusal.{Refusal}
 use Rattle.lq_value.specs.declared.refusal.Refusal.TheVariants.{NoMemory, BadQuery}
 use Rattle.lq_value.specs.declared.sign.Sign.{Sign}
-use Rattle.lq_value.specs.declared.sign.Sign.TheVariants.{Bare, Escaped, Dangling}
+use Rattle.lq_value.specs.declared.sign.Sign.TheVariants.{Bare}
 use Rattle.lq_value.specs.Refusal.{IsRefusedBy}
 use Rattle.lq_value.specs.Sign.{signs, signs_of, signs_len}
-use Rattle.lq_value.specs.Source.{First, ends, has, faulty, Pieces, whole, stuck, begin, after_first, pieces_within, pieces_of, element_at, elements_or_place, pattern_of, fault_refusal, source_refusal}
-use Rattle.lq_value.specs.Written.{IsElement, Writes, HasFaultAt}
+use Rattle.lq_value.specs.Source.{First, ends, has, faulty, element_at, elements_or_place, pattern_of, source_refusal}
+use Rattle.lq_value.specs.Written.{IsElement}
 use Rattle.lq_value.specs.Reading.{IsFound, IsWithElement, AreFound}
-use Rattle.lq_value.proofs.PieceLemmas.{Shrinks, SoFar, begins, begins-whole, begins-stuck, begin-whole, pieces_of-step, so_far_more, so_far_end, so_far_stuck}
-use Rattle.lq_value.proofs.WrittenLemmas.{IsFirstElement, element_read, element_written}
+use Rattle.lq_value.proofs.PieceLemmas.{Shrinks, SoFar, so_far_more, so_far_end, so_far_stuck}
+use Rattle.lq_value.proofs.WrittenLemmas.{IsFirstElement, element_read}
 
 -- ---- the bytes of signs
 

@@ -1,9 +1,8 @@
 -- What is read is what is written: each item and each element, and all of them.
-use Rattle.std.proofs.Common.{◌≡◌, ◌<◌, ◌≤◌, ◌+◌, ℕ, zero, suc, List, [], ◌∷◌, ◌++◌, length, refl, sym, ap, ◌∙◌, arith, subst, Bool, true, false, append_assoc}
-use Rattle.std.specs.Prelude.{nat_le, ◌==◌, ◌||◌, if◌then◌else◌, Result, Ok, Err}
+use Rattle.std.proofs.Common.{◌≡◌, ◌≤◌, ℕ, zero, suc, List, [], ◌∷◌, ◌++◌, length, refl, sym, ap, ◌∙◌, arith, subst, Bool, true, false, append_assoc}
+use Rattle.std.specs.Prelude.{nat_le, ◌==◌, ◌||◌, if◌then◌else◌}
 use Rattle.std.proofs.lemmas.Bool.{eqb-true}
 use Rattle.std.proofs.lemmas.Bool.Decides.{nat_tests}
-use Rattle.std.proofs.lemmas.List.{append-nil}
 use Rattle.lq_value.specs.declared.element.Item.{Item}
 use Rattle.lq_value.specs.declared.element.Item.TheVariants.{One, Range}
 use Rattle.lq_value.specs.declared.element.Element.{Element}
@@ -11,8 +10,8 @@ use Rattle.lq_value.specs.declared.element.Element.TheVariants.{Star, Any, Plain
 use Rattle.lq_value.specs.declared.sign.Sign.{Sign}
 use Rattle.lq_value.specs.declared.sign.Sign.TheVariants.{Bare, Escaped, Dangling}
 use Rattle.lq_value.specs.Source.{First, ends, has, faulty, Pieces, whole, stuck, begin, after_first, pieces_within, pieces_of, item_at, behind_char, behind_dash, range_at, is_bare, set_with, set_at, element_at}
-use Rattle.lq_value.specs.Written.{is_special, StandsFor, StandsInSet, BeginsNoRange, IsItem, AreItems, AreSome, IsElement, Writes, HasFaultAt}
-use Rattle.lq_value.proofs.PieceLemmas.{Shrinks, begins, begin-whole, pieces_of-step}
+use Rattle.lq_value.specs.Written.{StandsFor, StandsInSet, BeginsNoRange, IsItem, AreItems, AreSome, IsElement}
+use Rattle.lq_value.proofs.PieceLemmas.{begin-whole, pieces_of-step}
 use Rattle.lq_value.proofs.ReadingLemmas.{item_shrinks}
 
 -- ---- an item that is read is written

@@ -4,6 +4,8 @@ use Rattle.std.specs.Cmp.Lexicographic.{slice_cmp}
 use Rattle.std.specs.Ordering.{nat_cmp, int_cmp, is_lt, is_le, is_gt, is_ge, is_eq}
 use Rattle.std.specs.Str.{chars}
 use Rattle.std.specs.declared.cmp.Ordering.{Ordering}
+use Rattle.lq_value.specs.declared.value.Value.{Value}
+use Rattle.lq_value.specs.declared.value.Value.TheVariants as values
 use Rattle.lq_value.specs.declared.view.View.{View}
 use Rattle.lq_value.specs.declared.view.View.TheVariants as view
 use Rattle.lq_value.specs.declared.literal.Literal.{Literal}
@@ -25,6 +27,14 @@ held_of (view.Int32 value) = Number value
 held_of (view.Int64 value) = Number value
 held_of (view.UInt32 value) = Number (pos value)
 held_of (view.UInt64 value) = Number (pos value)
+
+-- what a value holds
+abbrev pub held_in : Value → Held
+held_in (values.Text bytes) = Words bytes
+held_in (values.Int32 number) = Number number
+held_in (values.Int64 number) = Number number
+held_in (values.UInt32 number) = Number (pos number)
+held_in (values.UInt64 number) = Number (pos number)
 
 -- whether an operator accepts the order of the two sides
 abbrev pub accepts : Op → Ordering → Bool

@@ -3,7 +3,6 @@ use Rattle.std.specs.Prelude.{◌≡◌, ◌≤◌, ℕ, List, [], ◌∷◌, �
 use Rattle.std.specs.Str.{chars}
 use Rattle.lq_value.specs.declared.element.Element.{Element}
 use Rattle.lq_value.specs.declared.element.Element.TheVariants.{Star, Any, Plain, Set}
-use Rattle.lq_value.specs.declared.matching.Left.{Left}
 use Rattle.lq_value.specs.declared.matching.Taken.{Taken}
 use Rattle.lq_value.specs.declared.matching.Taken.TheVariants.{More, AtStar, Never}
 use Rattle.lq_value.specs.Element.{takes}

@@ -38,7 +38,8 @@ impl AttrName {
     /// Refused, the first that fits: `BadName` where the text is no such name, `NoMemory`.
     /// The limits are our own.
     pub fn read(alloc: Global, text: &str) -> Result<AttrName, Refusal>
-        ensures refused { IsRefusedBy result (if is_attr_name text.now then None else Some BadName) }
+        ensures refused { IsRefusedBy result
+            (if is_attr_name text.now then None else Some BadName) }
         ensures value { IfOk result (λ name. name ≡ text.now) }
     {
         if !is_attr_name_text(text) {

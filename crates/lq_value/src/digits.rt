@@ -34,7 +34,8 @@ fn digits_of_bytes(bytes: &[u8]) -> Option<u128>
 // The number with one more digit behind it; `None` where the code is no digit's.
 fn with_digit(value: u128, code: u32) -> Option<u128>
     requires { value < 10 ^ 20 }
-    ensures { result ≡ (if is_ascii_digit code then Some (value * 10 + digit_value code) else None) }
+    ensures { result ≡
+        (if is_ascii_digit code then Some (value * 10 + digit_value code) else None) }
 {
     if code < 48 || code > 57 {
         return None;

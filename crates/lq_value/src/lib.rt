@@ -1,8 +1,8 @@
-//! Names, patterns, literals and refusals: the values that the other crates speak of.
+//! Names, values, patterns, literals and refusals: what the other crates speak of.
 //!
 //! A contract sees a name or a text as its bytes, and a pattern as its list of elements
-//! (`specs/Name`, `specs/Pattern`). Nothing here waits, and comparing takes no memory.
-//! Begin with `refusal`, then `name`, then `literal`.
+//! (`specs/Pattern` says what it fits, `specs/Written` how it is written). Nothing here waits,
+//! and comparing takes no memory. Begin with `refusal`, then `value`, then `pattern`.
 #![tactic(auto)]
 
 mod attr_name;

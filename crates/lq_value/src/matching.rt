@@ -65,8 +65,10 @@ fn is_at_end(text: &str) -> bool
 // What is left behind the first place of the text at which the elements up to the next star fit.
 #[tactic(auto, using(crate::proofs::MatchingLemmas::found_later, crate::proofs::MatchingLemmas::some_later))]
 fn find<'a>(start: Left<'a>) -> Option<Left<'a>>
-    ensures { MatchOption result (some_rest (fits start.entry.elements.now) (chars start.entry.text.now) ≡ false)
-        (λ found. Finds start.entry.elements.now (chars start.entry.text.now) found.elements.now (chars found.text.now)) }
+    ensures { MatchOption result
+        (some_rest (fits start.entry.elements.now) (chars start.entry.text.now) ≡ false)
+        (λ found. Finds start.entry.elements.now (chars start.entry.text.now)
+        found.elements.now (chars found.text.now)) }
 {
     let mut here = start;
     loop {
@@ -83,8 +85,10 @@ fn find<'a>(start: Left<'a>) -> Option<Left<'a>>
 // The same at the text's front alone: the elements pass up to a star, or to the text's end.
 #[tactic(auto, using(crate::proofs::MatchingLemmas::found_at_star, crate::proofs::MatchingLemmas::found_at_end, crate::proofs::MatchingLemmas::not_found))]
 fn find_here<'a>(here: Left<'a>) -> Option<Left<'a>>
-    ensures { MatchOption result (fits here.entry.elements.now (chars here.entry.text.now) ≡ false)
-        (λ found. Finds here.entry.elements.now (chars here.entry.text.now) found.elements.now (chars found.text.now)) }
+    ensures { MatchOption result
+        (fits here.entry.elements.now (chars here.entry.text.now) ≡ false)
+        (λ found. Finds here.entry.elements.now (chars here.entry.text.now)
+        found.elements.now (chars found.text.now)) }
 {
     let left = pass(here)?;
     match left.elements.split_first() {
@@ -96,8 +100,10 @@ fn find_here<'a>(here: Left<'a>) -> Option<Left<'a>>
 
 // What is left where each element up to the next star has taken a character.
 fn pass<'a>(start: Left<'a>) -> Option<Left<'a>>
-    ensures { MatchOption result (fits start.entry.elements.now (chars start.entry.text.now) ≡ false)
-        (λ left. PassesToStar start.entry.elements.now (chars start.entry.text.now) left.elements.now (chars left.text.now)) }
+    ensures { MatchOption result
+        (fits start.entry.elements.now (chars start.entry.text.now) ≡ false)
+        (λ left. PassesToStar start.entry.elements.now (chars start.entry.text.now)
+        left.elements.now (chars left.text.now)) }
 {
     let mut left = start;
     loop {

@@ -69,7 +69,8 @@ impl Pattern {
 
         // The leftmost fault, and where it is.
         ensures refused { IsRefusedBy result (source_refusal source.now) }
-        ensures fault { IfErr result (λ e. (place : ℕ) → e ≡ BadQuery place → HasFaultAt source.now place) }
+        ensures fault { IfErr result
+            (λ e. (place : ℕ) → e ≡ BadQuery place → HasFaultAt source.now place) }
     {
         let elements = read_elements(alloc, source)?;
         Pattern::of(alloc, elements)

@@ -79,7 +79,8 @@ fn item_from<'a>(c: char, text: &'a str) -> FirstItem<'a>
 
 // The item that begins with a character, where a `-` and the text `behind` it stand at `here`.
 fn range_from<'a>(c: char, here: &'a str, behind: &'a str) -> FirstItem<'a>
-    ensures first { behind_dash c (signs_of here.entry.now) (signs_of behind.entry.now) ≡ first_item_of result }
+    ensures first { behind_dash c (signs_of here.entry.now) (signs_of behind.entry.now)
+        ≡ first_item_of result }
     ensures text { IsTextBehindItem result }
 {
     match first_sign(behind) {

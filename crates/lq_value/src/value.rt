@@ -1,6 +1,7 @@
 //! What an attribute holds, with its type.
 ghost use Rattle.std.specs.Prelude.{◌≡◌, None, IfOk};
 ghost use Rattle.lq_value.specs.Refusal.{IsRefusedBy};
+ghost use Rattle.lq_value.specs.Compare.{held_in, held_of};
 ghost use Rattle.lq_value.specs.Value.{text_refusal, shown_by};
 
 use crate::refusal::Refusal;
@@ -35,7 +36,8 @@ impl Value {
 
     /// The value as it is shown, of the same type. It takes no memory.
     pub fn view(&self) -> View<'_>
-        ensures { shown_by result ≡ self.now }
+        ensures shown { shown_by result ≡ self.now }
+        ensures held { held_of result ≡ held_in self.now }
     {
         match self {
             Value::Text(text) => View::Text(text.as_str()),

@@ -1,7 +1,7 @@
 //! The text of a value.
-ghost use Rattle.std.specs.Prelude.{◌≡◌, ◌≤◌, Some, None, IfOk, nat_le, length, if◌then◌else◌};
-ghost use Rattle.lq_value.specs.declared.refusal.Refusal.TheVariants.{TooLong};
+ghost use Rattle.std.specs.Prelude.{◌≡◌, ◌≤◌, None, IfOk, length};
 ghost use Rattle.lq_value.specs.Refusal.{IsRefusedBy};
+ghost use Rattle.lq_value.specs.Value.{text_refusal};
 
 use crate::refusal::Refusal;
 use std::alloc::Global;
@@ -35,7 +35,7 @@ impl ValueText {
     /// Refused, the first that fits: `TooLong` above 4,096 bytes, `NoMemory`. The limit is our
     /// own.
     pub fn read(alloc: Global, text: &str) -> Result<ValueText, Refusal>
-        ensures refused { IsRefusedBy result (if nat_le (length text.now) 4096 then None else Some TooLong) }
+        ensures refused { IsRefusedBy result (text_refusal text.now) }
         ensures value { IfOk result (λ value. value ≡ text.now) }
     {
         if text.len() > MAX_VALUE_TEXT {
