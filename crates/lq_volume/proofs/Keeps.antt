@@ -10,15 +10,17 @@ use Rattle.lq_value.specs.declared.kind.Kind.TheVariants.{File, Folder}
 use Rattle.lq_predicate.specs.Query.{Query}
 use Rattle.lq_volume.specs.declared.change.Change.{Change}
 use Rattle.lq_volume.specs.declared.change.Change.TheVariants.{Create, Remove, Move, Write, SetAttr, RemoveAttr}
-use Rattle.lq_volume.specs.Attributes.{Attributes, with_attr, without_attr}
+use Rattle.lq_volume.specs.Attributes.{Attributes, HasOwnNames, with_attr, without_attr}
 use Rattle.lq_volume.specs.Kind.{is_folder}
 use Rattle.lq_volume.specs.State.{State, Record, root, record_at, kind_at, is_folder_at, dir_of, reaches, node_in, has_entries, IsTree, IsVolume}
 use Rattle.lq_volume.specs.Change.{refused, refusals, after, node_of, record_left, at_place, written, setting, unsetting, with_attrs, changed, altered, without, other_at, other_than, is_other}
 use Rattle.lq_volume.specs.Places.{CanMove}
 use Rattle.lq_volume.specs.Result.{entry_if, match_at, left_by, shown}
 use Rattle.lq_predicate.specs.Truth.{truth}
-use Rattle.lq_volume.specs.Laws.{ChangesKeepTrees, UntouchedStay}
-use Rattle.lq_volume.proofs.RecordLemmas.{Entries, lookup-filter, lookup-push, lookup-altered, node_in-some, node_in-none, is_taken-node_in, length-filter_le}
+use Rattle.lq_volume.specs.Laws.{ChangesKeepTrees, UntouchedStay, ClobberedGo, PlacesAreOwn}
+use Rattle.lq_volume.proofs.RecordLemmas.{Entries, All-push, All-filter, All-without, All-kept, lookup-filter, lookup-push, lookup-altered, node_in-some, node_in-none, is_taken-node_in, length-filter_le}
+use Rattle.lq_volume.proofs.AttributeLemmas.{HasOwnNames-with, HasOwnNames-without}
+use Rattle.lq_volume.proofs.PlaceLemmas.{uniq}
 use Rattle.lq_volume.proofs.Climbs.{climbs-sound, climbs-complete, Climb-more}
 use Rattle.lq_volume.proofs.Changes.{none_holds, accepted_number, IsNumbered-create, IsNumbered-filter, IsNumbered-altered}
 use Rattle.lq_volume.proofs.Tree.{IsChildless, childless-from_test, less-folder, IsTree-less, IsTree-moved, IsTree-kept, IsTree-more, dir_of-is, record-of}
@@ -30,12 +32,13 @@ is_folder-from_tests (Some File) h k = cc
 is_folder-from_tests (Some Folder) h k = refl
 
 -- one record more
-pub keeps-create : (s : State) (new : Record) → IsVolume s → refused s (Create new.dir new.name new.kind new.size new.time) ≡ None → IsVolume (record { limit = s.limit; number = s.number + 1; next = s.next + 1; records = s.records ++ (s.next, new) ∷ [] })
-keeps-create s new v h =
+pub keeps-create : (s : State) (new : Record) → new.attrs ≡ [] → IsVolume s → refused s (Create new.dir new.name new.kind new.size new.time) ≡ None → IsVolume (record { limit = s.limit; number = s.number + 1; next = s.next + 1; records = s.records ++ (s.next, new) ∷ [] })
+keeps-create s new bare v h =
     let rows = none_holds (refusals s (Create new.dir new.name new.kind new.size new.time)) h in
     record {
       numbered = IsNumbered-create s new v.numbered (accepted_number s (Create new.dir new.name new.kind new.size new.time) h);
       tree = IsTree-more s s.limit (s.number + 1) (s.next + 1) new v.numbered v.tree (is_folder-from_tests (kind_at s new.dir) rows.0 rows.1.0) rows.1.1.0 (λ is. let r = rows.1.1.1.0 in grind (arith, nat_tests));
+      named = All-push (λ e. HasOwnNames e.1.attrs) s.records (s.next, new) v.named (rw bare tt);
     }
 
 pub keeps-remove : (s : State) (node : ℕ) → IsVolume s → refused s (Remove node) ≡ None → IsVolume (after s (Remove node))
@@ -45,6 +48,7 @@ keeps-remove s node v h =
     record {
       numbered = IsNumbered-filter s (λ e. not (eqb e.0 node)) v.numbered (accepted_number s (Remove node) h);
       tree = IsTree-less s s.limit (s.number + 1) s.next node v.tree (childless-from_test s node v.tree rows.1.1.0) differs;
+      named = All-filter (λ e. HasOwnNames e.1.attrs) (λ e. not (eqb e.0 node)) s.records v.named;
     }
 
 -- a move takes no other node away
@@ -120,6 +124,7 @@ keeps-move s node dir name clobber v h =
     record {
       numbered = IsNumbered-altered s (other_at s node dir name) node (at_place dir name) v.numbered (accepted_number s (Move node dir name clobber) h);
       tree = keeps-moved s node dir name (other_at s node dir name) v refl differs (is_folder-from_tests (kind_at s dir) rows.1.1.0 rows.1.1.1.0) rows.1.1.1.1.0 rows.1.1.1.1.1.1.1.0;
+      named = All-kept (λ e. HasOwnNames e.1.attrs) node (at_place dir name) (without (other_at s node dir name) s.records) (λ e h. h) (All-without (λ e. HasOwnNames e.1.attrs) (other_at s node dir name) s.records v.named);
     }
 
 pub keeps-write : (s : State) (node size : ℕ) (time : ℤ) → IsVolume s → refused s (Write node size time) ≡ None → IsVolume (after s (Write node size time))
@@ -130,13 +135,15 @@ keeps-write s node size time v h =
     record {
       numbered = IsNumbered-altered s None node (written size time) v.numbered (accepted_number s (Write node size time) h);
       tree = IsTree-kept s s.limit (s.number + 1) s.next node (written size time) v.tree (λ r. refl) (λ r. refl) (λ r. refl) (λ r is folder. absurd (let clash : is_folder_at s node ≡ true = grind (arith, nat_tests) in let no : ⊥ = cc in no));
+      named = All-kept (λ e. HasOwnNames e.1.attrs) node (written size time) s.records (λ e h. h) v.named;
     }
 
 -- attributes are no part of a tree
-pub keeps-attrs : (s : State) (node : ℕ) (f : Record → Attributes) → IsVolume s → s.number < s.limit → IsVolume (changed s (altered node (λ r. with_attrs (f r) r) s.records))
-keeps-attrs s node f v more = record {
+pub keeps-attrs : (s : State) (node : ℕ) (f : Record → Attributes) → ((r : Record) → HasOwnNames r.attrs → HasOwnNames (f r)) → IsVolume s → s.number < s.limit → IsVolume (changed s (altered node (λ r. with_attrs (f r) r) s.records))
+keeps-attrs s node f own v more = record {
   numbered = IsNumbered-altered s None node (λ r. with_attrs (f r) r) v.numbered more;
   tree = IsTree-kept s s.limit (s.number + 1) s.next node (λ r. with_attrs (f r) r) v.tree (λ r. refl) (λ r. refl) (λ r. refl) (λ r is folder. v.tree.sizes node r is folder);
+  named = All-kept (λ e. HasOwnNames e.1.attrs) node (λ r. with_attrs (f r) r) s.records (λ e h. own e.1 h) v.named;
 }
 
 -- what the entries need of a creation and of a move
@@ -164,12 +171,12 @@ can-move s node dir name clobber v h =
     some (Some r) is k l = rw is refl
 
 pub keeps-all : ChangesKeepTrees
-keeps-all s (Create dir name kind size time) v h = keeps-create s (record { dir = dir; name = name; kind = kind; size = size; time = time; attrs = [] }) v h
+keeps-all s (Create dir name kind size time) v h = keeps-create s (record { dir = dir; name = name; kind = kind; size = size; time = time; attrs = [] }) refl v h
 keeps-all s (Remove node) v h = keeps-remove s node v h
 keeps-all s (Move node dir name clobber) v h = keeps-move s node dir name clobber v h
 keeps-all s (Write node size time) v h = keeps-write s node size time v h
-keeps-all s (SetAttr node attr value) v h = keeps-attrs s node (λ r. with_attr r.attrs attr value) v (accepted_number s (SetAttr node attr value) h)
-keeps-all s (RemoveAttr node attr) v h = keeps-attrs s node (λ r. without_attr r.attrs attr) v (accepted_number s (RemoveAttr node attr) h)
+keeps-all s (SetAttr node attr value) v h = keeps-attrs s node (λ r. with_attr r.attrs attr value) (λ r h. HasOwnNames-with r.attrs attr value h) v (accepted_number s (SetAttr node attr value) h)
+keeps-all s (RemoveAttr node attr) v h = keeps-attrs s node (λ r. without_attr r.attrs attr) (λ r h. HasOwnNames-without r.attrs attr h) v (accepted_number s (RemoveAttr node attr) h)
 
 -- the record of a node that isn't the one taken away
 look-without : (es : Entries) (p : Option ℕ) (x : ℕ) → (p ≡ Some x → ⊥) → lookup (nat_eq x) (without p es) ≡ lookup (nat_eq x) es
@@ -211,6 +218,25 @@ record-left s (Move node dir name clobber) v =
 record-left s (Write node size time) v = let l = lookup-altered s.records node (written size time) node in grind (arith, nat_tests)
 record-left s (SetAttr node attr value) v = let l = lookup-altered s.records node (setting attr value) node in grind (arith, nat_tests)
 record-left s (RemoveAttr node attr) v = let l = lookup-altered s.records node (unsetting attr) node in grind (arith, nat_tests)
+
+-- the node that a move takes away
+gone-from : (node : ℕ) (o : Option ℕ) (n : ℕ) → other_than node o ≡ Some n → n ≡ node → ⊥
+gone-from node None n h e = cc
+gone-from node (Some x) n h e = grind (arith, nat_tests)
+
+pub clobbered-go : ClobberedGo
+clobbered-go s (Create dir name kind size time) n v is = cc
+clobbered-go s (Remove node) n v is = cc
+clobbered-go s (Write node size time) n v is = cc
+clobbered-go s (SetAttr node attr value) n v is = cc
+clobbered-go s (RemoveAttr node attr) n v is = cc
+clobbered-go s (Move node dir name clobber) n v is =
+    let differs = gone-from node (node_in s.records dir name) n is in
+    (differs, rw is (let l = lookup-altered (filter (λ e. not (eqb e.0 n)) s.records) node (at_place dir name) n in let k = lookup-filter s.records n n in grind (arith, nat_tests)))
+
+-- an entry is found at its place
+pub own-places : PlacesAreOwn
+own-places s n r v is = rw (uniq s.records n r (node_in s.records r.dir r.name) v.numbered.rise v.tree.apart is refl) (let same : eqb n n ≡ true = grind (arith, nat_tests) in rw same refl)
 
 -- what is found there
 pub match-left : (q : Query) (s : State) (c : Change) → IsVolume s → match_at q (after s c) (node_of s c) ≡ left_by q s c

@@ -64,7 +64,7 @@ has_names-is places es dir index = go (has_names places dir) refl (list_any (λ 
     go false h true k = let w = any-named es dir k in let none = place_at-unnamed places dir w.0 h in let there : is_some (place_at places dir w.0) ≡ true = ap is_some (index dir w.0) ∙ w.1 in cc
 
 -- where no two share a place, the search finds each record at its own
-uniq : (fs : Entries) (x : ℕ) (v : Record) (o : Option ℕ) → Rises fs → IsApart fs → lookup (nat_eq x) fs ≡ Some v → node_in fs v.dir v.name ≡ o → o ≡ Some x
+pub uniq : (fs : Entries) (x : ℕ) (v : Record) (o : Option ℕ) → Rises fs → IsApart fs → lookup (nat_eq x) fs ≡ Some v → node_in fs v.dir v.name ≡ o → o ≡ Some x
 uniq fs x v None h apart is found = absurd (node_in-none fs v.dir v.name x v found is refl refl)
 uniq fs x v (Some y) h apart is found = let w = node_in-some fs v.dir v.name y h found in ap Some (sym (apart x y v w.0 is w.1 (sym w.2) (sym w.3)))
 

@@ -105,6 +105,11 @@ pub All-altered : (P : ℕ → Type 0) (k : ℕ) (g : Record → Record) (es : E
 All-altered P k g [] h = tt
 All-altered P k g (e ∷ es) h = (h.0, All-altered P k g es h.1)
 
+-- what the alteration keeps of each
+pub All-kept : (P : ℕ × Record → Type 0) (k : ℕ) (g : Record → Record) (es : Entries) → ((e : ℕ × Record) → P e → P (e.0, g e.1)) → AllByRecursion P es → AllByRecursion P (altered k g es)
+All-kept P k g [] f h = tt
+All-kept P k g (e ∷ es) f h = (elim (eqb e.0 k) as (λ b. P (e.0, cond b (g e.1) e.1)) [ true ↦ f e h.0 | false ↦ h.0 ], All-kept P k g es f h.1)
+
 pub Rises-altered : (k : ℕ) (g : Record → Record) (es : Entries) → Rises es → Rises (altered k g es)
 Rises-altered k g [] h = tt
 Rises-altered k g (e ∷ es) h = (All-altered (λ n. e.0 < n) k g es h.0, Rises-altered k g es h.1)

@@ -1,5 +1,6 @@
 -- The attributes of an entry: names with their values, in the order in which they were first set.
-use Rattle.std.specs.Prelude.{ℕ, pos, List, Bool, not, ◌||◌, filter, codes, Option}
+use Rattle.std.specs.Prelude.{◌≡◌, ℕ, pos, List, [], ◌∷◌, Bool, false, not, ◌||◌, filter, codes, Option}
+use Rattle.std.specs.List.{AllByRecursion}
 use Rattle.std.specs.Map.{lookup}
 use Rattle.std.specs.Str.{bytes_eq}
 use Rattle.indexmap.specs.IndexMap.{insert_entry}
@@ -9,6 +10,11 @@ use Rattle.lq_value.specs.declared.value.Value.TheVariants as value
 
 abbrev pub Attributes : Type 0
 Attributes = List (List ℕ × Value)
+
+-- no name comes twice
+abbrev pub HasOwnNames : Attributes → Type 0
+HasOwnNames [] = Unit {0}
+HasOwnNames (a ∷ attrs) = AllByRecursion (λ b. bytes_eq a.0 b.0 ≡ false) attrs × HasOwnNames attrs
 
 -- the value of an attribute
 abbrev pub value_of : Attributes → List ℕ → Option Value

@@ -6,7 +6,7 @@ use Rattle.std.specs.Map.{lookup, values_of}
 use Rattle.std.specs.Str.{bytes_eq}
 use Rattle.lq_value.specs.declared.kind.Kind.{Kind}
 use Rattle.lq_value.specs.declared.kind.Kind.TheVariants.{Folder}
-use Rattle.lq_volume.specs.Attributes.{Attributes}
+use Rattle.lq_volume.specs.Attributes.{Attributes, HasOwnNames}
 use Rattle.lq_volume.specs.Kind.{is_folder}
 
 -- an entry, under its node
@@ -99,3 +99,5 @@ pub record IsTree (s : State) : Type 0 where
 pub record IsVolume (s : State) : Type 0 where
   pub numbered : IsNumbered s
   pub tree : IsTree s
+  -- the attributes of an entry have names of their own
+  pub named : AllByRecursion (λ e. HasOwnNames e.1.attrs) s.records

@@ -96,7 +96,8 @@ pub fn check_write(volume: &Volume, file: u64, size: u64) -> Result<(), Refusal>
 
 pub fn check_set_attr(volume: &Volume, entry: u64, attr: &AttrName) -> Result<(), Refusal>
     ensures ok { OnOk result (first_refusal (set_refusals volume.now entry attr.now) ≡ None) }
-    ensures err { IfErr result (λ e. first_refusal (set_refusals volume.now entry attr.now) ≡ Some e) }
+    ensures err { IfErr result (λ e.
+        first_refusal (set_refusals volume.now entry attr.now) ≡ Some e) }
 {
     check_entry(volume, entry)?;
     if is_reserved(attr) {
@@ -139,9 +140,11 @@ fn check_entry(volume: &Volume, node: u64) -> Result<(), Refusal>
 // A folder that is there.
 fn check_folder(volume: &Volume, dir: u64) -> Result<(), Refusal>
     ensures ok { OnOk result (first_refusal
-        ((is_none (kind_at volume.now dir), NoNode) ∷ (is_file_at volume.now dir, NotFolder) ∷ []) ≡ None) }
+        ((is_none (kind_at volume.now dir), NoNode)
+        ∷ (is_file_at volume.now dir, NotFolder) ∷ []) ≡ None) }
     ensures err { IfErr result (λ e. first_refusal
-        ((is_none (kind_at volume.now dir), NoNode) ∷ (is_file_at volume.now dir, NotFolder) ∷ []) ≡ Some e) }
+        ((is_none (kind_at volume.now dir), NoNode)
+        ∷ (is_file_at volume.now dir, NotFolder) ∷ []) ≡ Some e) }
 {
     match volume.kind(dir) {
         None => Err(Refusal::NoNode),
@@ -153,7 +156,8 @@ fn check_folder(volume: &Volume, dir: u64) -> Result<(), Refusal>
 // Room for one change more.
 fn check_room(volume: &Volume) -> Result<(), Refusal>
     ensures ok { OnOk result (first_refusal ((is_full volume.now, Exhausted) ∷ []) ≡ None) }
-    ensures err { IfErr result (λ e. first_refusal ((is_full volume.now, Exhausted) ∷ []) ≡ Some e) }
+    ensures err { IfErr result (λ e.
+        first_refusal ((is_full volume.now, Exhausted) ∷ []) ≡ Some e) }
 {
     if volume.is_full() {
         return Err(Refusal::Exhausted);

@@ -281,7 +281,8 @@ fn shift(
 // Empties the place that a record has, unless it is the new one.
 fn leave(places: &mut BTreeMap<u64, BTreeMap<Name, u64>>, stored: &Stored, dir: u64, name: &Name)
     ensures { (d : ℕ) (n : List ℕ) → place_at places.new d n
-        ≡ (if (stored.now.dir == d) && bytes_eq stored.now.name n && not ((dir == d) && bytes_eq name.now n)
+        ≡ (if (stored.now.dir == d) && bytes_eq stored.now.name n
+        && not ((dir == d) && bytes_eq name.now n)
         then None else place_at places.old d n) }
 {
     if !stored.is_at(dir, name) {

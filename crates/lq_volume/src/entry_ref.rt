@@ -100,7 +100,8 @@ impl<'a> EntryRef<'a> {
 
     /// The attribute at a place, counted from 0 in the order in which they were first set.
     pub fn attr_at(&self, place: usize) -> Option<(&AttrName, View<'_>)>
-        ensures { option_map (λ p. (p.0.now, shown_by p.1)) result ≡ slice_get self.now.attrs place }
+        ensures { option_map (λ p. (p.0.now, shown_by p.1)) result
+            ≡ slice_get self.now.attrs place }
     {
         match self.stored.attrs().at(place) {
             None => None,

@@ -49,7 +49,8 @@ impl Volume {
     pub fn matches_after(&self, predicate: &Predicate, change: &Change) -> bool
         requires { IsLawful self.now change.now }
         ensures { result
-            ≡ is_some (match_at predicate.now (after self.now change.now) (node_of self.now change.now)) }
+            ≡ is_some (match_at predicate.now
+            (after self.now change.now) (node_of self.now change.now)) }
     {
         match self.left(change) {
             None => false,

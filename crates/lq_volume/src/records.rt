@@ -80,7 +80,8 @@ pub fn set_attr(
 ) -> Result<(), Refusal>
     requires { Rises records.old.entries }
     ensures refused { IsRefusedBy result None }
-    ensures ok { OnOk result (records.new.entries ≡ altered node (setting attr value) records.old.entries) }
+    ensures ok { OnOk result
+        (records.new.entries ≡ altered node (setting attr value) records.old.entries) }
     ensures err { OnErr result (records.new.entries ≡ records.old.entries) }
 {
     if let Some(record) = records.get_mut(&node) {

@@ -26,7 +26,14 @@ impl Model for Stored {
 
     ghost Value = { Record };
 
-    ghost view = { λ r. record { dir = r.dir; name = r.name; kind = r.kind; size = r.size; time = r.time; attrs = r.attrs } };
+    ghost view = { λ r. record {
+      dir = r.dir;
+      name = r.name;
+      kind = r.kind;
+      size = r.size;
+      time = r.time;
+      attrs = r.attrs;
+    } };
 
     ghost invariant = { λ r. r.size < 2 ^ 63 };
 }
@@ -39,7 +46,14 @@ impl Stored {
     /// A record without attributes.
     pub fn new(alloc: Global, dir: u64, name: Name, kind: Kind, size: u64, time: i64) -> Stored
         requires { size < 2 ^ 63 }
-        ensures { result ≡ record { dir = dir; name = name; kind = kind; size = size; time = time; attrs = [] } }
+        ensures { result ≡ record {
+          dir = dir;
+          name = name;
+          kind = kind;
+          size = size;
+          time = time;
+          attrs = [];
+        } }
     {
         Stored {
             dir,

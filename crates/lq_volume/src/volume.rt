@@ -35,9 +35,19 @@ impl Model for Volume {
 
     ghost Value = { State };
 
-    ghost view = { λ v. record { limit = v.limit; number = v.changes; next = v.next; records = v.entries } };
+    ghost view = { λ v. record {
+      limit = v.limit;
+      number = v.changes;
+      next = v.next;
+      records = v.entries;
+    } };
 
-    ghost invariant = { λ v. IsVolume (record { limit = v.limit; number = v.changes; next = v.next; records = v.entries }) };
+    ghost invariant = { λ v. IsVolume (record {
+      limit = v.limit;
+      number = v.changes;
+      next = v.next;
+      records = v.entries;
+    }) };
 }
 
 impl Volume {
@@ -85,7 +95,8 @@ impl Volume {
     pub fn find(&self, dir: u64, name: &Name) -> Result<u64, Refusal>
         ensures value { IfOk result (λ node. node_in self.now.records dir name.now ≡ Some node) }
         ensures ok { OnOk result (first_refusal (find_refusals self.now dir name.now) ≡ None) }
-        ensures err { IfErr result (λ e. first_refusal (find_refusals self.now dir name.now) ≡ Some e) }
+        ensures err { IfErr result (λ e.
+            first_refusal (find_refusals self.now dir name.now) ≡ Some e) }
     {
         match self.kind(dir) {
             None => return Err(Refusal::NoNode),
@@ -130,12 +141,12 @@ impl Volume {
 
     /// What `apply` would answer. It takes no memory and changes nothing.
     ///
-    /// Refused, the first that fits. A creation: `NoNode`, `NotFolder`, `Exists`, `IsFolder` (a
-    /// folder with a size), `TooLong`, `Exhausted`. A removal: `NoNode`, `Reserved` (the root),
-    /// `NotEmpty`, `Exhausted`. A move: `NoNode`, `Reserved`, `NoNode` and `NotFolder` (of `dir`),
-    /// `WouldLoop`, then of another node at the place `Exists` (without `clobber`), `KindClash`
-    /// and `NotEmpty`, then `Exhausted`. A write: `NoNode`, `Reserved`, `IsFolder`, `TooLong`,
-    /// `Exhausted`. The order is our own.
+    /// Refused, the first row of the change's table in `specs/Change` that fits, each at last with
+    /// `Exhausted`. `NoNode`: a node or `dir` isn't there. `Reserved`: the root, or an attribute
+    /// named as what every entry has. `NotFolder`: `dir` is a file. `Exists`, `KindClash`,
+    /// `NotEmpty`: what has the place, without `clobber` and with it, or what is removed.
+    /// `WouldLoop`: `dir` is the node or below it. `IsFolder`, `TooLong`: the size. `NoAttr`: there
+    /// is none of that name. The order is our own.
     pub fn check(&self, change: &Change) -> Result<Applied, Refusal>
         ensures ok { OnOk result (refused self.now change.now ≡ None) }
         ensures err { IfErr result (λ e. refused self.now change.now ≡ Some e) }
@@ -252,7 +263,8 @@ impl Volume {
     /// Refused: `NoMemory`. It changes nothing. As a BQuery that isn't live.
     pub fn fetch(&self, predicate: &Predicate) -> Result<Vec<Entry>, Refusal>
         ensures refused { IsRefusedBy result None }
-        ensures entries { IfOk result (λ entries. entries.items ≡ result_of predicate.now self.now) }
+        ensures entries { IfOk result (λ entries.
+            entries.items ≡ result_of predicate.now self.now) }
     {
         self.entries.fetch(predicate)
     }

@@ -1,5 +1,5 @@
-use Rattle.lq_volume.proofs.Touches.{gone}
+use Rattle.lq_volume.proofs.Keeps.{clobbered-go}
 use Rattle.lq_volume.proofs.laws.clobbered_nodes_go.Goals as goal
 
 pub returns : goal.returns
-returns c = gone
+returns c = clobbered-go

@@ -23,7 +23,7 @@ shift-requires c =
 pub invariant_of-self-in-Create : goal.invariant_of-self-in-Create
 invariant_of-self-in-Create c =
     let may = subst (λ (s : State). refused s c.args.change.now ≡ None) (sym c.self.view_is) c.in_ok-applied.ensures.ok in
-    rw (c.in_ok-add-in-Create.ensures.ok, c.new-record.ensures, c.in_ok-copy-in-Create.ensures.value) (keeps-create _ _ c.self.invariant (rw c.in-Create.is at may))
+    rw (c.in_ok-add-in-Create.ensures.ok, c.new-record.ensures, c.in_ok-copy-in-Create.ensures.value) (keeps-create _ _ refl c.self.invariant (rw c.in-Create.is at may))
 
 pub invariant_of-self-in-Remove : goal.invariant_of-self-in-Remove
 invariant_of-self-in-Remove c =
