@@ -1,15 +1,16 @@
 -- What a line's bytes ask for, by whether they are UTF-8.
 use Rattle.std.proofs.Common.{◌≡◌, ℕ, List, refl, sym, ap, ◌∙◌, true, false, Some, None, Option, inl, inr}
-use Rattle.std.specs.Prelude.{Bool, Result, Ok, Err, unwrap_or, ◌⊎◌}
+use Rattle.std.specs.Prelude.{Bool, Result, Ok, Err, unwrap_or, if◌then◌else◌, ◌⊎◌}
 use Rattle.std.specs.Str.{IsUtf8, is_utf8}
 use Rattle.std.proofs.lemmas.Str.{IsUtf8-from_is_utf8, is_utf8-from_IsUtf8}
 use Rattle.serde_json.specs.Read.{read}
 use Rattle.lq_value.specs.declared.refusal.Refusal.{Refusal}
-use Rattle.lq_value.specs.declared.refusal.Refusal.TheVariants.{NoMemory, NotUtf8}
+use Rattle.lq_value.specs.declared.refusal.Refusal.TheVariants.{NoMemory, NotUtf8, BadName}
+use Rattle.lq_value.specs.declared.value.Value.{Value}
 use Rattle.lq_predicate.specs.Query.{Query}
 use Rattle.lq_predicate.specs.Reads.{refusal_of}
 use Rattle.lq_desk.specs.World.{Happening}
-use Rattle.lq_script.specs.Request.{asked_in, asked_from, opening_or, refusal_in}
+use Rattle.lq_script.specs.Request.{asked_in, asked_from, opening_or, setting_for, text_or}
 
 pub asked-not_utf8 : (line : List ℕ) → ¬ IsUtf8 line → asked_in line ≡ Err NotUtf8
 asked-not_utf8 line not = at (is_utf8 line) refl
@@ -21,12 +22,27 @@ asked-not_utf8 line not = at (is_utf8 line) refl
 pub asked-utf8 : (line : List ℕ) → IsUtf8 line → asked_in line ≡ asked_from (read line)
 asked-utf8 line utf8 = rw (is_utf8-from_IsUtf8 line utf8) refl
 
--- an opening is refused as its formula is
-pub opening-refused : (o : Option Query) (port backlog : ℕ) (e : Refusal) → e ≡ unwrap_or (refusal_of o) NoMemory → e ≡ unwrap_or (refusal_in (opening_or o port backlog)) NoMemory
-opening-refused None port backlog e h = h
-opening-refused (Some q) port backlog e h = h
+-- a name is refused for its text, or memory ran out
+pub name-refused : {T : Type 0} (is : Bool) (h : T) (e : Refusal) → e ≡ unwrap_or (if is then None else Some BadName) NoMemory → (e ≡ NoMemory) ⊎ ((if is then Ok h else Err BadName) ≡ Err e)
+name-refused true h e was = inl was
+name-refused false h e was = inr (ap (λ x. Err x) (sym was))
 
--- a refusal is a want of memory, or the one that is due
-pub refused-or_memory : (r : Result Happening Refusal) (e : Refusal) → e ≡ unwrap_or (refusal_in r) NoMemory → (e ≡ NoMemory) ⊎ (r ≡ Err e)
-refused-or_memory (Ok h) e is = inl is
-refused-or_memory (Err f) e is = inr (ap (λ x. Err x) (sym is))
+-- the same where more may be refused behind it
+pub attr-refused : (is : Bool) (r : Result Happening Refusal) (e : Refusal) → e ≡ unwrap_or (if is then None else Some BadName) NoMemory → (e ≡ NoMemory) ⊎ ((if is then r else Err BadName) ≡ Err e)
+attr-refused true r e was = inl was
+attr-refused false r e was = inr (ap (λ x. Err x) (sym was))
+
+-- a text is refused for its length, or memory ran out
+pub text-refused : (o : Option Refusal) (text : List ℕ) (e : Refusal) → e ≡ unwrap_or o NoMemory → (e ≡ NoMemory) ⊎ (text_or o text ≡ Err e)
+text-refused None text e was = inl was
+text-refused (Some f) text e was = inr (ap (λ x. Err x) (sym was))
+
+-- a formula is refused for its place, or memory ran out
+pub opening-refused : (o : Option Query) (port backlog : ℕ) (e : Refusal) → e ≡ unwrap_or (refusal_of o) NoMemory → (e ≡ NoMemory) ⊎ (opening_or o port backlog ≡ Err e)
+opening-refused None port backlog e was = inr (ap (λ x. Err x) (sym was))
+opening-refused (Some q) port backlog e was = inl was
+
+-- a value that is refused refuses its setting
+pub setting-refused : (node : ℕ) (attr : List ℕ) (r : Result Value Refusal) (e : Refusal) → (e ≡ NoMemory) ⊎ (r ≡ Err e) → (e ≡ NoMemory) ⊎ (setting_for node attr r ≡ Err e)
+setting-refused node attr r e (inl was) = inl was
+setting-refused node attr r e (inr was) = inr (ap (setting_for node attr) was)

@@ -1,10 +1,24 @@
 -- A request of the code, as what it asks for.
+use Rattle.lq_value.specs.declared.value.Value.TheVariants as value
+use Rattle.lq_value.specs.declared.view.View.{View}
+use Rattle.lq_value.specs.declared.view.View.TheVariants as view
 use Rattle.lq_script.specs.declared.request.Request.{Request}
 use Rattle.lq_script.specs.declared.request.Request.TheVariants as request
-use Rattle.lq_script.specs.Request.{Asked, asks_create, asks_remove, asks_open, asks_read}
+use Rattle.lq_script.specs.Request.{Asked, Given, given_text, given_number, asks_create, asks_remove, asks_move, asks_write, asks_set, asks_unset, asks_open, asks_read}
+
+abbrev pub given : View → Given
+given (view.Text text) = given_text text.now
+given (view.Int32 n) = given_number (value.Int32 n)
+given (view.Int64 n) = given_number (value.Int64 n)
+given (view.UInt32 n) = given_number (value.UInt32 n)
+given (view.UInt64 n) = given_number (value.UInt64 n)
 
 abbrev pub asked : Request → Asked
 asked (request.Create dir name kind size time) = asks_create dir name.now kind size time
 asked (request.Remove node) = asks_remove node
+asked (request.Move node dir name clobber) = asks_move node dir name.now clobber
+asked (request.Write node size time) = asks_write node size time
+asked (request.Set node attr value) = asks_set node attr.now (given value)
+asked (request.Unset node attr) = asks_unset node attr.now
 asked (request.Open query port backlog) = asks_open query.now port backlog
 asked (request.Read slot) = asks_read slot

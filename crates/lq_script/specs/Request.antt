@@ -1,23 +1,35 @@
 -- What a line of a script asks for: a function of the JSON value that it writes.
-use Rattle.std.specs.Prelude.{ℕ, ℤ, pos, List, Bool, false, Option, Some, None, option_and_then, option_map, Result, Ok, Err, codes, if◌then◌else◌}
+use Rattle.std.specs.Prelude.{ℕ, ℤ, pos, negsuc, int_le, nat_le, ◌&&◌, List, Bool, false, Option, Some, None, option_and_then, option_map, Result, Ok, Err, codes, if◌then◌else◌}
 use Rattle.std.specs.Str.{bytes_eq, is_utf8}
 use Rattle.serde_json.specs.Data.{Data}
-use Rattle.serde_json.specs.Find.{get, as_number, as_u64, as_i64, as_str}
+use Rattle.serde_json.specs.Find.{get, as_bool, as_number, as_u64, as_i64, as_str}
 use Rattle.serde_json.specs.Read.{read}
 use Rattle.lq_value.specs.declared.refusal.Refusal.{Refusal}
 use Rattle.lq_value.specs.declared.refusal.Refusal.TheVariants.{BadName, BadQuery, NotUtf8, NotJson, BadLine}
 use Rattle.lq_value.specs.declared.kind.Kind.{Kind}
 use Rattle.lq_value.specs.declared.kind.Kind.TheVariants.{File, Folder}
-use Rattle.lq_value.specs.Name.{is_name}
+use Rattle.lq_value.specs.Name.{is_name, is_attr_name}
+use Rattle.lq_value.specs.Value.{text_refusal}
+use Rattle.lq_value.specs.declared.value.Value.{Value}
+use Rattle.lq_value.specs.declared.value.Value.TheVariants.{Text, Int32, Int64, UInt32, UInt64}
 use Rattle.lq_predicate.specs.Query.{Query}
 use Rattle.lq_predicate.specs.Reads.{predicate_of}
-use Rattle.lq_volume.specs.declared.change.Change.TheVariants.{Create, Remove}
+use Rattle.lq_volume.specs.declared.change.Change.TheVariants.{Create, Remove, Move, Write, SetAttr, RemoveAttr}
 use Rattle.lq_desk.specs.World.{Happening, Changing, Opening, Taking}
+
+-- the value of a `set`: a text not yet read, or a number of one of four types
+pub data Given : Type 0 where
+  given_text : (text : List ℕ) → Given
+  given_number : (value : Value) → Given
 
 -- what a line asks for, its fields taken and its values not yet read
 pub data Asked : Type 0 where
   asks_create : (dir : ℕ) (name : List ℕ) (kind : Kind) (size : ℕ) (time : ℤ) → Asked
   asks_remove : (node : ℕ) → Asked
+  asks_move : (node dir : ℕ) (name : List ℕ) (clobber : Bool) → Asked
+  asks_write : (node size : ℕ) (time : ℤ) → Asked
+  asks_set : (node : ℕ) (attr : List ℕ) (value : Given) → Asked
+  asks_unset : (node : ℕ) (attr : List ℕ) → Asked
   asks_open : (query : List ℕ) (port backlog : ℕ) → Asked
   asks_read : (slot : ℕ) → Asked
 
@@ -43,6 +55,64 @@ kind_named text = if bytes_eq text (codes "file") then Some File else if bytes_e
 abbrev pub kind_or : Kind → Option Data → Option Kind
 kind_or default None = Some default
 kind_or default (Some d) = option_and_then kind_named (as_str d)
+
+abbrev pub flag_or : Bool → Option Data → Option Bool
+flag_or default None = Some default
+flag_or default (Some d) = as_bool d
+
+-- a whole number of 32 bits, with a sign and without
+abbrev pub within_i32 : ℤ → Option Given
+within_i32 n = if int_le (negsuc 2147483647) n && int_le n (pos 2147483647) then Some (given_number (Int32 n)) else None
+
+abbrev pub within_u32 : ℕ → Option Given
+within_u32 n = if nat_le n 4294967295 then Some (given_number (UInt32 n)) else None
+
+-- by the text of `type`
+abbrev pub given_by : List ℕ → Data → Option Given
+given_by kind d =
+    if bytes_eq kind (codes "CSTR") then option_map given_text (as_str d)
+    else if bytes_eq kind (codes "LONG") then option_and_then within_i32 (option_and_then as_i64 (as_number d))
+    else if bytes_eq kind (codes "LLNG") then option_map (λ n. given_number (Int64 n)) (option_and_then as_i64 (as_number d))
+    else if bytes_eq kind (codes "ULNG") then option_and_then within_u32 (option_and_then as_u64 (as_number d))
+    else if bytes_eq kind (codes "ULLG") then option_map (λ n. given_number (UInt64 n)) (option_and_then as_u64 (as_number d))
+    else None
+
+abbrev pub move_of : Data → Option Asked
+move_of d =
+    option_and_then (λ node.
+    option_and_then (λ name.
+    option_and_then (λ dir.
+    option_map (λ clobber. asks_move node dir name clobber)
+    (flag_or false (get (codes "clobber") d)))
+    (u64_or 1 (get (codes "dir") d)))
+    (needed_text (codes "name") d))
+    (needed_u64 (codes "node") d)
+
+abbrev pub write_of : Data → Option Asked
+write_of d =
+    option_and_then (λ node.
+    option_and_then (λ size.
+    option_map (λ time. asks_write node size time)
+    (i64_or (pos 0) (get (codes "time") d)))
+    (needed_u64 (codes "size") d))
+    (needed_u64 (codes "node") d)
+
+abbrev pub set_of : Data → Option Asked
+set_of d =
+    option_and_then (λ node.
+    option_and_then (λ attr.
+    option_and_then (λ kind.
+    option_and_then (λ field.
+    option_map (λ value. asks_set node attr value)
+    (given_by kind field))
+    (get (codes "value") d))
+    (needed_text (codes "type") d))
+    (needed_text (codes "attr") d))
+    (needed_u64 (codes "node") d)
+
+abbrev pub unset_of : Data → Option Asked
+unset_of d =
+    option_and_then (λ node. option_map (λ attr. asks_unset node attr) (needed_text (codes "attr") d)) (needed_u64 (codes "node") d)
 
 abbrev pub create_of : Data → Option Asked
 create_of d =
@@ -77,6 +147,10 @@ abbrev pub asked_by : List ℕ → Data → Option Asked
 asked_by act d =
     if bytes_eq act (codes "create") then create_of d
     else if bytes_eq act (codes "remove") then remove_of d
+    else if bytes_eq act (codes "move") then move_of d
+    else if bytes_eq act (codes "write") then write_of d
+    else if bytes_eq act (codes "set") then set_of d
+    else if bytes_eq act (codes "unset") then unset_of d
     else if bytes_eq act (codes "open") then open_of d
     else if bytes_eq act (codes "read") then read_of d
     else None
@@ -101,9 +175,25 @@ abbrev pub opening_or : Option Query → ℕ → ℕ → Result Happening Refusa
 opening_or None port backlog = Err (BadQuery 0)
 opening_or (Some q) port backlog = Ok (Opening q port backlog false)
 
+abbrev pub text_or : Option Refusal → List ℕ → Result Value Refusal
+text_or None text = Ok (Text text)
+text_or (Some e) text = Err e
+
+abbrev pub value_for : Given → Result Value Refusal
+value_for (given_text text) = text_or (text_refusal text) text
+value_for (given_number value) = Ok value
+
+abbrev pub setting_for : ℕ → List ℕ → Result Value Refusal → Result Happening Refusal
+setting_for node attr (Err e) = Err e
+setting_for node attr (Ok value) = Ok (Changing (SetAttr node attr value))
+
 abbrev pub happening_for : Asked → Result Happening Refusal
 happening_for (asks_create dir name kind size time) = if is_name name then Ok (Changing (Create dir name kind size time)) else Err BadName
 happening_for (asks_remove node) = Ok (Changing (Remove node))
+happening_for (asks_move node dir name clobber) = if is_name name then Ok (Changing (Move node dir name clobber)) else Err BadName
+happening_for (asks_write node size time) = Ok (Changing (Write node size time))
+happening_for (asks_set node attr value) = if is_attr_name attr then setting_for node attr (value_for value) else Err BadName
+happening_for (asks_unset node attr) = if is_attr_name attr then Ok (Changing (RemoveAttr node attr)) else Err BadName
 happening_for (asks_open query port backlog) = opening_or (predicate_of query) port backlog
 happening_for (asks_read slot) = Ok (Taking slot)
 
@@ -114,8 +204,3 @@ happening_from (Ok a) = happening_for a
 -- the event that a line asks for, or why it asks for none
 abbrev pub happening_in : List ℕ → Result Happening Refusal
 happening_in line = happening_from (asked_in line)
-
--- why it is refused before any event
-abbrev pub refusal_in : {T : Type 0} → Result T Refusal → Option Refusal
-refusal_in (Ok x) = None
-refusal_in (Err e) = Some e

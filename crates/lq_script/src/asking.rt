@@ -2,15 +2,14 @@
 ghost use Rattle.std.specs.Prelude.{◌≡◌, ◌⊎◌, IfOk, IfErr, Ok, Err};
 ghost use Rattle.serde_json.specs.View.{view};
 ghost use Rattle.lq_value.specs.declared.refusal.Refusal.TheVariants.{NoMemory};
-ghost use Rattle.lq_value.specs.Refusal.{IsRefusedBy};
 ghost use Rattle.lq_desk.specs.Reply.{happening_of};
-ghost use Rattle.lq_script.specs.Asked.{asked};
-ghost use Rattle.lq_script.specs.Request.{asked_in, asked_of, asked_or, happening_for, happening_from, happening_in, refusal_in};
+ghost use Rattle.lq_script.specs.Asked.{asked, given};
+ghost use Rattle.lq_script.specs.Request.{asks_set, value_for, asked_in, asked_of, asked_or, happening_for, happening_from, happening_in};
 
 use crate::request::{Request, request_in};
 use lq_desk::Event;
 use lq_predicate::read;
-use lq_value::{Name, Refusal};
+use lq_value::{AttrName, Name, Refusal, View};
 use lq_volume::Change;
 use serde_json::{Category, Value};
 use std::alloc::Global;
@@ -47,9 +46,10 @@ fn value_in(alloc: Global, line: &[u8]) -> Result<Value, Refusal>
 
 // The event of a line's JSON value.
 fn event_of(alloc: Global, value: &Value) -> Result<Event, Refusal>
-    ensures refused { IsRefusedBy result (refusal_in (happening_from (asked_or (asked_of (view value.now))))) }
     ensures value { IfOk result (λ event.
         happening_from (asked_or (asked_of (view value.now))) ≡ Ok (happening_of event)) }
+    ensures refused { IfErr result (λ e. (e ≡ NoMemory)
+        ⊎ (happening_from (asked_or (asked_of (view value.now))) ≡ Err e)) }
 {
     match request_in(value) {
         None => Err(Refusal::BadLine),
@@ -59,8 +59,8 @@ fn event_of(alloc: Global, value: &Value) -> Result<Event, Refusal>
 
 // The event of a request, its values read.
 fn event_for(alloc: Global, request: &Request<'_>) -> Result<Event, Refusal>
-    ensures refused { IsRefusedBy result (refusal_in (happening_for (asked request.now))) }
     ensures value { IfOk result (λ event. happening_for (asked request.now) ≡ Ok (happening_of event)) }
+    ensures refused { IfErr result (λ e. (e ≡ NoMemory) ⊎ (happening_for (asked request.now) ≡ Err e)) }
 {
     match request {
         Request::Create {
@@ -77,6 +77,27 @@ fn event_for(alloc: Global, request: &Request<'_>) -> Result<Event, Refusal>
             time: *time,
         })),
         Request::Remove { node } => Ok(Event::Change(Change::Remove { node: *node })),
+        Request::Move {
+            node,
+            dir,
+            name,
+            clobber,
+        } => Ok(Event::Change(Change::Move {
+            node: *node,
+            dir: *dir,
+            name: Name::read(alloc, name)?,
+            clobber: *clobber,
+        })),
+        Request::Write { node, size, time } => Ok(Event::Change(Change::Write {
+            node: *node,
+            size: *size,
+            time: *time,
+        })),
+        Request::Set { node, attr, value } => Ok(setting(alloc, *node, attr, *value)?),
+        Request::Unset { node, attr } => Ok(Event::Change(Change::RemoveAttr {
+            node: *node,
+            attr: AttrName::read(alloc, attr)?,
+        })),
         Request::Open {
             query,
             port,
@@ -88,5 +109,31 @@ fn event_for(alloc: Global, request: &Request<'_>) -> Result<Event, Refusal>
             moved: false,
         }),
         Request::Read { slot } => Ok(Event::Take(*slot)),
+    }
+}
+
+// The event that sets an attribute, its name read before its value.
+fn setting(alloc: Global, node: u64, attr: &str, value: View<'_>) -> Result<Event, Refusal>
+    ensures value { IfOk result (λ event.
+        happening_for (asks_set node attr.now (given value.entry)) ≡ Ok (happening_of event)) }
+    ensures refused { IfErr result (λ e. (e ≡ NoMemory)
+        ⊎ (happening_for (asks_set node attr.now (given value.entry)) ≡ Err e)) }
+{
+    let attr = AttrName::read(alloc, attr)?;
+    let value = typed(alloc, value)?;
+    Ok(Event::Change(Change::SetAttr { node, attr, value }))
+}
+
+// The value of an attribute that a line gives.
+fn typed(alloc: Global, shown: View<'_>) -> Result<lq_value::Value, Refusal>
+    ensures refused { IfErr result (λ e. (e ≡ NoMemory) ⊎ (value_for (given shown.entry) ≡ Err e)) }
+    ensures value { IfOk result (λ value. value_for (given shown.entry) ≡ Ok value) }
+{
+    match shown {
+        View::Text(text) => Ok(lq_value::Value::text(alloc, text)?),
+        View::Int32(number) => Ok(lq_value::Value::Int32(number)),
+        View::Int64(number) => Ok(lq_value::Value::Int64(number)),
+        View::UInt32(number) => Ok(lq_value::Value::UInt32(number)),
+        View::UInt64(number) => Ok(lq_value::Value::UInt64(number)),
     }
 }

@@ -1,12 +1,13 @@
 //! What a line of a script asks for.
-ghost use Rattle.std.specs.Prelude.{◌≡◌, pos};
+ghost use Rattle.std.specs.Prelude.{◌≡◌, pos, false};
 ghost use Rattle.std.specs.Option.{option_map};
+ghost use Rattle.lq_value.specs.declared.value.Value.TheVariants.{Int32, UInt32};
 ghost use Rattle.lq_value.specs.declared.kind.Kind.TheVariants.{File};
 ghost use Rattle.serde_json.specs.View.{view};
-ghost use Rattle.lq_script.specs.Request.{asked_by, asked_of, create_of, remove_of, open_of, read_of, needed_text, needed_u64, u64_or, i64_or, kind_named, kind_or};
-ghost use Rattle.lq_script.specs.Asked.{asked};
+ghost use Rattle.lq_script.specs.Request.{asked_by, asked_of, create_of, remove_of, move_of, write_of, set_of, unset_of, open_of, read_of, given_by, given_number, within_i32, within_u32, flag_or, needed_text, needed_u64, u64_or, i64_or, kind_named, kind_or};
+ghost use Rattle.lq_script.specs.Asked.{asked, given};
 
-use lq_value::Kind;
+use lq_value::{Kind, View};
 use serde_json::Value;
 
 /// What a line asks for, its texts borrowed from the line's JSON value.
@@ -21,6 +22,26 @@ pub enum Request<'a> {
     },
     Remove {
         node: u64,
+    },
+    Move {
+        node: u64,
+        dir: u64,
+        name: &'a str,
+        clobber: bool,
+    },
+    Write {
+        node: u64,
+        size: u64,
+        time: i64,
+    },
+    Set {
+        node: u64,
+        attr: &'a str,
+        value: View<'a>,
+    },
+    Unset {
+        node: u64,
+        attr: &'a str,
     },
     Open {
         query: &'a str,
@@ -39,6 +60,10 @@ pub fn request_in(value: &Value) -> Option<Request<'_>>
     match value.get("do").and_then(Value::as_str)? {
         "create" => create_in(value),
         "remove" => remove_in(value),
+        "move" => move_in(value),
+        "write" => write_in(value),
+        "set" => set_in(value),
+        "unset" => unset_in(value),
         "open" => open_in(value),
         "read" => read_in(value),
         _ => None,
@@ -67,6 +92,81 @@ fn remove_in(value: &Value) -> Option<Request<'_>>
 {
     let node = value.get("node").and_then(Value::as_u64)?;
     Some(Request::Remove { node })
+}
+
+fn move_in(value: &Value) -> Option<Request<'_>>
+    ensures { option_map asked result ≡ move_of (view value.now) }
+{
+    let node = value.get("node").and_then(Value::as_u64)?;
+    let name = value.get("name").and_then(Value::as_str)?;
+    let dir = u64_or(value.get("dir"), 1)?;
+    let clobber = bool_or_false(value.get("clobber"))?;
+    Some(Request::Move {
+        node,
+        dir,
+        name,
+        clobber,
+    })
+}
+
+fn write_in(value: &Value) -> Option<Request<'_>>
+    ensures { option_map asked result ≡ write_of (view value.now) }
+{
+    let node = value.get("node").and_then(Value::as_u64)?;
+    let size = value.get("size").and_then(Value::as_u64)?;
+    let time = i64_or_zero(value.get("time"))?;
+    Some(Request::Write { node, size, time })
+}
+
+fn set_in(value: &Value) -> Option<Request<'_>>
+    ensures { option_map asked result ≡ set_of (view value.now) }
+{
+    let node = value.get("node").and_then(Value::as_u64)?;
+    let attr = value.get("attr").and_then(Value::as_str)?;
+    let kind = value.get("type").and_then(Value::as_str)?;
+    let field = value.get("value")?;
+    let value = typed_in(kind, field)?;
+    Some(Request::Set { node, attr, value })
+}
+
+fn unset_in(value: &Value) -> Option<Request<'_>>
+    ensures { option_map asked result ≡ unset_of (view value.now) }
+{
+    let node = value.get("node").and_then(Value::as_u64)?;
+    let attr = value.get("attr").and_then(Value::as_str)?;
+    Some(Request::Unset { node, attr })
+}
+
+// A value of one of the five attribute types, by the type's text.
+fn typed_in<'a>(kind: &str, field: &'a Value) -> Option<View<'a>>
+    ensures { option_map given result ≡ given_by kind.now (view field.now) }
+{
+    match kind {
+        "CSTR" => Some(View::Text(field.as_str()?)),
+        "LONG" => Some(View::Int32(narrow_i32(field.as_i64()?)?)),
+        "LLNG" => Some(View::Int64(field.as_i64()?)),
+        "ULNG" => Some(View::UInt32(narrow_u32(field.as_u64()?)?)),
+        "ULLG" => Some(View::UInt64(field.as_u64()?)),
+        _ => None,
+    }
+}
+
+fn narrow_i32(number: i64) -> Option<i32>
+    ensures { option_map (λ n. given_number (Int32 n)) result ≡ within_i32 number }
+{
+    if number < -2147483648 || number > 2147483647 {
+        return None;
+    }
+    Some(number as i32)
+}
+
+fn narrow_u32(number: u64) -> Option<u32>
+    ensures { option_map (λ n. given_number (UInt32 n)) result ≡ within_u32 number }
+{
+    if number > 4294967295 {
+        return None;
+    }
+    Some(number as u32)
 }
 
 fn open_in(value: &Value) -> Option<Request<'_>>
@@ -106,6 +206,16 @@ fn i64_or_zero(field: Option<&Value>) -> Option<i64>
     match field {
         None => Some(0),
         Some(value) => value.as_i64(),
+    }
+}
+
+// A truth value, or false where there is none.
+fn bool_or_false(field: Option<&Value>) -> Option<bool>
+    ensures { result ≡ flag_or false (option_map (λ v. view v.now) field.entry) }
+{
+    match field {
+        None => Some(false),
+        Some(value) => value.as_bool(),
     }
 }
 

@@ -22,7 +22,7 @@ mod volume;
 pub use change::{Applied, Change};
 pub use entry_ref::{EntryRef, Listing};
 pub use laws::{
-    accepted_changes_keep_trees, changes_are_counted, changes_leave_their_records, clobbered_nodes_go, places_are_own,
-    untouched_nodes_stay, walks_are_bounded,
+    accepted_changes_keep_trees, changes_are_counted, changes_leave_their_records,
+    clobbered_nodes_go, places_are_own, untouched_nodes_stay, walks_are_bounded,
 };
 pub use volume::Volume;

@@ -1,0 +1,79 @@
+//! Worked examples as calls of a volume and of a desk.
+use lq_desk::{Desk, Event, Reply};
+use lq_predicate::read;
+use lq_update::step;
+use lq_value::{Kind, Name, Refusal};
+use lq_volume::{Change, Volume};
+use std::alloc::Global;
+use std::test::Fail;
+
+fn creation(alloc: Global, name: &str) -> Result<Change, Refusal> {
+    Ok(Change::Create {
+        dir: 1,
+        name: Name::read(alloc, name)?,
+        kind: Kind::File,
+        size: 200,
+        time: 0,
+    })
+}
+
+#[test]
+fn scenario_change_limit(rt: HostRuntime) -> Result<(), Fail> {
+    let alloc = rt.alloc();
+    let mut volume = Volume::new(alloc, 2);
+    for name in ["a", "b"] {
+        assert!(rt; volume.apply(&creation(alloc, name)?).is_ok());
+    }
+    // name, refusal
+    for (name, refusal) in [("a", Refusal::Exists), ("c", Refusal::Exhausted)] {
+        assert!(rt;
+            volume.apply(&creation(alloc, name)?) == Err(refusal),
+            "{name}"
+        );
+    }
+    Ok(())
+}
+
+#[test]
+fn scenario_change_limit_of_a_desk(rt: HostRuntime) -> Result<(), Fail> {
+    let alloc = rt.alloc();
+    let mut desk = Desk::new(alloc, Volume::new(alloc, 2));
+    assert!(rt; desk.run(&[])?.is_empty());
+    for wanted in [true, true, false] {
+        let reply = desk.event(&Event::Open {
+            predicate: read(alloc, "size>0")?,
+            port: 1,
+            backlog: 1,
+            moved: false,
+        });
+        match reply {
+            Reply::Opened { .. } => assert!(rt; wanted),
+            Reply::Refused(refusal) => assert!(rt; !wanted && refusal == Refusal::Exhausted),
+            _ => assert!(rt; false),
+        }
+    }
+    assert!(rt; desk.volume().changes() == 0);
+    Ok(())
+}
+
+#[test]
+fn each_call_once(rt: HostRuntime) -> Result<(), Fail> {
+    let alloc = rt.alloc();
+    let mut volume = Volume::new(alloc, 9);
+    let change = creation(alloc, "a")?;
+    let query = read(alloc, "size>100")?;
+    let messages = step(alloc, &query, &volume, &change, 1, false)?;
+    assert!(rt; messages.len() == 1);
+    assert!(rt; volume.check(&change).is_ok());
+    assert!(rt; volume.apply(&change).is_ok());
+    let found = volume.copy()?.fetch(&query.copy(alloc)?)?;
+    assert!(rt; found.len() == 1 && volume.limit() == 9);
+    let name = Name::read(alloc, "a")?;
+    assert!(rt; volume.find(1, &name) == Ok(2));
+    assert!(rt; volume.listing(2)?.size == 200);
+    match volume.entry(2) {
+        Ok(entry) => assert!(rt; entry.size() == 200 && entry.dir() == 1),
+        Err(_) => assert!(rt; false),
+    }
+    Ok(())
+}
