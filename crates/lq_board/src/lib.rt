@@ -7,6 +7,8 @@
 
 mod board;
 mod steps;
+#[cfg(test)]
+mod tests;
 mod tokens;
 mod views;
 
