@@ -1,5 +1,5 @@
 -- A book that grows.
-use Rattle.std.proofs.Common.{List, [], ◌∷◌, ◌++◌, sym, ap, ◌∙◌, append_assoc}
+use Rattle.std.proofs.Common.{◌≡◌, List, [], ◌∷◌, ◌++◌, refl, sym, ap, ◌∙◌, append_assoc}
 use Rattle.std.proofs.lemmas.List.{append-nil}
 use Rattle.lq_volume.specs.declared.change.Change.{Change}
 use Rattle.lq_volume.specs.State.{State}
@@ -33,3 +33,12 @@ full_more b c full last =
       first = full.first;
       lawful = lawful_more b.start b.changes c full.lawful last;
     }
+
+after_all-last : (s : State) (cs : List Change) (c : Change)
+    → after_all s (cs ++ c ∷ []) ≡ after (after_all s cs) c
+after_all-last s [] c = refl
+after_all-last s (d ∷ cs) c = after_all-last (after s d) cs c
+
+-- the state after one change more
+pub state_of_grown : (b : Book) (c : Change) → state_of (grown b (c ∷ [])) ≡ after (state_of b) c
+state_of_grown b c = after_all-last b.start b.changes c

@@ -1,5 +1,5 @@
 -- Each step on a word keeps the rule.
-use Rattle.std.proofs.Common.{◌≡◌, ◌≢◌, ℕ, zero, suc, ◌+◌, ◌<◌, ◌^◌, ◌%◌, List, [], ◌∷◌, length, refl, sym, ap, ◌∙◌, subst, arith, length-append, get_or-set_same, get_or-set_other, Option, Some, ◌≤◌}
+use Rattle.std.proofs.Common.{◌≡◌, ◌≢◌, ℕ, zero, suc, ◌+◌, ◌<◌, ◌^◌, ◌%◌, List, [], ◌∷◌, length, refl, sym, ap, ◌∙◌, subst, arith, length-append, get_or-set_same, get_or-set_other, Option, Some, ◌≤◌, false}
 use Rattle.std.specs.Prelude.{slice_index, slice_set, replicate}
 use Rattle.std.proofs.lemmas.List.{set-get_or, get_or-replicate}
 use mathlib.Core.Logic.{dite}
@@ -215,7 +215,12 @@ module _ {M : Type 0} where
                     came_self kept.book v.book mine.1,
                   );
             },
-        (refl, subst (λ (r : Slot M). r.asks ≤ n) (sym same) (kept.agrees.known k pos within)),
+        (
+          refl,
+          subst (λ (r : Slot M). r.asks ≤ n) (sym same) (kept.agrees.known k pos within),
+          subst (λ (r : Slot M). r.out ≡ false → n ≡ r.asks) (sym same)
+              (kept.agrees.idle k pos within),
+        ),
       )
 
   -- another token's view, where the word of a slot changes

@@ -1,5 +1,5 @@
 -- What a step on the words tells.
-use Rattle.std.specs.Prelude.{◌≡◌, ℕ, ◌+◌, ◌≤◌, length, Option, option_to_list}
+use Rattle.std.specs.Prelude.{◌≡◌, ℕ, ◌+◌, ◌≤◌, false, length, Option, option_to_list}
 use Rattle.atomic_table.specs.Table.{Step, Me}
 use Rattle.lq_volume.specs.declared.change.Change.{Change}
 use Rattle.lq_volume.specs.Book.{grown, Extends}
@@ -38,12 +38,13 @@ module _ {M : Type 0} where
       × CameBack was.book was.back was.was
       × (found ≡ length was.book.changes)
 
-  -- a slot's seat asked at least as often as was known
+  -- a slot's seat asked at least as often as was known, and just so often with no seat out
   abbrev pub Counts : Step ℕ → Me ℕ (View M) → ℕ → Me ℕ (View M) → Type 0
   Counts s m found n =
       let was = keeping_of m.0 in
       (n ≡ (keeper was.book (counted was.slots s.word found), m.1))
       × ((slot_at was.slots s.word).asks ≤ found)
+      × ((slot_at was.slots s.word).out ≡ false → found ≡ (slot_at was.slots s.word).asks)
 
   -- the seat has asked once more
   abbrev pub Asks : Step ℕ → Me ℕ (View M) → ℕ → Me ℕ (View M) → Type 0

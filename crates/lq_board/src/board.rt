@@ -2,7 +2,7 @@
 ghost use Rattle.std.specs.Prelude.{◌≡◌, ◌+◌, ◌<◌, ◌≤◌, [], ◌∷◌, length, IfOk, true, false, Some, None};
 ghost use Rattle.lq_value.specs.Refusal.{IsRefusedBy};
 ghost use Rattle.lq_volume.specs.Book.{grown, state_of, Extends};
-ghost use Rattle.lq_volume.specs.Change.{IsLawful};
+ghost use Rattle.lq_volume.specs.Change.{after, IsLawful};
 ghost use Rattle.lq_board.specs.Book.{IsFullBook};
 ghost use Rattle.lq_board.specs.Slot.{unused_slots, slot_at, gone_out, come_back, counted};
 ghost use Rattle.lq_board.specs.View.{sitting_of, plain};
@@ -134,13 +134,15 @@ impl<M> Board<M> {
 
     /// Adds a lawful change to the book, and answers how many it then has. It takes no memory.
     ///
-    /// The book has fewer than 1,000,000,000,000 changes before.
+    /// The book has fewer than 1,000,000,000,000 changes before. The state after it is then that
+    /// after the change.
     pub fn add(&self, keeper: &mut Keeper<M>, change: &Change) -> u64
         requires board { keeper.old.board ≡ self.now }
         requires lawful { IsLawful (state_of keeper.old.book) change.now }
         requires room { length keeper.old.book.changes < 1000000000000 }
         ensures number { result ≡ length keeper.new.book.changes }
         ensures full { IsFullBook keeper.new.book }
+        ensures state { state_of keeper.new.book ≡ after (state_of keeper.old.book) change.now }
         ensures keeper { keeper.new ≡ record {
           board = keeper.old.board;
           book = grown keeper.old.book (change.now ∷ []);
@@ -151,10 +153,14 @@ impl<M> Board<M> {
     }
 
     /// How often a slot's seats have asked, which the keeper then knows. It takes no memory.
+    ///
+    /// It is at least what the keeper knew, and just that where no seat of the slot is out.
     pub fn asks(&self, keeper: &mut Keeper<M>, slot: u64) -> u64
         requires board { keeper.old.board ≡ self.now }
         requires slot { (0 < slot) × (slot < 65) }
         ensures known { (slot_at keeper.old.slots slot).asks ≤ result }
+        ensures idle { (slot_at keeper.old.slots slot).out ≡ false
+            → result ≡ (slot_at keeper.old.slots slot).asks }
         ensures keeper { keeper.new ≡ record {
           board = keeper.old.board;
           book = keeper.old.book;
@@ -353,6 +359,7 @@ impl<M> Board<M> {
     }
 
     // `change` is for the proof: the call picks it from there.
+    #[tactic(auto, using(crate::proofs::BookLemmas::state_of_grown))]
     fn add_as<W: Added>(&self, keeper: &mut Keeper<M>, change: &Change) -> u64
         requires board { keeper.old.board ≡ self.now }
         requires added { W.change ≡ Some change.now }
@@ -360,6 +367,7 @@ impl<M> Board<M> {
         requires room { length keeper.old.book.changes < 1000000000000 }
         ensures number { result ≡ length keeper.new.book.changes }
         ensures full { IsFullBook keeper.new.book }
+        ensures state { state_of keeper.new.book ≡ after (state_of keeper.old.book) change.now }
         ensures keeper { keeper.new ≡ record {
           board = keeper.old.board;
           book = grown keeper.old.book (change.now ∷ []);
