@@ -5,11 +5,9 @@ ghost use Rattle.lq_volume.specs.Book.{grown, state_of, Extends};
 ghost use Rattle.lq_volume.specs.Change.{after, IsLawful};
 ghost use Rattle.lq_board.specs.Book.{IsFullBook};
 ghost use Rattle.lq_board.specs.Slot.{unused_slots, slot_at, gone_out, come_back, counted};
-ghost use Rattle.lq_board.specs.View.{sitting_of, plain};
-ghost use Rattle.lq_board.specs.Rule.{CameBack};
 
-use crate::steps::{Add, Added, Ask, Back, Check, Count, Given, Open, Plain, See};
-use crate::tokens::{Keeper, Seat, Token};
+use crate::steps::{Ask, Count, See};
+use crate::tokens::{Keeper, Seat};
 use crate::views::{Law, View};
 use atomic_table::Table;
 use lq_value::Refusal;
@@ -25,7 +23,7 @@ const WORDS: usize = 65;
 /// Its calls take `&self`, so threads share it. Contracts see which board it is.
 #[derive(Drop)]
 pub struct Board<M> {
-    table: Table<u8, View<M>, Volume, Law, Global>,
+    pub(crate) table: Table<u8, View<M>, Volume, Law, Global>,
 }
 
 impl<M> Model for Board<M> {
@@ -299,85 +297,5 @@ impl<M> Board<M> {
         let number = closed.word(0);
         closed.free();
         number
-    }
-
-    fn plain_token(&self, keeper: &mut Keeper<M>) -> Token<M>
-        requires board { keeper.old.board ≡ self.now }
-        ensures board { result.table_id ≡ keeper.old.board }
-        ensures view { result.me ≡ (View.Seat (plain keeper.old.book), []) }
-        ensures full { IsFullBook keeper.old.book }
-        ensures keeper { keeper.new ≡ keeper.old }
-    {
-        self.table.shared.split_seat::<Plain>(&mut keeper.token)
-    }
-
-    // `slot` is for the proof: the call picks it from there.
-    fn slot_token<W: Given<M>>(&self, keeper: &mut Keeper<M>, slot: u64) -> Token<M>
-        requires board { keeper.old.board ≡ self.now }
-        requires given { W.slot ≡ slot }
-        requires slot { (0 < slot) × (slot < 65) }
-        requires free { (slot_at keeper.old.slots slot).out ≡ false }
-        ensures board { result.table_id ≡ keeper.old.board }
-        ensures view { result.me ≡ (
-          View.Seat (record {
-            slot = slot;
-            book = keeper.old.book;
-            asks = (slot_at keeper.old.slots slot).asks;
-            name = W.name;
-          }),
-          [],
-        ) }
-        ensures full { IsFullBook keeper.old.book }
-        ensures keeper { keeper.new ≡ record {
-          board = keeper.old.board;
-          book = keeper.old.book;
-          slots = gone_out keeper.old.slots slot W.name;
-        } }
-    {
-        let _ = slot;
-        self.table.shared.split_seat::<Open<W>>(&mut keeper.token)
-    }
-
-    // The keeper's look at the number tells what is so of the seat that came back.
-    fn back(&self, keeper: &mut Keeper<M>, token: Token<M>) -> u64
-        requires board { (keeper.old.board ≡ self.now) × (token.table_id ≡ self.now) }
-        requires view { token.me ≡ (View.Seat (sitting_of token.me.0), []) }
-        ensures number { result ≡ length keeper.old.book.changes }
-        ensures back { CameBack keeper.old.book (sitting_of token.me.0)
-            (slot_at keeper.old.slots (sitting_of token.me.0).slot) }
-        ensures keeper { keeper.new ≡ record {
-          board = keeper.old.board;
-          book = keeper.old.book;
-          slots = come_back keeper.old.slots (sitting_of token.me.0).slot
-              (sitting_of token.me.0).asks (sitting_of token.me.0).name;
-        } }
-    {
-        self.table
-            .shared
-            .join_seat::<Back>(&mut keeper.token, token);
-        self.table.shared.load::<Check>(&mut keeper.token, 0)
-    }
-
-    // `change` is for the proof: the call picks it from there.
-    #[tactic(auto, using(crate::proofs::BookLemmas::state_of_grown))]
-    fn add_as<W: Added>(&self, keeper: &mut Keeper<M>, change: &Change) -> u64
-        requires board { keeper.old.board ≡ self.now }
-        requires added { W.change ≡ Some change.now }
-        requires lawful { IsLawful (state_of keeper.old.book) change.now }
-        requires room { length keeper.old.book.changes < 1000000000000 }
-        ensures number { result ≡ length keeper.new.book.changes }
-        ensures full { IsFullBook keeper.new.book }
-        ensures state { state_of keeper.new.book ≡ after (state_of keeper.old.book) change.now }
-        ensures keeper { keeper.new ≡ record {
-          board = keeper.old.board;
-          book = grown keeper.old.book (change.now ∷ []);
-          slots = keeper.old.slots;
-        } }
-    {
-        let _ = change;
-        self.table
-            .shared
-            .fetch_add::<Add<W>>(&mut keeper.token, 0, 1)
-            + 1
     }
 }

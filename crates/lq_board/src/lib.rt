@@ -6,6 +6,7 @@
 #![tactic(auto)]
 
 mod board;
+mod moves;
 mod steps;
 #[cfg(test)]
 mod tests;
