@@ -1,8 +1,10 @@
 -- A book that grows.
-use Rattle.std.proofs.Common.{◌≡◌, List, [], ◌∷◌, ◌++◌, refl, sym, ap, ◌∙◌, append_assoc}
+use Rattle.std.proofs.Common.{◌≡◌, ◌+◌, ◌<◌, List, [], ◌∷◌, ◌++◌, length, refl, sym, ap, ◌∙◌, subst, arith, append_assoc, length-append}
 use Rattle.std.proofs.lemmas.List.{append-nil}
 use Rattle.lq_volume.specs.declared.change.Change.{Change}
-use Rattle.lq_volume.specs.State.{State}
+use Rattle.lq_volume.specs.declared.change.Change.TheVariants.{Create, Remove}
+use Rattle.lq_volume.specs.State.{State, IsVolume}
+use Rattle.lq_volume.specs.Laws.{ChangesKeepTrees}
 use Rattle.lq_volume.specs.Change.{after, IsLawful}
 use Rattle.lq_volume.specs.Book.{Book, after_all, AreLawful, state_of, grown, Extends}
 use Rattle.lq_board.specs.Book.{IsFullBook}
@@ -25,15 +27,6 @@ lawful_more : (s : State) (cs : List Change) (c : Change) → AreLawful s cs
 lawful_more s [] c all last = (last, tt)
 lawful_more s (d ∷ cs) c all last = (all.0, lawful_more (after s d) cs c all.1 last)
 
-pub full_more : (b : Book) (c : Change) → IsFullBook b → IsLawful (state_of b) c
-    → IsFullBook (grown b (c ∷ []))
-full_more b c full last =
-    record {
-      volume = full.volume;
-      first = full.first;
-      lawful = lawful_more b.start b.changes c full.lawful last;
-    }
-
 after_all-last : (s : State) (cs : List Change) (c : Change)
     → after_all s (cs ++ c ∷ []) ≡ after (after_all s cs) c
 after_all-last s [] c = refl
@@ -42,3 +35,38 @@ after_all-last s (d ∷ cs) c = after_all-last (after s d) cs c
 -- the state after one change more
 pub state_of_grown : (b : Book) (c : Change) → state_of (grown b (c ∷ [])) ≡ after (state_of b) c
 state_of_grown b c = after_all-last b.start b.changes c
+
+number_after : (s : State) (c : Change) → (after s c).number ≡ s.number + 1
+number_after s (Create dir name kind size time) = refl
+number_after s (Remove node) = refl
+
+-- the book before any change
+pub full_first : (s : State) → IsVolume s → s.number ≡ 0
+    → IsFullBook (record { start = s; changes = [] })
+full_first s volume first =
+    record { start = volume; first = first; lawful = tt; state = volume; number = first }
+
+-- a lawful change has room: the volume takes no more than its limit
+pub room_of : ChangesKeepTrees → (b : Book) (c : Change) → IsFullBook b
+    → IsLawful (state_of b) c → length b.changes < 1000000000000
+room_of keeps b c full lawful =
+    let numbered = (keeps (state_of b) c full.state lawful).numbered in
+    omega (arith, full.number, number_after (state_of b) c, numbered.number, numbered.limit)
+
+pub full_more : ChangesKeepTrees → (b : Book) (c : Change) → IsFullBook b
+    → IsLawful (state_of b) c → IsFullBook (grown b (c ∷ []))
+full_more keeps b c full lawful =
+    let is = state_of_grown b c in
+    record {
+      start = full.start;
+      first = full.first;
+      lawful = lawful_more b.start b.changes c full.lawful lawful;
+      state = subst IsVolume (sym is) (keeps (state_of b) c full.state lawful);
+      number = omega (
+        arith,
+        ap (λ (s : State). s.number) is,
+        number_after (state_of b) c,
+        full.number,
+        length-append b.changes (c ∷ []),
+      );
+    }

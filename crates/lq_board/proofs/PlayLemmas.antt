@@ -10,6 +10,7 @@ use Rattle.atomic_table.specs.Table.{keeps, step, Allows}
 use Rattle.lq_volume.specs.declared.change.Change.{Change}
 use Rattle.lq_volume.specs.State.{State}
 use Rattle.lq_volume.specs.Change.{IsLawful}
+use Rattle.lq_volume.specs.Laws.{ChangesKeepTrees}
 use Rattle.lq_volume.specs.Book.{Book, grown, state_of}
 use Rattle.lq_board.specs.declared.views.Slot.{Slot}
 use Rattle.lq_board.specs.declared.views.Sitting.{Sitting}
@@ -21,7 +22,7 @@ use Rattle.lq_board.specs.Slot.{unused_slots, slot_at, counted}
 use Rattle.lq_board.specs.View.{keeper, newborn}
 use Rattle.lq_board.specs.Rule.{CameBack, Sits, Fits, Kept, IsKept}
 use Rattle.lq_board.specs.Step.{Adds, Sees, Checks, Counts, Asks}
-use Rattle.lq_board.proofs.BookLemmas.{extends_self, extends_more, full_more}
+use Rattle.lq_board.proofs.BookLemmas.{extends_self, extends_more, full_more, room_of}
 use Rattle.lq_board.proofs.SlotLemmas.{slot_here, agrees_unused, agrees_slot, agrees_word}
 use Rattle.lq_board.proofs.ViewLemmas.{fits_set, came_self, sits_word, sits_slot, fits_other}
 
@@ -55,21 +56,22 @@ module _ {M : Type 0} where
       one (suc by) v e = absurd (some-ne-none v (sym e))
 
   -- a change is added
-  pub adds : (slots id : ℕ) (v : Keeping M) (x : Change)
-      → IsLawful (state_of v.book) x → length v.book.changes < 1000000000000
+  pub adds : (slots id : ℕ) (v : Keeping M) (x : Change) → ChangesKeepTrees
+      → IsLawful (state_of v.book) x
       → Allows IsKept slots id (Keeper v, []) 0 (λ n. (n + 1) % 2 ^ 64)
       (Adds (Some x) (step slots 0 1 0 none) (Keeper v, []))
-  adds slots id v x lawful room s kept len at small =
+  adds slots id v x keeps_trees lawful s kept len at small =
       let mine = kept.fits id (Keeper v) at in
       let n : ℕ = (slice_index s.words 0 + 1) % 2 ^ 64 in
       let book : Book = grown kept.book (x ∷ []) in
       let w_book : Book = grown v.book (x ∷ []) in
       let w : View M = keeper w_book v.slots in
       let same : w_book ≡ book = ap (λ (b : Book). grown b (x ∷ [])) mine.1 in
+      let lawful_here = subst (λ (b : Book). IsLawful (state_of b) x) mine.1 lawful in
+      let room = room_of keeps_trees kept.book x kept.full lawful_here in
+      let full = full_more keeps_trees kept.book x kept.full lawful_here in
       let next : n ≡ length book.changes =
-      omega (arith, length-append kept.book.changes (x ∷ []), ap (λ (b : Book). length b.changes) mine.1, kept.number) in
-      let full : IsFullBook book =
-      full_more kept.book x kept.full (subst (λ (b : Book). IsLawful (state_of b) x) mine.1 lawful) in (
+      omega (arith, length-append kept.book.changes (x ∷ []), room, kept.number) in (
         w,
         keeps,
         tt,
@@ -80,13 +82,16 @@ module _ {M : Type 0} where
           owner = kept.owner;
           number = get_or-set_same s.words 0 n 0 (omega (arith, kept.agrees.wide)) ∙ next;
           full = full;
-          agrees = agrees_word s.words kept.slots 0 n (λ (lt : 0 < 0). absurd (omega arith)) kept.agrees;
-          fits = fits_set (Fits kept.id book kept.slots kept.owner (slice_set s.words 0 n)) s.views id w
+          agrees = agrees_word s.words kept.slots 0 n (λ (lt : 0 < 0). absurd (omega arith))
+              kept.agrees;
+          fits = fits_set (Fits kept.id book kept.slots kept.owner (slice_set s.words 0 n))
+              s.views id w
               (λ by u apart e.
               fits_other kept.id kept.book book kept.slots kept.slots kept.owner kept.owner s.words
               (slice_set s.words 0 n) by u
               (λ b. extends_more kept.book b x)
-              (λ slot asks name pos. sits_word kept.slots kept.owner s.words 0 n by slot asks name (λ e. omega arith))
+              (λ slot asks name pos.
+              sits_word kept.slots kept.owner s.words 0 n by slot asks name (λ e. omega arith))
               (λ is. apart (is ∙ sym mine.0)) (kept.fits by u e))
               (mine.0, same, mine.2, came_self book w_book same);
         },

@@ -6,6 +6,7 @@ use lib.ListN.{get_elem?}
 use Rattle.atomic_table.specs.Table.{Me, step, Allows, Splits, Joins, Final, Seen}
 use Rattle.lq_volume.specs.declared.change.Change.{Change}
 use Rattle.lq_volume.specs.Change.{IsLawful}
+use Rattle.lq_volume.specs.Laws.{ChangesKeepTrees}
 use Rattle.lq_volume.specs.Book.{Book, state_of}
 use Rattle.lq_board.specs.declared.views.Keeping.{Keeping}
 use Rattle.lq_board.specs.declared.views.View.{View}
@@ -30,10 +31,9 @@ module _ {M : Type 0} where
   at_rest me = keeping (keeping_of me.0).book (keeping_of me.0).slots
 
   pub adds_as : (slots id : ℕ) (me : Me ℕ (View M)) (x : Change) (said : Option Change)
-      → said ≡ Some x → Keeps me → IsLawful (state_of (keeping_of me.0).book) x
-      → length (keeping_of me.0).book.changes < 1000000000000
+      → ChangesKeepTrees → said ≡ Some x → Keeps me → IsLawful (state_of (keeping_of me.0).book) x
       → Allows IsKept slots id me 0 (λ n. (n + 1) % 2 ^ 64) (Adds said (step slots 0 1 0 none) me)
-  adds_as slots id me x said says is lawful room =
+  adds_as slots id me x said keeps says is lawful =
       subst
       (λ (o : Option Change).
       Allows IsKept slots id me 0 (λ n. (n + 1) % 2 ^ 64) (Adds o (step slots 0 1 0 none) me))
@@ -42,7 +42,7 @@ module _ {M : Type 0} where
       (λ (m : Me ℕ (View M)).
       Allows IsKept slots id m 0 (λ n. (n + 1) % 2 ^ 64)
       (Adds (Some x) (step slots 0 1 0 none) m))
-      (sym is) (adds slots id (at_rest me) x lawful room))
+      (sym is) (adds slots id (at_rest me) x keeps lawful))
 
   pub sees_as : (slots id : ℕ) (me : Me ℕ (View M)) → SitsAt me
       → Allows IsKept slots id me 0 (λ n. n) (Sees (step slots 0 0 0 none) me)

@@ -132,12 +132,11 @@ impl<M> Board<M> {
 
     /// Adds a lawful change to the book, and answers how many it then has. It takes no memory.
     ///
-    /// The book has fewer than 1,000,000,000,000 changes before. The state after it is then that
-    /// after the change.
+    /// The state after the book is then that after the change. A lawful change has room: the
+    /// volume takes at most 1,000,000,000,000.
     pub fn add(&self, keeper: &mut Keeper<M>, change: &Change) -> u64
         requires board { keeper.old.board ≡ self.now }
         requires lawful { IsLawful (state_of keeper.old.book) change.now }
-        requires room { length keeper.old.book.changes < 1000000000000 }
         ensures number { result ≡ length keeper.new.book.changes }
         ensures full { IsFullBook keeper.new.book }
         ensures state { state_of keeper.new.book ≡ after (state_of keeper.old.book) change.now }

@@ -11,7 +11,7 @@ use crate::board::Board;
 use crate::steps::{Add, Added, Back, Check, Given, Open, Plain};
 use crate::tokens::{Keeper, Token};
 use crate::views::View;
-use lq_volume::Change;
+use lq_volume::{Change, accepted_changes_keep_trees};
 
 impl<M> Board<M> {
     // A seat of no slot is split off.
@@ -78,7 +78,6 @@ impl<M> Board<M> {
         requires board { keeper.old.board ≡ self.now }
         requires added { W.change ≡ Some change.now }
         requires lawful { IsLawful (state_of keeper.old.book) change.now }
-        requires room { length keeper.old.book.changes < 1000000000000 }
         ensures number { result ≡ length keeper.new.book.changes }
         ensures full { IsFullBook keeper.new.book }
         ensures state { state_of keeper.new.book ≡ after (state_of keeper.old.book) change.now }
@@ -89,6 +88,8 @@ impl<M> Board<M> {
         } }
     {
         let _ = change;
+        // For the proof: a volume that takes the change is one within its limit after it.
+        accepted_changes_keep_trees();
         self.table
             .shared
             .fetch_add::<Add<W>>(&mut keeper.token, 0, 1)

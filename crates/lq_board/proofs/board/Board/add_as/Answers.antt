@@ -1,5 +1,5 @@
--- The change is lawful after the keeper's book, and the number has room.
-use Rattle.std.proofs.Common.{◌<◌, length, sym, ap, ◌∙◌, subst, arith}
+-- The change is lawful after the keeper's book.
+use Rattle.std.proofs.Common.{sym, ap, ◌∙◌, subst, arith}
 use Rattle.lq_volume.specs.Change.{IsLawful}
 use Rattle.lq_volume.specs.Book.{state_of}
 use Rattle.lq_board.specs.Token.{KeeperToken}
@@ -8,9 +8,6 @@ use Rattle.lq_board.proofs.board.Board.add_as.Goals as goal
 
 pub fetch_add-requires : goal.fetch_add-requires
 fetch_add-requires g c =
-    let room =
-    subst (λ (h : KeeperToken g.row.M.Denot). length h.book.changes < 1000000000000)
-    (sym c.keeper.view_is) c.requires.room in
     let lawful =
     subst (λ (h : KeeperToken g.row.M.Denot). IsLawful (state_of h.book) c.args.change.now)
     (sym c.keeper.view_is) c.requires.lawful in
@@ -19,5 +16,6 @@ fetch_add-requires g c =
     ∙ sym c.self.view_is in (
       at,
       omega (arith, c.self.invariant.0),
-      adds_as _ _ _ _ _ c.requires.added c.keeper.invariant.0 lawful room,
+      adds_as _ _ _ _ _ c.accepted_changes_keep_trees.ensures c.requires.added
+          c.keeper.invariant.0 lawful,
     )
