@@ -15,4 +15,3 @@ mod views;
 
 pub use board::Board;
 pub use tokens::{Keeper, Seat};
-pub use views::Slot;
