@@ -1,0 +1,105 @@
+-- A seat that comes back keeps the rule.
+use Rattle.std.proofs.Common.{◌≡◌, ◌≢◌, ℕ, zero, suc, ◌<◌, ◌≤◌, false, List, refl, sym, ap, ◌∙◌, subst, ⊎_elim, arith}
+use Rattle.std.specs.Prelude.{slice_index, slice_set}
+use mathlib.Core.Option.{some}
+use lib.ListN.{get_elem?}
+use Rattle.atomic_table.specs.Table.{Joins}
+use Rattle.atomic_table.proofs.Lists.{at_set}
+use Rattle.lq_board.specs.declared.views.Slot.{Slot}
+use Rattle.lq_board.specs.declared.views.Sitting.{Sitting}
+use Rattle.lq_board.specs.declared.views.Keeping.{Keeping}
+use Rattle.lq_board.specs.declared.views.View.{View}
+use Rattle.lq_board.specs.declared.views.View.TheVariants.{Keeper, Seat, Spent}
+use Rattle.lq_board.specs.Slot.{slot_at, come_back}
+use Rattle.lq_board.specs.View.{taken}
+use Rattle.lq_board.specs.Rule.{Fits, Kept, IsKept}
+use Rattle.lq_board.proofs.SlotLemmas.{agrees_slot}
+use Rattle.lq_board.proofs.ViewLemmas.{fits_set, sits_slot, fits_other}
+use Rattle.lq_board.proofs.PlayLemmas.{viewed}
+
+module _ {M : Type 0} where
+  -- the view of the seat that comes back, where the keeper's changed already
+  theirs : (words : List ℕ) (views : List (View M)) (k : Kept words views) (id other : ℕ)
+      (x : View M) (w : Sitting M) → other ≢ id → get_elem? (slice_set views id x) other ≡ some (Seat w)
+      → Fits k.id k.book k.slots k.owner words other (Seat w)
+  theirs words views k id other x w apart there =
+      ⊎_elim
+      (λ (t : (other ≡ id) × (x ≡ Seat w)). absurd (apart t.0))
+      (λ (t : (other ≢ id) × (get_elem? views other ≡ some (Seat w))). k.fits other (Seat w) t.1)
+      (at_set views id other x (Seat w) there)
+
+  -- by cases on the slot
+  backs_at : (id : ℕ) (v : Keeping M) (other : ℕ) (w : Sitting M) (slot : ℕ) → w.slot ≡ slot
+      → Joins IsKept id (Keeper v) other (Seat w)
+      (Keeper (record {
+        book = v.book;
+        slots = come_back v.slots slot w.asks w.name;
+        back = w;
+        was = slot_at v.slots w.slot;
+      }))
+      Spent
+  backs_at id v other w zero is s kept at apart there =
+      let x : View M =
+      Keeper (record { book = v.book; slots = v.slots; back = w; was = slot_at v.slots w.slot }) in
+      let mine = kept.fits id (Keeper v) at in
+      let seat = theirs s.words s.views kept id other x w apart there in
+      let mid : Kept s.words (slice_set s.views id x) =
+      viewed s.words s.views id x kept
+      (mine.0, mine.1, mine.2, (seat.0, λ (lt : 0 < w.slot). absurd (omega (arith, is)))) in
+      viewed s.words (slice_set s.views id x) other Spent mid tt
+  backs_at id v other w (suc k) is s kept at apart there =
+      let q : Slot M = record { out = false; asks = w.asks; name = w.name } in
+      let p : Slot M = slot_at v.slots w.slot in
+      let x : View M =
+      Keeper (record { book = v.book; slots = slice_set v.slots (suc k) q; back = w; was = p }) in
+      let mine = kept.fits id (Keeper v) at in
+      let seat = theirs s.words s.views kept id other x w apart there in
+      let pos : 0 < w.slot = omega (arith, is) in
+      let t = seat.1 pos in
+      let same : p ≡ slot_at kept.slots w.slot =
+      ap (λ (l : List (Slot M)). slot_at l w.slot) mine.2 in
+      let word : slice_index s.words (suc k) ≡ w.asks = ap (slice_index s.words) (sym is) ∙ t.word in
+      let old : (slot_at kept.slots w.slot).asks ≤ slice_index s.words w.slot =
+      kept.agrees.known w.slot pos t.within in
+      let after = Fits kept.id kept.book (slice_set kept.slots (suc k) q) kept.owner s.words in
+      record {
+        id = kept.id;
+        book = kept.book;
+        slots = slice_set kept.slots (suc k) q;
+        owner = kept.owner;
+        number = kept.number;
+        full = kept.full;
+        agrees = agrees_slot s.words kept.slots (suc k) q (omega (arith, word)) (λ _. word) kept.agrees;
+        fits = fits_set after (slice_set s.views id x) other Spent
+            (λ by u away e. fits_set (λ by' u'. by' ≢ other → after by' u') s.views id x
+            (λ by' u' apart' e' away'.
+            fits_other kept.id kept.book kept.book kept.slots
+            (slice_set kept.slots (suc k) q) kept.owner kept.owner s.words s.words by' u'
+            (λ b p. p)
+            (λ slot asks name _ r.
+            sits_slot kept.slots kept.owner kept.owner s.words (suc k) by' slot asks
+            name q
+            (λ i. away' (r.only ∙ ap kept.owner (i ∙ sym is) ∙ sym t.only))
+            refl r)
+            (λ i. apart' (i ∙ sym mine.0)) (kept.fits by' u' e'))
+            (λ _. (
+              mine.0,
+              mine.1,
+              ap (λ (l : List (Slot M)). slice_set l (suc k) q) mine.2,
+              (
+                seat.0,
+                λ _. (
+                  ap (λ (r : Slot M). r.name) same ∙ t.named,
+                  subst (λ (r : Slot M). r.asks ≤ w.asks) (sym same) (omega (arith, t.word, old)),
+                  ap (λ (r : Slot M). r.out) same ∙ t.out,
+                ),
+              ),
+            ))
+            by u e away)
+            tt;
+      }
+
+  -- a seat comes back
+  pub backs : (id : ℕ) (v : Keeping M) (other : ℕ) (w : Sitting M)
+      → Joins IsKept id (Keeper v) other (Seat w) (taken (Keeper v) (Seat w)) Spent
+  backs id v other w = backs_at id v other w w.slot refl

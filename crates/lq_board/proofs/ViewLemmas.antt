@@ -1,0 +1,91 @@
+-- The views of the tokens, where one of them changes.
+use Rattle.std.proofs.Common.{◌≡◌, ◌≢◌, ◌⊎◌, ℕ, zero, suc, ◌<◌, eqb, eq-eqb, ne_eqb, cond, List, [], ◌∷◌, ◌++◌, length, refl, sym, ap, ◌∙◌, subst, inl, inr, ⊎_elim, arith, get_or-set_other, Option}
+use Rattle.std.specs.Prelude.{slice_set}
+use mathlib.Core.Option.{some, some-injective, some-ne-none}
+use lib.ListN.{get_elem?}
+use Rattle.atomic_table.proofs.Lists.{at_set}
+use Rattle.lq_volume.specs.Book.{Book, Extends}
+use Rattle.lq_board.specs.declared.views.Slot.{Slot}
+use Rattle.lq_board.specs.declared.views.View.{View}
+use Rattle.lq_board.specs.declared.views.View.TheVariants.{Keeper, Seat, Spent}
+use Rattle.lq_board.specs.Slot.{unused}
+use Rattle.lq_board.specs.View.{plain}
+use Rattle.lq_board.specs.Rule.{CameBack, Sits, Fits}
+use Rattle.lq_board.proofs.BookLemmas.{extends_self}
+use Rattle.lq_board.proofs.SlotLemmas.{slot_else}
+
+-- the last of a list, and where it stands
+pub at_end : {A : Type 0} (l : List A) (a b : A) (j : ℕ) → get_elem? (l ++ a ∷ []) j ≡ some b
+    → (get_elem? l j ≡ some b) ⊎ ((a ≡ b) × (j ≡ length l))
+at_end [] a b zero e = inr (some-injective a b e, refl)
+at_end [] a b (suc j) e = absurd (some-ne-none b (sym e))
+at_end (x ∷ xs) a b zero e = inl e
+at_end (x ∷ xs) a b (suc j) e = ⊎_elim inl (λ t. inr (t.0, ap suc t.1)) (at_end xs a b j e)
+
+-- a slot has another owner
+abbrev pub owner_set : (ℕ → ℕ) → ℕ → ℕ → ℕ → ℕ
+owner_set owner k n j = cond (eqb j k) n (owner j)
+
+pub owner_here : (owner : ℕ → ℕ) (k n j : ℕ) → j ≡ k → owner_set owner k n j ≡ n
+owner_here owner k n j e = ap (λ b. cond b n (owner j)) (eq-eqb j k e)
+
+pub owner_else : (owner : ℕ → ℕ) (k n j : ℕ) → j ≢ k → owner_set owner k n j ≡ owner j
+owner_else owner k n j e = ap (λ b. cond b n (owner j)) (ne_eqb j k e)
+
+module _ {M : Type 0} where
+  -- one view changes
+  pub fits_set : (P : ℕ → View M → Type 0) (views : List (View M)) (id : ℕ) (w : View M)
+      → ((by : ℕ) (v : View M) → by ≢ id → get_elem? views by ≡ some v → P by v) → P id w
+      → (by : ℕ) (v : View M) → get_elem? (slice_set views id w) by ≡ some v → P by v
+  fits_set P views id w others mine by v e =
+      ⊎_elim
+      (λ (x : (by ≡ id) × (w ≡ v)). subst (λ (y : ℕ × View M). P y.0 y.1) (λ i. (sym x.0 i, x.1 i)) mine)
+      (λ (x : (by ≢ id) × (get_elem? views by ≡ some v)). others by v x.0 x.1)
+      (at_set views id by w v e)
+
+  -- a seat of no slot came back that knew all
+  pub came_self : (book b : Book) → b ≡ book → CameBack {M = M} book (plain b) unused
+  came_self book b e =
+      (subst (Extends book) (sym e) (extends_self book), λ (lt : 0 < 0). absurd (omega arith))
+
+  -- a seat's slot, where another word changed
+  pub sits_word : (slots : List (Slot M)) (owner : ℕ → ℕ) (words : List ℕ)
+      (i n by slot asks : ℕ) (name : Option M) → slot ≢ i
+      → Sits slots owner words by slot asks name
+      → Sits slots owner (slice_set words i n) by slot asks name
+  sits_word slots owner words i n by slot asks name ne t =
+      record {
+        within = t.within;
+        out = t.out;
+        named = t.named;
+        word = get_or-set_other words i slot n 0 ne ∙ t.word;
+        only = t.only;
+      }
+
+  -- a seat's slot, where another changed, and another's owner
+  pub sits_slot : (slots : List (Slot M)) (owner owner' : ℕ → ℕ) (words : List ℕ)
+      (k by slot asks : ℕ) (name : Option M) (q : Slot M) → slot ≢ k → owner' slot ≡ owner slot
+      → Sits slots owner words by slot asks name
+      → Sits (slice_set slots k q) owner' words by slot asks name
+  sits_slot slots owner owner' words k by slot asks name q ne same t =
+      let here = slot_else slots k slot q ne in
+      record {
+        within = t.within;
+        out = ap (λ (r : Slot M). r.out) here ∙ t.out;
+        named = ap (λ (r : Slot M). r.name) here ∙ t.named;
+        word = t.word;
+        only = t.only ∙ sym same;
+      }
+
+  -- another token's view, where the seats' books still begin the book, and they keep their slots
+  pub fits_other : (id : ℕ) (book book' : Book) (slots slots' : List (Slot M))
+      (owner owner' : ℕ → ℕ) (words words' : List ℕ) (by : ℕ) (v : View M)
+      → ((b : Book) → Extends book b → Extends book' b)
+      → ((slot asks : ℕ) (name : Option M) → 0 < slot → Sits slots owner words by slot asks name
+      → Sits slots' owner' words' by slot asks name)
+      → by ≢ id → Fits id book slots owner words by v → Fits id book' slots' owner' words' by v
+  fits_other id book book' slots slots' owner owner' words words' by (Keeper v) longer sits apart f =
+      absurd (apart f.0)
+  fits_other id book book' slots slots' owner owner' words words' by (Seat w) longer sits apart f =
+      (longer w.book f.0, λ pos. sits w.slot w.asks w.name pos (f.1 pos))
+  fits_other id book book' slots slots' owner owner' words words' by Spent longer sits apart f = tt

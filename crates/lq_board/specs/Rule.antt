@@ -1,0 +1,64 @@
+-- The rule of a board's words.
+use Rattle.std.specs.Prelude.{◌≡◌, ℕ, ◌<◌, ◌≤◌, true, false, List, length, slice_index, Option}
+use mathlib.Core.Option.{some}
+use lib.ListN.{get_elem?}
+use Rattle.atomic_table.specs.Table.{State}
+use Rattle.lq_volume.specs.Book.{Book, Extends}
+use Rattle.lq_board.specs.declared.views.Slot.{Slot}
+use Rattle.lq_board.specs.declared.views.Sitting.{Sitting}
+use Rattle.lq_board.specs.declared.views.View.{View}
+use Rattle.lq_board.specs.declared.views.View.TheVariants.{Keeper, Seat, Spent}
+use Rattle.lq_board.specs.Book.{IsFullBook}
+use Rattle.lq_board.specs.Slot.{slot_at}
+
+module _ {M : Type 0} where
+  -- what is so of a seat that came back: its book begins the keeper's, and that of a slot was
+  -- out, under the name that the keeper knew, and had asked at least as often as it knew
+  abbrev pub CameBack : Book → Sitting M → Slot M → Type 0
+  CameBack book back was =
+      Extends book back.book
+      × (0 < back.slot → (was.name ≡ back.name) × (was.asks ≤ back.asks) × (was.out ≡ true))
+
+  -- the seat `by` is out of its slot, and is the only one
+  pub record Sits
+      (slots : List (Slot M))
+      (owner : ℕ → ℕ)
+      (words : List ℕ)
+      (by slot asks : ℕ)
+      (name : Option M) : Type 0 where
+    pub within : slot < 65
+    pub out : (slot_at slots slot).out ≡ true
+    pub named : (slot_at slots slot).name ≡ name
+    pub word : slice_index words slot ≡ asks
+    pub only : by ≡ owner slot
+
+  -- there is one keeper, and a seat's book begins the keeper's
+  abbrev pub Fits : ℕ → Book → List (Slot M) → (ℕ → ℕ) → List ℕ → ℕ → View M → Type 0
+  Fits id book slots owner words by (Keeper v) =
+      (by ≡ id) × (v.book ≡ book) × (v.slots ≡ slots) × CameBack book v.back v.was
+  Fits id book slots owner words by (Seat w) =
+      Extends book w.book × (0 < w.slot → Sits slots owner words by w.slot w.asks w.name)
+  Fits id book slots owner words by Spent = Unit {0}
+
+  -- a slot's word is at least what the keeper knows, and just that with no seat of it out
+  pub record Agrees (words : List ℕ) (slots : List (Slot M)) : Type 0 where
+    pub wide : length words ≡ 65
+    pub places : length slots ≡ 65
+    pub known : (k : ℕ) → 0 < k → k < 65 → (slot_at slots k).asks ≤ slice_index words k
+    pub idle : (k : ℕ) → 0 < k → k < 65 → (slot_at slots k).out ≡ false
+        → slice_index words k ≡ (slot_at slots k).asks
+
+  -- word 0 is the length of the keeper's book, which is lawful
+  pub record Kept (words : List ℕ) (views : List (View M)) : Type 0 where
+    pub id : ℕ
+    pub book : Book
+    pub slots : List (Slot M)
+    pub owner : ℕ → ℕ
+    pub number : slice_index words 0 ≡ length book.changes
+    pub full : IsFullBook book
+    pub agrees : Agrees words slots
+    pub fits : (by : ℕ) (v : View M) → get_elem? views by ≡ some v
+        → Fits id book slots owner words by v
+
+  abbrev pub IsKept : State ℕ (View M) → Type 0
+  IsKept s = Kept s.words s.views

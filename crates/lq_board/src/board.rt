@@ -1,0 +1,300 @@
+//! The board.
+ghost use Rattle.std.specs.Prelude.{◌≡◌, ◌+◌, ◌<◌, ◌≤◌, [], ◌∷◌, length, IfOk, true, false, Some, None};
+ghost use Rattle.lq_value.specs.Refusal.{IsRefusedBy};
+ghost use Rattle.lq_volume.specs.Book.{grown, state_of, Extends};
+ghost use Rattle.lq_volume.specs.Change.{after, IsLawful};
+ghost use Rattle.lq_board.specs.Book.{IsFullBook};
+ghost use Rattle.lq_board.specs.Slot.{unused_slots, slot_at, gone_out, come_back, counted};
+
+use crate::steps::{Ask, Count, See};
+use crate::tokens::{Keeper, Seat};
+use crate::views::{Law, View};
+use atomic_table::Table;
+use lq_value::Refusal;
+use lq_volume::{Change, Volume};
+use std::alloc::Global;
+use std::marker::{Brand, Model};
+
+/// The number of changes, and a word for each of 64 slots.
+const WORDS: usize = 65;
+
+/// The words that stand beside a lock: the number of changes, and how often each slot's seat asked.
+///
+/// Its calls take `&self`, so threads share it. Contracts see which board it is.
+#[derive(Drop)]
+pub struct Board<M> {
+    pub(crate) table: Table<u8, View<M>, Volume, Law, Global>,
+}
+
+impl<M> Model for Board<M> {
+    ghost use Rattle.std.specs.Prelude.{◌≡◌};
+    ghost use Rattle.atomic_table.specs.Seated.{TableId, table_id_coded};
+
+    ghost Value = { TableId };
+
+    ghost coded = { table_id_coded };
+
+    ghost view = { λ b. b.table.shared.table_id };
+
+    ghost invariant = { λ b. (b.table.shared.table_id.words ≡ 65)
+        × (b.table.shared.table_id.slots ≡ 0) };
+}
+
+impl<M> Board<M> {
+    /// A board for a volume that has no changes yet, and its keeper, whose book is empty.
+    ///
+    /// No slot's seat is out. Refused: `NoMemory`.
+    pub fn new(alloc: Global, volume: &Volume) -> Result<(Board<M>, Keeper<M>), Refusal>
+        requires first { volume.now.number ≡ 0 }
+        ensures board { IfOk result (λ made. made.1.board ≡ made.0) }
+        ensures book { IfOk result (λ made.
+            made.1.book ≡ record { start = volume.now; changes = [] }) }
+        ensures slots { IfOk result (λ made. made.1.slots ≡ unused_slots) }
+        ensures full { IfOk result (λ made. IsFullBook made.1.book) }
+
+        // Only memory can be wanting.
+        ensures refused { IsRefusedBy result None }
+    {
+        // For the proof: it tells that the volume is a tree within its limit.
+        let _ = volume.changes();
+        let (table, token) = Table::of_words(alloc, &[0; WORDS], volume)?;
+        Ok((Board { table }, Keeper { token }))
+    }
+
+    /// A seat of no slot, which knows the keeper's book. It takes no memory.
+    pub fn seat(&self, keeper: &mut Keeper<M>) -> Seat<M>
+        requires board { keeper.old.board ≡ self.now }
+        ensures seat { result ≡ record {
+          board = keeper.old.board;
+          slot = 0;
+          book = keeper.old.book;
+          asks = 0;
+          name = None;
+        } }
+        ensures full { IsFullBook result.book }
+        ensures keeper { keeper.new ≡ keeper.old }
+    {
+        Seat {
+            token: Some(self.plain_token(keeper)),
+            slot: 0,
+        }
+    }
+
+    /// The seat of a slot, 1 to 64, under the name that the caller gives for contracts alone.
+    ///
+    /// It knows the keeper's book, and how often the slot's seats asked. No other seat of the
+    /// slot may be out. It takes no memory.
+    pub fn slot_seat(&self, keeper: &mut Keeper<M>, slot: u64) -> Seat<M>
+        ghost name: { M }
+        requires board { keeper.old.board ≡ self.now }
+        requires slot { (0 < slot) × (slot < 65) }
+        requires free { (slot_at keeper.old.slots slot).out ≡ false }
+        ensures seat { result ≡ record {
+          board = keeper.old.board;
+          slot = slot;
+          book = keeper.old.book;
+          asks = (slot_at keeper.old.slots slot).asks;
+          name = Some name;
+        } }
+        ensures full { IsFullBook result.book }
+        ensures keeper { keeper.new ≡ record {
+          board = keeper.old.board;
+          book = keeper.old.book;
+          slots = gone_out keeper.old.slots slot (Some name);
+        } }
+    {
+        Seat {
+            token: Some(self.slot_token::<Brand>(keeper, slot)),
+            slot,
+        }
+    }
+
+    /// A seat comes back, and the keeper knows how often it asked. It takes no memory.
+    ///
+    /// The keeper's book extends the seat's. A slot's seat was out, under the name that the
+    /// keeper knew, and asked at least as often as it knew.
+    pub fn join(&self, keeper: &mut Keeper<M>, seat: Seat<M>)
+        requires board { (keeper.old.board ≡ self.now) × (seat.board ≡ self.now) }
+        ensures keeper { keeper.new ≡ record {
+          board = keeper.old.board;
+          book = keeper.old.book;
+          slots = come_back keeper.old.slots seat.slot seat.asks seat.name;
+        } }
+        ensures later { Extends keeper.old.book seat.book }
+        ensures name { 0 < seat.slot → (slot_at keeper.old.slots seat.slot).name ≡ seat.name }
+        ensures asks { 0 < seat.slot → (slot_at keeper.old.slots seat.slot).asks ≤ seat.asks }
+        ensures out { 0 < seat.slot → (slot_at keeper.old.slots seat.slot).out ≡ true }
+    {
+        let Seat { token, slot: _ } = seat;
+        let Some(token) = token else { unreachable!() };
+        self.back(keeper, token);
+    }
+
+    /// Adds a lawful change to the book, and answers how many it then has. It takes no memory.
+    ///
+    /// The state after the book is then that after the change. A lawful change has room: the
+    /// volume takes at most 1,000,000,000,000.
+    pub fn add(&self, keeper: &mut Keeper<M>, change: &Change) -> u64
+        requires board { keeper.old.board ≡ self.now }
+        requires lawful { IsLawful (state_of keeper.old.book) change.now }
+        ensures number { result ≡ length keeper.new.book.changes }
+        ensures full { IsFullBook keeper.new.book }
+        ensures state { state_of keeper.new.book ≡ after (state_of keeper.old.book) change.now }
+        ensures keeper { keeper.new ≡ record {
+          board = keeper.old.board;
+          book = grown keeper.old.book (change.now ∷ []);
+          slots = keeper.old.slots;
+        } }
+    {
+        self.add_as::<Brand>(keeper, change)
+    }
+
+    /// How often a slot's seats have asked, which the keeper then knows. It takes no memory.
+    ///
+    /// It is at least what the keeper knew, and just that where no seat of the slot is out.
+    pub fn asks(&self, keeper: &mut Keeper<M>, slot: u64) -> u64
+        requires board { keeper.old.board ≡ self.now }
+        requires slot { (0 < slot) × (slot < 65) }
+        ensures known { (slot_at keeper.old.slots slot).asks ≤ result }
+        ensures idle { (slot_at keeper.old.slots slot).out ≡ false
+            → result ≡ (slot_at keeper.old.slots slot).asks }
+        ensures keeper { keeper.new ≡ record {
+          board = keeper.old.board;
+          book = keeper.old.book;
+          slots = counted keeper.old.slots slot result;
+        } }
+    {
+        self.table
+            .shared
+            .load::<Count>(&mut keeper.token, slot as usize)
+    }
+
+    /// The number of changes so far, whose book the seat then knows.
+    ///
+    /// It neither waits nor takes memory.
+    pub fn latest(&self, seat: &mut Seat<M>) -> u64
+        requires board { seat.old.board ≡ self.now }
+        ensures number { result ≡ length seat.new.book.changes }
+        ensures later { Extends seat.new.book seat.old.book }
+        ensures full { IsFullBook seat.new.book }
+        ensures seat { seat.new ≡ record {
+          board = seat.old.board;
+          slot = seat.old.slot;
+          book = seat.new.book;
+          asks = seat.old.asks;
+          name = seat.old.name;
+        } }
+    {
+        let Some(mut token) = seat.token.take() else {
+            unreachable!()
+        };
+        let number = self.table.shared.load::<See>(&mut token, 0);
+        seat.token = Some(token);
+        number
+    }
+
+    /// A slot's seat asks once more, which the keeper sees by `asks`.
+    ///
+    /// It has asked fewer than 1,000,000,000,000 times before. It neither waits nor takes memory.
+    pub fn ask(&self, seat: &mut Seat<M>)
+        requires board { seat.old.board ≡ self.now }
+        requires slot { 0 < seat.old.slot }
+        requires room { seat.old.asks < 1000000000000 }
+        ensures seat { seat.new ≡ record {
+          board = seat.old.board;
+          slot = seat.old.slot;
+          book = seat.old.book;
+          asks = seat.old.asks + 1;
+          name = seat.old.name;
+        } }
+    {
+        let slot = seat.slot as usize;
+        let Some(mut token) = seat.token.take() else {
+            unreachable!()
+        };
+        self.table.shared.fetch_add::<Ask>(&mut token, slot, 1);
+        seat.token = Some(token);
+    }
+
+    /// A seat of no slot knows the keeper's book, of as many changes as is answered.
+    ///
+    /// It takes no memory.
+    pub fn meet(&self, keeper: &mut Keeper<M>, seat: &mut Seat<M>) -> u64
+        requires board { (keeper.old.board ≡ self.now) × (seat.old.board ≡ self.now) }
+        requires slot { seat.old.slot ≡ 0 }
+        ensures number { result ≡ length seat.new.book.changes }
+        ensures later { Extends seat.new.book seat.old.book }
+        ensures full { IsFullBook seat.new.book }
+        ensures seat { seat.new ≡ record {
+          board = keeper.old.board;
+          slot = 0;
+          book = keeper.old.book;
+          asks = 0;
+          name = None;
+        } }
+        ensures keeper { keeper.new ≡ keeper.old }
+    {
+        let Some(token) = seat.token.take() else {
+            unreachable!()
+        };
+        let number = self.back(keeper, token);
+        seat.token = Some(self.plain_token(keeper));
+        number
+    }
+
+    /// A slot's seat knows the keeper's book, of as many changes as is answered.
+    ///
+    /// The keeper knows how often it asked, and both have the name that the caller gives for
+    /// contracts alone. The seat was out, under the name that the keeper knew, and asked at
+    /// least as often as it knew. It takes no memory.
+    pub fn meet_slot(&self, keeper: &mut Keeper<M>, seat: &mut Seat<M>) -> u64
+        ghost name: { M }
+        requires board { (keeper.old.board ≡ self.now) × (seat.old.board ≡ self.now) }
+        requires slot { 0 < seat.old.slot }
+        ensures number { result ≡ length seat.new.book.changes }
+        ensures later { Extends seat.new.book seat.old.book }
+        ensures full { IsFullBook seat.new.book }
+        ensures seat { seat.new ≡ record {
+          board = keeper.old.board;
+          slot = seat.old.slot;
+          book = keeper.old.book;
+          asks = seat.old.asks;
+          name = Some name;
+        } }
+        ensures keeper { keeper.new ≡ record {
+          board = keeper.old.board;
+          book = keeper.old.book;
+          slots = gone_out
+              (come_back keeper.old.slots seat.old.slot seat.old.asks seat.old.name)
+              seat.old.slot
+              (Some name);
+        } }
+        ensures name { (slot_at keeper.old.slots seat.old.slot).name ≡ seat.old.name }
+        ensures asks { (slot_at keeper.old.slots seat.old.slot).asks ≤ seat.old.asks }
+        ensures out { (slot_at keeper.old.slots seat.old.slot).out ≡ true }
+    {
+        let slot = seat.slot;
+        let Some(token) = seat.token.take() else {
+            unreachable!()
+        };
+        let number = self.back(keeper, token);
+        seat.token = Some(self.slot_token::<Brand>(keeper, slot));
+        number
+    }
+
+    /// The number of changes in all, at the end of the board. It takes no memory.
+    pub fn close_with(self, mut keeper: Keeper<M>, seat: Seat<M>) -> u64
+        requires board { (keeper.board ≡ self) × (seat.board ≡ self) }
+        ensures number { result ≡ length keeper.book.changes }
+        ensures later { Extends keeper.book seat.book }
+        ensures full { IsFullBook keeper.book }
+    {
+        self.join(&mut keeper, seat);
+        let Keeper { token } = keeper;
+        let Board { table } = self;
+        let closed = table.close_with(token);
+        let number = closed.word(0);
+        closed.free();
+        number
+    }
+}

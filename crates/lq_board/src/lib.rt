@@ -1,0 +1,17 @@
+//! Words that stand beside a lock: the number of changes, and how often each slot's seat asked.
+//!
+//! A keeper adds changes, and seats read the number without the lock. A contract sees a token as
+//! a `KeeperToken` or a `SeatToken` (`specs/Token`), each with a lawful book. The rule that ties
+//! them stands in `specs/Rule`. Nothing here waits. Begin with `tokens`, then `board`.
+#![tactic(auto)]
+
+mod board;
+mod moves;
+mod steps;
+#[cfg(test)]
+mod tests;
+mod tokens;
+mod views;
+
+pub use board::Board;
+pub use tokens::{Keeper, Seat};

@@ -1,0 +1,119 @@
+//! The steps on the words, and what each tells. No value of these types is made.
+use crate::views::View;
+use atomic_table::{Join, Play, Split};
+use lq_volume::Change;
+use std::marker::{Brand, PhantomData};
+
+/// Which change a step adds. A call picks it.
+pub trait Added {
+    ghost use Rattle.std.specs.Prelude.{Option};
+    ghost use Rattle.lq_volume.specs.declared.change.Change.{Change};
+
+    ghost change: { Option Change };
+}
+
+impl Added for Brand {
+    ghost use Rattle.std.specs.Prelude.{None};
+
+    ghost change = { None };
+}
+
+/// Which slot's seat a step gives out, and under which name. A call picks them.
+pub trait Given<M> {
+    ghost use Rattle.std.specs.Prelude.{ℕ, Option};
+
+    ghost slot: { ℕ };
+
+    ghost name: { Option M };
+}
+
+impl<M> Given<M> for Brand {
+    ghost use Rattle.std.specs.Prelude.{None};
+
+    ghost slot = { 0 };
+
+    ghost name = { None };
+}
+
+// A change is added.
+pub(crate) struct Add<W> {
+    said: PhantomData<W>,
+}
+
+impl<M, W: Added> Play<u8, View<M>> for Add<W> {
+    ghost use Rattle.lq_board.specs.Step.{Adds};
+
+    ghost then = { Adds W.change };
+}
+
+// A seat's look at the number.
+pub(crate) struct See;
+
+impl<M> Play<u8, View<M>> for See {
+    ghost use Rattle.lq_board.specs.Step.{Sees};
+
+    ghost then = { Sees };
+}
+
+// The keeper's look at the number and at what came back.
+pub(crate) struct Check;
+
+impl<M> Play<u8, View<M>> for Check {
+    ghost use Rattle.lq_board.specs.Step.{Checks};
+
+    ghost then = { Checks };
+}
+
+// The keeper's look at a slot's word.
+pub(crate) struct Count;
+
+impl<M> Play<u8, View<M>> for Count {
+    ghost use Rattle.lq_board.specs.Step.{Counts};
+
+    ghost then = { Counts };
+}
+
+// A slot's seat asks.
+pub(crate) struct Ask;
+
+impl<M> Play<u8, View<M>> for Ask {
+    ghost use Rattle.lq_board.specs.Step.{Asks};
+
+    ghost then = { Asks };
+}
+
+// A new seat of no slot.
+pub(crate) struct Plain;
+
+impl<M> Split<View<M>> for Plain {
+    ghost use Rattle.lq_board.specs.View.{copy_of};
+
+    ghost left = { λ v. v };
+
+    ghost right = { copy_of };
+}
+
+// A new seat of a slot.
+pub(crate) struct Open<W> {
+    said: PhantomData<W>,
+}
+
+impl<M, W: Given<M>> Split<View<M>> for Open<W> {
+    ghost use Rattle.lq_board.specs.View.{opened, seated};
+
+    ghost left = { opened W.slot W.name };
+
+    ghost right = { seated W.slot W.name };
+}
+
+// A seat comes back to the keeper.
+pub(crate) struct Back;
+
+impl<M> Join<View<M>> for Back {
+    ghost use Rattle.lq_board.specs.declared.views.View.TheVariants.{Spent};
+    ghost use Rattle.lq_board.specs.View.{taken};
+
+    ghost both = { taken };
+
+    ghost spent = { Spent };
+}
