@@ -56,24 +56,38 @@ fn scenario_change_limit_of_a_desk(rt: HostRuntime) -> Result<(), Fail> {
     Ok(())
 }
 
+/// Returns whether `size>100` tells a change that creates one entry as one message, and the change is taken.
+fn is_told(alloc: Global, volume: &mut Volume) -> Result<bool, Refusal> {
+    let change = creation(alloc, "a")?;
+    let query = read(alloc, "size>100")?;
+    volume.check(&change)?;
+    let messages = step(alloc, &query, volume, &change, 1, false)?;
+    volume.apply(&change)?;
+    Ok(messages.len() == 1)
+}
+
+/// Returns whether a copy of the volume fetches one entry by a copy of `size>100`.
+fn is_fetched(alloc: Global, volume: &Volume) -> Result<bool, Refusal> {
+    let query = read(alloc, "size>100")?;
+    let found = volume.copy()?.fetch(&query.copy(alloc)?)?;
+    Ok(found.len() == 1)
+}
+
+/// Returns whether node 2 is the one called `a`, and its listing and its entry have its size.
+fn is_listed(alloc: Global, volume: &Volume) -> Result<bool, Refusal> {
+    let name = Name::read(alloc, "a")?;
+    let node = volume.find(1, &name)?;
+    let entry = volume.entry(node)?;
+    Ok(volume.listing(node)?.size == 200 && entry.size() == 200 && entry.dir() == 1)
+}
+
 #[test]
 fn each_call_once(rt: HostRuntime) -> Result<(), Fail> {
     let alloc = rt.alloc();
     let mut volume = Volume::new(alloc, 9);
-    let change = creation(alloc, "a")?;
-    let query = read(alloc, "size>100")?;
-    let messages = step(alloc, &query, &volume, &change, 1, false)?;
-    assert!(rt; messages.len() == 1);
-    assert!(rt; volume.check(&change).is_ok());
-    assert!(rt; volume.apply(&change).is_ok());
-    let found = volume.copy()?.fetch(&query.copy(alloc)?)?;
-    assert!(rt; found.len() == 1 && volume.limit() == 9);
-    let name = Name::read(alloc, "a")?;
-    assert!(rt; volume.find(1, &name) == Ok(2));
-    assert!(rt; volume.listing(2)?.size == 200);
-    match volume.entry(2) {
-        Ok(entry) => assert!(rt; entry.size() == 200 && entry.dir() == 1),
-        Err(_) => assert!(rt; false),
-    }
+    assert!(rt; volume.limit() == 9);
+    assert!(rt; is_told(alloc, &mut volume)?);
+    assert!(rt; is_fetched(alloc, &volume)?);
+    assert!(rt; is_listed(alloc, &volume)?);
     Ok(())
 }
