@@ -6,9 +6,13 @@
 #![tactic(auto)]
 
 mod laws;
+mod mark;
 mod message;
+mod parcel;
 mod touched;
 
 pub use laws::{steps_are_few, updates_grow, updates_join};
+pub use mark::{Cause, Mark};
 pub use message::{Message, Opcode};
+pub use parcel::Parcel;
 pub use touched::step;

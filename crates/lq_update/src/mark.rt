@@ -1,0 +1,23 @@
+//! The closing mark of a subscription.
+
+/// Why a subscription ended.
+#[derive(Clone, Copy, Debug, PartialEq, Eq)]
+pub enum Cause {
+    /// Its holder closed it.
+    Closed,
+    /// Its reader asked for its end.
+    HungUp,
+    /// More messages came than its backlog holds.
+    Overrun,
+}
+
+/// The end of a subscription, told behind its last message: our own.
+///
+/// `seq` is the number behind that of the last message, and `change` the last change that the
+/// messages cover.
+#[derive(Clone, Copy, Debug, PartialEq, Eq)]
+pub struct Mark {
+    pub seq: u64,
+    pub change: u64,
+    pub cause: Cause,
+}

@@ -1,0 +1,10 @@
+//! What a subscription's port carries.
+use crate::mark::Mark;
+use crate::message::Message;
+
+/// A message of a live query, or the mark that ends its subscription.
+#[derive(Debug, Drop)]
+pub enum Parcel {
+    Update(Message),
+    Fin(Mark),
+}
