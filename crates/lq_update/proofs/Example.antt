@@ -1,5 +1,5 @@
 -- The definitions compute: a file of 200 bytes comes and goes under `size>100`.
-use Rattle.std.proofs.Common.{◌≡◌, List, [], ◌∷◌, refl, true, false, pos}
+use Rattle.std.proofs.Common.{◌≡◌, [], ◌∷◌, refl, true, false, pos}
 use Rattle.std.specs.Prelude.{codes}
 use Rattle.lq_value.specs.declared.op.Op.TheVariants.{Gt}
 use Rattle.lq_value.specs.declared.literal.Literal.TheVariants.{Plain}

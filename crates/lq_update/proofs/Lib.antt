@@ -1,3 +1,4 @@
 pub mod Lists
+pub mod ToldLemmas
 pub mod TouchedLemmas
 mod Example

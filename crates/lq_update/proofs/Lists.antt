@@ -1,21 +1,26 @@
 -- A longer book adds to the end of an update list.
-use Rattle.std.proofs.Common.{◌≡◌, ℕ, ◌+◌, ◌-◌, List, [], ◌∷◌, ◌++◌, refl, arith, ap, length, take, drop, ◌∙◌, append_assoc, append-nil, sym, ◌≤◌, ◌<◌, inl, inr, zero, suc}
+use Rattle.std.proofs.Common.{◌≡◌, ℕ, ◌+◌, ◌-◌, List, [], ◌∷◌, ◌++◌, refl, arith, ap, length, take, drop, ◌∙◌, append_assoc, append-nil, sym, inl, inr, zero, suc}
 use Rattle.std.proofs.lemmas.Bool.{cases_lt}
-use Rattle.lq_predicate.specs.Query.{Query}
-use Rattle.lq_volume.specs.declared.change.Change.{Change}
-use Rattle.lq_volume.specs.State.{State}
 use Rattle.lq_volume.specs.Change.{after}
-use Rattle.lq_volume.specs.Book.{Book, after_all, state_at, changes_between}
-use Rattle.lq_update.specs.Updates.{updates_of, updates_from, step_of, IsPrefixOf}
+use Rattle.lq_volume.specs.Book.{after_all, state_at}
+use Rattle.lq_update.specs.declared.message.Message.{Message}
+use Rattle.lq_update.specs.Updates.{updates_of, updates_from, step_of}
 use Rattle.lq_update.specs.Laws.{UpdatesGrow, UpdatesJoin}
 use Rattle.std.proofs.lemmas.List.{length-append}
+
+-- what is behind two lists has the number behind both
+two-lists : (f : ℕ → List Message) (xs ys zs : List Message) (seq : ℕ) → zs ≡ ys ++ f (seq + length xs + length ys) → xs ++ zs ≡ xs ++ ys ++ f (seq + length (xs ++ ys))
+two-lists f xs ys zs seq is =
+    let number : seq + length xs + length ys ≡ seq + length (xs ++ ys) = rw (length-append xs ys) (omega arith) in
+    ap (λ rest. xs ++ rest) is ∙ (sym (append_assoc xs ys (f (seq + length xs + length ys))) ∙ ap (λ n. xs ++ ys ++ f n) number)
 
 -- the messages of some changes, and then of more
 pub updates-join : UpdatesJoin
 updates-join q moved s [] ds seq = ap (updates_from q moved s ds) (omega arith)
 updates-join q moved s (c ∷ cs) ds seq =
-    let more = updates-join q moved (after s c) cs ds (seq + length (step_of q moved s c seq)) in
-    rw (more, append_assoc, length-append) (ap (λ n. step_of q moved s c seq ++ (updates_from q moved (after s c) cs (seq + length (step_of q moved s c seq)) ++ updates_from q moved (after_all (after s c) cs) ds n)) (omega arith))
+    two-lists (updates_from q moved (after_all (after s c) cs) ds) (step_of q moved s c seq) (updates_from q moved (after s c) cs (seq + length (step_of q moved s c seq)))
+    (updates_from q moved (after s c) (cs ++ ds) (seq + length (step_of q moved s c seq))) seq
+    (updates-join q moved (after s c) cs ds (seq + length (step_of q moved s c seq)))
 
 take-plus : {A : Type 0} (n : ℕ) (xs : List A) → take (suc n) xs ≡ take n xs ++ take 1 (drop n xs)
 take-plus zero [] = refl

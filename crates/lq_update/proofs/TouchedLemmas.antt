@@ -17,9 +17,10 @@ use Rattle.lq_volume.specs.State.{State, Record, Rises, record_at, IsVolume}
 use Rattle.lq_volume.specs.Change.{after, clobbered, node_of, touched_by}
 use Rattle.lq_volume.specs.Result.{entry_of, shown, result_of, match_at, entry_if}
 use Rattle.lq_update.specs.declared.message.Opcode.{Opcode}
-use Rattle.lq_update.specs.declared.message.Opcode.TheVariants.{Created, Removed}
+use Rattle.lq_update.specs.declared.message.Opcode.TheVariants.{Removed}
 use Rattle.lq_update.specs.Diff.{same_entry, missing, diff}
-use Rattle.lq_update.specs.Touched.{left}
+use Rattle.lq_update.specs.Touched.{left, told_first, told_last}
+use Rattle.lq_update.proofs.ToldLemmas.{Has, Lacks, told-among}
 use Rattle.lq_update.specs.Updates.{numbered, step_of}
 
 abbrev pub Entries : Type 0
@@ -140,37 +141,24 @@ pick-left q s t n = at (record_at s n) refl (record_at t n) refl
     at (Some r) is None there = one r is there (truth q (shown r)) refl
     at (Some r) is (Some v) there = both r v is there (truth q (shown r)) refl (truth q (shown v)) refl
 
--- what two states that differ at these nodes alone tell a query
-pub diff-touched : (q : Query) (moved : Bool) (s t : State) (a b : ℕ) → a < b → Rises s.records → Rises t.records
+-- what two states that differ at these nodes alone have at them
+pub missing-touched : (q : Query) (s t : State) (a b : ℕ) → a < b → Rises s.records → Rises t.records
     → ((n : ℕ) → (n ≡ a → ⊥) → (n ≡ b → ⊥) → record_at s n ≡ record_at t n)
-    → diff q moved s t ≡ map (λ e. (Removed, e)) (option_to_list (left (match_at q s a) (match_at q t a)) ++ option_to_list (left (match_at q s b) (match_at q t b)))
-    ++ map (λ e. (Created, e)) (option_to_list (left (match_at q t a) (match_at q s a)) ++ option_to_list (left (match_at q t b) (match_at q s b)))
-diff-touched q moved s t a b lt h k same =
+    → missing (result_of q s) (result_of q t) ≡ option_to_list (left (match_at q s a) (match_at q t a)) ++ option_to_list (left (match_at q s b) (match_at q t b))
+missing-touched q s t a b lt h k same =
     let test : ℕ × Record → Bool = λ f. truth q (shown f.1) in
-    let gone : missing (result_of q s) (result_of q t) ≡ option_to_list (left (match_at q s a) (match_at q t a)) ++ option_to_list (left (match_at q s b) (match_at q t b)) =
-    missing-two test a b s.records t.records lt h k (λ n r x y is. sym (same n x y) ∙ is) ∙ rw (pick-left q s t a, pick-left q s t b) refl in
-    let new : missing (result_of q t) (result_of q s) ≡ option_to_list (left (match_at q t a) (match_at q s a)) ++ option_to_list (left (match_at q t b) (match_at q s b)) =
-    missing-two test a b t.records s.records lt k h (λ n r x y is. same n x y ∙ is) ∙ rw (pick-left q t s a, pick-left q t s b) refl in
-    rw (gone, new) refl
+    missing-two test a b s.records t.records lt h k (λ n r x y is. sym (same n x y) ∙ is) ∙ rw (pick-left q s t a, pick-left q s t b) refl
 
 left-same : (o : Option Entry) → left o o ≡ None
 left-same None = refl
 left-same (Some e) = let name = (bytes_eq-Decides e.name e.name).1 refl in grind (arith, nat_tests)
 
 -- at one node alone
-pub diff-one : (q : Query) (moved : Bool) (s t : State) (a : ℕ) → Rises s.records → Rises t.records → ((n : ℕ) → (n ≡ a → ⊥) → record_at s n ≡ record_at t n)
-    → diff q moved s t ≡ map (λ e. (Removed, e)) (option_to_list (left (match_at q s a) (match_at q t a))) ++ map (λ e. (Created, e)) (option_to_list (left (match_at q t a) (match_at q s a)))
-diff-one q moved s t a h k same =
+pub missing-one : (q : Query) (s t : State) (a : ℕ) → Rises s.records → Rises t.records → ((n : ℕ) → (n ≡ a → ⊥) → record_at s n ≡ record_at t n)
+    → missing (result_of q s) (result_of q t) ≡ option_to_list (left (match_at q s a) (match_at q t a))
+missing-one q s t a h k same =
     let next : match_at q s (a + 1) ≡ match_at q t (a + 1) = ap (option_and_then (λ r. entry_if q (a + 1, r))) (same (a + 1) (λ e. let f : ⊥ = omega arith in f)) in
-    diff-touched q moved s t a (a + 1) (omega arith) h k (λ n x y. same n x) ∙ rw (next, left-same, append-nil, append-nil) refl
-
--- what one node and perhaps another tell, the other having no entry afterwards
-abbrev pub removed_of : Query → State → State → ℕ → Option ℕ → List Entry
-removed_of q s t node None = option_to_list (left (match_at q s node) (match_at q t node))
-removed_of q s t node (Some other) =
-    cond (nat_lt other node)
-    (option_to_list (match_at q s other) ++ option_to_list (left (match_at q s node) (match_at q t node)))
-    (option_to_list (left (match_at q s node) (match_at q t node)) ++ option_to_list (match_at q s other))
+    missing-touched q s t a (a + 1) (omega arith) h k (λ n x y. same n x) ∙ rw (next, left-same, append-nil) refl
 
 left-none : (o : Option Entry) → left o None ≡ o
 left-none None = refl
@@ -180,48 +168,105 @@ left-none (Some e) = refl
 match-gone : (q : Query) (t : State) (n : ℕ) → record_at t n ≡ None → match_at q t n ≡ None
 match-gone q t n is = ap (option_and_then (λ r. entry_if q (n, r))) is
 
+-- the entry of a node has that node
+has-match : (q : Query) (s : State) (n : ℕ) → Has n (match_at q s n)
+has-match q s n = at (record_at s n)
+  where
+    one : (r : Record) (b : Bool) → Has n (cond b (Some (entry_of (n, r))) None)
+    one r true = refl
+    one r false = tt
+
+    at : (o : Option Record) → Has n (option_and_then (λ r. entry_if q (n, r)) o)
+    at None = tt
+    at (Some r) = one r (truth q (shown r))
+
+has-left : (n : ℕ) (o p : Option Entry) → Has n o → Has n (left o p)
+has-left n None p h = tt
+has-left n (Some e) p h = at (option_map_or (same_entry e) p false)
+  where
+    at : (b : Bool) → Has n (cond b None (Some e))
+    at true = tt
+    at false = h
+
+lacks-other : (n x : ℕ) (o : Option Entry) → Has x o → n ≢ x → Lacks n (option_to_list o)
+lacks-other n x None h differs = tt
+lacks-other n x (Some e) h differs = ((λ same. differs (sym same ∙ h)), tt)
+
+-- the removed entries: that of one node, and that of another in its order
+abbrev pub removed_of : Query → State → Option Entry → ℕ → Option ℕ → List Entry
+removed_of q s own node None = option_to_list own
+removed_of q s own node (Some other) =
+    cond (nat_lt other node) (option_to_list (match_at q s other) ++ option_to_list own) (option_to_list own ++ option_to_list (match_at q s other))
+
+-- what left at the node of a change, and what came
+abbrev pub left_at : Query → State → State → ℕ → Option Entry
+left_at q s t n = left (match_at q s n) (match_at q t n)
+
 pub step-touched : (q : Query) (moved : Bool) (s : State) (c : Change) (seq : ℕ)
     → IsVolume s → IsVolume (after s c)
     → ((n : ℕ) → AllByRecursion (λ k. n ≢ k) (touched_by s c) → record_at s n ≡ record_at (after s c) n)
     → ((n : ℕ) → clobbered s c ≡ Some n → (n ≢ node_of s c) × (record_at (after s c) n ≡ None))
     → numbered seq (s.number + 1)
-    (map (λ e. (Removed, e)) (removed_of q s (after s c) (node_of s c) (clobbered s c))
-    ++ map (λ e. (Created, e)) (option_to_list (left (match_at q (after s c) (node_of s c)) (match_at q s (node_of s c)))))
+    (map (λ e. (Removed, e)) (removed_of q s (told_first moved (left_at q s (after s c) (node_of s c)) (left_at q (after s c) s (node_of s c))) (node_of s c) (clobbered s c))
+    ++ option_to_list (told_last moved (left_at q s (after s c) (node_of s c)) (left_at q (after s c) s (node_of s c))))
     ≡ step_of q moved s c seq
 step-touched q moved s c seq v w same gone = ap (numbered seq (s.number + 1)) (sym (at (clobbered s c) refl))
   where
     t : State
     t = after s c
 
-    a : ℕ
-    a = node_of s c
+    own : Option Entry
+    own = left_at q s (after s c) (node_of s c)
+
+    new : Option Entry
+    new = left_at q (after s c) s (node_of s c)
+
+    has_own : Has (node_of s c) (left_at q s (after s c) (node_of s c))
+    has_own = has-left (node_of s c) (match_at q s (node_of s c)) (match_at q (after s c) (node_of s c)) (has-match q s (node_of s c))
+
+    has_new : Has (node_of s c) (left_at q (after s c) s (node_of s c))
+    has_new = has-left (node_of s c) (match_at q (after s c) (node_of s c)) (match_at q s (node_of s c)) (has-match q (after s c) (node_of s c))
 
     at : (o : Option ℕ) → clobbered s c ≡ o
-        → diff q moved s (after s c) ≡ map (λ e. (Removed, e)) (removed_of q s (after s c) (node_of s c) (clobbered s c)) ++ map (λ e. (Created, e)) (option_to_list (left (match_at q (after s c) (node_of s c)) (match_at q s (node_of s c))))
+        → diff q moved s (after s c) ≡ map (λ e. (Removed, e)) (removed_of q s (told_first moved (left_at q s (after s c) (node_of s c)) (left_at q (after s c) s (node_of s c))) (node_of s c) o)
+        ++ option_to_list (told_last moved (left_at q s (after s c) (node_of s c)) (left_at q (after s c) s (node_of s c)))
     at None is =
-        rw is (diff-one q moved s (after s c) (node_of s c) v.numbered.rise w.numbered.rise (λ n off. same n (rw is (off, tt))))
-    at (Some x) is = elim (cases_lt x (node_of s c)) [
-      | inl low ↦
-          let g = gone x is in
-          let none = match-gone q (after s c) x g.1 in
-          let below : nat_lt x (node_of s c) ≡ true = grind (arith, nat_tests) in
-          let all = diff-touched q moved s (after s c) x (node_of s c) low v.numbered.rise w.numbered.rise (λ n p r. same n (rw is (r, (p, tt)))) in
-          rw (is, below) (all ∙ rw (none, left-none) refl)
-      | inr high ↦
-          let g = gone x is in
-          let none = match-gone q (after s c) x g.1 in
-          let differs = g.0 in
-          let above : node_of s c < x = grind (arith, nat_tests) in
-          let below : nat_lt x (node_of s c) ≡ false = grind (arith, nat_tests) in
-          let all = diff-touched q moved s (after s c) (node_of s c) x above v.numbered.rise w.numbered.rise (λ n p r. same n (rw is (p, (r, tt)))) in
-          rw (is, below) (all ∙ rw (none, left-none, append-nil) refl)
-    ]
+        let left_is : missing (result_of q s) (result_of q (after s c)) ≡ option_to_list (left_at q s (after s c) (node_of s c)) =
+        missing-one q s (after s c) (node_of s c) v.numbered.rise w.numbered.rise (λ n off. same n (rw is (off, tt))) in
+        let came_is : missing (result_of q (after s c)) (result_of q s) ≡ option_to_list (left_at q (after s c) s (node_of s c)) =
+        missing-one q (after s c) s (node_of s c) w.numbered.rise v.numbered.rise (λ n off. sym (same n (rw is (off, tt)))) in
+        let all = told-among moved (node_of s c) (left_at q s (after s c) (node_of s c)) (left_at q (after s c) s (node_of s c)) [] [] has_own has_new tt tt in
+        rw (left_is, came_is) (rw (append-nil, append-nil) at all)
+    at (Some x) is =
+        let g = gone x is in
+        let none = match-gone q (after s c) x g.1 in
+        let off = lacks-other (node_of s c) x (match_at q s x) (has-match q s x) (λ same. g.0 (sym same)) in
+        elim (cases_lt x (node_of s c)) [
+          | inl low ↦
+              let below : nat_lt x (node_of s c) ≡ true = grind (arith, nat_tests) in
+              let left_is : missing (result_of q s) (result_of q (after s c)) ≡ option_to_list (match_at q s x) ++ option_to_list (left_at q s (after s c) (node_of s c)) =
+              missing-touched q s (after s c) x (node_of s c) low v.numbered.rise w.numbered.rise (λ n p r. same n (rw is (r, (p, tt)))) ∙ rw (none, left-none) refl in
+              let came_is : missing (result_of q (after s c)) (result_of q s) ≡ option_to_list (left_at q (after s c) s (node_of s c)) =
+              missing-touched q (after s c) s x (node_of s c) low w.numbered.rise v.numbered.rise (λ n p r. sym (same n (rw is (r, (p, tt))))) ∙ rw none refl in
+              let all = told-among moved (node_of s c) (left_at q s (after s c) (node_of s c)) (left_at q (after s c) s (node_of s c)) (option_to_list (match_at q s x)) [] has_own has_new off tt in
+              rw (left_is, came_is, below) (rw (append-nil, append-nil) at all)
+          | inr high ↦
+              let differs = g.0 in
+              let above : node_of s c < x = grind (arith, nat_tests) in
+              let below : nat_lt x (node_of s c) ≡ false = grind (arith, nat_tests) in
+              let left_is : missing (result_of q s) (result_of q (after s c)) ≡ option_to_list (left_at q s (after s c) (node_of s c)) ++ option_to_list (match_at q s x) =
+              missing-touched q s (after s c) (node_of s c) x above v.numbered.rise w.numbered.rise (λ n p r. same n (rw is (p, (r, tt)))) ∙ rw (none, left-none) refl in
+              let came_is : missing (result_of q (after s c)) (result_of q s) ≡ option_to_list (left_at q (after s c) s (node_of s c)) =
+              missing-touched q (after s c) s (node_of s c) x above w.numbered.rise v.numbered.rise (λ n p r. sym (same n (rw is (p, (r, tt))))) ∙ rw (none, append-nil) refl in
+              let all = told-among moved (node_of s c) (left_at q s (after s c) (node_of s c)) (left_at q (after s c) s (node_of s c)) [] (option_to_list (match_at q s x)) has_own has_new tt off in
+              rw (left_is, came_is, below) all
+        ]
 
 -- so few messages
-few-numbered : (seq number : ℕ) (xs : List Entry) (o : Option Entry) → length xs ≤ 2 → length (numbered seq number (map (λ e. (Removed, e)) xs ++ map (λ e. (Created, e)) (option_to_list o))) ≤ 3
-few-numbered seq number xs o few = rw (length-numbered seq number (map (λ e. (Removed, e)) xs ++ map (λ e. (Created, e)) (option_to_list o))) (simp (length-append, length-map) (let k = one o in omega arith))
+few-numbered : (seq number : ℕ) (xs : List Entry) (o : Option (Opcode × Entry)) → length xs ≤ 2 → length (numbered seq number (map (λ e. (Removed, e)) xs ++ option_to_list o)) ≤ 3
+few-numbered seq number xs o few = rw (length-numbered seq number (map (λ e. (Removed, e)) xs ++ option_to_list o)) (simp (length-append, length-map) (let k = one o in omega arith))
   where
-    one : (p : Option Entry) → length (option_to_list p) ≤ 1
+    one : (p : Option (Opcode × Entry)) → length (option_to_list p) ≤ 1
     one None = omega arith
     one (Some e) = omega arith
 
@@ -229,13 +274,13 @@ few-numbered seq number xs o few = rw (length-numbered seq number (map (λ e. (R
     length-numbered seq number [] = refl
     length-numbered seq number (y ∷ ys) = ap suc (length-numbered (seq + 1) number ys)
 
-few-removed : (q : Query) (s t : State) (node : ℕ) (o : Option ℕ) → length (removed_of q s t node o) ≤ 2
-few-removed q s t node None = one (left (match_at q s node) (match_at q t node))
+few-removed : (q : Query) (s : State) (own : Option Entry) (node : ℕ) (o : Option ℕ) → length (removed_of q s own node o) ≤ 2
+few-removed q s own node None = one own
   where
     one : (p : Option Entry) → length (option_to_list p) ≤ 2
     one None = omega arith
     one (Some e) = omega arith
-few-removed q s t node (Some other) = both (nat_lt other node) (match_at q s other) (left (match_at q s node) (match_at q t node))
+few-removed q s own node (Some other) = both (nat_lt other node) (match_at q s other) own
   where
     both : (b : Bool) (o p : Option Entry) → length (cond b (option_to_list o ++ option_to_list p) (option_to_list p ++ option_to_list o)) ≤ 2
     both true None None = omega arith
@@ -253,32 +298,32 @@ pub few-touched : (q : Query) (moved : Bool) (s : State) (c : Change) (seq : ℕ
     → ((n : ℕ) → clobbered s c ≡ Some n → (n ≢ node_of s c) × (record_at (after s c) n ≡ None))
     → length (step_of q moved s c seq) ≤ 3
 few-touched q moved s c seq v w same gone =
-    rw (← step-touched q moved s c seq v w same gone) (few-numbered seq (s.number + 1) _ _ (few-removed q s (after s c) (node_of s c) (clobbered s c)))
+    rw (← step-touched q moved s c seq v w same gone) (few-numbered seq (s.number + 1) _ _ (few-removed q s (told_first moved (left_at q s (after s c) (node_of s c)) (left_at q (after s c) s (node_of s c))) (node_of s c) (clobbered s c)))
 
 -- the same, for the entries that the code has at hand
-module _ (q : Query) (moved : Bool) (s : State) (c : Change) (seq number : ℕ) (removed created : Option Entry)
+module _ (q : Query) (moved : Bool) (s : State) (c : Change) (seq number : ℕ) (removed : Option Entry) (last : Option (Opcode × Entry))
     (v : IsVolume s) (w : IsVolume (after s c))
     (same : (n : ℕ) → AllByRecursion (λ k. n ≢ k) (touched_by s c) → record_at s n ≡ record_at (after s c) n)
     (gone : (n : ℕ) → clobbered s c ≡ Some n → (n ≢ node_of s c) × (record_at (after s c) n ≡ None))
     (number_is : number ≡ s.number)
-    (removed_is : removed ≡ left (match_at q s (node_of s c)) (match_at q (after s c) (node_of s c)))
-    (created_is : created ≡ left (match_at q (after s c) (node_of s c)) (match_at q s (node_of s c))) where
-  told : (xs : List Entry) → xs ≡ removed_of q s (after s c) (node_of s c) (clobbered s c)
-      → numbered seq (number + 1) (map (λ e. (Removed, e)) xs ++ map (λ e. (Created, e)) (option_to_list created)) ≡ step_of q moved s c seq
-  told xs is = rw (is, created_is, number_is) (step-touched q moved s c seq v w same gone)
+    (removed_is : removed ≡ told_first moved (left_at q s (after s c) (node_of s c)) (left_at q (after s c) s (node_of s c)))
+    (last_is : last ≡ told_last moved (left_at q s (after s c) (node_of s c)) (left_at q (after s c) s (node_of s c))) where
+  told : (xs : List Entry) → xs ≡ removed_of q s (told_first moved (left_at q s (after s c) (node_of s c)) (left_at q (after s c) s (node_of s c))) (node_of s c) (clobbered s c)
+      → numbered seq (number + 1) (map (λ e. (Removed, e)) xs ++ option_to_list last) ≡ step_of q moved s c seq
+  told xs is = rw (is, last_is, number_is) (step-touched q moved s c seq v w same gone)
 
   pub told-alone : clobbered s c ≡ None
-      → numbered seq (number + 1) (map (λ e. (Removed, e)) (option_to_list removed ++ option_to_list None) ++ map (λ e. (Created, e)) (option_to_list created)) ≡ step_of q moved s c seq
-  told-alone none = told _ (append-nil _ ∙ (ap option_to_list removed_is ∙ sym (ap (removed_of q s (after s c) (node_of s c)) none)))
+      → numbered seq (number + 1) (map (λ e. (Removed, e)) (option_to_list removed ++ option_to_list None) ++ option_to_list last) ≡ step_of q moved s c seq
+  told-alone none = told _ (append-nil _ ∙ (ap option_to_list removed_is ∙ sym (ap (removed_of q s _ (node_of s c)) none)))
 
   pub told-low : (x : ℕ) (other : Option Entry) → clobbered s c ≡ Some x → x < node_of s c → other ≡ match_at q s x
-      → numbered seq (number + 1) (map (λ e. (Removed, e)) (option_to_list other ++ option_to_list removed) ++ map (λ e. (Created, e)) (option_to_list created)) ≡ step_of q moved s c seq
+      → numbered seq (number + 1) (map (λ e. (Removed, e)) (option_to_list other ++ option_to_list removed) ++ option_to_list last) ≡ step_of q moved s c seq
   told-low x other is low other_is =
       let below : nat_lt x (node_of s c) ≡ true = grind (arith, nat_tests) in
       told _ (rw (is, below, removed_is, other_is) refl)
 
   pub told-high : (x : ℕ) (other : Option Entry) → clobbered s c ≡ Some x → (x < node_of s c → ⊥) → other ≡ match_at q s x
-      → numbered seq (number + 1) (map (λ e. (Removed, e)) (option_to_list removed ++ option_to_list other) ++ map (λ e. (Created, e)) (option_to_list created)) ≡ step_of q moved s c seq
+      → numbered seq (number + 1) (map (λ e. (Removed, e)) (option_to_list removed ++ option_to_list other) ++ option_to_list last) ≡ step_of q moved s c seq
   told-high x other is high other_is =
       let below : nat_lt x (node_of s c) ≡ false = grind (arith, nat_tests) in
       told _ (rw (is, below, removed_is, other_is) refl)

@@ -1,13 +1,13 @@
 -- What a query's result loses and gains from one state to another.
-use Rattle.std.specs.Prelude.{ℕ, List, ◌++◌, Bool, not, ◌&&◌, ◌==◌, map, filter}
-use Rattle.std.specs.List.{list_any}
+use Rattle.std.specs.Prelude.{ℕ, List, [], ◌++◌, Bool, not, ◌&&◌, ◌==◌, map, filter, if◌then◌else◌}
+use Rattle.std.specs.List.{list_any, flat_map}
 use Rattle.std.specs.Str.{bytes_eq}
 use Rattle.lq_value.specs.declared.entry.Entry.{Entry}
 use Rattle.lq_predicate.specs.Query.{Query}
 use Rattle.lq_volume.specs.State.{State}
 use Rattle.lq_volume.specs.Result.{result_of}
 use Rattle.lq_update.specs.declared.message.Opcode.{Opcode}
-use Rattle.lq_update.specs.declared.message.Opcode.TheVariants.{Created, Removed}
+use Rattle.lq_update.specs.declared.message.Opcode.TheVariants.{Created, Removed, Moved}
 
 -- one folder, one name and one node
 abbrev pub same_entry : Entry → Entry → Bool
@@ -17,8 +17,25 @@ same_entry a b = (a.dir == b.dir) && bytes_eq a.name b.name && (a.node == b.node
 abbrev pub missing : List Entry → List Entry → List Entry
 missing entries others = filter (λ e. not (list_any (same_entry e) others)) entries
 
--- What left the result, by rising node, and then what came into it, by rising node. A change now touches
--- one entry alone, so none both leaves and comes, and `moved`, which would join the two, plays no part yet.
+-- whether an entry has the node
+abbrev pub has_node : ℕ → List Entry → Bool
+has_node node entries = list_any (λ e. e.node == node) entries
+
+-- the entries whose messages stand alone: where `moved` joins two, those whose node no other has
+abbrev pub alone : Bool → List Entry → List Entry → List Entry
+alone moved entries others = filter (λ e. not (moved && has_node e.node others)) entries
+
+-- from the old place to the new one, for each node that has both
+abbrev pub moves : List Entry → List Entry → List (Opcode × Entry)
+moves gone come = flat_map (λ e. map (λ f. (Moved e.dir e.name, f)) (filter (λ f. f.node == e.node) come)) gone
+
+-- the messages of the entries that left and of those that came
+abbrev pub told : Bool → List Entry → List Entry → List (Opcode × Entry)
+told moved gone come =
+    map (λ e. (Removed, e)) (alone moved gone come)
+    ++ (if moved then moves gone come else [])
+    ++ map (λ e. (Created, e)) (alone moved come gone)
+
+-- What left the result and what came into it: the removed, the moved and the created, each by rising node.
 abbrev pub diff : Query → Bool → State → State → List (Opcode × Entry)
-diff q moved s t =
-    map (λ e. (Removed, e)) (missing (result_of q s) (result_of q t)) ++ map (λ e. (Created, e)) (missing (result_of q t) (result_of q s))
+diff q moved s t = told moved (missing (result_of q s) (result_of q t)) (missing (result_of q t) (result_of q s))

@@ -1,10 +1,25 @@
 -- What one node tells, by what matched there before and after.
-use Rattle.std.specs.Prelude.{Option, Some, None, false, if◌then◌else◌}
+use Rattle.std.specs.Prelude.{Option, Some, None, Bool, true, false, if◌then◌else◌}
 use Rattle.std.specs.Option.{option_map_or}
 use Rattle.lq_value.specs.declared.entry.Entry.{Entry}
+use Rattle.lq_update.specs.declared.message.Opcode.{Opcode}
+use Rattle.lq_update.specs.declared.message.Opcode.TheVariants.{Created, Moved}
 use Rattle.lq_update.specs.Diff.{same_entry}
 
 -- the entry that left, where a node matched and now matches at another place or not at all
 abbrev pub left : Option Entry → Option Entry → Option Entry
 left None now = None
 left (Some e) now = if option_map_or (same_entry e) now false then None else Some e
+
+-- what is told behind the removed entries: the one that came, or in place of two the move
+abbrev pub told_last : Bool → Option Entry → Option Entry → Option (Opcode × Entry)
+told_last moved old None = None
+told_last moved None (Some f) = Some (Created, f)
+told_last false (Some e) (Some f) = Some (Created, f)
+told_last true (Some e) (Some f) = Some (Moved e.dir e.name, f)
+
+-- the removed entry, where no move stands in its place
+abbrev pub told_first : Bool → Option Entry → Option Entry → Option Entry
+told_first false old new = old
+told_first true old None = old
+told_first true old (Some f) = None

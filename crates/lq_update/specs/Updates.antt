@@ -5,7 +5,7 @@ use Rattle.lq_predicate.specs.Query.{Query}
 use Rattle.lq_volume.specs.declared.change.Change.{Change}
 use Rattle.lq_volume.specs.State.{State}
 use Rattle.lq_volume.specs.Change.{after}
-use Rattle.lq_volume.specs.Book.{Book, after_all, state_at, changes_between}
+use Rattle.lq_volume.specs.Book.{Book, state_at, changes_between}
 use Rattle.lq_update.specs.declared.message.Opcode.{Opcode}
 use Rattle.lq_update.specs.declared.message.Message.{Message}
 use Rattle.lq_update.specs.Diff.{diff}

@@ -3,10 +3,10 @@ ghost use Rattle.std.specs.Prelude.{◌≡◌, ◌+◌, ◌<◌, ◌≤◌, ◌^
 ghost use Rattle.std.specs.Option.{option_to_list};
 ghost use Rattle.lq_value.specs.Refusal.{IsRefusedBy};
 ghost use Rattle.lq_volume.specs.Change.{IsLawful};
-ghost use Rattle.lq_update.specs.declared.message.Opcode.TheVariants.{Created, Removed};
+ghost use Rattle.lq_update.specs.declared.message.Opcode.TheVariants.{Removed, Moved};
 ghost use Rattle.lq_update.specs.Updates.{numbered, step_of};
 ghost use Rattle.lq_update.specs.Diff.{same_entry};
-ghost use Rattle.lq_update.specs.Touched.{left};
+ghost use Rattle.lq_update.specs.Touched.{left, told_first, told_last};
 
 use crate::message::{Message, Opcode};
 use lq_predicate::Predicate;
@@ -18,9 +18,11 @@ use std::alloc::Global;
 
 /// What an accepted change tells a query, by the match step of Practical File System Design.
 ///
-/// The removed entries by rising node, then the created ones by rising node; `change` is the
-/// number of this change, `seq` counts from `first_seq`, and `last` is true on the final message.
-/// It looks only at the nodes that the change touches. Refused: `NoMemory`. It changes nothing.
+/// The removed entries by rising node, then the moved ones, then the created ones; with `moved`
+/// one moved message stands in place of a removed and a created one of the same node, without it
+/// there is none. `change` is the number of this change, `seq` counts from `first_seq`, and `last`
+/// is true on the final message. It looks only at the nodes that the change touches, and takes
+/// memory for its messages alone. Refused: `NoMemory`. It changes nothing.
 pub fn step(
     alloc: Global,
     predicate: &Predicate,
@@ -43,15 +45,16 @@ pub fn step(
     let node = before.node_of(change);
     let old = before.matching(predicate, node)?;
     let new = before.matching_after(predicate, change)?;
-    let (removed, created) = split(old, new);
+    let (left, came) = split(old, new);
+    let (removed, last) = join(moved, left, came);
     let Some(other) = before.clobbered(change) else {
-        return Ok(tell(alloc, removed, None, created, number, first_seq)?);
+        return Ok(tell(alloc, removed, None, last, number, first_seq)?);
     };
     let gone = before.matching(predicate, other)?;
     if other < node {
-        Ok(tell(alloc, gone, removed, created, number, first_seq)?)
+        Ok(tell(alloc, gone, removed, last, number, first_seq)?)
     } else {
-        Ok(tell(alloc, removed, gone, created, number, first_seq)?)
+        Ok(tell(alloc, removed, gone, last, number, first_seq)?)
     }
 }
 
@@ -78,12 +81,44 @@ fn is_same(a: &Entry, b: &Entry) -> bool
     a.dir == b.dir && a.name == b.name && a.node == b.node
 }
 
-// The messages of at most two entries that left, and at most one that came.
+// What is told of the node: the removed entry, and what stands behind all that are removed.
+fn join(
+    moved: bool,
+    left: Option<Entry>,
+    came: Option<Entry>,
+) -> (Option<Entry>, Option<(Opcode, Entry)>)
+    ensures removed { result.0 ≡ told_first moved left came }
+    ensures last { result.1 ≡ told_last moved left came }
+{
+    match (left, came) {
+        (left, None) => (left, None),
+        (None, Some(to)) => (None, Some((Opcode::Created, to))),
+        (Some(from), Some(to)) => {
+            if moved {
+                (None, Some((moved_from(from), to)))
+            } else {
+                (Some(from), Some((Opcode::Created, to)))
+            }
+        }
+    }
+}
+
+fn moved_from(from: Entry) -> Opcode
+    ensures { result ≡ Moved from.dir from.name }
+{
+    let Entry { dir, name, .. } = from;
+    Opcode::Moved {
+        from_dir: dir,
+        from_name: name,
+    }
+}
+
+// The messages of at most two entries that left, and of at most one that came or moved.
 fn tell(
     alloc: Global,
     first: Option<Entry>,
     second: Option<Entry>,
-    created: Option<Entry>,
+    last: Option<(Opcode, Entry)>,
     change: u64,
     seq: u64,
 ) -> Result<Vec<Message>, Refusal>
@@ -91,44 +126,44 @@ fn tell(
     ensures refused { IsRefusedBy result None }
     ensures messages { IfOk result (λ messages. messages.items ≡ numbered seq change
         (map (λ e. (Removed, e)) (option_to_list first ++ option_to_list second)
-        ++ map (λ e. (Created, e)) (option_to_list created))) }
+        ++ option_to_list last)) }
     ensures few { IfOk result (λ messages. vec_len messages ≤ 3) }
 {
     let mut messages = Vec::new(alloc);
     match (first, second) {
         (None, None) => {
-            put_created(&mut messages, created, change, seq)?;
+            put_last(&mut messages, last, change, seq)?;
             Ok(messages)
         }
         (Some(entry), None) | (None, Some(entry)) => {
-            let last = created.is_none();
-            messages.push(message(Opcode::Removed, entry, change, seq, last))?;
-            put_created(&mut messages, created, change, seq + 1)?;
+            let is_last = last.is_none();
+            messages.push(message(Opcode::Removed, entry, change, seq, is_last))?;
+            put_last(&mut messages, last, change, seq + 1)?;
             Ok(messages)
         }
         (Some(low), Some(high)) => {
-            let last = created.is_none();
+            let is_last = last.is_none();
             messages.push(message(Opcode::Removed, low, change, seq, false))?;
-            messages.push(message(Opcode::Removed, high, change, seq + 1, last))?;
-            put_created(&mut messages, created, change, seq + 2)?;
+            messages.push(message(Opcode::Removed, high, change, seq + 1, is_last))?;
+            put_last(&mut messages, last, change, seq + 2)?;
             Ok(messages)
         }
     }
 }
 
-// The message of an entry that came, if one did: the last one of its change.
-fn put_created(
+// The message of an entry that came or moved, if one did: the last one of its change.
+fn put_last(
     messages: &mut Vec<Message>,
-    created: Option<Entry>,
+    last: Option<(Opcode, Entry)>,
     change: u64,
     seq: u64,
 ) -> Result<(), Refusal>
     ensures refused { IsRefusedBy result None }
     ensures messages { OnOk result (messages.new.items ≡
-        messages.old.items ++ numbered seq change (map (λ e. (Created, e)) (option_to_list created))) }
+        messages.old.items ++ numbered seq change (option_to_list last)) }
 {
-    if let Some(entry) = created {
-        messages.push(message(Opcode::Created, entry, change, seq, true))?;
+    if let Some((op, entry)) = last {
+        messages.push(message(op, entry, change, seq, true))?;
     }
     Ok(())
 }
