@@ -1,0 +1,99 @@
+-- Each event leaves a fair world fair.
+use Rattle.std.proofs.Common.{◌≡◌, ℕ, zero, suc, ◌-◌, List, [], ◌∷◌, refl, ap, take, drop, length, sym, subst, arith, Some, None, Option, inl, inr, Bool, true, false}
+use Rattle.std.specs.Prelude.{slice_get, ◌==◌, if◌then◌else◌, replicate}
+use Rattle.std.specs.Option.{option_flatten, option_map}
+use Rattle.std.specs.List.{AllByRecursion}
+use Rattle.lq_value.specs.declared.refusal.Refusal.{Refusal}
+use Rattle.lq_predicate.specs.Query.{Query}
+use Rattle.lq_volume.specs.declared.change.Change.{Change as Change_}
+use Rattle.lq_volume.specs.Change.{refused as refused_by}
+use Rattle.lq_volume.specs.Book.{Book, grown, number_of, state_of, state_at}
+use Rattle.lq_update.specs.Updates.{updates_of, updates_from}
+use Rattle.lq_update.specs.Laws.{UpdatesJoin}
+use Rattle.lq_world.specs.World.{World, Sub, slot_at, after_change}
+use Rattle.lq_world.specs.Events.{Happening, Changing, Opening, Putting, Taking, HangingUp, Noticing, Closing, Finishing, Answer, changing, opening, opened_now, open_refusal, putting, taking, hanging_up, noticing, closing, finishing, finishing_if, at_slot, outcome}
+use Rattle.lq_world.specs.Runs.{Step}
+use Rattle.lq_world.specs.Fair.{IsFair, IsFairSlot, IsFairWorld}
+use Rattle.lq_world.specs.Laws.{FirstWorldsAreFair, RunsKeepWorldsFair}
+use Rattle.lq_world.specs.World.{is_over}
+use Rattle.lq_world.proofs.ListLemmas.{all-get, all-set, all-map}
+use Rattle.lq_world.proofs.SubLemmas.{Leaves, keeps-change, putting-leaves, taking-leaves, hanging_up-leaves, noticing-leaves, closing-leaves}
+
+free_slots : (b : Book) (n : ℕ) → AllByRecursion (IsFairSlot b) (replicate n None)
+free_slots b zero = tt
+free_slots b (suc n) = (tt, free_slots b n)
+
+pub first-fair : FirstWorldsAreFair
+first-fair b = free_slots b 64
+
+-- a subscription that is opened
+nothing_told : (q : Query) (moved : Bool) (b : Book) (n : ℕ) → updates_of q moved b n n ≡ []
+nothing_told q moved b n = ap (λ k. updates_from q moved (state_at b n) (take k (drop (n - b.start.number) b.changes)) 1) (let e : n - n ≡ 0 = omega arith in e)
+
+pub opened-fair : (w : World) (q : Query) (port backlog : ℕ) (moved : Bool) → IsFair w.book (opened_now w q port backlog moved)
+opened-fair w q port backlog moved = record {
+  begun = omega arith;
+  opened = omega arith;
+  covered = omega arith;
+  taken = omega arith;
+  put = omega arith;
+  port = omega arith;
+  held = λ live. omega (arith, ap length (nothing_told q moved w.book (number_of w.book)));
+}
+
+-- what is in a slot is at its place
+pub slot-found : (w : World) (slot : ℕ) (s : Sub) → slot_at w slot ≡ Some s → slice_get w.slots (slot - 1) ≡ Some (Some s)
+slot-found w slot s is = by (slot == 0) (slice_get w.slots (slot - 1)) is
+  where
+    by : (x : Bool) (o : Option (Option Sub)) → (if x then None else option_flatten o) ≡ Some s → o ≡ Some (Some s)
+    by true o is = absurd (let no : ⊥ = cc in no)
+    by false None is = absurd (let no : ⊥ = cc in no)
+    by false (Some None) is = absurd (let no : ⊥ = cc in no)
+    by false (Some (Some t)) is = cc
+
+left-fair : (b : Book) (s : Sub) (reads : List Answer) (o : Option Sub) → Leaves b s reads o → IsFairSlot b o
+left-fair b s reads o l = subst (λ (p : Option Sub). IsFairSlot b p) (sym l.is) l.does.keeps.fair
+
+at_slot-fair : (w : World) (slot : ℕ) (event : Sub → Answer × Option Sub) → ((s : Sub) → IsFair w.book s → IsFairSlot w.book (event s).1) → IsFairWorld w → (o : Option Sub) → slot_at w slot ≡ o → IsFairWorld (at_slot w slot o event).1
+at_slot-fair w slot event keeps h None is = h
+at_slot-fair w slot event keeps h (Some s) is = all-set (IsFairSlot w.book) w.slots (slot - 1) _ h (keeps s (all-get (IsFairSlot w.book) w.slots (slot - 1) (Some s) h (slot-found w slot s is)))
+
+finishing-fair : (b : Book) (s : Sub) → IsFair b s → IsFairSlot b (finishing b s).1
+finishing-fair b s h = by (is_over b s)
+  where
+    by : (x : Bool) → IsFairSlot b (finishing_if s x).1
+    by true = tt
+    by false = h
+
+module _ (join : UpdatesJoin) where
+  changed-fair : (b : Book) (c : Change_) (o : Option Sub) → IsFairSlot b o → IsFairSlot (grown b (c ∷ [])) (option_map (after_change b c) o)
+  changed-fair b c None h = tt
+  changed-fair b c (Some s) h = (keeps-change join b c s h).fair
+
+  changing-fair : (w : World) (c : Change_) (r : Option Refusal) → IsFairWorld w → IsFairWorld (changing w c r).1
+  changing-fair w c (Some e) h = h
+  changing-fair w c None h = all-map (IsFairSlot w.book) (IsFairSlot (grown w.book (c ∷ []))) (option_map (after_change w.book c)) w.slots (changed-fair w.book c) h
+
+  opening-fair : (w : World) (s : Sub) (r : Option Refusal) → IsFair w.book s → IsFairWorld w → IsFairWorld (opening w s r).1
+  opening-fair w s (Some e) fair h = h
+  opening-fair w s None fair h = all-set (IsFairSlot w.book) w.slots _ (Some s) h fair
+
+  outcome-fair : (w : World) (e : Happening) → IsFairWorld w → IsFairWorld (outcome w e).1
+  outcome-fair w (Changing c) h = changing-fair w c (refused_by (state_of w.book) c) h
+  outcome-fair w (Opening q port backlog moved) h = opening-fair w (opened_now w q port backlog moved) (open_refusal w port backlog) (opened-fair w q port backlog moved) h
+  outcome-fair w (Putting k) h = at_slot-fair w k (putting w.book) (λ s f. left-fair w.book s _ _ (putting-leaves w.book s f)) h (slot_at w k) refl
+  outcome-fair w (Taking k) h = at_slot-fair w k (taking w.book) (λ s f. left-fair w.book s _ _ (taking-leaves w.book s f)) h (slot_at w k) refl
+  outcome-fair w (HangingUp k) h = at_slot-fair w k hanging_up (λ s f. left-fair w.book s _ _ (hanging_up-leaves w.book s f)) h (slot_at w k) refl
+  outcome-fair w (Noticing k) h = at_slot-fair w k (noticing w.book) (λ s f. left-fair w.book s _ _ (noticing-leaves w.book s f)) h (slot_at w k) refl
+  outcome-fair w (Closing k) h = at_slot-fair w k (closing w.book) (λ s f. left-fair w.book s _ _ (closing-leaves w.book s f)) h (slot_at w k) refl
+  outcome-fair w (Finishing k) h = at_slot-fair w k (finishing w.book) (finishing-fair w.book) h (slot_at w k) refl
+
+  step-fair : (w : World) (e : Happening) (a : Answer) (v : World) → IsFairWorld w → Step w e a v → IsFairWorld v
+  step-fair w e a v h (inl done) = subst (λ (u : World). IsFairWorld u) (sym done.1) (outcome-fair w e h)
+  step-fair w e a v h (inr ran) = subst (λ (u : World). IsFairWorld u) (sym ran.2) h
+
+  pub run-fair : RunsKeepWorldsFair
+  run-fair w end [] [] h run = subst (λ (u : World). IsFairWorld u) (sym run) h
+  run-fair w end [] (a ∷ answers) h run = absurd run
+  run-fair w end (e ∷ events) [] h run = absurd run
+  run-fair w end (e ∷ events) (a ∷ answers) h run = run-fair run.0 end events answers (step-fair w e a run.0 h run.1) run.2

@@ -1,0 +1,5 @@
+pub mod ListLemmas
+pub mod WorldLemmas
+pub mod SubLemmas
+pub mod FairLemmas
+mod Example

@@ -1,0 +1,155 @@
+-- What each event is answered, and the world after it.
+use Rattle.std.specs.Prelude.{ℕ, ◌+◌, ◌-◌, List, [], ◌∷◌, length, map, Bool, true, false, not, ◌&&◌, nat_le, Option, Some, None, if◌then◌else◌}
+use Rattle.std.specs.Option.{option_map}
+use Rattle.lq_value.specs.declared.refusal.Refusal.{Refusal}
+use Rattle.lq_value.specs.declared.refusal.Refusal.TheVariants.{BadPort, BadBacklog, NoSlot, NotOpen, StillOpen, Exhausted}
+use Rattle.lq_value.specs.declared.entry.Entry.{Entry}
+use Rattle.lq_value.specs.Refusal.{first_refusal}
+use Rattle.lq_predicate.specs.Query.{Query}
+use Rattle.lq_volume.specs.declared.change.Change.{Change as Change_}
+use Rattle.lq_volume.specs.declared.change.Applied.{Applied}
+use Rattle.lq_volume.specs.Change.{refused, node_of}
+use Rattle.lq_volume.specs.Result.{result_of}
+use Rattle.lq_volume.specs.Book.{grown, number_of, state_of, Book}
+use Rattle.lq_update.specs.declared.mark.Cause.TheVariants.{Closed, HungUp}
+use Rattle.lq_update.specs.declared.parcel.Parcel.{Parcel}
+use Rattle.lq_world.specs.World.{World, Sub, with_end, with_asked, one_more_put, one_more_taken, can_put, first_in_port, is_live, is_over, after_change, slot_at, taken_before_free, with_slot}
+
+-- what may happen, and what is answered
+pub data Happening : Type 0 where
+  Changing : (change : Change_) → Happening
+  Opening : (query : Query) (port backlog : ℕ) (moved : Bool) → Happening
+  Putting : (slot : ℕ) → Happening
+  Taking : (slot : ℕ) → Happening
+  HangingUp : (slot : ℕ) → Happening
+  Noticing : (slot : ℕ) → Happening
+  Closing : (slot : ℕ) → Happening
+  Finishing : (slot : ℕ) → Happening
+
+pub data Answer : Type 0 where
+  Changed : (applied : Applied) → Answer
+  Opened : (slot : ℕ) (at : ℕ) (result : List Entry) → Answer
+  Moved : (was : Bool) → Answer
+  Took : (parcel : Parcel) → Answer
+  Empty : Answer
+  Ended : Answer
+  Asked : Answer
+  Noticed : (was : Bool) → Answer
+  Shut : (change : ℕ) → Answer
+  Finished : Answer
+  Refused : (refusal : Refusal) → Answer
+
+-- ---- a change
+
+abbrev pub with_change : World → Change_ → World
+with_change w c = record { book = grown w.book (c ∷ []); openings = w.openings; slots = map (option_map (after_change w.book c)) w.slots }
+
+abbrev pub changing : World → Change_ → Option Refusal → Answer × World
+changing w c (Some e) = (Refused e, w)
+changing w c None = (Changed (record { change = number_of w.book + 1; node = node_of (state_of w.book) c }), with_change w c)
+
+-- ---- an opening
+
+abbrev pub opened_now : World → Query → ℕ → ℕ → Bool → Sub
+opened_now w q port backlog moved = record {
+  query = q;
+  moved = moved;
+  opened = number_of w.book;
+  port = port;
+  backlog = backlog;
+  asked = false;
+  put = 0;
+  taken = 0;
+  end = None;
+}
+
+-- the tests of an opening in their order: its port and backlog, then a free slot, and as many openings as the
+-- volume takes changes
+abbrev pub opening_refusals : World → ℕ → ℕ → List (Bool × Refusal)
+opening_refusals w port backlog =
+    (not (nat_le 1 port && nat_le port 1024), BadPort)
+    ∷ (not (nat_le backlog 65536), BadBacklog)
+    ∷ (nat_le (length w.slots) (taken_before_free w.slots), NoSlot)
+    ∷ (nat_le (state_of w.book).limit w.openings, Exhausted)
+    ∷ []
+
+abbrev pub open_refusal : World → ℕ → ℕ → Option Refusal
+open_refusal w port backlog = first_refusal (opening_refusals w port backlog)
+
+-- with a subscription in the lowest free slot
+abbrev pub with_sub : World → Sub → World
+with_sub w s = with_slot (record w { openings = w.openings + 1 }) (taken_before_free w.slots) (Some s)
+
+abbrev pub opening : World → Sub → Option Refusal → Answer × World
+opening w s (Some e) = (Refused e, w)
+opening w s None = (Opened (taken_before_free w.slots + 1) (number_of w.book) (result_of s.query (state_of w.book)), with_sub w s)
+
+-- ---- the events of one slot: over a book and its subscription, the answer and what is in the slot then
+
+-- the next parcel moves into the port
+abbrev pub putting_if : Sub → Bool → Answer × Option Sub
+putting_if s true = (Moved true, Some (one_more_put s))
+putting_if s false = (Moved false, Some s)
+
+abbrev pub putting : Book → Sub → Answer × Option Sub
+putting b s = putting_if s (can_put b s)
+
+-- the first parcel in the port is taken
+abbrev pub taking_of : Book → Sub → Option Parcel → Answer × Option Sub
+taking_of b s (Some p) = (Took p, Some (one_more_taken s))
+taking_of b s None = (if is_over b s then Ended else Empty, Some s)
+
+abbrev pub taking : Book → Sub → Answer × Option Sub
+taking b s = taking_of b s (first_in_port b s)
+
+-- its end is asked for
+abbrev pub hanging_up : Sub → Answer × Option Sub
+hanging_up s = (Asked, Some (with_asked s))
+
+-- it ends where that was asked for
+abbrev pub noticing_if : Book → Sub → Bool → Answer × Option Sub
+noticing_if b s true = (Noticed true, Some (with_end s HungUp (number_of b)))
+noticing_if b s false = (Noticed false, Some s)
+
+abbrev pub noticing : Book → Sub → Answer × Option Sub
+noticing b s = noticing_if b s (is_live s && s.asked)
+
+-- it ends, unless it has
+abbrev pub closing_if : Book → Sub → Bool → Answer × Option Sub
+closing_if b s true = (Shut (number_of b), Some (with_end s Closed (number_of b)))
+closing_if b s false = (Refused NotOpen, Some s)
+
+abbrev pub closing : Book → Sub → Answer × Option Sub
+closing b s = closing_if b s (is_live s)
+
+-- its slot is free, where its mark was taken
+abbrev pub finishing_if : Sub → Bool → Answer × Option Sub
+finishing_if s true = (Finished, None)
+finishing_if s false = (Refused StillOpen, Some s)
+
+abbrev pub finishing : Book → Sub → Answer × Option Sub
+finishing b s = finishing_if s (is_over b s)
+
+-- such an event of a slot, where that is taken
+abbrev pub at_slot : World → ℕ → Option Sub → (Sub → Answer × Option Sub) → Answer × World
+at_slot w slot None event = (Refused NotOpen, w)
+at_slot w slot (Some s) event = ((event s).0, with_slot w (slot - 1) (event s).1)
+
+-- ---- all of them
+
+-- what an event is answered, and the world after it
+abbrev pub outcome : World → Happening → Answer × World
+outcome w (Changing c) = changing w c (refused (state_of w.book) c)
+outcome w (Opening q port backlog moved) = opening w (opened_now w q port backlog moved) (open_refusal w port backlog)
+outcome w (Putting slot) = at_slot w slot (slot_at w slot) (putting w.book)
+outcome w (Taking slot) = at_slot w slot (slot_at w slot) (taking w.book)
+outcome w (HangingUp slot) = at_slot w slot (slot_at w slot) hanging_up
+outcome w (Noticing slot) = at_slot w slot (slot_at w slot) (noticing w.book)
+outcome w (Closing slot) = at_slot w slot (slot_at w slot) (closing w.book)
+outcome w (Finishing slot) = at_slot w slot (slot_at w slot) (finishing w.book)
+
+abbrev pub answer : World → Happening → Answer
+answer w e = (outcome w e).0
+
+abbrev pub next : World → Happening → World
+next w e = (outcome w e).1

@@ -1,0 +1,79 @@
+-- What the events and answers of a run say of each subscription that they open.
+use Rattle.std.specs.Prelude.{◌≡◌, ℕ, ◌+◌, ◌≤◌, List, [], ◌∷◌, ◌++◌, length, Bool, false, ◌==◌, if◌then◌else◌}
+use Rattle.std.specs.List.{AllByRecursion}
+use Rattle.lq_value.specs.declared.entry.Entry.{Entry}
+use Rattle.lq_predicate.specs.Query.{Query}
+use Rattle.lq_volume.specs.declared.change.Change.{Change as Change_}
+use Rattle.lq_volume.specs.State.{State}
+use Rattle.lq_volume.specs.Book.{Book, number_of}
+use Rattle.lq_update.specs.declared.message.Message.{Message}
+use Rattle.lq_update.specs.declared.mark.Mark.{Mark}
+use Rattle.lq_update.specs.declared.parcel.Parcel.{Parcel}
+use Rattle.lq_update.specs.declared.parcel.Parcel.TheVariants.{Update, Fin}
+use Rattle.lq_update.specs.Updates.{updates_of, IsPrefixOf}
+use Rattle.lq_world.specs.Events.{Happening, Changing, Opening, Taking, Finishing, Answer, Changed, Opened, Took, Ended, Finished}
+
+-- what one event answered a take of a slot, and whether it freed the slot
+abbrev pub read_by : ℕ → Happening → Answer → List Answer
+read_by slot (Taking k) a = if k == slot then a ∷ [] else []
+read_by slot e a = []
+
+abbrev pub frees : ℕ → Happening → Answer → Bool
+frees slot (Finishing k) Finished = k == slot
+frees slot e a = false
+
+-- what the takes of a slot were answered, until the slot was freed
+abbrev pub reads_of : ℕ → List Happening → List Answer → List Answer
+reads_of slot [] answers = []
+reads_of slot (e ∷ events) [] = []
+reads_of slot (e ∷ events) (a ∷ answers) = if frees slot e a then [] else read_by slot e a ++ reads_of slot events answers
+
+-- the parcels, and the updates, that such answers gave
+abbrev pub parcel_in : Answer → List Parcel
+parcel_in (Took p) = p ∷ []
+parcel_in a = []
+
+abbrev pub parcels_in : List Answer → List Parcel
+parcels_in [] = []
+parcels_in (a ∷ answers) = parcel_in a ++ parcels_in answers
+
+abbrev pub updates_among : List Parcel → List Message
+updates_among [] = []
+updates_among (Update m ∷ parcels) = m ∷ updates_among parcels
+updates_among (Fin mark ∷ parcels) = updates_among parcels
+
+abbrev pub updates_in : List Answer → List Message
+updates_in answers = updates_among (parcels_in answers)
+
+-- the accepted changes, in order
+abbrev pub accepted_by : Happening → Answer → List Change_
+accepted_by (Changing c) (Changed applied) = c ∷ []
+accepted_by e a = []
+
+abbrev pub accepted : List Happening → List Answer → List Change_
+accepted [] answers = []
+accepted (e ∷ events) [] = []
+accepted (e ∷ events) (a ∷ answers) = accepted_by e a ++ accepted events answers
+
+-- the state before a run, and the changes that it accepted
+abbrev pub book_of : State → List Happening → List Answer → Book
+book_of s events answers = record { start = s; changes = accepted events answers }
+
+-- What the takes of a subscription that was opened at a number of changes may be answered, over a book.
+pub record AreReads (b : Book) (q : Query) (moved : Bool) (at : ℕ) (reads : List Answer) : Type 0 where
+  -- each message once and in order: they are a prefix of its update list
+  pub prefix : IsPrefixOf (updates_in reads) (updates_of q moved b at (number_of b))
+  -- the mark comes after the whole list up to the change that it names, and only `Ended` after it
+  pub mark : (front rest : List Answer) (m : Mark) → reads ≡ front ++ Took (Fin m) ∷ rest →
+      (at ≤ m.change) × (m.change ≤ number_of b)
+      × (updates_in front ≡ updates_of q moved b at m.change)
+      × (m.seq ≡ length (updates_in front) + 1)
+      × AllByRecursion (λ a. a ≡ Ended) rest
+
+-- Whatever came before an opening and comes after it: the takes of the subscription that it opened are such
+-- reads, over the changes that the whole run accepted.
+abbrev pub ReadersAreTold : State → List Happening → List Answer → Type 0
+ReadersAreTold s events answers =
+    (before after : List Happening) (befores afters : List Answer) (q : Query) (port backlog : ℕ) (moved : Bool) (slot at : ℕ) (first : List Entry)
+    → events ≡ before ++ Opening q port backlog moved ∷ after → answers ≡ befores ++ Opened slot at first ∷ afters → length before ≡ length befores
+    → AreReads (book_of s events answers) q moved at (reads_of slot after afters)

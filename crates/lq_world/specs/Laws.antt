@@ -1,0 +1,13 @@
+-- What is so of every world and every run.
+use Rattle.std.specs.Prelude.{List}
+use Rattle.lq_volume.specs.Book.{Book}
+use Rattle.lq_world.specs.World.{World, first_world}
+use Rattle.lq_world.specs.Events.{Happening, Answer}
+use Rattle.lq_world.specs.Runs.{Run}
+use Rattle.lq_world.specs.Fair.{IsFairWorld}
+
+abbrev pub FirstWorldsAreFair : Type 0
+FirstWorldsAreFair = (b : Book) → IsFairWorld (first_world b)
+
+abbrev pub RunsKeepWorldsFair : Type 0
+RunsKeepWorldsFair = (w end : World) (events : List Happening) (answers : List Answer) → IsFairWorld w → Run w events answers end → IsFairWorld end

@@ -1,0 +1,6 @@
+pub mod World
+pub mod Events
+pub mod Runs
+pub mod Fair
+pub mod Headline
+pub mod Laws
