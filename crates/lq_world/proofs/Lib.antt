@@ -3,3 +3,6 @@ pub mod WorldLemmas
 pub mod SubLemmas
 pub mod FairLemmas
 mod Example
+pub mod ReadLemmas
+pub mod RunLemmas
+pub mod HeadlineLemmas

@@ -231,7 +231,7 @@ reads-nothing b s d t within taken k = record {
   marked = λ m no. absurd (let never : ⊥ = cc in never);
 }
 
-taken_within : (b : Book) (s : Sub) → IsFair b s → s.taken ≤ length (whole b s)
+pub taken_within : (b : Book) (s : Sub) → IsFair b s → s.taken ≤ length (whole b s)
 taken_within b s h = omega (arith, h.taken, h.put)
 
 pub reads-self : (b : Book) (s : Sub) → IsFair b s → Reads b s b s []

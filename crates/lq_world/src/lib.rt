@@ -8,4 +8,4 @@
 
 mod laws;
 
-pub use laws::{first_worlds_are_fair, runs_keep_worlds_fair};
+pub use laws::{first_worlds_are_fair, readers_are_told, runs_keep_worlds_fair};
