@@ -1,3 +1,7 @@
 pub mod Query
+pub mod QueryCode
+pub mod Limits
+pub mod Node
+pub mod NodeFalls
 pub mod Truth
 pub mod Reads
