@@ -1,2 +1,3 @@
 pub mod FrontLemmas
 pub mod PartLemmas
+pub mod NameLemmas

@@ -4,4 +4,5 @@ pub mod Limits
 pub mod Node
 pub mod NodeFalls
 pub mod Truth
+pub mod Names
 pub mod Reads

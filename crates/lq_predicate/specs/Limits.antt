@@ -7,9 +7,9 @@ use Rattle.lq_predicate.specs.Query.{Query, Compare, Not, And, Or, Queries, no_m
 abbrev mutual
   pub depth : Query → ℕ
   depth (Compare attr op literal) = 1
-  depth (Not q) = 1 + depth q
-  depth (And qs) = 1 + deepest qs
-  depth (Or qs) = 1 + deepest qs
+  depth (Not q) = suc (depth q)
+  depth (And qs) = suc (deepest qs)
+  depth (Or qs) = suc (deepest qs)
 
   pub deepest : Queries → ℕ
   deepest no_more = 0

@@ -2,6 +2,7 @@
 ghost use Rattle.std.specs.Prelude.{◌≡◌, None, IfOk, IsTrue};
 ghost use Rattle.lq_value.specs.Refusal.{IsRefusedBy};
 ghost use Rattle.lq_value.specs.Compare.{suits};
+ghost use Rattle.lq_predicate.specs.Names.{is_among};
 
 use crate::truth::Row;
 use lq_value::{AttrName, Literal, Op, Refusal, compare};
@@ -55,6 +56,7 @@ impl Model for Predicate {
 impl Predicate {
     ghost use Rattle.lq_predicate.specs.Query.{Compare};
     ghost use Rattle.lq_predicate.specs.Truth.{truth};
+    ghost use Rattle.lq_predicate.specs.Names.{attributes, each_once};
 
     /// One comparison. It takes no memory.
     pub fn compare(attr: AttrName, op: Op, literal: Literal) -> Predicate
@@ -110,6 +112,34 @@ impl Predicate {
             }
         }
     }
+
+    // The names of the attributes that are new, behind those before.
+    pub(crate) fn add_names(&self, alloc: Global, names: &mut Vec<AttrName>) -> Result<(), Refusal>
+        ensures refused { IsRefusedBy result None }
+        ensures value { IfOk result
+            (λ _. names.new.items ≡ each_once names.old.items (attributes self.now)) }
+    {
+        match &self.node {
+            Node::Compare(attr, _, _) => {
+                if !is_among(names.as_slice(), attr) {
+                    names.push(attr.copy(alloc)?)?;
+                }
+            }
+            Node::Not(part) => part.add_names(alloc, names)?,
+            Node::And(parts) | Node::Or(parts) => {
+                for part in parts {
+                    part.add_names(alloc, names)?;
+                }
+            }
+        }
+        Ok(())
+    }
+}
+
+fn is_among(names: &[AttrName], name: &AttrName) -> bool
+    ensures { result ≡ is_among names.now name.now }
+{
+    names.iter().any(|other| other.as_str() == name.as_str())
 }
 
 #[cycle(copy)]
