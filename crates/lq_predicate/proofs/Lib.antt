@@ -1,1 +1,3 @@
 pub mod FrontLemmas
+pub mod PartLemmas
+pub mod NameLemmas

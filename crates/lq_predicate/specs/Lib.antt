@@ -1,3 +1,8 @@
 pub mod Query
+pub mod QueryCode
+pub mod Limits
+pub mod Node
+pub mod NodeFalls
 pub mod Truth
+pub mod Names
 pub mod Reads

@@ -1,9 +1,9 @@
 -- When a predicate holds of a row. A row is seen as what it shows under each attribute's name.
-use Rattle.std.specs.Prelude.{ℕ, List, Bool, false, Option, Some, None}
+use Rattle.std.specs.Prelude.{ℕ, List, Bool, true, false, not, ◌&&◌, ◌||◌, Option, Some, None}
 use Rattle.lq_value.specs.declared.op.Op.{Op}
 use Rattle.lq_value.specs.declared.literal.Literal.{Literal}
 use Rattle.lq_value.specs.Compare.{Held, compares}
-use Rattle.lq_predicate.specs.Query.{Query, Compare}
+use Rattle.lq_predicate.specs.Query.{Query, Compare, Not, And, Or, Queries, no_more, and_then}
 
 -- what a row shows under each name
 abbrev pub Look : Type 0
@@ -15,5 +15,17 @@ compares_if_present None op literal = false
 compares_if_present (Some held) op literal = compares held op literal
 
 -- whether the predicate holds of a row
-abbrev pub truth : Query → Look → Bool
-truth (Compare attr op literal) look = compares_if_present (look attr) op literal
+abbrev mutual
+  pub truth : Query → Look → Bool
+  truth (Compare attr op literal) look = compares_if_present (look attr) op literal
+  truth (Not q) look = not (truth q look)
+  truth (And qs) look = all_true qs look
+  truth (Or qs) look = some_true qs look
+
+  pub all_true : Queries → Look → Bool
+  all_true no_more look = true
+  all_true (and_then q qs) look = truth q look && all_true qs look
+
+  pub some_true : Queries → Look → Bool
+  some_true no_more look = false
+  some_true (and_then q qs) look = truth q look || some_true qs look

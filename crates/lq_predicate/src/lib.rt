@@ -5,10 +5,12 @@
 //! Begin with `predicate`, then `truth`, then `read`.
 #![tactic(auto)]
 
+mod attributes;
 mod formula;
 mod predicate;
 mod truth;
 
+pub use attributes::names;
 pub use formula::read;
 pub use predicate::Predicate;
 pub use truth::{Row, holds};

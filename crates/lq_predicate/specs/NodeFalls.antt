@@ -1,0 +1,21 @@
+-- Each part of a node is less deep than the node.
+use Rattle.std.specs.Prelude.{◌+◌, ◌≤◌, max, List, [], ◌∷◌}
+use Rattle.std.proofs.Common.{arith}
+use denote.Param.Weighed.{most}
+use Rattle.lq_predicate.specs.Query.{Query, queries}
+use Rattle.lq_predicate.specs.Limits.{depth, deepest}
+use Rattle.lq_predicate.specs.Node.{query_of}
+use Rattle.lq_predicate.specs.declared.predicate.Node.{Node}
+use Rattle.lq_predicate.specs.declared.predicate.Node.TheVariants as node
+use Rattle.lq_predicate.specs.declared.predicate.Predicate.TheDeep.{deep-Node}
+
+-- no part is deeper than the deepest
+pub most_le-deepest : (parts : List Query) → most (λ q. depth q + 1) parts ≤ 1 + deepest (queries parts)
+most_le-deepest [] = omega arith
+most_le-deepest (q ∷ qs) = omega (arith, most_le-deepest qs)
+
+pub deep_le-depth : (n : Node) → max (deep-Node n) 0 ≤ depth (query_of n)
+deep_le-depth (node.Compare attr op literal) = omega arith
+deep_le-depth (node.Not part) = omega arith
+deep_le-depth (node.And parts) = omega (arith, most_le-deepest parts.items)
+deep_le-depth (node.Or parts) = omega (arith, most_le-deepest parts.items)
