@@ -9,10 +9,10 @@ use Rattle.lq_formula.specs.Machine.{Frame, Place, operand, after_attr, after_op
 use Rattle.lq_formula.proofs.CompleteLemmas.{formula_runs}
 use Rattle.lq_formula.proofs.StopLemmas.{begun, steps_push}
 
-abbrev at : Place → List Frame → Frame → ℕ → State
+abbrev pub at : Place → List Frame → Frame → ℕ → State
 at p below f n = record { below = below; top = f; place = p; room = n }
 
-abbrev wider : ℕ → State → State
+abbrev pub wider : ℕ → State → State
 wider k s = at s.place s.below s.top (s.room + k)
 
 fails : {A : Type 0} {X : Type 0} (x : A) → None ≡ Some x → X
@@ -126,12 +126,12 @@ wider_then : (k : ℕ) (r r' : Option State) (ts : List Token) (s : State) → (
 wider_then k None r' ts s h ih e = fails s e
 wider_then k (Some x) r' ts s h ih e = ap (option_and_then (λ y. steps y ts)) (h x refl) ∙ ih x e
 
-steps_wider : (k : ℕ) (ts : List Token) (x s : State) → steps x ts ≡ Some s → steps (wider k x) ts ≡ Some (wider k s)
+pub steps_wider : (k : ℕ) (ts : List Token) (x s : State) → steps x ts ≡ Some s → steps (wider k x) ts ≡ Some (wider k s)
 steps_wider k [] x s e = some_wider k x s (Some (wider k x)) e refl
 steps_wider k (t ∷ ts) x s e = wider_then k (step x t) (step (wider k x) t) ts s (λ y h. step_wider x.place x.below x.top x.room k t y h) (λ y h. steps_wider k ts y s h) e
 
 -- what runs on has come to a state
-record Comes (x : State) (ts : List Token) : Type 0 where
+pub record Comes (x : State) (ts : List Token) : Type 0 where
   pub state : State
   pub there : steps x ts ≡ Some state
 
@@ -139,7 +139,7 @@ comes_then : (r : Option State) (ts rest : List Token) (q : Query) → ((y : Sta
 comes_then None ts rest q ih e = fails q e
 comes_then (Some y) ts rest q ih e = let c = ih y e in (c.state, c.there)
 
-comes : (ts rest : List Token) (x : State) (q : Query) → run x (ts ++ rest) ≡ Some q → Comes x ts
+pub comes : (ts rest : List Token) (x : State) (q : Query) → run x (ts ++ rest) ≡ Some q → Comes x ts
 comes [] rest x q e = record { state = x; there = refl }
 comes (t ∷ ts) rest x q e = let c = comes_then (step x t) ts rest q (λ y h. comes ts rest y q h) e in record { state = c.0; there = c.1 }
 

@@ -6,3 +6,8 @@ pub mod SoundLemmas
 pub mod StopLemmas
 pub mod RoomLemmas
 pub mod DepthLemmas
+pub mod WordLemmas
+pub mod ReadingLemmas
+pub mod OutlineLemmas
+pub mod FaultLemmas
+pub mod StoppedLemmas

@@ -44,7 +44,7 @@ literal_runs : (a : List ℕ) (o : Op) (below : List Frame) (f : Frame) (n : ℕ
     → run (record { below = below; top = f; place = after_op a o; room = n }) (word [] ∷ rest) ≡ run (completed (Compare a o (empty_literal o).0) below f n) rest
 literal_runs a o below f n rest = ap (λ r. option_and_then (λ s. run s rest) (option_map (λ literal. completed (Compare a o literal) below f n) r)) (empty_literal o).1
 
-leads_on : (p : Place) (below : List Frame) (f : Frame) (n : ℕ) → Leads (record { below = below; top = f; place = p; room = n })
+pub leads_on : (p : Place) (below : List Frame) (f : Frame) (n : ℕ) → Leads (record { below = below; top = f; place = p; room = n })
 leads_on operand below f n =
     let h = leads_behind below (frame_with (Compare (97 ∷ []) Eq (empty_literal Eq).0) f) (n + f.bangs) in
     record { rest = word (97 ∷ []) ∷ op Eq ∷ word [] ∷ h.rest; q = h.q; runs = literal_runs (97 ∷ []) Eq below f n h.rest ∙ h.runs }
@@ -62,7 +62,7 @@ runs_then : (r : Option State) (ts rest : List Token) (s' : State)
 runs_then None ts rest s' ih e = cc
 runs_then (Some s) ts rest s' ih e = ih s e
 
-steps_run : (ts : List Token) (s s' : State) (rest : List Token) → steps s ts ≡ Some s' → run s (ts ++ rest) ≡ run s' rest
+pub steps_run : (ts : List Token) (s s' : State) (rest : List Token) → steps s ts ≡ Some s' → run s (ts ++ rest) ≡ run s' rest
 steps_run [] s s' rest e = let same : s ≡ s' = cc in ap (λ x. run x rest) same
 steps_run (t ∷ ts) s s' rest e = runs_then (step s t) ts rest s' (λ x h. steps_run ts x s' rest h) e
 

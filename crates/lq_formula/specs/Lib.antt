@@ -5,3 +5,7 @@ pub mod Query
 pub mod Literals
 pub mod Grammar
 pub mod Machine
+pub mod Canonical
+pub mod Faults
+pub mod Reading
+pub mod Laws

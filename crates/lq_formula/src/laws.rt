@@ -4,6 +4,7 @@ ghost use Rattle.lq_formula.specs.Tokens.{HasTokens, Placed, Token, bang, opens,
 ghost use Rattle.lq_formula.specs.Query.{Query};
 ghost use Rattle.lq_formula.specs.Grammar.{IsBegun, IsFormula, nesting};
 ghost use Rattle.lq_formula.specs.Machine.{run, start};
+ghost use Rattle.lq_formula.specs.Laws.{FaultsAreFound, FormulasAreRead};
 
 /// Each text has tokens: those of the list.
 pub fn tokens_exist()
@@ -37,4 +38,14 @@ pub fn too_deep()
     ensures { (k : ℕ) (ts : List Token) (t : Token) → IsBegun ts → (IsBegun (ts ++ t ∷ []) → ⊥)
         → (rest : List Token) (q : Query) → IsFormula (nesting + k) ((ts ++ t ∷ []) ++ rest) q
         → (t ≡ opens) ⊎ (t ≡ bang) }
+{}
+
+/// The reading of a text is the query that it reads as by the grammar and the limits.
+pub fn formulas_are_read()
+    ensures { FormulasAreRead }
+{}
+
+/// Where the reading of a text is a place, the text's leftmost fault is there.
+pub fn faults_are_found()
+    ensures { FaultsAreFound }
 {}

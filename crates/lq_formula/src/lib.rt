@@ -11,6 +11,9 @@ mod lexer;
 mod piece;
 mod token;
 
-pub use laws::{any_room, reads_alike, reads_one, tokens_exist, tokens_same, too_deep};
+pub use laws::{
+    any_room, faults_are_found, formulas_are_read, reads_alike, reads_one, tokens_exist,
+    tokens_same, too_deep,
+};
 pub use lexer::next_token;
 pub use token::{Left, Placed, Token};
