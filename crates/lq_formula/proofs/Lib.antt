@@ -1,0 +1,13 @@
+pub mod CountLemmas
+pub mod CutLemmas
+pub mod TokenLemmas
+pub mod CompleteLemmas
+pub mod SoundLemmas
+pub mod StopLemmas
+pub mod RoomLemmas
+pub mod DepthLemmas
+pub mod WordLemmas
+pub mod ReadingLemmas
+pub mod OutlineLemmas
+pub mod FaultLemmas
+pub mod StoppedLemmas

@@ -1,0 +1,5 @@
+use Rattle.lq_formula.proofs.StoppedLemmas.{reading_faulty}
+use Rattle.lq_formula.proofs.laws.faults_are_found.Goals as goal
+
+pub returns : goal.returns
+returns c = reading_faulty

@@ -1,0 +1,11 @@
+pub mod Bytes
+pub mod Tokens
+pub mod TokenView
+pub mod Query
+pub mod Literals
+pub mod Grammar
+pub mod Machine
+pub mod Canonical
+pub mod Faults
+pub mod Reading
+pub mod Laws

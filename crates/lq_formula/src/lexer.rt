@@ -1,0 +1,61 @@
+//! The tokens of a text, one at a time.
+ghost use Rattle.std.specs.Prelude.{◌≡◌, ◌≤◌, ◌<◌, ◌+◌, ◌^◌, ◌∷◌, [], length, IfSome, IfNone};
+ghost use Rattle.lq_formula.specs.Bytes.{spaces};
+ghost use Rattle.lq_formula.specs.Tokens.{Yields, tokens_from, trimmed};
+ghost use Rattle.lq_formula.specs.TokenView.{placed_of};
+
+use crate::count::count_spaces;
+use crate::piece::first_piece;
+use crate::token::{Left, Placed};
+
+/// The next token of a text with its places, and what is left behind it.
+///
+/// None where only white space is left. It takes no memory, and the token borrows the text.
+/// The tokens are this project's own.
+#[tactic(auto, using(crate::proofs::TokenLemmas::tokens_from_yields, crate::proofs::TokenLemmas::tokens_from_none))]
+pub fn next_token<'a>(left: Left<'a>) -> Option<(Placed<'a>, Left<'a>)>
+    requires { left.place + length left.rest.now < 2 ^ 64 }
+    ensures none { IfNone result (trimmed left.entry.rest.now ≡ []) }
+    ensures some { IfSome result (λ r. Yields left.entry.place left.entry.rest.now
+        (placed_of r.0) r.1.place r.1.rest.now) }
+
+    // The same on the list of all tokens.
+    ensures last { IfNone result (tokens_from left.entry.place left.entry.rest.now ≡ []) }
+    ensures first { IfSome result (λ r. tokens_from left.entry.place left.entry.rest.now
+        ≡ placed_of r.0 ∷ tokens_from r.1.place r.1.rest.now) }
+
+    // What is left is the end of the same text, and shorter.
+    ensures place { IfSome result (λ r. r.1.place + length r.1.rest.now
+        ≡ left.entry.place + length left.entry.rest.now) }
+    ensures shorter { IfSome result (λ r. length r.1.rest.now < length left.entry.rest.now) }
+{
+    let (space, rest) = trim(left.rest);
+    if rest.is_empty() {
+        return None;
+    }
+    let place = left.place + space;
+    let piece = first_piece(rest);
+    let (_, after) = rest.split_at(piece.size);
+    Some((
+        Placed {
+            place,
+            raw_place: place + piece.inside,
+            token: piece.token,
+        },
+        Left {
+            place: place + piece.size,
+            rest: after,
+        },
+    ))
+}
+
+// How many bytes of white space a text begins with, and the text behind them.
+fn trim<'a>(rest: &'a str) -> (usize, &'a str)
+    ensures count { result.0 ≡ spaces rest.entry.now }
+    ensures bound { result.0 ≤ length rest.entry.now }
+    ensures rest { result.1.now ≡ trimmed rest.entry.now }
+{
+    let n = count_spaces(rest.as_bytes());
+    let (_, left) = rest.split_at(n);
+    (n, left)
+}
