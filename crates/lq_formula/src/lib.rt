@@ -12,8 +12,8 @@ mod piece;
 mod token;
 
 pub use laws::{
-    any_room, faults_are_found, formulas_are_read, reads_alike, reads_one, tokens_exist,
-    tokens_same, too_deep,
+    any_room, canonical_is_read, faults_are_found, formulas_are_read, reads_alike, reads_one,
+    tokens_exist, tokens_same, too_deep,
 };
 pub use lexer::next_token;
 pub use token::{Left, Placed, Token};
