@@ -6,3 +6,4 @@ mod Example
 pub mod ReadLemmas
 pub mod RunLemmas
 pub mod HeadlineLemmas
+pub mod PassingLemmas

@@ -60,7 +60,7 @@ pub end-cases : (o : Option End) → (o ≡ None) ⊎ ((e : End) × (o ≡ Some 
 end-cases None = inl refl
 end-cases (Some e) = inr (e, refl)
 
-live-none : (o : Option End) → is_none o ≡ true → o ≡ None
+pub live-none : (o : Option End) → is_none o ≡ true → o ≡ None
 live-none None h = refl
 live-none (Some e) h = absurd (let no : ⊥ = cc in no)
 
@@ -79,16 +79,16 @@ over-from b s h = by s.end (s.taken) (length (whole b s)) h
     by (Some d) m n is = (d, refl, grind (arith, nat_tests))
 
 -- ---- its list
-abbrev updates_to : Book → Sub → ℕ → List Message
+abbrev pub updates_to : Book → Sub → ℕ → List Message
 updates_to b s n = updates_of s.query s.moved b s.opened n
 
-abbrev parcels : List Message → List Parcel
+abbrev pub parcels : List Message → List Parcel
 parcels messages = map (λ m. Update m) messages
 
-whole-live : (b : Book) (s : Sub) → s.end ≡ None → whole b s ≡ parcels (updates_to b s (number_of b))
+pub whole-live : (b : Book) (s : Sub) → s.end ≡ None → whole b s ≡ parcels (updates_to b s (number_of b))
 whole-live b s live = ap (λ o. parcels (updates_to b s (covered_by b o)) ++ mark_behind (length (updates_to b s (covered_by b o))) o) live ∙ append-nil _
 
-told-live : (b : Book) (s : Sub) → s.end ≡ None → told b s ≡ updates_to b s (number_of b)
+pub told-live : (b : Book) (s : Sub) → s.end ≡ None → told b s ≡ updates_to b s (number_of b)
 told-live b s live = ap (λ o. updates_to b s (covered_by b o)) live
 
 -- ---- what keeps it
