@@ -5,14 +5,17 @@
 //! waits. Begin with `message`, then `step`.
 #![tactic(auto)]
 
+mod fold;
 mod laws;
 mod mark;
 mod message;
 mod parcel;
+mod rebuild;
 mod touched;
 
 pub use laws::{steps_are_few, updates_grow, updates_join};
 pub use mark::{Cause, Mark};
 pub use message::{Message, Opcode};
 pub use parcel::Parcel;
+pub use rebuild::Rebuild;
 pub use touched::step;
