@@ -2,7 +2,7 @@
 use Rattle.std.specs.Prelude.{◌≡◌, ◌+◌, ◌-◌, List, [], ◌∷◌, ◌++◌, length, map, take, drop, Some, None}
 use Rattle.lq_value.specs.declared.refusal.Refusal.{Refusal}
 use Rattle.lq_volume.specs.declared.change.Change.{Change as Change_}
-use Rattle.lq_volume.specs.Book.{Book, grown, number_of, state_of}
+use Rattle.lq_volume.specs.Book.{Book, IsBook, grown, number_of, state_of}
 use Rattle.lq_update.specs.declared.mark.Cause.{Cause}
 use Rattle.lq_update.specs.declared.parcel.Parcel.TheVariants.{Update, Fin}
 use Rattle.lq_update.specs.Updates.{step_of}
@@ -10,7 +10,7 @@ use Rattle.lq_world.specs.World.{World, Sub, End, first_world, told, whole, held
 use Rattle.lq_world.specs.Events.{Happening, Answer, Refused, answer, next}
 use Rattle.lq_world.specs.Runs.{Run}
 use Rattle.lq_world.specs.Fair.{IsFair, IsFairWorld}
-use Rattle.lq_world.specs.Headline.{ReadersAreTold}
+use Rattle.lq_world.specs.Headline.{accepted, book_of, ReadersAreTold}
 
 -- a world without subscriptions is fair
 abbrev pub FirstWorldsAreFair : Type 0
@@ -50,6 +50,11 @@ ListsArePassedOn = (b : Book) (s : Sub) → IsFair b s →
     ++ (map (λ m. Update m) (drop s.put (told b s))
     ++ drop (s.put - length (told b s)) (mark_behind (length (told b s)) s.end)))
     ≡ whole b s
+
+-- The accepted changes of a run are a book from the state before it, and stand behind the book that was there.
+abbrev pub RunsMakeBooks : Type 0
+RunsMakeBooks = (w end : World) (events : List Happening) (answers : List Answer) → Run w events answers end →
+    IsBook (book_of (state_of w.book) events answers) × (end.book ≡ grown w.book (accepted events answers))
 
 -- the headline, of every run from any world, so also from a first one over the state that a volume has
 abbrev pub RunsTellReaders : Type 0

@@ -1,5 +1,5 @@
 //! Laws of worlds and of their runs: each is the contract of a function that does nothing.
-ghost use Rattle.lq_world.specs.Laws.{EndedListsStay, EndsAddMarks, FirstWorldsAreFair, ListsArePassedOn, LiveListsGrow, RefusalsLeaveWorlds, RunsKeepWorldsFair, RunsTellReaders};
+ghost use Rattle.lq_world.specs.Laws.{EndedListsStay, EndsAddMarks, FirstWorldsAreFair, ListsArePassedOn, LiveListsGrow, RefusalsLeaveWorlds, RunsKeepWorldsFair, RunsMakeBooks, RunsTellReaders};
 
 use lq_update::{updates_grow, updates_join};
 use lq_volume::changes_are_counted;
@@ -45,6 +45,12 @@ pub fn ends_add_marks()
 /// mark that isn't put yet, is all that it is told.
 pub fn lists_are_passed_on()
     ensures { ListsArePassedOn }
+{}
+
+/// The changes that a run accepts are a book from the state before it, and come to stand behind
+/// those that the world's book had.
+pub fn runs_make_books()
+    ensures { RunsMakeBooks }
 {}
 
 /// What the takes of a subscription that a run opens give is a prefix of its query's update list
