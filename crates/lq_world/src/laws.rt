@@ -55,7 +55,8 @@ pub fn runs_make_books()
 
 /// What the takes of a subscription that a run opens give is a prefix of its query's update list
 /// from its opening on, over the changes that the run accepts, each message once and in order; the
-/// closing mark comes only after the whole list up to the change that it names, and nothing after.
+/// closing mark comes only after the whole list up to the change that it names, nothing follows it,
+/// and `Ended` is answered only after it.
 pub fn readers_are_told()
     ensures { RunsTellReaders }
 {
