@@ -9,7 +9,7 @@ use Rattle.std.proofs.lemmas.Bool.Decides.{nat_tests}
 use Rattle.std.proofs.lemmas.Slice.Eq.{bytes_eq-Decides}
 use Rattle.lq_value.specs.declared.entry.Entry.{Entry}
 use Rattle.lq_update.specs.Diff.{same_entry, has_node}
-use Rattle.lq_update.specs.Fold.{EntriesRise, put_in, has_entry}
+use Rattle.lq_update.specs.Fold.{EntriesRise, taken_out, put_in, has_entry}
 
 -- the entry of a node
 abbrev pub entry_at : ℕ → List Entry → Option Entry
@@ -100,6 +100,10 @@ at-filter t n (e ∷ es) h = elim (cases_eq e.node n) [
     there : (e.node ≡ n → ⊥) → entry_at n (filter t es) ≡ option_filter t (entry_at n es) → (b : Bool) → t e ≡ b → entry_at n (filter t (e ∷ es)) ≡ option_filter t (entry_at n (e ∷ es))
     there differs rest true is = grind (arith, nat_tests)
     there differs rest false is = grind (arith, nat_tests)
+
+-- with its triple taken out, a node has no entry
+pub at-taken_out : (es : List Entry) (e : Entry) → EntriesRise es → entry_at e.node es ≡ Some e → entry_at e.node (taken_out e es) ≡ None
+at-taken_out es e h is = at-filter _ e.node es h ∙ rw (is, same-self e) refl
 
 pub at-put_in : (e : Entry) (n : ℕ) (es : List Entry) → entry_at e.node es ≡ None → entry_at n (put_in e es) ≡ (if e.node == n then Some e else entry_at n es)
 at-put_in e n [] none = refl

@@ -3,4 +3,6 @@ pub mod ToldLemmas
 pub mod TouchedLemmas
 pub mod EntryLemmas
 pub mod PlaceLemmas
+pub mod FoldLemmas
+pub mod FoldLaws
 mod Example

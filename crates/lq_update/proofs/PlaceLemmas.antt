@@ -13,7 +13,7 @@ use Rattle.lq_value.specs.declared.entry.Entry.{Entry}
 use Rattle.lq_update.specs.Diff.{same_entry, has_node}
 use Rattle.lq_update.specs.Fold.{EntriesRise, taken_out, put_in, has_entry}
 use Rattle.lq_update.specs.Place.{IsEntryAt, IsTripleAt, IsGapFor}
-use Rattle.lq_update.proofs.EntryLemmas.{Above, entry_at, same-self, same-entry, at-above, has_node-at, has_entry-at, at-filter, rises-filter, rises-put_in}
+use Rattle.lq_update.proofs.EntryLemmas.{Above, entry_at, same-self, same-entry, at-above, has_node-at, has_entry-at, rises-filter, rises-put_in, at-taken_out}
 
 above-get : (n : ℕ) (es : List Entry) (i : ℕ) (d : Entry) → Above n es → i < length es → n < (get_or es i d).node
 above-get n [] i d h lt = absurd (omega arith)
@@ -164,10 +164,6 @@ rises-insert e es i h g = rw (insert-gap e es i g) (rises-put_in e es h (at-gap 
 
 pub rises-remove : (es : List Entry) (e : Entry) (i : ℕ) → EntriesRise es → IsTripleAt es e i → EntriesRise (remove es i)
 rises-remove es e i h g = rw (remove-triple es e i h g) (rises-filter _ es h)
-
--- with its triple taken out, a node has no entry
-pub at-taken_out : (es : List Entry) (e : Entry) → EntriesRise es → entry_at e.node es ≡ Some e → entry_at e.node (taken_out e es) ≡ None
-at-taken_out es e h is = at-filter _ e.node es h ∙ rw (is, same-self e) refl
 
 pub rises-set : (es : List Entry) (e f : Entry) (i : ℕ) → EntriesRise es → IsTripleAt es e i → f.node ≡ e.node → EntriesRise (set es i f)
 rises-set es e f i h g node =

@@ -13,7 +13,10 @@ mod parcel;
 mod rebuild;
 mod touched;
 
-pub use laws::{steps_are_few, updates_grow, updates_join};
+pub use laws::{
+    folds_give_results, messages_fit_in, results_rise, steps_are_few, updates_grow, updates_join,
+    whole_folds_give_results,
+};
 pub use mark::{Cause, Mark};
 pub use message::{Message, Opcode};
 pub use parcel::Parcel;
