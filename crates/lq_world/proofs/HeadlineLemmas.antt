@@ -76,6 +76,7 @@ are_reads_over : (b d : Book) (q : Query) (moved : Bool) (at : ℕ) (reads : Lis
 are_reads_over b d q moved at reads number lists r = record {
   prefix = subst (λ (ms : List Message). IsPrefixOf (updates_in reads) ms) (lists (number_of b) ∙ ap (updates_of q moved d at) number) r.prefix;
   mark = λ front rest m is. let h = r.mark front rest m is in (h.0, omega (arith, h.1, number), h.2 ∙ lists m.change, h.3, h.4);
+  ended = r.ended;
 }
 
 module _ (join : UpdatesJoin) (grow : UpdatesGrow) (count : ChangesCount) where

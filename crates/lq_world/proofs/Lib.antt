@@ -5,4 +5,6 @@ pub mod FairLemmas
 mod Example
 pub mod ReadLemmas
 pub mod RunLemmas
+pub mod BookLemmas
 pub mod HeadlineLemmas
+pub mod PassingLemmas

@@ -44,7 +44,7 @@ outcome-book w (Noticing k) = at_slot-book w k (slot_at w k) (noticing w.book) �
 outcome-book w (Closing k) = at_slot-book w k (slot_at w k) (closing w.book) ∙ same_book w.book
 outcome-book w (Finishing k) = at_slot-book w k (slot_at w k) (finishing w.book) ∙ same_book w.book
 
-accepted_by-refused : (e : Happening) (r : Refusal) → accepted_by e (Refused r) ≡ []
+pub accepted_by-refused : (e : Happening) (r : Refusal) → accepted_by e (Refused r) ≡ []
 accepted_by-refused (Changing c) r = refl
 accepted_by-refused (Opening q port backlog moved) r = refl
 accepted_by-refused (Putting k) r = refl
@@ -54,7 +54,7 @@ accepted_by-refused (Noticing k) r = refl
 accepted_by-refused (Closing k) r = refl
 accepted_by-refused (Finishing k) r = refl
 
-step-book : (w : World) (e : Happening) (a : Answer) (v : World) → Step w e a v → v.book ≡ grown w.book (accepted_by e a)
+pub step-book : (w : World) (e : Happening) (a : Answer) (v : World) → Step w e a v → v.book ≡ grown w.book (accepted_by e a)
 step-book w e a v (inl done) = ap (λ (u : World). u.book) done.1 ∙ (outcome-book w e ∙ ap (λ b. grown w.book (accepted_by e b)) (sym done.0))
 step-book w e a v (inr ran) =
     ap (λ (u : World). u.book) ran.2 ∙ (same_book w.book

@@ -1,5 +1,5 @@
 -- What the takes of a subscription are answered over a run from its opening on.
-use Rattle.std.proofs.Common.{◌≡◌, ℕ, zero, suc, ◌+◌, ◌-◌, List, [], ◌∷◌, ◌++◌, refl, ap, take, drop, length, ◌∙◌, sym, subst, arith, append_assoc, append-nil, Some, None, Option, inl, inr, map, Bool, true, false}
+use Rattle.std.proofs.Common.{◌≡◌, ℕ, zero, suc, ◌+◌, ◌-◌, List, [], ◌∷◌, ◌++◌, refl, ap, take, drop, length, ◌∙◌, sym, subst, arith, append_assoc, append-nil, Some, None, Option, inl, inr, Bool, true, false}
 use Rattle.std.specs.Prelude.{◌⊎◌, ◌==◌, if◌then◌else◌}
 use Rattle.std.specs.List.{AllByRecursion}
 use Rattle.lq_predicate.specs.Query.{Query}
@@ -11,13 +11,17 @@ use Rattle.lq_update.specs.declared.parcel.Parcel.TheVariants.{Update, Fin}
 use Rattle.lq_update.specs.Updates.{updates_of, IsPrefixOf}
 use Rattle.lq_update.specs.Laws.{UpdatesJoin, UpdatesGrow}
 use Rattle.lq_world.specs.World.{World, Sub, End, covered, covered_by, told, mark_behind, whole}
-use Rattle.lq_world.specs.Events.{Happening, Changing, Opening, Putting, Taking, HangingUp, Noticing, Closing, Finishing, Answer, Took}
+use Rattle.lq_world.specs.Events.{Happening, Changing, Opening, Putting, Taking, HangingUp, Noticing, Closing, Finishing, Answer, Took, Ended}
 use Rattle.lq_world.specs.Runs.{Run}
 use Rattle.lq_world.specs.Fair.{IsFair}
-use Rattle.lq_world.specs.Headline.{read_by, reads_of, parcel_in, parcels_in, updates_among, updates_in, accepted, AreReads}
-use Rattle.lq_world.proofs.ListLemmas.{all-append, take-drop}
-use Rattle.lq_world.proofs.SubLemmas.{IsSame, IsOver, IsEnded, Reads, keeps-ended, reads-nothing, reads-self, taken_within}
+use Rattle.lq_world.specs.Headline.{read_by, reads_of, parcel_in, parcels_in, updates_among, updates_in, accepted, AreReads, HasMark}
+use Rattle.lq_world.proofs.ListLemmas.{all-append, take-all, take-drop}
+use Rattle.lq_world.proofs.SubLemmas.{parcels, IsSame, IsOver, IsEnded, Reads, keeps-ended, reads-nothing, reads-self, taken_within}
 use Rattle.lq_world.proofs.ReadLemmas.{Stands, Passes, step-goes, run-book}
+
+-- a mark stands last
+abbrev IsMarked : List Parcel → Type 0
+IsMarked ps = (m : Mark) × (front : List Parcel) × (ps ≡ front ++ Fin m ∷ [])
 
 -- what the takes were answered, from one point of a subscription to another
 pub record Ran (b : Book) (s : Sub) (d : Book) (reads : List Answer) : Type 0 where
@@ -27,6 +31,7 @@ pub record Ran (b : Book) (s : Sub) (d : Book) (reads : List Answer) : Type 0 wh
   pub front : take s.taken (whole b s) ++ parcels_in reads ≡ take sub.taken (whole d sub)
   pub over : IsOver b s → AllByRecursion IsEnded reads
   pub marked : (front rest : List Answer) (m : Mark) → reads ≡ front ++ Took (Fin m) ∷ rest → AllByRecursion IsEnded rest
+  pub shown : (front rest : List Answer) → reads ≡ front ++ Ended ∷ rest → IsMarked (take s.taken (whole b s) ++ parcels_in front)
 
 no_place : {A : Type 0} (front rest : List A) (x : A) → [] ≡ front ++ x ∷ rest → ⊥
 no_place [] rest x is = cc
@@ -40,11 +45,23 @@ ran-nothing b s d t r = record {
   front = r.front;
   over = λ o. tt;
   marked = λ front rest m is. absurd (no_place front rest (Took (Fin m)) is);
+  shown = λ front rest is. absurd (no_place front rest Ended is);
 }
 
 parcels_in-append : (xs ys : List Answer) → parcels_in (xs ++ ys) ≡ parcels_in xs ++ parcels_in ys
 parcels_in-append [] ys = refl
 parcels_in-append (x ∷ xs) ys = ap (λ ps. parcel_in x ++ ps) (parcels_in-append xs ys) ∙ sym (append_assoc (parcel_in x) (parcels_in xs) (parcels_in ys))
+
+-- all that is told of one that has ended ends with the mark
+over-marked : (b : Book) (s : Sub) → IsOver b s → IsMarked (take s.taken (whole b s) ++ [])
+over-marked b s o =
+    let us = parcels (told b s) in
+    let m : Mark = record { seq = length (told b s) + 1; change = o.0.change; cause = o.0.cause } in (
+      m,
+      us,
+      append-nil (take s.taken (whole b s))
+          ∙ (take-all s.taken (whole b s) (omega (arith, o.2)) ∙ ap (λ e. us ++ mark_behind (length (told b s)) e) o.1),
+    )
 
 -- one event answers one take at most
 read_shape : (slot : ℕ) (e : Happening) (a : Answer) → (read_by slot e a ≡ []) ⊎ ((x : Answer) × (read_by slot e a ≡ x ∷ []))
@@ -75,6 +92,7 @@ ran-more b c d s t xs ys shape r ran = record {
       ∙ (sym (append_assoc (take s.taken (whole b s)) (parcels_in xs) (parcels_in ys)) ∙ (ap (λ ps. ps ++ parcels_in ys) r.front ∙ ran.front));
   over = λ o. let first = r.over o in all-append IsEnded xs ys first.1 (ran.over first.0);
   marked = λ front rest m is. by shape front rest m is;
+  shown = λ front rest is. shown_by shape front rest is;
 }
   where
     one : (x : Answer) → xs ≡ x ∷ [] → (front rest : List Answer) (m : Mark) → x ∷ ys ≡ front ++ Took (Fin m) ∷ rest → AllByRecursion IsEnded rest
@@ -87,6 +105,26 @@ ran-more b c d s t xs ys shape r ran = record {
     by : (xs ≡ []) ⊎ ((x : Answer) × (xs ≡ x ∷ [])) → (front rest : List Answer) (m : Mark) → xs ++ ys ≡ front ++ Took (Fin m) ∷ rest → AllByRecursion IsEnded rest
     by (inl none) front rest m is = ran.marked front rest m (sym (ap (λ zs. zs ++ ys) none) ∙ is)
     by (inr at) front rest m is = one at.0 at.1 front rest m (sym (ap (λ zs. zs ++ ys) at.1) ∙ is)
+
+    -- where a take of the second part is the one
+    later : (front : List Answer) → IsMarked (take t.taken (whole c t) ++ parcels_in front) → IsMarked (take s.taken (whole b s) ++ parcels_in (xs ++ front))
+    later front marked =
+        let here : take s.taken (whole b s) ++ parcels_in (xs ++ front) ≡ take t.taken (whole c t) ++ parcels_in front =
+        ap (λ ps. take s.taken (whole b s) ++ ps) (parcels_in-append xs front)
+        ∙ (sym (append_assoc (take s.taken (whole b s)) (parcels_in xs) (parcels_in front)) ∙ ap (λ ps. ps ++ parcels_in front) r.front) in
+        (marked.0, marked.1, here ∙ marked.2)
+
+    shown_one : (x : Answer) → xs ≡ x ∷ [] → (front rest : List Answer) → x ∷ ys ≡ front ++ Ended ∷ rest → IsMarked (take s.taken (whole b s) ++ parcels_in front)
+    shown_one x at [] rest is = let first : x ≡ Ended = cc in over-marked b s (r.shown (at ∙ ap (λ y. y ∷ []) first))
+    shown_one x at (y ∷ front) rest is =
+        let first : x ≡ y = cc in
+        let others : ys ≡ front ++ Ended ∷ rest = cc in
+        subst (λ (zs : List Answer). IsMarked (take s.taken (whole b s) ++ parcels_in zs)) (ap (λ zs. zs ++ front) at ∙ ap (λ z. z ∷ front) first) (later front (ran.shown front rest others))
+
+    shown_by : (xs ≡ []) ⊎ ((x : Answer) × (xs ≡ x ∷ [])) → (front rest : List Answer) → xs ++ ys ≡ front ++ Ended ∷ rest → IsMarked (take s.taken (whole b s) ++ parcels_in front)
+    shown_by (inl none) front rest is =
+        subst (λ (zs : List Answer). IsMarked (take s.taken (whole b s) ++ parcels_in zs)) (ap (λ zs. zs ++ front) none) (later front (ran.shown front rest (sym (ap (λ zs. zs ++ ys) none) ∙ is)))
+    shown_by (inr at) front rest is = shown_one at.0 at.1 front rest (sym (ap (λ zs. zs ++ ys) at.1) ∙ is)
 
 module _ (join : UpdatesJoin) where
   -- over a whole run
@@ -111,8 +149,6 @@ module _ (join : UpdatesJoin) where
           subst (λ (xs : List Answer). Ran w.book s end.book xs) (sym all) (ran-more w.book run.0.book end.book s g.sub _ _ (read_shape (i + 1) e a) g.does rest)
 
 -- ---- from parcels to updates
-abbrev parcels : List Message → List Parcel
-parcels messages = map (λ m. Update m) messages
 
 -- the updates of a front of a list are a front of its updates
 updates_among-take : (us : List Message) (n k : ℕ) (o : Option End) → updates_among (take n (parcels us ++ mark_behind k o)) ≡ take n us
@@ -135,6 +171,22 @@ mark-place (u ∷ us) k o (x ∷ xs) ys m is =
     let others : xs ++ Fin m ∷ ys ≡ parcels us ++ mark_behind k o = cc in
     let rest = mark-place us k o xs ys m others in
     (ap (λ p. updates_among (p ∷ xs)) first ∙ ap (λ ms. u ∷ ms) rest.0, rest.1)
+
+-- a mark that answers gave is among them
+has-mark : (reads : List Answer) → IsMarked (parcels_in reads) → HasMark reads
+has-mark [] marked = absurd (no_place marked.1 [] (Fin marked.0) marked.2)
+has-mark (x ∷ reads) marked = by x marked.0 marked.1 marked.2 (λ m front is. has-mark reads (m, front, is))
+  where
+    onward : (x : Answer) → HasMark reads → HasMark (x ∷ reads)
+    onward x h = (h.0, x ∷ h.1, h.2, ap (λ zs. x ∷ zs) h.3)
+
+    given : (p : Parcel) (m : Mark) (front : List Parcel) → p ∷ parcels_in reads ≡ front ++ Fin m ∷ [] → ((m : Mark) (front : List Parcel) → parcels_in reads ≡ front ++ Fin m ∷ [] → HasMark reads) → HasMark (Took p ∷ reads)
+    given p m [] is more = let first : p ≡ Fin m = cc in (m, [], reads, ap (λ q. Took q ∷ reads) first)
+    given p m (f ∷ front) is more = let others : parcels_in reads ≡ front ++ Fin m ∷ [] = cc in onward (Took p) (more m front others)
+
+    by : (x : Answer) (m : Mark) (front : List Parcel) → parcels_in (x ∷ reads) ≡ front ++ Fin m ∷ [] → ((m : Mark) (front : List Parcel) → parcels_in reads ≡ front ++ Fin m ∷ [] → HasMark reads) → HasMark (x ∷ reads)
+    by (Took p) m front is more = given p m front is more
+    by x m front is more = onward x (more m front is)
 
 -- ---- prefixes
 prefix-self : (xs : List Message) → IsPrefixOf xs xs
@@ -177,6 +229,7 @@ ran-reads grow b s d reads none ran =
             ap (λ (n : Mark). n.seq) place.1.2 ∙ ap (λ (ms : List Message). length ms + 1) (sym place.0),
             ran.marked front rest m is,
           );
+      ended = λ front rest is. has-mark front (let h = ran.shown front rest is in (h.0, h.1, ap (λ n. take n (whole b s) ++ parcels_in front) (sym none) ∙ h.2));
     }
   where
     alike : (d : Book) (t s : Sub) (n : ℕ) → IsSame s t → updates_of t.query t.moved d t.opened n ≡ updates_of s.query s.moved d s.opened n

@@ -48,6 +48,7 @@ pub record Reads (b : Book) (s : Sub) (d : Book) (t : Sub) (reads : List Answer)
   pub front : take s.taken (whole b s) ++ parcels_in reads ≡ take t.taken (whole d t)
   pub over : IsOver b s → IsOver d t × AllByRecursion IsEnded reads
   pub marked : (m : Mark) → reads ≡ Took (Fin m) ∷ [] → IsOver d t
+  pub shown : reads ≡ Ended ∷ [] → IsOver b s
 
 -- an event of its slot leaves it there, and these takes were answered
 pub record Leaves (b : Book) (s : Sub) (reads : List Answer) (o : Option Sub) : Type 0 where
@@ -60,7 +61,7 @@ pub end-cases : (o : Option End) → (o ≡ None) ⊎ ((e : End) × (o ≡ Some 
 end-cases None = inl refl
 end-cases (Some e) = inr (e, refl)
 
-live-none : (o : Option End) → is_none o ≡ true → o ≡ None
+pub live-none : (o : Option End) → is_none o ≡ true → o ≡ None
 live-none None h = refl
 live-none (Some e) h = absurd (let no : ⊥ = cc in no)
 
@@ -79,16 +80,16 @@ over-from b s h = by s.end (s.taken) (length (whole b s)) h
     by (Some d) m n is = (d, refl, grind (arith, nat_tests))
 
 -- ---- its list
-abbrev updates_to : Book → Sub → ℕ → List Message
+abbrev pub updates_to : Book → Sub → ℕ → List Message
 updates_to b s n = updates_of s.query s.moved b s.opened n
 
-abbrev parcels : List Message → List Parcel
+abbrev pub parcels : List Message → List Parcel
 parcels messages = map (λ m. Update m) messages
 
-whole-live : (b : Book) (s : Sub) → s.end ≡ None → whole b s ≡ parcels (updates_to b s (number_of b))
+pub whole-live : (b : Book) (s : Sub) → s.end ≡ None → whole b s ≡ parcels (updates_to b s (number_of b))
 whole-live b s live = ap (λ o. parcels (updates_to b s (covered_by b o)) ++ mark_behind (length (updates_to b s (covered_by b o))) o) live ∙ append-nil _
 
-told-live : (b : Book) (s : Sub) → s.end ≡ None → told b s ≡ updates_to b s (number_of b)
+pub told-live : (b : Book) (s : Sub) → s.end ≡ None → told b s ≡ updates_to b s (number_of b)
 told-live b s live = ap (λ o. updates_to b s (covered_by b o)) live
 
 -- ---- what keeps it
@@ -229,6 +230,7 @@ reads-nothing b s d t within taken k = record {
       let all : length (whole d t) ≡ length (whole b s) = ap length (k.grows ∙ (ap (λ xs. whole b s ++ xs) en.1 ∙ append-nil _)) in
       ((o.0, en.0, taken ∙ (o.2 ∙ sym all)), tt);
   marked = λ m no. absurd (let never : ⊥ = cc in never);
+  shown = λ no. absurd (let never : ⊥ = cc in never);
 }
 
 pub taken_within : (b : Book) (s : Sub) → IsFair b s → s.taken ≤ length (whole b s)
@@ -303,6 +305,10 @@ taking-leaves b s h = by (first_in_port b s) refl
     none_given true = refl
     none_given false = refl
 
+    is_ended : (x : Bool) → (if x then Ended else Empty) ∷ [] ≡ Ended ∷ [] → x ≡ true
+    is_ended true is = refl
+    is_ended false is = absurd (let no : ⊥ = cc in no)
+
     no_mark : (x : Bool) (m : Mark) → (if x then Ended else Empty) ∷ [] ≡ Took (Fin m) ∷ [] → ⊥
     no_mark true m is = cc
     no_mark false m is = cc
@@ -316,6 +322,7 @@ taking-leaves b s h = by (first_in_port b s) refl
         front = ap (λ ps. take s.taken (whole b s) ++ ps) (sym (none_given (is_over b s))) ∙ append-nil _;
         over = λ o. (o, (ap (λ x. if x then Ended else Empty) (over-true b s o), tt));
         marked = λ m is. absurd (no_mark (is_over b s) m is);
+        shown = λ is. over-from b s (is_ended (is_over b s) is);
       };
     }
     by (Some p) is =
@@ -341,5 +348,6 @@ taking-leaves b s h = by (first_in_port b s) refl
                 let mark : p ≡ Fin m = cc in
                 let last = mark-last (told b s) (length (told b s)) s.taken s.end m (at.1 ∙ ap (λ q. Some q) mark) in
                 (last.0, last.1, last.2);
+            shown = λ no. absurd (let never : ⊥ = cc in never);
           };
         }

@@ -59,6 +59,10 @@ accepted (e ∷ events) (a ∷ answers) = accepted_by e a ++ accepted events ans
 abbrev pub book_of : State → List Happening → List Answer → Book
 book_of s events answers = record { start = s; changes = accepted events answers }
 
+-- the mark is among them
+abbrev pub HasMark : List Answer → Type 0
+HasMark reads = (m : Mark) × (front : List Answer) × (rest : List Answer) × (reads ≡ front ++ Took (Fin m) ∷ rest)
+
 -- What the takes of a subscription that was opened at a number of changes may be answered, over a book.
 pub record AreReads (b : Book) (q : Query) (moved : Bool) (at : ℕ) (reads : List Answer) : Type 0 where
   -- each message once and in order: they are a prefix of its update list
@@ -69,6 +73,8 @@ pub record AreReads (b : Book) (q : Query) (moved : Bool) (at : ℕ) (reads : Li
       × (updates_in front ≡ updates_of q moved b at m.change)
       × (m.seq ≡ length (updates_in front) + 1)
       × AllByRecursion (λ a. a ≡ Ended) rest
+  -- and `Ended` only after the mark
+  pub ended : (front rest : List Answer) → reads ≡ front ++ Ended ∷ rest → HasMark front
 
 -- Whatever came before an opening and comes after it: the takes of the subscription that it opened are such
 -- reads, over the changes that the whole run accepted.

@@ -1,5 +1,5 @@
 //! Laws of worlds and of their runs: each is the contract of a function that does nothing.
-ghost use Rattle.lq_world.specs.Laws.{FirstWorldsAreFair, RunsKeepWorldsFair, RunsTellReaders};
+ghost use Rattle.lq_world.specs.Laws.{EndedListsStay, EndsAddMarks, FirstWorldsAreFair, ListsArePassedOn, LiveListsGrow, RefusalsLeaveWorlds, RunsKeepWorldsFair, RunsMakeBooks, RunsTellReaders};
 
 use lq_update::{updates_grow, updates_join};
 use lq_volume::changes_are_counted;
@@ -18,9 +18,45 @@ pub fn runs_keep_worlds_fair()
     updates_join();
 }
 
+/// A refused event leaves the world as it was.
+pub fn refusals_leave_worlds()
+    ensures { RefusalsLeaveWorlds }
+{}
+
+/// A change adds to the list of a live subscription just the messages that it has for it, and as
+/// many to what is held for it.
+pub fn live_lists_grow()
+    ensures { LiveListsGrow }
+{
+    updates_join();
+}
+
+/// Later changes leave the list of a subscription that has ended.
+pub fn ended_lists_stay()
+    ensures { EndedListsStay }
+{}
+
+/// An end adds the mark to the list of a live subscription, and nothing else.
+pub fn ends_add_marks()
+    ensures { EndsAddMarks }
+{}
+
+/// What was taken of a subscription, then what is in its port, then what is held for it, then a
+/// mark that isn't put yet, is all that it is told.
+pub fn lists_are_passed_on()
+    ensures { ListsArePassedOn }
+{}
+
+/// The changes that a run accepts are a book from the state before it, and come to stand behind
+/// those that the world's book had.
+pub fn runs_make_books()
+    ensures { RunsMakeBooks }
+{}
+
 /// What the takes of a subscription that a run opens give is a prefix of its query's update list
 /// from its opening on, over the changes that the run accepts, each message once and in order; the
-/// closing mark comes only after the whole list up to the change that it names, and nothing after.
+/// closing mark comes only after the whole list up to the change that it names, nothing follows it,
+/// and `Ended` is answered only after it.
 pub fn readers_are_told()
     ensures { RunsTellReaders }
 {
