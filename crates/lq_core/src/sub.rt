@@ -1,0 +1,192 @@
+//! One subscription.
+ghost use Rattle.std.specs.Prelude.{◌≡◌, ◌+◌, ◌<◌, ◌≤◌, ◌^◌, [], ◌++◌, vec_len, true, false, None, Some, IfOk, OnOk, OnErr, IsTrue, IfSome};
+ghost use Rattle.std.specs.VecDeque.{deque_len, deque_capacity};
+ghost use Rattle.lq_value.specs.Refusal.{IsRefusedBy};
+ghost use Rattle.lq_volume.specs.Change.{IsLawful};
+
+use lq_predicate::Predicate;
+use lq_update::{Cause, Mark, Message, Parcel, step};
+use lq_value::Refusal;
+use lq_volume::{Change, Volume};
+use std::alloc::Global;
+use std::collections::VecDeque;
+use std::marker::Model;
+use std::mem::replace;
+
+/// One subscription: its query, the messages that it holds, and those of a change that isn't made
+/// yet, for which there is always room.
+#[derive(Debug, Drop)]
+pub struct Sub {
+    alloc: Global,
+    predicate: Predicate,
+    moved: bool,
+    opened: u64,
+    backlog: u64,
+    sent: u64,
+    messages: VecDeque<Message>,
+    mark: Option<Mark>,
+    mark_out: bool,
+    ready: Vec<Message>,
+    before: u64,
+    lent: bool,
+}
+
+impl Model for Sub {
+    ghost use Rattle.std.specs.Prelude.{◌+◌, ◌≤◌, vec_len, if◌then◌else◌};
+    ghost use Rattle.std.specs.VecDeque.{deque_len, deque_capacity};
+    ghost use Rattle.lq_core.specs.Held.{Prepared};
+
+    ghost Value = { Prepared };
+
+    ghost view = { λ s. record { held = record { query = s.predicate; moved = s.moved; opened = s.opened; backlog = s.backlog; sent = s.sent; messages = s.messages.items; mark = s.mark; mark_out = s.mark_out }; ready = s.ready.items; before = s.before; lent = s.lent } };
+
+    ghost invariant = { λ s. deque_len s.messages + vec_len s.ready + (if s.lent then 1 else 0) ≤ deque_capacity s.messages };
+}
+
+impl Sub {
+    ghost use Rattle.lq_core.specs.Held.{Held, Prepared, opened_with, is_live, prepared, committed, ended_by, next_parcel, without, with_back, fits_back};
+
+    /// A live subscription that holds nothing, opened after `at` changes. Refused: `NoMemory`.
+    pub fn new(
+        alloc: Global,
+        predicate: &Predicate,
+        at: u64,
+        backlog: u64,
+        moved: bool,
+    ) -> Result<Sub, Refusal>
+        ensures refused { IsRefusedBy result None }
+        ensures value { IfOk result (λ s. s ≡ record {
+          held = opened_with predicate.now moved at backlog;
+          ready = [];
+          before = 0;
+          lent = false;
+        }) }
+    {
+        Ok(Sub {
+            alloc,
+            predicate: predicate.copy(alloc)?,
+            moved,
+            opened: at,
+            backlog,
+            sent: 0,
+            messages: VecDeque::new(alloc),
+            mark: None,
+            mark_out: false,
+            ready: Vec::new(alloc),
+            before: 0,
+            lent: false,
+        })
+    }
+
+    /// Whether it hasn't ended. It takes no memory.
+    pub fn is_live(&self) -> bool
+        ensures { result ≡ is_live self.now.held }
+    {
+        self.mark.is_none()
+    }
+
+    /// Makes the messages of a change, and room for them; it holds what it held.
+    ///
+    /// Refused: `NoMemory`.
+    pub fn ready(&mut self, volume: &Volume, change: &Change) -> Result<(), Refusal>
+        requires lawful { IsLawful volume.now change.now }
+        requires few { self.old.held.sent < 2 ^ 63 }
+        requires live { IsTrue (is_live self.old.held) }
+        ensures refused { IsRefusedBy result None }
+        ensures ok { OnOk result (self.new ≡ prepared volume.now change.now self.old) }
+        ensures err { OnErr result (self.new.held ≡ self.old.held) }
+    {
+        let first = self.sent + 1;
+        let step = step(
+            self.alloc,
+            &self.predicate,
+            volume,
+            change,
+            first,
+            self.moved,
+        )?;
+        self.ready = Vec::new(self.alloc);
+        self.messages.reserve(step.len() + 1)?;
+        self.ready = step;
+        self.before = volume.changes();
+        Ok(())
+    }
+
+    /// Holds the messages that were made for a change; where they are more than its backlog has
+    /// room for, it ends with `Overrun` before that change. It takes no memory.
+    pub fn commit(&mut self)
+        requires few { self.old.held.sent < 2 ^ 63 }
+        requires live { IsTrue (is_live self.old.held) }
+        ensures { self.new ≡ committed self.old }
+    {
+        let ready = replace(&mut self.ready, Vec::new(self.alloc));
+        let room = self.messages.len() + ready.len();
+        if !ready.is_empty() && room as u64 > self.backlog {
+            self.mark = Some(Mark {
+                seq: self.sent + 1,
+                change: self.before,
+                cause: Cause::Overrun,
+            });
+            return;
+        }
+        self.sent += ready.len() as u64;
+        append(&mut self.messages, ready);
+    }
+
+    /// Ends it; the mark covers the changes up to a number. It takes no memory.
+    pub fn finish_with(&mut self, cause: Cause, change: u64)
+        requires few { self.old.held.sent < 2 ^ 63 }
+        requires live { IsTrue (is_live self.old.held) }
+        ensures { self.new ≡ record self.old { held = ended_by self.old.held cause change } }
+    {
+        self.mark = Some(Mark {
+            seq: self.sent + 1,
+            change,
+            cause,
+        });
+    }
+
+    /// The first message that it holds, then once the mark, then nothing. It takes no memory.
+    pub fn next(&mut self) -> Option<Parcel>
+        ensures value { result ≡ next_parcel self.old.held }
+        ensures rest { self.new.held ≡ without self.old.held (next_parcel self.old.held) }
+        ensures room { IfSome result (λ parcel. IsTrue (fits_back self.new.lent parcel)) }
+    {
+        if let Some(message) = self.messages.pop_front() {
+            self.lent = true;
+            return Some(Parcel::Update(message));
+        }
+        if self.mark_out {
+            return None;
+        }
+        let mark = self.mark?;
+        self.mark_out = true;
+        Some(Parcel::Fin(mark))
+    }
+
+    /// Puts back the parcel that the latest `next` gave. It takes no memory.
+    pub fn put_back(&mut self, parcel: Parcel)
+        requires { IsTrue (fits_back self.old.lent parcel) }
+        ensures { self.new.held ≡ with_back self.old.held parcel }
+    {
+        match parcel {
+            Parcel::Update(message) => {
+                self.lent = false;
+                self.messages.push_front_reserved(message);
+            }
+            Parcel::Fin(_) => self.mark_out = false,
+        }
+    }
+}
+
+// Puts all messages at the end, where there is room for them.
+fn append(messages: &mut VecDeque<Message>, ready: Vec<Message>)
+    requires { deque_len messages.old + vec_len ready ≤ deque_capacity messages.old }
+    ensures items { messages.new.items ≡ messages.old.items ++ ready.items }
+    ensures len { deque_len messages.new ≡ deque_len messages.old + vec_len ready }
+    ensures capacity { deque_capacity messages.new ≡ deque_capacity messages.old }
+{
+    for message in ready {
+        messages.push_back_reserved(message);
+    }
+}
