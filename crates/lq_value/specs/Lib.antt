@@ -4,6 +4,7 @@ pub mod Value
 pub mod Number
 pub mod Element
 pub mod Pattern
+pub mod Elements
 pub mod Matching
 pub mod Compare
 pub mod Sign

@@ -60,6 +60,13 @@ impl Items {
         self.items.is_empty()
     }
 
+    /// The items in their order. It takes no memory.
+    pub fn as_slice(&self) -> &[Item]
+        ensures { result.now ≡ self.now }
+    {
+        self.items.as_slice()
+    }
+
     /// Whether an item has the character. It takes no memory.
     pub(crate) fn has(&self, c: char) -> bool
         ensures { result ≡ set_has self.now c }

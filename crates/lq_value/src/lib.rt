@@ -36,7 +36,7 @@ pub use laws::{faults_are_found, sources_are_read};
 pub use literal::{Literal, compare};
 pub use name::Name;
 pub use op::Op;
-pub use pattern::Pattern;
+pub use pattern::{Elements, Pattern};
 pub use refusal::Refusal;
 pub use text::Text;
 pub use value::Value;

@@ -34,6 +34,14 @@ pub(crate) enum Form {
     Elements(Vec<Element>),
 }
 
+/// The elements of a pattern, from the left: plain ones as their text, or a list.
+pub enum Elements<'a> {
+    /// Each character is a plain element.
+    Text(&'a str),
+    /// Not all of these are plain.
+    List(&'a [Element]),
+}
+
 impl Model for Pattern {
     ghost use Rattle.std.specs.Prelude.{List};
     ghost use Rattle.lq_value.specs.declared.element.Element.{Element};
@@ -47,6 +55,8 @@ impl Model for Pattern {
 }
 
 impl Pattern {
+    ghost use Rattle.lq_value.specs.Elements.{elements_shown};
+
     /// The pattern whose elements are the characters of a text. Refused: `NoMemory`.
     pub fn plain(alloc: Global, text: &str) -> Result<Pattern, Refusal>
         ensures refused { IsRefusedBy result None }
@@ -76,8 +86,8 @@ impl Pattern {
         Pattern::of(alloc, elements)
     }
 
-    // The pattern with these elements.
-    fn of(alloc: Global, elements: Vec<Element>) -> Result<Pattern, Refusal>
+    /// The pattern with these elements. Refused: `NoMemory`.
+    pub fn of(alloc: Global, elements: Vec<Element>) -> Result<Pattern, Refusal>
         ensures refused { IsRefusedBy result None }
         ensures value { IfOk result (λ pattern. pattern ≡ elements.items) }
     {
@@ -88,6 +98,16 @@ impl Pattern {
             None => Ok(Pattern {
                 form: Form::Elements(elements),
             }),
+        }
+    }
+
+    /// The elements, as the pattern keeps them. It takes no memory.
+    pub fn elements(&self) -> Elements<'_>
+        ensures { elements_shown result ≡ self.now }
+    {
+        match &self.form {
+            Form::PlainText(plain) => Elements::Text(plain.as_str()),
+            Form::Elements(elements) => Elements::List(elements.as_slice()),
         }
     }
 
