@@ -1,4 +1,3 @@
-pub mod Query
 pub mod QueryCode
 pub mod Limits
 pub mod Node

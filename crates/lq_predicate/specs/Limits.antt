@@ -1,31 +1,8 @@
 -- Which queries a predicate may be: its literals suit its operators, its lists have two parts or more, and it is within the limits.
-use Rattle.std.specs.Prelude.{ℕ, suc, ◌+◌, max, Bool, true, ◌&&◌, nat_le}
+use Rattle.std.specs.Prelude.{ℕ, suc, Bool, true, ◌&&◌, nat_le}
 use Rattle.lq_value.specs.Compare.{suits}
-use Rattle.lq_predicate.specs.Query.{Query, Compare, Not, And, Or, Queries, no_more, and_then}
-
--- a comparison has depth 1, every other query 1 more than its deepest part
-abbrev mutual
-  pub depth : Query → ℕ
-  depth (Compare attr op literal) = 1
-  depth (Not q) = suc (depth q)
-  depth (And qs) = suc (deepest qs)
-  depth (Or qs) = suc (deepest qs)
-
-  pub deepest : Queries → ℕ
-  deepest no_more = 0
-  deepest (and_then q qs) = max (depth q) (deepest qs)
-
--- how many comparisons it has
-abbrev mutual
-  pub comparisons : Query → ℕ
-  comparisons (Compare attr op literal) = 1
-  comparisons (Not q) = comparisons q
-  comparisons (And qs) = all_comparisons qs
-  comparisons (Or qs) = all_comparisons qs
-
-  pub all_comparisons : Queries → ℕ
-  all_comparisons no_more = 0
-  all_comparisons (and_then q qs) = comparisons q + all_comparisons qs
+use Rattle.lq_formula.specs.Canonical.{depth, comparisons}
+use Rattle.lq_formula.specs.Query.{Query, Compare, Not, And, Or, Queries, no_more, and_then}
 
 abbrev pub part_count : Queries → ℕ
 part_count no_more = 0

@@ -1,5 +1,5 @@
 -- The query that a node of the tree stands for.
-use Rattle.lq_predicate.specs.Query.{Query, Compare, Not, And, Or, queries}
+use Rattle.lq_formula.specs.Query.{Query, Compare, Not, And, Or, queries}
 use Rattle.lq_predicate.specs.declared.predicate.Node.{Node}
 use Rattle.lq_predicate.specs.declared.predicate.Node.TheVariants as node
 

@@ -2,8 +2,8 @@
 use Rattle.std.specs.Prelude.{◌+◌, ◌≤◌, max, List, [], ◌∷◌}
 use Rattle.std.proofs.Common.{arith}
 use denote.Param.Weighed.{most}
-use Rattle.lq_predicate.specs.Query.{Query, queries}
-use Rattle.lq_predicate.specs.Limits.{depth, deepest}
+use Rattle.lq_formula.specs.Query.{Query, queries}
+use Rattle.lq_formula.specs.Canonical.{depth, deepest}
 use Rattle.lq_predicate.specs.Node.{query_of}
 use Rattle.lq_predicate.specs.declared.predicate.Node.{Node}
 use Rattle.lq_predicate.specs.declared.predicate.Node.TheVariants as node

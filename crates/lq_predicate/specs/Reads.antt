@@ -10,7 +10,7 @@ use Rattle.lq_value.specs.declared.literal.Literal.TheVariants.{Pattern, Plain}
 use Rattle.lq_value.specs.declared.refusal.Refusal.{Refusal}
 use Rattle.lq_value.specs.declared.refusal.Refusal.TheVariants.{BadQuery}
 use Rattle.lq_value.specs.Pattern.{plain_elements}
-use Rattle.lq_predicate.specs.Query.{Query, Compare}
+use Rattle.lq_formula.specs.Query.{Query, Compare}
 
 -- `==` and `!=` take a pattern
 abbrev pub takes_pattern : Op → Bool

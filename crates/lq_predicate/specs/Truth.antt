@@ -3,7 +3,7 @@ use Rattle.std.specs.Prelude.{ℕ, List, Bool, true, false, not, ◌&&◌, ◌||
 use Rattle.lq_value.specs.declared.op.Op.{Op}
 use Rattle.lq_value.specs.declared.literal.Literal.{Literal}
 use Rattle.lq_value.specs.Compare.{Held, compares}
-use Rattle.lq_predicate.specs.Query.{Query, Compare, Not, And, Or, Queries, no_more, and_then}
+use Rattle.lq_formula.specs.Query.{Query, Compare, Not, And, Or, Queries, no_more, and_then}
 
 -- what a row shows under each name
 abbrev pub Look : Type 0

@@ -5,7 +5,7 @@ ghost use Rattle.std.specs.Char.{is_ascii_digit};
 ghost use Rattle.std.specs.Option.{option_copied, option_map};
 ghost use Rattle.lq_value.specs.Refusal.{IsRefusedBy};
 ghost use Rattle.lq_value.specs.Name.{is_attr_name};
-ghost use Rattle.lq_predicate.specs.Query.{Compare};
+ghost use Rattle.lq_formula.specs.Query.{Compare};
 ghost use Rattle.lq_predicate.specs.Reads.{behind, is_bare, is_digits, is_word_byte, literal_of, operator_of, predicate_of, takes_pattern, comparison_of, compares_size, compares_name, refusal_of};
 
 use crate::predicate::Predicate;

@@ -32,9 +32,10 @@ enum Node {
 
 impl Model for Predicate {
     ghost use Rattle.std.specs.Prelude.{IsTrue};
-    ghost use Rattle.lq_predicate.specs.Query.{Query};
+    ghost use Rattle.lq_formula.specs.Query.{Query};
     ghost use Rattle.lq_predicate.specs.QueryCode.{coded_query};
-    ghost use Rattle.lq_predicate.specs.Limits.{depth, is_predicate};
+    ghost use Rattle.lq_formula.specs.Canonical.{depth};
+    ghost use Rattle.lq_predicate.specs.Limits.{is_predicate};
 
     ghost Value = { Query };
 
@@ -54,7 +55,7 @@ impl Model for Predicate {
 }
 
 impl Predicate {
-    ghost use Rattle.lq_predicate.specs.Query.{Compare};
+    ghost use Rattle.lq_formula.specs.Query.{Compare};
     ghost use Rattle.lq_predicate.specs.Truth.{truth};
     ghost use Rattle.lq_predicate.specs.Names.{attributes, each_once};
 

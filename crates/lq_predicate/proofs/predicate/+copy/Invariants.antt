@@ -1,6 +1,6 @@
 use Rattle.std.proofs.Common.{◌≡◌, ◌+◌, ◌*◌, take}
-use Rattle.lq_predicate.specs.Query.{queries}
-use Rattle.lq_predicate.specs.Limits.{depth, deepest}
+use Rattle.lq_formula.specs.Query.{queries}
+use Rattle.lq_formula.specs.Canonical.{depth, deepest}
 use Rattle.lq_predicate.proofs.predicate.+copy.Given as goal
 
 abbrev pub decreases-Predicate::copy : goal.decreases-Predicate::copy

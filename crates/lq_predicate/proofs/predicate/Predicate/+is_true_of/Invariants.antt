@@ -1,5 +1,5 @@
 use Rattle.std.proofs.Common.{◌≡◌, drop}
-use Rattle.lq_predicate.specs.Query.{queries}
+use Rattle.lq_formula.specs.Query.{queries}
 use Rattle.lq_predicate.specs.Truth.{truth, all_true, some_true}
 use Rattle.lq_predicate.proofs.predicate.Predicate.+is_true_of.Given as goal
 
