@@ -1,7 +1,7 @@
 -- What the events and answers of a run say of each subscription that they open.
 use Rattle.std.specs.Prelude.{◌≡◌, ℕ, List, [], ◌∷◌, ◌++◌, length, Bool, ◌==◌, if◌then◌else◌}
 use Rattle.lq_value.specs.declared.entry.Entry.{Entry}
-use Rattle.lq_predicate.specs.Query.{Query}
+use Rattle.lq_formula.specs.Query.{Query}
 use Rattle.lq_volume.specs.declared.change.Change.{Change as Change_}
 use Rattle.lq_volume.specs.State.{State}
 use Rattle.lq_volume.specs.Book.{Book, number_of}

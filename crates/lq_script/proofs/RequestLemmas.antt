@@ -7,7 +7,7 @@ use Rattle.serde_json.specs.Read.{read}
 use Rattle.lq_value.specs.declared.refusal.Refusal.{Refusal}
 use Rattle.lq_value.specs.declared.refusal.Refusal.TheVariants.{NoMemory, NotUtf8, BadName}
 use Rattle.lq_value.specs.declared.value.Value.{Value}
-use Rattle.lq_predicate.specs.Query.{Query}
+use Rattle.lq_formula.specs.Query.{Query}
 use Rattle.lq_predicate.specs.Reads.{refusal_of}
 use Rattle.lq_desk.specs.World.{Happening}
 use Rattle.lq_script.specs.Request.{asked_in, asked_from, opening_or, setting_for, text_or}

@@ -7,7 +7,7 @@ use Rattle.std.specs.Map.{lookup}
 use Rattle.std.proofs.lemmas.Bool.Decides.{nat_tests}
 use Rattle.lq_value.specs.declared.kind.Kind.{Kind}
 use Rattle.lq_value.specs.declared.kind.Kind.TheVariants.{File, Folder}
-use Rattle.lq_predicate.specs.Query.{Query}
+use Rattle.lq_formula.specs.Query.{Query}
 use Rattle.lq_volume.specs.declared.change.Change.{Change}
 use Rattle.lq_volume.specs.declared.change.Change.TheVariants.{Create, Remove, Move, Write, SetAttr, RemoveAttr}
 use Rattle.lq_volume.specs.Attributes.{Attributes, HasOwnNames, with_attr, without_attr}

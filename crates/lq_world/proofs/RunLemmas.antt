@@ -2,7 +2,7 @@
 use Rattle.std.proofs.Common.{◌≡◌, ℕ, zero, suc, ◌+◌, ◌-◌, List, [], ◌∷◌, ◌++◌, refl, ap, take, drop, length, ◌∙◌, sym, subst, arith, append_assoc, append-nil, Some, None, Option, inl, inr, Bool, true, false}
 use Rattle.std.specs.Prelude.{◌⊎◌, ◌==◌, if◌then◌else◌}
 use Rattle.std.specs.List.{AllByRecursion}
-use Rattle.lq_predicate.specs.Query.{Query}
+use Rattle.lq_formula.specs.Query.{Query}
 use Rattle.lq_volume.specs.Book.{Book, grown, number_of}
 use Rattle.lq_update.specs.declared.message.Message.{Message}
 use Rattle.lq_update.specs.declared.mark.Mark.{Mark}

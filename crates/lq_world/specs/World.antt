@@ -1,7 +1,7 @@
 -- What stands after a list of events: a book, the number of openings, and a subscription or nothing in each slot.
 use Rattle.std.specs.Prelude.{ℕ, ◌+◌, ◌-◌, List, [], ◌∷◌, ◌++◌, length, map, replicate, Bool, ◌&&◌, ◌==◌, nat_lt, Option, Some, None, is_none, slice_get, slice_set, if◌then◌else◌, true, false}
 use Rattle.std.specs.Option.{option_flatten}
-use Rattle.lq_predicate.specs.Query.{Query}
+use Rattle.lq_formula.specs.Query.{Query}
 use Rattle.lq_volume.specs.declared.change.Change.{Change as Change_}
 use Rattle.lq_volume.specs.Book.{Book, number_of, state_of}
 use Rattle.lq_update.specs.declared.message.Message.{Message}
