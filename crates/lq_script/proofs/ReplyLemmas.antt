@@ -1,11 +1,21 @@
 -- No reply has a float, so its text is a function of its value.
 use Rattle.std.proofs.Common.{◌≡◌, ℕ, List, [], ◌∷◌, map, false, refl, Some, None, Option}
+use Rattle.std.specs.Prelude.{ℤ, pos, negsuc}
+use Rattle.serde_json.specs.Data.{number}
+use Rattle.serde_json.specs.Find.{of_integer}
 use Rattle.serde_json.specs.View.{items_of}
 use Rattle.serde_json.specs.Written.{has_float, items_have_float}
 use Rattle.lq_value.specs.declared.entry.Entry.{Entry}
+use Rattle.lq_value.specs.declared.value.Value.{Value}
+use Rattle.lq_value.specs.declared.value.Value.TheVariants.{Text, Int32, Int64, UInt32, UInt64}
 use Rattle.lq_value.specs.Refusal.{code_of, name_of}
 use Rattle.lq_desk.specs.World.{Answer, Changed, Opened, Took, Empty, Refused}
-use Rattle.lq_script.specs.Reply.{answer_data, entry_data, fault_data, place_of}
+use Rattle.lq_script.specs.Reply.{answer_data, attr_data, entry_data, fault_data, place_of, response_data, value_data}
+use Rattle.lq_script.specs.Response.{Response, Answers, Found, Listed, Fetched}
+
+integer-no_float : (n : ℤ) → has_float (number (of_integer n)) ≡ false
+integer-no_float (pos n) = refl
+integer-no_float (negsuc n) = refl
 
 entries-no_float : (entries : List Entry) → items_have_float (items_of (map entry_data entries)) ≡ false
 entries-no_float [] = refl
@@ -15,9 +25,26 @@ fault-no_float : (code : ℕ) (name : List ℕ) (place : Option ℕ) → has_flo
 fault-no_float code name None = refl
 fault-no_float code name (Some place) = refl
 
-pub answer-no_float : (a : Answer) → has_float (answer_data a) ≡ false
+value-no_float : (v : Value) → has_float (value_data v) ≡ false
+value-no_float (Text text) = refl
+value-no_float (Int32 n) = integer-no_float n
+value-no_float (Int64 n) = integer-no_float n
+value-no_float (UInt32 n) = refl
+value-no_float (UInt64 n) = refl
+
+attrs-no_float : (attrs : List (List ℕ × Value)) → items_have_float (items_of (map attr_data attrs)) ≡ false
+attrs-no_float [] = refl
+attrs-no_float (a ∷ attrs) = rw (value-no_float a.1) (attrs-no_float attrs)
+
+answer-no_float : (a : Answer) → has_float (answer_data a) ≡ false
 answer-no_float (Changed applied) = refl
 answer-no_float (Opened slot at result) = rw (entries-no_float result) refl
 answer-no_float (Took message) = refl
 answer-no_float Empty = refl
 answer-no_float (Refused e) = fault-no_float (code_of e) (name_of e) (place_of e)
+
+pub response-no_float : (r : Response) → has_float (response_data r) ≡ false
+response-no_float (Answers a) = answer-no_float a
+response-no_float (Found node) = refl
+response-no_float (Listed node e) = rw (attrs-no_float e.attrs, integer-no_float e.time) refl
+response-no_float (Fetched at result) = rw (entries-no_float result) refl

@@ -1,5 +1,5 @@
 -- What a line's bytes ask for, by whether they are UTF-8.
-use Rattle.std.proofs.Common.{◌≡◌, ℕ, List, refl, sym, ap, ◌∙◌, true, false, Some, None, Option, inl, inr}
+use Rattle.std.proofs.Common.{◌≡◌, ℕ, List, refl, sym, ap, true, false, Some, None, Option, inl, inr}
 use Rattle.std.specs.Prelude.{Bool, Result, Ok, Err, unwrap_or, if◌then◌else◌, ◌⊎◌}
 use Rattle.std.specs.Str.{IsUtf8, is_utf8}
 use Rattle.std.proofs.lemmas.Str.{IsUtf8-from_is_utf8, is_utf8-from_IsUtf8}
@@ -9,8 +9,7 @@ use Rattle.lq_value.specs.declared.refusal.Refusal.TheVariants.{NoMemory, NotUtf
 use Rattle.lq_value.specs.declared.value.Value.{Value}
 use Rattle.lq_formula.specs.Query.{Query}
 use Rattle.lq_predicate.specs.Reads.{refusal_of}
-use Rattle.lq_desk.specs.World.{Happening}
-use Rattle.lq_script.specs.Request.{asked_in, asked_from, opening_or, setting_for, text_or}
+use Rattle.lq_script.specs.Request.{Question, asked_in, asked_from, fetching_or, opening_or, setting_for, text_or}
 
 pub asked-not_utf8 : (line : List ℕ) → ¬ IsUtf8 line → asked_in line ≡ Err NotUtf8
 asked-not_utf8 line not = at (is_utf8 line) refl
@@ -28,7 +27,7 @@ name-refused true h e was = inl was
 name-refused false h e was = inr (ap (λ x. Err x) (sym was))
 
 -- the same where more may be refused behind it
-pub attr-refused : (is : Bool) (r : Result Happening Refusal) (e : Refusal) → e ≡ unwrap_or (if is then None else Some BadName) NoMemory → (e ≡ NoMemory) ⊎ ((if is then r else Err BadName) ≡ Err e)
+pub attr-refused : (is : Bool) (r : Result Question Refusal) (e : Refusal) → e ≡ unwrap_or (if is then None else Some BadName) NoMemory → (e ≡ NoMemory) ⊎ ((if is then r else Err BadName) ≡ Err e)
 attr-refused true r e was = inl was
 attr-refused false r e was = inr (ap (λ x. Err x) (sym was))
 
@@ -38,9 +37,13 @@ text-refused None text e was = inl was
 text-refused (Some f) text e was = inr (ap (λ x. Err x) (sym was))
 
 -- a formula is refused for its place, or memory ran out
-pub opening-refused : (o : Option Query) (port backlog : ℕ) (e : Refusal) → e ≡ unwrap_or (refusal_of o) NoMemory → (e ≡ NoMemory) ⊎ (opening_or o port backlog ≡ Err e)
-opening-refused None port backlog e was = inr (ap (λ x. Err x) (sym was))
-opening-refused (Some q) port backlog e was = inl was
+pub opening-refused : (o : Option Query) (port backlog : ℕ) (moved : Bool) (e : Refusal) → e ≡ unwrap_or (refusal_of o) NoMemory → (e ≡ NoMemory) ⊎ (opening_or o port backlog moved ≡ Err e)
+opening-refused None port backlog moved e was = inr (ap (λ x. Err x) (sym was))
+opening-refused (Some q) port backlog moved e was = inl was
+
+pub fetching-refused : (o : Option Query) (e : Refusal) → e ≡ unwrap_or (refusal_of o) NoMemory → (e ≡ NoMemory) ⊎ (fetching_or o ≡ Err e)
+fetching-refused None e was = inr (ap (λ x. Err x) (sym was))
+fetching-refused (Some q) e was = inl was
 
 -- a value that is refused refuses its setting
 pub setting-refused : (node : ℕ) (attr : List ℕ) (r : Result Value Refusal) (e : Refusal) → (e ≡ NoMemory) ⊎ (r ≡ Err e) → (e ≡ NoMemory) ⊎ (setting_for node attr r ≡ Err e)

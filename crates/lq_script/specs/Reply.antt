@@ -1,17 +1,24 @@
--- What is written for an answer: the compact text of a JSON value, its keys in byte order, and LF.
+-- What is written for a response: the compact text of a JSON value, its keys in byte order, and LF.
 use Rattle.std.specs.Prelude.{ℕ, List, [], ◌∷◌, ◌++◌, map, Option, Some, None, codes}
 use Rattle.serde_json.specs.Data.{Data, number, unsigned, string, boolean, array, object, member, no_members}
+use Rattle.serde_json.specs.Find.{of_integer}
 use Rattle.serde_json.specs.View.{items_of}
 use Rattle.serde_json.specs.Written.{compact_text}
 use Rattle.lq_value.specs.declared.entry.Entry.{Entry}
 use Rattle.lq_value.specs.declared.refusal.Refusal.{Refusal}
 use Rattle.lq_value.specs.declared.refusal.Refusal.TheVariants.{BadQuery}
+use Rattle.lq_value.specs.declared.kind.Kind.{Kind}
+use Rattle.lq_value.specs.declared.kind.Kind.TheVariants.{File, Folder}
+use Rattle.lq_value.specs.declared.value.Value.{Value}
+use Rattle.lq_value.specs.declared.value.Value.TheVariants.{Text, Int32, Int64, UInt32, UInt64}
 use Rattle.lq_value.specs.Refusal.{code_of, name_of}
 use Rattle.lq_volume.specs.declared.change.Applied.{Applied}
+use Rattle.lq_volume.specs.State.{Record}
 use Rattle.lq_update.specs.declared.message.Message.{Message}
 use Rattle.lq_update.specs.declared.message.Opcode.{Opcode}
 use Rattle.lq_update.specs.declared.message.Opcode.TheVariants.{Created, Removed}
 use Rattle.lq_desk.specs.World.{Answer, Changed, Opened, Took, Empty, Refused}
+use Rattle.lq_script.specs.Response.{Response, Answers, Found, Listed, Fetched}
 
 abbrev pub count : ℕ → Data
 count n = number (unsigned n)
@@ -64,5 +71,47 @@ answer_data (Took message) = message_data message
 answer_data Empty = empty_data
 answer_data (Refused e) = refusal_data e
 
-abbrev pub reply_text : Answer → List ℕ
-reply_text a = compact_text (answer_data a) ++ 10 ∷ []
+-- an attribute's type, and its value
+abbrev pub type_name : Value → List ℕ
+type_name (Text text) = codes "CSTR"
+type_name (Int32 n) = codes "LONG"
+type_name (Int64 n) = codes "LLNG"
+type_name (UInt32 n) = codes "ULNG"
+type_name (UInt64 n) = codes "ULLG"
+
+abbrev pub value_data : Value → Data
+value_data (Text text) = word text
+value_data (Int32 n) = number (of_integer n)
+value_data (Int64 n) = number (of_integer n)
+value_data (UInt32 n) = count n
+value_data (UInt64 n) = count n
+
+abbrev pub attr_data : List ℕ × Value → Data
+attr_data a =
+    object (member (codes "name") (word a.0) (member (codes "type") (word (type_name a.1)) (member (codes "value") (value_data a.1) no_members)))
+
+abbrev pub kind_name : Kind → List ℕ
+kind_name File = codes "file"
+kind_name Folder = codes "folder"
+
+-- all of an entry
+abbrev pub listing_data : ℕ → Record → Data
+listing_data node e =
+    object (member (codes "attrs") (array (items_of (map attr_data e.attrs))) (member (codes "dir") (count e.dir) (member (codes "kind") (word (kind_name e.kind))
+    (member (codes "name") (word e.name) (member (codes "node") (count node) (member (codes "size") (count e.size)
+    (member (codes "time") (number (of_integer e.time)) no_members)))))))
+
+abbrev pub found_data : ℕ → Data
+found_data node = object (member (codes "node") (count node) no_members)
+
+abbrev pub fetched_data : ℕ → List Entry → Data
+fetched_data at result = object (member (codes "at") (count at) (member (codes "result") (array (items_of (map entry_data result))) no_members))
+
+abbrev pub response_data : Response → Data
+response_data (Answers a) = answer_data a
+response_data (Found node) = found_data node
+response_data (Listed node e) = listing_data node e
+response_data (Fetched at result) = fetched_data at result
+
+abbrev pub reply_text : Response → List ℕ
+reply_text r = compact_text (response_data r) ++ 10 ∷ []

@@ -30,8 +30,18 @@ pub data Asked : Type 0 where
   asks_write : (node size : ℕ) (time : ℤ) → Asked
   asks_set : (node : ℕ) (attr : List ℕ) (value : Given) → Asked
   asks_unset : (node : ℕ) (attr : List ℕ) → Asked
-  asks_open : (query : List ℕ) (port backlog : ℕ) → Asked
+  asks_open : (query : List ℕ) (port backlog : ℕ) (moved : Bool) → Asked
   asks_read : (slot : ℕ) → Asked
+  asks_find : (dir : ℕ) (name : List ℕ) → Asked
+  asks_entry : (node : ℕ) → Asked
+  asks_fetch : (query : List ℕ) → Asked
+
+-- what a line asks once its values are read: an event of the core, or a look at the volume
+pub data Question : Type 0 where
+  Happens : (event : Happening) → Question
+  Finds : (dir : ℕ) (name : List ℕ) → Question
+  Lists : (node : ℕ) → Question
+  Fetches : (query : Query) → Question
 
 -- a text, and a whole number from 0 up, which have to be there
 abbrev pub needed_text : List ℕ → Data → Option (List ℕ)
@@ -134,13 +144,25 @@ abbrev pub open_of : Data → Option Asked
 open_of d =
     option_and_then (λ query.
     option_and_then (λ port.
-    option_map (λ backlog. asks_open query port backlog)
+    option_and_then (λ backlog.
+    option_map (λ moved. asks_open query port backlog moved)
+    (flag_or false (get (codes "moved") d)))
     (needed_u64 (codes "backlog") d))
     (needed_u64 (codes "port") d))
     (needed_text (codes "query") d)
 
 abbrev pub read_of : Data → Option Asked
 read_of d = option_map (λ slot. asks_read slot) (needed_u64 (codes "slot") d)
+
+abbrev pub find_of : Data → Option Asked
+find_of d =
+    option_and_then (λ name. option_map (λ dir. asks_find dir name) (u64_or 1 (get (codes "dir") d))) (needed_text (codes "name") d)
+
+abbrev pub entry_of : Data → Option Asked
+entry_of d = option_map (λ node. asks_entry node) (needed_u64 (codes "node") d)
+
+abbrev pub fetch_of : Data → Option Asked
+fetch_of d = option_map (λ query. asks_fetch query) (needed_text (codes "query") d)
 
 -- by the text of `do`
 abbrev pub asked_by : List ℕ → Data → Option Asked
@@ -153,6 +175,9 @@ asked_by act d =
     else if bytes_eq act (codes "unset") then unset_of d
     else if bytes_eq act (codes "open") then open_of d
     else if bytes_eq act (codes "read") then read_of d
+    else if bytes_eq act (codes "find") then find_of d
+    else if bytes_eq act (codes "entry") then entry_of d
+    else if bytes_eq act (codes "fetch") then fetch_of d
     else None
 
 abbrev pub asked_of : Data → Option Asked
@@ -171,9 +196,13 @@ abbrev pub asked_in : List ℕ → Result Asked Refusal
 asked_in line = if is_utf8 line then asked_from (read line) else Err NotUtf8
 
 -- the refusals of the values
-abbrev pub opening_or : Option Query → ℕ → ℕ → Result Happening Refusal
-opening_or None port backlog = Err (BadQuery 0)
-opening_or (Some q) port backlog = Ok (Opening q port backlog false)
+abbrev pub opening_or : Option Query → ℕ → ℕ → Bool → Result Question Refusal
+opening_or None port backlog moved = Err (BadQuery 0)
+opening_or (Some q) port backlog moved = Ok (Happens (Opening q port backlog moved))
+
+abbrev pub fetching_or : Option Query → Result Question Refusal
+fetching_or None = Err (BadQuery 0)
+fetching_or (Some q) = Ok (Fetches q)
 
 abbrev pub text_or : Option Refusal → List ℕ → Result Value Refusal
 text_or None text = Ok (Text text)
@@ -183,24 +212,27 @@ abbrev pub value_for : Given → Result Value Refusal
 value_for (given_text text) = text_or (text_refusal text) text
 value_for (given_number value) = Ok value
 
-abbrev pub setting_for : ℕ → List ℕ → Result Value Refusal → Result Happening Refusal
+abbrev pub setting_for : ℕ → List ℕ → Result Value Refusal → Result Question Refusal
 setting_for node attr (Err e) = Err e
-setting_for node attr (Ok value) = Ok (Changing (SetAttr node attr value))
+setting_for node attr (Ok value) = Ok (Happens (Changing (SetAttr node attr value)))
 
-abbrev pub happening_for : Asked → Result Happening Refusal
-happening_for (asks_create dir name kind size time) = if is_name name then Ok (Changing (Create dir name kind size time)) else Err BadName
-happening_for (asks_remove node) = Ok (Changing (Remove node))
-happening_for (asks_move node dir name clobber) = if is_name name then Ok (Changing (Move node dir name clobber)) else Err BadName
-happening_for (asks_write node size time) = Ok (Changing (Write node size time))
-happening_for (asks_set node attr value) = if is_attr_name attr then setting_for node attr (value_for value) else Err BadName
-happening_for (asks_unset node attr) = if is_attr_name attr then Ok (Changing (RemoveAttr node attr)) else Err BadName
-happening_for (asks_open query port backlog) = opening_or (predicate_of query) port backlog
-happening_for (asks_read slot) = Ok (Taking slot)
+abbrev pub question_for : Asked → Result Question Refusal
+question_for (asks_create dir name kind size time) = if is_name name then Ok (Happens (Changing (Create dir name kind size time))) else Err BadName
+question_for (asks_remove node) = Ok (Happens (Changing (Remove node)))
+question_for (asks_move node dir name clobber) = if is_name name then Ok (Happens (Changing (Move node dir name clobber))) else Err BadName
+question_for (asks_write node size time) = Ok (Happens (Changing (Write node size time)))
+question_for (asks_set node attr value) = if is_attr_name attr then setting_for node attr (value_for value) else Err BadName
+question_for (asks_unset node attr) = if is_attr_name attr then Ok (Happens (Changing (RemoveAttr node attr))) else Err BadName
+question_for (asks_open query port backlog moved) = opening_or (predicate_of query) port backlog moved
+question_for (asks_read slot) = Ok (Happens (Taking slot))
+question_for (asks_find dir name) = if is_name name then Ok (Finds dir name) else Err BadName
+question_for (asks_entry node) = Ok (Lists node)
+question_for (asks_fetch query) = fetching_or (predicate_of query)
 
-abbrev pub happening_from : Result Asked Refusal → Result Happening Refusal
-happening_from (Err e) = Err e
-happening_from (Ok a) = happening_for a
+abbrev pub question_from : Result Asked Refusal → Result Question Refusal
+question_from (Err e) = Err e
+question_from (Ok a) = question_for a
 
--- the event that a line asks for, or why it asks for none
-abbrev pub happening_in : List ℕ → Result Happening Refusal
-happening_in line = happening_from (asked_in line)
+-- what a line asks, or why it asks nothing
+abbrev pub question_in : List ℕ → Result Question Refusal
+question_in line = question_from (asked_in line)

@@ -1,34 +1,36 @@
--- What is written for a whole script: each line's event, its answer in the world, and the answer's text.
-use Rattle.std.specs.Prelude.{ℕ, List, [], Result, Ok, Err}
-use Rattle.lq_value.specs.declared.refusal.Refusal.{Refusal}
+-- What is written for a whole script: what each line asks, its answer in the world, and the answer's text.
+use Rattle.std.specs.Prelude.{ℕ, List, []}
 use Rattle.lq_value.specs.declared.refusal.Refusal.TheVariants.{LongLine}
-use Rattle.lq_volume.specs.State.{empty_state}
+use Rattle.lq_volume.specs.State.{State, empty_state}
+use Rattle.lq_volume.specs.Book.{state_of}
 use Rattle.lq_desk.specs.World.{World, Happening, Answer, Refused, outcome, first_world}
 use Rattle.lq_desk.specs.Desk.{Kept, kept_outcome}
 use Rattle.lq_script.specs.Lines.{Rules}
 use Rattle.lq_script.specs.Output.{output_of}
-use Rattle.lq_script.specs.Request.{happening_in}
+use Rattle.lq_script.specs.Request.{question_in}
+use Rattle.lq_script.specs.Response.{Answers, answered}
 use Rattle.lq_script.specs.Reply.{reply_text}
 
--- a line that asks for no event is refused, and nothing changes
-abbrev pub answered : {State : Type 0} → (State → Happening → Answer × State) → State → Result Happening Refusal → Answer × State
-answered step s (Err e) = (Refused e, s)
-answered step s (Ok e) = step s e
-
--- how lines are answered where events are
-abbrev pub rules_by : {State : Type 0} → (State → Happening → Answer × State) → Rules State
-rules_by step = record {
-  reply = λ s line. reply_text (answered step s (happening_in line)).0;
-  after = λ s line. (answered step s (happening_in line)).1;
-  long = reply_text (Refused LongLine);
+-- how lines are answered where events are, over a volume
+abbrev pub rules_by : {Core : Type 0} → (Core → Happening → Answer × Core) → (Core → State) → Rules Core
+rules_by step volume = record {
+  reply = λ s line. reply_text (answered step volume s (question_in line)).0;
+  after = λ s line. (answered step volume s (question_in line)).1;
+  long = reply_text (Answers (Refused LongLine));
 }
 
 -- over worlds, and over what a desk keeps
+abbrev pub volume_of : World → State
+volume_of w = state_of w.book
+
 abbrev pub world_rules : Rules World
-world_rules = rules_by outcome
+world_rules = rules_by outcome volume_of
+
+abbrev pub kept_volume : Kept → State
+kept_volume k = k.volume
 
 abbrev pub kept_rules : Rules Kept
-kept_rules = rules_by kept_outcome
+kept_rules = rules_by kept_outcome kept_volume
 
 -- a script begins with the root alone, which takes 1,000,000,000,000 changes
 abbrev pub script_world : World

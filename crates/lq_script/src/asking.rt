@@ -1,11 +1,12 @@
-//! From the bytes of a line to its event.
+//! From the bytes of a line to what it asks.
 ghost use Rattle.std.specs.Prelude.{◌≡◌, ◌⊎◌, IfOk, IfErr, Ok, Err};
 ghost use Rattle.serde_json.specs.View.{view};
 ghost use Rattle.lq_value.specs.declared.refusal.Refusal.TheVariants.{NoMemory};
-ghost use Rattle.lq_desk.specs.Reply.{happening_of};
-ghost use Rattle.lq_script.specs.Asked.{asked, given};
-ghost use Rattle.lq_script.specs.Request.{asks_set, value_for, asked_in, asked_of, asked_or, happening_for, happening_from, happening_in};
+ghost use Rattle.lq_desk.specs.World.{Changing};
+ghost use Rattle.lq_script.specs.Asked.{asked, given, question_of};
+ghost use Rattle.lq_script.specs.Request.{Happens, asks_set, value_for, asked_in, asked_of, asked_or, question_for, question_from, question_in};
 
+use crate::question::Question;
 use crate::request::{Request, request_in};
 use lq_desk::Event;
 use lq_predicate::read;
@@ -14,17 +15,17 @@ use lq_volume::Change;
 use serde_json::{Category, Value};
 use std::alloc::Global;
 
-/// The event that a line asks for, the line being without its LF and CR.
+/// What a line asks, the line being without its LF and CR.
 ///
 /// Refused: `NoMemory`; else, the first that fits, `NotUtf8`, `NotJson`, `BadLine` (no object, an
 /// unknown `do`, a field missing, of the wrong type or out of its range), then as the values are,
 /// `BadName` or `BadQuery`. The faults and their order are our own.
-pub fn event_in(alloc: Global, line: &[u8]) -> Result<Event, Refusal>
-    ensures value { IfOk result (λ event. happening_in line.now ≡ Ok (happening_of event)) }
-    ensures refused { IfErr result (λ e. (e ≡ NoMemory) ⊎ (happening_in line.now ≡ Err e)) }
+pub fn question_in(alloc: Global, line: &[u8]) -> Result<Question, Refusal>
+    ensures value { IfOk result (λ question. question_in line.now ≡ Ok (question_of question)) }
+    ensures refused { IfErr result (λ e. (e ≡ NoMemory) ⊎ (question_in line.now ≡ Err e)) }
 {
     let value = value_in(alloc, line)?;
-    Ok(event_of(alloc, &value)?)
+    Ok(question_of(alloc, &value)?)
 }
 
 // The JSON value that a line writes.
@@ -44,23 +45,23 @@ fn value_in(alloc: Global, line: &[u8]) -> Result<Value, Refusal>
     }
 }
 
-// The event of a line's JSON value.
-fn event_of(alloc: Global, value: &Value) -> Result<Event, Refusal>
-    ensures value { IfOk result (λ event.
-        happening_from (asked_or (asked_of (view value.now))) ≡ Ok (happening_of event)) }
+// What a line's JSON value asks.
+fn question_of(alloc: Global, value: &Value) -> Result<Question, Refusal>
+    ensures value { IfOk result (λ question.
+        question_from (asked_or (asked_of (view value.now))) ≡ Ok (question_of question)) }
     ensures refused { IfErr result (λ e. (e ≡ NoMemory)
-        ⊎ (happening_from (asked_or (asked_of (view value.now))) ≡ Err e)) }
+        ⊎ (question_from (asked_or (asked_of (view value.now))) ≡ Err e)) }
 {
     match request_in(value) {
         None => Err(Refusal::BadLine),
-        Some(request) => Ok(event_for(alloc, &request)?),
+        Some(request) => Ok(question_for(alloc, &request)?),
     }
 }
 
-// The event of a request, its values read.
-fn event_for(alloc: Global, request: &Request<'_>) -> Result<Event, Refusal>
-    ensures value { IfOk result (λ event. happening_for (asked request.now) ≡ Ok (happening_of event)) }
-    ensures refused { IfErr result (λ e. (e ≡ NoMemory) ⊎ (happening_for (asked request.now) ≡ Err e)) }
+// What a request asks, its values read.
+fn question_for(alloc: Global, request: &Request<'_>) -> Result<Question, Refusal>
+    ensures value { IfOk result (λ question. question_for (asked request.now) ≡ Ok (question_of question)) }
+    ensures refused { IfErr result (λ e. (e ≡ NoMemory) ⊎ (question_for (asked request.now) ≡ Err e)) }
 {
     match request {
         Request::Create {
@@ -69,32 +70,32 @@ fn event_for(alloc: Global, request: &Request<'_>) -> Result<Event, Refusal>
             kind,
             size,
             time,
-        } => Ok(Event::Change(Change::Create {
+        } => Ok(change(Change::Create {
             dir: *dir,
             name: Name::read(alloc, name)?,
             kind: *kind,
             size: *size,
             time: *time,
         })),
-        Request::Remove { node } => Ok(Event::Change(Change::Remove { node: *node })),
+        Request::Remove { node } => Ok(change(Change::Remove { node: *node })),
         Request::Move {
             node,
             dir,
             name,
             clobber,
-        } => Ok(Event::Change(Change::Move {
+        } => Ok(change(Change::Move {
             node: *node,
             dir: *dir,
             name: Name::read(alloc, name)?,
             clobber: *clobber,
         })),
-        Request::Write { node, size, time } => Ok(Event::Change(Change::Write {
+        Request::Write { node, size, time } => Ok(change(Change::Write {
             node: *node,
             size: *size,
             time: *time,
         })),
         Request::Set { node, attr, value } => Ok(setting(alloc, *node, attr, *value)?),
-        Request::Unset { node, attr } => Ok(Event::Change(Change::RemoveAttr {
+        Request::Unset { node, attr } => Ok(change(Change::RemoveAttr {
             node: *node,
             attr: AttrName::read(alloc, attr)?,
         })),
@@ -102,26 +103,42 @@ fn event_for(alloc: Global, request: &Request<'_>) -> Result<Event, Refusal>
             query,
             port,
             backlog,
-        } => Ok(Event::Open {
+            moved,
+        } => Ok(Question::Event(Event::Open {
             predicate: read(alloc, query)?,
             port: *port,
             backlog: *backlog,
-            moved: false,
+            moved: *moved,
+        })),
+        Request::Read { slot } => Ok(Question::Event(Event::Take(*slot))),
+        Request::Find { dir, name } => Ok(Question::Find {
+            dir: *dir,
+            name: Name::read(alloc, name)?,
         }),
-        Request::Read { slot } => Ok(Event::Take(*slot)),
+        Request::Entry { node } => Ok(Question::Entry { node: *node }),
+        Request::Fetch { query } => Ok(Question::Fetch {
+            predicate: read(alloc, query)?,
+        }),
     }
 }
 
-// The event that sets an attribute, its name read before its value.
-fn setting(alloc: Global, node: u64, attr: &str, value: View<'_>) -> Result<Event, Refusal>
-    ensures value { IfOk result (λ event.
-        happening_for (asks_set node attr.now (given value.entry)) ≡ Ok (happening_of event)) }
+// The question that makes a change.
+fn change(change: Change) -> Question
+    ensures { question_of result ≡ Happens (Changing change) }
+{
+    Question::Event(Event::Change(change))
+}
+
+// The question that sets an attribute, its name read before its value.
+fn setting(alloc: Global, node: u64, attr: &str, value: View<'_>) -> Result<Question, Refusal>
+    ensures value { IfOk result (λ question.
+        question_for (asks_set node attr.now (given value.entry)) ≡ Ok (question_of question)) }
     ensures refused { IfErr result (λ e. (e ≡ NoMemory)
-        ⊎ (happening_for (asks_set node attr.now (given value.entry)) ≡ Err e)) }
+        ⊎ (question_for (asks_set node attr.now (given value.entry)) ≡ Err e)) }
 {
     let attr = AttrName::read(alloc, attr)?;
     let value = typed(alloc, value)?;
-    Ok(Event::Change(Change::SetAttr { node, attr, value }))
+    Ok(change(Change::SetAttr { node, attr, value }))
 }
 
 // The value of an attribute that a line gives.

@@ -4,34 +4,134 @@ ghost use Rattle.serde_json.specs.View.{view, items_of};
 ghost use Rattle.serde_json.specs.Data.{array};
 ghost use Rattle.lq_value.specs.Refusal.{IsRefusedBy};
 ghost use Rattle.lq_desk.specs.Reply.{answer_of, answer_of_read};
+ghost use Rattle.lq_volume.specs.Lookup.{listed};
+ghost use Rattle.lq_script.specs.Answer.{response_of};
 ghost use Rattle.lq_script.specs.Lines.{Begins};
-ghost use Rattle.lq_script.specs.Reply.{answer_data, applied_data, empty_data, entry_data, message_data, opcode_name, opened_data, place_of, refusal_data, reply_text};
+ghost use Rattle.lq_script.specs.Reply.{answer_data, applied_data, attr_data, empty_data, entry_data, fetched_data, found_data, kind_name, listing_data, message_data, opcode_name, opened_data, place_of, refusal_data, reply_text, response_data, type_name, value_data};
 
+use crate::response::Response;
 use lq_desk::{Read, Reply};
 use lq_update::{Message, Opcode};
-use lq_value::{Entry, Refusal};
-use lq_volume::Applied;
+use lq_value::{AttrName, Entry, Kind, Refusal};
+use lq_volume::{Applied, Listing};
 use serde_json::{Value, json};
 use std::alloc::{AllocError, Global};
 
-/// Puts the text of a reply and LF behind `out`. Refused: `NoMemory`.
-pub fn put_reply(alloc: Global, out: &mut Vec<u8>, reply: &Reply) -> Result<(), Refusal>
+/// Puts the text of a response and LF behind `out`. Refused: `NoMemory`.
+pub fn put_reply(alloc: Global, out: &mut Vec<u8>, response: &Response) -> Result<(), Refusal>
     ensures refused { IsRefusedBy result None }
-    ensures ok { OnOk result (out.new.items ≡ out.old.items ++ reply_text (answer_of reply.now)) }
+    ensures ok { OnOk result (out.new.items
+        ≡ out.old.items ++ reply_text (response_of response.now)) }
     ensures err { OnErr result (Begins out.new.items out.old.items) }
 {
-    let text = line_of(alloc, reply)?;
+    let text = line_of(alloc, response)?;
     out.extend_from_slice(text.as_bytes())?;
     Ok(())
 }
 
-fn line_of(alloc: Global, reply: &Reply) -> Result<String, AllocError>
-    ensures { IfOk result (λ s. string_bytes s ≡ reply_text (answer_of reply.now)) }
+fn line_of(alloc: Global, response: &Response) -> Result<String, AllocError>
+    ensures { IfOk result (λ s. string_bytes s ≡ reply_text (response_of response.now)) }
 {
-    let value = reply_value(alloc, reply)?;
+    let value = response_value(alloc, response)?;
     let mut text = value.to_string(alloc)?;
     text.push('\n')?;
     Ok(text)
+}
+
+fn response_value(alloc: Global, response: &Response) -> Result<Value, AllocError>
+    ensures { IfOk result (λ v. view v ≡ response_data (response_of response.now)) }
+{
+    match response {
+        Response::Reply(reply) => reply_value(alloc, reply),
+        Response::Found { node } => found_value(alloc, *node),
+        Response::Listed { node, listing } => listing_value(alloc, *node, listing),
+        Response::Fetched {
+            at,
+            result: entries,
+        } => fetched_value(alloc, *at, entries),
+    }
+}
+
+fn found_value(alloc: Global, node: u64) -> Result<Value, AllocError>
+    ensures { IfOk result (λ v. view v ≡ found_data node) }
+{
+    json!(in alloc; {"node": node})
+}
+
+fn fetched_value(alloc: Global, at: u64, entries: &[Entry]) -> Result<Value, AllocError>
+    ensures { IfOk result (λ v. view v ≡ fetched_data at entries.now) }
+{
+    let list = entries_value(alloc, entries)?;
+    json!(in alloc; {"at": at, "result": list})
+}
+
+fn listing_value(alloc: Global, node: u64, listing: &Listing) -> Result<Value, AllocError>
+    ensures { IfOk result (λ v. view v ≡ listing_data node (listed listing.now)) }
+{
+    let attrs = attrs_value(alloc, &listing.attrs)?;
+    let kind = kind_name(listing.kind);
+    let name = listing.name.as_str();
+    json!(in alloc; {
+        "attrs": attrs,
+        "dir": listing.dir,
+        "kind": kind,
+        "name": name,
+        "node": node,
+        "size": listing.size,
+        "time": listing.time
+    })
+}
+
+fn kind_name(kind: Kind) -> &'static str
+    ensures { result.now ≡ kind_name kind }
+{
+    match kind {
+        Kind::File => "file",
+        Kind::Folder => "folder",
+    }
+}
+
+fn attrs_value(alloc: Global, attrs: &[(AttrName, lq_value::Value)]) -> Result<Value, AllocError>
+    ensures { IfOk result (λ v. view v ≡ array (items_of (map attr_data attrs.now))) }
+{
+    let mut items = Vec::new(alloc);
+    for attr in attrs {
+        items.push(attr_value(alloc, &attr.0, &attr.1)?)?;
+    }
+    Ok(Value::Array(items))
+}
+
+fn attr_value(alloc: Global, name: &AttrName, value: &lq_value::Value) -> Result<Value, AllocError>
+    ensures { IfOk result (λ v. view v ≡ attr_data (name.now, value.now)) }
+{
+    let name = name.as_str();
+    let kind = type_name(value);
+    let value = typed_value(alloc, value)?;
+    json!(in alloc; {"name": name, "type": kind, "value": value})
+}
+
+fn type_name(value: &lq_value::Value) -> &'static str
+    ensures { result.now ≡ type_name value.now }
+{
+    match value {
+        lq_value::Value::Text(_) => "CSTR",
+        lq_value::Value::Int32(_) => "LONG",
+        lq_value::Value::Int64(_) => "LLNG",
+        lq_value::Value::UInt32(_) => "ULNG",
+        lq_value::Value::UInt64(_) => "ULLG",
+    }
+}
+
+fn typed_value(alloc: Global, value: &lq_value::Value) -> Result<Value, AllocError>
+    ensures { IfOk result (λ v. view v ≡ value_data value.now) }
+{
+    match value {
+        lq_value::Value::Text(text) => Ok(Value::String(String::from_str(alloc, text.as_str())?)),
+        lq_value::Value::Int32(number) => Ok(Value::from(*number)),
+        lq_value::Value::Int64(number) => Ok(Value::from(*number)),
+        lq_value::Value::UInt32(number) => Ok(Value::from(*number)),
+        lq_value::Value::UInt64(number) => Ok(Value::from(*number)),
+    }
 }
 
 fn reply_value(alloc: Global, reply: &Reply) -> Result<Value, AllocError>

@@ -4,7 +4,7 @@ ghost use Rattle.std.specs.Option.{option_map};
 ghost use Rattle.lq_value.specs.declared.value.Value.TheVariants.{Int32, UInt32};
 ghost use Rattle.lq_value.specs.declared.kind.Kind.TheVariants.{File};
 ghost use Rattle.serde_json.specs.View.{view};
-ghost use Rattle.lq_script.specs.Request.{asked_by, asked_of, create_of, remove_of, move_of, write_of, set_of, unset_of, open_of, read_of, given_by, given_number, within_i32, within_u32, flag_or, needed_text, needed_u64, u64_or, i64_or, kind_named, kind_or};
+ghost use Rattle.lq_script.specs.Request.{asked_by, asked_of, create_of, remove_of, move_of, write_of, set_of, unset_of, open_of, read_of, find_of, entry_of, fetch_of, given_by, given_number, within_i32, within_u32, flag_or, needed_text, needed_u64, u64_or, i64_or, kind_named, kind_or};
 ghost use Rattle.lq_script.specs.Asked.{asked, given};
 
 use lq_value::{Kind, View};
@@ -47,9 +47,20 @@ pub enum Request<'a> {
         query: &'a str,
         port: u64,
         backlog: u64,
+        moved: bool,
     },
     Read {
         slot: u64,
+    },
+    Find {
+        dir: u64,
+        name: &'a str,
+    },
+    Entry {
+        node: u64,
+    },
+    Fetch {
+        query: &'a str,
     },
 }
 
@@ -66,6 +77,9 @@ pub fn request_in(value: &Value) -> Option<Request<'_>>
         "unset" => unset_in(value),
         "open" => open_in(value),
         "read" => read_in(value),
+        "find" => find_in(value),
+        "entry" => entry_in(value),
+        "fetch" => fetch_in(value),
         _ => None,
     }
 }
@@ -175,10 +189,12 @@ fn open_in(value: &Value) -> Option<Request<'_>>
     let query = value.get("query").and_then(Value::as_str)?;
     let port = value.get("port").and_then(Value::as_u64)?;
     let backlog = value.get("backlog").and_then(Value::as_u64)?;
+    let moved = bool_or_false(value.get("moved"))?;
     Some(Request::Open {
         query,
         port,
         backlog,
+        moved,
     })
 }
 
@@ -187,6 +203,28 @@ fn read_in(value: &Value) -> Option<Request<'_>>
 {
     let slot = value.get("slot").and_then(Value::as_u64)?;
     Some(Request::Read { slot })
+}
+
+fn find_in(value: &Value) -> Option<Request<'_>>
+    ensures { option_map asked result ≡ find_of (view value.now) }
+{
+    let name = value.get("name").and_then(Value::as_str)?;
+    let dir = u64_or(value.get("dir"), 1)?;
+    Some(Request::Find { dir, name })
+}
+
+fn entry_in(value: &Value) -> Option<Request<'_>>
+    ensures { option_map asked result ≡ entry_of (view value.now) }
+{
+    let node = value.get("node").and_then(Value::as_u64)?;
+    Some(Request::Entry { node })
+}
+
+fn fetch_in(value: &Value) -> Option<Request<'_>>
+    ensures { option_map asked result ≡ fetch_of (view value.now) }
+{
+    let query = value.get("query").and_then(Value::as_str)?;
+    Some(Request::Fetch { query })
 }
 
 // A whole number from 0 up, or the default where there is none.

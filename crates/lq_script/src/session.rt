@@ -2,15 +2,22 @@
 ghost use Rattle.std.specs.Prelude.{◌≡◌, IfOk, IfErr, OnOk};
 ghost use Rattle.lq_value.specs.declared.refusal.Refusal.TheVariants.{NoMemory};
 ghost use Rattle.lq_desk.specs.Desk.{kept_outcome};
-ghost use Rattle.lq_desk.specs.Reply.{answer_of};
-ghost use Rattle.lq_script.specs.Request.{happening_in};
-ghost use Rattle.lq_script.specs.Script.{answered};
+ghost use Rattle.lq_volume.specs.Result.{result_of};
+ghost use Rattle.lq_script.specs.Asked.{question_of};
+ghost use Rattle.lq_script.specs.Answer.{response_of};
+ghost use Rattle.lq_script.specs.Request.{question_in};
+ghost use Rattle.lq_script.specs.Response.{Fetched, answered, found_in, responds, shown_in};
+ghost use Rattle.lq_script.specs.Script.{kept_volume};
 
-use crate::asking::event_in;
+use crate::asking::question_in;
+use crate::question::Question;
 use crate::reply::put_reply;
 use crate::responder::Responder;
+use crate::response::Response;
 use lq_desk::{Desk, Reply};
-use lq_value::Refusal;
+use lq_predicate::Predicate;
+use lq_value::{Name, Refusal};
+use lq_volume::Volume;
 use std::alloc::Global;
 
 /// A desk that answers the lines of a script.
@@ -28,23 +35,72 @@ impl Session {
         Session { alloc, desk }
     }
 
-    // Carries out the event of a line, or answers why it has none.
-    fn answer(&mut self, line: &[u8]) -> Result<Reply, Refusal>
-        ensures reply { IfOk result (λ reply. answer_of reply ≡
-            (answered kept_outcome self.old.desk (happening_in line.now)).0) }
+    // What a line is answered: that of its question, or why it asks nothing.
+    fn answer(&mut self, line: &[u8]) -> Result<Response, Refusal>
+        ensures response { IfOk result (λ response. response_of response ≡
+            (answered kept_outcome kept_volume self.old.desk (question_in line.now)).0) }
         ensures after { OnOk result (self.new.desk ≡
-            (answered kept_outcome self.old.desk (happening_in line.now)).1) }
+            (answered kept_outcome kept_volume self.old.desk (question_in line.now)).1) }
         ensures memory { IfErr result (λ e. e ≡ NoMemory) }
     {
-        match event_in(self.alloc, line) {
-            Ok(event) => match self.desk.event(&event) {
-                Reply::Refused(Refusal::NoMemory) => Err(Refusal::NoMemory),
-                reply => Ok(reply),
-            },
+        match question_in(self.alloc, line) {
+            Ok(question) => Ok(self.respond_to(&question)?),
             Err(Refusal::NoMemory) => Err(Refusal::NoMemory),
-            Err(refusal) => Ok(Reply::Refused(refusal)),
+            Err(refusal) => Ok(Response::Reply(Reply::Refused(refusal))),
         }
     }
+
+    fn respond_to(&mut self, question: &Question) -> Result<Response, Refusal>
+        ensures response { IfOk result (λ response. response_of response ≡
+            (responds kept_outcome kept_volume self.old.desk (question_of question.now)).0) }
+        ensures after { OnOk result (self.new.desk ≡
+            (responds kept_outcome kept_volume self.old.desk (question_of question.now)).1) }
+        ensures memory { IfErr result (λ e. e ≡ NoMemory) }
+    {
+        match question {
+            Question::Event(event) => match self.desk.event(event) {
+                Reply::Refused(Refusal::NoMemory) => Err(Refusal::NoMemory),
+                reply => Ok(Response::Reply(reply)),
+            },
+            Question::Find { dir, name } => Ok(found_in(self.desk.volume(), *dir, name)),
+            Question::Entry { node } => Ok(shown_in(self.desk.volume(), *node)?),
+            Question::Fetch { predicate } => Ok(fetched_in(self.desk.volume(), predicate)?),
+        }
+    }
+}
+
+// What has a place.
+fn found_in(volume: &Volume, dir: u64, name: &Name) -> Response
+    ensures { response_of result ≡ found_in volume.now dir name.now }
+{
+    match volume.find(dir, name) {
+        Ok(node) => Response::Found { node },
+        Err(refusal) => Response::Reply(Reply::Refused(refusal)),
+    }
+}
+
+// The entry of a node.
+fn shown_in(volume: &Volume, node: u64) -> Result<Response, Refusal>
+    ensures response { IfOk result (λ response. response_of response ≡ shown_in volume.now node) }
+    ensures memory { IfErr result (λ e. e ≡ NoMemory) }
+{
+    match volume.listing(node) {
+        Ok(listing) => Ok(Response::Listed { node, listing }),
+        Err(Refusal::NoMemory) => Err(Refusal::NoMemory),
+        Err(refusal) => Ok(Response::Reply(Reply::Refused(refusal))),
+    }
+}
+
+// The entries that a predicate holds of.
+fn fetched_in(volume: &Volume, predicate: &Predicate) -> Result<Response, Refusal>
+    ensures response { IfOk result (λ response. response_of response
+        ≡ Fetched volume.now.number (result_of predicate.now volume.now)) }
+    ensures memory { IfErr result (λ e. e ≡ NoMemory) }
+{
+    Ok(Response::Fetched {
+        at: volume.changes(),
+        result: volume.fetch(predicate)?,
+    })
 }
 
 impl Responder for Session {
@@ -58,11 +114,15 @@ impl Responder for Session {
     ghost rules = { kept_rules };
 
     fn respond(&mut self, line: &[u8], out: &mut Vec<u8>) -> Result<(), Refusal> {
-        let reply = self.answer(line)?;
-        put_reply(self.alloc, out, &reply)
+        let response = self.answer(line)?;
+        put_reply(self.alloc, out, &response)
     }
 
     fn respond_long(&self, out: &mut Vec<u8>) -> Result<(), Refusal> {
-        put_reply(self.alloc, out, &Reply::Refused(Refusal::LongLine))
+        put_reply(
+            self.alloc,
+            out,
+            &Response::Reply(Reply::Refused(Refusal::LongLine)),
+        )
     }
 }

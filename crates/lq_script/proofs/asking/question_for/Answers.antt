@@ -1,7 +1,7 @@
 use Rattle.std.proofs.Common.{◌∙◌}
 use Rattle.std.proofs.lemmas.Result.{err_from_is_err_and}
-use Rattle.lq_script.proofs.RequestLemmas.{name-refused, opening-refused}
-use Rattle.lq_script.proofs.asking.event_for.Goals as goal
+use Rattle.lq_script.proofs.RequestLemmas.{fetching-refused, name-refused, opening-refused}
+use Rattle.lq_script.proofs.asking.question_for.Goals as goal
 
 pub returns-in_err-read-in-Create-clause-refused : goal.returns-in_err-read-in-Create-clause-refused
 returns-in_err-read-in-Create-clause-refused c =
@@ -21,4 +21,14 @@ returns-in_err-read-in-Unset-clause-refused c =
 pub returns-in_err-read-in-Open-clause-refused : goal.returns-in_err-read-in-Open-clause-refused
 returns-in_err-read-in-Open-clause-refused c =
     let p = err_from_is_err_and c.from_residual-in_err-read-in-Open.result c.from_residual-in_err-read-in-Open.ensures.1 in
-    rw (p.1, c.in-Open.is) (opening-refused _ _ _ _ (p.2 ∙ c.in_err-read-in-Open.ensures.refused.1))
+    rw (p.1, c.in-Open.is) (opening-refused _ _ _ _ _ (p.2 ∙ c.in_err-read-in-Open.ensures.refused.1))
+
+pub returns-in_err-read-in-Find-clause-refused : goal.returns-in_err-read-in-Find-clause-refused
+returns-in_err-read-in-Find-clause-refused c =
+    let p = err_from_is_err_and c.from_residual-in_err-read-in-Find.result c.from_residual-in_err-read-in-Find.ensures.1 in
+    rw (p.1, c.in-Find.is) (name-refused _ _ _ (p.2 ∙ c.in_err-read-in-Find.ensures.refused.1))
+
+pub returns-in_err-read-in-Fetch-clause-refused : goal.returns-in_err-read-in-Fetch-clause-refused
+returns-in_err-read-in-Fetch-clause-refused c =
+    let p = err_from_is_err_and c.from_residual-in_err-read-in-Fetch.result c.from_residual-in_err-read-in-Fetch.ensures.1 in
+    rw (p.1, c.in-Fetch.is) (fetching-refused _ _ (p.2 ∙ c.in_err-read-in-Fetch.ensures.refused.1))

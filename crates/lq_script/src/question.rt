@@ -1,0 +1,17 @@
+//! What a line asks of a session.
+use lq_desk::Event;
+use lq_predicate::Predicate;
+use lq_value::Name;
+
+/// What a line asks, its values read: an event of the core, or a look at the volume.
+#[derive(Debug, Drop)]
+pub enum Question {
+    /// The core carries out an event.
+    Event(Event),
+    /// The node that has a place.
+    Find { dir: u64, name: Name },
+    /// All of the entry of a node.
+    Entry { node: u64 },
+    /// The entries that a predicate holds of.
+    Fetch { predicate: Predicate },
+}
