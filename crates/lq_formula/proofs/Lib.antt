@@ -16,3 +16,4 @@ pub mod EncodedLemmas
 pub mod PatternTextLemmas
 pub mod CanonicalLemmas
 pub mod RoundLemmas
+pub mod RawLemmas
