@@ -17,3 +17,4 @@ pub mod PatternTextLemmas
 pub mod CanonicalLemmas
 pub mod RoundLemmas
 pub mod RawLemmas
+pub mod ExactLemmas
