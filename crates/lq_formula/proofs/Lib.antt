@@ -16,3 +16,5 @@ pub mod EncodedLemmas
 pub mod PatternTextLemmas
 pub mod CanonicalLemmas
 pub mod RoundLemmas
+pub mod RawLemmas
+pub mod ExactLemmas

@@ -10,9 +10,9 @@ use Rattle.lq_formula.specs.Reading.{reading_of}
 abbrev pub FormulasAreRead : Type 0
 FormulasAreRead = (text : List ℕ) (q : Query) → (reading_of text ≡ Ok q) ↔ Reads text q
 
--- where the reading is a place, the text's leftmost fault is there
+-- the reading of a text is a place just where the text's leftmost fault is there
 abbrev pub FaultsAreFound : Type 0
-FaultsAreFound = (text : List ℕ) (place : ℕ) → reading_of text ≡ Err place → IsFaulty text place
+FaultsAreFound = (text : List ℕ) (place : ℕ) → (reading_of text ≡ Err place) ↔ IsFaulty text place
 
 -- the canonical text of a query within the limits reads as that query
 abbrev pub CanonicalIsRead : Type 0

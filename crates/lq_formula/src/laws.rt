@@ -47,7 +47,8 @@ pub fn formulas_are_read()
     ensures { FormulasAreRead }
 {}
 
-/// Where the reading of a text is a place, the text's leftmost fault is there.
+/// The reading of a text is a place just where the text's leftmost fault is there: so a text has
+/// one such place at most, and none where it reads as a query.
 pub fn faults_are_found()
     ensures { FaultsAreFound }
 {}
