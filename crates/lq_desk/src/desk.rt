@@ -39,7 +39,12 @@ impl Model for Desk {
     ghost use Rattle.lq_desk.specs.Desk.{Kept, IsDesk};
     ghost use Rattle.lq_desk.specs.Held.{held_of};
 
+    ghost use Rattle.std.specs.Coded.{codes};
+    ghost use Rattle.lq_predicate.specs.QueryCode.{coded_query};
+
     ghost Value = { Kept };
+
+    ghost coded = { Prim.hlevel (codes, coded_query) };
 
     ghost view = { λ d. record { volume = d.volume; openings = d.openings; held = map held_of d.subs.items } };
 

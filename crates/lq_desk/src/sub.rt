@@ -30,7 +30,12 @@ impl Model for Sub {
     ghost use Rattle.std.specs.VecDeque.{deque_len, deque_capacity};
     ghost use Rattle.lq_desk.specs.Held.{Prepared};
 
+    ghost use Rattle.std.specs.Coded.{codes};
+    ghost use Rattle.lq_predicate.specs.QueryCode.{coded_query};
+
     ghost Value = { Prepared };
+
+    ghost coded = { Prim.hlevel (codes, coded_query) };
 
     ghost view = { λ s. record { held = record { query = s.predicate; moved = s.moved; sent = s.sent; waiting = s.waiting.items }; ready = s.ready.items } };
 

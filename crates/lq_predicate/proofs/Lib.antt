@@ -1,3 +1,4 @@
 pub mod FrontLemmas
 pub mod PartLemmas
 pub mod NameLemmas
+pub mod StackLemmas

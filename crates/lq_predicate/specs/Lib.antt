@@ -4,4 +4,7 @@ pub mod Node
 pub mod NodeFalls
 pub mod Truth
 pub mod Names
+pub mod Operand
+pub mod Stacked
+pub mod Stack
 pub mod Reads

@@ -7,10 +7,17 @@
 
 mod attributes;
 mod formula;
+mod item;
+mod operand;
 mod predicate;
+mod stack;
+mod stack_comparison;
+mod stack_op;
 mod truth;
 
 pub use attributes::names;
 pub use formula::read;
 pub use predicate::Predicate;
+pub use stack::Stack;
+pub use stack_op::StackOp;
 pub use truth::{Row, holds};

@@ -55,7 +55,9 @@ impl Model for Predicate {
 }
 
 impl Predicate {
-    ghost use Rattle.lq_formula.specs.Query.{Compare};
+    ghost use Rattle.lq_formula.specs.Query.{Compare, Not, And, Or, queries};
+    ghost use Rattle.lq_formula.specs.Canonical.{depth, comparisons};
+    ghost use Rattle.lq_predicate.specs.Limits.{is_predicate};
     ghost use Rattle.lq_predicate.specs.Truth.{truth};
     ghost use Rattle.lq_predicate.specs.Names.{attributes, each_once};
 
@@ -110,6 +112,71 @@ impl Predicate {
                     }
                 }
                 false
+            }
+        }
+    }
+
+    // `Not` of a predicate.
+    pub(crate) fn negation(part: Box<Predicate>) -> Predicate
+        requires { IsTrue (is_predicate (Not part.value)) }
+        ensures { result ≡ Not part.value }
+    {
+        Predicate {
+            node: Node::Not(part),
+        }
+    }
+
+    // `And` of two predicates or more.
+    pub(crate) fn all_of(parts: Vec<Predicate>) -> Predicate
+        requires { IsTrue (is_predicate (And (queries parts.items))) }
+        ensures { result ≡ And (queries parts.items) }
+    {
+        Predicate {
+            node: Node::And(parts),
+        }
+    }
+
+    // `Or` of two predicates or more.
+    pub(crate) fn some_of(parts: Vec<Predicate>) -> Predicate
+        requires { IsTrue (is_predicate (Or (queries parts.items))) }
+        ensures { result ≡ Or (queries parts.items) }
+    {
+        Predicate {
+            node: Node::Or(parts),
+        }
+    }
+
+    // How deep it is.
+    pub(crate) fn depth(&self) -> u64
+        ensures value { result ≡ depth self.now }
+        ensures valid { IsTrue (is_predicate self.now) }
+    {
+        match &self.node {
+            Node::Compare(_, _, _) => 1,
+            Node::Not(part) => part.depth() + 1,
+            Node::And(parts) | Node::Or(parts) => {
+                let mut deepest = 0;
+                for part in parts {
+                    deepest = deepest.max(part.depth());
+                }
+                deepest + 1
+            }
+        }
+    }
+
+    // How many comparisons it has.
+    pub(crate) fn comparisons(&self) -> u64
+        ensures { result ≡ comparisons self.now }
+    {
+        match &self.node {
+            Node::Compare(_, _, _) => 1,
+            Node::Not(part) => part.comparisons(),
+            Node::And(parts) | Node::Or(parts) => {
+                let mut count = 0;
+                for part in parts {
+                    count += part.comparisons();
+                }
+                count
             }
         }
     }
