@@ -1,7 +1,7 @@
 //! Laws of worlds and of their runs: each is the contract of a function that does nothing.
 ghost use Rattle.lq_world.specs.Laws.{EndedListsStay, EndsAddMarks, FirstWorldsAreFair, ListsArePassedOn, LiveListsGrow, RefusalsLeaveWorlds, RunsKeepWorldsFair, RunsMakeBooks, RunsTellReaders};
 
-use lq_update::{updates_grow, updates_join};
+use lq_update::{folds_give_results, updates_grow, updates_join, whole_folds_give_results};
 use lq_volume::changes_are_counted;
 
 /// A world without subscriptions is fair.
@@ -54,13 +54,17 @@ pub fn runs_make_books()
 {}
 
 /// What the takes of a subscription that a run opens give is a prefix of its query's update list
-/// from its opening on, over the changes that the run accepts, each message once and in order; the
-/// closing mark comes only after the whole list up to the change that it names, nothing follows it,
-/// and `Ended` is answered only after it.
+/// from its opening on, over the changes that the run accepts, each message once and in order.
+///
+/// The closing mark comes only after the whole list up to the change that it names, nothing follows
+/// it, and `Ended` is answered only after it. Wherever a change's last message is in, folding gives
+/// the query's result after that change; so it does before the mark, for the change that it names.
 pub fn readers_are_told()
     ensures { RunsTellReaders }
 {
     updates_join();
     updates_grow();
     changes_are_counted();
+    folds_give_results();
+    whole_folds_give_results();
 }
