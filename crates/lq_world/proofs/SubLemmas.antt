@@ -1,5 +1,5 @@
 -- What one event does to one subscription.
-use Rattle.std.proofs.Common.{◌≡◌, ℕ, zero, suc, ◌+◌, ◌-◌, ◌≤◌, List, [], ◌∷◌, ◌++◌, refl, ap, take, length, ◌∙◌, sym, arith, append_assoc, append-nil, length-append, Some, None, Option, inl, inr, map, Bool, true, false}
+use Rattle.std.proofs.Common.{◌≡◌, ℕ, zero, suc, ◌+◌, ◌-◌, ◌≤◌, List, [], ◌∷◌, ◌++◌, refl, ap, take, length, ◌∙◌, sym, arith, append_assoc, append-nil, length-append, length-drop, Some, None, Option, inl, inr, map, Bool, true, false}
 use Rattle.std.specs.Prelude.{slice_get, ◌⊎◌, ◌==◌, ◌&&◌, nat_lt, is_none, if◌then◌else◌}
 use Rattle.std.specs.List.{AllByRecursion}
 use Rattle.std.proofs.lemmas.Bool.Decides.{nat_tests}
@@ -189,7 +189,7 @@ module _ (join : UpdatesJoin) where
           port = h.port;
           held = λ is.
               let list : s.put ≤ length us = omega (arith, h.put, ap length (whole-live b s live), length-map (λ m. Update m) us) in
-              fits (held b s) (news b c s) (held d s) s.backlog room (h.held is) (omega (arith, before, after, news_is, list));
+              fits (held b s) (news b c s) (held d s) s.backlog room (h.held is) (omega (arith, before, after, news_is, list, length-drop s.put (told b s), length-drop s.put (told d s)));
         };
         more = parcels step;
         grows = grows;
@@ -257,7 +257,7 @@ putting-leaves b s h = by (can_put b s) refl
           taken = omega (arith, h.taken);
           put = omega (arith, there);
           port = omega (arith, room, h.taken);
-          held = λ live. omega (arith, h.held live);
+          held = λ live. omega (arith, h.held live, length-drop s.put (told b s), length-drop (s.put + 1) (told b s));
         }))
     by false is = leaves b s s h refl (keeps-self b s h)
 

@@ -1,5 +1,5 @@
 //! Laws of worlds and of their runs: each is the contract of a function that does nothing.
-ghost use Rattle.lq_world.specs.Laws.{EndedListsStay, EndsAddMarks, FirstWorldsAreFair, ListsArePassedOn, LiveListsGrow, RefusalsLeaveWorlds, RunsKeepWorldsFair, RunsMakeBooks, RunsTellReaders};
+ghost use Rattle.lq_world.specs.Laws.{EndedListsStay, EndsAddMarks, FirstWorldsAreFair, ListsArePassedOn, LiveListsGrow, PortsAreQueues, RefusalsLeaveWorlds, RunsKeepWorldsFair, RunsMakeBooks, RunsTellReaders};
 
 use lq_update::{folds_give_results, updates_grow, updates_join, whole_folds_give_results};
 use lq_volume::changes_are_counted;
@@ -45,6 +45,12 @@ pub fn ends_add_marks()
 /// mark that isn't put yet, is all that it is told.
 pub fn lists_are_passed_on()
     ensures { ListsArePassedOn }
+{}
+
+/// A port is a queue: a put moves the first of what is to come to its back, where it has room, and
+/// a take gives its front.
+pub fn ports_are_queues()
+    ensures { PortsAreQueues }
 {}
 
 /// The changes that a run accepts are a book from the state before it, and come to stand behind
