@@ -1,11 +1,8 @@
 -- What the readers of a run are told, by its events and answers alone.
-use Rattle.std.proofs.Common.{◌≡◌, ℕ, zero, suc, ◌+◌, ◌-◌, ◌≤◌, ◌<◌, List, [], ◌∷◌, ◌++◌, refl, ap, take, length, ◌∙◌, sym, subst, arith, append_assoc, length-append, Some, None, Option, inl, inr, Bool, true, false}
-use Rattle.std.specs.Prelude.{slice_get, slice_set, nat_le}
-use Rattle.std.proofs.lemmas.Bool.Decides.{nat_tests}
+use Rattle.std.proofs.Common.{◌≡◌, ℕ, zero, suc, ◌+◌, ◌-◌, ◌≤◌, ◌<◌, List, [], ◌∷◌, ◌++◌, refl, ap, take, length, ◌∙◌, sym, subst, arith, append_assoc, length-append, Some, None, Option, inl, inr, Bool}
+use Rattle.std.specs.Prelude.{slice_get, slice_set}
 use Rattle.lq_value.specs.declared.refusal.Refusal.{Refusal}
-use Rattle.lq_value.specs.declared.refusal.Refusal.TheVariants.{BadPort, BadBacklog, NoSlot, Exhausted}
 use Rattle.lq_value.specs.declared.entry.Entry.{Entry}
-use Rattle.lq_value.specs.Refusal.{first_refusal}
 use Rattle.lq_predicate.specs.Query.{Query}
 use Rattle.lq_volume.specs.Result.{result_of}
 use Rattle.lq_volume.specs.Laws.{ChangesCount}
@@ -23,7 +20,7 @@ use Rattle.lq_world.specs.Headline.{reads_of, parcels_in, updates_among, updates
 use Rattle.lq_world.proofs.WorldLemmas.{after_all-append, number-all, updates_of-rebased}
 use Rattle.lq_world.proofs.ListLemmas.{take-all, take-inside}
 use Rattle.lq_world.proofs.BookLemmas.{run-lawful}
-use Rattle.lq_world.proofs.FairLemmas.{opened-fair}
+use Rattle.lq_world.proofs.FairLemmas.{MayOpen, may_open, opened-fair}
 use Rattle.lq_world.proofs.ReadLemmas.{Stands, run-book}
 use Rattle.lq_world.proofs.RunLemmas.{AreTold, parcels_in-append, updates_among-append, run-ran, ran-reads}
 
@@ -51,29 +48,20 @@ slice_get-set_within [] i y h = absurd (omega arith)
 slice_get-set_within (x ∷ xs) zero y h = refl
 slice_get-set_within (x ∷ xs) (suc i) y h = slice_get-set_within xs i y (omega arith)
 
-a_slot_is_free : (a b c d : Bool) → first_refusal ((a, BadPort) ∷ (b, BadBacklog) ∷ (c, NoSlot) ∷ (d, Exhausted) ∷ []) ≡ None → c ≡ false
-a_slot_is_free a b false d h = refl
-a_slot_is_free true b true d h = absurd (let no : ⊥ = cc in no)
-a_slot_is_free false true true d h = absurd (let no : ⊥ = cc in no)
-a_slot_is_free false false true d h = absurd (let no : ⊥ = cc in no)
-
 pub record IsOpened (w : World) (s : Sub) (slot at : ℕ) (first : List Entry) (v : World) : Type 0 where
   pub slot_is : slot ≡ taken_before_free w.slots + 1
-  pub free : taken_before_free w.slots < length w.slots
+  pub may : MayOpen w s.port s.backlog
   pub at_is : at ≡ number_of w.book
   pub first_is : first ≡ result_of s.query (state_of w.book)
   pub world : v ≡ with_sub w s
 
-opened_facts : (w : World) (s : Sub) (r : Option Refusal) (slot at : ℕ) (first : List Entry) (v : World) → (r ≡ None → taken_before_free w.slots < length w.slots) → Opened slot at first ≡ (opening w s r).0 → v ≡ (opening w s r).1 → IsOpened w s slot at first v
-opened_facts w s (Some e) slot at first v free told is = absurd (let no : ⊥ = cc in no)
-opened_facts w s None slot at first v free told is = record { slot_is = cc; free = free refl; at_is = cc; first_is = cc; world = is }
+opened_facts : (w : World) (s : Sub) (r : Option Refusal) (slot at : ℕ) (first : List Entry) (v : World) → (r ≡ None → MayOpen w s.port s.backlog) → Opened slot at first ≡ (opening w s r).0 → v ≡ (opening w s r).1 → IsOpened w s slot at first v
+opened_facts w s (Some e) slot at first v may told is = absurd (let no : ⊥ = cc in no)
+opened_facts w s None slot at first v may told is = record { slot_is = cc; may = may refl; at_is = cc; first_is = cc; world = is }
 
 pub step_opened : (w : World) (q : Query) (port backlog : ℕ) (moved : Bool) (slot at : ℕ) (first : List Entry) (v : World) → Step w (Opening q port backlog moved) (Opened slot at first) v
     → IsOpened w (opened_now w q port backlog moved) slot at first v
-step_opened w q port backlog moved slot at first v (inl done) = opened_facts w (opened_now w q port backlog moved) (open_refusal w port backlog) slot at first v free done.0 done.1
-  where
-    free : open_refusal w port backlog ≡ None → taken_before_free w.slots < length w.slots
-    free none = let some = a_slot_is_free _ _ (nat_le (length w.slots) (taken_before_free w.slots)) _ none in grind (arith, nat_tests)
+step_opened w q port backlog moved slot at first v (inl done) = opened_facts w (opened_now w q port backlog moved) (open_refusal w port backlog) slot at first v (may_open w port backlog) done.0 done.1
 step_opened w q port backlog moved slot at first v (inr ran) = absurd (let e = ran.1 in let no : ⊥ = cc in no)
 
 -- ---- reads over another book with the same lists
@@ -126,7 +114,7 @@ module _ (join : UpdatesJoin) (grow : UpdatesGrow) (count : ChangesCount) (fold 
       let is = step_opened w q port backlog moved slot at first run.0 run.1 in
       let i = taken_before_free w.slots in
       let goes : Run (with_sub w s) events answers end = subst (λ (u : World). Run u events answers end) is.world run.2 in
-      let stands : Stands (with_sub w s) i s = record { here = slice_get-set_within w.slots i (Some s) is.free; fair = opened-fair w q port backlog moved } in
+      let stands : Stands (with_sub w s) i s = record { here = slice_get-set_within w.slots i (Some s) is.may.free; fair = opened-fair w q port backlog moved is.may } in
       let reads = ran-reads grow w.book s end.book _ refl (run-ran join (with_sub w s) i s events answers end stands goes) in (
         is.at_is,
         is.first_is,

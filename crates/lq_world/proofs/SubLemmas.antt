@@ -103,6 +103,9 @@ keeps-end b s cause h live =
       same = record { query = refl; moved = refl; opened = refl };
       fair = record {
         begun = h.begun;
+        places = h.places;
+        most = h.most;
+        backlog = h.backlog;
         opened = omega (arith, h.opened, h.covered);
         covered = omega arith;
         taken = h.taken;
@@ -128,6 +131,9 @@ keeps-ended b cs s e h is =
       same = record { query = refl; moved = refl; opened = refl };
       fair = record {
         begun = h.begun;
+        places = h.places;
+        most = h.most;
+        backlog = h.backlog;
         opened = omega (arith, h.opened, to, far);
         covered = omega (arith, h.covered, to, far, length-append b.changes cs);
         taken = h.taken;
@@ -182,6 +188,9 @@ module _ (join : UpdatesJoin) where
         same = record { query = refl; moved = refl; opened = refl };
         fair = record {
           begun = h.begun;
+          places = h.places;
+          most = h.most;
+          backlog = h.backlog;
           opened = omega (arith, h.opened, to, far, length-append b.changes (c ∷ []));
           covered = omega (arith, far);
           taken = h.taken;
@@ -252,6 +261,9 @@ putting-leaves b s h = by (can_put b s) refl
         let there = lt-true _ _ tests.1 in
         leaves b s (one_more_put s) h refl (keeps-same b s (one_more_put s) (record { query = refl; moved = refl; opened = refl }) refl refl (record {
           begun = h.begun;
+          places = h.places;
+          most = h.most;
+          backlog = h.backlog;
           opened = h.opened;
           covered = h.covered;
           taken = omega (arith, h.taken);
@@ -264,6 +276,9 @@ putting-leaves b s h = by (can_put b s) refl
 pub hanging_up-leaves : (b : Book) (s : Sub) → IsFair b s → Leaves b s [] (hanging_up s).1
 hanging_up-leaves b s h = leaves b s (with_asked s) h refl (keeps-same b s (with_asked s) (record { query = refl; moved = refl; opened = refl }) refl refl (record {
   begun = h.begun;
+  places = h.places;
+  most = h.most;
+  backlog = h.backlog;
   opened = h.opened;
   covered = h.covered;
   taken = h.taken;
@@ -335,6 +350,9 @@ taking-leaves b s h = by (first_in_port b s) refl
           does = record {
             keeps = keeps-same b s (one_more_taken s) (record { query = refl; moved = refl; opened = refl }) refl refl (record {
               begun = h.begun;
+              places = h.places;
+              most = h.most;
+              backlog = h.backlog;
               opened = h.opened;
               covered = h.covered;
               taken = omega (arith, there);

@@ -20,6 +20,10 @@ FirstWorldsAreFair = (b : Book) → IsFairWorld (first_world b)
 abbrev pub RunsKeepWorldsFair : Type 0
 RunsKeepWorldsFair = (w end : World) (events : List Happening) (answers : List Answer) → IsFairWorld w → Run w events answers end → IsFairWorld end
 
+-- and has as many slots
+abbrev pub RunsKeepSlots : Type 0
+RunsKeepSlots = (w end : World) (events : List Happening) (answers : List Answer) → Run w events answers end → length end.slots ≡ length w.slots
+
 -- a refused event leaves the world as it was
 abbrev pub RefusalsLeaveWorlds : Type 0
 RefusalsLeaveWorlds = (w : World) (e : Happening) (r : Refusal) → answer w e ≡ Refused r → next w e ≡ w

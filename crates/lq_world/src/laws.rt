@@ -1,5 +1,5 @@
 //! Laws of worlds and of their runs: each is the contract of a function that does nothing.
-ghost use Rattle.lq_world.specs.Laws.{EndedListsStay, EndsAddMarks, FirstWorldsAreFair, ListsArePassedOn, LiveListsGrow, PortsAreQueues, RefusalsLeaveWorlds, RunsKeepWorldsFair, RunsMakeBooks, RunsTellReaders};
+ghost use Rattle.lq_world.specs.Laws.{EndedListsStay, EndsAddMarks, FirstWorldsAreFair, ListsArePassedOn, LiveListsGrow, PortsAreQueues, RefusalsLeaveWorlds, RunsKeepSlots, RunsKeepWorldsFair, RunsMakeBooks, RunsTellReaders};
 
 use lq_update::{folds_give_results, updates_grow, updates_join, whole_folds_give_results};
 use lq_volume::changes_are_counted;
@@ -11,12 +11,17 @@ pub fn first_worlds_are_fair()
 
 /// A run leaves a fair world fair: of each subscription no more was taken than was put, no more
 /// put than its list has, no more than its port waits, and while it is live no more than its
-/// backlog is held.
+/// backlog is held; its port and backlog are within their limits.
 pub fn runs_keep_worlds_fair()
     ensures { RunsKeepWorldsFair }
 {
     updates_join();
 }
+
+/// A run leaves as many slots as there were.
+pub fn runs_keep_slots()
+    ensures { RunsKeepSlots }
+{}
 
 /// A refused event leaves the world as it was.
 pub fn refusals_leave_worlds()
