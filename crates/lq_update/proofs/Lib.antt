@@ -5,4 +5,5 @@ pub mod EntryLemmas
 pub mod PlaceLemmas
 pub mod FoldLemmas
 pub mod FoldLaws
+pub mod PassingOver
 mod Example

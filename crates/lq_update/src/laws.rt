@@ -1,5 +1,5 @@
 //! Laws of the update lists: each is the contract of a function with no body.
-ghost use Rattle.lq_update.specs.Laws.{FoldsGiveResults, MessagesFitIn, ResultsRise, StepsAreFew, UpdatesGrow, UpdatesJoin, WholeFoldsGiveResults};
+ghost use Rattle.lq_update.specs.Laws.{ChangesPassOver, FoldsGiveResults, MessagesFitIn, ResultsRise, StepsAreFew, UpdatesGrow, UpdatesJoin, WholeFoldsGiveResults};
 
 use lq_volume::{
     accepted_changes_keep_trees, changes_are_counted, clobbered_nodes_go, untouched_nodes_stay,
@@ -52,3 +52,11 @@ pub fn messages_fit_in()
 {
     accepted_changes_keep_trees();
 }
+
+/// A write tells nothing to a predicate that names neither `size` nor `last_modified`, nor does a
+/// setting or unsetting of an attribute that it doesn't name: the passing-over law.
+///
+/// It is stated over any list of names that the truth of the predicate goes by.
+pub fn changes_pass_over()
+    ensures { ChangesPassOver }
+{}

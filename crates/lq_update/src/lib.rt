@@ -11,11 +11,13 @@ mod mark;
 mod message;
 mod parcel;
 mod rebuild;
+#[cfg(test)]
+mod tests;
 mod touched;
 
 pub use laws::{
-    folds_give_results, messages_fit_in, results_rise, steps_are_few, updates_grow, updates_join,
-    whole_folds_give_results,
+    changes_pass_over, folds_give_results, messages_fit_in, results_rise, steps_are_few,
+    updates_grow, updates_join, whole_folds_give_results,
 };
 pub use mark::{Cause, Mark};
 pub use message::{Message, Opcode};
