@@ -35,7 +35,7 @@ step-lawful : (w : World) (e : Happening) (a : Answer) (v : World) → Step w e 
 step-lawful w e a v (inl done) = subst (λ (b : Answer). AreLawful (state_of w.book) (accepted_by e b)) (sym done.0) (outcome-lawful w e)
 step-lawful w e a v (inr ran) = subst (λ (cs : List Change_). AreLawful (state_of w.book) cs) (sym (ap (accepted_by e) ran.1 ∙ accepted_by-refused e _)) tt
 
-run-lawful : (w end : World) (events : List Happening) (answers : List Answer) → Run w events answers end → AreLawful (state_of w.book) (accepted events answers)
+pub run-lawful : (w end : World) (events : List Happening) (answers : List Answer) → Run w events answers end → AreLawful (state_of w.book) (accepted events answers)
 run-lawful w end [] [] run = tt
 run-lawful w end [] (a ∷ answers) run = absurd run
 run-lawful w end (e ∷ events) [] run = absurd run

@@ -1,5 +1,5 @@
 -- What the takes of a subscription are answered over a run from its opening on.
-use Rattle.std.proofs.Common.{◌≡◌, ℕ, zero, suc, ◌+◌, ◌-◌, List, [], ◌∷◌, ◌++◌, refl, ap, take, drop, length, ◌∙◌, sym, subst, arith, append_assoc, append-nil, Some, None, Option, inl, inr, Bool, true, false}
+use Rattle.std.proofs.Common.{◌≡◌, ℕ, zero, suc, ◌+◌, ◌-◌, ◌≤◌, List, [], ◌∷◌, ◌++◌, refl, ap, take, drop, length, ◌∙◌, sym, subst, arith, append_assoc, append-nil, Some, None, Option, inl, inr, Bool, true, false}
 use Rattle.std.specs.Prelude.{◌⊎◌, ◌==◌, if◌then◌else◌}
 use Rattle.std.specs.List.{AllByRecursion}
 use Rattle.lq_formula.specs.Query.{Query}
@@ -14,7 +14,7 @@ use Rattle.lq_world.specs.World.{World, Sub, End, covered, covered_by, told, mar
 use Rattle.lq_world.specs.Events.{Happening, Changing, Opening, Putting, Taking, HangingUp, Noticing, Closing, Finishing, Answer, Took, Ended}
 use Rattle.lq_world.specs.Runs.{Run}
 use Rattle.lq_world.specs.Fair.{IsFair}
-use Rattle.lq_world.specs.Headline.{read_by, reads_of, parcel_in, parcels_in, updates_among, updates_in, accepted, AreReads, HasMark}
+use Rattle.lq_world.specs.Headline.{read_by, reads_of, parcel_in, parcels_in, updates_among, updates_in, accepted, HasMark}
 use Rattle.lq_world.proofs.ListLemmas.{all-append, take-all, take-drop}
 use Rattle.lq_world.proofs.SubLemmas.{parcels, IsSame, IsOver, IsEnded, Reads, keeps-ended, reads-nothing, reads-self, taken_within}
 use Rattle.lq_world.proofs.ReadLemmas.{Stands, Passes, step-goes, run-book}
@@ -48,7 +48,7 @@ ran-nothing b s d t r = record {
   shown = λ front rest is. absurd (no_place front rest Ended is);
 }
 
-parcels_in-append : (xs ys : List Answer) → parcels_in (xs ++ ys) ≡ parcels_in xs ++ parcels_in ys
+pub parcels_in-append : (xs ys : List Answer) → parcels_in (xs ++ ys) ≡ parcels_in xs ++ parcels_in ys
 parcels_in-append [] ys = refl
 parcels_in-append (x ∷ xs) ys = ap (λ ps. parcel_in x ++ ps) (parcels_in-append xs ys) ∙ sym (append_assoc (parcel_in x) (parcels_in xs) (parcels_in ys))
 
@@ -150,6 +150,11 @@ module _ (join : UpdatesJoin) where
 
 -- ---- from parcels to updates
 
+pub updates_among-append : (xs ys : List Parcel) → updates_among (xs ++ ys) ≡ updates_among xs ++ updates_among ys
+updates_among-append [] ys = refl
+updates_among-append (Update m ∷ xs) ys = ap (λ ms. m ∷ ms) (updates_among-append xs ys)
+updates_among-append (Fin mark ∷ xs) ys = updates_among-append xs ys
+
 -- the updates of a front of a list are a front of its updates
 updates_among-take : (us : List Message) (n k : ℕ) (o : Option End) → updates_among (take n (parcels us ++ mark_behind k o)) ≡ take n us
 updates_among-take [] zero k o = refl
@@ -205,7 +210,18 @@ updates-prefix grow q moved b m n (suc k) =
     (prefix-more _ _ _ (updates-prefix grow q moved b m n k) (grow q moved b m (n + k)))
 
 -- ---- the reads of a subscription from its opening on
-pub ran-reads : UpdatesGrow → (b : Book) (s : Sub) (d : Book) (reads : List Answer) → s.taken ≡ 0 → Ran b s d reads → AreReads d s.query s.moved s.opened reads
+
+-- what they are, but for folding
+pub record AreTold (b : Book) (q : Query) (moved : Bool) (at : ℕ) (reads : List Answer) : Type 0 where
+  pub prefix : IsPrefixOf (updates_in reads) (updates_of q moved b at (number_of b))
+  pub mark : (front rest : List Answer) (m : Mark) → reads ≡ front ++ Took (Fin m) ∷ rest →
+      (at ≤ m.change) × (m.change ≤ number_of b)
+      × (updates_in front ≡ updates_of q moved b at m.change)
+      × (m.seq ≡ length (updates_in front) + 1)
+      × AllByRecursion IsEnded rest
+  pub ended : (front rest : List Answer) → reads ≡ front ++ Ended ∷ rest → HasMark front
+
+pub ran-reads : UpdatesGrow → (b : Book) (s : Sub) (d : Book) (reads : List Answer) → s.taken ≡ 0 → Ran b s d reads → AreTold d s.query s.moved s.opened reads
 ran-reads grow b s d reads none ran =
     let t = ran.sub in
     let us = updates_of s.query s.moved d s.opened (covered d t) in

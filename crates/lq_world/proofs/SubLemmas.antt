@@ -1,5 +1,5 @@
 -- What one event does to one subscription.
-use Rattle.std.proofs.Common.{◌≡◌, ℕ, zero, suc, ◌+◌, ◌-◌, ◌≤◌, List, [], ◌∷◌, ◌++◌, refl, ap, take, length, ◌∙◌, sym, arith, append_assoc, append-nil, length-append, Some, None, Option, inl, inr, map, Bool, true, false}
+use Rattle.std.proofs.Common.{◌≡◌, ℕ, zero, suc, ◌+◌, ◌-◌, ◌≤◌, List, [], ◌∷◌, ◌++◌, refl, ap, take, length, ◌∙◌, sym, arith, append_assoc, append-nil, length-append, length-drop, Some, None, Option, inl, inr, map, Bool, true, false}
 use Rattle.std.specs.Prelude.{slice_get, ◌⊎◌, ◌==◌, ◌&&◌, nat_lt, is_none, if◌then◌else◌}
 use Rattle.std.specs.List.{AllByRecursion}
 use Rattle.std.proofs.lemmas.Bool.Decides.{nat_tests}
@@ -103,6 +103,9 @@ keeps-end b s cause h live =
       same = record { query = refl; moved = refl; opened = refl };
       fair = record {
         begun = h.begun;
+        places = h.places;
+        most = h.most;
+        backlog = h.backlog;
         opened = omega (arith, h.opened, h.covered);
         covered = omega arith;
         taken = h.taken;
@@ -128,6 +131,9 @@ keeps-ended b cs s e h is =
       same = record { query = refl; moved = refl; opened = refl };
       fair = record {
         begun = h.begun;
+        places = h.places;
+        most = h.most;
+        backlog = h.backlog;
         opened = omega (arith, h.opened, to, far);
         covered = omega (arith, h.covered, to, far, length-append b.changes cs);
         taken = h.taken;
@@ -182,6 +188,9 @@ module _ (join : UpdatesJoin) where
         same = record { query = refl; moved = refl; opened = refl };
         fair = record {
           begun = h.begun;
+          places = h.places;
+          most = h.most;
+          backlog = h.backlog;
           opened = omega (arith, h.opened, to, far, length-append b.changes (c ∷ []));
           covered = omega (arith, far);
           taken = h.taken;
@@ -189,7 +198,7 @@ module _ (join : UpdatesJoin) where
           port = h.port;
           held = λ is.
               let list : s.put ≤ length us = omega (arith, h.put, ap length (whole-live b s live), length-map (λ m. Update m) us) in
-              fits (held b s) (news b c s) (held d s) s.backlog room (h.held is) (omega (arith, before, after, news_is, list));
+              fits (held b s) (news b c s) (held d s) s.backlog room (h.held is) (omega (arith, before, after, news_is, list, length-drop s.put (told b s), length-drop s.put (told d s)));
         };
         more = parcels step;
         grows = grows;
@@ -252,18 +261,24 @@ putting-leaves b s h = by (can_put b s) refl
         let there = lt-true _ _ tests.1 in
         leaves b s (one_more_put s) h refl (keeps-same b s (one_more_put s) (record { query = refl; moved = refl; opened = refl }) refl refl (record {
           begun = h.begun;
+          places = h.places;
+          most = h.most;
+          backlog = h.backlog;
           opened = h.opened;
           covered = h.covered;
           taken = omega (arith, h.taken);
           put = omega (arith, there);
           port = omega (arith, room, h.taken);
-          held = λ live. omega (arith, h.held live);
+          held = λ live. omega (arith, h.held live, length-drop s.put (told b s), length-drop (s.put + 1) (told b s));
         }))
     by false is = leaves b s s h refl (keeps-self b s h)
 
 pub hanging_up-leaves : (b : Book) (s : Sub) → IsFair b s → Leaves b s [] (hanging_up s).1
 hanging_up-leaves b s h = leaves b s (with_asked s) h refl (keeps-same b s (with_asked s) (record { query = refl; moved = refl; opened = refl }) refl refl (record {
   begun = h.begun;
+  places = h.places;
+  most = h.most;
+  backlog = h.backlog;
   opened = h.opened;
   covered = h.covered;
   taken = h.taken;
@@ -335,6 +350,9 @@ taking-leaves b s h = by (first_in_port b s) refl
           does = record {
             keeps = keeps-same b s (one_more_taken s) (record { query = refl; moved = refl; opened = refl }) refl refl (record {
               begun = h.begun;
+              places = h.places;
+              most = h.most;
+              backlog = h.backlog;
               opened = h.opened;
               covered = h.covered;
               taken = omega (arith, there);

@@ -1,7 +1,7 @@
 //! Laws of worlds and of their runs: each is the contract of a function that does nothing.
-ghost use Rattle.lq_world.specs.Laws.{EndedListsStay, EndsAddMarks, FirstWorldsAreFair, ListsArePassedOn, LiveListsGrow, RefusalsLeaveWorlds, RunsKeepWorldsFair, RunsMakeBooks, RunsTellReaders};
+ghost use Rattle.lq_world.specs.Laws.{EndedListsStay, EndsAddMarks, FirstWorldsAreFair, ListsArePassedOn, LiveListsGrow, PortsAreQueues, RefusalsLeaveWorlds, RunsKeepSlots, RunsKeepWorldsFair, RunsMakeBooks, RunsTellReaders};
 
-use lq_update::{updates_grow, updates_join};
+use lq_update::{folds_give_results, updates_grow, updates_join, whole_folds_give_results};
 use lq_volume::changes_are_counted;
 
 /// A world without subscriptions is fair.
@@ -11,12 +11,17 @@ pub fn first_worlds_are_fair()
 
 /// A run leaves a fair world fair: of each subscription no more was taken than was put, no more
 /// put than its list has, no more than its port waits, and while it is live no more than its
-/// backlog is held.
+/// backlog is held; its port and backlog are within their limits.
 pub fn runs_keep_worlds_fair()
     ensures { RunsKeepWorldsFair }
 {
     updates_join();
 }
+
+/// A run leaves as many slots as there were.
+pub fn runs_keep_slots()
+    ensures { RunsKeepSlots }
+{}
 
 /// A refused event leaves the world as it was.
 pub fn refusals_leave_worlds()
@@ -47,6 +52,12 @@ pub fn lists_are_passed_on()
     ensures { ListsArePassedOn }
 {}
 
+/// A port is a queue: a put moves the first of what is to come to its back, where it has room, and
+/// a take gives its front.
+pub fn ports_are_queues()
+    ensures { PortsAreQueues }
+{}
+
 /// The changes that a run accepts are a book from the state before it, and come to stand behind
 /// those that the world's book had.
 pub fn runs_make_books()
@@ -54,13 +65,17 @@ pub fn runs_make_books()
 {}
 
 /// What the takes of a subscription that a run opens give is a prefix of its query's update list
-/// from its opening on, over the changes that the run accepts, each message once and in order; the
-/// closing mark comes only after the whole list up to the change that it names, nothing follows it,
-/// and `Ended` is answered only after it.
+/// from its opening on, over the changes that the run accepts, each message once and in order.
+///
+/// The closing mark comes only after the whole list up to the change that it names, nothing follows
+/// it, and `Ended` is answered only after it. Wherever a change's last message is in, folding gives
+/// the query's result after that change; so it does before the mark, for the change that it names.
 pub fn readers_are_told()
     ensures { RunsTellReaders }
 {
     updates_join();
     updates_grow();
     changes_are_counted();
+    folds_give_results();
+    whole_folds_give_results();
 }
