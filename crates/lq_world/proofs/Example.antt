@@ -4,15 +4,9 @@ use Rattle.std.specs.Prelude.{codes}
 use Rattle.lq_value.specs.declared.op.Op.TheVariants.{Ge}
 use Rattle.lq_value.specs.declared.literal.Literal.TheVariants.{Plain}
 use Rattle.lq_value.specs.declared.kind.Kind.TheVariants.{File}
-<<<<<<< HEAD
-use Rattle.lq_value.specs.declared.refusal.Refusal.TheVariants.{NotOpen}
-use Rattle.lq_formula.specs.Query.{Query, Compare}
-use Rattle.lq_volume.specs.declared.change.Change.TheVariants.{Create}
-=======
 use Rattle.lq_value.specs.declared.refusal.Refusal.TheVariants.{BadPort, BadBacklog, NoSlot, NotOpen, StillOpen, Exhausted}
 use Rattle.lq_formula.specs.Query.{Query, Compare}
 use Rattle.lq_volume.specs.declared.change.Change.TheVariants.{Create, Move}
->>>>>>> world
 use Rattle.lq_volume.specs.State.{empty_state}
 use Rattle.lq_update.specs.declared.message.Message.{Message}
 use Rattle.lq_update.specs.declared.message.Opcode.TheVariants.{Created, Moved as MovedFrom}

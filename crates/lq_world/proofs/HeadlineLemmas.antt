@@ -3,12 +3,7 @@ use Rattle.std.proofs.Common.{◌≡◌, ℕ, zero, suc, ◌+◌, ◌-◌, ◌�
 use Rattle.std.specs.Prelude.{slice_get, slice_set}
 use Rattle.lq_value.specs.declared.refusal.Refusal.{Refusal}
 use Rattle.lq_value.specs.declared.entry.Entry.{Entry}
-<<<<<<< HEAD
-use Rattle.lq_value.specs.Refusal.{first_refusal}
 use Rattle.lq_formula.specs.Query.{Query}
-=======
-use Rattle.lq_formula.specs.Query.{Query}
->>>>>>> world
 use Rattle.lq_volume.specs.Result.{result_of}
 use Rattle.lq_volume.specs.Laws.{ChangesCount}
 use Rattle.lq_volume.specs.State.{State}
