@@ -1,1 +1,4 @@
+pub mod ListLemmas
+pub mod UpdateLemmas
 pub mod HeldLemmas
+pub mod SlotLemmas
