@@ -2,3 +2,4 @@ pub mod ListLemmas
 pub mod UpdateLemmas
 pub mod HeldLemmas
 pub mod SlotLemmas
+pub mod Shown

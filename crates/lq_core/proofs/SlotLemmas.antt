@@ -27,7 +27,7 @@ use Rattle.lq_core.proofs.UpdateLemmas.{updates_of-stays, updates_of-change}
 abbrev parcels : List Message → List Parcel
 parcels messages = map (λ m. Update m) messages
 
-abbrev kept_with : Sub → ℕ → List Message → Option Mark → Bool → List Parcel → KeptSlot
+abbrev pub kept_with : Sub → ℕ → List Message → Option Mark → Bool → List Parcel → KeptSlot
 kept_with s n messages mark mark_out queue = record {
   held = record { query = s.query; moved = s.moved; opened = s.opened; backlog = s.backlog; sent = n; messages = messages; mark = mark; mark_out = mark_out };
   port = s.port;
@@ -35,7 +35,7 @@ kept_with s n messages mark mark_out queue = record {
   asked = s.asked;
 }
 
-kept_alike : (s : Sub) (m n : ℕ) (ms ns : List Message) (o p : Option Mark) (x y : Bool) (ps qs : List Parcel) → m ≡ n → ms ≡ ns → o ≡ p → x ≡ y → ps ≡ qs
+pub kept_alike : (s : Sub) (m n : ℕ) (ms ns : List Message) (o p : Option Mark) (x y : Bool) (ps qs : List Parcel) → m ≡ n → ms ≡ ns → o ≡ p → x ≡ y → ps ≡ qs
     → kept_with s m ms o x ps ≡ kept_with s n ns p y qs
 kept_alike s m n ms ns o p x y ps qs a b c d e = cc
 
