@@ -1,1 +1,5 @@
+pub mod ListLemmas
+pub mod UpdateLemmas
 pub mod HeldLemmas
+pub mod SlotLemmas
+pub mod Shown

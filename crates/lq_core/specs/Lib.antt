@@ -1,2 +1,6 @@
 pub mod Held
+pub mod Slot
+pub mod Act
+pub mod Kept
+pub mod Reply
 pub mod Laws

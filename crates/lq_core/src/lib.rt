@@ -4,8 +4,11 @@
 //! mark (`specs/Held`). Nothing here waits. Begin with `sub`.
 #![tactic(auto)]
 
+mod event;
 mod laws;
+mod slot;
 mod sub;
 
+pub use event::{Event, Read, Reply};
 pub use laws::putting_back_undoes;
 pub use sub::Sub;

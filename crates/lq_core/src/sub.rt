@@ -85,6 +85,13 @@ impl Sub {
         self.mark.is_none()
     }
 
+    /// Whether its mark went out. It takes no memory.
+    pub fn is_marked(&self) -> bool
+        ensures { result ≡ self.now.held.mark_out }
+    {
+        self.mark_out
+    }
+
     /// Makes the messages of a change, and room for them; it holds what it held.
     ///
     /// Refused: `NoMemory`.

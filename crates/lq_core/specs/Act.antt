@@ -1,0 +1,20 @@
+-- What may be done at one slot, with the number of changes so far.
+use Rattle.std.specs.Prelude.{ℕ, Option, Some, None}
+use Rattle.lq_value.specs.declared.refusal.Refusal.TheVariants.{NotOpen}
+use Rattle.lq_world.specs.Events.{Answer, Refused}
+use Rattle.lq_core.specs.declared.slot.Act.{Act}
+use Rattle.lq_core.specs.declared.slot.Act.TheVariants as act
+use Rattle.lq_core.specs.Slot.{KeptSlot, put_slot, take_slot, ask_slot, notice_slot, close_slot, finish_slot}
+
+abbrev pub act_of : ℕ → Act → KeptSlot → Answer × Option KeptSlot
+act_of number act.Put = put_slot
+act_of number act.Take = take_slot
+act_of number act.HangUp = ask_slot
+act_of number act.Notice = notice_slot number
+act_of number act.Close = close_slot number
+act_of number act.Finish = finish_slot
+
+-- at a slot that may be free
+abbrev pub outcome_at : ℕ → Act → Option KeptSlot → Answer × Option KeptSlot
+outcome_at number a None = (Refused NotOpen, None)
+outcome_at number a (Some k) = act_of number a k
