@@ -36,7 +36,12 @@ impl Model for Sub {
     ghost use Rattle.std.specs.VecDeque.{deque_len, deque_capacity};
     ghost use Rattle.lq_core.specs.Held.{Prepared};
 
+    ghost use Rattle.std.specs.Coded.{codes};
+    ghost use Rattle.lq_predicate.specs.QueryCode.{coded_query};
+
     ghost Value = { Prepared };
+
+    ghost coded = { Prim.hlevel (codes, coded_query) };
 
     ghost view = { λ s. record { held = record { query = s.predicate; moved = s.moved; opened = s.opened; backlog = s.backlog; sent = s.sent; messages = s.messages.items; mark = s.mark; mark_out = s.mark_out }; ready = s.ready.items; before = s.before; lent = s.lent } };
 
