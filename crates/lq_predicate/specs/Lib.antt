@@ -5,6 +5,7 @@ pub mod Node
 pub mod NodeFalls
 pub mod Truth
 pub mod Names
+pub mod Canonical
 pub mod Operand
 pub mod Stacked
 pub mod Stack
