@@ -2,3 +2,4 @@ pub mod FrontLemmas
 pub mod PartLemmas
 pub mod NameLemmas
 pub mod StackLemmas
+pub mod CanonicalLemmas

@@ -6,6 +6,7 @@
 #![tactic(auto)]
 
 mod attributes;
+mod canonical;
 mod formula;
 mod item;
 mod operand;
@@ -16,6 +17,7 @@ mod stack_op;
 mod truth;
 
 pub use attributes::names;
+pub use canonical::write;
 pub use formula::read;
 pub use predicate::Predicate;
 pub use stack::Stack;

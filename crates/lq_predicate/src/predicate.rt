@@ -1,9 +1,13 @@
 //! The predicate.
-ghost use Rattle.std.specs.Prelude.{◌≡◌, None, IfOk, IsTrue};
+ghost use Rattle.std.specs.Prelude.{◌≡◌, ◌++◌, ◌∷◌, [], None, IfOk, IsTrue};
+ghost use Rattle.std.specs.String.{string_bytes};
 ghost use Rattle.lq_value.specs.Refusal.{IsRefusedBy};
 ghost use Rattle.lq_value.specs.Compare.{suits};
 ghost use Rattle.lq_predicate.specs.Names.{is_among};
+ghost use Rattle.lq_formula.specs.Query.{queries};
+ghost use Rattle.lq_formula.specs.Canonical.{canonical, parts_written};
 
+use crate::canonical::put_comparison;
 use crate::truth::Row;
 use lq_value::{AttrName, Literal, Op, Refusal, compare};
 use std::alloc::Global;
@@ -55,9 +59,14 @@ impl Model for Predicate {
 }
 
 impl Predicate {
+<<<<<<< HEAD
     ghost use Rattle.lq_formula.specs.Query.{Compare, Not, And, Or, queries};
     ghost use Rattle.lq_formula.specs.Canonical.{depth, comparisons};
     ghost use Rattle.lq_predicate.specs.Limits.{is_predicate};
+=======
+    ghost use Rattle.lq_formula.specs.Query.{Compare, Not, And, Or};
+    ghost use Rattle.lq_predicate.specs.Limits.{depth, comparisons, is_predicate};
+>>>>>>> predicate
     ghost use Rattle.lq_predicate.specs.Truth.{truth};
     ghost use Rattle.lq_predicate.specs.Names.{attributes, each_once};
 
@@ -181,6 +190,24 @@ impl Predicate {
         }
     }
 
+    // Its canonical text, behind what is there.
+    #[cycle(put)]
+    pub(crate) fn put(&self, out: &mut String) -> Result<(), Refusal>
+        ensures refused { IsRefusedBy result None }
+        ensures value { IfOk result
+            (λ _. string_bytes out.new ≡ string_bytes out.old ++ canonical self.now) }
+    {
+        match &self.node {
+            Node::Compare(attr, op, literal) => put_comparison(attr, *op, literal, out),
+            Node::Not(part) => {
+                out.push_str("!")?;
+                part.put(out)
+            }
+            Node::And(parts) => put_parts(parts.as_slice(), "&&", out),
+            Node::Or(parts) => put_parts(parts.as_slice(), "||", out),
+        }
+    }
+
     // The names of the attributes that are new, behind those before.
     pub(crate) fn add_names(&self, alloc: Global, names: &mut Vec<AttrName>) -> Result<(), Refusal>
         ensures refused { IsRefusedBy result None }
@@ -202,6 +229,25 @@ impl Predicate {
         }
         Ok(())
     }
+}
+
+// The parts in parentheses, with a separator between them.
+#[cycle(put)]
+fn put_parts(parts: &[Predicate], separator: &str, out: &mut String) -> Result<(), Refusal>
+    ensures refused { IsRefusedBy result None }
+    ensures value { IfOk result (λ _. string_bytes out.new ≡ string_bytes out.old
+        ++ 40 ∷ parts_written separator.now (queries parts.now) (41 ∷ [])) }
+{
+    out.push_str("(")?;
+    if let Some((first, others)) = parts.split_first() {
+        first.put(out)?;
+        for part in others {
+            out.push_str(separator)?;
+            part.put(out)?;
+        }
+    }
+    out.push_str(")")?;
+    Ok(())
 }
 
 fn is_among(names: &[AttrName], name: &AttrName) -> bool
