@@ -59,14 +59,9 @@ impl Model for Predicate {
 }
 
 impl Predicate {
-<<<<<<< HEAD
-    ghost use Rattle.lq_formula.specs.Query.{Compare, Not, And, Or, queries};
+    ghost use Rattle.lq_formula.specs.Query.{Compare, Not, And, Or};
     ghost use Rattle.lq_formula.specs.Canonical.{depth, comparisons};
     ghost use Rattle.lq_predicate.specs.Limits.{is_predicate};
-=======
-    ghost use Rattle.lq_formula.specs.Query.{Compare, Not, And, Or};
-    ghost use Rattle.lq_predicate.specs.Limits.{depth, comparisons, is_predicate};
->>>>>>> predicate
     ghost use Rattle.lq_predicate.specs.Truth.{truth};
     ghost use Rattle.lq_predicate.specs.Names.{attributes, each_once};
 

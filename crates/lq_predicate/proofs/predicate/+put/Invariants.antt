@@ -1,7 +1,7 @@
 use Rattle.std.proofs.Common.{◌≡◌, ◌+◌, ◌*◌, ◌++◌, ◌∷◌, [], drop}
 use Rattle.std.specs.String.{string_bytes}
 use Rattle.lq_formula.specs.Query.{queries}
-use Rattle.lq_predicate.specs.Limits.{depth, deepest}
+use Rattle.lq_formula.specs.Canonical.{depth, deepest}
 use Rattle.lq_formula.specs.Canonical.{parts_written, others_written}
 use Rattle.lq_predicate.proofs.predicate.+put.Given as goal
 
