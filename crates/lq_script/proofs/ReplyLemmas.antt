@@ -9,8 +9,11 @@ use Rattle.lq_value.specs.declared.entry.Entry.{Entry}
 use Rattle.lq_value.specs.declared.value.Value.{Value}
 use Rattle.lq_value.specs.declared.value.Value.TheVariants.{Text, Int32, Int64, UInt32, UInt64}
 use Rattle.lq_value.specs.Refusal.{code_of, name_of}
+use Rattle.lq_update.specs.declared.message.Message.{Message}
+use Rattle.lq_update.specs.declared.message.Opcode.{Opcode}
+use Rattle.lq_update.specs.declared.message.Opcode.TheVariants.{Created, Removed, Moved}
 use Rattle.lq_desk.specs.World.{Answer, Changed, Opened, Took, Empty, Refused}
-use Rattle.lq_script.specs.Reply.{answer_data, attr_data, entry_data, fault_data, place_of, response_data, value_data}
+use Rattle.lq_script.specs.Reply.{answer_data, attr_data, data_by, entry_data, fault_data, place_of, response_data, value_data}
 use Rattle.lq_script.specs.Response.{Response, Answers, Found, Listed, Fetched}
 
 integer-no_float : (n : ℤ) → has_float (number (of_integer n)) ≡ false
@@ -36,10 +39,15 @@ attrs-no_float : (attrs : List (List ℕ × Value)) → items_have_float (items_
 attrs-no_float [] = refl
 attrs-no_float (a ∷ attrs) = rw (value-no_float a.1) (attrs-no_float attrs)
 
+told-no_float : (op : Opcode) (m : Message) → has_float (data_by op m) ≡ false
+told-no_float Created m = refl
+told-no_float Removed m = refl
+told-no_float (Moved dir name) m = refl
+
 answer-no_float : (a : Answer) → has_float (answer_data a) ≡ false
 answer-no_float (Changed applied) = refl
 answer-no_float (Opened slot at result) = rw (entries-no_float result) refl
-answer-no_float (Took message) = refl
+answer-no_float (Took message) = told-no_float message.op message
 answer-no_float Empty = refl
 answer-no_float (Refused e) = fault-no_float (code_of e) (name_of e) (place_of e)
 

@@ -16,7 +16,7 @@ use Rattle.lq_volume.specs.declared.change.Applied.{Applied}
 use Rattle.lq_volume.specs.State.{Record}
 use Rattle.lq_update.specs.declared.message.Message.{Message}
 use Rattle.lq_update.specs.declared.message.Opcode.{Opcode}
-use Rattle.lq_update.specs.declared.message.Opcode.TheVariants.{Created, Removed}
+use Rattle.lq_update.specs.declared.message.Opcode.TheVariants.{Created, Removed, Moved}
 use Rattle.lq_desk.specs.World.{Answer, Changed, Opened, Took, Empty, Refused}
 use Rattle.lq_script.specs.Response.{Response, Answers, Found, Listed, Fetched}
 
@@ -40,12 +40,29 @@ opened_data slot at result =
 abbrev pub opcode_name : Opcode → List ℕ
 opcode_name Created = codes "B_ENTRY_CREATED"
 opcode_name Removed = codes "B_ENTRY_REMOVED"
+opcode_name (Moved dir name) = codes "B_ENTRY_MOVED"
 
-abbrev pub message_data : Message → Data
-message_data m =
+-- a message that names one place, and one that names the old place too
+abbrev pub placed_data : Message → Data
+placed_data m =
     object (member (codes "change") (count m.change) (member (codes "dir") (count m.dir) (member (codes "last") (boolean m.last)
     (member (codes "name") (word m.name) (member (codes "node") (count m.node) (member (codes "op") (word (opcode_name m.op))
     (member (codes "seq") (count m.seq) (member (codes "what") (word (codes "B_QUERY_UPDATE")) no_members))))))))
+
+abbrev pub moved_data : Message → ℕ → List ℕ → Data
+moved_data m dir name =
+    object (member (codes "change") (count m.change) (member (codes "dir") (count m.dir) (member (codes "from_dir") (count dir)
+    (member (codes "from_name") (word name) (member (codes "last") (boolean m.last)
+    (member (codes "name") (word m.name) (member (codes "node") (count m.node) (member (codes "op") (word (opcode_name m.op))
+    (member (codes "seq") (count m.seq) (member (codes "what") (word (codes "B_QUERY_UPDATE")) no_members))))))))))
+
+abbrev pub data_by : Opcode → Message → Data
+data_by Created m = placed_data m
+data_by Removed m = placed_data m
+data_by (Moved dir name) m = moved_data m dir name
+
+abbrev pub message_data : Message → Data
+message_data m = data_by m.op m
 
 abbrev pub empty_data : Data
 empty_data = object (member (codes "what") (word (codes "EMPTY")) no_members)

@@ -7,12 +7,12 @@ ghost use Rattle.lq_desk.specs.Reply.{answer_of, answer_of_read};
 ghost use Rattle.lq_volume.specs.Lookup.{listed};
 ghost use Rattle.lq_script.specs.Answer.{response_of};
 ghost use Rattle.lq_script.specs.Lines.{Begins};
-ghost use Rattle.lq_script.specs.Reply.{answer_data, applied_data, attr_data, empty_data, entry_data, fetched_data, found_data, kind_name, listing_data, message_data, opcode_name, opened_data, place_of, refusal_data, reply_text, response_data, type_name, value_data};
+ghost use Rattle.lq_script.specs.Reply.{answer_data, applied_data, attr_data, empty_data, entry_data, fetched_data, found_data, kind_name, listing_data, message_data, moved_data, opcode_name, opened_data, place_of, placed_data, refusal_data, reply_text, response_data, type_name, value_data};
 
 use crate::response::Response;
 use lq_desk::{Read, Reply};
 use lq_update::{Message, Opcode};
-use lq_value::{AttrName, Entry, Kind, Refusal};
+use lq_value::{AttrName, Entry, Kind, Name, Refusal};
 use lq_volume::{Applied, Listing};
 use serde_json::{Value, json};
 use std::alloc::{AllocError, Global};
@@ -194,23 +194,63 @@ fn empty_value(alloc: Global) -> Result<Value, AllocError>
     json!(in alloc; {"what": "EMPTY"})
 }
 
-fn opcode_name(op: Opcode) -> &'static str
-    ensures { result.now ≡ opcode_name op }
+fn opcode_name(op: &Opcode) -> &'static str
+    ensures { result.now ≡ opcode_name op.now }
 {
     match op {
         Opcode::Created => "B_ENTRY_CREATED",
         Opcode::Removed => "B_ENTRY_REMOVED",
+        Opcode::Moved { .. } => "B_ENTRY_MOVED",
     }
 }
 
 fn message_value(alloc: Global, message: &Message) -> Result<Value, AllocError>
     ensures { IfOk result (λ v. view v ≡ message_data message.now) }
 {
+    match &message.op {
+        Opcode::Moved {
+            from_dir,
+            from_name,
+        } => moved_value(alloc, message, *from_dir, from_name),
+        Opcode::Created | Opcode::Removed => placed_value(alloc, message),
+    }
+}
+
+// Of a message that names one place.
+fn placed_value(alloc: Global, message: &Message) -> Result<Value, AllocError>
+    ensures { IfOk result (λ v. view v ≡ placed_data message.now) }
+{
     let name = message.name.as_str();
-    let op = opcode_name(message.op);
+    let op = opcode_name(&message.op);
     json!(in alloc; {
         "change": message.change,
         "dir": message.dir,
+        "last": message.last,
+        "name": name,
+        "node": message.node,
+        "op": op,
+        "seq": message.seq,
+        "what": "B_QUERY_UPDATE"
+    })
+}
+
+// Of a message that names two.
+fn moved_value(
+    alloc: Global,
+    message: &Message,
+    from_dir: u64,
+    from_name: &Name,
+) -> Result<Value, AllocError>
+    ensures { IfOk result (λ v. view v ≡ moved_data message.now from_dir from_name.now) }
+{
+    let from = from_name.as_str();
+    let name = message.name.as_str();
+    let op = opcode_name(&message.op);
+    json!(in alloc; {
+        "change": message.change,
+        "dir": message.dir,
+        "from_dir": from_dir,
+        "from_name": from,
         "last": message.last,
         "name": name,
         "node": message.node,

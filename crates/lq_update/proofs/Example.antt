@@ -1,15 +1,16 @@
--- The definitions compute: a file of 200 bytes comes and goes under `size>100`.
+-- The definitions compute: a file of 200 bytes comes, moves and goes under `size>100`.
 use Rattle.std.proofs.Common.{◌≡◌, [], ◌∷◌, refl, true, false, pos}
 use Rattle.std.specs.Prelude.{codes}
 use Rattle.lq_value.specs.declared.op.Op.TheVariants.{Gt}
 use Rattle.lq_value.specs.declared.literal.Literal.TheVariants.{Plain}
 use Rattle.lq_value.specs.declared.kind.Kind.TheVariants.{File}
 use Rattle.lq_formula.specs.Query.{Query, Compare}
-use Rattle.lq_volume.specs.declared.change.Change.TheVariants.{Create, Remove}
+use Rattle.lq_volume.specs.declared.change.Change.TheVariants.{Create, Remove, Move}
 use Rattle.lq_volume.specs.State.{empty_state}
 use Rattle.lq_volume.specs.Book.{Book}
-use Rattle.lq_update.specs.declared.message.Opcode.TheVariants.{Created, Removed}
+use Rattle.lq_update.specs.declared.message.Opcode.TheVariants.{Created, Removed, Moved}
 use Rattle.lq_update.specs.Updates.{updates_of}
+use Rattle.lq_update.specs.Fold.{folded}
 
 large : Query
 large = Compare (codes "size") Gt (Plain (codes "100"))
@@ -23,3 +24,33 @@ two_messages : updates_of large false comes_and_goes 0 3 ≡
     ∷ []
 unfolding large comes_and_goes
 two_messages = refl
+
+-- a file that gets another name, and one that gets another's: told as moved, or as removed and created
+renamed : Book
+renamed = record { start = empty_state 10; changes = Create 1 (codes "a") File 200 (pos 0) ∷ Move 2 1 (codes "b") false ∷ [] }
+
+clobbers : Book
+clobbers = record { start = empty_state 10; changes = Create 1 (codes "a") File 200 (pos 0) ∷ Create 1 (codes "b") File 200 (pos 0) ∷ Move 3 1 (codes "a") true ∷ [] }
+
+moved_message : updates_of large true renamed 1 2 ≡
+    record { seq = 1; change = 2; last = true; op = Moved 1 (codes "a"); dir = 1; name = codes "b"; node = 2 } ∷ []
+unfolding large renamed
+moved_message = refl
+
+two_in_place : updates_of large false renamed 1 2 ≡
+    record { seq = 1; change = 2; last = false; op = Removed; dir = 1; name = codes "a"; node = 2 }
+    ∷ record { seq = 2; change = 2; last = true; op = Created; dir = 1; name = codes "b"; node = 2 }
+    ∷ []
+unfolding large renamed
+two_in_place = refl
+
+moved_with_clobber : updates_of large true clobbers 2 3 ≡
+    record { seq = 1; change = 3; last = false; op = Removed; dir = 1; name = codes "a"; node = 2 }
+    ∷ record { seq = 2; change = 3; last = true; op = Moved 1 (codes "b"); dir = 1; name = codes "a"; node = 3 }
+    ∷ []
+unfolding large clobbers
+moved_with_clobber = refl
+
+folded_in_place : folded (record { dir = 1; name = codes "a"; node = 2 } ∷ []) (updates_of large true renamed 1 2) ≡ record { dir = 1; name = codes "b"; node = 2 } ∷ []
+unfolding large renamed
+folded_in_place = refl

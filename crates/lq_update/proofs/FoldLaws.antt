@@ -10,7 +10,7 @@ use Rattle.lq_predicate.specs.Truth.{truth}
 use Rattle.lq_volume.specs.declared.change.Change.{Change}
 use Rattle.lq_volume.specs.State.{State, Record, Rises, IsVolume}
 use Rattle.lq_volume.specs.Change.{after, IsLawful}
-use Rattle.lq_volume.specs.Book.{Book, after_all, state_at, changes_between, AreLawful, IsBook}
+use Rattle.lq_volume.specs.Book.{Book, number_of, after_all, state_at, changes_between, AreLawful, IsBook}
 use Rattle.lq_volume.specs.Result.{result_of, entry_of, shown}
 use Rattle.lq_volume.specs.Laws.{ChangesKeepTrees, ChangesCount}
 use Rattle.lq_update.specs.declared.message.Message.{Message}
@@ -45,11 +45,11 @@ results-rise q s v = rises-result (λ e. truth q (shown e.1)) s.records v.number
 
 -- ---- one change
 
-fold-step : (q : Query) (moved : Bool) (s : State) (c : Change) (seq : ℕ) → IsVolume s → IsVolume (after s c) → folded (result_of q s) (step_of q moved s c seq) ≡ result_of q (after s c)
+pub fold-step : (q : Query) (moved : Bool) (s : State) (c : Change) (seq : ℕ) → IsVolume s → IsVolume (after s c) → folded (result_of q s) (step_of q moved s c seq) ≡ result_of q (after s c)
 fold-step q moved s c seq v w =
     folded-numbered seq (s.number + 1) (result_of q s) (diff q moved s (after s c)) ∙ told-folds moved (result_of q s) (result_of q (after s c)) (results-rise q s v) (results-rise q (after s c) w)
 
-fits-step : (q : Query) (moved : Bool) (s : State) (c : Change) (seq : ℕ) → IsVolume s → IsVolume (after s c) → MessagesFit (result_of q s) (step_of q moved s c seq)
+pub fits-step : (q : Query) (moved : Bool) (s : State) (c : Change) (seq : ℕ) → IsVolume s → IsVolume (after s c) → MessagesFit (result_of q s) (step_of q moved s c seq)
 fits-step q moved s c seq v w =
     fits-numbered seq (s.number + 1) (result_of q s) (diff q moved s (after s c)) (told-fits moved (result_of q s) (result_of q (after s c)) (results-rise q s v) (results-rise q (after s c) w))
 
@@ -252,10 +252,10 @@ number-all count s [] = omega arith
 number-all count s (c ∷ cs) = let next = count s c in let rest = number-all count (after s c) cs in omega arith
 
 module _ (keep : ChangesKeepTrees) (b : Book) (m n : ℕ) (v : IsVolume b.start) (l : IsBook b) where
-  volume-at : IsVolume (state_at b m)
+  pub volume-at : IsVolume (state_at b m)
   volume-at = volume-all keep b.start (take (m - b.start.number) b.changes) v (lawful-take b.start b.changes (m - b.start.number) l)
 
-  lawful-between : AreLawful (state_at b m) (changes_between b m n)
+  pub lawful-between : AreLawful (state_at b m) (changes_between b m n)
   lawful-between = lawful-take (state_at b m) (drop (m - b.start.number) b.changes) (n - m) (lawful-drop b.start b.changes (m - b.start.number) l)
 
 -- the state so many changes behind another of a book
@@ -265,20 +265,21 @@ state-on b m j low le =
     sym (ap (λ k. after_all b.start (take k b.changes)) all ∙ (ap (after_all b.start) (take-add (m - b.start.number) (j - m) b.changes)
     ∙ after_all-append b.start (take (m - b.start.number) b.changes) (take (j - m) (drop (m - b.start.number) b.changes))))
 
+pub number-at : ChangesCount → (b : Book) (m : ℕ) → b.start.number ≤ m → m ≤ number_of b → (state_at b m).number ≡ m
+number-at count b m low high =
+    let short : length (take (m - b.start.number) b.changes) ≡ m - b.start.number = length-take-le (m - b.start.number) b.changes (omega arith) in
+    let all = number-all count b.start (take (m - b.start.number) b.changes) in
+    omega arith
+
 pub folds-give : ChangesKeepTrees → ChangesCount → FoldsGiveResults
 folds-give keep count q moved b m n front v l low high (rest, is) settled =
     settled-front keep count q moved (state_at b m) (changes_between b m n) 1 front rest (volume-at keep b m n v l) (lawful-between keep b m n v l) is settled
-    ∙ (ap (λ k. result_of q (after_all (state_at b m) (take (last_change k front - k) (changes_between b m n)))) number ∙ ap (result_of q) (at front is))
+    ∙ (ap (λ k. result_of q (after_all (state_at b m) (take (last_change k front - k) (changes_between b m n)))) (number-at count b m low high) ∙ ap (result_of q) (at front is))
   where
-    number : (state_at b m).number ≡ m
-    number =
-        let short : length (take (m - b.start.number) b.changes) ≡ m - b.start.number = length-take-le (m - b.start.number) b.changes (omega arith) in
-        let all = number-all count b.start (take (m - b.start.number) b.changes) in
-        omega arith
-
     at : (ms : List Message) → ms ++ rest ≡ updates_of q moved b m n → after_all (state_at b m) (take (last_change m ms - m) (changes_between b m n)) ≡ state_at b (last_change m ms)
     at [] is = ap (λ k. after_all (state_at b m) (take k (changes_between b m n))) (let none : m - m ≡ 0 = omega arith in none)
     at (f ∷ ms) is =
+        let number = number-at count b m low high in
         let all = between-all count q moved (state_at b m) (changes_between b m n) 1 in
         let front : Between (state_at b m).number ((state_at b m).number + length (changes_between b m n)) (f ∷ ms) =
         between-front (state_at b m).number ((state_at b m).number + length (changes_between b m n)) (f ∷ ms) rest (subst (λ ks. Between (state_at b m).number ((state_at b m).number + length (changes_between b m n)) ks) (sym is) all) in

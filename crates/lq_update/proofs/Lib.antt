@@ -5,5 +5,6 @@ pub mod EntryLemmas
 pub mod PlaceLemmas
 pub mod FoldLemmas
 pub mod FoldLaws
+pub mod Taking
 pub mod PassingOver
 mod Example

@@ -1,7 +1,8 @@
 -- What is so of every update list.
-use Rattle.std.specs.Prelude.{◌≡◌, ℕ, ◌+◌, ◌≤◌, List, [], ◌∷◌, ◌++◌, length, Bool, true, false, codes, Option, Some, None}
+use Rattle.std.specs.Prelude.{◌≡◌, ◌↔◌, ℕ, ◌+◌, ◌≤◌, List, [], ◌∷◌, ◌++◌, length, Bool, true, false, codes, Option, Some, None}
 use Rattle.std.specs.List.{AllByRecursion, list_any}
 use Rattle.std.specs.Str.{bytes_eq}
+use Rattle.lq_value.specs.Refusal.{first_refusal}
 use Rattle.lq_formula.specs.Query.{Query}
 use Rattle.lq_predicate.specs.Truth.{Look, truth}
 use Rattle.lq_volume.specs.declared.change.Change.{Change}
@@ -13,7 +14,7 @@ use Rattle.lq_volume.specs.Result.{result_of}
 use Rattle.lq_update.specs.declared.message.Message.{Message}
 use Rattle.lq_update.specs.Diff.{diff}
 use Rattle.lq_update.specs.Updates.{step_of, updates_from, updates_of, IsPrefixOf, IsSettled}
-use Rattle.lq_update.specs.Fold.{EntriesRise, folded, fits_in, last_change}
+use Rattle.lq_update.specs.Fold.{Folding, is_settled, settled_after, fold_refusals, folding_after_all, opened_at, EntriesRise, folded, fits_in, last_change}
 
 -- a longer book only adds to the end of an update list
 abbrev pub UpdatesGrow : Type 0
@@ -48,6 +49,21 @@ WholeFoldsGiveResults = (q : Query) (moved : Bool) (b : Book) (m n : ℕ) → Is
 abbrev pub MessagesFitIn : Type 0
 MessagesFitIn = (q : Query) (moved : Bool) (b : Book) (m n : ℕ) (front rest : List Message) (message : Message) → IsVolume b.start → IsBook b
     → front ++ message ∷ rest ≡ updates_of q moved b m n → fits_in (folded (result_of q (state_at b m)) front) message ≡ true
+
+-- a fold from the opening's result that has taken a front of an update list refuses no next message
+abbrev pub RebuildsTakeAll : Type 0
+RebuildsTakeAll = (q : Query) (moved : Bool) (b : Book) (m n : ℕ) (front rest : List Message) (message : Message) → IsVolume b.start → IsBook b → b.start.number ≤ m → m ≤ number_of b
+    → front ++ message ∷ rest ≡ updates_of q moved b m n → first_refusal (fold_refusals (folding_after_all (opened_at m (result_of q (state_at b m))) front) message) ≡ None
+
+-- a fold by many messages has their entries, their last change, and whether they are settled
+abbrev pub FoldingsFollow : Type 0
+FoldingsFollow = (f : Folding) (ms : List Message) → ((folding_after_all f ms).entries ≡ folded f.entries ms)
+    × ((folding_after_all f ms).change ≡ last_change f.change ms)
+    × ((folding_after_all f ms).settled ≡ settled_after f.settled ms)
+
+-- the test of a settled list
+abbrev pub SettledIsTested : Type 0
+SettledIsTested = (ms : List Message) → IsSettled ms ↔ (is_settled ms ≡ true)
 
 -- the truth of a predicate goes by what a row shows under these names alone
 abbrev pub GoesBy : List (List ℕ) → Query → Type 0

@@ -1,5 +1,5 @@
 //! Laws of the update lists: each is the contract of a function with no body.
-ghost use Rattle.lq_update.specs.Laws.{ChangesPassOver, FoldsGiveResults, MessagesFitIn, ResultsRise, StepsAreFew, UpdatesGrow, UpdatesJoin, WholeFoldsGiveResults};
+ghost use Rattle.lq_update.specs.Laws.{ChangesPassOver, FoldingsFollow, FoldsGiveResults, MessagesFitIn, RebuildsTakeAll, ResultsRise, SettledIsTested, StepsAreFew, UpdatesGrow, UpdatesJoin, WholeFoldsGiveResults};
 
 use lq_volume::{
     accepted_changes_keep_trees, changes_are_counted, clobbered_nodes_go, untouched_nodes_stay,
@@ -51,6 +51,25 @@ pub fn messages_fit_in()
     ensures { MessagesFitIn }
 {
     accepted_changes_keep_trees();
+}
+
+/// A fold by many messages goes by their own fold, last change and settledness.
+pub fn foldings_follow()
+    ensures { FoldingsFollow }
+{}
+
+/// A list of messages is settled just where its test says so.
+pub fn settled_is_tested()
+    ensures { SettledIsTested }
+{}
+
+/// A rebuild that began with an opening's result and took a front of its update list takes the
+/// next message too: it is refused at most for want of memory.
+pub fn rebuilds_take_all()
+    ensures { RebuildsTakeAll }
+{
+    accepted_changes_keep_trees();
+    changes_are_counted();
 }
 
 /// A write tells nothing to a predicate that names neither `size` nor `last_modified`, nor does a

@@ -16,8 +16,9 @@ mod tests;
 mod touched;
 
 pub use laws::{
-    changes_pass_over, folds_give_results, messages_fit_in, results_rise, steps_are_few,
-    updates_grow, updates_join, whole_folds_give_results,
+    changes_pass_over, foldings_follow, folds_give_results, messages_fit_in, rebuilds_take_all,
+    results_rise, settled_is_tested, steps_are_few, updates_grow, updates_join,
+    whole_folds_give_results,
 };
 pub use mark::{Cause, Mark};
 pub use message::{Message, Opcode};
