@@ -10,6 +10,8 @@ mod laws;
 mod lexer;
 mod piece;
 mod raw;
+#[cfg(test)]
+mod tests;
 mod token;
 
 pub use laws::{
