@@ -3,7 +3,7 @@ use Rattle.std.specs.Prelude.{◌≡◌, ◌↔◌, ℕ, List, Ok, Err}
 use Rattle.lq_formula.specs.Query.{Query}
 use Rattle.lq_formula.specs.Faults.{IsFaulty, Reads}
 use Rattle.lq_formula.specs.Canonical.{canonical}
-use Rattle.lq_formula.specs.Limits.{IsWithinLimits}
+use Rattle.lq_formula.specs.Limits.{IsProperBy, IsReadBehind, IsWithinLimits}
 use Rattle.lq_formula.specs.Reading.{reading_of}
 
 -- the reading of a text is the query that it reads as by the grammar and the limits
@@ -17,3 +17,7 @@ FaultsAreFound = (text : List ℕ) (place : ℕ) → (reading_of text ≡ Err pl
 -- the canonical text of a query within the limits reads as that query
 abbrev pub CanonicalIsRead : Type 0
 CanonicalIsRead = (q : Query) → IsWithinLimits q → Reads (canonical q) q
+
+-- a query that is read has names for attributes, literals that suit and are read, and lists of two or more
+abbrev pub ReadIsProper : Type 0
+ReadIsProper = (text : List ℕ) (q : Query) → Reads text q → IsProperBy IsReadBehind q

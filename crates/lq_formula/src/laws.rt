@@ -4,7 +4,7 @@ ghost use Rattle.lq_formula.specs.Tokens.{HasTokens, Placed, Token, bang, opens,
 ghost use Rattle.lq_formula.specs.Query.{Query};
 ghost use Rattle.lq_formula.specs.Grammar.{IsBegun, IsFormula, nesting};
 ghost use Rattle.lq_formula.specs.Machine.{run, start};
-ghost use Rattle.lq_formula.specs.Laws.{CanonicalIsRead, FaultsAreFound, FormulasAreRead};
+ghost use Rattle.lq_formula.specs.Laws.{CanonicalIsRead, FaultsAreFound, FormulasAreRead, ReadIsProper};
 
 use lq_value::sources_are_read;
 
@@ -59,3 +59,9 @@ pub fn canonical_is_read()
 {
     sources_are_read();
 }
+
+/// A query that is read has names for attributes, literals that suit their operators and are read
+/// from some raw text, and lists of two parts or more.
+pub fn read_is_proper()
+    ensures { ReadIsProper }
+{}
