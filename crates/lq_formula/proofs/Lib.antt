@@ -19,3 +19,4 @@ pub mod RoundLemmas
 pub mod RawLemmas
 pub mod ExactLemmas
 pub mod ProperLemmas
+pub mod GoodLemmas
