@@ -233,7 +233,7 @@ mutual
       let behind = op_text o ++ in_marks (literal_text literal) (41 ∷ rest) in
       one 40 (attr_then attr behind) (attr_then attr behind) opens (word (raw_attr attr) ∷ op o ∷ word (literal_text literal) ∷ closes ∷ ts) refl refl refl
       (attr_by attr behind (op o ∷ word (literal_text literal) ∷ closes ∷ ts) (list_all is_bare_byte attr) h.0 refl (op_stops o (in_marks (literal_text literal) (41 ∷ rest)))
-      (lex_op o (literal_text literal ++ 34 ∷ 41 ∷ rest) (word (literal_text literal) ∷ closes ∷ ts) (lex_quoted (literal_text literal) (41 ∷ rest) (closes ∷ ts) (literal_ends literal h.2) (closing rest ts k))))
+      (lex_op o (literal_text literal ++ 34 ∷ 41 ∷ rest) (word (literal_text literal) ∷ closes ∷ ts) (lex_quoted (literal_text literal) (41 ∷ rest) (closes ∷ ts) (literal_ends literal h.1.1) (closing rest ts k))))
   lexes_written (Not q) rest ts h k = lex_bang q rest (said q ++ ts) (lexes_written q rest ts h k)
   lexes_written (And qs) rest ts h k = in_parens (parts_written (38 ∷ 38 ∷ []) qs (41 ∷ rest)) rest (parts_said ands qs) ts (lexes_parts (38 ∷ 38 ∷ []) ands ands_separate qs (41 ∷ rest) (closes ∷ ts) h.1 (closing rest ts k))
   lexes_written (Or qs) rest ts h k = in_parens (parts_written (124 ∷ 124 ∷ []) qs (41 ∷ rest)) rest (parts_said ors qs) ts (lexes_parts (124 ∷ 124 ∷ []) ors ors_separate qs (41 ∷ rest) (closes ∷ ts) h.1 (closing rest ts k))

@@ -18,3 +18,5 @@ pub mod CanonicalLemmas
 pub mod RoundLemmas
 pub mod RawLemmas
 pub mod ExactLemmas
+pub mod ProperLemmas
+pub mod GoodLemmas

@@ -19,31 +19,31 @@ use Rattle.lq_formula.proofs.QuotingLemmas.{Ends}
 
 -- ---- signs, which are known by the texts that they are read from
 
-abbrev element_type : {A : Type 0} → List A → Type 0
+abbrev pub element_type : {A : Type 0} → List A → Type 0
 element_type {A = A} xs = A
 
-abbrev Sign : Type 0
+abbrev pub Sign : Type 0
 Sign = element_type (signs_of [])
 
-abbrev first : {A : Type 0} (xs : List A) → (xs ≡ [] → ⊥) → A
+abbrev pub first : {A : Type 0} (xs : List A) → (xs ≡ [] → ⊥) → A
 first [] h = absurd (h refl)
 first (x ∷ xs) h = x
 
 -- the second of two choices
-abbrev second_of : {A : Type 0} (b : Bool) (x y all : A) → all ≡ cond b x y → A
+abbrev pub second_of : {A : Type 0} (b : Bool) (x y all : A) → all ≡ cond b x y → A
 second_of b x y all e = y
 
-one_not_none : {A : Type 0} (x : A) → x ∷ [] ≡ [] → ⊥
+pub one_not_none : {A : Type 0} (x : A) → x ∷ [] ≡ [] → ⊥
 one_not_none x e = cc
 
-abbrev escaped : ℕ → Sign
+abbrev pub escaped : ℕ → Sign
 escaped c = first (signs true (c ∷ [])) (one_not_none _)
 
 -- a character that is no `\`, where nothing is behind it
-abbrev alone : ℕ → List Sign
+abbrev pub alone : ℕ → List Sign
 alone c = second_of (c == 92) _ _ (signs false (c ∷ [])) refl
 
-abbrev bare : ℕ → Sign
+abbrev pub bare : ℕ → Sign
 bare c = first (alone c) (one_not_none _)
 
 -- ---- one character

@@ -94,7 +94,7 @@ mutual
   said_reads : SourcesAreRead → (q : Query) (n : ℕ) → IsProper q → depth q ≤ n → IsNot n (said q) q
   said_reads law (Compare attr o literal) zero h d = absurd (omega arith)
   said_reads law (Compare attr o literal) (suc n) h d =
-      inr (inl (word (raw_attr attr) ∷ op o ∷ word (literal_text literal) ∷ [], refl, comparison_or n (raw_attr attr) o (literal_text literal) attr literal (attr_back attr h.0) (literal_back law literal o h.1 h.2)))
+      inr (inl (word (raw_attr attr) ∷ op o ∷ word (literal_text literal) ∷ [], refl, comparison_or n (raw_attr attr) o (literal_text literal) attr literal (attr_back attr h.0) (literal_back law literal o h.1.0 h.1.1)))
   said_reads law (Not q) zero h d = absurd (omega arith)
   said_reads law (Not q) (suc n) h d = inr (inr (said q, q, refl, refl, said_reads law q n h (omega arith)))
   said_reads law (And qs) zero h d = absurd (omega arith)

@@ -1,5 +1,5 @@
 -- Which queries a formula can say: those that are read from one.
-use Rattle.std.specs.Prelude.{◌≡◌, ◌≤◌, List, [], ◌∷◌, length, true}
+use Rattle.std.specs.Prelude.{ℕ, ◌≡◌, ◌≤◌, List, [], ◌∷◌, length, true, Some}
 use Rattle.std.specs.Char.{IsScalar}
 use Rattle.lq_value.specs.declared.element.Item.{Item}
 use Rattle.lq_value.specs.declared.element.Item.TheVariants.{One, Range}
@@ -10,6 +10,8 @@ use Rattle.lq_value.specs.declared.literal.Literal.{Literal}
 use Rattle.lq_value.specs.declared.literal.Literal.TheVariants.{Pattern, Plain}
 use Rattle.lq_value.specs.Compare.{suits}
 use Rattle.lq_value.specs.Name.{is_attr_name}
+use Rattle.lq_value.specs.declared.op.Op.{Op}
+use Rattle.lq_formula.specs.Literals.{literal_of}
 use Rattle.lq_formula.specs.Query.{Query, Compare, Not, And, Or, Queries, no_more, and_then}
 use Rattle.lq_formula.specs.Canonical.{canonical, comparisons, depth}
 use Rattle.lq_formula.specs.Faults.{most_bytes, most_comparisons, most_depth}
@@ -43,17 +45,31 @@ HasTwo no_more = ⊥
 HasTwo (and_then q no_more) = ⊥
 HasTwo (and_then q (and_then r qs)) = Unit {0}
 
--- each attribute has a name, each literal suits its operator and has a source, and an And or an Or has two parts or more
+-- each attribute has a name, each literal is one of P for its operator, and an And or an Or has two parts or more
 abbrev mutual
-  pub IsProper : Query → Type 0
-  IsProper (Compare attr op literal) = (is_attr_name attr ≡ true) × (suits literal op ≡ true) × IsGoodLiteral literal
-  IsProper (Not q) = IsProper q
-  IsProper (And qs) = HasTwo qs × AreProper qs
-  IsProper (Or qs) = HasTwo qs × AreProper qs
+  pub IsProperBy : (Op → Literal → Type 0) → Query → Type 0
+  IsProperBy P (Compare attr op literal) = (is_attr_name attr ≡ true) × P op literal
+  IsProperBy P (Not q) = IsProperBy P q
+  IsProperBy P (And qs) = HasTwo qs × AreProperBy P qs
+  IsProperBy P (Or qs) = HasTwo qs × AreProperBy P qs
 
-  pub AreProper : Queries → Type 0
-  AreProper no_more = Unit {0}
-  AreProper (and_then q qs) = IsProper q × AreProper qs
+  pub AreProperBy : (Op → Literal → Type 0) → Queries → Type 0
+  AreProperBy P no_more = Unit {0}
+  AreProperBy P (and_then q qs) = IsProperBy P q × AreProperBy P qs
+
+-- the literal suits the operator, and some raw text is read as it behind the operator
+abbrev pub IsReadBehind : Op → Literal → Type 0
+IsReadBehind op literal = (suits literal op ≡ true) × ((raw : List ℕ) × (literal_of op raw ≡ Some literal))
+
+-- the literal suits the operator, and has a source
+abbrev pub IsGoodBehind : Op → Literal → Type 0
+IsGoodBehind op literal = (suits literal op ≡ true) × IsGoodLiteral literal
+
+abbrev pub IsProper : Query → Type 0
+IsProper q = IsProperBy IsGoodBehind q
+
+abbrev pub AreProper : Queries → Type 0
+AreProper qs = AreProperBy IsGoodBehind qs
 
 -- proper, with as many comparisons, as deep and as long as a predicate may be
 pub record IsWithinLimits (q : Query) : Type 0 where

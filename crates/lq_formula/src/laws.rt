@@ -4,7 +4,7 @@ ghost use Rattle.lq_formula.specs.Tokens.{HasTokens, Placed, Token, bang, opens,
 ghost use Rattle.lq_formula.specs.Query.{Query};
 ghost use Rattle.lq_formula.specs.Grammar.{IsBegun, IsFormula, nesting};
 ghost use Rattle.lq_formula.specs.Machine.{run, start};
-ghost use Rattle.lq_formula.specs.Laws.{CanonicalIsRead, FaultsAreFound, FormulasAreRead};
+ghost use Rattle.lq_formula.specs.Laws.{CanonicalIsRead, FaultsAreFound, FormulasAreRead, PatternsAreGood, ReadIsProper};
 
 use lq_value::sources_are_read;
 
@@ -21,12 +21,14 @@ pub fn tokens_same()
 
 /// Tokens read as one query at most.
 pub fn reads_one()
-    ensures { (n : ℕ) (ts : List Token) (q r : Query) → IsFormula n ts q → IsFormula n ts r → q ≡ r }
+    ensures { (n : ℕ) (ts : List Token) (q r : Query)
+        → IsFormula n ts q → IsFormula n ts r → q ≡ r }
 {}
 
 /// The machine reads what the grammar reads.
 pub fn reads_alike()
-    ensures { (n : ℕ) (ts : List Token) (q : Query) → (run (start n) ts ≡ Some q) ↔ IsFormula n ts q }
+    ensures { (n : ℕ) (ts : List Token) (q : Query)
+        → (run (start n) ts ≡ Some q) ↔ IsFormula n ts q }
 {}
 
 /// More room for nesting refuses no less.
@@ -56,6 +58,20 @@ pub fn faults_are_found()
 /// The canonical text of a query within the limits reads as that query.
 pub fn canonical_is_read()
     ensures { CanonicalIsRead }
+{
+    sources_are_read();
+}
+
+/// A query that is read has names for attributes, literals that suit their operators and are read
+/// from some raw text, and lists of two parts or more.
+pub fn read_is_proper()
+    ensures { ReadIsProper }
+{}
+
+/// A pattern that is read from a text is of characters, its sets have items, and no range of it
+/// falls: so its canonical text is a source of it.
+pub fn patterns_are_good()
+    ensures { PatternsAreGood }
 {
     sources_are_read();
 }

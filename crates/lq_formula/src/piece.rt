@@ -31,11 +31,13 @@ fn fixed(token: Token<'static>, size: usize) -> Piece<'static>
 // The longer token, if the byte stands second.
 fn longer(byte: u8, bytes: &[u8], long: Token<'static>, short: Token<'static>) -> Piece<'static>
     requires { 0 < length bytes.now }
-    ensures value { front_of result ≡ longer_front byte (drop 1 bytes.now) (token_of long.entry) (token_of short.entry) }
+    ensures value { front_of result
+        ≡ longer_front byte (drop 1 bytes.now) (token_of long.entry) (token_of short.entry) }
     ensures bound { result.size ≤ length bytes.now }
     ensures some { 0 < result.size }
     ensures inside { result.inside ≡ 0 }
-    ensures last { byte < 128 → slice_index bytes.now 0 < 128 → slice_index bytes.now (pred result.size) < 128 }
+    ensures last { byte < 128 → slice_index bytes.now 0 < 128
+        → slice_index bytes.now (pred result.size) < 128 }
 {
     if bytes.len() > 1 && bytes[1] == byte {
         fixed(long, 2)
@@ -50,7 +52,8 @@ fn symbol(bytes: &[u8]) -> Option<Piece<'static>>
     ensures none { IfNone result (is_symbol (slice_index bytes.now 0) ≡ false) }
     ensures some { IfSome result (λ p. (is_symbol (slice_index bytes.now 0) ≡ true)
         × (front_of p ≡ symbol_front (slice_index bytes.now 0) (drop 1 bytes.now))) }
-    ensures bound { IfSome result (λ p. (0 < p.size) × (p.size ≤ length bytes.now) × (p.inside ≡ 0)) }
+    ensures bound { IfSome result
+        (λ p. (0 < p.size) × (p.size ≤ length bytes.now) × (p.inside ≡ 0)) }
     ensures last { IfSome result (λ p. slice_index bytes.now (pred p.size) < 128) }
 {
     match bytes[0] {
@@ -70,7 +73,8 @@ fn symbol(bytes: &[u8]) -> Option<Piece<'static>>
 fn quoted<'a>(rest: &'a str) -> Piece<'a>
     requires some { 0 < length rest.now }
     requires mark { (slice_index rest.now 0 ≡ 34) ⊎ (slice_index rest.now 0 ≡ 39) }
-    ensures value { front_of result ≡ quoted_front (drop 1 rest.entry.now) (quoted_bytes (slice_index rest.entry.now 0) false (drop 1 rest.entry.now)) }
+    ensures value { front_of result ≡ quoted_front (drop 1 rest.entry.now)
+        (quoted_bytes (slice_index rest.entry.now 0) false (drop 1 rest.entry.now)) }
     ensures boundary { IsCharBoundary rest.entry.now result.size }
     ensures some { 0 < result.size }
     ensures inside { result.inside ≤ result.size }

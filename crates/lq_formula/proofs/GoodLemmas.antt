@@ -1,0 +1,80 @@
+-- A pattern that is read from a text has a source: it is of characters, its sets have items, no range falls.
+use Rattle.std.proofs.Common.{◌≡◌, ℕ, Bool, true, false, cond, List, [], ◌∷◌, ◌++◌, subst}
+use Rattle.std.specs.Prelude.{◌==◌, Ok}
+use Rattle.std.specs.Char.{IsScalar}
+use Rattle.std.specs.Str.{IsUtf8, chars}
+use Rattle.std.proofs.Math.Utf8.{scalar, scalars}
+use Rattle.std.proofs.lemmas.Str.{scalars-chars}
+use Rattle.lq_value.specs.declared.element.Item.{Item}
+use Rattle.lq_value.specs.declared.element.Item.TheVariants.{One, Range}
+use Rattle.lq_value.specs.declared.element.Element.{Element}
+use Rattle.lq_value.specs.declared.element.Element.TheVariants.{Star, Any, Plain, Set}
+use Rattle.lq_value.specs.Laws.{SourcesAreRead}
+use Rattle.lq_value.specs.Sign.{signs, signs_of}
+use Rattle.lq_value.specs.Source.{pattern_of}
+use Rattle.lq_value.specs.Written.{AreItems, IsElement, IsItem, StandsFor, StandsInSet, Writes}
+use Rattle.lq_formula.specs.Limits.{AreGoodItems, IsGoodElement, IsGoodItem, IsGoodPattern}
+use Rattle.lq_formula.proofs.CanonicalLemmas.{and_true}
+use Rattle.lq_formula.proofs.PatternTextLemmas.{Sign, bare, escaped}
+
+-- what a sign stands for is a character
+record StandsForScalar (s : Sign) : Type 0 where
+  pub outside : (c : ℕ) → StandsFor s c → IsScalar c
+  pub inside : (c : ℕ) → StandsInSet s c → IsScalar c
+
+abbrev AllScalar : List Sign → Type 0
+AllScalar [] = Unit {0}
+AllScalar (s ∷ ss) = StandsForScalar s × AllScalar ss
+
+same_scalar : (d c : ℕ) → d ≡ c → IsScalar d → IsScalar c
+same_scalar d c e h = subst IsScalar e h
+
+bare_scalar : (d : ℕ) → IsScalar d → StandsForScalar (bare d)
+bare_scalar d h = record { outside = λ c k. same_scalar d c k.0 h; inside = λ c k. same_scalar d c k.0 h }
+
+escaped_scalar : (d : ℕ) → IsScalar d → StandsForScalar (escaped d)
+escaped_scalar d h = record { outside = λ c k. same_scalar d c k h; inside = λ c k. same_scalar d c k h }
+
+signs_by : (b : Bool) (c : ℕ) (cs : List ℕ) → IsScalar c → AllScalar (signs true cs) → AllScalar (signs false cs) → AllScalar (cond b (signs true cs) (bare c ∷ signs false cs))
+signs_by true c cs h k l = k
+signs_by false c cs h k l = (bare_scalar c h, l)
+
+signs_scalar : (b : Bool) (cs : List ℕ) → scalars cs ≡ true → AllScalar (signs b cs)
+signs_scalar false [] e = tt
+signs_scalar true [] e = (record { outside = λ c k. absurd k; inside = λ c k. absurd k }, tt)
+signs_scalar false (c ∷ cs) e =
+    let h = and_true (scalar c) (scalars cs) e in signs_by (c == 92) c cs h.0 (signs_scalar true cs h.1) (signs_scalar false cs h.1)
+signs_scalar true (c ∷ cs) e = let h = and_true (scalar c) (scalars cs) e in (escaped_scalar c h.0, signs_scalar false cs h.1)
+
+front_scalar : (a b : List Sign) → AllScalar (a ++ b) → AllScalar a
+front_scalar [] b h = tt
+front_scalar (s ∷ a) b h = (h.0, front_scalar a b h.1)
+
+back_scalar : (a b : List Sign) → AllScalar (a ++ b) → AllScalar b
+back_scalar [] b h = h
+back_scalar (s ∷ a) b h = back_scalar a b h.1
+
+item_good : (i : Item) (part rest : List Sign) → IsItem i part rest → AllScalar part → IsGoodItem i
+item_good (One c) part rest h k = let l = subst AllScalar h.1 k in l.0.inside c h.2
+item_good (Range c d) part rest h k = let l = subst AllScalar h.2 k in (l.0.inside c h.3, l.1.1.0.inside d h.4, h.5)
+
+items_good : (items : List Item) (text : List Sign) → AreItems items text → AllScalar text → AreGoodItems items
+items_good [] text h k = tt
+items_good (i ∷ is) text h k =
+    let l = subst AllScalar h.2 k in (item_good i h.0 h.1 h.3 (front_scalar h.0 h.1 l), items_good is h.1 h.4 (back_scalar h.0 h.1 l))
+
+element_good : (e : Element) (part : List Sign) → IsElement e part → AllScalar part → IsGoodElement e
+element_good Star part h k = tt
+element_good Any part h k = tt
+element_good (Plain c) part h k = let l = subst AllScalar h.1 k in l.0.outside c h.2
+element_good (Set true items) part h k = let l = subst AllScalar h.1 k in (h.2.1, items_good items h.0 h.2.0 l.1.1)
+element_good (Set false items) part h k = let l = subst AllScalar h.1 k in (h.2.1, items_good items h.0 h.2.0 l.1)
+
+pattern_good : (es : List Element) (text : List Sign) → Writes text es → AllScalar text → IsGoodPattern es
+pattern_good [] text h k = tt
+pattern_good (e ∷ es) text h k =
+    let l = subst AllScalar h.2 k in (element_good e h.0 h.3 (front_scalar h.0 h.1 l), pattern_good es h.1 h.4 (back_scalar h.0 h.1 l))
+
+-- a pattern that is read has a source
+pub read_good : SourcesAreRead → (text : List ℕ) (es : List Element) → IsUtf8 text → pattern_of text ≡ Ok es → IsGoodPattern es
+read_good law text es u e = pattern_good es (signs_of text) ((law text es).0 e) (signs_scalar false (chars text) (scalars-chars text u))
