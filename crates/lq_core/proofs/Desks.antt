@@ -1,5 +1,5 @@
 -- Each event keeps what is so of every desk.
-use Rattle.std.proofs.Common.{◌≡◌, ℕ, zero, suc, ◌+◌, ◌*◌, ◌-◌, ◌≤◌, ◌<◌, List, [], ◌∷◌, refl, ap, sym, subst, ◌∙◌, arith, Some, None, Option, map, length}
+use Rattle.std.proofs.Common.{◌≡◌, ℕ, zero, suc, ◌*◌, ◌-◌, ◌≤◌, ◌<◌, List, [], ◌∷◌, refl, ap, sym, subst, ◌∙◌, arith, Some, None, Option, map, length}
 use Rattle.std.specs.Prelude.{Bool, slice_set, replicate}
 use Rattle.std.specs.Option.{option_map}
 use Rattle.std.specs.List.{AllByRecursion}
@@ -8,12 +8,12 @@ use Rattle.lq_value.specs.declared.refusal.Refusal.{Refusal}
 use Rattle.lq_predicate.specs.Query.{Query}
 use Rattle.lq_volume.specs.declared.change.Change.{Change as Change_}
 use Rattle.lq_volume.specs.State.{State, IsVolume}
-use Rattle.lq_volume.specs.Change.{IsLawful, refused}
+use Rattle.lq_volume.specs.Change.{IsLawful}
 use Rattle.lq_volume.specs.Book.{Book}
 use Rattle.lq_volume.specs.Laws.{ChangesCount}
 use Rattle.lq_update.specs.Laws.{StepsAreFew}
-use Rattle.lq_world.specs.World.{World, first_world}
-use Rattle.lq_world.specs.Events.{Happening, Changing, Opening, Answer, next}
+use Rattle.lq_world.specs.World.{first_world}
+use Rattle.lq_world.specs.Events.{Changing, Opening, Answer, next}
 use Rattle.lq_world.specs.Laws.{FirstWorldsAreFair}
 use Rattle.lq_core.specs.declared.slot.Act.{Act}
 use Rattle.lq_core.specs.Slot.{KeptSlot, PreparedSlot, slot_of, fresh_slot}

@@ -1,13 +1,12 @@
 -- The slots of a desk, as contracts see them.
-use Rattle.std.proofs.Common.{◌≡◌, ℕ, zero, suc, ◌+◌, ◌-◌, ◌*◌, ◌≤◌, ◌<◌, List, [], ◌∷◌, ◌++◌, refl, ap, map, take, drop, get_or, length, ◌∙◌, sym, subst, arith, Some, None, Option, Bool, true, false, add-one}
-use Rattle.std.specs.Prelude.{slice_get, slice_set, replicate, is_none, if◌then◌else◌, ◌==◌, nat_eq, ◌≢◌}
+use Rattle.std.proofs.Common.{◌≡◌, ℕ, zero, suc, ◌+◌, ◌-◌, ◌*◌, ◌≤◌, ◌<◌, List, [], ◌∷◌, ◌++◌, refl, ap, map, take, drop, get_or, length, ◌∙◌, sym, subst, arith, Some, None, Option, Bool, true, false}
+use Rattle.std.specs.Prelude.{slice_get, slice_set, replicate, if◌then◌else◌, ◌≢◌}
 use Rattle.std.specs.Option.{option_map, option_flatten}
 use Rattle.std.specs.List.{AllByRecursion}
 use Rattle.std.proofs.lemmas.Bool.Decides.{nat_tests}
 use Rattle.lq_volume.specs.declared.change.Change.{Change as Change_}
 use Rattle.lq_volume.specs.State.{State, IsVolume}
 use Rattle.lq_volume.specs.Change.{IsLawful}
-use Rattle.lq_update.specs.declared.message.Message.{Message}
 use Rattle.lq_update.specs.declared.parcel.Parcel.{Parcel}
 use Rattle.lq_update.specs.declared.parcel.Parcel.TheVariants.{Update, Fin}
 use Rattle.lq_update.specs.Updates.{step_of}
@@ -16,12 +15,12 @@ use Rattle.lq_world.specs.Events.{Answer, Refused}
 use Rattle.lq_value.specs.declared.refusal.Refusal.TheVariants.{NotOpen}
 use Rattle.lq_core.specs.declared.slot.Act.{Act}
 use Rattle.lq_core.specs.declared.slot.Act.TheVariants as act
-use Rattle.lq_core.specs.Held.{Held, is_live, held_after, told_if, overruns, next_parcel}
-use Rattle.lq_core.specs.Slot.{KeptSlot, PreparedSlot, slot_of, prepared_slot, committed_slot, slot_after, put_if, take_if, notice_if, close_if, finish_if, is_read}
+use Rattle.lq_core.specs.Held.{Held, is_live, held_after, told_if, overruns}
+use Rattle.lq_core.specs.Slot.{KeptSlot, PreparedSlot, slot_of, prepared_slot, committed_slot, slot_after, put_if, take_if, notice_if, close_if, finish_if}
 use Rattle.lq_core.specs.Act.{act_of, outcome_at, outcome_in, happening_at}
 use Rattle.lq_core.specs.Kept.{Kept, IsFew, kept_at, at_place, at_kept, kept_outcome}
 use Rattle.lq_core.specs.Kept as kept
-use Rattle.lq_core.proofs.ListLemmas.{all-set, all-get, map-set, set-same, slice_get-map, length-set, lt-get}
+use Rattle.lq_core.proofs.ListLemmas.{all-set, all-get, map-set, set-same, slice_get-map, lt-get}
 
 abbrev pub kept_slot : Option PreparedSlot → Option KeptSlot
 kept_slot = option_map slot_of

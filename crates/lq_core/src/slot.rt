@@ -211,11 +211,7 @@ pub fn act_at(slot: &mut Option<Slot>, act: Act, number: u64) -> Reply
 }
 
 /// Makes the messages of a change for a slot, where a live subscription is there.
-pub fn ready_at(
-    slot: &mut Option<Slot>,
-    volume: &Volume,
-    change: &Change,
-) -> Result<(), Refusal>
+pub fn ready_at(slot: &mut Option<Slot>, volume: &Volume, change: &Change) -> Result<(), Refusal>
     requires lawful { IsLawful volume.now change.now }
     requires few { IsFew (2 ^ 63 - 1) (option_map slot_of slot.old) }
     ensures refused { IsRefusedBy result None }
