@@ -19,7 +19,7 @@ use Rattle.lq_volume.specs.Result.{entry_of, shown, result_of, match_at, entry_i
 use Rattle.lq_update.specs.declared.message.Opcode.{Opcode}
 use Rattle.lq_update.specs.declared.message.Opcode.TheVariants.{Removed}
 use Rattle.lq_update.specs.Diff.{same_entry, missing, diff}
-use Rattle.lq_update.specs.Touched.{left, told_first, told_last}
+use Rattle.lq_update.specs.Touched.{left, left_at, told_first, told_last}
 use Rattle.lq_update.proofs.ToldLemmas.{Has, Lacks, told-among}
 use Rattle.lq_update.specs.Updates.{numbered, step_of}
 
@@ -149,7 +149,7 @@ missing-touched q s t a b lt h k same =
     let test : ℕ × Record → Bool = λ f. truth q (shown f.1) in
     missing-two test a b s.records t.records lt h k (λ n r x y is. sym (same n x y) ∙ is) ∙ rw (pick-left q s t a, pick-left q s t b) refl
 
-left-same : (o : Option Entry) → left o o ≡ None
+pub left-same : (o : Option Entry) → left o o ≡ None
 left-same None = refl
 left-same (Some e) = let name = (bytes_eq-Decides e.name e.name).1 refl in grind (arith, nat_tests)
 
@@ -197,10 +197,6 @@ abbrev pub removed_of : Query → State → Option Entry → ℕ → Option ℕ 
 removed_of q s own node None = option_to_list own
 removed_of q s own node (Some other) =
     cond (nat_lt other node) (option_to_list (match_at q s other) ++ option_to_list own) (option_to_list own ++ option_to_list (match_at q s other))
-
--- what left at the node of a change, and what came
-abbrev pub left_at : Query → State → State → ℕ → Option Entry
-left_at q s t n = left (match_at q s n) (match_at q t n)
 
 pub step-touched : (q : Query) (moved : Bool) (s : State) (c : Change) (seq : ℕ)
     → IsVolume s → IsVolume (after s c)

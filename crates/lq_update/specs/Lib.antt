@@ -1,4 +1,6 @@
 pub mod Diff
 pub mod Updates
-pub mod Laws
 pub mod Touched
+pub mod Fold
+pub mod Place
+pub mod Laws

@@ -1,7 +1,10 @@
 -- What one node tells, by what matched there before and after.
-use Rattle.std.specs.Prelude.{Option, Some, None, Bool, true, false, if◌then◌else◌}
+use Rattle.std.specs.Prelude.{ℕ, Option, Some, None, Bool, true, false, if◌then◌else◌}
 use Rattle.std.specs.Option.{option_map_or}
 use Rattle.lq_value.specs.declared.entry.Entry.{Entry}
+use Rattle.lq_predicate.specs.Query.{Query}
+use Rattle.lq_volume.specs.State.{State}
+use Rattle.lq_volume.specs.Result.{match_at}
 use Rattle.lq_update.specs.declared.message.Opcode.{Opcode}
 use Rattle.lq_update.specs.declared.message.Opcode.TheVariants.{Created, Moved}
 use Rattle.lq_update.specs.Diff.{same_entry}
@@ -10,6 +13,10 @@ use Rattle.lq_update.specs.Diff.{same_entry}
 abbrev pub left : Option Entry → Option Entry → Option Entry
 left None now = None
 left (Some e) now = if option_map_or (same_entry e) now false then None else Some e
+
+-- that of a node from one state to another
+abbrev pub left_at : Query → State → State → ℕ → Option Entry
+left_at q s t node = left (match_at q s node) (match_at q t node)
 
 -- what is told behind the removed entries: the one that came, or in place of two the move
 abbrev pub told_last : Bool → Option Entry → Option Entry → Option (Opcode × Entry)

@@ -5,14 +5,22 @@
 //! waits. Begin with `message`, then `step`.
 #![tactic(auto)]
 
+mod fold;
 mod laws;
 mod mark;
 mod message;
 mod parcel;
+mod rebuild;
+#[cfg(test)]
+mod tests;
 mod touched;
 
-pub use laws::{steps_are_few, updates_grow, updates_join};
+pub use laws::{
+    changes_pass_over, folds_give_results, messages_fit_in, results_rise, steps_are_few,
+    updates_grow, updates_join, whole_folds_give_results,
+};
 pub use mark::{Cause, Mark};
 pub use message::{Message, Opcode};
 pub use parcel::Parcel;
+pub use rebuild::Rebuild;
 pub use touched::step;

@@ -2,11 +2,11 @@
 ghost use Rattle.std.specs.Prelude.{◌≡◌, ◌+◌, ◌<◌, ◌≤◌, ◌^◌, ◌++◌, None, IfOk, OnOk, map, vec_len};
 ghost use Rattle.std.specs.Option.{option_to_list};
 ghost use Rattle.lq_value.specs.Refusal.{IsRefusedBy};
-ghost use Rattle.lq_volume.specs.Change.{IsLawful};
+ghost use Rattle.lq_volume.specs.Change.{after, node_of, IsLawful};
 ghost use Rattle.lq_update.specs.declared.message.Opcode.TheVariants.{Removed, Moved};
 ghost use Rattle.lq_update.specs.Updates.{numbered, step_of};
 ghost use Rattle.lq_update.specs.Diff.{same_entry};
-ghost use Rattle.lq_update.specs.Touched.{left, told_first, told_last};
+ghost use Rattle.lq_update.specs.Touched.{left, left_at, told_first, told_last};
 
 use crate::message::{Message, Opcode};
 use lq_predicate::Predicate;
@@ -43,9 +43,7 @@ pub fn step(
     clobbered_nodes_go();
     let number = before.changes() + 1;
     let node = before.node_of(change);
-    let old = before.matching(predicate, node)?;
-    let new = before.matching_after(predicate, change)?;
-    let (left, came) = split(old, new);
+    let (left, came) = difference(before, predicate, change)?;
     let (removed, last) = join(moved, left, came);
     let Some(other) = before.clobbered(change) else {
         return Ok(tell(alloc, removed, None, last, number, first_seq)?);
@@ -56,6 +54,25 @@ pub fn step(
     } else {
         Ok(tell(alloc, removed, gone, last, number, first_seq)?)
     }
+}
+
+// What left the result at the change's own node, and what came into it there.
+fn difference(
+    before: &Volume,
+    predicate: &Predicate,
+    change: &Change,
+) -> Result<(Option<Entry>, Option<Entry>), Refusal>
+    requires { IsLawful before.now change.now }
+    ensures refused { IsRefusedBy result None }
+    ensures removed { IfOk result (λ both. both.0 ≡ left_at predicate.now
+        before.now (after before.now change.now) (node_of before.now change.now)) }
+    ensures created { IfOk result (λ both. both.1 ≡ left_at predicate.now
+        (after before.now change.now) before.now (node_of before.now change.now)) }
+{
+    let node = before.node_of(change);
+    let old = before.matching(predicate, node)?;
+    let new = before.matching_after(predicate, change)?;
+    Ok(split(old, new))
 }
 
 // What left at a node and what came, where these matched there before and after.

@@ -1,15 +1,15 @@
--- The definitions compute: four scenarios of one query that every entry matches, in slot 1.
-use Rattle.std.proofs.Common.{◌≡◌, List, [], ◌∷◌, refl, true, false, pos}
+-- The definitions compute: scenarios of one query that every entry matches.
+use Rattle.std.proofs.Common.{◌≡◌, ℕ, None, List, [], ◌∷◌, refl, true, false, pos}
 use Rattle.std.specs.Prelude.{codes}
 use Rattle.lq_value.specs.declared.op.Op.TheVariants.{Ge}
 use Rattle.lq_value.specs.declared.literal.Literal.TheVariants.{Plain}
 use Rattle.lq_value.specs.declared.kind.Kind.TheVariants.{File}
-use Rattle.lq_value.specs.declared.refusal.Refusal.TheVariants.{NotOpen}
+use Rattle.lq_value.specs.declared.refusal.Refusal.TheVariants.{BadPort, BadBacklog, NoSlot, NotOpen, StillOpen, Exhausted}
 use Rattle.lq_predicate.specs.Query.{Query, Compare}
-use Rattle.lq_volume.specs.declared.change.Change.TheVariants.{Create}
+use Rattle.lq_volume.specs.declared.change.Change.TheVariants.{Create, Move}
 use Rattle.lq_volume.specs.State.{empty_state}
 use Rattle.lq_update.specs.declared.message.Message.{Message}
-use Rattle.lq_update.specs.declared.message.Opcode.TheVariants.{Created}
+use Rattle.lq_update.specs.declared.message.Opcode.TheVariants.{Created, Moved as MovedFrom}
 use Rattle.lq_update.specs.declared.mark.Cause.TheVariants.{Closed, HungUp, Overrun}
 use Rattle.lq_update.specs.declared.parcel.Parcel.TheVariants.{Update, Fin}
 use Rattle.lq_world.specs.World.{World, first_world}
@@ -26,11 +26,18 @@ answers_to events = answers_from (first_world (record { start = empty_state 10; 
 abbrev every : Query
 every = Compare (codes "size") Ge (Plain (codes "0"))
 
+abbrev creating : List ℕ → Happening
+creating name = Changing (Create 1 name File 0 (pos 0))
+
 abbrev create : Happening
-create = Changing (Create 1 (codes "a") File 0 (pos 0))
+create = creating (codes "a")
+
+-- the message of an entry of the root that was created
+abbrev created_as : ℕ → ℕ → List ℕ → ℕ → Message
+created_as seq change name node = record { seq = seq; change = change; last = true; op = Created; dir = 1; name = name; node = node }
 
 abbrev created : Message
-created = record { seq = 1; change = 1; last = true; op = Created; dir = 1; name = codes "a"; node = 2 }
+created = created_as 1 1 (codes "a") 2
 
 close_on_full_port : answers_to (
     Opening every 1 1 false ∷ create ∷ Closing 1 ∷ Putting 1 ∷ Putting 1 ∷ Taking 1 ∷ Taking 1 ∷ Putting 1 ∷ Taking 1 ∷ Putting 1 ∷ Taking 1 ∷ Finishing 1 ∷ Taking 1 ∷ []) ≡
@@ -52,3 +59,38 @@ hang_up_does_not_carry_over : answers_to (
     Opening every 1 1 false ∷ Closing 1 ∷ HangingUp 1 ∷ Putting 1 ∷ Taking 1 ∷ Finishing 1 ∷ Opening every 1 1 false ∷ Noticing 1 ∷ []) ≡
     Opened 1 0 [] ∷ Shut 0 ∷ Asked ∷ Moved true ∷ Took (Fin (record { seq = 1; change = 0; cause = Closed })) ∷ Finished ∷ Opened 1 0 [] ∷ Noticed false ∷ []
 hang_up_does_not_carry_over = refl
+
+-- held messages before the mark, and none of the change that overruns the backlog
+overrun_after_held : answers_to (
+    Opening every 1 2 false ∷ create ∷ Putting 1 ∷ creating (codes "b") ∷ creating (codes "c") ∷ creating (codes "d") ∷ Taking 1 ∷ Putting 1
+    ∷ Taking 1 ∷ Putting 1 ∷ Taking 1 ∷ Putting 1 ∷ Taking 1 ∷ Taking 1 ∷ []) ≡
+    Opened 1 0 [] ∷ Changed (record { change = 1; node = 2 }) ∷ Moved true ∷ Changed (record { change = 2; node = 3 }) ∷ Changed (record { change = 3; node = 4 })
+    ∷ Changed (record { change = 4; node = 5 }) ∷ Took (Update created) ∷ Moved true ∷ Took (Update (created_as 2 2 (codes "b") 3)) ∷ Moved true
+    ∷ Took (Update (created_as 3 3 (codes "c") 4)) ∷ Moved true ∷ Took (Fin (record { seq = 4; change = 3; cause = Overrun })) ∷ Ended ∷ []
+overrun_after_held = refl
+
+-- a slot used twice is two subscriptions
+close_and_reuse : answers_to (
+    Opening every 1 3 false ∷ Finishing 1 ∷ Closing 1 ∷ Putting 1 ∷ Taking 1 ∷ Finishing 1 ∷ create ∷ Opening every 1 3 false ∷ creating (codes "b")
+    ∷ Putting 1 ∷ Taking 1 ∷ []) ≡
+    Opened 1 0 [] ∷ Refused StillOpen ∷ Shut 0 ∷ Moved true ∷ Took (Fin (record { seq = 1; change = 0; cause = Closed })) ∷ Finished
+    ∷ Changed (record { change = 1; node = 2 }) ∷ Opened 1 1 (record { dir = 1; name = codes "a"; node = 2 } ∷ []) ∷ Changed (record { change = 2; node = 3 })
+    ∷ Moved true ∷ Took (Update (created_as 1 2 (codes "b") 3)) ∷ []
+close_and_reuse = refl
+
+-- the refusals of an opening in their order, over a volume that takes two changes, and the lowest free slot
+opening_refusals_in_order : answers_from (record { book = record { start = empty_state 2; changes = [] }; openings = 0; slots = None ∷ None ∷ [] }) (
+    Opening every 0 65537 false ∷ Opening every 1025 0 false ∷ Opening every 1 65537 false ∷ Opening every 1024 65536 false ∷ Opening every 1 0 true
+    ∷ Opening every 1 0 true ∷ Closing 1 ∷ Putting 1 ∷ Taking 1 ∷ Finishing 1 ∷ Opening every 1 0 true ∷ Taking 0 ∷ Taking 1 ∷ Taking 3 ∷ []) ≡
+    Refused BadPort ∷ Refused BadPort ∷ Refused BadBacklog ∷ Opened 1 0 [] ∷ Opened 2 0 [] ∷ Refused NoSlot ∷ Shut 0 ∷ Moved true
+    ∷ Took (Fin (record { seq = 1; change = 0; cause = Closed })) ∷ Finished ∷ Refused Exhausted ∷ Refused NotOpen ∷ Refused NotOpen ∷ Refused NotOpen ∷ []
+opening_refusals_in_order = refl
+
+-- a move is one message where that was asked for, and so fits a backlog of one; else it is two, and doesn't
+moved_saves_backlog : answers_to (
+    create ∷ Opening every 1 1 true ∷ Opening every 1 1 false ∷ Changing (Move 2 1 (codes "b") false) ∷ Putting 1 ∷ Taking 1 ∷ Putting 2 ∷ Taking 2 ∷ []) ≡
+    Changed (record { change = 1; node = 2 }) ∷ Opened 1 1 (record { dir = 1; name = codes "a"; node = 2 } ∷ [])
+    ∷ Opened 2 1 (record { dir = 1; name = codes "a"; node = 2 } ∷ []) ∷ Changed (record { change = 2; node = 2 }) ∷ Moved true
+    ∷ Took (Update (record { seq = 1; change = 2; last = true; op = MovedFrom 1 (codes "a"); dir = 1; name = codes "b"; node = 2 })) ∷ Moved true
+    ∷ Took (Fin (record { seq = 1; change = 1; cause = Overrun })) ∷ []
+moved_saves_backlog = refl

@@ -1,22 +1,25 @@
 -- Each event leaves a fair world fair.
-use Rattle.std.proofs.Common.{◌≡◌, ℕ, zero, suc, ◌-◌, List, [], ◌∷◌, refl, ap, take, drop, length, sym, subst, arith, Some, None, Option, inl, inr, Bool, true, false}
-use Rattle.std.specs.Prelude.{slice_get, ◌==◌, if◌then◌else◌, replicate}
+use Rattle.std.proofs.Common.{◌≡◌, ℕ, zero, suc, ◌-◌, ◌≤◌, ◌<◌, List, [], ◌∷◌, refl, ap, take, drop, length, sym, subst, arith, ◌∙◌, Some, None, Option, inl, inr, Bool, true, false}
+use Rattle.std.specs.Prelude.{slice_get, slice_set, ◌==◌, ◌&&◌, not, nat_le, if◌then◌else◌, replicate}
 use Rattle.std.specs.Option.{option_flatten, option_map}
 use Rattle.std.specs.List.{AllByRecursion}
+use Rattle.std.proofs.lemmas.Bool.Decides.{nat_tests}
 use Rattle.lq_value.specs.declared.refusal.Refusal.{Refusal}
+use Rattle.lq_value.specs.declared.refusal.Refusal.TheVariants.{BadPort, BadBacklog, NoSlot, Exhausted}
+use Rattle.lq_value.specs.Refusal.{first_refusal}
 use Rattle.lq_predicate.specs.Query.{Query}
 use Rattle.lq_volume.specs.declared.change.Change.{Change as Change_}
 use Rattle.lq_volume.specs.Change.{refused as refused_by}
 use Rattle.lq_volume.specs.Book.{Book, grown, number_of, state_of, state_at}
 use Rattle.lq_update.specs.Updates.{updates_of, updates_from}
 use Rattle.lq_update.specs.Laws.{UpdatesJoin}
-use Rattle.lq_world.specs.World.{World, Sub, slot_at, after_change}
+use Rattle.lq_world.specs.World.{World, Sub, slot_at, taken_before_free, after_change}
 use Rattle.lq_world.specs.Events.{Happening, Changing, Opening, Putting, Taking, HangingUp, Noticing, Closing, Finishing, Answer, changing, opening, opened_now, open_refusal, putting, taking, hanging_up, noticing, closing, finishing, finishing_if, at_slot, outcome}
 use Rattle.lq_world.specs.Runs.{Step}
 use Rattle.lq_world.specs.Fair.{IsFair, IsFairSlot, IsFairWorld}
-use Rattle.lq_world.specs.Laws.{FirstWorldsAreFair, RunsKeepWorldsFair}
+use Rattle.lq_world.specs.Laws.{FirstWorldsAreFair, RunsKeepSlots, RunsKeepWorldsFair}
 use Rattle.lq_world.specs.World.{is_over}
-use Rattle.lq_world.proofs.ListLemmas.{all-get, all-set, all-map}
+use Rattle.lq_world.proofs.ListLemmas.{all-get, all-set, all-map, both-true, length-map}
 use Rattle.lq_world.proofs.SubLemmas.{Leaves, keeps-change, putting-leaves, taking-leaves, hanging_up-leaves, noticing-leaves, closing-leaves}
 
 free_slots : (b : Book) (n : ℕ) → AllByRecursion (IsFairSlot b) (replicate n None)
@@ -30,9 +33,41 @@ first-fair b = free_slots b 64
 nothing_told : (q : Query) (moved : Bool) (b : Book) (n : ℕ) → updates_of q moved b n n ≡ []
 nothing_told q moved b n = ap (λ k. updates_from q moved (state_at b n) (take k (drop (n - b.start.number) b.changes)) 1) (let e : n - n ≡ 0 = omega arith in e)
 
-pub opened-fair : (w : World) (q : Query) (port backlog : ℕ) (moved : Bool) → IsFair w.book (opened_now w q port backlog moved)
-opened-fair w q port backlog moved = record {
+-- what is so where no row of the table of an opening holds
+no_row : (a b c d : Bool) → first_refusal ((a, BadPort) ∷ (b, BadBacklog) ∷ (c, NoSlot) ∷ (d, Exhausted) ∷ []) ≡ None → (a ≡ false) × (b ≡ false) × (c ≡ false)
+no_row true b c d h = absurd (let no : ⊥ = cc in no)
+no_row false true c d h = absurd (let no : ⊥ = cc in no)
+no_row false false true d h = absurd (let no : ⊥ = cc in no)
+no_row false false false d h = (refl, refl, refl)
+
+not-false : (a : Bool) → not a ≡ false → a ≡ true
+not-false true h = refl
+not-false false h = absurd (let no : ⊥ = cc in no)
+
+le-true : (m n : ℕ) → nat_le m n ≡ true → m ≤ n
+le-true m n h = grind (arith, nat_tests)
+
+le-false : (m n : ℕ) → nat_le m n ≡ false → n < m
+le-false m n h = grind (arith, nat_tests)
+
+pub record MayOpen (w : World) (port backlog : ℕ) : Type 0 where
+  pub places : 1 ≤ port
+  pub most : port ≤ 1024
+  pub within : backlog ≤ 65536
+  pub free : taken_before_free w.slots < length w.slots
+
+pub may_open : (w : World) (port backlog : ℕ) → open_refusal w port backlog ≡ None → MayOpen w port backlog
+may_open w port backlog none =
+    let rows = no_row (not (nat_le 1 port && nat_le port 1024)) (not (nat_le backlog 65536)) (nat_le (length w.slots) (taken_before_free w.slots)) (nat_le (state_of w.book).limit w.openings) none in
+    let ports = both-true (nat_le 1 port) (nat_le port 1024) (not-false _ rows.0) in
+    record { places = le-true 1 port ports.0; most = le-true port 1024 ports.1; within = le-true backlog 65536 (not-false _ rows.1); free = le-false _ _ rows.2 }
+
+pub opened-fair : (w : World) (q : Query) (port backlog : ℕ) (moved : Bool) → MayOpen w port backlog → IsFair w.book (opened_now w q port backlog moved)
+opened-fair w q port backlog moved may = record {
   begun = omega arith;
+  places = may.places;
+  most = may.most;
+  backlog = may.within;
   opened = omega arith;
   covered = omega arith;
   taken = omega arith;
@@ -65,6 +100,44 @@ finishing-fair b s h = by (is_over b s)
     by true = tt
     by false = h
 
+-- ---- as many slots
+length-slice_set : {A : Type 0} (xs : List A) (i : ℕ) (x : A) → length (slice_set xs i x) ≡ length xs
+length-slice_set [] i x = refl
+length-slice_set (y ∷ xs) zero x = refl
+length-slice_set (y ∷ xs) (suc i) x = ap suc (length-slice_set xs i x)
+
+changing-slots : (w : World) (c : Change_) (r : Option Refusal) → length (changing w c r).1.slots ≡ length w.slots
+changing-slots w c (Some e) = refl
+changing-slots w c None = length-map (option_map (after_change w.book c)) w.slots
+
+opening-slots : (w : World) (s : Sub) (r : Option Refusal) → length (opening w s r).1.slots ≡ length w.slots
+opening-slots w s (Some e) = refl
+opening-slots w s None = length-slice_set w.slots (taken_before_free w.slots) (Some s)
+
+at_slot-slots : (w : World) (slot : ℕ) (o : Option Sub) (event : Sub → Answer × Option Sub) → length (at_slot w slot o event).1.slots ≡ length w.slots
+at_slot-slots w slot None event = refl
+at_slot-slots w slot (Some s) event = length-slice_set w.slots (slot - 1) (event s).1
+
+outcome-slots : (w : World) (e : Happening) → length (outcome w e).1.slots ≡ length w.slots
+outcome-slots w (Changing c) = changing-slots w c (refused_by (state_of w.book) c)
+outcome-slots w (Opening q port backlog moved) = opening-slots w (opened_now w q port backlog moved) (open_refusal w port backlog)
+outcome-slots w (Putting k) = at_slot-slots w k (slot_at w k) (putting w.book)
+outcome-slots w (Taking k) = at_slot-slots w k (slot_at w k) (taking w.book)
+outcome-slots w (HangingUp k) = at_slot-slots w k (slot_at w k) hanging_up
+outcome-slots w (Noticing k) = at_slot-slots w k (slot_at w k) (noticing w.book)
+outcome-slots w (Closing k) = at_slot-slots w k (slot_at w k) (closing w.book)
+outcome-slots w (Finishing k) = at_slot-slots w k (slot_at w k) (finishing w.book)
+
+step-slots : (w : World) (e : Happening) (a : Answer) (v : World) → Step w e a v → length v.slots ≡ length w.slots
+step-slots w e a v (inl done) = ap (λ (u : World). length u.slots) done.1 ∙ outcome-slots w e
+step-slots w e a v (inr ran) = ap (λ (u : World). length u.slots) ran.2
+
+pub run-slots : RunsKeepSlots
+run-slots w end [] [] run = ap (λ (u : World). length u.slots) run
+run-slots w end [] (a ∷ answers) run = absurd run
+run-slots w end (e ∷ events) [] run = absurd run
+run-slots w end (e ∷ events) (a ∷ answers) run = run-slots run.0 end events answers run.2 ∙ step-slots w e a run.0 run.1
+
 module _ (join : UpdatesJoin) where
   changed-fair : (b : Book) (c : Change_) (o : Option Sub) → IsFairSlot b o → IsFairSlot (grown b (c ∷ [])) (option_map (after_change b c) o)
   changed-fair b c None h = tt
@@ -74,13 +147,13 @@ module _ (join : UpdatesJoin) where
   changing-fair w c (Some e) h = h
   changing-fair w c None h = all-map (IsFairSlot w.book) (IsFairSlot (grown w.book (c ∷ []))) (option_map (after_change w.book c)) w.slots (changed-fair w.book c) h
 
-  opening-fair : (w : World) (s : Sub) (r : Option Refusal) → IsFair w.book s → IsFairWorld w → IsFairWorld (opening w s r).1
+  opening-fair : (w : World) (s : Sub) (r : Option Refusal) → (r ≡ None → IsFair w.book s) → IsFairWorld w → IsFairWorld (opening w s r).1
   opening-fair w s (Some e) fair h = h
-  opening-fair w s None fair h = all-set (IsFairSlot w.book) w.slots _ (Some s) h fair
+  opening-fair w s None fair h = all-set (IsFairSlot w.book) w.slots _ (Some s) h (fair refl)
 
   outcome-fair : (w : World) (e : Happening) → IsFairWorld w → IsFairWorld (outcome w e).1
   outcome-fair w (Changing c) h = changing-fair w c (refused_by (state_of w.book) c) h
-  outcome-fair w (Opening q port backlog moved) h = opening-fair w (opened_now w q port backlog moved) (open_refusal w port backlog) (opened-fair w q port backlog moved) h
+  outcome-fair w (Opening q port backlog moved) h = opening-fair w (opened_now w q port backlog moved) (open_refusal w port backlog) (λ none. opened-fair w q port backlog moved (may_open w port backlog none)) h
   outcome-fair w (Putting k) h = at_slot-fair w k (putting w.book) (λ s f. left-fair w.book s _ _ (putting-leaves w.book s f)) h (slot_at w k) refl
   outcome-fair w (Taking k) h = at_slot-fair w k (taking w.book) (λ s f. left-fair w.book s _ _ (taking-leaves w.book s f)) h (slot_at w k) refl
   outcome-fair w (HangingUp k) h = at_slot-fair w k hanging_up (λ s f. left-fair w.book s _ _ (hanging_up-leaves w.book s f)) h (slot_at w k) refl

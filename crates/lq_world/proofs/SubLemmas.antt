@@ -1,5 +1,5 @@
 -- What one event does to one subscription.
-use Rattle.std.proofs.Common.{◌≡◌, ℕ, zero, suc, ◌+◌, ◌-◌, ◌≤◌, List, [], ◌∷◌, ◌++◌, refl, ap, take, length, ◌∙◌, sym, arith, append_assoc, append-nil, length-append, Some, None, Option, inl, inr, map, Bool, true, false}
+use Rattle.std.proofs.Common.{◌≡◌, ℕ, zero, suc, ◌+◌, ◌-◌, ◌≤◌, List, [], ◌∷◌, ◌++◌, refl, ap, take, length, ◌∙◌, sym, arith, append_assoc, append-nil, length-append, length-drop, Some, None, Option, inl, inr, map, Bool, true, false}
 use Rattle.std.specs.Prelude.{slice_get, ◌⊎◌, ◌==◌, ◌&&◌, nat_lt, is_none, if◌then◌else◌}
 use Rattle.std.specs.List.{AllByRecursion}
 use Rattle.std.proofs.lemmas.Bool.Decides.{nat_tests}
@@ -48,6 +48,7 @@ pub record Reads (b : Book) (s : Sub) (d : Book) (t : Sub) (reads : List Answer)
   pub front : take s.taken (whole b s) ++ parcels_in reads ≡ take t.taken (whole d t)
   pub over : IsOver b s → IsOver d t × AllByRecursion IsEnded reads
   pub marked : (m : Mark) → reads ≡ Took (Fin m) ∷ [] → IsOver d t
+  pub shown : reads ≡ Ended ∷ [] → IsOver b s
 
 -- an event of its slot leaves it there, and these takes were answered
 pub record Leaves (b : Book) (s : Sub) (reads : List Answer) (o : Option Sub) : Type 0 where
@@ -60,7 +61,7 @@ pub end-cases : (o : Option End) → (o ≡ None) ⊎ ((e : End) × (o ≡ Some 
 end-cases None = inl refl
 end-cases (Some e) = inr (e, refl)
 
-live-none : (o : Option End) → is_none o ≡ true → o ≡ None
+pub live-none : (o : Option End) → is_none o ≡ true → o ≡ None
 live-none None h = refl
 live-none (Some e) h = absurd (let no : ⊥ = cc in no)
 
@@ -79,16 +80,16 @@ over-from b s h = by s.end (s.taken) (length (whole b s)) h
     by (Some d) m n is = (d, refl, grind (arith, nat_tests))
 
 -- ---- its list
-abbrev updates_to : Book → Sub → ℕ → List Message
+abbrev pub updates_to : Book → Sub → ℕ → List Message
 updates_to b s n = updates_of s.query s.moved b s.opened n
 
-abbrev parcels : List Message → List Parcel
+abbrev pub parcels : List Message → List Parcel
 parcels messages = map (λ m. Update m) messages
 
-whole-live : (b : Book) (s : Sub) → s.end ≡ None → whole b s ≡ parcels (updates_to b s (number_of b))
+pub whole-live : (b : Book) (s : Sub) → s.end ≡ None → whole b s ≡ parcels (updates_to b s (number_of b))
 whole-live b s live = ap (λ o. parcels (updates_to b s (covered_by b o)) ++ mark_behind (length (updates_to b s (covered_by b o))) o) live ∙ append-nil _
 
-told-live : (b : Book) (s : Sub) → s.end ≡ None → told b s ≡ updates_to b s (number_of b)
+pub told-live : (b : Book) (s : Sub) → s.end ≡ None → told b s ≡ updates_to b s (number_of b)
 told-live b s live = ap (λ o. updates_to b s (covered_by b o)) live
 
 -- ---- what keeps it
@@ -102,6 +103,9 @@ keeps-end b s cause h live =
       same = record { query = refl; moved = refl; opened = refl };
       fair = record {
         begun = h.begun;
+        places = h.places;
+        most = h.most;
+        backlog = h.backlog;
         opened = omega (arith, h.opened, h.covered);
         covered = omega arith;
         taken = h.taken;
@@ -127,6 +131,9 @@ keeps-ended b cs s e h is =
       same = record { query = refl; moved = refl; opened = refl };
       fair = record {
         begun = h.begun;
+        places = h.places;
+        most = h.most;
+        backlog = h.backlog;
         opened = omega (arith, h.opened, to, far);
         covered = omega (arith, h.covered, to, far, length-append b.changes cs);
         taken = h.taken;
@@ -181,6 +188,9 @@ module _ (join : UpdatesJoin) where
         same = record { query = refl; moved = refl; opened = refl };
         fair = record {
           begun = h.begun;
+          places = h.places;
+          most = h.most;
+          backlog = h.backlog;
           opened = omega (arith, h.opened, to, far, length-append b.changes (c ∷ []));
           covered = omega (arith, far);
           taken = h.taken;
@@ -188,7 +198,7 @@ module _ (join : UpdatesJoin) where
           port = h.port;
           held = λ is.
               let list : s.put ≤ length us = omega (arith, h.put, ap length (whole-live b s live), length-map (λ m. Update m) us) in
-              fits (held b s) (news b c s) (held d s) s.backlog room (h.held is) (omega (arith, before, after, news_is, list));
+              fits (held b s) (news b c s) (held d s) s.backlog room (h.held is) (omega (arith, before, after, news_is, list, length-drop s.put (told b s), length-drop s.put (told d s)));
         };
         more = parcels step;
         grows = grows;
@@ -229,9 +239,10 @@ reads-nothing b s d t within taken k = record {
       let all : length (whole d t) ≡ length (whole b s) = ap length (k.grows ∙ (ap (λ xs. whole b s ++ xs) en.1 ∙ append-nil _)) in
       ((o.0, en.0, taken ∙ (o.2 ∙ sym all)), tt);
   marked = λ m no. absurd (let never : ⊥ = cc in never);
+  shown = λ no. absurd (let never : ⊥ = cc in never);
 }
 
-taken_within : (b : Book) (s : Sub) → IsFair b s → s.taken ≤ length (whole b s)
+pub taken_within : (b : Book) (s : Sub) → IsFair b s → s.taken ≤ length (whole b s)
 taken_within b s h = omega (arith, h.taken, h.put)
 
 pub reads-self : (b : Book) (s : Sub) → IsFair b s → Reads b s b s []
@@ -250,18 +261,24 @@ putting-leaves b s h = by (can_put b s) refl
         let there = lt-true _ _ tests.1 in
         leaves b s (one_more_put s) h refl (keeps-same b s (one_more_put s) (record { query = refl; moved = refl; opened = refl }) refl refl (record {
           begun = h.begun;
+          places = h.places;
+          most = h.most;
+          backlog = h.backlog;
           opened = h.opened;
           covered = h.covered;
           taken = omega (arith, h.taken);
           put = omega (arith, there);
           port = omega (arith, room, h.taken);
-          held = λ live. omega (arith, h.held live);
+          held = λ live. omega (arith, h.held live, length-drop s.put (told b s), length-drop (s.put + 1) (told b s));
         }))
     by false is = leaves b s s h refl (keeps-self b s h)
 
 pub hanging_up-leaves : (b : Book) (s : Sub) → IsFair b s → Leaves b s [] (hanging_up s).1
 hanging_up-leaves b s h = leaves b s (with_asked s) h refl (keeps-same b s (with_asked s) (record { query = refl; moved = refl; opened = refl }) refl refl (record {
   begun = h.begun;
+  places = h.places;
+  most = h.most;
+  backlog = h.backlog;
   opened = h.opened;
   covered = h.covered;
   taken = h.taken;
@@ -303,6 +320,10 @@ taking-leaves b s h = by (first_in_port b s) refl
     none_given true = refl
     none_given false = refl
 
+    is_ended : (x : Bool) → (if x then Ended else Empty) ∷ [] ≡ Ended ∷ [] → x ≡ true
+    is_ended true is = refl
+    is_ended false is = absurd (let no : ⊥ = cc in no)
+
     no_mark : (x : Bool) (m : Mark) → (if x then Ended else Empty) ∷ [] ≡ Took (Fin m) ∷ [] → ⊥
     no_mark true m is = cc
     no_mark false m is = cc
@@ -316,6 +337,7 @@ taking-leaves b s h = by (first_in_port b s) refl
         front = ap (λ ps. take s.taken (whole b s) ++ ps) (sym (none_given (is_over b s))) ∙ append-nil _;
         over = λ o. (o, (ap (λ x. if x then Ended else Empty) (over-true b s o), tt));
         marked = λ m is. absurd (no_mark (is_over b s) m is);
+        shown = λ is. over-from b s (is_ended (is_over b s) is);
       };
     }
     by (Some p) is =
@@ -328,6 +350,9 @@ taking-leaves b s h = by (first_in_port b s) refl
           does = record {
             keeps = keeps-same b s (one_more_taken s) (record { query = refl; moved = refl; opened = refl }) refl refl (record {
               begun = h.begun;
+              places = h.places;
+              most = h.most;
+              backlog = h.backlog;
               opened = h.opened;
               covered = h.covered;
               taken = omega (arith, there);
@@ -341,5 +366,6 @@ taking-leaves b s h = by (first_in_port b s) refl
                 let mark : p ≡ Fin m = cc in
                 let last = mark-last (told b s) (length (told b s)) s.taken s.end m (at.1 ∙ ap (λ q. Some q) mark) in
                 (last.0, last.1, last.2);
+            shown = λ no. absurd (let never : ⊥ = cc in never);
           };
         }

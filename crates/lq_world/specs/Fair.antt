@@ -13,6 +13,10 @@ pub record IsFair (b : Book) (s : Sub) : Type 0 where
   pub taken : s.taken ≤ s.put
   pub put : s.put ≤ length (whole b s)
   pub port : s.put ≤ s.taken + s.port
+  -- its port has a place, and at most 1,024, and its backlog is at most 65,536
+  pub places : 1 ≤ s.port
+  pub most : s.port ≤ 1024
+  pub backlog : s.backlog ≤ 65536
   -- while it is live, no more than its backlog is held
   pub held : is_live s ≡ true → held b s ≤ s.backlog
 

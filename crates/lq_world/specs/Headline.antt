@@ -4,13 +4,15 @@ use Rattle.std.specs.List.{AllByRecursion}
 use Rattle.lq_value.specs.declared.entry.Entry.{Entry}
 use Rattle.lq_predicate.specs.Query.{Query}
 use Rattle.lq_volume.specs.declared.change.Change.{Change as Change_}
-use Rattle.lq_volume.specs.State.{State}
-use Rattle.lq_volume.specs.Book.{Book, number_of}
+use Rattle.lq_volume.specs.State.{State, IsVolume}
+use Rattle.lq_volume.specs.Book.{Book, number_of, state_at}
+use Rattle.lq_volume.specs.Result.{result_of}
 use Rattle.lq_update.specs.declared.message.Message.{Message}
 use Rattle.lq_update.specs.declared.mark.Mark.{Mark}
 use Rattle.lq_update.specs.declared.parcel.Parcel.{Parcel}
 use Rattle.lq_update.specs.declared.parcel.Parcel.TheVariants.{Update, Fin}
-use Rattle.lq_update.specs.Updates.{updates_of, IsPrefixOf}
+use Rattle.lq_update.specs.Updates.{updates_of, IsPrefixOf, IsSettled}
+use Rattle.lq_update.specs.Fold.{folded, last_change}
 use Rattle.lq_world.specs.Events.{Happening, Changing, Opening, Taking, Finishing, Answer, Changed, Opened, Took, Ended, Finished}
 
 -- what one event answered a take of a slot, and whether it freed the slot
@@ -59,8 +61,13 @@ accepted (e ∷ events) (a ∷ answers) = accepted_by e a ++ accepted events ans
 abbrev pub book_of : State → List Happening → List Answer → Book
 book_of s events answers = record { start = s; changes = accepted events answers }
 
--- What the takes of a subscription that was opened at a number of changes may be answered, over a book.
-pub record AreReads (b : Book) (q : Query) (moved : Bool) (at : ℕ) (reads : List Answer) : Type 0 where
+-- the mark is among them
+abbrev pub HasMark : List Answer → Type 0
+HasMark reads = (m : Mark) × (front : List Answer) × (rest : List Answer) × (reads ≡ front ++ Took (Fin m) ∷ rest)
+
+-- What the takes of a subscription may be answered, over a book: its query, the number of changes at its opening,
+-- and the result then.
+pub record AreReads (b : Book) (q : Query) (moved : Bool) (at : ℕ) (first : List Entry) (reads : List Answer) : Type 0 where
   -- each message once and in order: they are a prefix of its update list
   pub prefix : IsPrefixOf (updates_in reads) (updates_of q moved b at (number_of b))
   -- the mark comes after the whole list up to the change that it names, and only `Ended` after it
@@ -69,6 +76,14 @@ pub record AreReads (b : Book) (q : Query) (moved : Bool) (at : ℕ) (reads : Li
       × (updates_in front ≡ updates_of q moved b at m.change)
       × (m.seq ≡ length (updates_in front) + 1)
       × AllByRecursion (λ a. a ≡ Ended) rest
+  -- and `Ended` only after the mark
+  pub ended : (front rest : List Answer) → reads ≡ front ++ Ended ∷ rest → HasMark front
+  -- wherever a change's last message is in, folding over the opening's result gives the result after that change
+  pub folding : IsVolume b.start → (front rest : List Answer) → reads ≡ front ++ rest → IsSettled (updates_in front) →
+      folded first (updates_in front) ≡ result_of q (state_at b (last_change at (updates_in front)))
+  -- and so it does before the mark, for the change that this names
+  pub closing : IsVolume b.start → (front rest : List Answer) (m : Mark) → reads ≡ front ++ Took (Fin m) ∷ rest →
+      folded first (updates_in front) ≡ result_of q (state_at b m.change)
 
 -- Whatever came before an opening and comes after it: the takes of the subscription that it opened are such
 -- reads, over the changes that the whole run accepted.
@@ -76,4 +91,4 @@ abbrev pub ReadersAreTold : State → List Happening → List Answer → Type 0
 ReadersAreTold s events answers =
     (before after : List Happening) (befores afters : List Answer) (q : Query) (port backlog : ℕ) (moved : Bool) (slot at : ℕ) (first : List Entry)
     → events ≡ before ++ Opening q port backlog moved ∷ after → answers ≡ befores ++ Opened slot at first ∷ afters → length before ≡ length befores
-    → AreReads (book_of s events answers) q moved at (reads_of slot after afters)
+    → AreReads (book_of s events answers) q moved at first (reads_of slot after afters)

@@ -1,5 +1,5 @@
 -- What stands after a list of events: a book, the number of openings, and a subscription or nothing in each slot.
-use Rattle.std.specs.Prelude.{ℕ, ◌+◌, ◌-◌, List, [], ◌∷◌, ◌++◌, length, map, replicate, Bool, ◌&&◌, ◌==◌, nat_lt, Option, Some, None, is_none, slice_get, slice_set, if◌then◌else◌, true, false}
+use Rattle.std.specs.Prelude.{ℕ, ◌+◌, ◌-◌, List, [], ◌∷◌, ◌++◌, length, map, take, drop, replicate, Bool, ◌&&◌, ◌==◌, nat_lt, Option, Some, None, is_none, slice_get, slice_set, if◌then◌else◌, true, false}
 use Rattle.std.specs.Option.{option_flatten}
 use Rattle.lq_predicate.specs.Query.{Query}
 use Rattle.lq_volume.specs.declared.change.Change.{Change as Change_}
@@ -62,9 +62,20 @@ mark_behind n (Some e) = Fin (record { seq = n + 1; change = e.change; cause = e
 abbrev pub whole : Book → Sub → List Parcel
 whole b s = map (λ m. Update m) (told b s) ++ mark_behind (length (told b s)) s.end
 
--- how many updates wait to be put into the port
+-- what is in its port: what was put and isn't taken
+abbrev pub in_port : Book → Sub → List Parcel
+in_port b s = drop s.taken (take s.put (whole b s))
+
+-- the updates that are held, since they aren't put into the port yet, and how many they are
+abbrev pub waiting : Book → Sub → List Message
+waiting b s = drop s.put (told b s)
+
 abbrev pub held : Book → Sub → ℕ
-held b s = length (told b s) - s.put
+held b s = length (waiting b s)
+
+-- what is still to be put: those, and then the mark, if it has ended and the mark isn't put
+abbrev pub to_come : Book → Sub → List Parcel
+to_come b s = map (λ m. Update m) (waiting b s) ++ drop (s.put - length (told b s)) (mark_behind (length (told b s)) s.end)
 
 abbrev pub is_live : Sub → Bool
 is_live s = is_none s.end

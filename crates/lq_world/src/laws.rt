@@ -1,7 +1,8 @@
 //! Laws of worlds and of their runs: each is the contract of a function that does nothing.
-ghost use Rattle.lq_world.specs.Laws.{FirstWorldsAreFair, RunsKeepWorldsFair};
+ghost use Rattle.lq_world.specs.Laws.{EndedListsStay, EndsAddMarks, FirstWorldsAreFair, ListsArePassedOn, LiveListsGrow, PortsAreQueues, RefusalsLeaveWorlds, RunsKeepSlots, RunsKeepWorldsFair, RunsMakeBooks, RunsTellReaders};
 
-use lq_update::updates_join;
+use lq_update::{folds_give_results, updates_grow, updates_join, whole_folds_give_results};
+use lq_volume::changes_are_counted;
 
 /// A world without subscriptions is fair.
 pub fn first_worlds_are_fair()
@@ -10,9 +11,71 @@ pub fn first_worlds_are_fair()
 
 /// A run leaves a fair world fair: of each subscription no more was taken than was put, no more
 /// put than its list has, no more than its port waits, and while it is live no more than its
-/// backlog is held.
+/// backlog is held; its port and backlog are within their limits.
 pub fn runs_keep_worlds_fair()
     ensures { RunsKeepWorldsFair }
 {
     updates_join();
+}
+
+/// A run leaves as many slots as there were.
+pub fn runs_keep_slots()
+    ensures { RunsKeepSlots }
+{}
+
+/// A refused event leaves the world as it was.
+pub fn refusals_leave_worlds()
+    ensures { RefusalsLeaveWorlds }
+{}
+
+/// A change adds to the list of a live subscription just the messages that it has for it, and as
+/// many to what is held for it.
+pub fn live_lists_grow()
+    ensures { LiveListsGrow }
+{
+    updates_join();
+}
+
+/// Later changes leave the list of a subscription that has ended.
+pub fn ended_lists_stay()
+    ensures { EndedListsStay }
+{}
+
+/// An end adds the mark to the list of a live subscription, and nothing else.
+pub fn ends_add_marks()
+    ensures { EndsAddMarks }
+{}
+
+/// What was taken of a subscription, then what is in its port, then what is held for it, then a
+/// mark that isn't put yet, is all that it is told.
+pub fn lists_are_passed_on()
+    ensures { ListsArePassedOn }
+{}
+
+/// A port is a queue: a put moves the first of what is to come to its back, where it has room, and
+/// a take gives its front.
+pub fn ports_are_queues()
+    ensures { PortsAreQueues }
+{}
+
+/// The changes that a run accepts are a book from the state before it, and come to stand behind
+/// those that the world's book had.
+pub fn runs_make_books()
+    ensures { RunsMakeBooks }
+{}
+
+/// What the takes of a subscription that a run opens give is a prefix of its query's update list
+/// from its opening on, over the changes that the run accepts, each message once and in order.
+///
+/// The closing mark comes only after the whole list up to the change that it names, nothing follows
+/// it, and `Ended` is answered only after it. Wherever a change's last message is in, folding gives
+/// the query's result after that change; so it does before the mark, for the change that it names.
+pub fn readers_are_told()
+    ensures { RunsTellReaders }
+{
+    updates_join();
+    updates_grow();
+    changes_are_counted();
+    folds_give_results();
+    whole_folds_give_results();
 }

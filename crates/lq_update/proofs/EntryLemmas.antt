@@ -1,0 +1,159 @@
+-- What a node has among entries that rise by node, and what taking one out or putting one in does to that.
+use Rattle.std.proofs.Common.{◌≡◌, ℕ, ◌<◌, List, [], ◌∷◌, refl, sym, ap, ◌∙◌, Bool, true, false, arith, inl, inr}
+use Rattle.std.specs.Prelude.{Option, Some, None, is_some, ◌==◌, filter, nat_lt, if◌then◌else◌}
+use Rattle.std.specs.Option.{option_map_or}
+use Rattle.std.specs.List.{AllByRecursion}
+use Rattle.std.proofs.lemmas.Map.Entries.{option_filter}
+use Rattle.std.proofs.lemmas.Bool.{cases_eq, cases_lt}
+use Rattle.std.proofs.lemmas.Bool.Decides.{nat_tests}
+use Rattle.std.proofs.lemmas.Slice.Eq.{bytes_eq-Decides}
+use Rattle.lq_value.specs.declared.entry.Entry.{Entry}
+use Rattle.lq_update.specs.Diff.{same_entry, has_node}
+use Rattle.lq_update.specs.Fold.{EntriesRise, taken_out, put_in, has_entry}
+
+-- the entry of a node
+abbrev pub entry_at : ℕ → List Entry → Option Entry
+entry_at n [] = None
+entry_at n (e ∷ es) = if e.node == n then Some e else entry_at n es
+
+abbrev pub Above : ℕ → List Entry → Type 0
+Above n es = AllByRecursion (λ f. n < f.node) es
+
+pub at-above : (n : ℕ) (es : List Entry) → Above n es → entry_at n es ≡ None
+at-above n [] h = refl
+at-above n (e ∷ es) h = let low = h.0 in let rest = at-above n es h.1 in grind (arith, nat_tests)
+
+pub above-lower : (j k : ℕ) (es : List Entry) → j < k → Above k es → Above j es
+above-lower j k [] lt h = tt
+above-lower j k (e ∷ es) lt h = (omega (arith, h.0), above-lower j k es lt h.1)
+
+pub at-node : (n : ℕ) (es : List Entry) (e : Entry) → entry_at n es ≡ Some e → e.node ≡ n
+at-node n [] e is = cc
+at-node n (f ∷ es) e is = elim (cases_eq f.node n) [
+  | inl same ↦ let here : f ≡ e = grind (arith, nat_tests) in sym (ap (λ (d : Entry). d.node) here) ∙ same
+  | inr differs ↦ at-node n es e (grind (arith, nat_tests))
+]
+
+pub has_node-at : (n : ℕ) (es : List Entry) → has_node n es ≡ is_some (entry_at n es)
+has_node-at n [] = refl
+has_node-at n (e ∷ es) = let rest = has_node-at n es in grind (arith, nat_tests)
+
+pub same-self : (e : Entry) → same_entry e e ≡ true
+same-self e = let name = (bytes_eq-Decides e.name e.name).1 refl in grind (arith, nat_tests)
+
+pub same-node : (e f : Entry) → same_entry e f ≡ true → e.node ≡ f.node
+same-node e f is = grind (arith, nat_tests)
+
+abbrev same_parts : Entry → Entry
+same_parts e = record { dir = e.dir; name = e.name; node = e.node }
+
+pub same-entry : (e f : Entry) → same_entry e f ≡ true → e ≡ f
+same-entry e f is =
+    let dir : e.dir ≡ f.dir = grind (arith, nat_tests) in
+    let node : e.node ≡ f.node = grind (arith, nat_tests) in
+    let name : e.name ≡ f.name = grind (arith, nat_tests, bytes_eq-Decides e.name f.name) in
+    let both : same_parts e ≡ same_parts f = rw (dir, name, node) refl in
+    both
+
+has_entry-above : (e : Entry) (es : List Entry) → Above e.node es → has_entry e es ≡ false
+has_entry-above e [] h = refl
+has_entry-above e (f ∷ es) h = let low = h.0 in let rest = has_entry-above e es h.1 in grind (arith, nat_tests)
+
+pub has_entry-at : (e : Entry) (es : List Entry) → EntriesRise es → has_entry e es ≡ option_map_or (same_entry e) (entry_at e.node es) false
+has_entry-at e [] h = refl
+has_entry-at e (f ∷ es) h = elim (cases_eq f.node e.node) [
+  | inl same ↦ let rest = has_entry-above e es (rw (← same) h.0) in here same rest (same_entry e f) refl
+  | inr differs ↦ let rest = has_entry-at e es h.1 in grind (arith, nat_tests)
+]
+  where
+    here : f.node ≡ e.node → has_entry e es ≡ false → (b : Bool) → same_entry e f ≡ b → has_entry e (f ∷ es) ≡ option_map_or (same_entry e) (entry_at e.node (f ∷ es)) false
+    here same rest true is = grind (arith, nat_tests)
+    here same rest false is = grind (arith, nat_tests)
+
+above-filter : (t : Entry → Bool) (n : ℕ) (es : List Entry) → Above n es → Above n (filter t es)
+above-filter t n [] h = tt
+above-filter t n (e ∷ es) h = at (t e) refl (above-filter t n es h.1)
+  where
+    at : (b : Bool) → t e ≡ b → Above n (filter t es) → Above n (filter t (e ∷ es))
+    at true is rest = rw is (h.0, rest)
+    at false is rest = rw is rest
+
+pub rises-filter : (t : Entry → Bool) (es : List Entry) → EntriesRise es → EntriesRise (filter t es)
+rises-filter t [] h = tt
+rises-filter t (e ∷ es) h = at (t e) refl (rises-filter t es h.1)
+  where
+    at : (b : Bool) → t e ≡ b → EntriesRise (filter t es) → EntriesRise (filter t (e ∷ es))
+    at true is rest = rw is (above-filter t e.node es h.0, rest)
+    at false is rest = rw is rest
+
+pub at-filter : (t : Entry → Bool) (n : ℕ) (es : List Entry) → EntriesRise es → entry_at n (filter t es) ≡ option_filter t (entry_at n es)
+at-filter t n [] h = refl
+at-filter t n (e ∷ es) h = elim (cases_eq e.node n) [
+  | inl same ↦ let gone = at-above n (filter t es) (rw (← same) (above-filter t e.node es h.0)) in here same gone (t e) refl
+  | inr differs ↦ let rest = at-filter t n es h.1 in there differs rest (t e) refl
+]
+  where
+    here : e.node ≡ n → entry_at n (filter t es) ≡ None → (b : Bool) → t e ≡ b → entry_at n (filter t (e ∷ es)) ≡ option_filter t (entry_at n (e ∷ es))
+    here same gone true is = grind (arith, nat_tests)
+    here same gone false is = grind (arith, nat_tests)
+
+    there : (e.node ≡ n → ⊥) → entry_at n (filter t es) ≡ option_filter t (entry_at n es) → (b : Bool) → t e ≡ b → entry_at n (filter t (e ∷ es)) ≡ option_filter t (entry_at n (e ∷ es))
+    there differs rest true is = grind (arith, nat_tests)
+    there differs rest false is = grind (arith, nat_tests)
+
+-- with its triple taken out, a node has no entry
+pub at-taken_out : (es : List Entry) (e : Entry) → EntriesRise es → entry_at e.node es ≡ Some e → entry_at e.node (taken_out e es) ≡ None
+at-taken_out es e h is = at-filter _ e.node es h ∙ rw (is, same-self e) refl
+
+pub at-put_in : (e : Entry) (n : ℕ) (es : List Entry) → entry_at e.node es ≡ None → entry_at n (put_in e es) ≡ (if e.node == n then Some e else entry_at n es)
+at-put_in e n [] none = refl
+at-put_in e n (f ∷ es) none = elim (cases_lt e.node f.node) [
+  | inl low ↦ grind (arith, nat_tests)
+  | inr high ↦ elim (cases_eq f.node e.node) [
+    | inl same ↦ grind (arith, nat_tests)
+    | inr differs ↦ let rest = at-put_in e n es (grind (arith, nat_tests)) in grind (arith, nat_tests)
+  ]
+]
+
+above-put_in : (e : Entry) (n : ℕ) (es : List Entry) → n < e.node → Above n es → Above n (put_in e es)
+above-put_in e n [] lt h = (lt, tt)
+above-put_in e n (f ∷ es) lt h = at (nat_lt e.node f.node) refl (above-put_in e n es lt h.1)
+  where
+    at : (b : Bool) → nat_lt e.node f.node ≡ b → Above n (put_in e es) → Above n (put_in e (f ∷ es))
+    at true is rest = rw is (lt, h)
+    at false is rest = rw is (h.0, rest)
+
+pub rises-put_in : (e : Entry) (es : List Entry) → EntriesRise es → entry_at e.node es ≡ None → EntriesRise (put_in e es)
+rises-put_in e [] h none = (tt, tt)
+rises-put_in e (f ∷ es) h none = elim (cases_lt e.node f.node) [
+  | inl low ↦ let is : nat_lt e.node f.node ≡ true = grind (arith, nat_tests) in rw is ((low, above-lower e.node f.node es low h.0), h)
+  | inr high ↦
+      let is : nat_lt e.node f.node ≡ false = grind (arith, nat_tests) in
+      let lt : f.node < e.node = grind (arith, nat_tests) in
+      let rest : entry_at e.node es ≡ None = grind (arith, nat_tests) in
+      rw is (above-put_in e f.node es lt h.0, rises-put_in e es h.1 rest)
+]
+
+-- entries that rise are those of their nodes
+pub entries-same : (es fs : List Entry) → EntriesRise es → EntriesRise fs → ((n : ℕ) → entry_at n es ≡ entry_at n fs) → es ≡ fs
+entries-same [] [] h k same = refl
+entries-same [] (f ∷ fs) h k same = let at = same f.node in absurd (grind (arith, nat_tests))
+entries-same (e ∷ es) [] h k same = let at = same e.node in absurd (grind (arith, nat_tests))
+entries-same (e ∷ es) (f ∷ fs) h k same = elim (cases_lt e.node f.node) [
+  | inl low ↦
+      let none = at-above e.node fs (above-lower e.node f.node fs low k.0) in
+      let at = same e.node in absurd (grind (arith, nat_tests))
+  | inr high ↦ elim (cases_lt f.node e.node) [
+    | inl low ↦
+        let none = at-above f.node es (above-lower f.node e.node es low h.0) in
+        let at = same f.node in absurd (grind (arith, nat_tests))
+    | inr low ↦
+        let node : e.node ≡ f.node = omega arith in
+        let first : e ≡ f = let at = same e.node in grind (arith, nat_tests) in
+        let rest : es ≡ fs = entries-same es fs h.1 k.1 (λ n. elim (cases_eq e.node n) [
+          | inl is ↦ at-above n es (rw (← is) h.0) ∙ sym (at-above n fs (rw (← is, node) k.0))
+          | inr off ↦ let at = same n in grind (arith, nat_tests)
+        ]) in
+        rw (first, rest) refl
+  ]
+]

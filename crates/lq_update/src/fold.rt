@@ -1,0 +1,133 @@
+//! One message folded into the entries of a result.
+ghost use Rattle.std.specs.Prelude.{◌≡◌, Some, None, IfOk, IfErr, IfSome, OnOk, OnErr, is_ok, is_some, not, if◌then◌else◌};
+ghost use Rattle.lq_value.specs.declared.refusal.Refusal.TheVariants.{Mismatch};
+ghost use Rattle.lq_value.specs.Refusal.{IsRefusedBy};
+ghost use Rattle.lq_update.specs.Diff.{has_node, same_entry};
+ghost use Rattle.lq_update.specs.Fold.{EntriesRise, entry_in, fits_in, folded_one, has_entry, old_entry, put_in, taken_out};
+ghost use Rattle.lq_update.specs.Place.{IsEntryAt, IsGapFor, IsTripleAt};
+
+use crate::message::{Message, Opcode};
+use lq_value::{Entry, Name, Refusal};
+use std::alloc::Global;
+
+/// Folds a message into entries that rise by node, which they do afterwards too.
+///
+/// Refused, the first that fits: `Mismatch` where it doesn't fit, `NoMemory`. A refused message
+/// changes nothing.
+pub fn fold(alloc: Global, entries: &mut Vec<Entry>, message: &Message) -> Result<(), Refusal>
+    requires { EntriesRise entries.old.items }
+    ensures refused { IsRefusedBy result
+        (if fits_in entries.old.items message.now then None else Some Mismatch) }
+    ensures ok { OnOk result (entries.new.items ≡ folded_one entries.old.items message.now) }
+    ensures err { OnErr result (entries.new.items ≡ entries.old.items) }
+    ensures rise { EntriesRise entries.new.items }
+{
+    match &message.op {
+        Opcode::Created => put(alloc, entries, message),
+        Opcode::Removed => take(entries, message),
+        Opcode::Moved {
+            from_dir,
+            from_name,
+        } => replace(alloc, entries, *from_dir, from_name, message),
+    }
+}
+
+fn put(alloc: Global, entries: &mut Vec<Entry>, message: &Message) -> Result<(), Refusal>
+    requires { EntriesRise entries.old.items }
+    ensures refused { IsRefusedBy result
+        (if not (has_node message.now.node entries.old.items) then None else Some Mismatch) }
+    ensures ok { OnOk result (entries.new.items ≡ put_in (entry_in message.now) entries.old.items) }
+    ensures err { OnErr result (entries.new.items ≡ entries.old.items) }
+    ensures rise { EntriesRise entries.new.items }
+{
+    let Err(place) = place_of(entries, message.node) else {
+        return Err(Refusal::Mismatch);
+    };
+    let entry = entry_of(alloc, message)?;
+    entries.insert(place, entry)?;
+    Ok(())
+}
+
+fn take(entries: &mut Vec<Entry>, message: &Message) -> Result<(), Refusal>
+    requires { EntriesRise entries.old.items }
+    ensures refused { IsRefusedBy result
+        (if has_entry (entry_in message.now) entries.old.items then None else Some Mismatch) }
+    ensures ok { OnOk result (entries.new.items ≡ taken_out (entry_in message.now) entries.old.items) }
+    ensures err { OnErr result (entries.new.items ≡ entries.old.items) }
+    ensures rise { EntriesRise entries.new.items }
+{
+    let Some(place) = place_with(entries, message.dir, &message.name, message.node) else {
+        return Err(Refusal::Mismatch);
+    };
+    entries.remove(place);
+    Ok(())
+}
+
+fn replace(
+    alloc: Global,
+    entries: &mut Vec<Entry>,
+    dir: u64,
+    name: &Name,
+    message: &Message,
+) -> Result<(), Refusal>
+    requires { EntriesRise entries.old.items }
+    ensures refused { IsRefusedBy result
+        (if has_entry (old_entry dir name.now (entry_in message.now)) entries.old.items
+        then None else Some Mismatch) }
+    ensures ok { OnOk result (entries.new.items ≡ put_in (entry_in message.now)
+        (taken_out (old_entry dir name.now (entry_in message.now)) entries.old.items)) }
+    ensures err { OnErr result (entries.new.items ≡ entries.old.items) }
+    ensures rise { EntriesRise entries.new.items }
+{
+    let Some(place) = place_with(entries, dir, name, message.node) else {
+        return Err(Refusal::Mismatch);
+    };
+    let entry = entry_of(alloc, message)?;
+    entries[place] = entry;
+    Ok(())
+}
+
+fn entry_of(alloc: Global, message: &Message) -> Result<Entry, Refusal>
+    ensures refused { IsRefusedBy result None }
+    ensures value { IfOk result (λ entry. entry ≡ entry_in message.now) }
+{
+    Ok(Entry {
+        dir: message.dir,
+        name: message.name.copy(alloc)?,
+        node: message.node,
+    })
+}
+
+// The place of an entry, where it is in the result.
+fn place_with(entries: &[Entry], dir: u64, name: &Name, node: u64) -> Option<usize>
+    requires { EntriesRise entries.now }
+    ensures found { IfSome result
+        (IsTripleAt entries.now (record { dir = dir; name = name.now; node = node })) }
+    ensures has { has_entry (record { dir = dir; name = name.now; node = node }) entries.now
+        ≡ is_some result }
+{
+    let Ok(place) = place_of(entries, node) else {
+        return None;
+    };
+    if is_triple(&entries[place], dir, name, node) {
+        Some(place)
+    } else {
+        None
+    }
+}
+
+fn is_triple(entry: &Entry, dir: u64, name: &Name, node: u64) -> bool
+    ensures { result ≡ same_entry (record { dir = dir; name = name.now; node = node }) entry.now }
+{
+    dir == entry.dir && *name == entry.name && node == entry.node
+}
+
+// Where a node's entry is, or where it would go. It is found by halving.
+fn place_of(entries: &[Entry], node: u64) -> Result<usize, usize>
+    requires { EntriesRise entries.now }
+    ensures found { IfOk result (IsEntryAt entries.now node) }
+    ensures absent { IfErr result (IsGapFor entries.now node) }
+    ensures has { has_node node entries.now ≡ is_ok result }
+{
+    entries.binary_search_by_key(&node, |entry| entry.node)
+}

@@ -1,0 +1,119 @@
+//! A result that is kept by folding messages into it.
+ghost use Rattle.std.specs.Prelude.{◌≡◌, OnOk, OnErr};
+ghost use Rattle.lq_value.specs.Refusal.{IsRefusedBy, first_refusal};
+ghost use Rattle.lq_update.specs.Fold.{EntriesRise, fold_refusals, folding_after, opened_at};
+
+use crate::fold::fold;
+use crate::message::Message;
+use lq_value::{Entry, Refusal};
+use std::alloc::Global;
+use std::marker::Model;
+
+/// A query's result, kept by folding the messages of its subscription.
+///
+/// A contract sees it as a `Folding`: how many messages it has taken, whether the latest was the
+/// last of its change, that change, and the entries by rising node.
+#[derive(Debug, Drop)]
+pub struct Rebuild {
+    latest: Latest,
+    alloc: Global,
+    entries: Vec<Entry>,
+}
+
+// The latest message, or before the first one what the opening stands for.
+#[derive(Clone, Copy, Debug)]
+struct Latest {
+    seq: u64,
+    change: u64,
+    last: bool,
+}
+
+impl Model for Rebuild {
+    ghost use Rattle.lq_update.specs.Fold.{Folding, EntriesRise};
+
+    ghost Value = { Folding };
+
+    ghost view = { λ r. record {
+      seq = r.latest.seq;
+      change = r.latest.change;
+      settled = r.latest.last;
+      entries = r.entries.items;
+    } };
+
+    ghost invariant = { λ r. EntriesRise r.entries.items };
+}
+
+impl Rebuild {
+    /// The result at an opening, after `at` changes, before any message.
+    ///
+    /// The entries' nodes rise strictly, as those of a fetch do. It takes no memory.
+    pub fn new(alloc: Global, at: u64, entries: Vec<Entry>) -> Rebuild
+        requires { EntriesRise entries.items }
+        ensures { result ≡ opened_at at entries.items }
+    {
+        Rebuild {
+            latest: Latest {
+                seq: 0,
+                change: at,
+                last: true,
+            },
+            alloc,
+            entries,
+        }
+    }
+
+    /// The entries by rising node. It takes no memory.
+    pub fn result(&self) -> &[Entry]
+        ensures entries { result.now ≡ self.now.entries }
+        ensures rise { EntriesRise self.now.entries }
+    {
+        &self.entries
+    }
+
+    /// Whether no message was taken yet or the latest was the last of its change, so that the
+    /// entries are the result after a whole change. It takes no memory.
+    pub fn is_settled(&self) -> bool
+        ensures { result ≡ self.now.settled }
+    {
+        self.latest.last
+    }
+
+    /// The change of the latest message, or that of the opening before the first. It takes no
+    /// memory.
+    pub fn last_change(&self) -> u64
+        ensures { result ≡ self.now.change }
+    {
+        self.latest.change
+    }
+
+    /// Takes the next message: what was removed goes, what was created comes, what moved changes
+    /// its place.
+    ///
+    /// Refused, the first that fits: `OutOfStep` where `seq` isn't one more than that of the
+    /// latest message (1 for the first), or `change` isn't above that of the latest where it was
+    /// the last of its change, or isn't the same where it wasn't; `Mismatch` where a removed
+    /// entry or a moved one's old place isn't in the result, or a created one's node is;
+    /// `NoMemory`. A refused message changes nothing.
+    pub fn apply(&mut self, message: &Message) -> Result<(), Refusal>
+        ensures refused { IsRefusedBy result (first_refusal (fold_refusals self.old message.now)) }
+        ensures ok { OnOk result (self.new ≡ folding_after self.old message.now) }
+        ensures err { OnErr result (self.new ≡ self.old) }
+    {
+        if message.seq == 0 || message.seq - 1 != self.latest.seq {
+            return Err(Refusal::OutOfStep);
+        }
+        if self.latest.last && message.change <= self.latest.change {
+            return Err(Refusal::OutOfStep);
+        }
+        if !self.latest.last && message.change != self.latest.change {
+            return Err(Refusal::OutOfStep);
+        }
+        fold(self.alloc, &mut self.entries, message)?;
+        self.latest = Latest {
+            seq: message.seq,
+            change: message.change,
+            last: message.last,
+        };
+        Ok(())
+    }
+}
