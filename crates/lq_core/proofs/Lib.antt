@@ -3,3 +3,5 @@ pub mod UpdateLemmas
 pub mod HeldLemmas
 pub mod SlotLemmas
 pub mod Shown
+pub mod SlotsLemmas
+pub mod Desks

@@ -1,5 +1,5 @@
 -- Lists: their parts, their places, and what holds of all of them.
-use Rattle.std.proofs.Common.{◌≡◌, ◌≢◌, ℕ, zero, suc, ◌+◌, ◌≤◌, List, [], ◌∷◌, ◌++◌, refl, ap, sym, take, drop, length, ◌∙◌, arith, add-one, Some, None, Option, map, Bool, true, false, inl, inr}
+use Rattle.std.proofs.Common.{◌≡◌, ℕ, zero, suc, ◌+◌, ◌≤◌, List, [], ◌∷◌, ◌++◌, refl, ap, sym, take, drop, length, ◌∙◌, arith, add-one, Some, None, Option, map, Bool, true, false, inl, inr}
 use Rattle.std.specs.Prelude.{slice_get, slice_set, ◌&&◌, ◌⊎◌, ◌<◌, nat_lt, is_some, if◌then◌else◌}
 use Rattle.std.specs.Option.{option_map}
 use Rattle.std.specs.List.{AllByRecursion}

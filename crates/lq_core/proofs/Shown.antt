@@ -1,15 +1,14 @@
 -- What a desk keeps where a world stands does at each event what the world does.
-use Rattle.std.proofs.Common.{◌≡◌, ℕ, zero, suc, ◌+◌, ◌-◌, ◌≤◌, List, [], ◌∷◌, ◌++◌, refl, ap, take, drop, length, ◌∙◌, sym, subst, arith, Some, None, Option, map, Bool, true, false, inl, inr}
-use Rattle.std.specs.Prelude.{slice_get, slice_set, ◌==◌, ◌&&◌, not, nat_lt, nat_le, if◌then◌else◌, replicate}
+use Rattle.std.proofs.Common.{◌≡◌, ℕ, ◌+◌, ◌-◌, List, [], ◌∷◌, refl, ap, take, drop, length, ◌∙◌, sym, subst, arith, Some, None, Option, map, Bool, true, false, inl, inr}
+use Rattle.std.specs.Prelude.{slice_get, slice_set, ◌==◌, ◌&&◌, not, nat_lt, nat_le, if◌then◌else◌}
 use Rattle.std.specs.Option.{option_map, option_flatten}
 use Rattle.std.specs.List.{AllByRecursion}
 use Rattle.lq_value.specs.declared.entry.Entry.{Entry}
 use Rattle.lq_value.specs.declared.refusal.Refusal.{Refusal}
-use Rattle.lq_value.specs.declared.refusal.Refusal.TheVariants.{NoMemory, BadPort, BadBacklog, NoSlot, Exhausted}
+use Rattle.lq_value.specs.declared.refusal.Refusal.TheVariants.{BadPort, BadBacklog, NoSlot, Exhausted}
 use Rattle.lq_value.specs.Refusal.{first_refusal}
 use Rattle.lq_formula.specs.Query.{Query}
 use Rattle.lq_volume.specs.declared.change.Change.{Change as Change_}
-use Rattle.lq_volume.specs.State.{State}
 use Rattle.lq_volume.specs.Change.{refused as refused_by, node_of, after}
 use Rattle.lq_volume.specs.Result.{result_of}
 use Rattle.lq_volume.specs.Laws.{ChangesCount}
@@ -17,8 +16,8 @@ use Rattle.lq_volume.specs.Book.{Book, grown, number_of, state_of, state_at}
 use Rattle.lq_update.specs.Updates.{updates_of, updates_from}
 use Rattle.lq_update.specs.Laws.{UpdatesJoin}
 use Rattle.lq_world.specs.World.{World, Sub, told, slot_at, after_change, taken_before_free}
-use Rattle.lq_world.specs.Events.{Happening, Changing, Opening, Putting, Taking, HangingUp, Noticing, Closing, Finishing, Answer, Changed, Opened, Refused, changing, with_change, opening, opened_now, open_refusal, with_sub, putting, taking, hanging_up, noticing, closing, finishing, at_slot, outcome, answer, next}
-use Rattle.lq_world.specs.Runs.{Step, MayRunOut, Run}
+use Rattle.lq_world.specs.Events.{Happening, Changing, Opening, Putting, Taking, HangingUp, Noticing, Closing, Finishing, Answer, Changed, Opened, changing, with_change, opening, opened_now, open_refusal, putting, taking, hanging_up, noticing, closing, finishing, at_slot, answer, next}
+use Rattle.lq_world.specs.Runs.{MayRunOut}
 use Rattle.lq_world.specs.Fair.{IsFair, IsFairSlot, IsFairWorld}
 use Rattle.lq_world.specs.Laws.{RunsKeepWorldsFair}
 use Rattle.lq_core.specs.Slot.{KeptSlot, fresh_slot, slot_after, put_slot, take_slot, ask_slot, notice_slot, close_slot, finish_slot}

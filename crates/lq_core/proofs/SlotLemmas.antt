@@ -1,10 +1,9 @@
 -- At each event a world's subscription and what is kept in its slot do the same.
-use Rattle.std.proofs.Common.{◌≡◌, ℕ, zero, suc, ◌+◌, ◌-◌, ◌≤◌, List, [], ◌∷◌, ◌++◌, refl, ap, take, drop, length, ◌∙◌, sym, subst, arith, append-nil, length-append, length-drop, Some, None, Option, map, Bool, true, false}
+use Rattle.std.proofs.Common.{◌≡◌, ℕ, zero, suc, ◌+◌, ◌-◌, ◌≤◌, List, [], ◌∷◌, ◌++◌, refl, ap, take, drop, length, ◌∙◌, sym, arith, append-nil, length-append, length-drop, Some, None, Option, map, Bool, true, false}
 use Rattle.std.specs.Prelude.{slice_get, ◌==◌, ◌&&◌, nat_lt, is_none, is_some, if◌then◌else◌, ◌<◌}
 use Rattle.std.specs.Option.{option_map}
 use Rattle.std.proofs.lemmas.Bool.Decides.{nat_tests}
 use Rattle.lq_volume.specs.declared.change.Change.{Change as Change_}
-use Rattle.lq_volume.specs.Laws.{ChangesCount}
 use Rattle.lq_volume.specs.Book.{Book, grown, number_of, state_of}
 use Rattle.lq_update.specs.declared.message.Message.{Message}
 use Rattle.lq_update.specs.declared.mark.Mark.{Mark}
@@ -14,14 +13,14 @@ use Rattle.lq_update.specs.declared.parcel.Parcel.{Parcel}
 use Rattle.lq_update.specs.declared.parcel.Parcel.TheVariants.{Update, Fin}
 use Rattle.lq_update.specs.Updates.{updates_of, step_of}
 use Rattle.lq_update.specs.Laws.{UpdatesJoin}
-use Rattle.lq_world.specs.World.{Sub, End, covered_by, covered, told, mark_behind, whole, held, is_live, is_over, with_end, one_more_put, one_more_taken, can_put, first_in_port, overruns, overrun_if, after_change}
-use Rattle.lq_world.specs.Events.{Answer, Moved, Took, Ended, Empty, Noticed, Shut, putting_if, putting, taking_of, taking, hanging_up, noticing_if, noticing, closing_if, closing, finishing_if, finishing}
+use Rattle.lq_world.specs.World.{Sub, End, covered_by, covered, told, mark_behind, whole, is_live, is_over, with_end, one_more_put, first_in_port, overruns, overrun_if, after_change}
+use Rattle.lq_world.specs.Events.{Moved, Took, Ended, Empty, Noticed, Shut, putting_if, putting, taking_of, taking, hanging_up, noticing_if, noticing, closing_if, closing, finishing_if, finishing}
 use Rattle.lq_world.specs.Fair.{IsFair}
 use Rattle.lq_core.specs.Held.{Held, next_of, without, ended_by, told_if, with_messages, next_parcel}
 use Rattle.lq_core.specs.Held as h
 use Rattle.lq_core.specs.Slot.{KeptSlot, slot_after, put_if, put_slot, is_read, take_if, take_slot, ask_slot, notice_if, notice_slot, close_if, close_slot, finish_if, finish_slot}
 use Rattle.lq_core.specs.Kept.{mark_of, held_for, slot_for}
-use Rattle.lq_core.proofs.ListLemmas.{take-inside, drop-inside, take-length, take-one_more, drop-one_more, drop-all, get-between, lt-get, length-map, map-append, lt-true, both-true, above-zero, lt-suc}
+use Rattle.lq_core.proofs.ListLemmas.{take-inside, drop-inside, take-length, take-one_more, drop-one_more, drop-all, get-between, lt-get, length-map, map-append, both-true, above-zero, lt-suc}
 use Rattle.lq_core.proofs.UpdateLemmas.{updates_of-stays, updates_of-change}
 
 abbrev parcels : List Message → List Parcel

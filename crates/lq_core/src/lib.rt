@@ -1,14 +1,19 @@
 //! The core of the live query server with its ports, one event at a time, without threads.
 //!
-//! A contract sees a subscription as what it was opened with, the messages that it holds and its
-//! mark (`specs/Held`). Nothing here waits. Begin with `sub`.
+//! A contract sees a desk as what it keeps (`specs/Kept`), which shows a world of lq_world: a book
+//! of changes and the subscriptions over it. Of a subscription (`specs/Held`) it sees what it was
+//! opened with, the messages that it holds and its mark. Nothing here waits. Begin with `event`,
+//! then `desk`.
 #![tactic(auto)]
 
+mod desk;
 mod event;
 mod laws;
 mod slot;
+mod slots;
 mod sub;
 
+pub use desk::Desk;
 pub use event::{Event, Read, Reply};
-pub use laws::putting_back_undoes;
+pub use laws::{kept_shows_worlds, putting_back_undoes};
 pub use sub::Sub;

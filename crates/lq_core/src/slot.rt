@@ -209,3 +209,27 @@ pub fn act_at(slot: &mut Option<Slot>, act: Act, number: u64) -> Reply
         }
     }
 }
+
+/// Makes the messages of a change for a slot, where a live subscription is there.
+pub fn ready_at(slot: &mut Option<Slot>, volume: &Volume, change: &Change) -> Result<(), Refusal>
+    requires lawful { IsLawful volume.now change.now }
+    requires few { IsFew (2 ^ 63 - 1) (option_map slot_of slot.old) }
+    ensures refused { IsRefusedBy result None }
+    ensures ok { OnOk result (slot.new ≡ option_map (prepared_slot volume.now change.now) slot.old) }
+    ensures err { OnErr result (option_map slot_of slot.new ≡ option_map slot_of slot.old) }
+{
+    if let Some(there) = slot {
+        there.ready(volume, change)?;
+    }
+    Ok(())
+}
+
+/// Tells a slot's messages.
+pub fn commit_at(slot: &mut Option<Slot>)
+    requires { IsFew (2 ^ 63 - 1) (option_map slot_of slot.old) }
+    ensures { slot.new ≡ option_map committed_slot slot.old }
+{
+    if let Some(there) = slot {
+        there.commit();
+    }
+}

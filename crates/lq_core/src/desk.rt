@@ -1,0 +1,203 @@
+//! The desk.
+ghost use Rattle.std.specs.Prelude.{◌≡◌, ◌+◌, [], ◌∷◌, None, Some, IfOk, OnOk, OnErr, replicate};
+ghost use Rattle.lq_value.specs.Refusal.{IsRefusedBy};
+ghost use Rattle.lq_volume.specs.Change.{refused, node_of};
+
+use crate::event::{Event, Reply};
+use crate::slot::{Act, Slot};
+use crate::slots::{act_in, commit_all, fill, first_free, free_slots, ready_all};
+use lq_predicate::Predicate;
+use lq_update::{steps_are_few, updates_join};
+use lq_value::Refusal;
+use lq_volume::{Applied, Change, Volume, changes_are_counted};
+use lq_world::{first_worlds_are_fair, runs_keep_worlds_fair};
+use std::alloc::Global;
+use std::marker::Model;
+
+/// The most places of a port.
+const MAX_PORT: u64 = 1024;
+
+/// The largest backlog, in messages.
+const MAX_BACKLOG: u64 = 65_536;
+
+/// The volume and its live queries with their ports, one event at a time.
+///
+/// A contract sees it as what it keeps, which shows a world.
+#[derive(Debug, Drop)]
+pub struct Desk {
+    volume: Volume,
+    openings: u64,
+    alloc: Global,
+    slots: Vec<Option<Slot>>,
+}
+
+impl Model for Desk {
+    ghost use Rattle.std.specs.Prelude.{map};
+    ghost use Rattle.std.specs.Option.{option_map};
+    ghost use Rattle.lq_core.specs.Kept.{Kept, IsDesk};
+    ghost use Rattle.lq_core.specs.Slot.{slot_of};
+
+    ghost Value = { Kept };
+
+    ghost view = { λ d. record { volume = d.volume; openings = d.openings; slots = map (option_map slot_of) d.slots.items } };
+
+    ghost invariant = { λ d. IsDesk (record { volume = d.volume; openings = d.openings; slots = map (option_map slot_of) d.slots.items }) };
+}
+
+impl Desk {
+    ghost use Rattle.lq_volume.specs.Result.{result_of};
+    ghost use Rattle.lq_world.specs.World.{World, first_world};
+    ghost use Rattle.lq_world.specs.Events.{Opened};
+    ghost use Rattle.lq_core.specs.Slot.{fresh_slot};
+    ghost use Rattle.lq_core.specs.Kept.{Kept, KeptStep, Shows, changed, opened, opening_refusal, kept_outcome};
+    ghost use Rattle.lq_core.specs.Kept as kept;
+    ghost use Rattle.lq_core.specs.Act.{happening_at};
+    ghost use Rattle.lq_core.specs.Reply.{Moves, happening_of, answer_of};
+
+    /// A desk over a volume, with 64 free slots. Refused: `NoMemory`.
+    pub fn new(alloc: Global, volume: Volume) -> Result<Desk, Refusal>
+        ensures refused { IsRefusedBy result None }
+        ensures kept { IfOk result (λ desk. desk ≡
+            record { volume = volume; openings = 0; slots = replicate 64 None }) }
+        ensures world { IfOk result (λ desk.
+            Shows desk (first_world (record { start = volume; changes = [] }))) }
+    {
+        first_worlds_are_fair();
+        Ok(Desk {
+            volume,
+            openings: 0,
+            alloc,
+            slots: free_slots(alloc)?,
+        })
+    }
+
+    /// The volume as it is now. It takes no memory.
+    pub fn volume(&self) -> &Volume
+        ensures { result.now ≡ self.now.volume }
+    {
+        &self.volume
+    }
+
+    /// Carries out one event, and answers it.
+    ///
+    /// A change is refused as `Volume::apply` refuses it; an opening, the first that fits, with
+    /// `BadPort`, `BadBacklog`, `NoSlot`, `Exhausted`, `NoMemory`; any other event of a slot that is
+    /// free with `NotOpen`, and so is a close of a subscription that has ended; the finish of a slot
+    /// whose mark wasn't taken with `StillOpen`. A refused event changes nothing. Only a change and
+    /// an opening take memory.
+    pub fn event(&mut self, event: &Event) -> Reply
+        ensures kept { KeptStep self.old (happening_of event.now) (answer_of result) self.new }
+        ensures world { (w : World) → Shows self.old w →
+            Moves self.new w (happening_of event.now) (answer_of result) }
+    {
+        updates_join();
+        changes_are_counted();
+        runs_keep_worlds_fair();
+        self.carry_out(event)
+    }
+
+    // Carries out one event, and answers it.
+    fn carry_out(&mut self, event: &Event) -> Reply
+        ensures { KeptStep self.old (happening_of event.now) (answer_of result) self.new }
+    {
+        match event {
+            Event::Change(change) => match self.change(change) {
+                Ok(applied) => Reply::Changed(applied),
+                Err(refusal) => Reply::Refused(refusal),
+            },
+            Event::Open {
+                predicate,
+                port,
+                backlog,
+                moved,
+            } => match self.open(predicate, *port, *backlog, *moved) {
+                Ok(reply) => reply,
+                Err(refusal) => Reply::Refused(refusal),
+            },
+            Event::Put(slot) => self.act(*slot, Act::Put),
+            Event::Take(slot) => self.act(*slot, Act::Take),
+            Event::HangUp(slot) => self.act(*slot, Act::HangUp),
+            Event::Notice(slot) => self.act(*slot, Act::Notice),
+            Event::Close(slot) => self.act(*slot, Act::Close),
+            Event::Finish(slot) => self.act(*slot, Act::Finish),
+        }
+    }
+
+    // Makes a change, and tells each live query: the messages first, which may want memory, then
+    // the change, and then the messages are told.
+    fn change(&mut self, change: &Change) -> Result<Applied, Refusal>
+        ensures refused { IsRefusedBy result (refused self.old.volume change.now) }
+        ensures value { IfOk result (λ applied. applied ≡
+            record { change = self.old.volume.number + 1; node = node_of self.old.volume change.now }) }
+        ensures ok { OnOk result (self.new ≡ changed self.old change.now) }
+        ensures err { OnErr result (self.new ≡ self.old) }
+    {
+        updates_join();
+        steps_are_few();
+        changes_are_counted();
+        runs_keep_worlds_fair();
+        let _ = self.volume.changes();
+        let _ = self.volume.check(change)?;
+        ready_all(&mut self.slots, &self.volume, change)?;
+        let applied = self.volume.apply(change)?;
+        commit_all(&mut self.slots);
+        Ok(applied)
+    }
+
+    // Opens a live query in the lowest free slot.
+    fn open(
+        &mut self,
+        predicate: &Predicate,
+        port: u64,
+        backlog: u64,
+        moved: bool,
+    ) -> Result<Reply, Refusal>
+        ensures refused { IsRefusedBy result (opening_refusal self.old port backlog) }
+        ensures reply { IfOk result (λ reply. answer_of reply ≡
+            Opened (kept.first_free self.old.slots + 1) self.old.volume.number (result_of predicate.now self.old.volume)) }
+        ensures ok { OnOk result (self.new ≡ opened self.old
+            (fresh_slot predicate.now moved self.old.volume.number port backlog)) }
+        ensures err { OnErr result (self.new ≡ self.old) }
+    {
+        updates_join();
+        changes_are_counted();
+        runs_keep_worlds_fair();
+        if port < 1 || port > MAX_PORT {
+            return Err(Refusal::BadPort);
+        }
+        if backlog > MAX_BACKLOG {
+            return Err(Refusal::BadBacklog);
+        }
+        let place = first_free(&self.slots);
+        if place >= self.slots.len() {
+            return Err(Refusal::NoSlot);
+        }
+        if self.volume.limit() <= self.openings {
+            return Err(Refusal::Exhausted);
+        }
+        let at = self.volume.changes();
+        let result = self.volume.fetch(predicate)?;
+        let slot = Slot::new(self.alloc, predicate, at, port, backlog, moved)?;
+        fill(&mut self.slots, place, slot);
+        self.openings += 1;
+        Ok(Reply::Opened {
+            slot: place as u64 + 1,
+            at,
+            result,
+        })
+    }
+
+    // Does an act at a slot.
+    fn act(&mut self, slot: u64, act: Act) -> Reply
+        ensures { (answer_of result, self.new) ≡ kept_outcome self.old (happening_at act slot) }
+    {
+        updates_join();
+        changes_are_counted();
+        runs_keep_worlds_fair();
+        if slot == 0 || slot > self.slots.len() as u64 {
+            return Reply::Refused(Refusal::NotOpen);
+        }
+        let number = self.volume.changes();
+        act_in(&mut self.slots, (slot - 1) as usize, act, number)
+    }
+}
