@@ -37,7 +37,12 @@ impl Model for Desk {
     ghost use Rattle.lq_core.specs.Kept.{Kept, IsDesk};
     ghost use Rattle.lq_core.specs.Slot.{slot_of};
 
+    ghost use Rattle.std.specs.Coded.{codes};
+    ghost use Rattle.lq_predicate.specs.QueryCode.{coded_query};
+
     ghost Value = { Kept };
+
+    ghost coded = { Prim.hlevel (codes, coded_query) };
 
     ghost view = { λ d. record { volume = d.volume; openings = d.openings; slots = map (option_map slot_of) d.slots.items } };
 

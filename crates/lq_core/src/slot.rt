@@ -43,7 +43,12 @@ impl Model for Slot {
     ghost use Rattle.std.specs.VecDeque.{deque_capacity};
     ghost use Rattle.lq_core.specs.Slot.{PreparedSlot};
 
+    ghost use Rattle.std.specs.Coded.{codes};
+    ghost use Rattle.lq_predicate.specs.QueryCode.{coded_query};
+
     ghost Value = { PreparedSlot };
+
+    ghost coded = { Prim.hlevel (codes, coded_query) };
 
     ghost view = { λ s. record { sub = s.sub; port = s.port; queue = s.queue.items; asked = s.asked } };
 
