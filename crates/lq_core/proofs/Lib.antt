@@ -5,3 +5,4 @@ pub mod SlotLemmas
 pub mod Shown
 pub mod SlotsLemmas
 pub mod Desks
+pub mod RunLemmas

@@ -235,9 +235,8 @@ module _ (join : UpdatesJoin) (b : Book) (c : Change_) (s : Sub) (f : IsFair b s
     live-same_after : slot_after (state_of b) c (slot_for b s) ≡ slot_for after (after_change b c s)
     live-same_after =
         ap (λ o. if is_none (option_map (mark_of (length (told b s))) o) then record (slot_for b s) { held = h.held_after (state_of b) c (held_for b s) } else slot_for b s) live
-        ∙ (ap (λ n. record (slot_for b s) { held = told_if (held_for b s) step (state_of b).number (nat_lt 0 (length step) && nat_lt s.backlog (n + length step)) }) (length-drop s.put (told b s))
         ∙ (by (overruns b c s)
-        ∙ sym (ap (λ o. slot_for after (overrun_if b s (is_none o && overruns b c s))) live)))
+        ∙ sym (ap (λ o. slot_for after (overrun_if b s (is_none o && overruns b c s))) live))
       where
         by : (x : Bool) → record (slot_for b s) { held = told_if (held_for b s) step (state_of b).number x } ≡ slot_for after (overrun_if b s x)
         by true =

@@ -11,7 +11,7 @@ use Rattle.lq_volume.specs.Change.{after, refused, node_of}
 use Rattle.lq_volume.specs.Result.{result_of}
 use Rattle.lq_volume.specs.Book.{Book, state_of}
 use Rattle.lq_update.specs.declared.mark.Mark.{Mark}
-use Rattle.lq_world.specs.World.{World, Sub, End, told, whole}
+use Rattle.lq_world.specs.World.{World, Sub, End, told, waiting, in_port}
 use Rattle.lq_world.specs.Events.{Happening, Changing, Opening, Putting, Taking, HangingUp, Noticing, Closing, Finishing, Answer, Changed, Opened, Refused}
 use Rattle.lq_world.specs.Fair.{IsFairWorld}
 use Rattle.lq_core.specs.Held.{Held}
@@ -103,8 +103,7 @@ KeptStep k e a l = ((a ≡ (kept_outcome k e).0) × (l ≡ (kept_outcome k e).1)
 abbrev pub mark_of : ℕ → End → Mark
 mark_of n e = record { seq = n + 1; change = e.change; cause = e.cause }
 
--- what a world's subscription leaves with the desk: of its list, what is past the first `put` is held, and what is
--- of those and past the first `taken` is in the port
+-- what a world's subscription leaves with the desk
 abbrev pub held_for : Book → Sub → Held
 held_for b s = record {
   query = s.query;
@@ -112,13 +111,13 @@ held_for b s = record {
   opened = s.opened;
   backlog = s.backlog;
   sent = length (told b s);
-  messages = drop s.put (told b s);
+  messages = waiting b s;
   mark = option_map (mark_of (length (told b s))) s.end;
   mark_out = nat_lt (length (told b s)) s.put;
 }
 
 abbrev pub slot_for : Book → Sub → KeptSlot
-slot_for b s = record { held = held_for b s; port = s.port; queue = drop s.taken (take s.put (whole b s)); asked = s.asked }
+slot_for b s = record { held = held_for b s; port = s.port; queue = in_port b s; asked = s.asked }
 
 -- what the desk keeps where this world stands
 abbrev pub kept_of : World → Kept

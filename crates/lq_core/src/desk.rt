@@ -1,5 +1,6 @@
 //! The desk.
-ghost use Rattle.std.specs.Prelude.{◌≡◌, ◌+◌, [], ◌∷◌, None, Some, IfOk, OnOk, OnErr, replicate};
+ghost use Rattle.std.specs.Prelude.{◌≡◌, ◌+◌, [], ◌∷◌, None, Some, IfOk, OnOk, OnErr, map, replicate};
+ghost use Rattle.lq_volume.specs.State.{IsVolume};
 ghost use Rattle.lq_value.specs.Refusal.{IsRefusedBy};
 ghost use Rattle.lq_volume.specs.Change.{refused, node_of};
 
@@ -10,7 +11,7 @@ use lq_predicate::Predicate;
 use lq_update::{steps_are_few, updates_join};
 use lq_value::Refusal;
 use lq_volume::{Applied, Change, Volume, changes_are_counted};
-use lq_world::{first_worlds_are_fair, runs_keep_worlds_fair};
+use lq_world::{first_worlds_are_fair, readers_are_told, runs_keep_worlds_fair};
 use std::alloc::Global;
 use std::marker::Model;
 
@@ -53,11 +54,12 @@ impl Desk {
     ghost use Rattle.lq_volume.specs.Result.{result_of};
     ghost use Rattle.lq_world.specs.World.{World, first_world};
     ghost use Rattle.lq_world.specs.Events.{Opened};
+    ghost use Rattle.lq_world.specs.Headline.{ReadersAreTold};
     ghost use Rattle.lq_core.specs.Slot.{fresh_slot};
     ghost use Rattle.lq_core.specs.Kept.{Kept, KeptStep, Shows, changed, opened, opening_refusal, kept_outcome};
     ghost use Rattle.lq_core.specs.Kept as kept;
     ghost use Rattle.lq_core.specs.Act.{happening_at};
-    ghost use Rattle.lq_core.specs.Reply.{Moves, happening_of, answer_of};
+    ghost use Rattle.lq_core.specs.Reply.{Moves, Runs, happening_of, answer_of};
 
     /// A desk over a volume, with 64 free slots. Refused: `NoMemory`.
     pub fn new(alloc: Global, volume: Volume) -> Result<Desk, Refusal>
@@ -99,6 +101,30 @@ impl Desk {
         changes_are_counted();
         runs_keep_worlds_fair();
         self.carry_out(event)
+    }
+
+    /// Carries out events one after another, and answers each.
+    ///
+    /// Refused: `NoMemory`, before any event. The takes of each subscription that these events open
+    /// are answered as a reader of its update list is told: each message once and in order, the
+    /// mark behind them, and after each change that folds to the query's result.
+    pub fn run(&mut self, events: &[Event]) -> Result<Vec<Reply>, Refusal>
+        ensures refused { IsRefusedBy result None }
+        ensures run { IfOk result (λ replies. (w : World) → Shows self.old w →
+            Runs self.new w (map happening_of events.now) (map answer_of replies.items)) }
+        ensures readers { IfOk result (λ replies. ReadersAreTold self.old.volume
+            (map happening_of events.now) (map answer_of replies.items)) }
+        ensures volume { IsVolume self.old.volume }
+        ensures err { OnErr result (self.new ≡ self.old) }
+    {
+        readers_are_told();
+        let _ = self.volume.changes();
+        let mut replies = Vec::with_capacity(self.alloc, events.len())?;
+        for event in events {
+            let reply = self.event(event);
+            replies.push_reserved(reply);
+        }
+        Ok(replies)
     }
 
     // Carries out one event, and answers it.
