@@ -7,3 +7,4 @@ pub mod Reply
 pub mod Script
 pub mod Asked
 pub mod Answer
+pub mod Check

@@ -13,7 +13,7 @@ use Rattle.lq_value.specs.Value.{text_refusal}
 use Rattle.lq_value.specs.declared.value.Value.{Value}
 use Rattle.lq_value.specs.declared.value.Value.TheVariants.{Text, Int32, Int64, UInt32, UInt64}
 use Rattle.lq_formula.specs.Query.{Query}
-use Rattle.lq_predicate.specs.Reads.{predicate_of}
+use Rattle.lq_formula.specs.Reading.{reading_of}
 use Rattle.lq_volume.specs.declared.change.Change.TheVariants.{Create, Remove, Move, Write, SetAttr, RemoveAttr}
 use Rattle.lq_desk.specs.World.{Happening, Changing, Opening, Taking}
 
@@ -196,13 +196,13 @@ abbrev pub asked_in : List ℕ → Result Asked Refusal
 asked_in line = if is_utf8 line then asked_from (read line) else Err NotUtf8
 
 -- the refusals of the values
-abbrev pub opening_or : Option Query → ℕ → ℕ → Bool → Result Question Refusal
-opening_or None port backlog moved = Err (BadQuery 0)
-opening_or (Some q) port backlog moved = Ok (Happens (Opening q port backlog moved))
+abbrev pub opening_or : Result Query ℕ → ℕ → ℕ → Bool → Result Question Refusal
+opening_or (Err place) port backlog moved = Err (BadQuery place)
+opening_or (Ok q) port backlog moved = Ok (Happens (Opening q port backlog moved))
 
-abbrev pub fetching_or : Option Query → Result Question Refusal
-fetching_or None = Err (BadQuery 0)
-fetching_or (Some q) = Ok (Fetches q)
+abbrev pub fetching_or : Result Query ℕ → Result Question Refusal
+fetching_or (Err place) = Err (BadQuery place)
+fetching_or (Ok q) = Ok (Fetches q)
 
 abbrev pub text_or : Option Refusal → List ℕ → Result Value Refusal
 text_or None text = Ok (Text text)
@@ -223,11 +223,11 @@ question_for (asks_move node dir name clobber) = if is_name name then Ok (Happen
 question_for (asks_write node size time) = Ok (Happens (Changing (Write node size time)))
 question_for (asks_set node attr value) = if is_attr_name attr then setting_for node attr (value_for value) else Err BadName
 question_for (asks_unset node attr) = if is_attr_name attr then Ok (Happens (Changing (RemoveAttr node attr))) else Err BadName
-question_for (asks_open query port backlog moved) = opening_or (predicate_of query) port backlog moved
+question_for (asks_open query port backlog moved) = opening_or (reading_of query) port backlog moved
 question_for (asks_read slot) = Ok (Happens (Taking slot))
 question_for (asks_find dir name) = if is_name name then Ok (Finds dir name) else Err BadName
 question_for (asks_entry node) = Ok (Lists node)
-question_for (asks_fetch query) = fetching_or (predicate_of query)
+question_for (asks_fetch query) = fetching_or (reading_of query)
 
 abbrev pub question_from : Result Asked Refusal → Result Question Refusal
 question_from (Err e) = Err e

@@ -7,6 +7,7 @@
 #![tactic(auto)]
 
 mod asking;
+mod check;
 mod devices;
 mod intake;
 mod laws;
@@ -25,6 +26,7 @@ mod tests;
 mod words;
 mod writing;
 
+pub use check::check;
 pub use devices::{Failed, Host, Sink, Source};
 pub use laws::{a_last_line_needs_no_lf, a_line_ends_at_the_first_lf, ended_lines_stay};
 pub use over_lines::run_lines;

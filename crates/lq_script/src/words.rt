@@ -1,16 +1,21 @@
 //! The program's words, and its status.
 ghost use Rattle.std.specs.Prelude.{◌≡◌, false};
 
-use crate::devices::{Sink, Source};
+use crate::check::check;
+use crate::devices::{Failed, Sink, Source};
 use crate::run_fault::RunFault;
 use crate::script::run;
 use crate::writing::write_all;
+use lq_value::Refusal;
 use std::alloc::Global;
 
 /// Does what the words after the program's name ask for, and answers its status.
 ///
-/// `run` carries out the reader's script. Status 0: done; 1: a `RunFault`, with one line on
-/// `faults`; 2: any other words, with `lq: usage` there. A fault of `faults` is ignored.
+/// `run` carries out the reader's script, `check FORMULA` writes the formula's canonical text and
+/// LF; a formula that begins with `-` stands behind `--`. Status 0: done; 1: a `RunFault`, or want
+/// of memory or a fault of the writer in `check`, with one line on `faults`; 2: a formula that is
+/// refused, with `lq: BadQuery at P` there, or any other words, with `lq: usage`. A fault of
+/// `faults` is ignored.
 pub fn program<R: Source, W: Sink, F: Sink>(
     alloc: Global,
     words: &[String],
@@ -30,9 +35,63 @@ pub fn program<R: Source, W: Sink, F: Sink>(
                 1
             }
         },
+        [word, formula] if word.as_str() == "check" && !formula.as_str().starts_with('-') => {
+            check_formula(alloc, formula.as_str(), writer, faults)
+        }
+        [word, dashes, formula] if word.as_str() == "check" && dashes.as_str() == "--" => {
+            check_formula(alloc, formula.as_str(), writer, faults)
+        }
         _ => {
             let _ = write_all(faults, b"lq: usage\n");
             2
+        }
+    }
+}
+
+fn check_formula<W: Sink, F: Sink>(
+    alloc: Global,
+    formula: &str,
+    writer: &mut W,
+    faults: &mut F,
+) -> u8 {
+    match line_for(alloc, formula) {
+        Ok(line) => match write_line(line.as_str(), writer) {
+            Ok(()) => 0,
+            Err(Failed) => {
+                let _ = write_all(faults, line_of(RunFault::Write).as_bytes());
+                1
+            }
+        },
+        Err(Refusal::NoMemory) => {
+            let _ = write_all(faults, line_of(RunFault::Memory).as_bytes());
+            1
+        }
+        Err(refusal) => tell_refusal(alloc, refusal, faults),
+    }
+}
+
+// The canonical text of a formula, and LF.
+fn line_for(alloc: Global, formula: &str) -> Result<String, Refusal> {
+    let mut line = check(alloc, formula)?;
+    line.push('\n')?;
+    Ok(line)
+}
+
+fn write_line<W: Sink>(line: &str, writer: &mut W) -> Result<(), Failed> {
+    write_all(writer, line.as_bytes())?;
+    writer.flush()
+}
+
+// The line of a refusal on standard error, and the status.
+fn tell_refusal<F: Sink>(alloc: Global, refusal: Refusal, faults: &mut F) -> u8 {
+    match format!(in alloc; "lq: {refusal}\n") {
+        Ok(line) => {
+            let _ = write_all(faults, line.as_bytes());
+            2
+        }
+        Err(_) => {
+            let _ = write_all(faults, line_of(RunFault::Memory).as_bytes());
+            1
         }
     }
 }
