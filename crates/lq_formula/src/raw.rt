@@ -2,8 +2,10 @@
 ghost use Rattle.std.specs.Prelude.{◌≡◌, Some, None, IfOk, IfSome, IfNone, is_some, false, true, length};
 ghost use Rattle.std.specs.String.{string_bytes};
 ghost use Rattle.lq_value.specs.Refusal.{IsRefusedBy};
+ghost use Rattle.lq_formula.specs.Limits.{IsGoodBehind};
 ghost use Rattle.lq_formula.specs.Literals.{has_no_nul, literal_of, literal_refusal, name_of, name_refusal, takes_pattern as patterned, unescaped};
 
+use crate::laws::patterns_are_good;
 use lq_value::{AttrName, Literal, Op, Pattern, Refusal, Text};
 use std::alloc::Global;
 
@@ -39,12 +41,15 @@ pub fn read_name(alloc: Global, raw: &str) -> Result<AttrName, Refusal>
 /// writes, else the text with each `\` before a character taken off.
 ///
 /// Refused, the first that fits: `BadQuery` with the byte place in the raw text of the pattern's
-/// leftmost fault, `NoMemory`.
+/// leftmost fault, `NoMemory`. The literal suits the operator, and its canonical text is a source
+/// of it.
 pub fn read_literal(alloc: Global, op: Op, raw: &str) -> Result<Literal, Refusal>
     ensures refused { IsRefusedBy result (literal_refusal op raw.now) }
     ensures value { IfOk result (λ literal. literal_of op raw.now ≡ Some literal) }
+    ensures good { IfOk result (λ literal. IsGoodBehind op literal) }
 {
     if takes_pattern(op) {
+        patterns_are_good();
         Ok(Literal::Pattern(Pattern::read(alloc, raw)?))
     } else {
         Ok(Literal::Plain(Text::new(unescape(alloc, raw)?)))
