@@ -1,6 +1,6 @@
 -- A rebuild takes each message of an update list in turn.
 use Rattle.std.proofs.Common.{◌≡◌, ℕ, ◌+◌, ◌<◌, ◌≤◌, List, [], ◌∷◌, ◌++◌, length, refl, sym, ap, subst, ◌∙◌, Bool, true, false, arith, inl, inr, ◌⊎◌}
-use Rattle.std.specs.Prelude.{None, not, ◌==◌, nat_le}
+use Rattle.std.specs.Prelude.{None, ◌==◌, nat_le}
 use Rattle.std.proofs.lemmas.Bool.Decides.{nat_tests}
 use Rattle.lq_value.specs.declared.entry.Entry.{Entry}
 use Rattle.lq_value.specs.Refusal.{first_refusal}
@@ -8,7 +8,7 @@ use Rattle.lq_formula.specs.Query.{Query}
 use Rattle.lq_volume.specs.declared.change.Change.{Change}
 use Rattle.lq_volume.specs.State.{State, IsVolume}
 use Rattle.lq_volume.specs.Change.{after}
-use Rattle.lq_volume.specs.Book.{Book, AreLawful, state_at, changes_between}
+use Rattle.lq_volume.specs.Book.{AreLawful, state_at, changes_between}
 use Rattle.lq_volume.specs.Result.{result_of}
 use Rattle.lq_volume.specs.Laws.{ChangesKeepTrees, ChangesCount}
 use Rattle.lq_update.specs.declared.message.Message.{Message}
