@@ -1,8 +1,9 @@
-//! Predicates: reading their formulas, and when they hold of a row.
+//! Predicates: from formulas or from pushes on a stack, written, and when they hold of a row.
 //!
-//! A contract sees a predicate as a `Query` (`specs/Query`), and a row as what it shows under
-//! each attribute's name (`specs/Truth`). Nothing here waits, and `holds` takes no memory.
-//! Begin with `predicate`, then `truth`, then `read`.
+//! A contract sees a predicate as a `Query` (`specs/Query`), a row as what it shows under each
+//! attribute's name (`specs/Truth`), and a stack as its items (`specs/Stack` has what each push
+//! gives). Nothing here waits, and `holds` takes no memory.
+//! Begin with `predicate`, then `truth`, then `stack`.
 #![tactic(auto)]
 
 mod attributes;
@@ -14,6 +15,8 @@ mod predicate;
 mod stack;
 mod stack_comparison;
 mod stack_op;
+#[cfg(test)]
+mod tests;
 mod truth;
 
 pub use attributes::names;
