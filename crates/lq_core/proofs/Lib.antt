@@ -6,3 +6,4 @@ pub mod Shown
 pub mod SlotsLemmas
 pub mod Desks
 pub mod RunLemmas
+pub mod PassedLemmas

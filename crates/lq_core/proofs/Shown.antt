@@ -36,7 +36,7 @@ flatten-map f None = refl
 flatten-map f (Some None) = refl
 flatten-map f (Some (Some x)) = refl
 
-kept_at-same : (w : World) (slot : ℕ) → kept_at (kept_of w) slot ≡ option_map (slot_for w.book) (slot_at w slot)
+pub kept_at-same : (w : World) (slot : ℕ) → kept_at (kept_of w) slot ≡ option_map (slot_for w.book) (slot_at w slot)
 kept_at-same w slot = by (slot == 0)
   where
     f : Sub → KeptSlot
@@ -47,7 +47,7 @@ kept_at-same w slot = by (slot == 0)
     by true = refl
     by false = ap option_flatten (slice_get-map (option_map (slot_for w.book)) w.slots (slot - 1)) ∙ flatten-map (slot_for w.book) (slice_get w.slots (slot - 1))
 
-slot-found : (w : World) (slot : ℕ) (s : Sub) → slot_at w slot ≡ Some s → slice_get w.slots (slot - 1) ≡ Some (Some s)
+pub slot-found : (w : World) (slot : ℕ) (s : Sub) → slot_at w slot ≡ Some s → slice_get w.slots (slot - 1) ≡ Some (Some s)
 slot-found w slot s is = by (slot == 0) (slice_get w.slots (slot - 1)) is
   where
     by : (x : Bool) (o : Option (Option Sub)) → (if x then None else option_flatten o) ≡ Some s → o ≡ Some (Some s)

@@ -11,7 +11,7 @@ use lq_predicate::Predicate;
 use lq_update::{steps_are_few, updates_join};
 use lq_value::Refusal;
 use lq_volume::{Applied, Change, Volume, changes_are_counted};
-use lq_world::{first_worlds_are_fair, readers_are_told, runs_keep_worlds_fair};
+use lq_world::{first_worlds_are_fair, readers_are_told, refusals_leave_worlds, runs_keep_worlds_fair};
 use std::alloc::Global;
 use std::marker::Model;
 
@@ -53,7 +53,8 @@ impl Model for Desk {
 impl Desk {
     ghost use Rattle.lq_volume.specs.Result.{result_of};
     ghost use Rattle.lq_world.specs.World.{World, first_world};
-    ghost use Rattle.lq_world.specs.Events.{Opened};
+    ghost use Rattle.lq_world.specs.Events.{Opened, Refused};
+    ghost use Rattle.lq_value.specs.declared.refusal.Refusal.{Refusal};
     ghost use Rattle.lq_world.specs.Headline.{ReadersAreTold};
     ghost use Rattle.lq_core.specs.Slot.{fresh_slot};
     ghost use Rattle.lq_core.specs.Kept.{Kept, KeptStep, Shows, changed, opened, opening_refusal, kept_outcome};
@@ -96,10 +97,13 @@ impl Desk {
         ensures kept { KeptStep self.old (happening_of event.now) (answer_of result) self.new }
         ensures world { (w : World) → Shows self.old w →
             Moves self.new w (happening_of event.now) (answer_of result) }
+        ensures refused { (refusal : Refusal) → answer_of result ≡ Refused refusal → self.new ≡ self.old }
     {
         updates_join();
         changes_are_counted();
         runs_keep_worlds_fair();
+        refusals_leave_worlds();
+        let _ = &self.volume;
         self.carry_out(event)
     }
 

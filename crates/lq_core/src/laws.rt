@@ -1,9 +1,9 @@
 //! Laws of subscriptions and desks: each is the contract of a function that does nothing.
-ghost use Rattle.lq_core.specs.Laws.{KeptShowsWorlds, PuttingBackUndoes};
+ghost use Rattle.lq_core.specs.Laws.{KeptPassesListsOn, KeptShowsWorlds, PuttingBackUndoes};
 
 use lq_update::updates_join;
 use lq_volume::changes_are_counted;
-use lq_world::runs_keep_worlds_fair;
+use lq_world::{lists_are_passed_on, runs_keep_worlds_fair};
 
 /// A parcel that goes out and is put back leaves a subscription as it was.
 pub fn putting_back_undoes()
@@ -17,4 +17,12 @@ pub fn kept_shows_worlds()
     updates_join();
     changes_are_counted();
     runs_keep_worlds_fair();
+}
+
+/// What was taken of a subscription, then what is in its port, then what is held for it, then a mark
+/// that hasn't gone out, is its whole list.
+pub fn kept_passes_lists_on()
+    ensures { KeptPassesListsOn }
+{
+    lists_are_passed_on();
 }

@@ -15,5 +15,5 @@ mod sub;
 
 pub use desk::Desk;
 pub use event::{Event, Read, Reply};
-pub use laws::{kept_shows_worlds, putting_back_undoes};
+pub use laws::{kept_passes_lists_on, kept_shows_worlds, putting_back_undoes};
 pub use sub::Sub;
