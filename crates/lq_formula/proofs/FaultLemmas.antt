@@ -11,13 +11,13 @@ use Rattle.lq_formula.specs.Literals.{bad_place, literal_fault, literal_of, name
 use Rattle.lq_formula.specs.Query.{Query, Compare}
 use Rattle.lq_formula.specs.Grammar.{IsFormula, nesting}
 use Rattle.lq_formula.specs.Machine.{Frame, Place, operand, after_attr, after_op, after_operand, State, completed, start, step, steps}
-use Rattle.lq_formula.specs.Faults.{AreFine, AwaitsAttr, IsFaultOf, stray, cut_off, alone, too_deep, bad_name, one_more, bad_pattern, kind_of, most_comparisons, words}
-use Rattle.lq_formula.specs.Reading.{fault_place, fault_place_of, place_with}
+use Rattle.lq_formula.specs.Faults.{AreFine, AwaitsAttr, IsFaultOf, stray, cut_off, alone, too_deep, bad_name, one_more, bad_pattern, kind_of, most_comparisons, op_count, operators}
+use Rattle.lq_formula.specs.Reading.{fault_place, fault_place_of, place_with, word_count}
 use Rattle.lq_formula.proofs.SoundLemmas.{run_reads}
 use Rattle.lq_formula.proofs.StopLemmas.{begun, leads_on, not_begun, steps_push, steps_run}
 use Rattle.lq_formula.proofs.DepthLemmas.{at, steps_wider, wider}
 use Rattle.lq_formula.proofs.OutlineLemmas.{Outline, cannot, outline_of, outline_step, outline_steps, stands_outline}
-use Rattle.lq_formula.proofs.WordLemmas.{words_append}
+use Rattle.lq_formula.proofs.WordLemmas.{words_append, words}
 
 -- ---- steps over two lists
 
@@ -33,7 +33,7 @@ split_then None ts us s ih e = fails s e
 split_then (Some x) ts us s ih e = ih x e
 
 -- the state between
-split_steps : (ts us : List Token) (x s : State) → steps x (ts ++ us) ≡ Some s → (y : State) × (steps x ts ≡ Some y) × (steps y us ≡ Some s)
+pub split_steps : (ts us : List Token) (x s : State) → steps x (ts ++ us) ≡ Some s → (y : State) × (steps x ts ≡ Some y) × (steps y us ≡ Some s)
 split_steps [] us x s e = (x, refl, e)
 split_steps (t ∷ ts) us x s e = split_then (step x t) ts us s (λ y h. split_steps ts us y s h) e
 
@@ -51,7 +51,7 @@ first_then None ts s e = fails s e
 first_then (Some x) ts s e = (x, refl)
 
 -- tokens that were taken begin a formula
-begun_at : (n : ℕ) (ts : List Token) (s : State) → steps (start n) ts ≡ Some s → (rest : List Token) × (q : Query) × IsFormula n (ts ++ rest) q
+pub begun_at : (n : ℕ) (ts : List Token) (s : State) → steps (start n) ts ≡ Some s → (rest : List Token) × (q : Query) × IsFormula n (ts ++ rest) q
 begun_at n ts s e =
     let h = leads_on s.place s.below s.top s.room in
     (h.rest, h.q, run_reads n (ts ++ h.rest) h.q (steps_run ts (start n) s h.rest e ∙ h.runs))
@@ -256,9 +256,102 @@ refused_at after_operand below f n cut end ts place raw e h = cut_off refl refl
 pub refused_fault : (end : ℕ) (ts : List Token) (s : State) (here : Placed) → steps (start nesting) ts ≡ Some s → step s here.token ≡ None → IsFaultOf end ts here (fault_place end s.place here)
 refused_fault end ts s here e h = refused_at s.place s.below s.top s.room here.token end ts here.place here.raw_place e h
 
+-- ---- words and operators
+
+-- a word whose operator is awaited, and an operator whose literal is
+abbrev extra_word : Place → ℕ
+extra_word operand = 0
+extra_word (after_attr a) = 1
+extra_word (after_op a o) = 0
+extra_word after_operand = 0
+
+abbrev extra_op : Place → ℕ
+extra_op operand = 0
+extra_op (after_attr a) = 0
+extra_op (after_op a o) = 1
+extra_op after_operand = 0
+
+-- from one place to another by so many words and operators
+abbrev Balances : Place → ℕ → ℕ → Place → Type 0
+Balances p m n p' = m + extra_op p' + extra_word p ≡ n + n + extra_word p' + extra_op p
+
+carried : (P : State → Type 0) (x s : State) → Some x ≡ Some s → P x → P s
+carried P x s e h = let same : x ≡ s = cc in subst P same h
+
+carried_by : {A : Type 0} (P : State → Type 0) (r : Option A) (f : A → State) (s : State) → option_map f r ≡ Some s → ((x : A) → P (f x)) → P s
+carried_by P None f s e h = fails s e
+carried_by P (Some x) f s e h = carried P (f x) s e (h x)
+
+step_balances : (p : Place) (below : List Frame) (f : Frame) (n : ℕ) (t : Token) (s : State) → step (at p below f n) t ≡ Some s → Balances p (word_count t) (op_count t) s.place
+step_balances operand below f zero opens s e = fails s e
+step_balances operand below f (suc n) opens s e = carried (λ x. Balances operand (word_count opens) (op_count opens) x.place) _ s e refl
+step_balances operand below f n closes s e = fails s e
+step_balances operand below f zero bang s e = fails s e
+step_balances operand below f (suc n) bang s e = carried (λ x. Balances operand (word_count bang) (op_count bang) x.place) _ s e refl
+step_balances operand below f n ands s e = fails s e
+step_balances operand below f n ors s e = fails s e
+step_balances operand below f n (op u) s e = fails s e
+step_balances operand below f n (word w) s e = carried_by (λ x. Balances operand (word_count (word w)) (op_count (word w)) x.place) (name_of w) (λ name. at (after_attr name) below f n) s e (λ x. refl)
+step_balances operand below f n lone s e = fails s e
+step_balances operand below f n cut s e = fails s e
+step_balances (after_attr a) below f n opens s e = fails s e
+step_balances (after_attr a) below f n closes s e = fails s e
+step_balances (after_attr a) below f n bang s e = fails s e
+step_balances (after_attr a) below f n ands s e = fails s e
+step_balances (after_attr a) below f n ors s e = fails s e
+step_balances (after_attr a) below f n (op u) s e = carried (λ x. Balances (after_attr a) (word_count (op u)) (op_count (op u)) x.place) _ s e refl
+step_balances (after_attr a) below f n (word w) s e = fails s e
+step_balances (after_attr a) below f n lone s e = fails s e
+step_balances (after_attr a) below f n cut s e = fails s e
+step_balances (after_op a o) below f n opens s e = fails s e
+step_balances (after_op a o) below f n closes s e = fails s e
+step_balances (after_op a o) below f n bang s e = fails s e
+step_balances (after_op a o) below f n ands s e = fails s e
+step_balances (after_op a o) below f n ors s e = fails s e
+step_balances (after_op a o) below f n (op u) s e = fails s e
+step_balances (after_op a o) below f n (word w) s e = carried_by (λ x. Balances (after_op a o) (word_count (word w)) (op_count (word w)) x.place) (literal_of o w) (λ literal. completed (Compare a o literal) below f n) s e (λ x. refl)
+step_balances (after_op a o) below f n lone s e = fails s e
+step_balances (after_op a o) below f n cut s e = fails s e
+step_balances after_operand below f n opens s e = fails s e
+step_balances after_operand [] f n closes s e = fails s e
+step_balances after_operand (g ∷ gs) f n closes s e = carried (λ x. Balances after_operand (word_count closes) (op_count closes) x.place) _ s e refl
+step_balances after_operand below f n bang s e = fails s e
+step_balances after_operand below f n ands s e = carried (λ x. Balances after_operand (word_count ands) (op_count ands) x.place) _ s e refl
+step_balances after_operand below f n ors s e = carried (λ x. Balances after_operand (word_count ors) (op_count ors) x.place) _ s e refl
+step_balances after_operand below f n (op u) s e = fails s e
+step_balances after_operand below f n (word w) s e = fails s e
+step_balances after_operand below f n lone s e = fails s e
+step_balances after_operand below f n cut s e = fails s e
+
+one_step : (p p' p'' : Place) (m n k l : ℕ) → Balances p m n p' → Balances p' k l p'' → Balances p (m + k) (n + l) p''
+one_step p p' p'' m n k l g h = omega arith
+
+balance_then : (r : Option State) (x : State) (t : Token) (ts : List Token) (s : State) → step x t ≡ r → ((y : State) → steps y ts ≡ Some s → Balances y.place (words ts) (operators ts) s.place) → option_and_then (λ y. steps y ts) r ≡ Some s
+    → Balances x.place (word_count t + words ts) (op_count t + operators ts) s.place
+balance_then None x t ts s f ih e = fails s e
+balance_then (Some y) x t ts s f ih e =
+    one_step x.place y.place s.place (word_count t) (op_count t) (words ts) (operators ts) (step_balances x.place x.below x.top x.room t y f) (ih y e)
+
+balanced : (ts : List Token) (x s : State) → steps x ts ≡ Some s → Balances x.place (words ts) (operators ts) s.place
+balanced [] x s e = carried (λ y. Balances x.place 0 0 y.place) x s e (omega arith)
+balanced (t ∷ ts) x s e = balance_then (step x t) x t ts s refl (λ y h. balanced ts y s h) e
+
+-- a word that is taken behind so many: of the 257th comparison
+full_at : (p : Place) (below : List Frame) (f : Frame) (n : ℕ) (w : List ℕ) (s : State) (ts : List Token) → steps (start nesting) ts ≡ Some (at p below f n) → words ts ≡ most_comparisons + most_comparisons → step (at p below f n) (word w) ≡ Some s
+    → AwaitsAttr ts × (operators ts ≡ most_comparisons)
+full_at operand below f n w s ts e m g = let b = balanced ts (start nesting) (at operand below f n) e in (awaits_attr ts below f n e, omega arith)
+full_at (after_attr a) below f n w s ts e m g = fails s g
+full_at (after_op a o) below f n w s ts e m g = let b = balanced ts (start nesting) (at (after_op a o) below f n) e in absurd (omega arith)
+full_at after_operand below f n w s ts e m g = fails s g
+
+pub full : (end : ℕ) (ts : List Token) (s s' : State) (here : Placed) (w : List ℕ) → steps (start nesting) ts ≡ Some s → words ts ≡ most_comparisons + most_comparisons → here.token ≡ word w → step s here.token ≡ Some s' → IsFaultOf end ts here here.place
+full end ts s s' here w e m h g =
+    let k = full_at s.place s.below s.top s.room w s' ts e m (subst (λ t. step s t ≡ Some s') h g) in
+    one_more w h k.0 k.1 refl
+
 -- ---- what is taken
 
-never_cut : (p : Place) (below : List Frame) (f : Frame) (n : ℕ) (s : State) → step (at p below f n) cut ≡ Some s → ⊥
+pub never_cut : (p : Place) (below : List Frame) (f : Frame) (n : ℕ) (s : State) → step (at p below f n) cut ≡ Some s → ⊥
 never_cut operand below f n s e = fails s e
 never_cut (after_attr a) below f n s e = fails s e
 never_cut (after_op a o) below f n s e = fails s e
@@ -270,7 +363,7 @@ never_lone (after_attr a) below f n s e = fails s e
 never_lone (after_op a o) below f n s e = fails s e
 never_lone after_operand below f n s e = fails s e
 
-no_outline : {X : Type 0} (o : Outline) → None ≡ Some o → X
+pub no_outline : {X : Type 0} (o : Outline) → None ≡ Some o → X
 no_outline o e = cc
 
 mapped_none : {A : Type 0} (r : Option A) (f : A → State) (s : State) → r ≡ None → option_map f r ≡ Some s → ⊥
@@ -306,11 +399,18 @@ never_bad_at (after_attr a) below f n o w k s s' e g h =
 never_bad_at (after_op a u) below f n o w k s s' e g h = fails s e
 never_bad_at after_operand below f n o w k s s' e g h = fails s e
 
-never_bad : (front : List Token) (o : Op) (w : List ℕ) (k : ℕ) (s s' : State) → steps (start nesting) (front ++ op o ∷ []) ≡ Some s → step s (word w) ≡ Some s' → literal_fault o w ≡ Some k → ⊥
+pub never_bad : (front : List Token) (o : Op) (w : List ℕ) (k : ℕ) (s s' : State) → steps (start nesting) (front ++ op o ∷ []) ≡ Some s → step s (word w) ≡ Some s' → literal_fault o w ≡ Some k → ⊥
 never_bad front o w k s s' e g h =
     let d = split_steps front (op o ∷ []) (start nesting) s e in
     let y = d.0 in
     never_bad_at y.place y.below y.top y.room o w k s s' (sym (steps_push front (op o) (start nesting) y d.1) ∙ e) g h
+
+never_full : (p : Place) (below : List Frame) (f : Frame) (n : ℕ) (w : List ℕ) (s : State) (ts : List Token) → steps (start nesting) ts ≡ Some (at p below f n) → step (at p below f n) (word w) ≡ Some s → operators ts ≡ most_comparisons
+    → words (ts ++ word w ∷ []) ≤ most_comparisons + most_comparisons → (o : Outline) → outline_steps (outline_of (at p below f n)) (word [] ∷ op Eq ∷ []) ≡ Some o → ⊥
+never_full operand below f n w s ts e g m few o k = let b = balanced ts (start nesting) (at operand below f n) e in omega (arith, words_append ts (word w ∷ []))
+never_full (after_attr a) below f n w s ts e g m few o k = fails s g
+never_full (after_op a u) below f n w s ts e g m few o k = no_outline o k
+never_full after_operand below f n w s ts e g m few o k = fails s g
 
 -- a token that is taken, with no more than so many words, is at no fault
 taken_fine : (end : ℕ) (front : List Token) (here : Placed) (s s' : State) (p : ℕ) → steps (start nesting) front ≡ Some s → step s here.token ≡ Some s' → words (front ++ here.token ∷ []) ≤ most_comparisons + most_comparisons
@@ -324,9 +424,9 @@ taken_fine end front here s s' p e g few (too_deep h d j) = d.1 (begun (front ++
 taken_fine end front here s s' p e g few (bad_name w h a n j) =
     let o = stands_outline nesting front (word [] ∷ op Eq ∷ []) s e a in
     never_nameless s.place s.below s.top s.room w s' (subst (λ t. step s t ≡ Some s') h g) n o.0 o.1
-taken_fine end front here s s' p e g few (one_more w h m j) =
-    let k : words (front ++ word w ∷ []) ≤ most_comparisons + most_comparisons = subst (λ t. words (front ++ t ∷ []) ≤ most_comparisons + most_comparisons) h few in
-    omega (arith, words_append front (word w ∷ []))
+taken_fine end front here s s' p e g few (one_more w h a m j) =
+    let o = stands_outline nesting front (word [] ∷ op Eq ∷ []) s e a in
+    never_full s.place s.below s.top s.room w s' front e (subst (λ t. step s t ≡ Some s') h g) m (subst (λ t. words (front ++ t ∷ []) ≤ most_comparisons + most_comparisons) h few) o.0 o.1
 taken_fine end front here s s' p e g few (bad_pattern f o w k split h i j) =
     never_bad f o w k s s' (subst (λ ts. steps (start nesting) ts ≡ Some s) split e) (subst (λ t. step s t ≡ Some s') h g) i
 

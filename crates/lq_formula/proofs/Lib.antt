@@ -11,3 +11,10 @@ pub mod ReadingLemmas
 pub mod OutlineLemmas
 pub mod FaultLemmas
 pub mod StoppedLemmas
+pub mod QuotingLemmas
+pub mod EncodedLemmas
+pub mod PatternTextLemmas
+pub mod CanonicalLemmas
+pub mod RoundLemmas
+pub mod RawLemmas
+pub mod ExactLemmas

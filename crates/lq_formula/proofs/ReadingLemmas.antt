@@ -7,12 +7,12 @@ use Rattle.lq_formula.specs.Query.{Query}
 use Rattle.lq_formula.specs.Grammar.{IsFormula, nesting}
 use Rattle.lq_formula.specs.Machine.{State, start, step, whole, run}
 use Rattle.lq_formula.specs.Canonical.{canonical, comparisons, depth}
-use Rattle.lq_formula.specs.Faults.{Reads, most_bytes, most_comparisons, most_depth, word_count, words}
-use Rattle.lq_formula.specs.Reading.{after_token, fault_place, finished, read_tokens, reading_of}
+use Rattle.lq_formula.specs.Faults.{Reads, most_bytes, most_comparisons, most_depth}
+use Rattle.lq_formula.specs.Reading.{after_token, fault_place, finished, read_tokens, reading_of, word_count}
 use Rattle.lq_formula.proofs.TokenLemmas.{has_tokens, tokens_same}
 use Rattle.lq_formula.proofs.CompleteLemmas.{formula_runs}
 use Rattle.lq_formula.proofs.SoundLemmas.{run_reads}
-use Rattle.lq_formula.proofs.WordLemmas.{formula_words}
+use Rattle.lq_formula.proofs.WordLemmas.{formula_words, words}
 
 -- the query is within the limits of depth and length
 pub record IsSmall (q : Query) : Type 0 where
@@ -64,7 +64,7 @@ read_runs end (t ∷ ts) s count q e =
       small = r.small;
     }
 
-test_true : (m n : ℕ) → m ≤ n → nat_le m n ≡ true
+pub test_true : (m n : ℕ) → m ≤ n → nat_le m n ≡ true
 test_true m n h = le-leb m n h
 
 finished_small : (end : ℕ) (o : Option Query) (q : Query) → o ≡ Some q → IsSmall q → finished end o ≡ Ok q

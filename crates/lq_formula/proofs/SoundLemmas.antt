@@ -117,7 +117,7 @@ whole_of n K a b p h r = (both_of (p ∷ r.more), r.ys, refl, (a ++ r.a, r.b, re
 joined : (n : ℕ) (K : Query → List Token → Type 0) (a b : List Token) (p : Query) (r : Rest n [] (p ∷ []) K b) → a ++ b ≡ ((a ++ r.a) ++ r.b) ++ r.c
 joined n K a b p r = ap (λ l. a ++ l) r.split ∙ sym (append_assoc a r.a (r.b ++ r.c)) ∙ sym (append_assoc (a ++ r.a) r.b r.c)
 
-comparison_reads : (n : ℕ) (a : List ℕ) (o : Op) (l name : List ℕ) (literal : Literal) → name_of a ≡ Some name → literal_of o l ≡ Some literal → IsNot n (word a ∷ op o ∷ word l ∷ []) (Compare name o literal)
+pub comparison_reads : (n : ℕ) (a : List ℕ) (o : Op) (l name : List ℕ) (literal : Literal) → name_of a ≡ Some name → literal_of o l ≡ Some literal → IsNot n (word a ∷ op o ∷ word l ∷ []) (Compare name o literal)
 comparison_reads zero a o l name literal h k = (a, o, l, name, literal, refl, h, k, refl)
 comparison_reads (suc n) a o l name literal h k = inl (a, o, l, name, literal, refl, h, k, refl)
 

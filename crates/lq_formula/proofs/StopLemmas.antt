@@ -32,7 +32,7 @@ unfolding pieces_of pieces_within
 empty_pattern = ap (λ cs. elements_or_place [] (pieces_of element_at (signs false cs))) chars-nil
 
 -- the empty text is a literal behind each operator
-empty_literal : (o : Op) → (literal : Literal) × (literal_of o [] ≡ Some literal)
+pub empty_literal : (o : Op) → (literal : Literal) × (literal_of o [] ≡ Some literal)
 empty_literal Eq = (Pattern [], ap pattern_literal empty_pattern)
 empty_literal Ne = (Pattern [], ap pattern_literal empty_pattern)
 empty_literal Lt = (Plain [], refl)

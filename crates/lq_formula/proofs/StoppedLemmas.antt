@@ -8,12 +8,12 @@ use Rattle.lq_formula.specs.Query.{Query}
 use Rattle.lq_formula.specs.Grammar.{IsFormula, nesting}
 use Rattle.lq_formula.specs.Machine.{State, start, step, steps, whole}
 use Rattle.lq_formula.specs.Canonical.{canonical, depth}
-use Rattle.lq_formula.specs.Faults.{AreFine, IsFaultOf, one_more, IsFaulty, too_long, at_token, ends_early, too_much, most_bytes, most_comparisons, most_depth, word_count, words}
-use Rattle.lq_formula.specs.Reading.{after_token, fault_place, finished, read_tokens, reading_of}
+use Rattle.lq_formula.specs.Faults.{AreFine, IsFaultOf, IsFaulty, too_long, at_token, ends_early, too_much, most_bytes, most_comparisons, most_depth}
+use Rattle.lq_formula.specs.Reading.{after_token, fault_place, finished, read_tokens, reading_of, word_count}
 use Rattle.lq_formula.proofs.TokenLemmas.{has_tokens}
 use Rattle.lq_formula.proofs.StopLemmas.{ends_none, reads_at_end, steps_push}
-use Rattle.lq_formula.proofs.FaultLemmas.{fine, refused_fault}
-use Rattle.lq_formula.proofs.WordLemmas.{words_append}
+use Rattle.lq_formula.proofs.FaultLemmas.{fine, full, refused_fault}
+use Rattle.lq_formula.proofs.WordLemmas.{words_append, words}
 
 -- where the reading of these tokens stops
 data Stops (end : ℕ) (all : List Placed) (place : ℕ) : Type 0 where
@@ -22,7 +22,7 @@ data Stops (end : ℕ) (all : List Placed) (place : ℕ) : Type 0 where
   too_big : AreFine end all → (q : Query) → IsFormula nesting (bare all) q → (most_depth < depth q) ⊎ (most_bytes < length (canonical q)) → place ≡ end → Stops end all place
 
 -- what was read up to a state
-record Seen (seen : List Placed) (s : State) (count : ℕ) : Type 0 where
+pub record Seen (seen : List Placed) (s : State) (count : ℕ) : Type 0 where
   pub goes : steps (start nesting) (bare seen) ≡ Some s
   pub counted : words (bare seen) ≡ count
   pub few : count ≤ most_comparisons + most_comparisons
@@ -33,7 +33,7 @@ ok_err q p r f e = cc
 same_place : (a b : ℕ) (r : Result Query ℕ) → r ≡ Err a → r ≡ Err b → b ≡ a
 same_place a b r e f = cc
 
-not_le : (a b : ℕ) → nat_le a b ≡ false → b < a
+pub not_le : (a b : ℕ) → nat_le a b ≡ false → b < a
 not_le a b e = leb-false a b e
 
 over_by : (a b : Bool) (end : ℕ) (q : Query) (p : ℕ) → nat_le (depth q) most_depth ≡ a → nat_le (length (canonical q)) most_bytes ≡ b → (if a && b then Ok q else Err end) ≡ Err p
@@ -51,7 +51,7 @@ stops_whole end all s count (Some q) p h w e =
     let o = over_by (nat_le (depth q) most_depth) (nat_le (length (canonical q)) most_bytes) end q p refl refl e in
     too_big (seen_fine end all s count h) q (reads_at_end (bare all) s q h.goes w) o.0 o.1
 
-is_word : (t : Token) (n : ℕ) → n ≤ most_comparisons + most_comparisons → most_comparisons + most_comparisons < n + word_count t → (raw : List ℕ) × (t ≡ word raw)
+pub is_word : (t : Token) (n : ℕ) → n ≤ most_comparisons + most_comparisons → most_comparisons + most_comparisons < n + word_count t → (raw : List ℕ) × (t ≡ word raw)
 is_word opens n h k = absurd (omega arith)
 is_word closes n h k = absurd (omega arith)
 is_word bang n h k = absurd (omega arith)
@@ -62,10 +62,10 @@ is_word (word w) n h k = (w, refl)
 is_word lone n h k = absurd (omega arith)
 is_word cut n h k = absurd (omega arith)
 
-count_at : (t : Token) (w : List ℕ) (n : ℕ) → t ≡ word w → n ≤ most_comparisons + most_comparisons → most_comparisons + most_comparisons < n + word_count t → n ≡ most_comparisons + most_comparisons
+pub count_at : (t : Token) (w : List ℕ) (n : ℕ) → t ≡ word w → n ≤ most_comparisons + most_comparisons → most_comparisons + most_comparisons < n + word_count t → n ≡ most_comparisons + most_comparisons
 count_at t w n e h k = let one : word_count t ≡ 1 = ap word_count e in omega arith
 
-seen_more : (seen : List Placed) (t : Placed) (s s' : State) (count : ℕ) → Seen seen s count → step s t.token ≡ Some s' → count + word_count t.token ≤ most_comparisons + most_comparisons → Seen (seen ++ t ∷ []) s' (count + word_count t.token)
+pub seen_more : (seen : List Placed) (t : Placed) (s s' : State) (count : ℕ) → Seen seen s count → step s t.token ≡ Some s' → count + word_count t.token ≤ most_comparisons + most_comparisons → Seen (seen ++ t ∷ []) s' (count + word_count t.token)
 seen_more seen t s s' count h e few =
     let same = map-append (λ x. x.token) seen (t ∷ []) in
     let k = h.counted in
@@ -82,7 +82,8 @@ count_by end seen t ts all s s' count p others true a h e ih k f = ih (seen_more
 count_by end seen t ts all s s' count p others false a h e ih k f =
     let over = not_le _ _ k in
     let w = is_word t.token count h.few over in
-    at_one seen t ts a (seen_fine end seen s count h) (one_more w.0 w.1 (h.counted ∙ count_at t.token w.0 count w.1 h.few over) (same_place t.place p (Err t.place) refl f))
+    let many = h.counted ∙ count_at t.token w.0 count w.1 h.few over in
+    at_one seen t ts a (seen_fine end seen s count h) (subst (IsFaultOf end (bare seen) t) (sym (same_place t.place p (Err t.place) refl f)) (full end (bare seen) s s' t w.0 h.goes many w.1 e))
 
 after_by : (end : ℕ) (seen : List Placed) (t : Placed) (ts all : List Placed) (s : State) (count p : ℕ) (others : State → Result Query ℕ) (o : Option State) → all ≡ seen ++ t ∷ ts → Seen seen s count → step s t.token ≡ o
     → ((s' : State) → Seen (seen ++ t ∷ []) s' (count + word_count t.token) → others s' ≡ Err p → Stops end all p)

@@ -4,7 +4,11 @@ use Rattle.lq_formula.specs.Tokens.{Token, closes, ands, ors}
 use Rattle.lq_formula.specs.Query.{Query, queries, both_of, either_of}
 use Rattle.lq_formula.specs.Grammar.{Reading, Follows, IsAnd, IsOr, IsComparison, IsNot, IsFormula}
 use Rattle.lq_formula.specs.Canonical.{comparisons, all_comparisons}
-use Rattle.lq_formula.specs.Faults.{word_count, words}
+use Rattle.lq_formula.specs.Reading.{word_count}
+
+abbrev pub words : List Token → ℕ
+words [] = 0
+words (t ∷ ts) = word_count t + words ts
 
 pub words_append : (a b : List Token) → words (a ++ b) ≡ words a + words b
 words_append [] b = omega arith

@@ -1,5 +1,5 @@
 -- The canonical text of a query, how deep it is, and how many comparisons it has.
-use Rattle.std.specs.Prelude.{ℕ, suc, ◌+◌, max, ◌==◌, ◌||◌, ◌&&◌, nat_le, if◌then◌else◌, Bool, true, false, List, [], ◌∷◌, ◌++◌, codes}
+use Rattle.std.specs.Prelude.{ℕ, suc, ◌+◌, max, ◌==◌, ◌||◌, ◌&&◌, nat_le, if◌then◌else◌, Bool, List, [], ◌∷◌, ◌++◌, codes}
 use Rattle.std.specs.List.{list_all}
 use Rattle.std.specs.Str.{encode_utf8_all}
 use Rattle.lq_value.specs.declared.element.Item.{Item}
@@ -40,34 +40,37 @@ op_text Le = codes "<="
 op_text Gt = codes ">"
 op_text Ge = codes ">="
 
--- ---- patterns, as characters
+-- ---- patterns, as characters, each with what follows
 
 -- `\` before one of * ? [ \ "
-abbrev pub plain_text : ℕ → List ℕ
-plain_text c = if c == 42 || c == 63 || c == 91 || c == 92 || c == 34 then 92 ∷ c ∷ [] else c ∷ []
+abbrev pub plain_then : ℕ → List ℕ → List ℕ
+plain_then c rest = if c == 42 || c == 63 || c == 91 || c == 92 || c == 34 then 92 ∷ c ∷ rest else c ∷ rest
 
 -- `\` before one of ] [ \ ^ - "
-abbrev pub text_in_set : ℕ → List ℕ
-text_in_set c = if c == 93 || c == 91 || c == 92 || c == 94 || c == 45 || c == 34 then 92 ∷ c ∷ [] else c ∷ []
+abbrev pub in_set_then : ℕ → List ℕ → List ℕ
+in_set_then c rest = if c == 93 || c == 91 || c == 92 || c == 94 || c == 45 || c == 34 then 92 ∷ c ∷ rest else c ∷ rest
 
-abbrev pub item_text : Item → List ℕ
-item_text (One c) = text_in_set c
-item_text (Range c d) = text_in_set c ++ 45 ∷ text_in_set d
+abbrev pub item_then : Item → List ℕ → List ℕ
+item_then (One c) rest = in_set_then c rest
+item_then (Range c d) rest = in_set_then c (45 ∷ in_set_then d rest)
 
-abbrev pub items_text : List Item → List ℕ
-items_text [] = 93 ∷ []
-items_text (i ∷ is) = item_text i ++ items_text is
+-- the items, and the `]` behind them
+abbrev pub items_then : List Item → List ℕ → List ℕ
+items_then [] rest = 93 ∷ rest
+items_then (i ∷ is) rest = item_then i (items_then is rest)
 
-abbrev pub element_text : Element → List ℕ
-element_text Star = 42 ∷ []
-element_text Any = 63 ∷ []
-element_text (element.Plain c) = plain_text c
-element_text (Set true items) = 91 ∷ 94 ∷ items_text items
-element_text (Set false items) = 91 ∷ items_text items
+abbrev pub set_then : Bool → List Item → List ℕ → List ℕ
+set_then negated items rest = if negated then 91 ∷ 94 ∷ items_then items rest else 91 ∷ items_then items rest
+
+abbrev pub element_then : Element → List ℕ → List ℕ
+element_then Star rest = 42 ∷ rest
+element_then Any rest = 63 ∷ rest
+element_then (element.Plain c) rest = plain_then c rest
+element_then (Set negated items) rest = set_then negated items rest
 
 abbrev pub pattern_text : List Element → List ℕ
 pattern_text [] = []
-pattern_text (e ∷ es) = element_text e ++ pattern_text es
+pattern_text (e ∷ es) = element_then e (pattern_text es)
 
 -- ---- queries, as bytes
 

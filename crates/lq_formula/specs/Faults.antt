@@ -59,21 +59,21 @@ AwaitsAttr before = CanStand (before ++ word [] ∷ op Eq ∷ [])
 abbrev pub IsTooDeep : List Token → Type 0
 IsTooDeep ts = ((more : ℕ) × (rest : List Token) × (q : Query) × IsFormula (nesting + more) (ts ++ rest) q) × (IsBegun ts → ⊥)
 
--- how many words there are: each comparison has two, an attribute and a literal
-abbrev pub word_count : Token → ℕ
-word_count opens = 0
-word_count closes = 0
-word_count bang = 0
-word_count ands = 0
-word_count ors = 0
-word_count (op o) = 0
-word_count (word raw) = 1
-word_count lone = 0
-word_count cut = 0
+-- how many operators there are: each comparison has one
+abbrev pub op_count : Token → ℕ
+op_count opens = 0
+op_count closes = 0
+op_count bang = 0
+op_count ands = 0
+op_count ors = 0
+op_count (op o) = 1
+op_count (word raw) = 0
+op_count lone = 0
+op_count cut = 0
 
-abbrev pub words : List Token → ℕ
-words [] = 0
-words (t ∷ ts) = word_count t + words ts
+abbrev pub operators : List Token → ℕ
+operators [] = 0
+operators (t ∷ ts) = op_count t + operators ts
 
 -- ---- the faults
 
@@ -90,7 +90,7 @@ pub data IsFaultOf (end : ℕ) (before : List Token) (here : Placed) (place : �
   -- the name of an attribute that is empty, has over 255 bytes or has NUL
   bad_name : (raw : List ℕ) → here.token ≡ word raw → AwaitsAttr before → name_of raw ≡ None → place ≡ here.place → IsFaultOf end before here place
   -- the attribute of a comparison behind 256 others
-  one_more : (raw : List ℕ) → here.token ≡ word raw → words before ≡ most_comparisons + most_comparisons → place ≡ here.place → IsFaultOf end before here place
+  one_more : (raw : List ℕ) → here.token ≡ word raw → AwaitsAttr before → operators before ≡ most_comparisons → place ≡ here.place → IsFaultOf end before here place
   -- a fault of the pattern behind its operator
   bad_pattern : (front : List Token) (o : Op) (raw : List ℕ) (k : ℕ) → before ≡ front ++ op o ∷ [] → here.token ≡ word raw → literal_fault o raw ≡ Some k
       → place ≡ here.raw_place + k → IsFaultOf end before here place

@@ -8,4 +8,5 @@ pub mod Machine
 pub mod Canonical
 pub mod Faults
 pub mod Reading
+pub mod Limits
 pub mod Laws

@@ -1,5 +1,9 @@
 -- Names of attributes and literals, from their raw texts.
-use Rattle.std.specs.Prelude.{ℕ, ◌==◌, if◌then◌else◌, Bool, true, false, List, [], ◌∷◌, Option, Some, None, Result, Ok, Err}
+use Rattle.std.specs.Prelude.{ℕ, ◌==◌, not, is_some, if◌then◌else◌, Bool, true, false, List, [], ◌∷◌, Option, Some, None, Result, Ok, Err}
+use Rattle.std.specs.List.{list_all}
+use Rattle.std.specs.Option.{option_map}
+use Rattle.lq_value.specs.declared.refusal.Refusal.{Refusal}
+use Rattle.lq_value.specs.declared.refusal.Refusal.TheVariants.{BadName, BadQuery}
 use Rattle.lq_value.specs.declared.op.Op.{Op}
 use Rattle.lq_value.specs.declared.op.Op.TheVariants.{Eq, Ne, Lt, Le, Gt, Ge}
 use Rattle.lq_value.specs.declared.element.Element.{Element}
@@ -16,9 +20,16 @@ unescaped true [] = []
 unescaped false (b ∷ bs) = if b == 92 then unescaped true bs else b ∷ unescaped false bs
 unescaped true (b ∷ bs) = b ∷ unescaped false bs
 
+abbrev pub has_no_nul : List ℕ → Bool
+has_no_nul bytes = list_all (λ b. not (b == 0)) bytes
+
 -- the attribute's name that a raw text is
 abbrev pub name_of : List ℕ → Option (List ℕ)
 name_of raw = if is_attr_name (unescaped false raw) then Some (unescaped false raw) else None
+
+-- why a raw text is refused as an attribute's name
+abbrev pub name_refusal : List ℕ → Option Refusal
+name_refusal raw = if is_some (name_of raw) then None else Some BadName
 
 -- behind `=`, `==` and `!=` stands a pattern
 abbrev pub takes_pattern : Op → Bool
@@ -44,3 +55,7 @@ bad_place (Err place) = Some place
 -- the place in the raw text of a literal where its pattern has a fault
 abbrev pub literal_fault : Op → List ℕ → Option ℕ
 literal_fault o raw = if takes_pattern o then bad_place (pattern_of raw) else None
+
+-- why a raw text is refused as a literal behind an operator
+abbrev pub literal_refusal : Op → List ℕ → Option Refusal
+literal_refusal o raw = option_map (λ place. BadQuery place) (literal_fault o raw)

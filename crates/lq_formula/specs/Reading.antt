@@ -7,7 +7,7 @@ use Rattle.lq_formula.specs.Grammar.{nesting}
 use Rattle.lq_formula.specs.Literals.{literal_fault}
 use Rattle.lq_formula.specs.Canonical.{canonical, depth}
 use Rattle.lq_formula.specs.Machine.{Place, operand, after_attr, after_op, after_operand, State, start, step, whole}
-use Rattle.lq_formula.specs.Faults.{most_bytes, most_comparisons, most_depth, word_count}
+use Rattle.lq_formula.specs.Faults.{most_bytes, most_comparisons, most_depth}
 
 -- ---- where a token that is refused has its fault
 
@@ -38,6 +38,18 @@ abbrev pub fault_place : ℕ → Place → Placed → ℕ
 fault_place end p t = fault_place_of end p t.token t
 
 -- ---- the reading
+
+-- how many words a token is: each comparison has two, an attribute and a literal
+abbrev pub word_count : Token → ℕ
+word_count opens = 0
+word_count closes = 0
+word_count bang = 0
+word_count ands = 0
+word_count ors = 0
+word_count (op o) = 0
+word_count (word raw) = 1
+word_count lone = 0
+word_count cut = 0
 
 -- the state behind a token, so many words with it, and what is read on from there
 abbrev pub after_token : ℕ → Placed → Option State → ℕ → (State → Result Query ℕ) → Result Query ℕ

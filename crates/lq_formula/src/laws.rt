@@ -4,7 +4,9 @@ ghost use Rattle.lq_formula.specs.Tokens.{HasTokens, Placed, Token, bang, opens,
 ghost use Rattle.lq_formula.specs.Query.{Query};
 ghost use Rattle.lq_formula.specs.Grammar.{IsBegun, IsFormula, nesting};
 ghost use Rattle.lq_formula.specs.Machine.{run, start};
-ghost use Rattle.lq_formula.specs.Laws.{FaultsAreFound, FormulasAreRead};
+ghost use Rattle.lq_formula.specs.Laws.{CanonicalIsRead, FaultsAreFound, FormulasAreRead};
+
+use lq_value::sources_are_read;
 
 /// Each text has tokens: those of the list.
 pub fn tokens_exist()
@@ -45,7 +47,15 @@ pub fn formulas_are_read()
     ensures { FormulasAreRead }
 {}
 
-/// Where the reading of a text is a place, the text's leftmost fault is there.
+/// The reading of a text is a place just where the text's leftmost fault is there: so a text has
+/// one such place at most, and none where it reads as a query.
 pub fn faults_are_found()
     ensures { FaultsAreFound }
 {}
+
+/// The canonical text of a query within the limits reads as that query.
+pub fn canonical_is_read()
+    ensures { CanonicalIsRead }
+{
+    sources_are_read();
+}
