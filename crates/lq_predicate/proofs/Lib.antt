@@ -1,3 +1,11 @@
-pub mod FrontLemmas
 pub mod PartLemmas
 pub mod NameLemmas
+pub mod UnescapedLemmas
+pub mod WeightLemmas
+pub mod NameOfLemmas
+pub mod DepthLemmas
+pub mod PlaceLemmas
+pub mod SoFarLemmas
+pub mod SizeLemmas
+pub mod LimitLemmas
+pub mod ReadLemmas

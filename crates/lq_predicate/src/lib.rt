@@ -6,11 +6,16 @@
 #![tactic(auto)]
 
 mod attributes;
-mod formula;
+mod machine;
 mod predicate;
+mod raw;
+mod reader;
+mod size;
+mod step_fault;
+mod tree;
 mod truth;
 
 pub use attributes::names;
-pub use formula::read;
 pub use predicate::Predicate;
+pub use reader::read;
 pub use truth::{Row, holds};

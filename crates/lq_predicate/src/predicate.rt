@@ -55,7 +55,8 @@ impl Model for Predicate {
 }
 
 impl Predicate {
-    ghost use Rattle.lq_formula.specs.Query.{Compare};
+    ghost use Rattle.lq_formula.specs.Query.{Compare, Not, And, Or, queries};
+    ghost use Rattle.lq_predicate.specs.Limits.{is_predicate};
     ghost use Rattle.lq_predicate.specs.Truth.{truth};
     ghost use Rattle.lq_predicate.specs.Names.{attributes, each_once};
 
@@ -111,6 +112,36 @@ impl Predicate {
                 }
                 false
             }
+        }
+    }
+
+    // `Not` of a predicate.
+    pub(crate) fn negation(part: Box<Predicate>) -> Predicate
+        requires { IsTrue (is_predicate (Not part.value)) }
+        ensures { result ≡ Not part.value }
+    {
+        Predicate {
+            node: Node::Not(part),
+        }
+    }
+
+    // `And` of two predicates or more.
+    pub(crate) fn all_of(parts: Vec<Predicate>) -> Predicate
+        requires { IsTrue (is_predicate (And (queries parts.items))) }
+        ensures { result ≡ And (queries parts.items) }
+    {
+        Predicate {
+            node: Node::And(parts),
+        }
+    }
+
+    // `Or` of two predicates or more.
+    pub(crate) fn some_of(parts: Vec<Predicate>) -> Predicate
+        requires { IsTrue (is_predicate (Or (queries parts.items))) }
+        ensures { result ≡ Or (queries parts.items) }
+    {
+        Predicate {
+            node: Node::Or(parts),
         }
     }
 
