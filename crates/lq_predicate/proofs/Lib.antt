@@ -1,5 +1,13 @@
-pub mod FrontLemmas
 pub mod PartLemmas
 pub mod NameLemmas
 pub mod StackLemmas
 pub mod CanonicalLemmas
+pub mod UnescapedLemmas
+pub mod WeightLemmas
+pub mod NameOfLemmas
+pub mod DepthLemmas
+pub mod PlaceLemmas
+pub mod SoFarLemmas
+pub mod SizeLemmas
+pub mod LimitLemmas
+pub mod ReadLemmas

@@ -8,21 +8,26 @@
 
 mod attributes;
 mod canonical;
-mod formula;
 mod item;
+mod machine;
 mod operand;
 mod predicate;
+mod raw;
+mod reader;
+mod size;
 mod stack;
 mod stack_comparison;
 mod stack_op;
+mod step_fault;
 #[cfg(test)]
 mod tests;
+mod tree;
 mod truth;
 
 pub use attributes::names;
 pub use canonical::write;
-pub use formula::read;
 pub use predicate::Predicate;
+pub use reader::read;
 pub use stack::Stack;
 pub use stack_op::StackOp;
 pub use truth::{Row, holds};

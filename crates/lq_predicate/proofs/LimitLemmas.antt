@@ -1,0 +1,123 @@
+-- The parts of a query within the limits are within them; what a formula reads as is formed.
+use Rattle.std.proofs.Common.{◌≡◌, ◌≤◌, ◌<◌, ◌+◌, max, ℕ, zero, suc, Bool, true, false, ◌&&◌, List, [], ◌∷◌, ◌++◌, length, get_or, Option, Some, None, refl, sym, ap, ◌∙◌, subst, arith, inl, inr, ◌⊎◌}
+use Rattle.std.specs.Prelude.{IsTrue, nat_le}
+use Rattle.std.proofs.lemmas.Bool.{le-leb, leb-true}
+use Rattle.lq_value.specs.Compare.{suits}
+use Rattle.lq_value.specs.declared.op.Op.{Op}
+use Rattle.lq_value.specs.declared.op.Op.TheVariants.{Eq, Ne, Lt, Le, Gt, Ge}
+use Rattle.lq_value.specs.declared.literal.Literal.{Literal}
+use Rattle.lq_value.specs.declared.literal.Literal.TheVariants as literal
+use Rattle.lq_value.specs.declared.element.Element.{Element}
+use Rattle.lq_value.specs.Source.{pattern_of}
+use Rattle.std.specs.Prelude.{Result, Ok, Err}
+use Rattle.lq_formula.specs.Tokens.{Token, bare}
+use Rattle.lq_formula.specs.Query.{Query, Compare, Not, And, Or, Queries, no_more, and_then, queries, both_of, either_of}
+use Rattle.lq_formula.specs.Literals.{literal_of, pattern_literal}
+use Rattle.lq_formula.specs.Grammar.{Reading, Follows, Parts, IsAnd, IsOr, IsComparison, IsNot, IsFormula, nesting}
+use Rattle.lq_formula.specs.Canonical.{depth, deepest, comparisons, all_comparisons}
+use Rattle.lq_formula.specs.Faults.{Reads}
+use Rattle.lq_predicate.specs.Limits.{is_formed, are_formed, part_count, is_predicate, are_predicates}
+
+three : (a b c : Bool) → a ≡ true → b ≡ true → c ≡ true → (a && b && c) ≡ true
+three true true true e f g = refl
+three false b c e f g = e
+three true false c e f g = f
+three true true false e f g = g
+
+split_two : (a b : Bool) → (a && b) ≡ true → (a ≡ true) × (b ≡ true)
+split_two true b e = (refl, e)
+split_two false b e = (e, cc)
+
+split_three : (a b c : Bool) → (a && b && c) ≡ true → (a ≡ true) × (b ≡ true) × (c ≡ true)
+split_three true true c e = (refl, refl, e)
+split_three true false c e = (refl, e, cc)
+split_three false b c e = (e, cc, cc)
+
+pub within : (q : Query) → is_formed q ≡ true → depth q ≤ 64 → comparisons q ≤ 256 → is_predicate q ≡ true
+within q formed shallow few = three (is_formed q) (nat_le (depth q) 64) (nat_le (comparisons q) 256) formed (le-leb _ _ shallow) (le-leb _ _ few)
+
+parts_by : (qs : Queries) → are_formed qs ≡ true → deepest qs ≤ 64 → all_comparisons qs ≤ 256 → are_predicates qs ≡ true
+parts_by no_more formed shallow few = refl
+parts_by (and_then q qs) formed shallow few =
+    let f = split_two (is_formed q) (are_formed qs) formed in
+    let here = within q f.0 (omega (arith, shallow)) (omega (arith, few)) in
+    let others = parts_by qs f.1 (omega (arith, shallow)) (omega (arith, few)) in
+    both (is_predicate q) (are_predicates qs) here others
+  where
+    both : (a b : Bool) → a ≡ true → b ≡ true → (a && b) ≡ true
+    both true b e f = f
+    both false b e f = e
+
+parts_from : (two formed shallow few : Bool) (qs : Queries) → are_formed qs ≡ formed → nat_le (suc (deepest qs)) 64 ≡ shallow → nat_le (all_comparisons qs) 256 ≡ few
+    → ((two && formed) && shallow && few) ≡ true → are_predicates qs ≡ true
+parts_from two formed shallow few qs e f g whole =
+    let a = split_three (two && formed) shallow few whole in
+    let b = split_two two formed a.0 in
+    let deep = leb-true _ _ (f ∙ a.1) in
+    let many = leb-true _ _ (g ∙ a.2) in
+    parts_by qs (e ∙ b.1) (omega (arith, deep)) (omega (arith, many))
+
+pub and_parts : (qs : Queries) (q : Query) → And qs ≡ q → is_predicate q ≡ true → are_predicates qs ≡ true
+and_parts qs q is whole = parts_from (nat_le 2 (part_count qs)) (are_formed qs) (nat_le (suc (deepest qs)) 64) (nat_le (all_comparisons qs) 256) qs refl refl refl (ap is_predicate is ∙ whole)
+
+pub or_parts : (qs : Queries) (q : Query) → Or qs ≡ q → is_predicate q ≡ true → are_predicates qs ≡ true
+or_parts qs q is whole = parts_from (nat_le 2 (part_count qs)) (are_formed qs) (nat_le (suc (deepest qs)) 64) (nat_le (all_comparisons qs) 256) qs refl refl refl (ap is_predicate is ∙ whole)
+
+pub part_is : (qs : List Query) (i : ℕ) (q : Query) → i < length qs → q ≡ get_or qs i q → are_predicates (queries qs) ≡ true → is_predicate q ≡ true
+part_is [] i q below is all = absurd (let no : ⊥ = omega (arith, below) in no)
+part_is (p ∷ qs) zero q below is all = ap is_predicate is ∙ (split_two (is_predicate p) (are_predicates (queries qs)) all).0
+part_is (p ∷ qs) (suc i) q below is all = part_is qs i q (omega (arith, below)) is (split_two (is_predicate p) (are_predicates (queries qs)) all).1
+
+-- ---- what a formula reads as
+
+abbrev Forms : Reading → Type 0
+Forms P = (ts : List Token) (q : Query) → P ts q → is_formed q ≡ true
+
+pattern_suits : (o : Op) (r : Result (List Element) ℕ) (l : Literal) → ((x : List Element) → suits (literal.Pattern x) o ≡ true) → pattern_literal r ≡ Some l → suits l o ≡ true
+pattern_suits o (Ok x) l h e = subst (λ m. suits m o ≡ true) (let same : literal.Pattern x ≡ l = cc in same) (h x)
+pattern_suits o (Err k) l h e = cc
+
+plain_suits : (o : Op) (l m : Literal) → suits m o ≡ true → Some m ≡ Some l → suits l o ≡ true
+plain_suits o l m h e = subst (λ x. suits x o ≡ true) (let same : m ≡ l = cc in same) h
+
+literal_suits : (o : Op) (raw : List ℕ) (l : Literal) → literal_of o raw ≡ Some l → suits l o ≡ true
+literal_suits Eq raw l e = pattern_suits Eq (pattern_of raw) l (λ x. refl) e
+literal_suits Ne raw l e = pattern_suits Ne (pattern_of raw) l (λ x. refl) e
+literal_suits Lt raw l e = plain_suits Lt l _ refl e
+literal_suits Le raw l e = plain_suits Le l _ refl e
+literal_suits Gt raw l e = plain_suits Gt l _ refl e
+literal_suits Ge raw l e = plain_suits Ge l _ refl e
+
+comparison_formed : Forms IsComparison
+comparison_formed ts q (a, o, l, name, literal, is, named, read, said) = ap is_formed said ∙ literal_suits o l literal read
+
+follows_formed : (P : Reading) → Forms P → (sep : Token) (ts : List Token) (qs : List Query) → Follows P sep ts qs → are_formed (queries qs) ≡ true
+follows_formed P h sep ts [] f = refl
+follows_formed P h sep ts (q ∷ qs) (a, b, is, here, others) = ap (λ t. t && are_formed (queries qs)) (h a q here) ∙ follows_formed P h sep b qs others
+
+two_formed : (q r : Query) (qs : List Query) → is_formed q ≡ true → are_formed (queries (r ∷ qs)) ≡ true → (nat_le 2 (part_count (queries (q ∷ r ∷ qs))) && are_formed (queries (q ∷ r ∷ qs))) ≡ true
+two_formed q r qs e f = ap (λ t. t && are_formed (queries (q ∷ r ∷ qs))) (le-leb 2 (part_count (queries (q ∷ r ∷ qs))) (omega arith)) ∙ ap (λ t. t && are_formed (queries (r ∷ qs))) e ∙ f
+
+both_formed : (q : Query) (qs : List Query) → is_formed q ≡ true → are_formed (queries qs) ≡ true → is_formed (both_of (q ∷ qs)) ≡ true
+both_formed q [] e f = e
+both_formed q (r ∷ qs) e f = two_formed q r qs e f
+
+either_formed : (q : Query) (qs : List Query) → is_formed q ≡ true → are_formed (queries qs) ≡ true → is_formed (either_of (q ∷ qs)) ≡ true
+either_formed q [] e f = e
+either_formed q (r ∷ qs) e f = two_formed q r qs e f
+
+and_formed : (P : Reading) → Forms P → Forms (IsAnd P)
+and_formed P h ts r (q, qs, is, (a, b, split, here, others)) = ap is_formed is ∙ both_formed q qs (h a q here) (follows_formed P h _ b qs others)
+
+or_formed : (P : Reading) → Forms P → Forms (IsOr P)
+or_formed P h ts r (q, qs, is, (a, b, split, here, others)) = ap is_formed is ∙ either_formed q qs (and_formed P h a q here) (follows_formed (IsAnd P) (and_formed P h) _ b qs others)
+
+not_formed : (n : ℕ) → Forms (IsNot n)
+not_formed zero ts q h = comparison_formed ts q h
+not_formed (suc n) ts q (inl h) = comparison_formed ts q h
+not_formed (suc n) ts q (inr (inl (a, is, h))) = or_formed (IsNot n) (not_formed n) a q h
+not_formed (suc n) ts q (inr (inr (a, r, is, said, h))) = ap is_formed said ∙ not_formed n a r h
+
+-- a formula's query is a predicate
+pub reads_predicate : (text : List ℕ) (q : Query) → Reads text q → is_predicate q ≡ true
+reads_predicate text q h = within q (or_formed (IsNot nesting) (not_formed nesting) (bare h.tokens) q h.formula) h.shallow h.few

@@ -1,0 +1,93 @@
+-- What is known while a formula is read.
+use Rattle.std.proofs.Common.{◌≡◌, ◌≤◌, ◌<◌, ◌+◌, ◌^◌, ◌⊎◌, ℕ, suc, Bool, true, false, List, [], ◌∷◌, length, Option, Some, None, refl, sym, ap, ◌∙◌, subst, arith, inl, inr}
+use Rattle.std.specs.Prelude.{nat_le, if◌then◌else◌, Result, Ok, Err}
+use Rattle.std.proofs.lemmas.Bool.{lt-leb, le-leb}
+use Rattle.lq_value.specs.declared.refusal.Refusal.{Refusal}
+use Rattle.lq_value.specs.declared.refusal.Refusal.TheVariants.{BadQuery}
+use Rattle.lq_formula.specs.Tokens.{Token, Placed, Yields, tokens_from, tokens_of}
+use Rattle.lq_formula.specs.Query.{Query}
+use Rattle.lq_formula.specs.Grammar.{nesting}
+use Rattle.lq_formula.specs.Machine.{Place, State, start, step, whole, weight}
+use Rattle.lq_formula.specs.Faults.{most_bytes, most_comparisons}
+use Rattle.lq_formula.specs.Reading.{after_token, fault_place, finished, read_tokens, reading_of, word_count}
+use Rattle.lq_predicate.specs.MachineView.{pattern_fault}
+use Rattle.lq_predicate.specs.PlainPlace.{plain_place}
+use Rattle.lq_predicate.specs.Refusals.{refusal_of}
+use Rattle.lq_predicate.proofs.PlaceLemmas.{fault_place-plain, fault_place-pattern, pattern_place-bound}
+use Rattle.lq_predicate.proofs.WeightLemmas.{step_weight}
+
+pub record SoFar (text : List ℕ) (place : ℕ) (rest : List ℕ) (s : State) (count : ℕ) : Type 0 where
+  pub reads : read_tokens (length text) s count (tokens_from place rest) ≡ reading_of text
+  pub few : count ≤ 512
+  pub small : weight s ≤ 64
+  pub short : length text ≤ 4096
+  pub room : place + length rest ≡ length text
+
+pub starts : (text : List ℕ) (s : State) → length text ≤ 4096 → s ≡ start nesting → SoFar text 0 text s 0
+starts text s h e = record {
+  reads = ap (λ x. read_tokens (length text) x 0 (tokens_of text)) e ∙ sym (ap (λ b. if b then read_tokens (length text) (start nesting) 0 (tokens_of text) else Err most_bytes) (le-leb (length text) most_bytes h));
+  few = omega arith;
+  small = subst (λ x. weight x ≤ 64) (sym e) (omega arith);
+  short = h;
+  room = omega arith;
+}
+
+-- one token, and the others behind it
+one_token : (end : ℕ) (s : State) (count : ℕ) (t : Placed) (ts : List Placed)
+    → read_tokens end s count (t ∷ ts) ≡ after_token (fault_place end s.place t) t (step s t.token) (count + word_count t.token) (λ s'. read_tokens end s' (count + word_count t.token) ts)
+unfolding read_tokens
+one_token end s count t ts = refl
+
+no_token : (end : ℕ) (s : State) (count : ℕ) → read_tokens end s count [] ≡ finished end (whole s)
+unfolding read_tokens
+no_token end s count = refl
+
+module _ (text : List ℕ) (place : ℕ) (rest : List ℕ) (s : State) (count : ℕ) (h : SoFar text place rest s count) where
+  reads_on : (t : Placed) (ts : List Placed) → tokens_from place rest ≡ t ∷ ts
+      → reading_of text ≡ after_token (fault_place (length text) s.place t) t (step s t.token) (count + word_count t.token) (λ s'. read_tokens (length text) s' (count + word_count t.token) ts)
+  reads_on t ts e = sym h.reads ∙ ap (read_tokens (length text) s count) e ∙ one_token (length text) s count t ts
+
+  -- one token more
+  pub goes_on : (t : Placed) (next : ℕ) (behind : List ℕ) (s' : State) (n : ℕ) → tokens_from place rest ≡ t ∷ tokens_from next behind → step s t.token ≡ Some s' → n ≡ count + word_count t.token → n ≤ 512
+      → next + length behind ≡ place + length rest → SoFar text next behind s' n
+  goes_on t next behind s' n e k same few room = record {
+    reads =
+        let others : State → Result Query ℕ = λ x. read_tokens (length text) x (count + word_count t.token) (tokens_from next behind) in
+        let fault = fault_place (length text) s.place t in
+        ap (λ m. read_tokens (length text) s' m (tokens_from next behind)) same
+        ∙ sym (reads_on t (tokens_from next behind) e
+        ∙ ap (λ o. after_token fault t o (count + word_count t.token) others) k
+        ∙ ap (λ b. if b then others s' else Err t.place) (le-leb (count + word_count t.token) (most_comparisons + most_comparisons) (subst (λ m. m ≤ 512) same few)));
+    few = few;
+    small = step_weight s t.token s' 64 k h.small;
+    short = h.short;
+    room = room ∙ h.room;
+  }
+
+  stops : (t : Placed) (ts : List Placed) (p : ℕ) → tokens_from place rest ≡ t ∷ ts → step s t.token ≡ None → p ≡ fault_place (length text) s.place t → refusal_of (reading_of text) ≡ Some (BadQuery p)
+  stops t ts p e k is = ap refusal_of (reads_on t ts e ∙ ap (λ o. after_token (fault_place (length text) s.place t) t o (count + word_count t.token) (λ x. read_tokens (length text) x (count + word_count t.token) ts)) k) ∙ ap (λ x. Some (BadQuery x)) (sym is)
+
+  -- the token can't stand here
+  pub stops_here : (t : Placed) (ts : List Placed) (p : ℕ) → tokens_from place rest ≡ t ∷ ts → step s t.token ≡ None → pattern_fault s.place t.token ≡ None → p ≡ plain_place (length text) t → refusal_of (reading_of text) ≡ Some (BadQuery p)
+  stops_here t ts p e k f is = stops t ts p e k (is ∙ sym (fault_place-plain (length text) s.place t f))
+
+  -- its pattern has a fault
+  pub stops_within : (t : Placed) (ts : List Placed) (k : ℕ) → tokens_from place rest ≡ t ∷ ts → step s t.token ≡ None → pattern_fault s.place t.token ≡ Some k → refusal_of (reading_of text) ≡ Some (BadQuery (t.raw_place + k))
+  stops_within t ts k e none f = stops t ts (t.raw_place + k) e none (sym (fault_place-pattern (length text) s.place t k f))
+
+  -- it is a word too many
+  pub one_too_many : (t : Placed) (ts : List Placed) (s' : State) (n : ℕ) → tokens_from place rest ≡ t ∷ ts → step s t.token ≡ Some s' → n ≡ count + word_count t.token → 512 < n → refusal_of (reading_of text) ≡ Some (BadQuery t.place)
+  one_too_many t ts s' n e k same many =
+      let others : State → Result Query ℕ = λ x. read_tokens (length text) x (count + word_count t.token) ts in
+      ap refusal_of (reads_on t ts e ∙ ap (λ o. after_token (fault_place (length text) s.place t) t o (count + word_count t.token) others) k
+      ∙ ap (λ b. if b then others s' else Err t.place) (lt-leb (count + word_count t.token) (most_comparisons + most_comparisons) (subst (λ m. 512 < m) same many)))
+
+  -- the text ends here
+  pub ends : (o : Option Query) → tokens_from place rest ≡ [] → whole s ≡ o → reading_of text ≡ finished (length text) o
+  ends o e k = sym h.reads ∙ ap (read_tokens (length text) s count) e ∙ no_token (length text) s count ∙ ap (finished (length text)) k
+
+  -- the place of a pattern's fault is a number of 64 bits
+  pub place_fits : (t : Placed) (next : ℕ) (behind : List ℕ) (k : ℕ) → Yields place rest t next behind → next + length behind ≡ place + length rest → pattern_fault s.place t.token ≡ Some k → t.raw_place + k < 2 ^ 64
+  place_fits t next behind k y total f =
+      let bound = pattern_place-bound place rest t next behind s.place k y total f in
+      omega (arith, bound, h.room, h.short)

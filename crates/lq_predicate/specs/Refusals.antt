@@ -1,0 +1,14 @@
+-- Why a formula is refused.
+use Rattle.std.specs.Prelude.{◌≡◌, ◌⊎◌, ℕ, Option, Some, None, Result, Ok, Err, IfErr}
+use Rattle.lq_value.specs.declared.refusal.Refusal.{Refusal}
+use Rattle.lq_value.specs.declared.refusal.Refusal.TheVariants.{BadQuery, NoMemory}
+use Rattle.lq_formula.specs.Query.{Query}
+
+-- the refusal of a reading: none of a query, and of a fault its place
+abbrev pub refusal_of : Result Query ℕ → Option Refusal
+refusal_of (Ok q) = None
+refusal_of (Err place) = Some (BadQuery place)
+
+-- A refusal of the call is that one, or memory ran out.
+abbrev pub IsRefusedOrFails : {T : Type 0} → Result T Refusal → Option Refusal → Type 0
+IsRefusedOrFails result refusal = IfErr result (λ e. (e ≡ NoMemory) ⊎ (refusal ≡ Some e))

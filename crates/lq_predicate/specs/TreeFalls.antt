@@ -1,0 +1,15 @@
+-- Each part of a tree's node is less deep than the node.
+use Rattle.std.specs.Prelude.{◌≤◌, max}
+use Rattle.std.proofs.Common.{arith}
+use Rattle.lq_formula.specs.Canonical.{depth}
+use Rattle.lq_predicate.specs.NodeFalls.{most_le-deepest}
+use Rattle.lq_predicate.specs.Tree.{tree_query}
+use Rattle.lq_predicate.specs.declared.tree.TreeNode.{TreeNode}
+use Rattle.lq_predicate.specs.declared.tree.TreeNode.TheVariants as node
+use Rattle.lq_predicate.specs.declared.tree.Tree.TheDeep.{deep-TreeNode}
+
+pub deep_le-depth : (n : TreeNode) → max (deep-TreeNode n) 0 ≤ depth (tree_query n)
+deep_le-depth (node.Compare attr op literal) = omega arith
+deep_le-depth (node.Not part) = omega arith
+deep_le-depth (node.And parts) = omega (arith, most_le-deepest parts.items)
+deep_le-depth (node.Or parts) = omega (arith, most_le-deepest parts.items)
