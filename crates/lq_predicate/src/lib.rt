@@ -1,6 +1,6 @@
 //! Predicates: from formulas or from pushes on a stack, written, and when they hold of a row.
 //!
-//! A contract sees a predicate as a `Query` (`specs/Query`), a row as what it shows under each
+//! A contract sees a predicate as a `Query` of lq_formula, a row as what it shows under each
 //! attribute's name (`specs/Truth`), and a stack as its items (`specs/Stack` has what each push
 //! gives). Nothing here waits, and `holds` takes no memory.
 //! Begin with `predicate`, then `truth`, then `stack`.
