@@ -1,5 +1,5 @@
 -- No query has depth 0.
-use Rattle.std.proofs.Common.{◌≡◌, ◌∙◌, ap, sym, Bool, false, ℕ, nat_le, refl}
+use Rattle.std.proofs.Common.{◌≡◌, ◌∙◌, ap, sym, false, ℕ, nat_le, refl}
 use Rattle.std.proofs.Math.Dec.{leb-suc-zero}
 use Rattle.lq_formula.specs.Query.{Query, Compare, Not, And, Or}
 use Rattle.lq_formula.specs.Canonical.{depth, deepest}

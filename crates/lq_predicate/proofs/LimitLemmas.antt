@@ -1,6 +1,6 @@
 -- The parts of a query within the limits are within them; what a formula reads as is formed.
-use Rattle.std.proofs.Common.{◌≡◌, ◌≤◌, ◌<◌, ◌+◌, max, ℕ, zero, suc, Bool, true, false, ◌&&◌, List, [], ◌∷◌, ◌++◌, length, get_or, Option, Some, None, refl, sym, ap, ◌∙◌, subst, arith, inl, inr, ◌⊎◌}
-use Rattle.std.specs.Prelude.{IsTrue, nat_le}
+use Rattle.std.proofs.Common.{◌≡◌, ◌≤◌, ◌<◌, ℕ, zero, suc, Bool, true, false, ◌&&◌, List, [], ◌∷◌, length, get_or, Some, refl, ap, ◌∙◌, subst, arith, inl, inr}
+use Rattle.std.specs.Prelude.{nat_le}
 use Rattle.std.proofs.lemmas.Bool.{le-leb, leb-true}
 use Rattle.lq_value.specs.Compare.{suits}
 use Rattle.lq_value.specs.declared.op.Op.{Op}
@@ -11,9 +11,9 @@ use Rattle.lq_value.specs.declared.element.Element.{Element}
 use Rattle.lq_value.specs.Source.{pattern_of}
 use Rattle.std.specs.Prelude.{Result, Ok, Err}
 use Rattle.lq_formula.specs.Tokens.{Token, bare}
-use Rattle.lq_formula.specs.Query.{Query, Compare, Not, And, Or, Queries, no_more, and_then, queries, both_of, either_of}
+use Rattle.lq_formula.specs.Query.{Query, And, Or, Queries, no_more, and_then, queries, both_of, either_of}
 use Rattle.lq_formula.specs.Literals.{literal_of, pattern_literal}
-use Rattle.lq_formula.specs.Grammar.{Reading, Follows, Parts, IsAnd, IsOr, IsComparison, IsNot, IsFormula, nesting}
+use Rattle.lq_formula.specs.Grammar.{Reading, Follows, IsAnd, IsOr, IsComparison, IsNot, nesting}
 use Rattle.lq_formula.specs.Canonical.{depth, deepest, comparisons, all_comparisons}
 use Rattle.lq_formula.specs.Faults.{Reads}
 use Rattle.lq_predicate.specs.Limits.{is_formed, are_formed, part_count, is_predicate, are_predicates}

@@ -1,7 +1,6 @@
 -- Raw texts that are no name of an attribute.
-use Rattle.std.proofs.Common.{◌≡◌, ◌∙◌, ap, sym, Bool, true, false, cond, ℕ, List, Option, Some, None, refl}
+use Rattle.std.proofs.Common.{◌≡◌, ◌∙◌, ap, Bool, true, false, ℕ, List, Some, None, refl}
 use Rattle.std.specs.Prelude.{if◌then◌else◌, unwrap_or}
-use Rattle.lq_value.specs.declared.refusal.Refusal.{Refusal}
 use Rattle.lq_value.specs.declared.refusal.Refusal.TheVariants.{BadName, NoMemory}
 use Rattle.lq_value.specs.Name.{is_attr_name}
 use Rattle.lq_formula.specs.Literals.{name_of, unescaped}

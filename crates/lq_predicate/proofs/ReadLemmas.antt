@@ -1,16 +1,13 @@
 -- The reading of a whole text, by the limits on its query.
-use Rattle.std.proofs.Common.{◌≡◌, ◌≤◌, ◌<◌, ◌⊎◌, ℕ, Bool, true, false, ◌&&◌, List, length, Option, Some, None, refl, sym, ap, ◌∙◌, subst, arith, inl, inr}
+use Rattle.std.proofs.Common.{◌≡◌, ◌≤◌, ◌⊎◌, ℕ, true, ◌&&◌, List, length, Some, ap, ◌∙◌, arith, inl, inr}
 use Rattle.std.specs.Prelude.{nat_le, if◌then◌else◌, IfErr, Result, Ok, Err}
-use Rattle.std.proofs.lemmas.Bool.{le-leb, lt-leb}
+use Rattle.std.proofs.lemmas.Bool.{le-leb}
 use Rattle.lq_value.specs.declared.refusal.Refusal.{Refusal}
 use Rattle.lq_value.specs.declared.refusal.Refusal.TheVariants.{BadQuery, NoMemory}
 use Rattle.lq_formula.specs.Query.{Query}
-use Rattle.lq_formula.specs.Grammar.{nesting}
-use Rattle.lq_formula.specs.Machine.{start}
-use Rattle.lq_formula.specs.Tokens.{tokens_of}
 use Rattle.lq_formula.specs.Canonical.{canonical, depth}
-use Rattle.lq_formula.specs.Faults.{most_bytes, most_depth, Reads, IsFaulty}
-use Rattle.lq_formula.specs.Reading.{finished, read_tokens, reading_of}
+use Rattle.lq_formula.specs.Faults.{most_bytes, IsFaulty}
+use Rattle.lq_formula.specs.Reading.{finished, reading_of}
 use Rattle.lq_formula.specs.Laws.{FormulasAreRead, FaultsAreFound}
 use Rattle.lq_predicate.specs.Capped.{capped}
 use Rattle.lq_predicate.specs.Limits.{is_predicate}

@@ -14,7 +14,7 @@ use Rattle.lq_value.specs.declared.literal.Literal.{Literal}
 use Rattle.lq_value.specs.declared.op.Op.{Op}
 use Rattle.lq_value.specs.Pattern.{plain_elements}
 use Rattle.lq_formula.specs.Query.{Query, Compare, Not, And, Or, Queries, no_more, and_then, queries}
-use Rattle.lq_formula.specs.Canonical.{is_bare_byte, quoted, in_marks, attr_then, op_text, literal_text, pattern_text, element_then, set_then, plain_then, in_set_then, item_then, items_then, written, parts_written, others_written, canonical}
+use Rattle.lq_formula.specs.Canonical.{is_bare_byte, quoted, in_marks, attr_then, op_text, literal_text, pattern_text, element_then, plain_then, in_set_then, item_then, items_then, written, parts_written, others_written, canonical}
 use Rattle.lq_predicate.specs.Capped.{capped}
 use Rattle.lq_predicate.proofs.PartLemmas.{parts_here}
 

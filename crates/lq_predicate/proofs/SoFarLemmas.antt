@@ -1,13 +1,12 @@
 -- What is known while a formula is read.
-use Rattle.std.proofs.Common.{◌≡◌, ◌≤◌, ◌<◌, ◌+◌, ◌^◌, ◌⊎◌, ℕ, suc, Bool, true, false, List, [], ◌∷◌, length, Option, Some, None, refl, sym, ap, ◌∙◌, subst, arith, inl, inr}
-use Rattle.std.specs.Prelude.{nat_le, if◌then◌else◌, Result, Ok, Err}
+use Rattle.std.proofs.Common.{◌≡◌, ◌≤◌, ◌<◌, ◌+◌, ◌^◌, ℕ, List, [], ◌∷◌, length, Option, Some, None, refl, sym, ap, ◌∙◌, subst, arith}
+use Rattle.std.specs.Prelude.{if◌then◌else◌, Result, Err}
 use Rattle.std.proofs.lemmas.Bool.{lt-leb, le-leb}
-use Rattle.lq_value.specs.declared.refusal.Refusal.{Refusal}
 use Rattle.lq_value.specs.declared.refusal.Refusal.TheVariants.{BadQuery}
-use Rattle.lq_formula.specs.Tokens.{Token, Placed, Yields, tokens_from, tokens_of}
+use Rattle.lq_formula.specs.Tokens.{Placed, Yields, tokens_from, tokens_of}
 use Rattle.lq_formula.specs.Query.{Query}
 use Rattle.lq_formula.specs.Grammar.{nesting}
-use Rattle.lq_formula.specs.Machine.{Place, State, start, step, whole, weight}
+use Rattle.lq_formula.specs.Machine.{State, start, step, whole, weight}
 use Rattle.lq_formula.specs.Faults.{most_bytes, most_comparisons}
 use Rattle.lq_formula.specs.Reading.{after_token, fault_place, finished, read_tokens, reading_of, word_count}
 use Rattle.lq_predicate.specs.MachineView.{pattern_fault}

@@ -1,9 +1,8 @@
-use Rattle.std.proofs.Common.{inl, inr, arith, sym, ◌∙◌, ap, ◌+◌, ◌<◌, ◌≡◌, ◌^◌, ℕ, Some, subst}
+use Rattle.std.proofs.Common.{inr, arith, sym, ◌∙◌, ap, ◌+◌, ◌<◌, ◌^◌, Some, subst}
 use Rattle.lq_value.specs.declared.refusal.Refusal.TheVariants.{BadQuery}
 use Rattle.lq_formula.specs.TokenView.{placed_of}
-use Rattle.lq_formula.specs.Reading.{reading_of}
 use Rattle.lq_predicate.specs.Refusals.{refusal_of}
-use Rattle.lq_predicate.proofs.SoFarLemmas.{SoFar, goes_on, stops_here, stops_within, one_too_many, ends, place_fits}
+use Rattle.lq_predicate.proofs.SoFarLemmas.{goes_on, stops_here, stops_within, one_too_many, ends, place_fits}
 use Rattle.lq_predicate.proofs.reader.read_whole.Goals as goal
 
 pub returns-in-Err-Refused-clause-refused : goal.returns-in-Err-Refused-clause-refused

@@ -1,4 +1,3 @@
-use Rattle.std.proofs.Common.{arith}
 use Rattle.lq_predicate.proofs.SizeLemmas.{items_on, capped_bound}
 use Rattle.lq_predicate.proofs.size.items_size.Goals as goal
 
