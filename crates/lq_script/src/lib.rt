@@ -7,7 +7,7 @@
 #![tactic(auto)]
 
 mod asking;
-mod check;
+mod checking;
 mod devices;
 mod intake;
 mod laws;
@@ -26,7 +26,7 @@ mod tests;
 mod words;
 mod writing;
 
-pub use check::check;
+pub use checking::check;
 pub use devices::{Failed, Host, Sink, Source};
 pub use laws::{a_last_line_needs_no_lf, a_line_ends_at_the_first_lf, ended_lines_stay};
 pub use over_lines::run_lines;

@@ -1,7 +1,7 @@
 //! The program's words, and its status.
 ghost use Rattle.std.specs.Prelude.{◌≡◌, false};
 
-use crate::check::check;
+use crate::checking::check;
 use crate::devices::{Failed, Sink, Source};
 use crate::run_fault::RunFault;
 use crate::script::run;
