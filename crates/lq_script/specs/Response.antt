@@ -18,7 +18,7 @@ pub data Response : Type 0 where
 
 -- the node that has a place, and the entry of a node, where the look-up isn't refused
 abbrev pub found : Option Refusal → Option ℕ → Response
-found (Some e) node = Answers (Refused e)
+found (Some e) _ = Answers (Refused e)
 found None None = Answers (Refused NoEntry)
 found None (Some node) = Found node
 
