@@ -12,6 +12,8 @@ mod raw;
 mod reader;
 mod size;
 mod step_fault;
+#[cfg(test)]
+mod tests;
 mod tree;
 mod truth;
 
