@@ -8,6 +8,8 @@
 #[cfg(test)]
 mod calls;
 #[cfg(test)]
+mod entry_calls;
+#[cfg(test)]
 mod input;
 mod locked;
 #[cfg(test)]
