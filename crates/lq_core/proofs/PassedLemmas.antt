@@ -1,12 +1,10 @@
 -- What a desk keeps of each subscription's list, and what a refusal leaves.
-use Rattle.std.proofs.Common.{◌≡◌, ℕ, suc, ◌+◌, ◌-◌, ◌≤◌, List, [], ◌∷◌, ◌++◌, refl, ap, map, take, drop, length, ◌∙◌, sym, arith, Some, None, Option, Bool, true, false, inl, inr}
+use Rattle.std.proofs.Common.{◌≡◌, ℕ, ◌-◌, ◌≤◌, [], ◌++◌, refl, ap, map, take, drop, length, ◌∙◌, sym, arith, Some, None, Option, Bool, true, false, inl, inr}
 use Rattle.std.specs.Prelude.{nat_lt, if◌then◌else◌}
 use Rattle.std.specs.Option.{option_map, option_to_list}
 use Rattle.lq_value.specs.declared.refusal.Refusal.{Refusal}
-use Rattle.lq_update.specs.declared.message.Message.{Message}
-use Rattle.lq_update.specs.declared.parcel.Parcel.{Parcel}
 use Rattle.lq_update.specs.declared.parcel.Parcel.TheVariants.{Update, Fin}
-use Rattle.lq_world.specs.World.{World, Sub, End, told, whole, in_port, waiting, to_come, mark_behind, slot_at}
+use Rattle.lq_world.specs.World.{World, Sub, End, told, whole, in_port, waiting, to_come, mark_behind}
 use Rattle.lq_world.specs.Events.{Happening, Answer, Refused}
 use Rattle.lq_world.specs.Runs.{Step}
 use Rattle.lq_world.specs.Fair.{IsFair, IsFairSlot}
@@ -14,7 +12,7 @@ use Rattle.lq_world.specs.Laws.{ListsArePassedOn, RefusalsLeaveWorlds}
 use Rattle.lq_core.specs.Kept.{Kept, Shows, mark_of, held_for, slot_for, kept_at, kept_of}
 use Rattle.lq_core.specs.Reply.{Moves}
 use Rattle.lq_core.specs.Laws.{KeptPassesListsOn, mark_left}
-use Rattle.lq_core.proofs.ListLemmas.{all-get, drop-all, length-map, lt-true, lt-false}
+use Rattle.lq_core.proofs.ListLemmas.{all-get, drop-all, lt-true, lt-false}
 use Rattle.lq_core.proofs.Shown.{kept_at-same, slot-found}
 
 mark-drop : (n i : ℕ) (o : Option End) → drop (i - n) (mark_behind n o) ≡ (if nat_lt n i then [] else map (λ mark. Fin mark) (option_to_list (option_map (mark_of n) o)))
@@ -40,8 +38,7 @@ to_come-kept w s = ap (λ ps. map (λ m. Update m) (waiting w.book s) ++ ps) (ma
 
 pub passes-on : ListsArePassedOn → KeptPassesListsOn
 passes-on law k w slot s shows is =
-    let f : IsFair w.book s = all-get (IsFairSlot w.book) w.slots (slot - 1) (Some s) shows.fair (slot-found w slot s is) in
-    (
+    let f : IsFair w.book s = all-get (IsFairSlot w.book) w.slots (slot - 1) (Some s) shows.fair (slot-found w slot s is) in (
       slot_for w.book s,
       ap (λ (j : Kept). kept_at j slot) shows.kept ∙ (kept_at-same w slot ∙ ap (option_map (slot_for w.book)) is),
       ap (λ ps. take s.taken (whole w.book s) ++ (in_port w.book s ++ ps)) (sym (to_come-kept w s)) ∙ law w.book s f,

@@ -1,5 +1,5 @@
 -- A run of a desk goes on by one event.
-use Rattle.std.proofs.Common.{◌≡◌, ℕ, zero, suc, ◌≤◌, List, [], ◌∷◌, ◌++◌, refl, ap, subst, map, length}
+use Rattle.std.proofs.Common.{◌≡◌, List, [], ◌∷◌, ◌++◌, refl, ap, subst, map}
 use Rattle.lq_world.specs.World.{World}
 use Rattle.lq_world.specs.Events.{Happening, Answer}
 use Rattle.lq_world.specs.Runs.{Step, Run}

@@ -93,7 +93,7 @@ map-kept s c xs ys i x z done same at = map-same_here ys i x z same at ∙ (ap (
 
 -- ---- how many messages were made
 
-few-told : StepsAreFew → (s : State) (c : Change_) (h : Held) (x : Bool) → IsVolume s → IsLawful s c → h.sent ≤ 3 * s.number
+pub few-told : StepsAreFew → (s : State) (c : Change_) (h : Held) (x : Bool) → IsVolume s → IsLawful s c → h.sent ≤ 3 * s.number
     → (told_if h (step_of h.query h.moved s c (h.sent + 1)) s.number x).sent ≤ 3 * (s.number + 1)
 few-told steps s c h true v lawful le = omega (arith, le)
 few-told steps s c h false v lawful le = omega (arith, le, steps h.query h.moved s c (h.sent + 1) v lawful)

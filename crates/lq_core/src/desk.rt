@@ -11,7 +11,9 @@ use lq_predicate::Predicate;
 use lq_update::{steps_are_few, updates_join};
 use lq_value::Refusal;
 use lq_volume::{Applied, Change, Volume, changes_are_counted};
-use lq_world::{first_worlds_are_fair, readers_are_told, refusals_leave_worlds, runs_keep_worlds_fair};
+use lq_world::{
+    first_worlds_are_fair, readers_are_told, refusals_leave_worlds, runs_keep_worlds_fair,
+};
 use std::alloc::Global;
 use std::marker::Model;
 

@@ -163,6 +163,8 @@ impl Sub {
         ensures value { result ≡ next_parcel self.old.held }
         ensures rest { self.new.held ≡ without self.old.held (next_parcel self.old.held) }
         ensures room { IfSome result (λ parcel. IsTrue (fits_back self.new.lent parcel)) }
+        ensures sent { self.new.held.sent ≡ self.old.held.sent }
+        ensures mark { self.new.held.mark ≡ self.old.held.mark }
     {
         if let Some(message) = self.messages.pop_front() {
             self.lent = true;
@@ -179,7 +181,9 @@ impl Sub {
     /// Puts back the parcel that the latest `next` gave. It takes no memory.
     pub fn put_back(&mut self, parcel: Parcel)
         requires { IsTrue (fits_back self.old.lent parcel) }
-        ensures { self.new.held ≡ with_back self.old.held parcel }
+        ensures held { self.new.held ≡ with_back self.old.held parcel }
+        ensures sent { self.new.held.sent ≡ self.old.held.sent }
+        ensures mark { self.new.held.mark ≡ self.old.held.mark }
     {
         match parcel {
             Parcel::Update(message) => {

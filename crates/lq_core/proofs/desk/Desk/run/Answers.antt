@@ -1,4 +1,4 @@
-use Rattle.std.proofs.Common.{◌≡◌, ◌+◌, ◌<◌, ◌++◌, ◌∷◌, [], take, length, get_or, arith, ap, sym, subst, List, map}
+use Rattle.std.proofs.Common.{◌<◌, length, arith, ap, sym, subst, List, map}
 use Rattle.std.proofs.lemmas.List.{take_more}
 use Rattle.lq_volume.specs.State.{State}
 use Rattle.lq_core.specs.declared.event.Event.{Event}
