@@ -39,7 +39,6 @@ impl Model for Desk {
     ghost use Rattle.std.specs.Option.{option_map};
     ghost use Rattle.lq_core.specs.Kept.{Kept, IsDesk};
     ghost use Rattle.lq_core.specs.Slot.{slot_of};
-
     ghost use Rattle.std.specs.Coded.{codes};
     ghost use Rattle.lq_predicate.specs.QueryCode.{coded_query};
 

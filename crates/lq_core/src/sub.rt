@@ -35,7 +35,6 @@ impl Model for Sub {
     ghost use Rattle.std.specs.Prelude.{◌+◌, ◌≤◌, vec_len, if◌then◌else◌};
     ghost use Rattle.std.specs.VecDeque.{deque_len, deque_capacity};
     ghost use Rattle.lq_core.specs.Held.{Prepared};
-
     ghost use Rattle.std.specs.Coded.{codes};
     ghost use Rattle.lq_predicate.specs.QueryCode.{coded_query};
 

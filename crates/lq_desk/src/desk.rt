@@ -38,7 +38,6 @@ impl Model for Desk {
     ghost use Rattle.std.specs.Prelude.{map};
     ghost use Rattle.lq_desk.specs.Desk.{Kept, IsDesk};
     ghost use Rattle.lq_desk.specs.Held.{held_of};
-
     ghost use Rattle.std.specs.Coded.{codes};
     ghost use Rattle.lq_predicate.specs.QueryCode.{coded_query};
 

@@ -29,7 +29,6 @@ impl Model for Sub {
     ghost use Rattle.std.specs.Prelude.{◌+◌, ◌≤◌, vec_len};
     ghost use Rattle.std.specs.VecDeque.{deque_len, deque_capacity};
     ghost use Rattle.lq_desk.specs.Held.{Prepared};
-
     ghost use Rattle.std.specs.Coded.{codes};
     ghost use Rattle.lq_predicate.specs.QueryCode.{coded_query};
 
