@@ -14,8 +14,6 @@ mod operand;
 mod predicate;
 mod raw;
 mod reader;
-#[cfg(test)]
-mod reading_tests;
 mod size;
 mod stack;
 mod stack_comparison;
