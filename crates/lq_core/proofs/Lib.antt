@@ -7,3 +7,4 @@ pub mod SlotsLemmas
 pub mod Desks
 pub mod RunLemmas
 pub mod PassedLemmas
+pub mod TurnLemmas

@@ -37,7 +37,7 @@ few-at n [] i d lt h = absurd (omega arith)
 few-at n (y ∷ ys) zero d lt h = h.0
 few-at n (y ∷ ys) (suc i) d lt h = few-at n ys i d (omega arith) h.1
 
-one-get : (xs : List (Option PreparedSlot)) (i : ℕ) (d : Option PreparedSlot) → i < length xs → d ≡ get_or xs i d → slice_get xs i ≡ Some d
+pub one-get : (xs : List (Option PreparedSlot)) (i : ℕ) (d : Option PreparedSlot) → i < length xs → d ≡ get_or xs i d → slice_get xs i ≡ Some d
 one-get [] i d lt at = absurd (omega arith)
 one-get (x ∷ xs) zero d lt at = ap (λ (o : Option PreparedSlot). Some o) (sym at)
 one-get (x ∷ xs) (suc i) d lt at = one-get xs i d (omega arith) at

@@ -5,9 +5,11 @@ use Rattle.lq_update.specs.declared.parcel.Parcel.{Parcel}
 use Rattle.lq_update.specs.declared.parcel.Parcel.TheVariants.{Update, Fin}
 use Rattle.lq_world.specs.World.{World, Sub, whole, slot_at}
 use Rattle.lq_world.specs.Events.{Happening, answer, next}
+use Rattle.lq_world.specs.Turns.{turn_outcome}
 use Rattle.lq_core.specs.Held.{Held, next_parcel, without, with_back}
 use Rattle.lq_core.specs.Slot.{KeptSlot}
 use Rattle.lq_core.specs.Kept.{Kept, Shows, kept_at, kept_outcome}
+use Rattle.lq_core.specs.Turn as turn
 
 -- a parcel that goes out and is put back leaves all as it was
 abbrev pub PuttingBackUndoes : Type 0
@@ -16,6 +18,11 @@ PuttingBackUndoes = (h : Held) (p : Parcel) → next_parcel h ≡ Some p → wit
 -- where what is kept shows a world, both answer each event alike, and then show each other again
 abbrev pub KeptShowsWorlds : Type 0
 KeptShowsWorlds = (k : Kept) (w : World) (e : Happening) → Shows k w → ((kept_outcome k e).0 ≡ answer w e) × Shows (kept_outcome k e).1 (next w e)
+
+-- and carry out each turn alike
+abbrev pub KeptTurnsShowWorlds : Type 0
+KeptTurnsShowWorlds = (k : Kept) (w : World) (e : Happening) → Shows k w →
+    ((turn.turn_outcome k e).0 ≡ (turn_outcome w e).0) × Shows (turn.turn_outcome k e).1 (turn_outcome w e).1
 
 -- the mark, where it hasn't gone out
 abbrev pub mark_left : Held → List Parcel

@@ -3,4 +3,5 @@ pub mod Slot
 pub mod Act
 pub mod Kept
 pub mod Reply
+pub mod Turn
 pub mod Laws

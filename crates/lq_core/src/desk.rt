@@ -4,6 +4,8 @@ ghost use Rattle.lq_volume.specs.State.{IsVolume};
 ghost use Rattle.lq_value.specs.Refusal.{IsRefusedBy};
 ghost use Rattle.lq_volume.specs.Change.{refused, node_of};
 
+mod turn;
+
 use crate::event::{Event, Reply};
 use crate::slot::{Act, Slot};
 use crate::slots::{act_in, commit_all, fill, first_free, free_slots, ready_all};

@@ -1,5 +1,5 @@
 //! Laws of subscriptions and desks: each is the contract of a function that does nothing.
-ghost use Rattle.lq_core.specs.Laws.{KeptPassesListsOn, KeptShowsWorlds, PuttingBackUndoes};
+ghost use Rattle.lq_core.specs.Laws.{KeptPassesListsOn, KeptShowsWorlds, KeptTurnsShowWorlds, PuttingBackUndoes};
 
 use lq_update::updates_join;
 use lq_volume::changes_are_counted;
@@ -17,6 +17,13 @@ pub fn kept_shows_worlds()
     updates_join();
     changes_are_counted();
     runs_keep_worlds_fair();
+}
+
+/// And carries out each turn as that world does.
+pub fn kept_turns_show_worlds()
+    ensures { KeptTurnsShowWorlds }
+{
+    kept_shows_worlds();
 }
 
 /// What was taken of a subscription, then what is in its port, then what is held for it, then a mark

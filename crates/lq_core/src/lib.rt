@@ -17,5 +17,7 @@ mod tests;
 
 pub use desk::Desk;
 pub use event::{Event, Read, Reply};
-pub use laws::{kept_passes_lists_on, kept_shows_worlds, putting_back_undoes};
+pub use laws::{
+    kept_passes_lists_on, kept_shows_worlds, kept_turns_show_worlds, putting_back_undoes,
+};
 pub use sub::Sub;

@@ -172,6 +172,13 @@ impl Slot {
         ends
     }
 
+    /// How many places its port has.
+    pub fn places(&self) -> u64
+        ensures { result ≡ (slot_of self.now).port }
+    {
+        self.port
+    }
+
     /// Whether its mark went out, and its port is empty.
     pub fn is_read(&self) -> bool
         ensures { result ≡ is_read (slot_of self.now) }

@@ -1,5 +1,6 @@
 pub mod World
 pub mod Events
+pub mod Turns
 pub mod Runs
 pub mod Fair
 pub mod Headline
