@@ -8,3 +8,4 @@ pub mod Desks
 pub mod RunLemmas
 pub mod PassedLemmas
 pub mod TurnLemmas
+pub mod PassingLemmas

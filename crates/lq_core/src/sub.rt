@@ -3,22 +3,25 @@ ghost use Rattle.std.specs.Prelude.{◌≡◌, ◌+◌, ◌<◌, ◌≤◌, ◌^
 ghost use Rattle.std.specs.VecDeque.{deque_len, deque_capacity};
 ghost use Rattle.lq_value.specs.Refusal.{IsRefusedBy};
 ghost use Rattle.lq_volume.specs.Change.{IsLawful};
+ghost use Rattle.lq_predicate.specs.Names.{names_of};
+ghost use Rattle.lq_core.specs.Passing.{is_among, passes_over};
 
-use lq_predicate::Predicate;
-use lq_update::{Cause, Mark, Message, Parcel, step};
-use lq_value::Refusal;
+use lq_predicate::{Predicate, names};
+use lq_update::{Cause, Mark, Message, Parcel, changes_pass_over, step};
+use lq_value::{AttrName, Refusal};
 use lq_volume::{Change, Volume};
 use std::alloc::Global;
 use std::collections::VecDeque;
 use std::marker::Model;
 use std::mem::replace;
 
-/// One subscription: its query, the messages that it holds, and those of a change that isn't made
-/// yet, for which there is always room.
+/// One subscription: its query and the names in it, the messages that it holds, and those of a
+/// change that isn't made yet, for which there is always room.
 #[derive(Debug, Drop)]
 pub struct Sub {
     alloc: Global,
     predicate: Predicate,
+    names: Vec<AttrName>,
     moved: bool,
     opened: u64,
     backlog: u64,
@@ -32,7 +35,8 @@ pub struct Sub {
 }
 
 impl Model for Sub {
-    ghost use Rattle.std.specs.Prelude.{◌+◌, ◌≤◌, vec_len, if◌then◌else◌};
+    ghost use Rattle.std.specs.Prelude.{◌≡◌, ◌+◌, ◌≤◌, vec_len, if◌then◌else◌};
+    ghost use Rattle.lq_predicate.specs.Names.{names_of};
     ghost use Rattle.std.specs.VecDeque.{deque_len, deque_capacity};
     ghost use Rattle.lq_core.specs.Held.{Prepared};
     ghost use Rattle.std.specs.Coded.{codes};
@@ -44,7 +48,7 @@ impl Model for Sub {
 
     ghost view = { λ s. record { held = record { query = s.predicate; moved = s.moved; opened = s.opened; backlog = s.backlog; sent = s.sent; messages = s.messages.items; mark = s.mark; mark_out = s.mark_out }; ready = s.ready.items; before = s.before; lent = s.lent } };
 
-    ghost invariant = { λ s. deque_len s.messages + vec_len s.ready + (if s.lent then 1 else 0) ≤ deque_capacity s.messages };
+    ghost invariant = { λ s. (deque_len s.messages + vec_len s.ready + (if s.lent then 1 else 0) ≤ deque_capacity s.messages) × (s.names.items ≡ names_of s.predicate) };
 }
 
 impl Sub {
@@ -69,6 +73,7 @@ impl Sub {
         Ok(Sub {
             alloc,
             predicate: predicate.copy(alloc)?,
+            names: names(alloc, predicate)?,
             moved,
             opened: at,
             backlog,
@@ -98,7 +103,8 @@ impl Sub {
 
     /// Makes the messages of a change, and room for them; it holds what it held.
     ///
-    /// Refused: `NoMemory`.
+    /// It passes over a change of values alone that the predicate doesn't look at. Refused:
+    /// `NoMemory`.
     pub fn ready(&mut self, volume: &Volume, change: &Change) -> Result<(), Refusal>
         requires lawful { IsLawful volume.now change.now }
         requires few { self.old.held.sent < 2 ^ 63 }
@@ -107,6 +113,12 @@ impl Sub {
         ensures ok { OnOk result (self.new ≡ prepared volume.now change.now self.old) }
         ensures err { OnErr result (self.new.held ≡ self.old.held) }
     {
+        changes_pass_over();
+        if self.passes_over(change) {
+            self.ready = Vec::new(self.alloc);
+            self.before = volume.changes();
+            return Ok(());
+        }
         let first = self.sent + 1;
         let step = step(
             self.alloc,
@@ -121,6 +133,21 @@ impl Sub {
         self.ready = step;
         self.before = volume.changes();
         Ok(())
+    }
+
+    // Whether a change tells the query nothing, by the names that it alters.
+    fn passes_over(&self, change: &Change) -> bool
+        ensures { result ≡ passes_over (names_of self.now.held.query) change.now }
+    {
+        match change {
+            Change::Create { .. } | Change::Remove { .. } | Change::Move { .. } => false,
+            Change::Write { .. } => {
+                !(is_among(&self.names, "size") || is_among(&self.names, "last_modified"))
+            }
+            Change::SetAttr { attr, .. } | Change::RemoveAttr { attr, .. } => {
+                !is_among(&self.names, attr.as_str())
+            }
+        }
     }
 
     /// Holds the messages that were made for a change; where they are more than its backlog has
@@ -204,4 +231,11 @@ fn append(messages: &mut VecDeque<Message>, ready: Vec<Message>)
     for message in ready {
         messages.push_back_reserved(message);
     }
+}
+
+// Whether a name is one of these.
+fn is_among(names: &[AttrName], name: &str) -> bool
+    ensures { result ≡ is_among names.now name.now }
+{
+    names.iter().any(|other| name == other.as_str())
 }

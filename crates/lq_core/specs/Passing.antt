@@ -1,0 +1,18 @@
+-- The changes that a subscription may pass over, since they tell it nothing.
+use Rattle.std.specs.Prelude.{ℕ, List, Bool, false, not, Option, Some, None}
+use Rattle.std.specs.List.{list_any}
+use Rattle.std.specs.Str.{bytes_eq}
+use Rattle.lq_volume.specs.declared.change.Change.{Change}
+use Rattle.lq_update.specs.Laws.{names_altered}
+
+-- whether one of these names is among the others
+abbrev pub is_among : List (List ℕ) → List ℕ → Bool
+is_among names name = list_any (bytes_eq name) names
+
+abbrev pub are_apart : List (List ℕ) → Option (List (List ℕ)) → Bool
+are_apart names None = false
+are_apart names (Some altered) = not (list_any (is_among names) altered)
+
+-- a change of values alone, and of none under these names
+abbrev pub passes_over : List (List ℕ) → Change → Bool
+passes_over names c = are_apart names (names_altered c)
