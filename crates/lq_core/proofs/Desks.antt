@@ -35,15 +35,18 @@ free-same : {A B C : Type 0} (f : A → C) (g : B → C) (n : ℕ) → map (opti
 free-same f g zero = refl
 free-same f g (suc n) = ap (λ ks. None ∷ ks) (free-same f g n)
 
-pub IsDesk-new : FirstWorldsAreFair → (s : State) → IsDesk (record { volume = s; openings = 0; slots = map kept_slot (replicate 64 None) })
-IsDesk-new fair s =
+pub Shows-new : FirstWorldsAreFair → (s : State) → Shows (record { volume = s; openings = 0; slots = map kept_slot (replicate 64 None) }) (first_world (record { start = s; changes = [] }))
+Shows-new fair s =
     let b : Book = record { start = s; changes = [] } in
-    record {
-      slots = free-length 64;
-      few = few-free (3 * s.number) 64;
-      world = first_world b;
-      shows = record { fair = fair b; kept = ap (λ ks. record { volume = s; openings = 0; slots = ks }) (free-same slot_of (slot_for b) 64) };
-    }
+    record { fair = fair b; kept = ap (λ ks. record { volume = s; openings = 0; slots = ks }) (free-same slot_of (slot_for b) 64) }
+
+pub IsDesk-new : FirstWorldsAreFair → (s : State) → IsDesk (record { volume = s; openings = 0; slots = map kept_slot (replicate 64 None) })
+IsDesk-new fair s = record {
+  slots = free-length 64;
+  few = few-free (3 * s.number) 64;
+  world = first_world (record { start = s; changes = [] });
+  shows = Shows-new fair s;
+}
 
 module _ (alike : KeptShowsWorlds) where
   pub IsDesk-change : StepsAreFew → ChangesCount → (k : Kept) (c : Change_) → IsDesk k → IsVolume k.volume → IsLawful k.volume c → IsDesk (changed k c)

@@ -4,6 +4,7 @@ pub mod HeldLemmas
 pub mod SlotLemmas
 pub mod Shown
 pub mod SlotsLemmas
+pub mod FreeLemmas
 pub mod Desks
 pub mod RunLemmas
 pub mod PassedLemmas

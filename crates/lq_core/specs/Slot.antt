@@ -1,5 +1,5 @@
 -- What is in a taken slot: a subscription and its port; and what each event does there.
-use Rattle.std.specs.Prelude.{ℕ, List, [], ◌∷◌, ◌++◌, length, drop, Bool, true, false, ◌&&◌, ◌==◌, nat_lt, Option, Some, None, slice_get, if◌then◌else◌}
+use Rattle.std.specs.Prelude.{ℕ, ◌-◌, List, [], ◌∷◌, ◌++◌, length, drop, replicate, Bool, true, false, ◌&&◌, ◌==◌, nat_lt, Option, Some, None, slice_get, if◌then◌else◌}
 use Rattle.lq_value.specs.declared.refusal.Refusal.TheVariants.{NotOpen, StillOpen}
 use Rattle.lq_formula.specs.Query.{Query}
 use Rattle.lq_volume.specs.declared.change.Change.{Change}
@@ -25,6 +25,14 @@ pub record PreparedSlot : Type 0 where
 
 abbrev pub slot_of : PreparedSlot → KeptSlot
 slot_of p = record { held = p.sub.held; port = p.port; queue = p.queue; asked = p.asked }
+
+-- how many places its port has
+abbrev pub slot_places : PreparedSlot → ℕ
+slot_places p = p.port
+
+-- slots, and free ones behind them up to 64
+abbrev pub with_free : List (Option PreparedSlot) → List (Option PreparedSlot)
+with_free slots = slots ++ replicate (64 - length slots) None
 
 -- as it is opened
 abbrev pub fresh_slot : Query → Bool → ℕ → ℕ → ℕ → KeptSlot

@@ -8,7 +8,7 @@ mod turn;
 
 use crate::event::{Event, Reply};
 use crate::slot::{Act, Slot};
-use crate::slots::{act_in, commit_all, fill, first_free, free_slots, ready_all};
+use crate::slots::{SLOTS, Slots};
 use lq_predicate::Predicate;
 use lq_update::{steps_are_few, updates_join};
 use lq_value::Refusal;
@@ -33,7 +33,7 @@ pub struct Desk {
     volume: Volume,
     openings: u64,
     alloc: Global,
-    slots: Vec<Option<Slot>>,
+    slots: Slots,
 }
 
 impl Model for Desk {
@@ -48,9 +48,9 @@ impl Model for Desk {
 
     ghost coded = { Prim.hlevel (codes, coded_query) };
 
-    ghost view = { λ d. record { volume = d.volume; openings = d.openings; slots = map (option_map slot_of) d.slots.items } };
+    ghost view = { λ d. record { volume = d.volume; openings = d.openings; slots = map (option_map slot_of) d.slots } };
 
-    ghost invariant = { λ d. IsDesk (record { volume = d.volume; openings = d.openings; slots = map (option_map slot_of) d.slots.items }) };
+    ghost invariant = { λ d. IsDesk (record { volume = d.volume; openings = d.openings; slots = map (option_map slot_of) d.slots }) };
 }
 
 impl Desk {
@@ -78,7 +78,7 @@ impl Desk {
             volume,
             openings: 0,
             alloc,
-            slots: free_slots(alloc)?,
+            slots: Slots::new(alloc)?,
         })
     }
 
@@ -176,9 +176,9 @@ impl Desk {
         runs_keep_worlds_fair();
         let _ = self.volume.changes();
         let _ = self.volume.check(change)?;
-        ready_all(&mut self.slots, &self.volume, change)?;
+        self.slots.ready(&self.volume, change)?;
         let applied = self.volume.apply(change)?;
-        commit_all(&mut self.slots);
+        self.slots.commit();
         Ok(applied)
     }
 
@@ -206,8 +206,8 @@ impl Desk {
         if backlog > MAX_BACKLOG {
             return Err(Refusal::BadBacklog);
         }
-        let place = first_free(&self.slots);
-        if place >= self.slots.len() {
+        let place = self.slots.first_free();
+        if place >= SLOTS {
             return Err(Refusal::NoSlot);
         }
         if self.volume.limit() <= self.openings {
@@ -216,7 +216,7 @@ impl Desk {
         let at = self.volume.changes();
         let result = self.volume.fetch(predicate)?;
         let slot = Slot::new(self.alloc, predicate, at, port, backlog, moved)?;
-        fill(&mut self.slots, place, slot);
+        self.slots.open(slot);
         self.openings += 1;
         Ok(Reply::Opened {
             slot: place as u64 + 1,
@@ -232,10 +232,10 @@ impl Desk {
         updates_join();
         changes_are_counted();
         runs_keep_worlds_fair();
-        if slot == 0 || slot > self.slots.len() as u64 {
+        let number = self.volume.changes();
+        if slot == 0 || slot > SLOTS as u64 {
             return Reply::Refused(Refusal::NotOpen);
         }
-        let number = self.volume.changes();
-        act_in(&mut self.slots, (slot - 1) as usize, act, number)
+        self.slots.act((slot - 1) as usize, act, number)
     }
 }

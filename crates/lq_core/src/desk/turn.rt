@@ -105,13 +105,7 @@ impl Desk {
     fn places(&self, slot: u64) -> u64
         ensures { result ≡ places_at (kept_ports self.now) slot }
     {
-        if slot == 0 || slot > self.slots.len() as u64 {
-            return 0;
-        }
-        match &self.slots[(slot - 1) as usize] {
-            None => 0,
-            Some(there) => there.places(),
-        }
+        self.slots.places(slot)
     }
 
     // Moves a parcel into a slot's port, and tells whether it did.
