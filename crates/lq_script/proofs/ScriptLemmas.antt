@@ -4,30 +4,32 @@ use Rattle.std.specs.Prelude.{Option, Result, Ok, Err}
 use Rattle.std.specs.Io.KnownBytes.{Appends}
 use Rattle.lq_value.specs.declared.refusal.Refusal.{Refusal}
 use Rattle.lq_volume.specs.Result.{result_of}
-use Rattle.lq_desk.specs.World.{World, outcome}
-use Rattle.lq_desk.specs.Desk.{Kept, Shows, kept_outcome}
-use Rattle.lq_desk.specs.Laws.{KeptShowsWorlds}
+use Rattle.lq_world.specs.World.{World}
+use Rattle.lq_world.specs.Turns.{turn_outcome}
+use Rattle.lq_core.specs.Kept.{Kept, Shows}
+use Rattle.lq_core.specs.Turn as kept
+use Rattle.lq_core.specs.Laws.{KeptTurnsShowWorlds}
 use Rattle.lq_script.specs.Lines.{Begins, Line, long, empty, whole, line_of, lines_of, ended_lines, reply_to, state_after, replies_to}
 use Rattle.lq_script.specs.Output.{Answered, Ended, Passed, Stopped}
 use Rattle.lq_script.specs.Reply.{reply_text}
 use Rattle.lq_script.specs.Request.{Question, Happens, Finds, Lists, Fetches, question_in}
-use Rattle.lq_script.specs.Response.{Answers, Fetched, answered, found_in, responds, shown_in}
+use Rattle.lq_script.specs.Response.{Answers, Fetched, answered, found_in, responds, shown_in, slot_of}
 use Rattle.lq_script.specs.Script.{kept_rules, kept_volume, volume_of, world_rules}
 
-module _ (law : KeptShowsWorlds) where
+module _ (law : KeptTurnsShowWorlds) where
   -- what the desk keeps holds the world's volume
   volume-alike : (k : Kept) (w : World) → Shows k w → kept_volume k ≡ volume_of w
   volume-alike k w shows = ap kept_volume shows.kept
 
   responds-alike : (k : Kept) (w : World) (q : Question) → Shows k w
-      → ((responds kept_outcome kept_volume k q).0 ≡ (responds outcome volume_of w q).0) × Shows (responds kept_outcome kept_volume k q).1 (responds outcome volume_of w q).1
-  responds-alike k w (Happens e) shows = let a = law k w e shows in (ap Answers a.0, a.1)
+      → ((responds kept.turn_outcome kept_volume k q).0 ≡ (responds turn_outcome volume_of w q).0) × Shows (responds kept.turn_outcome kept_volume k q).1 (responds turn_outcome volume_of w q).1
+  responds-alike k w (Happens e) shows = let a = law k w e shows in (ap (Answers (slot_of e)) a.0, a.1)
   responds-alike k w (Finds dir name) shows = (ap (λ s. found_in s dir name) (volume-alike k w shows), shows)
   responds-alike k w (Lists node) shows = (ap (λ s. shown_in s node) (volume-alike k w shows), shows)
   responds-alike k w (Fetches q) shows = (ap (λ s. Fetched s.number (result_of q s)) (volume-alike k w shows), shows)
 
   answered-alike : (k : Kept) (w : World) (r : Result Question Refusal) → Shows k w
-      → ((answered kept_outcome kept_volume k r).0 ≡ (answered outcome volume_of w r).0) × Shows (answered kept_outcome kept_volume k r).1 (answered outcome volume_of w r).1
+      → ((answered kept.turn_outcome kept_volume k r).0 ≡ (answered turn_outcome volume_of w r).0) × Shows (answered kept.turn_outcome kept_volume k r).1 (answered turn_outcome volume_of w r).1
   answered-alike k w (Err e) shows = (refl, shows)
   answered-alike k w (Ok q) shows = responds-alike k w q shows
 

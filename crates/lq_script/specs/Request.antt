@@ -15,7 +15,7 @@ use Rattle.lq_value.specs.declared.value.Value.TheVariants.{Text, Int32, Int64, 
 use Rattle.lq_formula.specs.Query.{Query}
 use Rattle.lq_formula.specs.Reading.{reading_of}
 use Rattle.lq_volume.specs.declared.change.Change.TheVariants.{Create, Remove, Move, Write, SetAttr, RemoveAttr}
-use Rattle.lq_desk.specs.World.{Happening, Changing, Opening, Taking}
+use Rattle.lq_world.specs.Events.{Happening, Changing, Opening, Taking}
 
 -- the value of a `set`: a text not yet read, or a number of one of four types
 pub data Given : Type 0 where

@@ -7,7 +7,7 @@ use crate::devices::{Sink, Source};
 use crate::over_lines::run_lines;
 use crate::run_fault::RunFault;
 use crate::session::Session;
-use lq_desk::{Desk, kept_shows_worlds};
+use lq_core::{Desk, kept_turns_show_worlds};
 use lq_volume::Volume;
 use std::alloc::Global;
 
@@ -20,7 +20,7 @@ const MAX_CHANGES: u64 = 1_000_000_000_000;
 /// the writer, which is flushed once at the end, also after `Read`, `Limit` and `Memory`.
 /// Refused: `Read` and `Write` where that device failed, `Write` too where the writer took none
 /// of the bytes given, `Limit` where a byte follows 10,000,000 lines or 1,073,741,824 bytes,
-/// `Memory`; the first fault is the answer. The formats and limits are our own.
+/// `Memory`, also where it can't begin; the first fault is the answer. The formats and limits are our own.
 pub fn run<R: Source, W: Sink>(
     alloc: Global,
     reader: &mut R,
@@ -49,8 +49,10 @@ pub fn run<R: Source, W: Sink>(
         (W.failed writer.new ≡ true) ⊎ (W.stalled writer.new ≡ true) }
     ensures no_thread { IsErrOf result RunFault.Thread → ⊥ }
 {
-    kept_shows_worlds();
-    let desk = Desk::new(alloc, Volume::new(alloc, MAX_CHANGES));
+    kept_turns_show_worlds();
+    let Ok(desk) = Desk::new(alloc, Volume::new(alloc, MAX_CHANGES)) else {
+        return Err(RunFault::Memory);
+    };
     let mut session = Session::new(alloc, desk);
     run_lines(alloc, reader, writer, &mut session)
 }

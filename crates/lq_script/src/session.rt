@@ -1,12 +1,13 @@
 //! A script's session: a desk that answers lines.
 ghost use Rattle.std.specs.Prelude.{◌≡◌, IfOk, IfErr, OnOk};
 ghost use Rattle.lq_value.specs.declared.refusal.Refusal.TheVariants.{NoMemory};
-ghost use Rattle.lq_desk.specs.Desk.{kept_outcome};
+ghost use Rattle.lq_core.specs.Turn.{turn_outcome};
+ghost use Rattle.lq_core.specs.Reply.{happening_of};
 ghost use Rattle.lq_volume.specs.Result.{result_of};
 ghost use Rattle.lq_script.specs.Asked.{question_of};
 ghost use Rattle.lq_script.specs.Answer.{response_of};
 ghost use Rattle.lq_script.specs.Request.{question_in};
-ghost use Rattle.lq_script.specs.Response.{Fetched, answered, found_in, responds, shown_in};
+ghost use Rattle.lq_script.specs.Response.{Fetched, answered, found_in, responds, shown_in, slot_of};
 ghost use Rattle.lq_script.specs.Script.{kept_volume};
 
 use crate::asking::question_in;
@@ -14,7 +15,7 @@ use crate::question::Question;
 use crate::reply::put_reply;
 use crate::responder::Responder;
 use crate::response::Response;
-use lq_desk::{Desk, Reply};
+use lq_core::{Desk, Event, Reply};
 use lq_predicate::Predicate;
 use lq_value::{Name, Refusal};
 use lq_volume::Volume;
@@ -38,34 +39,52 @@ impl Session {
     // What a line is answered: that of its question, or why it asks nothing.
     fn answer(&mut self, line: &[u8]) -> Result<Response, Refusal>
         ensures response { IfOk result (λ response. response_of response ≡
-            (answered kept_outcome kept_volume self.old.desk (question_in line.now)).0) }
+            (answered turn_outcome kept_volume self.old.desk (question_in line.now)).0) }
         ensures after { OnOk result (self.new.desk ≡
-            (answered kept_outcome kept_volume self.old.desk (question_in line.now)).1) }
+            (answered turn_outcome kept_volume self.old.desk (question_in line.now)).1) }
         ensures memory { IfErr result (λ e. e ≡ NoMemory) }
     {
         match question_in(self.alloc, line) {
             Ok(question) => Ok(self.respond_to(&question)?),
             Err(Refusal::NoMemory) => Err(Refusal::NoMemory),
-            Err(refusal) => Ok(Response::Reply(Reply::Refused(refusal))),
+            Err(refusal) => Ok(Response::Refused(refusal)),
         }
     }
 
     fn respond_to(&mut self, question: &Question) -> Result<Response, Refusal>
         ensures response { IfOk result (λ response. response_of response ≡
-            (responds kept_outcome kept_volume self.old.desk (question_of question.now)).0) }
+            (responds turn_outcome kept_volume self.old.desk (question_of question.now)).0) }
         ensures after { OnOk result (self.new.desk ≡
-            (responds kept_outcome kept_volume self.old.desk (question_of question.now)).1) }
+            (responds turn_outcome kept_volume self.old.desk (question_of question.now)).1) }
         ensures memory { IfErr result (λ e. e ≡ NoMemory) }
     {
         match question {
-            Question::Event(event) => match self.desk.event(event) {
+            Question::Event(event) => match self.desk.turn(event) {
                 Reply::Refused(Refusal::NoMemory) => Err(Refusal::NoMemory),
-                reply => Ok(Response::Reply(reply)),
+                reply => Ok(Response::Reply {
+                    slot: slot_of(event),
+                    reply,
+                }),
             },
             Question::Find { dir, name } => Ok(found_in(self.desk.volume(), *dir, name)),
             Question::Entry { node } => Ok(shown_in(self.desk.volume(), *node)?),
             Question::Fetch { predicate } => Ok(fetched_in(self.desk.volume(), predicate)?),
         }
+    }
+}
+
+// The slot that an event names, or 0.
+fn slot_of(event: &Event) -> u64
+    ensures { result ≡ slot_of (happening_of event.now) }
+{
+    match event {
+        Event::Change(_) | Event::Open { .. } => 0,
+        Event::Put(slot)
+        | Event::Take(slot)
+        | Event::HangUp(slot)
+        | Event::Notice(slot)
+        | Event::Close(slot)
+        | Event::Finish(slot) => *slot,
     }
 }
 
@@ -75,7 +94,7 @@ fn found_in(volume: &Volume, dir: u64, name: &Name) -> Response
 {
     match volume.find(dir, name) {
         Ok(node) => Response::Found { node },
-        Err(refusal) => Response::Reply(Reply::Refused(refusal)),
+        Err(refusal) => Response::Refused(refusal),
     }
 }
 
@@ -87,7 +106,7 @@ fn shown_in(volume: &Volume, node: u64) -> Result<Response, Refusal>
     match volume.listing(node) {
         Ok(listing) => Ok(Response::Listed { node, listing }),
         Err(Refusal::NoMemory) => Err(Refusal::NoMemory),
-        Err(refusal) => Ok(Response::Reply(Reply::Refused(refusal))),
+        Err(refusal) => Ok(Response::Refused(refusal)),
     }
 }
 
@@ -104,7 +123,7 @@ fn fetched_in(volume: &Volume, predicate: &Predicate) -> Result<Response, Refusa
 }
 
 impl Responder for Session {
-    ghost use Rattle.lq_desk.specs.Desk.{Kept};
+    ghost use Rattle.lq_core.specs.Kept.{Kept};
     ghost use Rattle.lq_script.specs.Script.{kept_rules};
 
     ghost State = { Kept };
@@ -119,10 +138,6 @@ impl Responder for Session {
     }
 
     fn respond_long(&self, out: &mut Vec<u8>) -> Result<(), Refusal> {
-        put_reply(
-            self.alloc,
-            out,
-            &Response::Reply(Reply::Refused(Refusal::LongLine)),
-        )
+        put_reply(self.alloc, out, &Response::Refused(Refusal::LongLine))
     }
 }
