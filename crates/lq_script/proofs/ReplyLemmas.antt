@@ -16,7 +16,7 @@ use Rattle.lq_update.specs.declared.parcel.Parcel.TheVariants.{Update, Fin}
 use Rattle.lq_world.specs.Events as world
 use Rattle.lq_world.specs.Events.{Answer, Changed, Opened, Took, Empty, Ended, Asked, Noticed, Shut, Finished, Refused}
 use Rattle.lq_script.specs.Reply.{answer_data, attr_data, data_by, entry_data, fault_data, place_of, response_data, value_data}
-use Rattle.lq_script.specs.Response.{Response, Answers, Refuses, Found, Listed, Fetched}
+use Rattle.lq_script.specs.Response.{Response, Answers, Refuses, Found, Listed, Fetched, Rebuilt}
 
 integer-no_float : (n : ℤ) → has_float (number (of_integer n)) ≡ false
 integer-no_float (pos n) = refl
@@ -66,3 +66,4 @@ response-no_float (Refuses e) = fault-no_float (code_of e) (name_of e) (place_of
 response-no_float (Found node) = refl
 response-no_float (Listed node e) = rw (attrs-no_float e.attrs, integer-no_float e.time) refl
 response-no_float (Fetched at result) = rw (entries-no_float result) refl
+response-no_float (Rebuilt change result settled) = rw (entries-no_float result) refl

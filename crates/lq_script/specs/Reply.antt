@@ -1,5 +1,5 @@
 -- What is written for a response: the compact text of a JSON value, its keys in byte order, and LF.
-use Rattle.std.specs.Prelude.{ℕ, List, [], ◌∷◌, ◌++◌, map, Option, Some, None, codes}
+use Rattle.std.specs.Prelude.{ℕ, Bool, List, [], ◌∷◌, ◌++◌, map, Option, Some, None, codes}
 use Rattle.serde_json.specs.Data.{Data, number, unsigned, string, boolean, array, object, member, no_members}
 use Rattle.serde_json.specs.Find.{of_integer}
 use Rattle.serde_json.specs.View.{items_of}
@@ -24,7 +24,7 @@ use Rattle.lq_update.specs.declared.parcel.Parcel.{Parcel}
 use Rattle.lq_update.specs.declared.parcel.Parcel.TheVariants.{Update, Fin}
 use Rattle.lq_world.specs.Events as world
 use Rattle.lq_world.specs.Events.{Answer, Changed, Opened, Took, Empty, Ended, Asked, Noticed, Shut, Finished, Refused}
-use Rattle.lq_script.specs.Response.{Response, Answers, Refuses, Found, Listed, Fetched}
+use Rattle.lq_script.specs.Response.{Response, Answers, Refuses, Found, Listed, Fetched, Rebuilt}
 
 abbrev pub count : ℕ → Data
 count n = number (unsigned n)
@@ -158,12 +158,18 @@ found_data node = object (member (codes "node") (count node) no_members)
 abbrev pub fetched_data : ℕ → List Entry → Data
 fetched_data at result = object (member (codes "at") (count at) (member (codes "result") (array (items_of (map entry_data result))) no_members))
 
+abbrev pub rebuilt_data : ℕ → List Entry → Bool → Data
+rebuilt_data change result settled =
+    object (member (codes "change") (count change) (member (codes "result") (array (items_of (map entry_data result)))
+    (member (codes "settled") (boolean settled) no_members)))
+
 abbrev pub response_data : Response → Data
 response_data (Answers slot a) = answer_data slot a
 response_data (Refuses e) = refusal_data e
 response_data (Found node) = found_data node
 response_data (Listed node e) = listing_data node e
 response_data (Fetched at result) = fetched_data at result
+response_data (Rebuilt change result settled) = rebuilt_data change result settled
 
 abbrev pub reply_text : Response → List ℕ
 reply_text r = compact_text (response_data r) ++ 10 ∷ []

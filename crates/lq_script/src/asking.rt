@@ -111,6 +111,9 @@ fn question_for(alloc: Global, request: &Request<'_>) -> Result<Question, Refusa
             moved: *moved,
         })),
         Request::Read { slot } => Ok(Question::Event(Event::Take(*slot))),
+        Request::HangUp { slot } => Ok(Question::Event(Event::HangUp(*slot))),
+        Request::Close { slot } => Ok(Question::Event(Event::Close(*slot))),
+        Request::Finish { slot } => Ok(Question::Event(Event::Finish(*slot))),
         Request::Find { dir, name } => Ok(Question::Find {
             dir: *dir,
             name: Name::read(alloc, name)?,
@@ -119,6 +122,7 @@ fn question_for(alloc: Global, request: &Request<'_>) -> Result<Question, Refusa
         Request::Fetch { query } => Ok(Question::Fetch {
             predicate: read(alloc, query)?,
         }),
+        Request::Rebuilt { slot } => Ok(Question::Rebuilt { slot: *slot }),
     }
 }
 

@@ -7,7 +7,7 @@ ghost use Rattle.lq_core.specs.Reply.{answer_of, answer_of_read};
 ghost use Rattle.lq_volume.specs.Lookup.{listed};
 ghost use Rattle.lq_script.specs.Answer.{response_of};
 ghost use Rattle.lq_script.specs.Lines.{Begins};
-ghost use Rattle.lq_script.specs.Reply.{answer_data, applied_data, attr_data, cause_name, entry_data, fetched_data, found_data, kind_name, listing_data, mark_data, message_data, moved_data, opcode_name, opened_data, place_of, placed_data, refusal_data, reply_text, response_data, shut_data, slot_data, type_name, value_data, what_data};
+ghost use Rattle.lq_script.specs.Reply.{answer_data, applied_data, attr_data, cause_name, entry_data, fetched_data, found_data, kind_name, listing_data, mark_data, message_data, moved_data, opcode_name, opened_data, place_of, placed_data, rebuilt_data, refusal_data, reply_text, response_data, shut_data, slot_data, type_name, value_data, what_data};
 
 use crate::response::Response;
 use lq_core::{Read, Reply};
@@ -50,6 +50,11 @@ fn response_value(alloc: Global, response: &Response) -> Result<Value, AllocErro
             at,
             result: entries,
         } => fetched_value(alloc, *at, entries),
+        Response::Rebuilt {
+            change,
+            result: entries,
+            settled,
+        } => rebuilt_value(alloc, *change, entries, *settled),
     }
 }
 
@@ -64,6 +69,18 @@ fn fetched_value(alloc: Global, at: u64, entries: &[Entry]) -> Result<Value, All
 {
     let list = entries_value(alloc, entries)?;
     json!(in alloc; {"at": at, "result": list})
+}
+
+fn rebuilt_value(
+    alloc: Global,
+    change: u64,
+    entries: &[Entry],
+    settled: bool,
+) -> Result<Value, AllocError>
+    ensures { IfOk result (λ v. view v ≡ rebuilt_data change entries.now settled) }
+{
+    let list = entries_value(alloc, entries)?;
+    json!(in alloc; {"change": change, "result": list, "settled": settled})
 }
 
 fn listing_value(alloc: Global, node: u64, listing: &Listing) -> Result<Value, AllocError>

@@ -1,10 +1,11 @@
 //! A whole script, over the root alone.
 ghost use Rattle.std.specs.Prelude.{◌≡◌, ◌⊎◌, OnOk, OnErr, IsErrOf, true, false};
 ghost use Rattle.lq_script.specs.Output.{Answered, Ended, Passed, Stopped};
-ghost use Rattle.lq_script.specs.Script.{script_world, world_rules};
+ghost use Rattle.lq_script.specs.Script.{script_session, world_rules};
 
 use crate::devices::{Sink, Source};
 use crate::over_lines::run_lines;
+use crate::rebuilds::no_rebuilds;
 use crate::run_fault::RunFault;
 use crate::session::Session;
 use lq_core::{Desk, kept_turns_show_worlds};
@@ -29,18 +30,18 @@ pub fn run<R: Source, W: Sink>(
     requires reader_works { R.failed reader.old ≡ false }
     requires writer_works { W.failed writer.old ≡ false }
     requires writer_moves { W.stalled writer.old ≡ false }
-    ensures ok { OnOk result (Answered world_rules script_world
+    ensures ok { OnOk result (Answered world_rules script_session
         (R.left reader.old) (R.left reader.new) (W.written writer.old) (W.written writer.new)) }
     ensures flushed { OnOk result (W.flushed writer.new ≡ true) }
 
     // After a fault what was written is a front of the output of what was read.
-    ensures err { OnErr result (Stopped world_rules script_world
+    ensures err { OnErr result (Stopped world_rules script_session
         (R.left reader.old) (R.left reader.new) (W.written writer.old) (W.written writer.new)) }
 
     // After a read fault and at a limit it is that of the lines that LF ended.
-    ensures read { IsErrOf result RunFault.Read → Ended world_rules script_world
+    ensures read { IsErrOf result RunFault.Read → Ended world_rules script_session
         (R.left reader.old) (R.left reader.new) (W.written writer.old) (W.written writer.new) }
-    ensures limit { IsErrOf result RunFault.Limit → Passed world_rules script_world
+    ensures limit { IsErrOf result RunFault.Limit → Passed world_rules script_session
         (R.left reader.old) (R.left reader.new) (W.written writer.old) (W.written writer.new) }
 
     // Each fault has its cause in this call.
@@ -53,6 +54,9 @@ pub fn run<R: Source, W: Sink>(
     let Ok(desk) = Desk::new(alloc, Volume::new(alloc, MAX_CHANGES)) else {
         return Err(RunFault::Memory);
     };
-    let mut session = Session::new(alloc, desk);
+    let Ok(rebuilds) = no_rebuilds(alloc) else {
+        return Err(RunFault::Memory);
+    };
+    let mut session = Session::new(alloc, desk, rebuilds);
     run_lines(alloc, reader, writer, &mut session)
 }
