@@ -5,4 +5,5 @@ pub mod ResultLemmas
 pub mod RunLemmas
 pub mod RequestLemmas
 pub mod ReplyLemmas
+pub mod FoldLemmas
 pub mod ScriptLemmas

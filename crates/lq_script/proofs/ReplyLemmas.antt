@@ -12,9 +12,11 @@ use Rattle.lq_value.specs.Refusal.{code_of, name_of}
 use Rattle.lq_update.specs.declared.message.Message.{Message}
 use Rattle.lq_update.specs.declared.message.Opcode.{Opcode}
 use Rattle.lq_update.specs.declared.message.Opcode.TheVariants.{Created, Removed, Moved}
-use Rattle.lq_desk.specs.World.{Answer, Changed, Opened, Took, Empty, Refused}
+use Rattle.lq_update.specs.declared.parcel.Parcel.TheVariants.{Update, Fin}
+use Rattle.lq_world.specs.Events as world
+use Rattle.lq_world.specs.Events.{Answer, Changed, Opened, Took, Empty, Ended, Asked, Noticed, Shut, Finished, Refused}
 use Rattle.lq_script.specs.Reply.{answer_data, attr_data, data_by, entry_data, fault_data, place_of, response_data, value_data}
-use Rattle.lq_script.specs.Response.{Response, Answers, Found, Listed, Fetched}
+use Rattle.lq_script.specs.Response.{Response, Answers, Refuses, Found, Listed, Fetched, Rebuilt}
 
 integer-no_float : (n : ℤ) → has_float (number (of_integer n)) ≡ false
 integer-no_float (pos n) = refl
@@ -44,15 +46,24 @@ told-no_float Created m = refl
 told-no_float Removed m = refl
 told-no_float (Moved dir name) m = refl
 
-answer-no_float : (a : Answer) → has_float (answer_data a) ≡ false
-answer-no_float (Changed applied) = refl
-answer-no_float (Opened slot at result) = rw (entries-no_float result) refl
-answer-no_float (Took message) = told-no_float message.op message
-answer-no_float Empty = refl
-answer-no_float (Refused e) = fault-no_float (code_of e) (name_of e) (place_of e)
+answer-no_float : (slot : ℕ) (a : Answer) → has_float (answer_data slot a) ≡ false
+answer-no_float slot (Changed applied) = refl
+answer-no_float slot (Opened opened at result) = rw (entries-no_float result) refl
+answer-no_float slot (world.Moved was) = refl
+answer-no_float slot (Took (Update message)) = told-no_float message.op message
+answer-no_float slot (Took (Fin mark)) = refl
+answer-no_float slot Empty = refl
+answer-no_float slot Ended = refl
+answer-no_float slot Asked = refl
+answer-no_float slot (Noticed was) = refl
+answer-no_float slot (Shut change) = refl
+answer-no_float slot Finished = refl
+answer-no_float slot (Refused e) = fault-no_float (code_of e) (name_of e) (place_of e)
 
 pub response-no_float : (r : Response) → has_float (response_data r) ≡ false
-response-no_float (Answers a) = answer-no_float a
+response-no_float (Answers slot a) = answer-no_float slot a
+response-no_float (Refuses e) = fault-no_float (code_of e) (name_of e) (place_of e)
 response-no_float (Found node) = refl
 response-no_float (Listed node e) = rw (attrs-no_float e.attrs, integer-no_float e.time) refl
 response-no_float (Fetched at result) = rw (entries-no_float result) refl
+response-no_float (Rebuilt change result settled) = rw (entries-no_float result) refl

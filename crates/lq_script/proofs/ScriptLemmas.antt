@@ -4,74 +4,91 @@ use Rattle.std.specs.Prelude.{Option, Result, Ok, Err}
 use Rattle.std.specs.Io.KnownBytes.{Appends}
 use Rattle.lq_value.specs.declared.refusal.Refusal.{Refusal}
 use Rattle.lq_volume.specs.Result.{result_of}
-use Rattle.lq_desk.specs.World.{World, outcome}
-use Rattle.lq_desk.specs.Desk.{Kept, Shows, kept_outcome}
-use Rattle.lq_desk.specs.Laws.{KeptShowsWorlds}
+use Rattle.lq_world.specs.World.{World}
+use Rattle.lq_world.specs.Turns.{turn_outcome}
+use Rattle.lq_core.specs.Kept.{Kept, Shows}
+use Rattle.lq_core.specs.Turn as kept
+use Rattle.lq_core.specs.Laws.{KeptTurnsShowWorlds}
 use Rattle.lq_script.specs.Lines.{Begins, Line, long, empty, whole, line_of, lines_of, ended_lines, reply_to, state_after, replies_to}
 use Rattle.lq_script.specs.Output.{Answered, Ended, Passed, Stopped}
+use Rattle.lq_script.specs.Folds.{fold_at, folds_after}
+use Rattle.lq_script.specs.Session.{Session}
 use Rattle.lq_script.specs.Reply.{reply_text}
-use Rattle.lq_script.specs.Request.{Question, Happens, Finds, Lists, Fetches, question_in}
-use Rattle.lq_script.specs.Response.{Answers, Fetched, answered, found_in, responds, shown_in}
+use Rattle.lq_script.specs.Request.{Question, Happens, Finds, Lists, Fetches, Rebuilds, question_in}
+use Rattle.lq_script.specs.Response.{Answers, Fetched, answered, found_in, rebuilt, responds, shown_in, slot_of}
 use Rattle.lq_script.specs.Script.{kept_rules, kept_volume, volume_of, world_rules}
 
-module _ (law : KeptShowsWorlds) where
+-- the desk shows the world, and both have the same folds
+pub record Alike (s : Session Kept) (t : Session World) : Type 0 where
+  pub core : Shows s.core t.core
+  pub folds : s.folds ≡ t.folds
+
+module _ (law : KeptTurnsShowWorlds) where
   -- what the desk keeps holds the world's volume
-  volume-alike : (k : Kept) (w : World) → Shows k w → kept_volume k ≡ volume_of w
-  volume-alike k w shows = ap kept_volume shows.kept
+  volume-alike : (s : Session Kept) (t : Session World) → Alike s t → kept_volume s.core ≡ volume_of t.core
+  volume-alike s t alike = ap kept_volume alike.core.kept
 
-  responds-alike : (k : Kept) (w : World) (q : Question) → Shows k w
-      → ((responds kept_outcome kept_volume k q).0 ≡ (responds outcome volume_of w q).0) × Shows (responds kept_outcome kept_volume k q).1 (responds outcome volume_of w q).1
-  responds-alike k w (Happens e) shows = let a = law k w e shows in (ap Answers a.0, a.1)
-  responds-alike k w (Finds dir name) shows = (ap (λ s. found_in s dir name) (volume-alike k w shows), shows)
-  responds-alike k w (Lists node) shows = (ap (λ s. shown_in s node) (volume-alike k w shows), shows)
-  responds-alike k w (Fetches q) shows = (ap (λ s. Fetched s.number (result_of q s)) (volume-alike k w shows), shows)
+  responds-alike : (s : Session Kept) (t : Session World) (q : Question) → Alike s t
+      → ((responds kept.turn_outcome kept_volume s q).0 ≡ (responds turn_outcome volume_of t q).0) × Alike (responds kept.turn_outcome kept_volume s q).1 (responds turn_outcome volume_of t q).1
+  responds-alike s t (Happens e) alike =
+      let a = law s.core t.core e alike.core in (
+        ap (Answers (slot_of e)) a.0,
+        record {
+          core = a.1;
+          folds = ap (λ x. folds_after (slot_of e) x s.folds) a.0 ∙ ap (folds_after (slot_of e) (turn_outcome t.core e).0) alike.folds;
+        },
+      )
+  responds-alike s t (Finds dir name) alike = (ap (λ v. found_in v dir name) (volume-alike s t alike), alike)
+  responds-alike s t (Lists node) alike = (ap (λ v. shown_in v node) (volume-alike s t alike), alike)
+  responds-alike s t (Fetches q) alike = (ap (λ v. Fetched v.number (result_of q v)) (volume-alike s t alike), alike)
+  responds-alike s t (Rebuilds slot) alike = (ap (λ folds. rebuilt (fold_at folds slot)) alike.folds, alike)
 
-  answered-alike : (k : Kept) (w : World) (r : Result Question Refusal) → Shows k w
-      → ((answered kept_outcome kept_volume k r).0 ≡ (answered outcome volume_of w r).0) × Shows (answered kept_outcome kept_volume k r).1 (answered outcome volume_of w r).1
-  answered-alike k w (Err e) shows = (refl, shows)
-  answered-alike k w (Ok q) shows = responds-alike k w q shows
+  answered-alike : (s : Session Kept) (t : Session World) (r : Result Question Refusal) → Alike s t
+      → ((answered kept.turn_outcome kept_volume s r).0 ≡ (answered turn_outcome volume_of t r).0) × Alike (answered kept.turn_outcome kept_volume s r).1 (answered turn_outcome volume_of t r).1
+  answered-alike s t (Err e) alike = (refl, alike)
+  answered-alike s t (Ok q) alike = responds-alike s t q alike
 
-  line-alike : (k : Kept) (w : World) (l : Line) → Shows k w
-      → (reply_to kept_rules k l ≡ reply_to world_rules w l) × Shows (state_after kept_rules k l) (state_after world_rules w l)
-  line-alike k w long shows = (refl, shows)
-  line-alike k w empty shows = (refl, shows)
-  line-alike k w (whole bytes) shows = let a = answered-alike k w (question_in bytes) shows in (ap reply_text a.0, a.1)
+  line-alike : (s : Session Kept) (t : Session World) (l : Line) → Alike s t
+      → (reply_to kept_rules s l ≡ reply_to world_rules t l) × Alike (state_after kept_rules s l) (state_after world_rules t l)
+  line-alike s t long alike = (refl, alike)
+  line-alike s t empty alike = (refl, alike)
+  line-alike s t (whole bytes) alike = let a = answered-alike s t (question_in bytes) alike in (ap reply_text a.0, a.1)
 
-  pub replies-alike : (k : Kept) (w : World) (lines : List (List ℕ)) → Shows k w → replies_to kept_rules k lines ≡ replies_to world_rules w lines
-  replies-alike k w [] shows = refl
-  replies-alike k w (bytes ∷ lines) shows =
-      let a = line-alike k w (line_of bytes) shows in
-      ap (λ front. front ++ replies_to kept_rules (state_after kept_rules k (line_of bytes)) lines) a.0
-      ∙ ap (λ rest. reply_to world_rules w (line_of bytes) ++ rest) (replies-alike (state_after kept_rules k (line_of bytes)) (state_after world_rules w (line_of bytes)) lines a.1)
+  pub replies-alike : (s : Session Kept) (t : Session World) (lines : List (List ℕ)) → Alike s t → replies_to kept_rules s lines ≡ replies_to world_rules t lines
+  replies-alike s t [] alike = refl
+  replies-alike s t (bytes ∷ lines) alike =
+      let a = line-alike s t (line_of bytes) alike in
+      ap (λ front. front ++ replies_to kept_rules (state_after kept_rules s (line_of bytes)) lines) a.0
+      ∙ ap (λ rest. reply_to world_rules t (line_of bytes) ++ rest) (replies-alike (state_after kept_rules s (line_of bytes)) (state_after world_rules t (line_of bytes)) lines a.1)
 
-  module _ (k : Kept) (w : World) (shows : Shows k w) (left left' written written' : Option (List ℕ)) where
-    pub answered-world : Answered kept_rules k left left' written written' → Answered world_rules w left left' written written'
+  module _ (s : Session Kept) (t : Session World) (alike : Alike s t) (left left' written written' : Option (List ℕ)) where
+    pub answered-world : Answered kept_rules s left left' written written' → Answered world_rules t left left' written written'
     answered-world a = record {
       given = a.given;
       consumed = a.consumed;
       at_end = a.at_end;
       within = a.within;
-      appended = subst (Appends written written') (replies-alike k w (lines_of a.given) shows) a.appended;
+      appended = subst (Appends written written') (replies-alike s t (lines_of a.given) alike) a.appended;
     }
 
-    pub stopped-world : Stopped kept_rules k left left' written written' → Stopped world_rules w left left' written written'
+    pub stopped-world : Stopped kept_rules s left left' written written' → Stopped world_rules t left left' written written'
     stopped-world a = record {
       given = a.given;
       consumed = a.consumed;
       text = a.text;
       appended = a.appended;
-      front = subst (λ (out : List ℕ). Begins out a.text) (replies-alike k w (lines_of a.given) shows) a.front;
+      front = subst (λ (out : List ℕ). Begins out a.text) (replies-alike s t (lines_of a.given) alike) a.front;
     }
 
-    pub ended-world : Ended kept_rules k left left' written written' → Ended world_rules w left left' written written'
+    pub ended-world : Ended kept_rules s left left' written written' → Ended world_rules t left left' written written'
     ended-world a = record {
       given = a.given;
       consumed = a.consumed;
       within = a.within;
-      appended = subst (Appends written written') (replies-alike k w (ended_lines a.given) shows) a.appended;
+      appended = subst (Appends written written') (replies-alike s t (ended_lines a.given) alike) a.appended;
     }
 
-    pub passed-world : Passed kept_rules k left left' written written' → Passed world_rules w left left' written written'
+    pub passed-world : Passed kept_rules s left left' written written' → Passed world_rules t left left' written written'
     passed-world a = record {
       given = a.given;
       next = a.next;
@@ -79,5 +96,5 @@ module _ (law : KeptShowsWorlds) where
       consumed = a.consumed;
       within = a.within;
       passes = a.passes;
-      appended = subst (Appends written written') (replies-alike k w (ended_lines a.given) shows) a.appended;
+      appended = subst (Appends written written') (replies-alike s t (ended_lines a.given) alike) a.appended;
     }

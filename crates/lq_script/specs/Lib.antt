@@ -2,6 +2,8 @@ pub mod Lines
 pub mod Output
 pub mod Progress
 pub mod Request
+pub mod Folds
+pub mod Session
 pub mod Response
 pub mod Reply
 pub mod Script

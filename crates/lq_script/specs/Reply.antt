@@ -1,5 +1,5 @@
 -- What is written for a response: the compact text of a JSON value, its keys in byte order, and LF.
-use Rattle.std.specs.Prelude.{ℕ, List, [], ◌∷◌, ◌++◌, map, Option, Some, None, codes}
+use Rattle.std.specs.Prelude.{ℕ, Bool, List, [], ◌∷◌, ◌++◌, map, Option, Some, None, codes}
 use Rattle.serde_json.specs.Data.{Data, number, unsigned, string, boolean, array, object, member, no_members}
 use Rattle.serde_json.specs.Find.{of_integer}
 use Rattle.serde_json.specs.View.{items_of}
@@ -17,8 +17,14 @@ use Rattle.lq_volume.specs.State.{Record}
 use Rattle.lq_update.specs.declared.message.Message.{Message}
 use Rattle.lq_update.specs.declared.message.Opcode.{Opcode}
 use Rattle.lq_update.specs.declared.message.Opcode.TheVariants.{Created, Removed, Moved}
-use Rattle.lq_desk.specs.World.{Answer, Changed, Opened, Took, Empty, Refused}
-use Rattle.lq_script.specs.Response.{Response, Answers, Found, Listed, Fetched}
+use Rattle.lq_update.specs.declared.mark.Mark.{Mark}
+use Rattle.lq_update.specs.declared.mark.Cause.{Cause}
+use Rattle.lq_update.specs.declared.mark.Cause.TheVariants.{Closed, HungUp, Overrun}
+use Rattle.lq_update.specs.declared.parcel.Parcel.{Parcel}
+use Rattle.lq_update.specs.declared.parcel.Parcel.TheVariants.{Update, Fin}
+use Rattle.lq_world.specs.Events as world
+use Rattle.lq_world.specs.Events.{Answer, Changed, Opened, Took, Empty, Ended, Asked, Noticed, Shut, Finished, Refused}
+use Rattle.lq_script.specs.Response.{Response, Answers, Refuses, Found, Listed, Fetched, Rebuilt}
 
 abbrev pub count : ℕ → Data
 count n = number (unsigned n)
@@ -64,8 +70,29 @@ data_by (Moved dir name) m = moved_data m dir name
 abbrev pub message_data : Message → Data
 message_data m = data_by m.op m
 
-abbrev pub empty_data : Data
-empty_data = object (member (codes "what") (word (codes "EMPTY")) no_members)
+abbrev pub cause_name : Cause → List ℕ
+cause_name Closed = codes "closed"
+cause_name HungUp = codes "hung_up"
+cause_name Overrun = codes "overrun"
+
+abbrev pub mark_data : Mark → Data
+mark_data m =
+    object (member (codes "cause") (word (cause_name m.cause)) (member (codes "change") (count m.change)
+    (member (codes "seq") (count m.seq) (member (codes "what") (word (codes "END")) no_members))))
+
+abbrev pub parcel_data : Parcel → Data
+parcel_data (Update message) = message_data message
+parcel_data (Fin mark) = mark_data mark
+
+-- a read that takes nothing
+abbrev pub what_data : List ℕ → Data
+what_data what = object (member (codes "what") (word what) no_members)
+
+abbrev pub slot_data : ℕ → Data
+slot_data slot = object (member (codes "slot") (count slot) no_members)
+
+abbrev pub shut_data : ℕ → ℕ → Data
+shut_data change slot = object (member (codes "change") (count change) (member (codes "slot") (count slot) no_members))
 
 -- the place that a refusal has
 abbrev pub place_of : Refusal → Option ℕ
@@ -81,12 +108,19 @@ fault_data code name (Some place) =
 abbrev pub refusal_data : Refusal → Data
 refusal_data e = fault_data (code_of e) (name_of e) (place_of e)
 
-abbrev pub answer_data : Answer → Data
-answer_data (Changed applied) = applied_data applied
-answer_data (Opened slot at result) = opened_data slot at result
-answer_data (Took message) = message_data message
-answer_data Empty = empty_data
-answer_data (Refused e) = refusal_data e
+-- what the event of a slot is answered; no line asks for a put or a notice
+abbrev pub answer_data : ℕ → Answer → Data
+answer_data slot (Changed applied) = applied_data applied
+answer_data slot (Opened opened at result) = opened_data opened at result
+answer_data slot (world.Moved was) = slot_data slot
+answer_data slot (Took parcel) = parcel_data parcel
+answer_data slot Empty = what_data (codes "EMPTY")
+answer_data slot Ended = what_data (codes "ENDED")
+answer_data slot Asked = slot_data slot
+answer_data slot (Noticed was) = slot_data slot
+answer_data slot (Shut change) = shut_data change slot
+answer_data slot Finished = slot_data slot
+answer_data slot (Refused e) = refusal_data e
 
 -- an attribute's type, and its value
 abbrev pub type_name : Value → List ℕ
@@ -124,11 +158,18 @@ found_data node = object (member (codes "node") (count node) no_members)
 abbrev pub fetched_data : ℕ → List Entry → Data
 fetched_data at result = object (member (codes "at") (count at) (member (codes "result") (array (items_of (map entry_data result))) no_members))
 
+abbrev pub rebuilt_data : ℕ → List Entry → Bool → Data
+rebuilt_data change result settled =
+    object (member (codes "change") (count change) (member (codes "result") (array (items_of (map entry_data result)))
+    (member (codes "settled") (boolean settled) no_members)))
+
 abbrev pub response_data : Response → Data
-response_data (Answers a) = answer_data a
+response_data (Answers slot a) = answer_data slot a
+response_data (Refuses e) = refusal_data e
 response_data (Found node) = found_data node
 response_data (Listed node e) = listing_data node e
 response_data (Fetched at result) = fetched_data at result
+response_data (Rebuilt change result settled) = rebuilt_data change result settled
 
 abbrev pub reply_text : Response → List ℕ
 reply_text r = compact_text (response_data r) ++ 10 ∷ []

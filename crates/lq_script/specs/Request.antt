@@ -15,7 +15,7 @@ use Rattle.lq_value.specs.declared.value.Value.TheVariants.{Text, Int32, Int64, 
 use Rattle.lq_formula.specs.Query.{Query}
 use Rattle.lq_formula.specs.Reading.{reading_of}
 use Rattle.lq_volume.specs.declared.change.Change.TheVariants.{Create, Remove, Move, Write, SetAttr, RemoveAttr}
-use Rattle.lq_desk.specs.World.{Happening, Changing, Opening, Taking}
+use Rattle.lq_world.specs.Events.{Happening, Changing, Opening, Taking, HangingUp, Closing, Finishing}
 
 -- the value of a `set`: a text not yet read, or a number of one of four types
 pub data Given : Type 0 where
@@ -32,16 +32,21 @@ pub data Asked : Type 0 where
   asks_unset : (node : ℕ) (attr : List ℕ) → Asked
   asks_open : (query : List ℕ) (port backlog : ℕ) (moved : Bool) → Asked
   asks_read : (slot : ℕ) → Asked
+  asks_hang_up : (slot : ℕ) → Asked
+  asks_close : (slot : ℕ) → Asked
+  asks_finish : (slot : ℕ) → Asked
   asks_find : (dir : ℕ) (name : List ℕ) → Asked
   asks_entry : (node : ℕ) → Asked
   asks_fetch : (query : List ℕ) → Asked
+  asks_rebuilt : (slot : ℕ) → Asked
 
--- what a line asks once its values are read: an event of the core, or a look at the volume
+-- what a line asks once its values are read: an event of the core, a look at the volume, or a rebuilt result
 pub data Question : Type 0 where
   Happens : (event : Happening) → Question
   Finds : (dir : ℕ) (name : List ℕ) → Question
   Lists : (node : ℕ) → Question
   Fetches : (query : Query) → Question
+  Rebuilds : (slot : ℕ) → Question
 
 -- a text, and a whole number from 0 up, which have to be there
 abbrev pub needed_text : List ℕ → Data → Option (List ℕ)
@@ -154,6 +159,15 @@ open_of d =
 abbrev pub read_of : Data → Option Asked
 read_of d = option_map (λ slot. asks_read slot) (needed_u64 (codes "slot") d)
 
+abbrev pub hang_up_of : Data → Option Asked
+hang_up_of d = option_map (λ slot. asks_hang_up slot) (needed_u64 (codes "slot") d)
+
+abbrev pub close_of : Data → Option Asked
+close_of d = option_map (λ slot. asks_close slot) (needed_u64 (codes "slot") d)
+
+abbrev pub finish_of : Data → Option Asked
+finish_of d = option_map (λ slot. asks_finish slot) (needed_u64 (codes "slot") d)
+
 abbrev pub find_of : Data → Option Asked
 find_of d =
     option_and_then (λ name. option_map (λ dir. asks_find dir name) (u64_or 1 (get (codes "dir") d))) (needed_text (codes "name") d)
@@ -163,6 +177,9 @@ entry_of d = option_map (λ node. asks_entry node) (needed_u64 (codes "node") d)
 
 abbrev pub fetch_of : Data → Option Asked
 fetch_of d = option_map (λ query. asks_fetch query) (needed_text (codes "query") d)
+
+abbrev pub rebuilt_of : Data → Option Asked
+rebuilt_of d = option_map (λ slot. asks_rebuilt slot) (needed_u64 (codes "slot") d)
 
 -- by the text of `do`
 abbrev pub asked_by : List ℕ → Data → Option Asked
@@ -175,9 +192,13 @@ asked_by act d =
     else if bytes_eq act (codes "unset") then unset_of d
     else if bytes_eq act (codes "open") then open_of d
     else if bytes_eq act (codes "read") then read_of d
+    else if bytes_eq act (codes "hang_up") then hang_up_of d
+    else if bytes_eq act (codes "close") then close_of d
+    else if bytes_eq act (codes "finish") then finish_of d
     else if bytes_eq act (codes "find") then find_of d
     else if bytes_eq act (codes "entry") then entry_of d
     else if bytes_eq act (codes "fetch") then fetch_of d
+    else if bytes_eq act (codes "result") then rebuilt_of d
     else None
 
 abbrev pub asked_of : Data → Option Asked
@@ -225,9 +246,13 @@ question_for (asks_set node attr value) = if is_attr_name attr then setting_for 
 question_for (asks_unset node attr) = if is_attr_name attr then Ok (Happens (Changing (RemoveAttr node attr))) else Err BadName
 question_for (asks_open query port backlog moved) = opening_or (reading_of query) port backlog moved
 question_for (asks_read slot) = Ok (Happens (Taking slot))
+question_for (asks_hang_up slot) = Ok (Happens (HangingUp slot))
+question_for (asks_close slot) = Ok (Happens (Closing slot))
+question_for (asks_finish slot) = Ok (Happens (Finishing slot))
 question_for (asks_find dir name) = if is_name name then Ok (Finds dir name) else Err BadName
 question_for (asks_entry node) = Ok (Lists node)
 question_for (asks_fetch query) = fetching_or (reading_of query)
+question_for (asks_rebuilt slot) = Ok (Rebuilds slot)
 
 abbrev pub question_from : Result Asked Refusal → Result Question Refusal
 question_from (Err e) = Err e

@@ -3,39 +3,47 @@ use Rattle.std.specs.Prelude.{ℕ, List, []}
 use Rattle.lq_value.specs.declared.refusal.Refusal.TheVariants.{LongLine}
 use Rattle.lq_volume.specs.State.{State, empty_state}
 use Rattle.lq_volume.specs.Book.{state_of}
-use Rattle.lq_desk.specs.World.{World, Happening, Answer, Refused, outcome, first_world}
-use Rattle.lq_desk.specs.Desk.{Kept, kept_outcome}
+use Rattle.lq_world.specs.World.{World, first_world}
+use Rattle.lq_world.specs.Events.{Happening, Answer}
+use Rattle.lq_world.specs.Turns.{turn_outcome}
+use Rattle.lq_core.specs.Kept.{Kept}
+use Rattle.lq_core.specs.Turn as kept
 use Rattle.lq_script.specs.Lines.{Rules}
 use Rattle.lq_script.specs.Output.{output_of}
 use Rattle.lq_script.specs.Request.{question_in}
-use Rattle.lq_script.specs.Response.{Answers, answered}
+use Rattle.lq_script.specs.Folds.{no_folds}
+use Rattle.lq_script.specs.Session.{Session, session_with}
+use Rattle.lq_script.specs.Response.{Refuses, answered}
 use Rattle.lq_script.specs.Reply.{reply_text}
 
--- how lines are answered where events are, over a volume
-abbrev pub rules_by : {Core : Type 0} → (Core → Happening → Answer × Core) → (Core → State) → Rules Core
+-- how lines are answered where turns are, over a volume
+abbrev pub rules_by : {Core : Type 0} → (Core → Happening → Answer × Core) → (Core → State) → Rules (Session Core)
 rules_by step volume = record {
   reply = λ s line. reply_text (answered step volume s (question_in line)).0;
   after = λ s line. (answered step volume s (question_in line)).1;
-  long = reply_text (Answers (Refused LongLine));
+  long = reply_text (Refuses LongLine);
 }
 
 -- over worlds, and over what a desk keeps
 abbrev pub volume_of : World → State
 volume_of w = state_of w.book
 
-abbrev pub world_rules : Rules World
-world_rules = rules_by outcome volume_of
+abbrev pub world_rules : Rules (Session World)
+world_rules = rules_by turn_outcome volume_of
 
 abbrev pub kept_volume : Kept → State
 kept_volume k = k.volume
 
-abbrev pub kept_rules : Rules Kept
-kept_rules = rules_by kept_outcome kept_volume
+abbrev pub kept_rules : Rules (Session Kept)
+kept_rules = rules_by kept.turn_outcome kept_volume
 
 -- a script begins with the root alone, which takes 1,000,000,000,000 changes
 abbrev pub script_world : World
 script_world = first_world (record { start = empty_state 1000000000000; changes = [] })
 
+abbrev pub script_session : Session World
+script_session = session_with script_world no_folds
+
 -- the output of a script
 abbrev pub out_of : List ℕ → List ℕ
-out_of bytes = output_of world_rules script_world bytes
+out_of bytes = output_of world_rules script_session bytes

@@ -2,13 +2,13 @@
 ghost use Rattle.std.specs.Prelude.{◌≡◌, ◌⊎◌, IfOk, IfErr, Ok, Err};
 ghost use Rattle.serde_json.specs.View.{view};
 ghost use Rattle.lq_value.specs.declared.refusal.Refusal.TheVariants.{NoMemory};
-ghost use Rattle.lq_desk.specs.World.{Changing};
+ghost use Rattle.lq_world.specs.Events.{Changing};
 ghost use Rattle.lq_script.specs.Asked.{asked, given, question_of};
 ghost use Rattle.lq_script.specs.Request.{Happens, asks_set, value_for, asked_in, asked_of, asked_or, question_for, question_from, question_in};
 
 use crate::question::Question;
 use crate::request::{Request, request_in};
-use lq_desk::Event;
+use lq_core::Event;
 use lq_predicate::read;
 use lq_value::{AttrName, Name, Refusal, View};
 use lq_volume::Change;
@@ -111,6 +111,9 @@ fn question_for(alloc: Global, request: &Request<'_>) -> Result<Question, Refusa
             moved: *moved,
         })),
         Request::Read { slot } => Ok(Question::Event(Event::Take(*slot))),
+        Request::HangUp { slot } => Ok(Question::Event(Event::HangUp(*slot))),
+        Request::Close { slot } => Ok(Question::Event(Event::Close(*slot))),
+        Request::Finish { slot } => Ok(Question::Event(Event::Finish(*slot))),
         Request::Find { dir, name } => Ok(Question::Find {
             dir: *dir,
             name: Name::read(alloc, name)?,
@@ -119,6 +122,7 @@ fn question_for(alloc: Global, request: &Request<'_>) -> Result<Question, Refusa
         Request::Fetch { query } => Ok(Question::Fetch {
             predicate: read(alloc, query)?,
         }),
+        Request::Rebuilt { slot } => Ok(Question::Rebuilt { slot: *slot }),
     }
 }
 

@@ -14,6 +14,7 @@ mod laws;
 mod over_lines;
 mod pieces;
 mod question;
+mod rebuilds;
 mod reply;
 mod request;
 mod responder;

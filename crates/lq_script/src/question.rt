@@ -1,9 +1,10 @@
 //! What a line asks of a session.
-use lq_desk::Event;
+use lq_core::Event;
 use lq_predicate::Predicate;
 use lq_value::Name;
 
-/// What a line asks, its values read: an event of the core, or a look at the volume.
+/// What a line asks, its values read: an event of the core, a look at the volume, or the result of
+/// a slot.
 #[derive(Debug, Drop)]
 pub enum Question {
     /// The core carries out an event.
@@ -14,4 +15,6 @@ pub enum Question {
     Entry { node: u64 },
     /// The entries that a predicate holds of.
     Fetch { predicate: Predicate },
+    /// The result of a slot, rebuilt from what was read of it.
+    Rebuilt { slot: u64 },
 }

@@ -3,15 +3,15 @@ ghost use Rattle.std.specs.Prelude.{◌≡◌, ◌++◌, None, IfOk, IfErr, OnOk
 ghost use Rattle.serde_json.specs.View.{view, items_of};
 ghost use Rattle.serde_json.specs.Data.{array};
 ghost use Rattle.lq_value.specs.Refusal.{IsRefusedBy};
-ghost use Rattle.lq_desk.specs.Reply.{answer_of, answer_of_read};
+ghost use Rattle.lq_core.specs.Reply.{answer_of, answer_of_read};
 ghost use Rattle.lq_volume.specs.Lookup.{listed};
 ghost use Rattle.lq_script.specs.Answer.{response_of};
 ghost use Rattle.lq_script.specs.Lines.{Begins};
-ghost use Rattle.lq_script.specs.Reply.{answer_data, applied_data, attr_data, empty_data, entry_data, fetched_data, found_data, kind_name, listing_data, message_data, moved_data, opcode_name, opened_data, place_of, placed_data, refusal_data, reply_text, response_data, type_name, value_data};
+ghost use Rattle.lq_script.specs.Reply.{answer_data, applied_data, attr_data, cause_name, entry_data, fetched_data, found_data, kind_name, listing_data, mark_data, message_data, moved_data, opcode_name, opened_data, place_of, placed_data, rebuilt_data, refusal_data, reply_text, response_data, shut_data, slot_data, type_name, value_data, what_data};
 
 use crate::response::Response;
-use lq_desk::{Read, Reply};
-use lq_update::{Message, Opcode};
+use lq_core::{Read, Reply};
+use lq_update::{Cause, Mark, Message, Opcode};
 use lq_value::{AttrName, Entry, Kind, Name, Refusal};
 use lq_volume::{Applied, Listing};
 use serde_json::{Value, json};
@@ -42,13 +42,19 @@ fn response_value(alloc: Global, response: &Response) -> Result<Value, AllocErro
     ensures { IfOk result (λ v. view v ≡ response_data (response_of response.now)) }
 {
     match response {
-        Response::Reply(reply) => reply_value(alloc, reply),
+        Response::Reply { slot, reply } => reply_value(alloc, *slot, reply),
+        Response::Refused(refusal) => refusal_value(alloc, *refusal),
         Response::Found { node } => found_value(alloc, *node),
         Response::Listed { node, listing } => listing_value(alloc, *node, listing),
         Response::Fetched {
             at,
             result: entries,
         } => fetched_value(alloc, *at, entries),
+        Response::Rebuilt {
+            change,
+            result: entries,
+            settled,
+        } => rebuilt_value(alloc, *change, entries, *settled),
     }
 }
 
@@ -63,6 +69,18 @@ fn fetched_value(alloc: Global, at: u64, entries: &[Entry]) -> Result<Value, All
 {
     let list = entries_value(alloc, entries)?;
     json!(in alloc; {"at": at, "result": list})
+}
+
+fn rebuilt_value(
+    alloc: Global,
+    change: u64,
+    entries: &[Entry],
+    settled: bool,
+) -> Result<Value, AllocError>
+    ensures { IfOk result (λ v. view v ≡ rebuilt_data change entries.now settled) }
+{
+    let list = entries_value(alloc, entries)?;
+    json!(in alloc; {"change": change, "result": list, "settled": settled})
 }
 
 fn listing_value(alloc: Global, node: u64, listing: &Listing) -> Result<Value, AllocError>
@@ -134,17 +152,22 @@ fn typed_value(alloc: Global, value: &lq_value::Value) -> Result<Value, AllocErr
     }
 }
 
-fn reply_value(alloc: Global, reply: &Reply) -> Result<Value, AllocError>
-    ensures { IfOk result (λ v. view v ≡ answer_data (answer_of reply.now)) }
+// Of a reply to an event of this slot.
+fn reply_value(alloc: Global, slot: u64, reply: &Reply) -> Result<Value, AllocError>
+    ensures { IfOk result (λ v. view v ≡ answer_data slot (answer_of reply.now)) }
 {
     match reply {
         Reply::Changed(applied) => applied_value(alloc, applied),
         Reply::Opened {
-            slot,
+            slot: opened,
             at,
             result: entries,
-        } => opened_value(alloc, *slot, *at, entries),
-        Reply::Took(read) => read_value(alloc, read),
+        } => opened_value(alloc, *opened, *at, entries),
+        Reply::Took(read) => read_value(alloc, slot, read),
+        Reply::Shut(change) => shut_value(alloc, *change, slot),
+        Reply::Asked | Reply::Finished | Reply::Moved(_) | Reply::Noticed(_) => {
+            slot_value(alloc, slot)
+        }
         Reply::Refused(refusal) => refusal_value(alloc, *refusal),
     }
 }
@@ -179,19 +202,51 @@ fn entry_value(alloc: Global, entry: &Entry) -> Result<Value, AllocError>
     json!(in alloc; {"dir": entry.dir, "name": name, "node": entry.node})
 }
 
-fn read_value(alloc: Global, read: &Read) -> Result<Value, AllocError>
-    ensures { IfOk result (λ v. view v ≡ answer_data (answer_of_read read.now)) }
+fn shut_value(alloc: Global, change: u64, slot: u64) -> Result<Value, AllocError>
+    ensures { IfOk result (λ v. view v ≡ shut_data change slot) }
+{
+    json!(in alloc; {"change": change, "slot": slot})
+}
+
+fn slot_value(alloc: Global, slot: u64) -> Result<Value, AllocError>
+    ensures { IfOk result (λ v. view v ≡ slot_data slot) }
+{
+    json!(in alloc; {"slot": slot})
+}
+
+fn read_value(alloc: Global, slot: u64, read: &Read) -> Result<Value, AllocError>
+    ensures { IfOk result (λ v. view v ≡ answer_data slot (answer_of_read read.now)) }
 {
     match read {
         Read::Update(message) => message_value(alloc, message),
-        Read::Empty => empty_value(alloc),
+        Read::Fin(mark) => mark_value(alloc, mark),
+        Read::Empty => what_value(alloc, "EMPTY"),
+        Read::Ended => what_value(alloc, "ENDED"),
     }
 }
 
-fn empty_value(alloc: Global) -> Result<Value, AllocError>
-    ensures { IfOk result (λ v. view v ≡ empty_data) }
+// Of a read that takes nothing.
+fn what_value(alloc: Global, what: &str) -> Result<Value, AllocError>
+    ensures { IfOk result (λ v. view v ≡ what_data what.now) }
 {
-    json!(in alloc; {"what": "EMPTY"})
+    json!(in alloc; {"what": what})
+}
+
+fn mark_value(alloc: Global, mark: &Mark) -> Result<Value, AllocError>
+    ensures { IfOk result (λ v. view v ≡ mark_data mark.now) }
+{
+    let cause = cause_name(mark.cause);
+    json!(in alloc; {"cause": cause, "change": mark.change, "seq": mark.seq, "what": "END"})
+}
+
+fn cause_name(cause: Cause) -> &'static str
+    ensures { result.now ≡ cause_name cause }
+{
+    match cause {
+        Cause::Closed => "closed",
+        Cause::HungUp => "hung_up",
+        Cause::Overrun => "overrun",
+    }
 }
 
 fn opcode_name(op: &Opcode) -> &'static str

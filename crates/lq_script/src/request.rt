@@ -4,7 +4,7 @@ ghost use Rattle.std.specs.Option.{option_map};
 ghost use Rattle.lq_value.specs.declared.value.Value.TheVariants.{Int32, UInt32};
 ghost use Rattle.lq_value.specs.declared.kind.Kind.TheVariants.{File};
 ghost use Rattle.serde_json.specs.View.{view};
-ghost use Rattle.lq_script.specs.Request.{asked_by, asked_of, create_of, remove_of, move_of, write_of, set_of, unset_of, open_of, read_of, find_of, entry_of, fetch_of, given_by, given_number, within_i32, within_u32, flag_or, needed_text, needed_u64, u64_or, i64_or, kind_named, kind_or};
+ghost use Rattle.lq_script.specs.Request.{asked_by, asked_of, create_of, remove_of, move_of, write_of, set_of, unset_of, open_of, read_of, hang_up_of, close_of, finish_of, rebuilt_of, find_of, entry_of, fetch_of, given_by, given_number, within_i32, within_u32, flag_or, needed_text, needed_u64, u64_or, i64_or, kind_named, kind_or};
 ghost use Rattle.lq_script.specs.Asked.{asked, given};
 
 use lq_value::{Kind, View};
@@ -52,6 +52,15 @@ pub enum Request<'a> {
     Read {
         slot: u64,
     },
+    HangUp {
+        slot: u64,
+    },
+    Close {
+        slot: u64,
+    },
+    Finish {
+        slot: u64,
+    },
     Find {
         dir: u64,
         name: &'a str,
@@ -61,6 +70,9 @@ pub enum Request<'a> {
     },
     Fetch {
         query: &'a str,
+    },
+    Rebuilt {
+        slot: u64,
     },
 }
 
@@ -77,9 +89,13 @@ pub fn request_in(value: &Value) -> Option<Request<'_>>
         "unset" => unset_in(value),
         "open" => open_in(value),
         "read" => read_in(value),
+        "hang_up" => hang_up_in(value),
+        "close" => close_in(value),
+        "finish" => finish_in(value),
         "find" => find_in(value),
         "entry" => entry_in(value),
         "fetch" => fetch_in(value),
+        "result" => rebuilt_in(value),
         _ => None,
     }
 }
@@ -205,6 +221,27 @@ fn read_in(value: &Value) -> Option<Request<'_>>
     Some(Request::Read { slot })
 }
 
+fn hang_up_in(value: &Value) -> Option<Request<'_>>
+    ensures { option_map asked result ≡ hang_up_of (view value.now) }
+{
+    let slot = value.get("slot").and_then(Value::as_u64)?;
+    Some(Request::HangUp { slot })
+}
+
+fn close_in(value: &Value) -> Option<Request<'_>>
+    ensures { option_map asked result ≡ close_of (view value.now) }
+{
+    let slot = value.get("slot").and_then(Value::as_u64)?;
+    Some(Request::Close { slot })
+}
+
+fn finish_in(value: &Value) -> Option<Request<'_>>
+    ensures { option_map asked result ≡ finish_of (view value.now) }
+{
+    let slot = value.get("slot").and_then(Value::as_u64)?;
+    Some(Request::Finish { slot })
+}
+
 fn find_in(value: &Value) -> Option<Request<'_>>
     ensures { option_map asked result ≡ find_of (view value.now) }
 {
@@ -225,6 +262,13 @@ fn fetch_in(value: &Value) -> Option<Request<'_>>
 {
     let query = value.get("query").and_then(Value::as_str)?;
     Some(Request::Fetch { query })
+}
+
+fn rebuilt_in(value: &Value) -> Option<Request<'_>>
+    ensures { option_map asked result ≡ rebuilt_of (view value.now) }
+{
+    let slot = value.get("slot").and_then(Value::as_u64)?;
+    Some(Request::Rebuilt { slot })
 }
 
 // A whole number from 0 up, or the default where there is none.

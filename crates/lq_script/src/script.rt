@@ -1,13 +1,14 @@
 //! A whole script, over the root alone.
 ghost use Rattle.std.specs.Prelude.{◌≡◌, ◌⊎◌, OnOk, OnErr, IsErrOf, true, false};
 ghost use Rattle.lq_script.specs.Output.{Answered, Ended, Passed, Stopped};
-ghost use Rattle.lq_script.specs.Script.{script_world, world_rules};
+ghost use Rattle.lq_script.specs.Script.{script_session, world_rules};
 
 use crate::devices::{Sink, Source};
 use crate::over_lines::run_lines;
+use crate::rebuilds::no_rebuilds;
 use crate::run_fault::RunFault;
 use crate::session::Session;
-use lq_desk::{Desk, kept_shows_worlds};
+use lq_core::{Desk, kept_turns_show_worlds};
 use lq_volume::Volume;
 use std::alloc::Global;
 
@@ -20,7 +21,7 @@ const MAX_CHANGES: u64 = 1_000_000_000_000;
 /// the writer, which is flushed once at the end, also after `Read`, `Limit` and `Memory`.
 /// Refused: `Read` and `Write` where that device failed, `Write` too where the writer took none
 /// of the bytes given, `Limit` where a byte follows 10,000,000 lines or 1,073,741,824 bytes,
-/// `Memory`; the first fault is the answer. The formats and limits are our own.
+/// `Memory`, also where it can't begin; the first fault is the answer. The formats and limits are our own.
 pub fn run<R: Source, W: Sink>(
     alloc: Global,
     reader: &mut R,
@@ -29,18 +30,18 @@ pub fn run<R: Source, W: Sink>(
     requires reader_works { R.failed reader.old ≡ false }
     requires writer_works { W.failed writer.old ≡ false }
     requires writer_moves { W.stalled writer.old ≡ false }
-    ensures ok { OnOk result (Answered world_rules script_world
+    ensures ok { OnOk result (Answered world_rules script_session
         (R.left reader.old) (R.left reader.new) (W.written writer.old) (W.written writer.new)) }
     ensures flushed { OnOk result (W.flushed writer.new ≡ true) }
 
     // After a fault what was written is a front of the output of what was read.
-    ensures err { OnErr result (Stopped world_rules script_world
+    ensures err { OnErr result (Stopped world_rules script_session
         (R.left reader.old) (R.left reader.new) (W.written writer.old) (W.written writer.new)) }
 
     // After a read fault and at a limit it is that of the lines that LF ended.
-    ensures read { IsErrOf result RunFault.Read → Ended world_rules script_world
+    ensures read { IsErrOf result RunFault.Read → Ended world_rules script_session
         (R.left reader.old) (R.left reader.new) (W.written writer.old) (W.written writer.new) }
-    ensures limit { IsErrOf result RunFault.Limit → Passed world_rules script_world
+    ensures limit { IsErrOf result RunFault.Limit → Passed world_rules script_session
         (R.left reader.old) (R.left reader.new) (W.written writer.old) (W.written writer.new) }
 
     // Each fault has its cause in this call.
@@ -49,8 +50,13 @@ pub fn run<R: Source, W: Sink>(
         (W.failed writer.new ≡ true) ⊎ (W.stalled writer.new ≡ true) }
     ensures no_thread { IsErrOf result RunFault.Thread → ⊥ }
 {
-    kept_shows_worlds();
-    let desk = Desk::new(alloc, Volume::new(alloc, MAX_CHANGES));
-    let mut session = Session::new(alloc, desk);
+    kept_turns_show_worlds();
+    let Ok(desk) = Desk::new(alloc, Volume::new(alloc, MAX_CHANGES)) else {
+        return Err(RunFault::Memory);
+    };
+    let Ok(rebuilds) = no_rebuilds(alloc) else {
+        return Err(RunFault::Memory);
+    };
+    let mut session = Session::new(alloc, desk, rebuilds);
     run_lines(alloc, reader, writer, &mut session)
 }

@@ -1,71 +1,121 @@
-//! A script's session: a desk that answers lines.
+//! A script's session: a desk, and what was rebuilt of each slot, that answer lines.
 ghost use Rattle.std.specs.Prelude.{◌≡◌, IfOk, IfErr, OnOk};
 ghost use Rattle.lq_value.specs.declared.refusal.Refusal.TheVariants.{NoMemory};
-ghost use Rattle.lq_desk.specs.Desk.{kept_outcome};
+ghost use Rattle.lq_core.specs.Turn.{turn_outcome};
+ghost use Rattle.lq_core.specs.Reply.{happening_of};
 ghost use Rattle.lq_volume.specs.Result.{result_of};
 ghost use Rattle.lq_script.specs.Asked.{question_of};
 ghost use Rattle.lq_script.specs.Answer.{response_of};
 ghost use Rattle.lq_script.specs.Request.{question_in};
-ghost use Rattle.lq_script.specs.Response.{Fetched, answered, found_in, responds, shown_in};
+ghost use Rattle.lq_script.specs.Response.{Fetched, answered, found_in, happened, rebuilt, responds, shown_in, slot_of};
+ghost use Rattle.lq_script.specs.Folds.{fold_at};
+ghost use Rattle.lq_script.specs.Session.{session_with};
 ghost use Rattle.lq_script.specs.Script.{kept_volume};
 
 use crate::asking::question_in;
 use crate::question::Question;
+use crate::rebuilds::{copied, note, rebuild_at};
 use crate::reply::put_reply;
 use crate::responder::Responder;
 use crate::response::Response;
-use lq_desk::{Desk, Reply};
+use lq_core::{Desk, Event, Reply};
 use lq_predicate::Predicate;
+use lq_update::{Rebuild, results_rise};
 use lq_value::{Name, Refusal};
 use lq_volume::Volume;
 use std::alloc::Global;
 
-/// A desk that answers the lines of a script.
+/// A desk, and what was rebuilt of each slot, that answer the lines of a script.
 #[derive(Debug, Drop)]
 pub struct Session {
     alloc: Global,
     desk: Desk,
+    rebuilds: Vec<Option<Rebuild>>,
 }
 
 impl Session {
     /// A session over a desk. It takes no memory.
-    pub fn new(alloc: Global, desk: Desk) -> Session
-        ensures { result.desk ≡ desk }
+    pub fn new(alloc: Global, desk: Desk, rebuilds: Vec<Option<Rebuild>>) -> Session
+        ensures desk { result.desk ≡ desk }
+        ensures rebuilds { result.rebuilds.items ≡ rebuilds.items }
     {
-        Session { alloc, desk }
+        Session {
+            alloc,
+            desk,
+            rebuilds,
+        }
     }
 
     // What a line is answered: that of its question, or why it asks nothing.
     fn answer(&mut self, line: &[u8]) -> Result<Response, Refusal>
         ensures response { IfOk result (λ response. response_of response ≡
-            (answered kept_outcome kept_volume self.old.desk (question_in line.now)).0) }
-        ensures after { OnOk result (self.new.desk ≡
-            (answered kept_outcome kept_volume self.old.desk (question_in line.now)).1) }
+            (answered turn_outcome kept_volume
+            (session_with self.old.desk self.old.rebuilds.items) (question_in line.now)).0) }
+        ensures after { OnOk result (session_with self.new.desk self.new.rebuilds.items ≡
+            (answered turn_outcome kept_volume
+            (session_with self.old.desk self.old.rebuilds.items) (question_in line.now)).1) }
         ensures memory { IfErr result (λ e. e ≡ NoMemory) }
     {
         match question_in(self.alloc, line) {
             Ok(question) => Ok(self.respond_to(&question)?),
             Err(Refusal::NoMemory) => Err(Refusal::NoMemory),
-            Err(refusal) => Ok(Response::Reply(Reply::Refused(refusal))),
+            Err(refusal) => Ok(Response::Refused(refusal)),
         }
     }
 
     fn respond_to(&mut self, question: &Question) -> Result<Response, Refusal>
         ensures response { IfOk result (λ response. response_of response ≡
-            (responds kept_outcome kept_volume self.old.desk (question_of question.now)).0) }
-        ensures after { OnOk result (self.new.desk ≡
-            (responds kept_outcome kept_volume self.old.desk (question_of question.now)).1) }
+            (responds turn_outcome kept_volume
+            (session_with self.old.desk self.old.rebuilds.items) (question_of question.now)).0) }
+        ensures after { OnOk result (session_with self.new.desk self.new.rebuilds.items ≡
+            (responds turn_outcome kept_volume
+            (session_with self.old.desk self.old.rebuilds.items) (question_of question.now)).1) }
         ensures memory { IfErr result (λ e. e ≡ NoMemory) }
     {
         match question {
-            Question::Event(event) => match self.desk.event(event) {
-                Reply::Refused(Refusal::NoMemory) => Err(Refusal::NoMemory),
-                reply => Ok(Response::Reply(reply)),
-            },
+            Question::Event(event) => Ok(self.carry_out(event)?),
             Question::Find { dir, name } => Ok(found_in(self.desk.volume(), *dir, name)),
             Question::Entry { node } => Ok(shown_in(self.desk.volume(), *node)?),
             Question::Fetch { predicate } => Ok(fetched_in(self.desk.volume(), predicate)?),
+            Question::Rebuilt { slot } => Ok(rebuilt_in(self.alloc, &self.rebuilds, *slot)?),
         }
+    }
+
+    // Carries out an event, and notes what it was answered for its slot.
+    fn carry_out(&mut self, event: &Event) -> Result<Response, Refusal>
+        ensures response { IfOk result (λ response. response_of response ≡
+            (happened (slot_of (happening_of event.now)) self.old.rebuilds.items
+            (turn_outcome self.old.desk (happening_of event.now))).0) }
+        ensures after { OnOk result (session_with self.new.desk self.new.rebuilds.items ≡
+            (happened (slot_of (happening_of event.now)) self.old.rebuilds.items
+            (turn_outcome self.old.desk (happening_of event.now))).1) }
+        ensures memory { IfErr result (λ e. e ≡ NoMemory) }
+    {
+        results_rise();
+        let _ = self.desk.volume().changes();
+        match self.desk.turn(event) {
+            Reply::Refused(Refusal::NoMemory) => Err(Refusal::NoMemory),
+            reply => {
+                let slot = slot_of(event);
+                note(self.alloc, &mut self.rebuilds, slot, &reply)?;
+                Ok(Response::Reply { slot, reply })
+            }
+        }
+    }
+}
+
+// The slot that an event names, or 0.
+fn slot_of(event: &Event) -> u64
+    ensures { result ≡ slot_of (happening_of event.now) }
+{
+    match event {
+        Event::Change(_) | Event::Open { .. } => 0,
+        Event::Put(slot)
+        | Event::Take(slot)
+        | Event::HangUp(slot)
+        | Event::Notice(slot)
+        | Event::Close(slot)
+        | Event::Finish(slot) => *slot,
     }
 }
 
@@ -75,7 +125,7 @@ fn found_in(volume: &Volume, dir: u64, name: &Name) -> Response
 {
     match volume.find(dir, name) {
         Ok(node) => Response::Found { node },
-        Err(refusal) => Response::Reply(Reply::Refused(refusal)),
+        Err(refusal) => Response::Refused(refusal),
     }
 }
 
@@ -87,7 +137,7 @@ fn shown_in(volume: &Volume, node: u64) -> Result<Response, Refusal>
     match volume.listing(node) {
         Ok(listing) => Ok(Response::Listed { node, listing }),
         Err(Refusal::NoMemory) => Err(Refusal::NoMemory),
-        Err(refusal) => Ok(Response::Reply(Reply::Refused(refusal))),
+        Err(refusal) => Ok(Response::Refused(refusal)),
     }
 }
 
@@ -103,13 +153,30 @@ fn fetched_in(volume: &Volume, predicate: &Predicate) -> Result<Response, Refusa
     })
 }
 
+// What was rebuilt of a slot.
+fn rebuilt_in(alloc: Global, rebuilds: &[Option<Rebuild>], slot: u64) -> Result<Response, Refusal>
+    ensures response { IfOk result (λ response. response_of response
+        ≡ rebuilt (fold_at rebuilds.now slot)) }
+    ensures memory { IfErr result (λ e. e ≡ NoMemory) }
+{
+    match rebuild_at(rebuilds, slot) {
+        None => Ok(Response::Refused(Refusal::NotOpen)),
+        Some(rebuild) => Ok(Response::Rebuilt {
+            change: rebuild.last_change(),
+            result: copied(alloc, rebuild.result())?,
+            settled: rebuild.is_settled(),
+        }),
+    }
+}
+
 impl Responder for Session {
-    ghost use Rattle.lq_desk.specs.Desk.{Kept};
+    ghost use Rattle.lq_core.specs.Kept.{Kept};
+    ghost use Rattle.lq_script.specs.Session as spec;
     ghost use Rattle.lq_script.specs.Script.{kept_rules};
 
-    ghost State = { Kept };
+    ghost State = { spec.Session Kept };
 
-    ghost state = { λ s. s.desk };
+    ghost state = { λ s. session_with s.desk s.rebuilds.items };
 
     ghost rules = { kept_rules };
 
@@ -119,10 +186,6 @@ impl Responder for Session {
     }
 
     fn respond_long(&self, out: &mut Vec<u8>) -> Result<(), Refusal> {
-        put_reply(
-            self.alloc,
-            out,
-            &Response::Reply(Reply::Refused(Refusal::LongLine)),
-        )
+        put_reply(self.alloc, out, &Response::Refused(Refusal::LongLine))
     }
 }

@@ -1,0 +1,64 @@
+-- What a turn is answered, where it opens a slot, has a result that rises by node.
+use Rattle.std.proofs.Common.{ℕ, ◌-◌, Bool, true, false, Option, None, Some}
+use Rattle.std.specs.Prelude.{if◌then◌else◌}
+use Rattle.lq_value.specs.declared.refusal.Refusal.{Refusal}
+use Rattle.lq_volume.specs.declared.change.Change.{Change}
+use Rattle.lq_volume.specs.State.{IsVolume}
+use Rattle.lq_update.specs.declared.parcel.Parcel.{Parcel}
+use Rattle.lq_update.specs.Laws.{ResultsRise}
+use Rattle.lq_world.specs.Events.{Happening, Changing, Opening, Putting, Taking, HangingUp, Noticing, Closing, Finishing, Answer, Ended, Empty}
+use Rattle.lq_core.specs.Slot.{KeptSlot, fresh_slot, put_if, put_slot, take_if, take_slot, ask_slot, notice_if, notice_slot, close_if, close_slot, finish_if, finish_slot, is_read}
+use Rattle.lq_core.specs.Kept.{Kept, at_kept, at_place, change_if, kept_at, open_if, opening_refusal}
+use Rattle.lq_core.specs.Turn.{kept_after, kept_turn, turn_outcome}
+use Rattle.lq_script.specs.Folds.{Rises}
+
+put-rises : (s : KeptSlot) (room : Bool) (o : Option Parcel) → Rises (put_if s room o).0
+put-rises s true (Some p) = tt
+put-rises s true None = tt
+put-rises s false o = tt
+
+none-rises : (b : Bool) → Rises (if b then Ended else Empty)
+none-rises true = tt
+none-rises false = tt
+
+take-rises : (s : KeptSlot) (o : Option Parcel) → Rises (take_if s o).0
+take-rises s (Some p) = tt
+take-rises s None = none-rises (is_read s)
+
+notice-rises : (n : ℕ) (s : KeptSlot) (b : Bool) → Rises (notice_if n s b).0
+notice-rises n s true = tt
+notice-rises n s false = tt
+
+close-rises : (n : ℕ) (s : KeptSlot) (b : Bool) → Rises (close_if n s b).0
+close-rises n s true = tt
+close-rises n s false = tt
+
+finish-rises : (s : KeptSlot) (b : Bool) → Rises (finish_if s b).0
+finish-rises s true = tt
+finish-rises s false = tt
+
+slot-rises : (k : Kept) (slot : ℕ) (event : KeptSlot → Answer × Option KeptSlot) → ((s : KeptSlot) → Rises (event s).0) → Rises (at_kept k slot event).0
+slot-rises k slot event h = by (kept_at k slot)
+  where
+    by : (o : Option KeptSlot) → Rises (at_place k (slot - 1) o event).0
+    by None = tt
+    by (Some s) = h s
+
+change-rises : (k : Kept) (c : Change) (o : Option Refusal) → Rises (change_if k c o).0
+change-rises k c None = tt
+change-rises k c (Some e) = tt
+
+open-rises : ResultsRise → (k : Kept) (s : KeptSlot) (o : Option Refusal) → IsVolume k.volume → Rises (open_if k s o).0
+open-rises law k s None volume = law s.held.query k.volume volume
+open-rises law k s (Some e) volume = tt
+
+-- what a turn is answered may begin a fold
+pub turn-rises : ResultsRise → (k : Kept) (e : Happening) → IsVolume k.volume → Rises (turn_outcome k e).0
+turn-rises law k (Changing c) volume = change-rises (kept_after k (kept_turn k (Changing c)).before) c _
+turn-rises law k (Opening q port backlog moved) volume = open-rises law k (fresh_slot q moved k.volume.number port backlog) (opening_refusal k port backlog) volume
+turn-rises law k (Putting slot) volume = slot-rises k slot put_slot (λ s. put-rises s _ _)
+turn-rises law k (Taking slot) volume = slot-rises (kept_after k (kept_turn k (Taking slot)).before) slot take_slot (λ s. take-rises s _)
+turn-rises law k (HangingUp slot) volume = slot-rises k slot ask_slot (λ s. tt)
+turn-rises law k (Noticing slot) volume = slot-rises k slot (notice_slot k.volume.number) (λ s. notice-rises _ s _)
+turn-rises law k (Closing slot) volume = let l = kept_after k (kept_turn k (Closing slot)).before in slot-rises l slot (close_slot l.volume.number) (λ s. close-rises _ s _)
+turn-rises law k (Finishing slot) volume = slot-rises k slot finish_slot (λ s. finish-rises s _)
