@@ -1,5 +1,4 @@
-//! Worked examples as calls of a volume and of a desk.
-use lq_desk::{Desk, Event, Reply};
+//! Worked examples as calls of a volume.
 use lq_predicate::read;
 use lq_update::step;
 use lq_value::{Kind, Name, Refusal};
@@ -31,28 +30,6 @@ fn scenario_change_limit(rt: HostRuntime) -> Result<(), Fail> {
             "{name}"
         );
     }
-    Ok(())
-}
-
-#[test]
-fn scenario_change_limit_of_a_desk(rt: HostRuntime) -> Result<(), Fail> {
-    let alloc = rt.alloc();
-    let mut desk = Desk::new(alloc, Volume::new(alloc, 2));
-    assert!(rt; desk.run(&[])?.is_empty());
-    for wanted in [true, true, false] {
-        let reply = desk.event(&Event::Open {
-            predicate: read(alloc, "size>0")?,
-            port: 1,
-            backlog: 1,
-            moved: false,
-        });
-        match reply {
-            Reply::Opened { .. } => assert!(rt; wanted),
-            Reply::Refused(refusal) => assert!(rt; !wanted && refusal == Refusal::Exhausted),
-            _ => assert!(rt; false),
-        }
-    }
-    assert!(rt; desk.volume().changes() == 0);
     Ok(())
 }
 

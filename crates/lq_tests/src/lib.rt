@@ -1,20 +1,26 @@
-//! Tests that cross crates: worked examples as calls, the limits of a script's input, and a
-//! volume under a lock whose number is read beside it (`locked`, `tie`).
+//! Tests that cross crates: worked examples as calls and as lists of events, the limits of a
+//! script's input, and a volume under a lock whose number is read beside it (`locked`, `tie`).
 //!
 //! A contract sees the lock's value as a book, and the lock as its board. Calls that take the lock
 //! wait. Begin with `tie`.
 #![tactic(auto)]
 
 #[cfg(test)]
+mod acts;
+#[cfg(test)]
 mod calls;
 #[cfg(test)]
 mod entry_calls;
+#[cfg(test)]
+mod events;
 #[cfg(test)]
 mod input;
 mod locked;
 #[cfg(test)]
 mod threads;
 mod tie;
+#[cfg(test)]
+mod told;
 
 pub use locked::{Locked, Named, Tag};
 pub use tie::{Base, Tie, two_threads};

@@ -1,0 +1,125 @@
+//! What the tables of `events` ask a desk; whatever answers `NoMemory` is asked once more.
+use lq_core::{Desk, Event, Reply};
+use lq_predicate::read;
+use lq_value::{AttrName, Kind, Name, Refusal, Value};
+use lq_volume::{Change, Volume};
+use std::alloc::Global;
+
+/// One event, of slot 1 where it has a slot.
+pub enum Act {
+    /// A file of this name comes in the root.
+    Create(&'static str),
+    /// Node 3 moves to this name in the root, with or without clobber.
+    Move(&'static str, bool),
+    /// The attribute `x` of node 2 is this text.
+    Text(&'static str),
+    /// The attribute `x` of node 2 is this number.
+    Number(i32),
+    /// A live query `name=*` is opened: port, backlog.
+    Open(u64, u64),
+    Put,
+    Take,
+    HangUp,
+    Notice,
+    Close,
+    Finish,
+}
+
+/// Whether an event comes alone or as a turn.
+#[derive(Clone, Copy)]
+pub enum Way {
+    Event,
+    Turn,
+}
+
+/// A desk whose volume takes 100 changes.
+pub fn desk(alloc: Global) -> Result<Desk, Refusal> {
+    match Desk::new(alloc, Volume::new(alloc, 100)) {
+        Err(Refusal::NoMemory) => Desk::new(alloc, Volume::new(alloc, 100)),
+        made => made,
+    }
+}
+
+/// What the desk answers an act.
+pub fn reply(alloc: Global, desk: &mut Desk, way: Way, act: &Act) -> Result<Reply, Refusal> {
+    let event = event(alloc, act)?;
+    match give(desk, way, &event) {
+        Reply::Refused(Refusal::NoMemory) => Ok(give(desk, way, &event)),
+        told => Ok(told),
+    }
+}
+
+/// How many entries a static query of the desk's volume finds.
+pub fn found(alloc: Global, desk: &Desk, query: &str) -> Result<usize, Refusal> {
+    match fetch(alloc, desk, query) {
+        Err(Refusal::NoMemory) => fetch(alloc, desk, query),
+        told => told,
+    }
+}
+
+fn fetch(alloc: Global, desk: &Desk, query: &str) -> Result<usize, Refusal> {
+    let found = desk.volume().fetch(&read(alloc, query)?)?;
+    Ok(found.len())
+}
+
+fn give(desk: &mut Desk, way: Way, event: &Event) -> Reply {
+    match way {
+        Way::Event => desk.event(event),
+        Way::Turn => desk.turn(event),
+    }
+}
+
+fn event(alloc: Global, act: &Act) -> Result<Event, Refusal> {
+    match event_of(alloc, act) {
+        Err(Refusal::NoMemory) => event_of(alloc, act),
+        made => made,
+    }
+}
+
+fn event_of(alloc: Global, act: &Act) -> Result<Event, Refusal> {
+    Ok(match act {
+        Act::Open(port, backlog) => Event::Open {
+            predicate: read(alloc, "name=*")?,
+            port: *port,
+            backlog: *backlog,
+            moved: false,
+        },
+        Act::Put => Event::Put(1),
+        Act::Take => Event::Take(1),
+        Act::HangUp => Event::HangUp(1),
+        Act::Notice => Event::Notice(1),
+        Act::Close => Event::Close(1),
+        Act::Finish => Event::Finish(1),
+        Act::Create(name) => Event::Change(creation(alloc, name)?),
+        Act::Move(name, clobber) => Event::Change(renaming(alloc, name, *clobber)?),
+        Act::Text(text) => Event::Change(setting(alloc, Value::text(alloc, text)?)?),
+        Act::Number(number) => Event::Change(setting(alloc, Value::Int32(*number))?),
+    })
+}
+
+fn creation(alloc: Global, name: &str) -> Result<Change, Refusal> {
+    Ok(Change::Create {
+        dir: 1,
+        name: Name::read(alloc, name)?,
+        kind: Kind::File,
+        size: 0,
+        time: 0,
+    })
+}
+
+fn renaming(alloc: Global, name: &str, clobber: bool) -> Result<Change, Refusal> {
+    Ok(Change::Move {
+        node: 3,
+        dir: 1,
+        name: Name::read(alloc, name)?,
+        clobber,
+    })
+}
+
+fn setting(alloc: Global, value: Value) -> Result<Change, Refusal> {
+    Ok(Change::SetAttr {
+        node: 2,
+        attr: AttrName::read(alloc, "x")?,
+        value,
+    })
+}

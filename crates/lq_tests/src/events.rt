@@ -1,0 +1,212 @@
+//! Worked examples as lists of events of one desk, each with what it is answered.
+//!
+//! Whatever answers `NoMemory` is asked once more, so each test holds also where any one growth of
+//! memory is refused.
+use crate::acts::{Act, Way, desk, found, reply};
+use crate::told::{Told, is_told};
+use lq_core::{Desk, Event, Reply};
+use lq_predicate::read;
+use lq_update::Cause;
+use lq_value::Refusal;
+use lq_volume::Volume;
+use std::alloc::Global;
+use std::test::Fail;
+
+const CLOBBER: [(Act, Told); 12] = [
+    (Act::Create("a"), Told::Changed(1, 2)),
+    (Act::Create("b"), Told::Changed(2, 3)),
+    (Act::Open(4, 16), Told::Opened(2, 2)),
+    (Act::Move("a", false), Told::Refused(Refusal::Exists)),
+    (Act::Move("a", true), Told::Changed(3, 3)),
+    (Act::Put, Told::Moved(true)),
+    (Act::Put, Told::Moved(true)),
+    (Act::Put, Told::Moved(true)),
+    (Act::Put, Told::Moved(false)),
+    (Act::Take, Told::Went(1, 3, "a", 2, false)),
+    (Act::Take, Told::Went(2, 3, "b", 3, false)),
+    (Act::Take, Told::Came(3, 3, "a", 3, true)),
+];
+
+const CLOSE_AFTER_HELD: [(Act, Told); 15] = [
+    (Act::Open(1, 2), Told::Opened(0, 0)),
+    (Act::Create("a"), Told::Changed(1, 2)),
+    (Act::Put, Told::Moved(true)),
+    (Act::Create("b"), Told::Changed(2, 3)),
+    (Act::Create("c"), Told::Changed(3, 4)),
+    (Act::Close, Told::Shut(3)),
+    (Act::Take, Told::Came(1, 1, "a", 2, true)),
+    (Act::Put, Told::Moved(true)),
+    (Act::Take, Told::Came(2, 2, "b", 3, true)),
+    (Act::Put, Told::Moved(true)),
+    (Act::Take, Told::Came(3, 3, "c", 4, true)),
+    (Act::Put, Told::Moved(true)),
+    (Act::Take, Told::Mark(4, 3, Cause::Closed)),
+    (Act::Put, Told::Moved(false)),
+    (Act::Take, Told::Ended),
+];
+
+// By turns, so the ports are filled by the changes, the takes and the close.
+const OVERRUN_AFTER_HELD: [(Act, Told); 11] = [
+    (Act::Open(1, 2), Told::Opened(0, 0)),
+    (Act::Create("a"), Told::Changed(1, 2)),
+    (Act::Create("b"), Told::Changed(2, 3)),
+    (Act::Create("c"), Told::Changed(3, 4)),
+    (Act::Create("d"), Told::Changed(4, 5)),
+    (Act::Close, Told::Refused(Refusal::NotOpen)),
+    (Act::Take, Told::Came(1, 1, "a", 2, true)),
+    (Act::Take, Told::Came(2, 2, "b", 3, true)),
+    (Act::Take, Told::Came(3, 3, "c", 4, true)),
+    (Act::Take, Told::Mark(4, 3, Cause::Overrun)),
+    (Act::Take, Told::Ended),
+];
+
+const CLOSE_ON_FULL_PORT: [(Act, Told); 13] = [
+    (Act::Open(1, 1), Told::Opened(0, 0)),
+    (Act::Create("a"), Told::Changed(1, 2)),
+    (Act::Close, Told::Shut(1)),
+    (Act::Put, Told::Moved(true)),
+    (Act::Put, Told::Moved(false)),
+    (Act::Take, Told::Came(1, 1, "a", 2, true)),
+    (Act::Take, Told::Empty),
+    (Act::Put, Told::Moved(true)),
+    (Act::Take, Told::Mark(2, 1, Cause::Closed)),
+    (Act::Put, Told::Moved(false)),
+    (Act::Take, Told::Ended),
+    (Act::Finish, Told::Finished),
+    (Act::Take, Told::Refused(Refusal::NotOpen)),
+];
+
+const HANG_UP_TOLD_AFTER: [(Act, Told); 10] = [
+    (Act::Open(2, 2), Told::Opened(0, 0)),
+    (Act::HangUp, Told::Asked),
+    (Act::Create("a"), Told::Changed(1, 2)),
+    (Act::Notice, Told::Noticed(true)),
+    (Act::Notice, Told::Noticed(false)),
+    (Act::Close, Told::Refused(Refusal::NotOpen)),
+    (Act::Put, Told::Moved(true)),
+    (Act::Put, Told::Moved(true)),
+    (Act::Take, Told::Came(1, 1, "a", 2, true)),
+    (Act::Take, Told::Mark(2, 1, Cause::HungUp)),
+];
+
+const OVERRUN_BEFORE_NOTICE: [(Act, Told); 6] = [
+    (Act::Open(1, 0), Told::Opened(0, 0)),
+    (Act::HangUp, Told::Asked),
+    (Act::Create("a"), Told::Changed(1, 2)),
+    (Act::Notice, Told::Noticed(false)),
+    (Act::Put, Told::Moved(true)),
+    (Act::Take, Told::Mark(1, 0, Cause::Overrun)),
+];
+
+const HANG_UP_DOES_NOT_CARRY_OVER: [(Act, Told); 8] = [
+    (Act::Open(1, 1), Told::Opened(0, 0)),
+    (Act::Close, Told::Shut(0)),
+    (Act::HangUp, Told::Asked),
+    (Act::Put, Told::Moved(true)),
+    (Act::Take, Told::Mark(1, 0, Cause::Closed)),
+    (Act::Finish, Told::Finished),
+    (Act::Open(1, 1), Told::Opened(0, 0)),
+    (Act::Notice, Told::Noticed(false)),
+];
+
+// act, its reply, then queries and how many entries each finds
+const TEXT_AND_NUMBER: [(Act, Told, &[(&str, usize)]); 3] = [
+    (Act::Create("a"), Told::Changed(1, 2), &[]),
+    (
+        Act::Text("10"),
+        Told::Changed(2, 2),
+        &[("x=10", 1), ("x>9", 0)],
+    ),
+    (
+        Act::Number(10),
+        Told::Changed(3, 2),
+        &[("x>9", 1), ("x=1*", 0), ("x!=abc", 0)],
+    ),
+];
+
+/// The place of the first row that a new desk answers otherwise, or how many rows there are.
+fn told(alloc: Global, way: Way, rows: &[(Act, Told)]) -> Result<usize, Refusal> {
+    let mut desk = desk(alloc)?;
+    for (place, (act, told)) in rows.iter().enumerate() {
+        if !is_told(&reply(alloc, &mut desk, way, act)?, told) {
+            return Ok(place);
+        }
+    }
+    Ok(rows.len())
+}
+
+#[test]
+fn scenario_clobber(rt: HostRuntime) -> Result<(), Fail> {
+    assert_eq!(rt; told(rt.alloc(), Way::Event, &CLOBBER)?, 12);
+    Ok(())
+}
+
+#[test]
+fn scenario_close_after_held(rt: HostRuntime) -> Result<(), Fail> {
+    assert_eq!(rt; told(rt.alloc(), Way::Event, &CLOSE_AFTER_HELD)?, 15);
+    assert_eq!(rt; told(rt.alloc(), Way::Turn, &OVERRUN_AFTER_HELD)?, 11);
+    Ok(())
+}
+
+#[test]
+fn scenario_close_on_full_port(rt: HostRuntime) -> Result<(), Fail> {
+    assert_eq!(rt; told(rt.alloc(), Way::Event, &CLOSE_ON_FULL_PORT)?, 13);
+    Ok(())
+}
+
+#[test]
+fn scenario_hang_up_told_after(rt: HostRuntime) -> Result<(), Fail> {
+    assert_eq!(rt; told(rt.alloc(), Way::Event, &HANG_UP_TOLD_AFTER)?, 10);
+    Ok(())
+}
+
+#[test]
+fn scenario_overrun_before_notice(rt: HostRuntime) -> Result<(), Fail> {
+    assert_eq!(rt; told(rt.alloc(), Way::Event, &OVERRUN_BEFORE_NOTICE)?, 6);
+    Ok(())
+}
+
+#[test]
+fn scenario_hang_up_does_not_carry_over(rt: HostRuntime) -> Result<(), Fail> {
+    assert_eq!(rt;
+        told(rt.alloc(), Way::Event, &HANG_UP_DOES_NOT_CARRY_OVER)?,
+        8
+    );
+    Ok(())
+}
+
+#[test]
+fn scenario_text_and_number(rt: HostRuntime) -> Result<(), Fail> {
+    let alloc = rt.alloc();
+    let mut desk = desk(alloc)?;
+    for (act, told, queries) in &TEXT_AND_NUMBER {
+        assert!(rt; is_told(&reply(alloc, &mut desk, Way::Event, act)?, told));
+        for (query, count) in *queries {
+            assert_eq!(rt; found(alloc, &desk, query)?, *count);
+        }
+    }
+    Ok(())
+}
+
+fn opening(alloc: Global) -> Result<Event, Refusal> {
+    Ok(Event::Open {
+        predicate: read(alloc, "size>0")?,
+        port: 1,
+        backlog: 1,
+        moved: false,
+    })
+}
+
+#[test]
+fn scenario_change_limit_of_a_desk(rt: HostRuntime) -> Result<(), Fail> {
+    let alloc = rt.alloc();
+    let mut desk = Desk::new(alloc, Volume::new(alloc, 2))?;
+    assert!(rt; desk.run(&[])?.is_empty());
+    let replies = desk.run(&[opening(alloc)?, opening(alloc)?, opening(alloc)?])?;
+    assert_eq!(rt; replies.len(), 3);
+    assert!(rt; matches!(&replies[0], Reply::Opened { .. }));
+    assert!(rt; matches!(&replies[1], Reply::Opened { .. }));
+    assert!(rt; is_told(&replies[2], &Told::Refused(Refusal::Exhausted)));
+    assert!(rt; desk.volume().changes() == 0);
+    Ok(())
+}
