@@ -1,10 +1,15 @@
-//! Tests that cross crates: worked examples as calls, the limits of a script's input, and a
-//! volume under a lock whose number is read beside it (`locked`, `tie`).
+//! Tests that cross crates: worked examples as calls, the limits of a script's input, a volume
+//! under a lock whose number is read beside it (`locked`, `tie`), and the plain body of `step`
+//! beside the fast one (`plain`).
 //!
 //! A contract sees the lock's value as a book, and the lock as its board. Calls that take the lock
 //! wait. Begin with `tie`.
 #![tactic(auto)]
 
+#[cfg(test)]
+mod act;
+#[cfg(test)]
+mod bodies;
 #[cfg(test)]
 mod calls;
 #[cfg(test)]
@@ -12,6 +17,7 @@ mod entry_calls;
 #[cfg(test)]
 mod input;
 mod locked;
+pub mod plain;
 #[cfg(test)]
 mod threads;
 mod tie;
