@@ -9,6 +9,8 @@
 #[cfg(test)]
 mod act;
 #[cfg(test)]
+mod again;
+#[cfg(test)]
 mod bodies;
 #[cfg(test)]
 mod calls;
