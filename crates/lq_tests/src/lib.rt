@@ -1,12 +1,19 @@
 //! Tests that cross crates: worked examples as calls and as lists of events, the limits of a
-//! script's input, and a volume under a lock whose number is read beside it (`locked`, `tie`).
+//! script's input, a volume under a lock whose number is read beside it (`locked`, `tie`), and the
+//! plain body of `step` beside the fast one (`plain`).
 //!
 //! A contract sees the lock's value as a book, and the lock as its board. Calls that take the lock
 //! wait. Begin with `tie`.
 #![tactic(auto)]
 
 #[cfg(test)]
+mod act;
+#[cfg(test)]
 mod acts;
+#[cfg(test)]
+mod again;
+#[cfg(test)]
+mod bodies;
 #[cfg(test)]
 mod calls;
 #[cfg(test)]
@@ -16,6 +23,7 @@ mod events;
 #[cfg(test)]
 mod input;
 mod locked;
+pub mod plain;
 #[cfg(test)]
 mod threads;
 mod tie;

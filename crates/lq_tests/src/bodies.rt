@@ -1,0 +1,185 @@
+//! Both bodies of `step` over worked examples and drawn changes.
+ghost use Rattle.lq_volume.specs.Change.{IsLawful};
+
+use crate::act::{Act, Draws};
+use crate::plain;
+use lq_predicate::{Predicate, read};
+use lq_update::{Message, Opcode, step};
+use lq_value::Refusal;
+use lq_volume::{Change, Volume};
+use std::alloc::Global;
+use std::test::Fail;
+
+// Worked examples, each from an empty volume: moved-with-clobber, the same onto a higher node,
+// rename-out-of-result, rename-to-same-place, numbering, size-threshold, attribute-changes.
+const EXAMPLES: [[Act; 3]; 7] = [
+    [
+        Act::File(1, "a", 0),
+        Act::File(1, "b", 0),
+        Act::Clobber(3, 1, "a"),
+    ],
+    [
+        Act::File(1, "a", 0),
+        Act::File(1, "b", 0),
+        Act::Clobber(2, 1, "b"),
+    ],
+    [
+        Act::File(1, "a1", 0),
+        Act::Move(2, 1, "b1"),
+        Act::Move(2, 1, "a1"),
+    ],
+    [
+        Act::File(1, "a", 0),
+        Act::Clobber(2, 1, "a"),
+        Act::Remove(2),
+    ],
+    [Act::Folder(1, "d"), Act::File(2, "f", 0), Act::Remove(3)],
+    [Act::File(1, "a", 1), Act::Write(2, 2), Act::Write(2, 1)],
+    [Act::File(1, "f", 1), Act::Set(2, 2), Act::Unset(2)],
+];
+
+const FORMULAS: [&str; 5] = [
+    "name=*",
+    "name='a*'",
+    "size>1",
+    "x=1||name=b",
+    "!(x>1)&&size<2",
+];
+
+fn predicates(alloc: Global) -> Result<Vec<Predicate>, Refusal> {
+    let mut predicates = Vec::new(alloc);
+    for formula in FORMULAS {
+        predicates.push(read(alloc, formula)?)?;
+    }
+    Ok(predicates)
+}
+
+fn is_same_op(a: &Opcode, b: &Opcode) -> bool {
+    match (a, b) {
+        (Opcode::Created, Opcode::Created) | (Opcode::Removed, Opcode::Removed) => true,
+        (
+            Opcode::Moved {
+                from_dir,
+                from_name,
+            },
+            Opcode::Moved {
+                from_dir: dir,
+                from_name: name,
+            },
+        ) => from_dir == dir && from_name == name,
+        _ => false,
+    }
+}
+
+fn is_same(a: &Message, b: &Message) -> bool {
+    let numbers = a.seq == b.seq && a.change == b.change && a.last == b.last;
+    numbers && is_same_op(&a.op, &b.op) && a.dir == b.dir && a.name == b.name && a.node == b.node
+}
+
+fn are_same(one: &[Message], other: &[Message]) -> bool {
+    one.len() == other.len() && one.iter().zip(other).all(|(a, b)| is_same(a, b))
+}
+
+/// What was compared so far.
+#[derive(Clone, Copy, Debug, PartialEq, Eq)]
+struct Tally {
+    changes: u64,
+    messages: u64,
+    unlike: u64,
+}
+
+/// Compares what both bodies tell a predicate of a change.
+fn compare(
+    alloc: Global,
+    tally: &mut Tally,
+    predicate: &Predicate,
+    volume: &Volume,
+    change: &Change,
+) -> Result<(), Refusal>
+    requires { IsLawful volume.now change.now }
+{
+    for moved in [false, true] {
+        let fast = step(alloc, predicate, volume, change, 7, moved)?;
+        let plain = plain::step(alloc, predicate, volume, change, 7, moved)?;
+        tally.messages = tally.messages.saturating_add(plain.len() as u64);
+        if !are_same(&fast, &plain) {
+            tally.unlike = tally.unlike.saturating_add(1);
+        }
+    }
+    Ok(())
+}
+
+fn compare_all(
+    alloc: Global,
+    tally: &mut Tally,
+    predicates: &[Predicate],
+    volume: &Volume,
+    change: &Change,
+) -> Result<(), Refusal>
+    requires { IsLawful volume.now change.now }
+{
+    for predicate in predicates {
+        compare(alloc, tally, predicate, volume, change)?;
+    }
+    Ok(())
+}
+
+/// Compares what both bodies tell each predicate of a change, and makes it, if it is accepted.
+fn make(
+    alloc: Global,
+    tally: &mut Tally,
+    predicates: &[Predicate],
+    volume: &mut Volume,
+    act: Act,
+) -> Result<(), Refusal> {
+    let change = act.change(alloc)?;
+    if volume.check(&change).is_err() {
+        return Ok(());
+    }
+    compare_all(alloc, tally, predicates, volume, &change)?;
+    volume.apply(&change)?;
+    tally.changes = tally.changes.saturating_add(1);
+    Ok(())
+}
+
+fn over_examples(alloc: Global) -> Result<Tally, Refusal> {
+    let predicates = predicates(alloc)?;
+    let mut tally = Tally {
+        changes: 0,
+        messages: 0,
+        unlike: 0,
+    };
+    for acts in EXAMPLES {
+        let mut volume = Volume::new(alloc, 99);
+        for act in acts {
+            make(alloc, &mut tally, &predicates, &mut volume, act)?;
+        }
+    }
+    Ok(tally)
+}
+
+fn over_draws(alloc: Global) -> Result<Tally, Refusal> {
+    let predicates = predicates(alloc)?;
+    let mut tally = Tally {
+        changes: 0,
+        messages: 0,
+        unlike: 0,
+    };
+    let mut draws = Draws { state: 1 };
+    for _ in 0..100 {
+        let mut volume = Volume::new(alloc, 99);
+        for _ in 0..40 {
+            make(alloc, &mut tally, &predicates, &mut volume, draws.act())?;
+        }
+    }
+    Ok(tally)
+}
+
+#[test]
+fn both_bodies_tell_alike(rt: HostRuntime) -> Result<(), Fail> {
+    let examples = over_examples(rt.alloc())?;
+    assert!(rt; examples.unlike == 0 && examples.changes == 21);
+    let draws = over_draws(rt.alloc())?;
+    assert!(rt; draws.unlike == 0 && draws.changes >= 500 && draws.messages >= 500);
+    Ok(())
+}

@@ -1,0 +1,252 @@
+//! The plain body of `lq_update::step`: the difference of two whole results.
+ghost use Rattle.std.specs.Prelude.{◌≡◌, ◌+◌, ◌<◌, ◌≤◌, ◌^◌, ◌++◌, ◌==◌, length, None, IfOk, OnOk, filter, map, vec_len};
+ghost use Rattle.std.specs.List.{list_any};
+ghost use Rattle.lq_value.specs.Refusal.{IsRefusedBy};
+ghost use Rattle.lq_volume.specs.Change.{after, IsLawful};
+ghost use Rattle.lq_volume.specs.Result.{result_of};
+ghost use Rattle.lq_update.specs.declared.message.Opcode.TheVariants.{Created, Moved, Removed};
+ghost use Rattle.lq_update.specs.Diff.{alone, has_node, missing, moves, same_entry, told};
+ghost use Rattle.lq_update.specs.Updates.{numbered, step_of};
+
+use lq_predicate::Predicate;
+use lq_update::{Message, Opcode, steps_are_few};
+use lq_value::{Entry, Refusal};
+use lq_volume::{Change, Volume};
+use std::alloc::Global;
+
+/// What an accepted change tells a query, as `lq_update::step` answers it.
+///
+/// It makes the change on a copy of the volume, fetches from both and takes the difference of the
+/// two results, so it costs time and memory in the number of entries. Refused: `NoMemory`. It
+/// changes nothing.
+pub fn step(
+    alloc: Global,
+    predicate: &Predicate,
+    before: &Volume,
+    change: &Change,
+    first_seq: u64,
+    moved: bool,
+) -> Result<Vec<Message>, Refusal>
+    requires lawful { IsLawful before.now change.now }
+    requires room { first_seq + 2 < 2 ^ 64 }
+    ensures refused { IsRefusedBy result None }
+    ensures messages { IfOk result (λ messages.
+        messages.items ≡ step_of predicate.now moved before.now change.now first_seq) }
+    ensures few { IfOk result (λ messages. vec_len messages ≤ 3) }
+{
+    steps_are_few();
+    let number = before.changes() + 1;
+    let old = before.fetch(predicate)?;
+    let new = fetch_after(before, predicate, change)?;
+    let gone = missing(alloc, &old, &new)?;
+    let come = missing(alloc, &new, &old)?;
+    let told = told(alloc, moved, &gone, &come)?;
+    Ok(number_all(alloc, told, number, first_seq)?)
+}
+
+// The result after an accepted change, from a copy of the volume.
+fn fetch_after(
+    before: &Volume,
+    predicate: &Predicate,
+    change: &Change,
+) -> Result<Vec<Entry>, Refusal>
+    requires { IsLawful before.now change.now }
+    ensures refused { IsRefusedBy result None }
+    ensures entries { IfOk result (λ entries.
+        entries.items ≡ result_of predicate.now (after before.now change.now)) }
+{
+    let mut volume = before.copy()?;
+    volume.apply(change)?;
+    Ok(volume.fetch(predicate)?)
+}
+
+// The entries of one list that aren't in another.
+fn missing(alloc: Global, entries: &[Entry], others: &[Entry]) -> Result<Vec<Entry>, Refusal>
+    ensures refused { IsRefusedBy result None }
+    ensures value { IfOk result (λ kept. kept.items ≡ missing entries.now others.now) }
+{
+    let mut kept = Vec::new(alloc);
+    for entry in entries {
+        if !is_among(entry, others) {
+            kept.push(copy_of(alloc, entry)?)?;
+        }
+    }
+    Ok(kept)
+}
+
+fn is_among(entry: &Entry, others: &[Entry]) -> bool
+    ensures { result ≡ list_any (same_entry entry.now) others.now }
+{
+    others.iter().any(|other| is_same(entry, other))
+}
+
+fn is_same(a: &Entry, b: &Entry) -> bool
+    ensures { result ≡ same_entry a.now b.now }
+{
+    a.dir == b.dir && a.name == b.name && a.node == b.node
+}
+
+fn has_node(node: u64, entries: &[Entry]) -> bool
+    ensures { result ≡ has_node node entries.now }
+{
+    entries.iter().any(|entry| entry.node == node)
+}
+
+fn copy_of(alloc: Global, entry: &Entry) -> Result<Entry, Refusal>
+    ensures refused { IsRefusedBy result None }
+    ensures value { IfOk result (λ copy. copy ≡ entry.now) }
+{
+    Ok(Entry {
+        dir: entry.dir,
+        name: entry.name.copy(alloc)?,
+        node: entry.node,
+    })
+}
+
+// What is told of the entries that left and of those that came.
+fn told(
+    alloc: Global,
+    moved: bool,
+    gone: &[Entry],
+    come: &[Entry],
+) -> Result<Vec<(Opcode, Entry)>, Refusal>
+    ensures refused { IsRefusedBy result None }
+    ensures value { IfOk result (λ all. all.items ≡ told moved gone.now come.now) }
+{
+    let mut all = Vec::new(alloc);
+    put_removed(alloc, &mut all, moved, gone, come)?;
+    if moved {
+        put_moved(alloc, &mut all, gone, come)?;
+    }
+    put_created(alloc, &mut all, moved, come, gone)?;
+    Ok(all)
+}
+
+fn put_removed(
+    alloc: Global,
+    all: &mut Vec<(Opcode, Entry)>,
+    moved: bool,
+    gone: &[Entry],
+    come: &[Entry],
+) -> Result<(), Refusal>
+    ensures refused { IsRefusedBy result None }
+    ensures all { OnOk result (all.new.items
+        ≡ all.old.items ++ map (λ e. (Removed, e)) (alone moved gone.now come.now)) }
+{
+    for entry in gone {
+        if !(moved && has_node(entry.node, come)) {
+            all.push((Opcode::Removed, copy_of(alloc, entry)?))?;
+        }
+    }
+    Ok(())
+}
+
+fn put_created(
+    alloc: Global,
+    all: &mut Vec<(Opcode, Entry)>,
+    moved: bool,
+    come: &[Entry],
+    gone: &[Entry],
+) -> Result<(), Refusal>
+    ensures refused { IsRefusedBy result None }
+    ensures all { OnOk result (all.new.items
+        ≡ all.old.items ++ map (λ e. (Created, e)) (alone moved come.now gone.now)) }
+{
+    for entry in come {
+        if !(moved && has_node(entry.node, gone)) {
+            all.push((Opcode::Created, copy_of(alloc, entry)?))?;
+        }
+    }
+    Ok(())
+}
+
+fn put_moved(
+    alloc: Global,
+    all: &mut Vec<(Opcode, Entry)>,
+    gone: &[Entry],
+    come: &[Entry],
+) -> Result<(), Refusal>
+    ensures refused { IsRefusedBy result None }
+    ensures all { OnOk result (all.new.items ≡ all.old.items ++ moves gone.now come.now) }
+{
+    for from in gone {
+        put_moves_of(alloc, all, from, come)?;
+    }
+    Ok(())
+}
+
+// The moves of one entry that left: to each that came with its node.
+fn put_moves_of(
+    alloc: Global,
+    all: &mut Vec<(Opcode, Entry)>,
+    from: &Entry,
+    come: &[Entry],
+) -> Result<(), Refusal>
+    ensures refused { IsRefusedBy result None }
+    ensures all { OnOk result (all.new.items ≡ all.old.items
+        ++ map (λ f. (Moved from.now.dir from.now.name, f))
+        (filter (λ f. f.node == from.now.node) come.now)) }
+{
+    for to in come {
+        if to.node == from.node {
+            all.push((moved_from(alloc, from)?, copy_of(alloc, to)?))?;
+        }
+    }
+    Ok(())
+}
+
+fn moved_from(alloc: Global, from: &Entry) -> Result<Opcode, Refusal>
+    ensures refused { IsRefusedBy result None }
+    ensures value { IfOk result (λ op. op ≡ Moved from.now.dir from.now.name) }
+{
+    Ok(Opcode::Moved {
+        from_dir: from.dir,
+        from_name: from.name.copy(alloc)?,
+    })
+}
+
+// The messages of a change, numbered from `first_seq` on.
+fn number_all(
+    alloc: Global,
+    told: Vec<(Opcode, Entry)>,
+    change: u64,
+    first_seq: u64,
+) -> Result<Vec<Message>, Refusal>
+    requires few { length told.items ≤ 3 }
+    requires room { first_seq + 2 < 2 ^ 64 }
+    ensures refused { IsRefusedBy result None }
+    ensures messages { IfOk result (λ messages.
+        messages.items ≡ numbered first_seq change told.items) }
+{
+    let count = told.len();
+    let mut messages = Vec::new(alloc);
+    for (op, entry) in told {
+        let place = messages.len();
+        let is_last = place + 1 == count;
+        messages.push(message(op, entry, change, first_seq + place as u64, is_last))?;
+    }
+    Ok(messages)
+}
+
+fn message(op: Opcode, entry: Entry, change: u64, seq: u64, last: bool) -> Message
+    ensures { result ≡ record {
+      seq = seq;
+      change = change;
+      last = last;
+      op = op;
+      dir = entry.dir;
+      name = entry.name;
+      node = entry.node;
+    } }
+{
+    let Entry { dir, name, node } = entry;
+    Message {
+        seq,
+        change,
+        last,
+        op,
+        dir,
+        name,
+        node,
+    }
+}
