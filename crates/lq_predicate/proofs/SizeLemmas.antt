@@ -1,22 +1,22 @@
 -- The lengths of canonical texts, a piece at a time.
-use Rattle.std.proofs.Common.{◌≡◌, ◌+◌, ◌<◌, ◌≤◌, min, ℕ, List, [], ◌∷◌, ◌++◌, append_assoc, length, map, drop, get_or, refl, sym, ap, ◌∙◌, arith, Bool, true, false}
+use Rattle.std.proofs.Common.{◌≡◌, ◌+◌, ◌<◌, ◌≤◌, min, ℕ, List, [], ◌∷◌, ◌++◌, length, drop, get_or, refl, sym, ap, ◌∙◌, arith}
 use Rattle.std.proofs.lemmas.List.{at_drop_more, at_drop_all, length-append}
 use Rattle.std.proofs.lemmas.Str.{encodes-append}
-use Rattle.std.specs.Prelude.{codes, if◌then◌else◌, ◌||◌, ◌==◌}
-use Rattle.std.specs.List.{list_all}
+use Rattle.std.specs.Prelude.{codes}
 use Rattle.std.specs.Str.{encode_utf8_all}
 use Rattle.lq_value.specs.declared.element.Element.{Element}
 use Rattle.lq_value.specs.declared.element.Element.TheVariants.{Star, Any, Set}
 use Rattle.lq_value.specs.declared.element.Element.TheVariants as element
 use Rattle.lq_value.specs.declared.element.Item.{Item}
-use Rattle.lq_value.specs.declared.element.Item.TheVariants.{One, Range}
 use Rattle.lq_value.specs.declared.literal.Literal.{Literal}
 use Rattle.lq_value.specs.declared.op.Op.{Op}
 use Rattle.lq_value.specs.Pattern.{plain_elements}
-use Rattle.lq_formula.specs.Query.{Query, Compare, Not, And, Or, Queries, no_more, and_then, queries}
-use Rattle.lq_formula.specs.Canonical.{is_bare_byte, quoted, in_marks, attr_then, op_text, literal_text, pattern_text, element_then, plain_then, in_set_then, item_then, items_then, written, parts_written, others_written, canonical}
+use Rattle.lq_formula.specs.Query.{Query, Compare, And, Or, Queries, no_more, and_then, queries}
+use Rattle.lq_formula.specs.Canonical.{in_marks, attr_then, op_text, literal_text, pattern_text, element_then, plain_then, item_then, items_then, written, parts_written, others_written, canonical}
 use Rattle.lq_predicate.specs.Capped.{capped}
 use Rattle.lq_predicate.proofs.PartLemmas.{parts_here}
+use Rattle.lq_predicate.proofs.StackLemmas.{plain_elements-push}
+use Rattle.lq_predicate.proofs.CanonicalLemmas.{attr_then-append, written-append, item_then-append, element_then-append, pattern_text-append}
 
 -- ---- sums that stop at the greatest usize
 
@@ -27,41 +27,6 @@ capped_on n n' p piece rest all whole m so_far split is new = omega (arith, so_f
 -- one piece more that is not cut
 pub capped_on_exact : (n n' p piece rest all whole m : ℕ) → min (n + all) m ≡ min whole m → all ≡ piece + rest → p ≡ piece → n' ≡ min (n + p) m → min (n' + rest) m ≡ min whole m
 capped_on_exact n n' p piece rest all whole m so_far split is new = omega (arith, so_far, split, is, new)
-
--- ---- what follows a text may be cut off
-
-in_marks-append : (raw xs rest : List ℕ) → in_marks raw (xs ++ rest) ≡ in_marks raw xs ++ rest
-in_marks-append raw xs rest = ap (λ t. 34 ∷ t) (sym (append_assoc raw (34 ∷ xs) rest))
-
-attr_by : (b : Bool) (name xs rest : List ℕ) → (if b then name ++ (xs ++ rest) else in_marks (quoted name) (xs ++ rest)) ≡ (if b then name ++ xs else in_marks (quoted name) xs) ++ rest
-attr_by true name xs rest = sym (append_assoc name xs rest)
-attr_by false name xs rest = in_marks-append (quoted name) xs rest
-
-attr_then-append : (name xs rest : List ℕ) → attr_then name (xs ++ rest) ≡ attr_then name xs ++ rest
-attr_then-append name xs rest = attr_by (list_all is_bare_byte name) name xs rest
-
--- what follows a query's text may be cut off
-mutual
-  pub written-append : (q : Query) (xs rest : List ℕ) → written q (xs ++ rest) ≡ written q xs ++ rest
-  written-append (Compare attr op literal) xs rest =
-      let inner = in_marks-append (literal_text literal) (41 ∷ xs) rest in
-      let behind = sym (append_assoc (op_text op) (in_marks (literal_text literal) (41 ∷ xs)) rest) in
-      ap (λ t. 40 ∷ t) (ap (λ t. attr_then attr (op_text op ++ t)) inner ∙ ap (attr_then attr) behind
-      ∙ attr_then-append attr (op_text op ++ in_marks (literal_text literal) (41 ∷ xs)) rest)
-  written-append (Not q) xs rest = ap (λ t. 33 ∷ t) (written-append q xs rest)
-  written-append (And qs) xs rest = ap (λ t. 40 ∷ t) (parts_written-append (codes "&&") qs (41 ∷ xs) rest)
-  written-append (Or qs) xs rest = ap (λ t. 40 ∷ t) (parts_written-append (codes "||") qs (41 ∷ xs) rest)
-
-  pub parts_written-append : (separator : List ℕ) (qs : Queries) (xs rest : List ℕ) → parts_written separator qs (xs ++ rest) ≡ parts_written separator qs xs ++ rest
-  parts_written-append separator no_more xs rest = refl
-  parts_written-append separator (and_then q qs) xs rest =
-      ap (written q) (others_written-append separator qs xs rest) ∙ written-append q (others_written separator qs xs) rest
-
-  pub others_written-append : (separator : List ℕ) (qs : Queries) (xs rest : List ℕ) → others_written separator qs (xs ++ rest) ≡ others_written separator qs xs ++ rest
-  others_written-append separator no_more xs rest = refl
-  others_written-append separator (and_then q qs) xs rest =
-      ap (λ t. separator ++ t) (ap (written q) (others_written-append separator qs xs rest) ∙ written-append q (others_written separator qs xs) rest)
-      ∙ sym (append_assoc separator (written q (others_written separator qs xs)) rest)
 
 -- a comparison's text has four bytes beside those of its three parts
 pub length-comparison : (attr : List ℕ) (op : Op) (literal : Literal)
@@ -74,32 +39,6 @@ length-comparison attr op literal =
     omega (arith, a, b, d)
 
 -- ---- patterns
-
-escaped-append : (b : Bool) (c : ℕ) (xs rest : List ℕ) → (if b then 92 ∷ c ∷ (xs ++ rest) else c ∷ (xs ++ rest)) ≡ (if b then 92 ∷ c ∷ xs else c ∷ xs) ++ rest
-escaped-append true c xs rest = refl
-escaped-append false c xs rest = refl
-
-plain_then-append : (c : ℕ) (xs rest : List ℕ) → plain_then c (xs ++ rest) ≡ plain_then c xs ++ rest
-plain_then-append c xs rest = escaped-append (c == 42 || c == 63 || c == 91 || c == 92 || c == 34) c xs rest
-
-in_set_then-append : (c : ℕ) (xs rest : List ℕ) → in_set_then c (xs ++ rest) ≡ in_set_then c xs ++ rest
-in_set_then-append c xs rest = escaped-append (c == 93 || c == 91 || c == 92 || c == 94 || c == 45 || c == 34) c xs rest
-
-item_then-append : (i : Item) (xs rest : List ℕ) → item_then i (xs ++ rest) ≡ item_then i xs ++ rest
-item_then-append (One c) xs rest = in_set_then-append c xs rest
-item_then-append (Range c d) xs rest =
-    ap (λ t. in_set_then c (45 ∷ t)) (in_set_then-append d xs rest) ∙ in_set_then-append c (45 ∷ in_set_then d xs) rest
-
-items_then-append : (is : List Item) (xs rest : List ℕ) → items_then is (xs ++ rest) ≡ items_then is xs ++ rest
-items_then-append [] xs rest = refl
-items_then-append (i ∷ is) xs rest = ap (item_then i) (items_then-append is xs rest) ∙ item_then-append i (items_then is xs) rest
-
-element_then-append : (e : Element) (xs rest : List ℕ) → element_then e (xs ++ rest) ≡ element_then e xs ++ rest
-element_then-append Star xs rest = refl
-element_then-append Any xs rest = refl
-element_then-append (element.Plain c) xs rest = plain_then-append c xs rest
-element_then-append (Set true items) xs rest = ap (λ t. 91 ∷ 94 ∷ t) (items_then-append items xs rest)
-element_then-append (Set false items) xs rest = ap (λ t. 91 ∷ t) (items_then-append items xs rest)
 
 -- the bytes of characters in two parts
 length-encodes : (xs ys : List ℕ) → length (encode_utf8_all (xs ++ ys)) ≡ length (encode_utf8_all xs) + length (encode_utf8_all ys)
@@ -142,14 +81,6 @@ nothing_left f xs i none past = at_drop_all f xs i past ∙ none
 
 -- ---- characters
 
-plain_elements-push : (cs : List ℕ) (c : ℕ) → plain_elements (cs ++ c ∷ []) ≡ plain_elements cs ++ element.Plain c ∷ []
-plain_elements-push [] c = refl
-plain_elements-push (d ∷ cs) c = ap (λ t. element.Plain d ∷ t) (plain_elements-push cs c)
-
-pattern_text-append : (es fs : List Element) → pattern_text (es ++ fs) ≡ pattern_text es ++ pattern_text fs
-pattern_text-append [] fs = refl
-pattern_text-append (e ∷ es) fs = ap (element_then e) (pattern_text-append es fs) ∙ element_then-append e (pattern_text es) (pattern_text fs)
-
 plain_split : (cs : List ℕ) (c : ℕ) → length (encode_utf8_all (pattern_text (plain_elements (cs ++ c ∷ [])))) ≡ length (encode_utf8_all (pattern_text (plain_elements cs))) + length (encode_utf8_all (plain_then c []))
 plain_split cs c =
     ap (λ es. length (encode_utf8_all (pattern_text es))) (plain_elements-push cs c)
@@ -159,10 +90,6 @@ plain_split cs c =
 pub plain_on : (n n' p : ℕ) (cs : List ℕ) (c : ℕ) → n ≡ capped (length (encode_utf8_all (pattern_text (plain_elements cs)))) → p ≡ length (encode_utf8_all (plain_then c [])) → n' ≡ capped (n + p)
     → n' ≡ capped (length (encode_utf8_all (pattern_text (plain_elements (cs ++ c ∷ [])))))
 plain_on n n' p cs c so_far piece new = let e = plain_split cs c in omega (arith, so_far, piece, new, e)
-
-pub map_same : (xs : List ℕ) → map (λ x. x) xs ≡ xs
-map_same [] = refl
-map_same (x ∷ xs) = ap (λ t. x ∷ t) (map_same xs)
 
 -- ---- lists of parts
 

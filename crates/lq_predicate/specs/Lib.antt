@@ -1,7 +1,5 @@
 pub mod QueryCode
 pub mod Limits
-pub mod Node
-pub mod NodeFalls
 pub mod Tree
 pub mod TreeFalls
 pub mod MachineView

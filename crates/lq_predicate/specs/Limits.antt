@@ -23,7 +23,3 @@ abbrev mutual
 -- a predicate has depth 64 at most, and 256 comparisons at most
 abbrev pub is_predicate : Query → Bool
 is_predicate q = is_formed q && nat_le (depth q) 64 && nat_le (comparisons q) 256
-
-abbrev pub are_predicates : Queries → Bool
-are_predicates no_more = true
-are_predicates (and_then q qs) = is_predicate q && are_predicates qs

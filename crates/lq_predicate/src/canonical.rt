@@ -20,7 +20,7 @@ pub fn write(alloc: Global, predicate: &Predicate) -> Result<String, Refusal>
     ensures value { IfOk result (λ text. string_bytes text ≡ canonical predicate.now) }
 {
     let mut out = String::new(alloc);
-    predicate.put(&mut out)?;
+    predicate.tree().put(&mut out)?;
     Ok(out)
 }
 
@@ -74,7 +74,7 @@ fn put_attr(attr: &AttrName, out: &mut String) -> Result<(), Refusal>
     Ok(())
 }
 
-fn is_bare(name: &[u8]) -> bool
+pub(crate) fn is_bare(name: &[u8]) -> bool
     ensures { result ≡ list_all is_bare_byte name.now }
 {
     name.iter().all(|b| is_bare_byte(*b))

@@ -117,9 +117,7 @@ fn read_operand(
 {
     match token {
         Token::Word(word) => {
-            let Some(attr) = read_name(alloc, word)? else {
-                return Err(StepFault::Refused);
-            };
+            let attr = read_name(alloc, word)?;
             Ok(Machine {
                 below,
                 top,

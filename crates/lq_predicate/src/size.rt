@@ -1,13 +1,13 @@
 //! How many bytes the canonical text of a comparison has.
 ghost use Rattle.std.specs.Prelude.{◌≡◌, ◌≤◌, [], length};
-ghost use Rattle.std.specs.List.{list_all};
 ghost use Rattle.std.specs.Str.{chars, encode_utf8_all};
 ghost use Rattle.lq_value.specs.Elements.{elements_shown};
 ghost use Rattle.lq_value.specs.Pattern.{plain_elements};
-ghost use Rattle.lq_formula.specs.Canonical.{attr_then, canonical, element_then, in_set_then, is_bare_byte as bare, item_then, items_then, literal_text, op_text, pattern_text, plain_then, quoted};
+ghost use Rattle.lq_formula.specs.Canonical.{attr_then, canonical, element_then, in_set_then, item_then, items_then, literal_text, op_text, pattern_text, plain_then, quoted};
 ghost use Rattle.lq_formula.specs.Query.{Compare};
 ghost use Rattle.lq_predicate.specs.Capped.{capped};
 
+use crate::canonical::is_bare;
 use lq_value::{AttrName, Element, Elements, Item, Literal, Op};
 
 // The bytes of a comparison's canonical text, or the greatest usize where there are more.
@@ -38,18 +38,6 @@ fn attr_size(attr: &AttrName) -> usize
     } else {
         quoted_size(name).saturating_add(2)
     }
-}
-
-fn is_bare(name: &[u8]) -> bool
-    ensures { result ≡ list_all bare name.now }
-{
-    name.iter().all(|b| is_bare_byte(*b))
-}
-
-fn is_bare_byte(byte: u8) -> bool
-    ensures { result ≡ bare byte }
-{
-    matches!(byte, b'A'..=b'Z' | b'a'..=b'z' | b'0'..=b'9' | b'_' | b':' | b'.' | b'-')
 }
 
 // With `\` before each `\` and `"`.

@@ -5,7 +5,8 @@ use Rattle.std.proofs.lemmas.Iterator.Consumers.{YieldsList-end}
 use Rattle.lq_value.specs.Pattern.{plain_elements}
 use Rattle.lq_formula.specs.Canonical.{pattern_text}
 use Rattle.lq_predicate.specs.Capped.{capped}
-use Rattle.lq_predicate.proofs.SizeLemmas.{plain_on, map_same}
+use Rattle.lq_predicate.proofs.SizeLemmas.{plain_on}
+use Rattle.lq_predicate.proofs.StackLemmas.{map-same}
 use Rattle.lq_predicate.proofs.size.plain_text_size.Goals as goal
 
 pub loop-c-preserved : goal.loop-c-preserved
@@ -14,4 +15,4 @@ loop-c-preserved c = plain_on _ _ _ c.loop-c.yielded c.in-Some.c c.loop-c.invari
 pub returns : goal.returns
 returns c =
     let t = YieldsList-end (YieldsList-from_chars c.args.text.now c.utf8.text cc) c.loop-c.yielded _ c.loop-c.yielded_by _ _ c.in-None.is c.next.ensures.steps in
-    c.loop-c.invariant ∙ ap (λ cs. capped (length (encode_utf8_all (pattern_text (plain_elements cs))))) (sym (map_same c.loop-c.yielded) ∙ t.0)
+    c.loop-c.invariant ∙ ap (λ cs. capped (length (encode_utf8_all (pattern_text (plain_elements cs))))) (sym (map-same c.loop-c.yielded) ∙ t.0)

@@ -3,10 +3,10 @@ use Rattle.std.specs.String.{string_bytes}
 use Rattle.lq_formula.specs.Query.{queries}
 use Rattle.lq_formula.specs.Canonical.{depth, deepest}
 use Rattle.lq_formula.specs.Canonical.{parts_written, others_written}
-use Rattle.lq_predicate.proofs.predicate.+put.Given as goal
+use Rattle.lq_predicate.proofs.tree.+put.Given as goal
 
-abbrev pub decreases-Predicate::put : goal.decreases-Predicate::put
-decreases-Predicate::put l = 2 * depth l.self.now + 1
+abbrev pub decreases-Tree::put : goal.decreases-Tree::put
+decreases-Tree::put l = 2 * depth l.self.now + 1
 
 abbrev pub decreases-put_parts : goal.decreases-put_parts
 decreases-put_parts l = 2 * deepest (queries l.parts.now) + 2

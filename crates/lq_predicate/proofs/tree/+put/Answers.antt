@@ -3,7 +3,7 @@ use Rattle.lq_formula.specs.Query.{queries}
 use Rattle.lq_formula.specs.Canonical.{deepest}
 use Rattle.lq_predicate.proofs.PartLemmas.{depth_le-deepest}
 use Rattle.lq_predicate.proofs.CanonicalLemmas.{parts_begun, parts_on}
-use Rattle.lq_predicate.proofs.predicate.+put.Goals as goal
+use Rattle.lq_predicate.proofs.tree.+put.Goals as goal
 
 pub put_parts-loop-part-init : goal.put_parts-loop-part-init
 put_parts-loop-part-init t c =

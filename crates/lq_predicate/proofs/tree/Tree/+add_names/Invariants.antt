@@ -1,7 +1,7 @@
 use Rattle.std.proofs.Common.{◌≡◌, drop}
 use Rattle.lq_formula.specs.Query.{queries}
 use Rattle.lq_predicate.specs.Names.{attributes, all_attributes, each_once}
-use Rattle.lq_predicate.proofs.predicate.Predicate.+add_names.Given as goal
+use Rattle.lq_predicate.proofs.tree.Tree.+add_names.Given as goal
 
 abbrev pub invariant-loop-part : goal.invariant-loop-part
 invariant-loop-part l =

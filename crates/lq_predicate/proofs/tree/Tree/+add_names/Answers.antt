@@ -3,7 +3,7 @@ use Rattle.lq_formula.specs.Query.{queries}
 use Rattle.lq_predicate.specs.Names.{attributes, all_attributes, each_once}
 use Rattle.lq_predicate.proofs.NameLemmas.{each_once-append}
 use Rattle.lq_predicate.proofs.PartLemmas.{parts_here}
-use Rattle.lq_predicate.proofs.predicate.Predicate.+add_names.Goals as goal
+use Rattle.lq_predicate.proofs.tree.Tree.+add_names.Goals as goal
 
 pub loop-part-preserved : goal.loop-part-preserved
 loop-part-preserved t c =

@@ -1,10 +1,10 @@
 use Rattle.std.proofs.Common.{◌≡◌, ◌+◌, ◌*◌, take}
 use Rattle.lq_formula.specs.Query.{queries}
 use Rattle.lq_formula.specs.Canonical.{depth, deepest}
-use Rattle.lq_predicate.proofs.predicate.+copy.Given as goal
+use Rattle.lq_predicate.proofs.tree.+copy.Given as goal
 
-abbrev pub decreases-Predicate::copy : goal.decreases-Predicate::copy
-decreases-Predicate::copy l = 2 * depth l.self.now + 1
+abbrev pub decreases-Tree::copy : goal.decreases-Tree::copy
+decreases-Tree::copy l = 2 * depth l.self.now + 1
 
 abbrev pub decreases-copy_parts : goal.decreases-copy_parts
 decreases-copy_parts l = 2 * deepest (queries l.parts.now) + 2

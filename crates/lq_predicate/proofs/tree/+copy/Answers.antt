@@ -1,6 +1,6 @@
 use Rattle.std.proofs.Common.{arith}
 use Rattle.lq_predicate.proofs.PartLemmas.{depth_le-deepest}
-use Rattle.lq_predicate.proofs.predicate.+copy.Goals as goal
+use Rattle.lq_predicate.proofs.tree.+copy.Goals as goal
 
 pub copy_parts-copy-requires : goal.copy_parts-copy-requires
 copy_parts-copy-requires t c =
