@@ -7,5 +7,6 @@ pub mod DepthLemmas
 pub mod PlaceLemmas
 pub mod SoFarLemmas
 pub mod SizeLemmas
+pub mod FitLemmas
 pub mod LimitLemmas
 pub mod ReadLemmas

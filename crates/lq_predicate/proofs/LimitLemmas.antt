@@ -14,22 +14,24 @@ use Rattle.lq_formula.specs.Tokens.{Token, bare}
 use Rattle.lq_formula.specs.Query.{Query, And, Or, Queries, queries, both_of, either_of}
 use Rattle.lq_formula.specs.Literals.{literal_of, pattern_literal}
 use Rattle.lq_formula.specs.Grammar.{Reading, Follows, IsAnd, IsOr, IsComparison, IsNot, nesting}
-use Rattle.lq_formula.specs.Canonical.{depth, comparisons}
+use Rattle.lq_formula.specs.Canonical.{canonical, depth, comparisons}
 use Rattle.lq_formula.specs.Faults.{Reads}
 use Rattle.lq_predicate.specs.Limits.{is_formed, are_formed, part_count, is_predicate}
 
-three : (a b c : Bool) → a ≡ true → b ≡ true → c ≡ true → (a && b && c) ≡ true
-three true true true e f g = refl
-three false b c e f g = e
-three true false c e f g = f
-three true true false e f g = g
+four : (a b c d : Bool) → a ≡ true → b ≡ true → c ≡ true → d ≡ true → (a && (b && c && d)) ≡ true
+four true true true true e f g h = refl
+four false b c d e f g h = e
+four true false c d e f g h = f
+four true true false d e f g h = g
+four true true true false e f g h = h
 
 split_two : (a b : Bool) → (a && b) ≡ true → (a ≡ true) × (b ≡ true)
 split_two true b e = (refl, e)
 split_two false b e = (e, cc)
 
-pub within : (q : Query) → is_formed q ≡ true → depth q ≤ 64 → comparisons q ≤ 256 → is_predicate q ≡ true
-within q formed shallow few = three (is_formed q) (nat_le (depth q) 64) (nat_le (comparisons q) 256) formed (le-leb _ _ shallow) (le-leb _ _ few)
+pub within : (q : Query) → is_formed q ≡ true → depth q ≤ 64 → comparisons q ≤ 256 → length (canonical q) ≤ 4096 → is_predicate q ≡ true
+within q formed shallow few brief =
+    four (is_formed q) (nat_le (depth q) 64) (nat_le (comparisons q) 256) (nat_le (length (canonical q)) 4096) formed (le-leb _ _ shallow) (le-leb _ _ few) (le-leb _ _ brief)
 
 -- the parts of a formed query are formed
 pub and_formed_parts : (qs : Queries) (q : Query) → And qs ≡ q → is_formed q ≡ true → are_formed qs ≡ true
@@ -95,4 +97,4 @@ not_formed (suc n) ts q (inr (inr (a, r, is, said, h))) = ap is_formed said ∙ 
 
 -- a formula's query is a predicate
 pub reads_predicate : (text : List ℕ) (q : Query) → Reads text q → is_predicate q ≡ true
-reads_predicate text q h = within q (or_formed (IsNot nesting) (not_formed nesting) (bare h.tokens) q h.formula) h.shallow h.few
+reads_predicate text q h = within q (or_formed (IsNot nesting) (not_formed nesting) (bare h.tokens) q h.formula) h.shallow h.few h.brief

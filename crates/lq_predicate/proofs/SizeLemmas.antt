@@ -1,9 +1,10 @@
 -- The lengths of canonical texts, a piece at a time.
-use Rattle.std.proofs.Common.{◌≡◌, ◌+◌, ◌<◌, ◌≤◌, min, ℕ, List, [], ◌∷◌, ◌++◌, length, drop, get_or, refl, sym, ap, ◌∙◌, arith}
+use Rattle.std.proofs.Common.{◌≡◌, ◌+◌, ◌<◌, ◌≤◌, min, ℕ, List, [], ◌∷◌, ◌++◌, length, drop, get_or, refl, sym, ap, ◌∙◌, arith, Bool, true, false}
 use Rattle.std.proofs.lemmas.List.{at_drop_more, at_drop_all, length-append}
-use Rattle.std.proofs.lemmas.Str.{encodes-append}
+use Rattle.std.proofs.lemmas.Str.{encode_ascii, encodes-append}
+use Rattle.std.proofs.Math.Dec.{lit<}
 use Rattle.std.specs.Prelude.{codes}
-use Rattle.std.specs.Str.{encode_utf8_all}
+use Rattle.std.specs.Str.{chars, encode_utf8_all}
 use Rattle.lq_value.specs.declared.element.Element.{Element}
 use Rattle.lq_value.specs.declared.element.Element.TheVariants.{Star, Any, Set}
 use Rattle.lq_value.specs.declared.element.Element.TheVariants as element
@@ -14,6 +15,7 @@ use Rattle.lq_value.specs.Pattern.{plain_elements}
 use Rattle.lq_formula.specs.Query.{Query, Compare, And, Or, Queries, no_more, and_then, queries}
 use Rattle.lq_formula.specs.Canonical.{in_marks, attr_then, op_text, literal_text, pattern_text, element_then, plain_then, item_then, items_then, written, parts_written, others_written, canonical}
 use Rattle.lq_predicate.specs.Capped.{capped}
+use Rattle.lq_predicate.specs.Stack.{star_if, star_count, starred}
 use Rattle.lq_predicate.proofs.PartLemmas.{parts_here}
 use Rattle.lq_predicate.proofs.StackLemmas.{plain_elements-push}
 use Rattle.lq_predicate.proofs.CanonicalLemmas.{attr_then-append, written-append, item_then-append, element_then-append, pattern_text-append}
@@ -91,6 +93,20 @@ pub plain_on : (n n' p : ℕ) (cs : List ℕ) (c : ℕ) → n ≡ capped (length
     → n' ≡ capped (length (encode_utf8_all (pattern_text (plain_elements (cs ++ c ∷ [])))))
 plain_on n n' p cs c so_far piece new = let e = plain_split cs c in omega (arith, so_far, piece, new, e)
 
+length-star : (b : Bool) → length (encode_utf8_all (pattern_text (star_if b))) ≡ star_count b
+length-star true = ap (λ t. length (t ++ [])) (encode_ascii 42 (lit< tt))
+length-star false = refl
+
+-- the characters of a text, and stars beside them
+pub starred_length : (before : Bool) (text : List ℕ) (behind : Bool)
+    → length (encode_utf8_all (pattern_text (starred before text behind))) ≡ (length (encode_utf8_all (pattern_text (plain_elements (chars text)))) + star_count before) + star_count behind
+starred_length before text behind =
+    let plain = plain_elements (chars text) in
+    let rest = plain ++ star_if behind in
+    let whole = ap (λ t. length (encode_utf8_all t)) (pattern_text-append (star_if before) rest) ∙ length-encodes (pattern_text (star_if before)) (pattern_text rest) in
+    let parts = ap (λ t. length (encode_utf8_all t)) (pattern_text-append plain (star_if behind)) ∙ length-encodes (pattern_text plain) (pattern_text (star_if behind)) in
+    omega (arith, whole, parts, length-star before, length-star behind)
+
 -- ---- lists of parts
 
 -- the bytes of the parts, and of two beside each
@@ -135,3 +151,10 @@ begun_and qs q is some = let e = and_size qs some in let k = ap (λ r. length (c
 
 pub begun_or : (qs : List Query) (q : Query) → Or (queries qs) ≡ q → 0 < length qs → capped (0 + parts_size (queries qs)) ≡ capped (length (canonical q))
 begun_or qs q is some = let e = or_size qs some in let k = ap (λ r. length (canonical r)) is in omega (arith, e, k)
+
+-- two predicates joined have four bytes beside their own
+pub and_two_size : (lower upper : Query) → length (canonical (And (queries (lower ∷ upper ∷ [])))) ≡ (length (canonical lower) + length (canonical upper)) + 4
+and_two_size lower upper = let e = and_size (lower ∷ upper ∷ []) (omega arith) in omega (arith, e)
+
+pub or_two_size : (lower upper : Query) → length (canonical (Or (queries (lower ∷ upper ∷ [])))) ≡ (length (canonical lower) + length (canonical upper)) + 4
+or_two_size lower upper = let e = or_size (lower ∷ upper ∷ []) (omega arith) in omega (arith, e)

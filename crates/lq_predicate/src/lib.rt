@@ -8,6 +8,7 @@
 
 mod attributes;
 mod canonical;
+mod fitting;
 mod item;
 mod machine;
 mod operand;

@@ -12,8 +12,8 @@ use std::marker::Model;
 /// of such.
 ///
 /// Each literal suits its operator, and each list has two parts or more. Its depth is at most 64 (a
-/// comparison has depth 1, every other predicate 1 more than its deepest part), and it has at most
-/// 256 comparisons. A contract sees it as a `Query`.
+/// comparison has depth 1, every other predicate 1 more than its deepest part), it has at most 256
+/// comparisons, and its canonical text has at most 4,096 bytes. A contract sees it as a `Query`.
 #[derive(Debug, Drop)]
 pub struct Predicate {
     tree: Tree,
@@ -37,17 +37,7 @@ impl Model for Predicate {
 impl Predicate {
     ghost use Rattle.lq_formula.specs.Query.{Compare};
     ghost use Rattle.lq_formula.specs.Canonical.{comparisons};
-    ghost use Rattle.lq_predicate.specs.Limits.{is_formed, is_predicate};
-
-    /// One comparison. It takes no memory.
-    pub fn compare(attr: AttrName, op: Op, literal: Literal) -> Predicate
-        requires { IsTrue (suits literal op) }
-        ensures { result ≡ Compare attr op literal }
-    {
-        Predicate {
-            tree: Tree::compare(attr, op, literal),
-        }
-    }
+    ghost use Rattle.lq_predicate.specs.Limits.{is_formed, is_predicate, is_within};
 
     /// Another predicate that is the same. Refused: `NoMemory`.
     pub fn copy(&self, alloc: Global) -> Result<Predicate, Refusal>
@@ -57,6 +47,17 @@ impl Predicate {
         Ok(Predicate {
             tree: self.tree.copy(alloc)?,
         })
+    }
+
+    // One comparison.
+    pub(crate) fn compare(attr: AttrName, op: Op, literal: Literal) -> Predicate
+        requires suits { IsTrue (suits literal op) }
+        requires within { IsTrue (is_within (Compare attr op literal)) }
+        ensures { result ≡ Compare attr op literal }
+    {
+        Predicate {
+            tree: Tree::compare(attr, op, literal),
+        }
     }
 
     // The predicate that a tree within the limits is.

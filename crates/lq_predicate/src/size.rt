@@ -1,22 +1,31 @@
 //! How many bytes the canonical text of a comparison has.
-ghost use Rattle.std.specs.Prelude.{◌≡◌, ◌≤◌, [], length};
+ghost use Rattle.std.specs.Prelude.{◌≡◌, ◌≤◌, ◌+◌, [], length};
 ghost use Rattle.std.specs.Str.{chars, encode_utf8_all};
 ghost use Rattle.lq_value.specs.Elements.{elements_shown};
 ghost use Rattle.lq_value.specs.Pattern.{plain_elements};
 ghost use Rattle.lq_formula.specs.Canonical.{attr_then, canonical, element_then, in_set_then, item_then, items_then, literal_text, op_text, pattern_text, plain_then, quoted};
 ghost use Rattle.lq_formula.specs.Query.{Compare};
 ghost use Rattle.lq_predicate.specs.Capped.{capped};
+ghost use Rattle.lq_predicate.specs.Stack.{star_count, starred};
 
 use crate::canonical::is_bare;
-use lq_value::{AttrName, Element, Elements, Item, Literal, Op};
+use lq_value::{AttrName, Element, Elements, Item, Literal, Op, Pattern};
 
 // The bytes of a comparison's canonical text, or the greatest usize where there are more.
 pub(crate) fn comparison_size(attr: &AttrName, op: Op, literal: &Literal) -> usize
     ensures { result ≡ capped (length (canonical (Compare attr.now op literal.now))) }
 {
+    size_with(attr, op, literal_size(literal))
+}
+
+// The same, of a literal whose raw text has so many bytes.
+pub(crate) fn size_with(attr: &AttrName, op: Op, literal: usize) -> usize
+    ensures { result
+        ≡ capped (length (attr_then attr.now []) + length (op_text op) + literal + 4) }
+{
     attr_size(attr)
         .saturating_add(op_size(op))
-        .saturating_add(literal_size(literal))
+        .saturating_add(literal)
         .saturating_add(4)
 }
 
@@ -41,7 +50,7 @@ fn attr_size(attr: &AttrName) -> usize
 }
 
 // With `\` before each `\` and `"`.
-fn quoted_size(bytes: &[u8]) -> usize
+pub(crate) fn quoted_size(bytes: &[u8]) -> usize
     ensures { result ≡ capped (length (quoted bytes.now)) }
 {
     let mut size: usize = 0;
@@ -61,11 +70,35 @@ fn literal_size(literal: &Literal) -> usize
 {
     match literal {
         Literal::Plain(text) => quoted_size(text.as_str().as_bytes()),
-        Literal::Pattern(pattern) => match pattern.elements() {
-            Elements::Text(text) => plain_text_size(text),
-            Elements::List(elements) => list_size(elements),
-        },
+        Literal::Pattern(pattern) => pattern_size(pattern),
     }
+}
+
+// The source of a pattern.
+pub(crate) fn pattern_size(pattern: &Pattern) -> usize
+    ensures { result ≡ capped (length (encode_utf8_all (pattern_text pattern.now))) }
+{
+    match pattern.elements() {
+        Elements::Text(text) => plain_text_size(text),
+        Elements::List(elements) => list_size(elements),
+    }
+}
+
+// The pattern with the characters of a text and a star before them, behind them or both.
+#[tactic(auto, using(crate::proofs::SizeLemmas::starred_length))]
+pub(crate) fn starred_size(before: bool, text: &str, behind: bool) -> usize
+    ensures { result
+        ≡ capped (length (encode_utf8_all (pattern_text (starred before text.now behind)))) }
+{
+    plain_text_size(text)
+        .saturating_add(star_size(before))
+        .saturating_add(star_size(behind))
+}
+
+fn star_size(wanted: bool) -> usize
+    ensures { result ≡ star_count wanted }
+{
+    if wanted { 1 } else { 0 }
 }
 
 // The pattern whose elements are the characters of a text.

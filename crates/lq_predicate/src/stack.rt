@@ -8,6 +8,7 @@ ghost use Rattle.lq_predicate.specs.Stacked.{Stacked, new_stack};
 ghost use Rattle.lq_predicate.specs.Stack.{pushed, attr_pushed, text_pushed, op_pushed, after_comparison, after_join, after_not, only_part, refusal_at};
 ghost use Rattle.lq_predicate.specs.declared.item.Item.TheVariants.{Part};
 
+use crate::fitting::{fit_joined, fits_not};
 use crate::item::Item;
 use crate::operand::Operand;
 use crate::predicate::Predicate;
@@ -21,12 +22,6 @@ use std::marker::Model;
 
 /// The longest text that is pushed, in bytes.
 const MAX_TEXT: usize = 4096;
-
-/// The greatest depth of a predicate.
-const MAX_DEPTH: usize = 64;
-
-/// The most comparisons of a predicate.
-const MAX_COMPARISONS: u64 = 256;
 
 /// A stack that takes attributes, values and operators in postfix order, as BQuery does, and gives
 /// a predicate.
@@ -275,7 +270,7 @@ impl Stack {
             return Err(self.misfit());
         };
         let tree = part.tree();
-        if !tree.is_shallow(MAX_DEPTH - 1) {
+        if !fits_not(tree) {
             return Err(self.misfit());
         }
         Ok(Predicate::of(tree.copy(alloc)?.negated(alloc, 1)?))
@@ -300,10 +295,7 @@ impl Stack {
             return Err(self.misfit());
         };
         let (lower, upper) = (lower.tree(), upper.tree());
-        if !lower.is_shallow(MAX_DEPTH - 1) || !upper.is_shallow(MAX_DEPTH - 1) {
-            return Err(self.misfit());
-        }
-        if lower.comparisons() + upper.comparisons() > MAX_COMPARISONS {
+        if !fit_joined(lower, upper) {
             return Err(self.misfit());
         }
         let mut parts = Vec::new(alloc);
