@@ -1,5 +1,5 @@
 //! Writing predicates.
-ghost use Rattle.std.specs.Prelude.{encode_utf8, ◌≡◌, ◌++◌, ◌∷◌, [], None, IfOk, true};
+ghost use Rattle.std.specs.Prelude.{encode_utf8, ◌≡◌, ◌++◌, ◌∷◌, [], None, IfOk, IsTrue, true};
 ghost use Rattle.std.specs.List.{list_all};
 ghost use Rattle.std.specs.String.{string_bytes};
 ghost use Rattle.std.specs.Str.{chars, encode_utf8_all};
@@ -7,6 +7,7 @@ ghost use Rattle.lq_value.specs.Elements.{elements_shown};
 ghost use Rattle.lq_value.specs.Pattern.{plain_elements};
 ghost use Rattle.lq_value.specs.Refusal.{IsRefusedBy};
 ghost use Rattle.lq_formula.specs.Query.{Compare};
+ghost use Rattle.lq_predicate.specs.Limits.{is_predicate};
 ghost use Rattle.lq_formula.specs.Canonical.{attr_then, canonical, element_then, in_set_then, is_bare_byte, item_then, items_then, literal_text, op_text, pattern_text, plain_then, quoted};
 
 use crate::predicate::Predicate;
@@ -14,10 +15,12 @@ use lq_value::{AttrName, Element, Elements, Item, Literal, Op, Refusal};
 use std::alloc::Global;
 
 /// The canonical text of a predicate: each comparison, `And` and `Or` in parentheses, each literal
-/// between `"` marks, and no white space but what names and literals have. Refused: `NoMemory`.
+/// between `"` marks, and no white space but what names and literals have. It has at most 4,096
+/// bytes, as the predicate is within its limits. Refused: `NoMemory`.
 pub fn write(alloc: Global, predicate: &Predicate) -> Result<String, Refusal>
-    ensures refused { IsRefusedBy result None }
+    ensures valid { IsTrue (is_predicate predicate.now) }
     ensures value { IfOk result (λ text. string_bytes text ≡ canonical predicate.now) }
+    ensures refused { IsRefusedBy result None }
 {
     let mut out = String::new(alloc);
     predicate.tree().put(&mut out)?;

@@ -71,6 +71,7 @@ impl Predicate {
     // What it says, which is within the limits.
     pub(crate) fn tree(&self) -> &Tree
         ensures value { result.now ≡ self.now }
+        ensures valid { IsTrue (is_predicate self.now) }
         ensures formed { IsTrue (is_formed self.now) }
         ensures few { comparisons self.now ≤ 256 }
     {
