@@ -1,111 +1,49 @@
 -- The lengths of canonical texts, a piece at a time.
-use Rattle.std.proofs.Common.{◌≡◌, ◌+◌, ◌<◌, ◌≤◌, min, ℕ, List, [], ◌∷◌, ◌++◌, length, drop, get_or, refl, sym, ap, ◌∙◌, arith, Bool, true, false}
-use Rattle.std.proofs.lemmas.List.{at_drop_more, at_drop_all, length-append}
+use Rattle.std.proofs.Common.{◌≡◌, ◌+◌, ◌<◌, ℕ, List, [], ◌∷◌, ◌++◌, length, drop, get_or, refl, ap, ◌∙◌, arith, Bool, true, false}
+use Rattle.std.proofs.lemmas.List.{length-append}
 use Rattle.std.proofs.lemmas.Str.{encode_ascii, encodes-append}
 use Rattle.std.proofs.Math.Dec.{lit<}
-use Rattle.std.specs.Prelude.{codes}
+use Rattle.std.specs.Prelude.{codes, if◌then◌else◌, ◌||◌, ◌==◌}
 use Rattle.std.specs.Str.{chars, encode_utf8_all}
 use Rattle.lq_value.specs.declared.element.Element.{Element}
-use Rattle.lq_value.specs.declared.element.Element.TheVariants.{Star, Any, Set}
-use Rattle.lq_value.specs.declared.element.Element.TheVariants as element
-use Rattle.lq_value.specs.declared.element.Item.{Item}
-use Rattle.lq_value.specs.declared.literal.Literal.{Literal}
-use Rattle.lq_value.specs.declared.op.Op.{Op}
 use Rattle.lq_value.specs.Pattern.{plain_elements}
-use Rattle.lq_formula.specs.Query.{Query, Compare, And, Or, Queries, no_more, and_then, queries}
-use Rattle.lq_formula.specs.Canonical.{in_marks, attr_then, op_text, literal_text, pattern_text, element_then, plain_then, item_then, items_then, written, parts_written, others_written, canonical}
-use Rattle.lq_predicate.specs.Capped.{capped}
+use Rattle.lq_formula.specs.Query.{Query, And, Or, Queries, no_more, and_then, queries}
+use Rattle.lq_formula.specs.Canonical.{pattern_text, plain_then, written, parts_written, others_written, canonical}
+use Rattle.lq_formula.specs.Capped.{capped}
 use Rattle.lq_predicate.specs.Stack.{star_if, star_count, starred}
 use Rattle.lq_predicate.proofs.PartLemmas.{parts_here}
-use Rattle.lq_predicate.proofs.StackLemmas.{plain_elements-push}
-use Rattle.lq_predicate.proofs.CanonicalLemmas.{attr_then-append, written-append, item_then-append, element_then-append, pattern_text-append}
+use Rattle.lq_predicate.proofs.CanonicalLemmas.{written-append}
 
--- ---- sums that stop at the greatest usize
+-- ---- a pattern with stars
 
--- one piece more
-pub capped_on : (n n' p piece rest all whole m : ℕ) → min (n + all) m ≡ min whole m → all ≡ piece + rest → p ≡ min piece m → n' ≡ min (n + p) m → min (n' + rest) m ≡ min whole m
-capped_on n n' p piece rest all whole m so_far split is new = omega (arith, so_far, split, is, new)
+plain_then-append : (b : Bool) (c : ℕ) (xs rest : List ℕ) → (if b then 92 ∷ c ∷ (xs ++ rest) else c ∷ (xs ++ rest)) ≡ (if b then 92 ∷ c ∷ xs else c ∷ xs) ++ rest
+plain_then-append true c xs rest = refl
+plain_then-append false c xs rest = refl
 
--- one piece more that is not cut
-pub capped_on_exact : (n n' p piece rest all whole m : ℕ) → min (n + all) m ≡ min whole m → all ≡ piece + rest → p ≡ piece → n' ≡ min (n + p) m → min (n' + rest) m ≡ min whole m
-capped_on_exact n n' p piece rest all whole m so_far split is new = omega (arith, so_far, split, is, new)
-
--- a comparison's text has four bytes beside those of its three parts
-pub length-comparison : (attr : List ℕ) (op : Op) (literal : Literal)
-    → length (canonical (Compare attr op literal)) ≡ ((length (attr_then attr []) + length (op_text op)) + length (literal_text literal)) + 4
-length-comparison attr op literal =
-    let behind = op_text op ++ in_marks (literal_text literal) (41 ∷ []) in
-    let a = ap length (attr_then-append attr [] behind) ∙ length-append (attr_then attr []) behind in
-    let b = length-append (op_text op) (in_marks (literal_text literal) (41 ∷ [])) in
-    let d = length-append (literal_text literal) (34 ∷ 41 ∷ []) in
-    omega (arith, a, b, d)
-
--- ---- patterns
-
--- the bytes of characters in two parts
-length-encodes : (xs ys : List ℕ) → length (encode_utf8_all (xs ++ ys)) ≡ length (encode_utf8_all xs) + length (encode_utf8_all ys)
-length-encodes xs ys = ap length (encodes-append xs ys) ∙ length-append (encode_utf8_all xs) (encode_utf8_all ys)
-
-element_split : (e : Element) (es : List Element) → length (encode_utf8_all (pattern_text (e ∷ es))) ≡ length (encode_utf8_all (element_then e [])) + length (encode_utf8_all (pattern_text es))
-element_split e es = ap (λ t. length (encode_utf8_all t)) (element_then-append e [] (pattern_text es)) ∙ length-encodes (element_then e []) (pattern_text es)
-
-item_split : (i : Item) (is : List Item) → length (encode_utf8_all (items_then (i ∷ is) [])) ≡ length (encode_utf8_all (item_then i [])) + length (encode_utf8_all (items_then is []))
-item_split i is = ap (λ t. length (encode_utf8_all t)) (item_then-append i [] (items_then is [])) ∙ length-encodes (item_then i []) (items_then is [])
-
-pub list_on : (n n' p : ℕ) (es : List Element) (i : ℕ) (e : Element) (whole : ℕ) → i < length es → e ≡ get_or es i e
-    → capped (n + length (encode_utf8_all (pattern_text (drop i es)))) ≡ capped whole → p ≡ capped (length (encode_utf8_all (element_then e []))) → n' ≡ capped (n + p)
-    → capped (n' + length (encode_utf8_all (pattern_text (drop (i + 1) es)))) ≡ capped whole
-list_on n n' p es i e whole below is so_far piece new =
-    let rest = drop (i + 1) es in
-    let here : length (encode_utf8_all (pattern_text (drop i es))) ≡ length (encode_utf8_all (pattern_text (e ∷ rest))) =
-    at_drop_more (λ l. length (encode_utf8_all (pattern_text l))) es i e below ∙ ap (λ x. length (encode_utf8_all (pattern_text (x ∷ rest)))) (sym is) in
-    capped_on n n' p (length (encode_utf8_all (element_then e []))) (length (encode_utf8_all (pattern_text rest))) (length (encode_utf8_all (pattern_text (drop i es)))) whole _ so_far (here ∙ element_split e rest) piece new
-
-pub items_on : (n n' p : ℕ) (is : List Item) (i : ℕ) (d : Item) (whole : ℕ) → i < length is
-    → capped (n + length (encode_utf8_all (items_then (drop i is) []))) ≡ capped whole → p ≡ length (encode_utf8_all (item_then (get_or is i d) [])) → n' ≡ capped (n + p)
-    → capped (n' + length (encode_utf8_all (items_then (drop (i + 1) is) []))) ≡ capped whole
-items_on n n' p is i d whole below so_far piece new =
-    let rest = drop (i + 1) is in
-    let e = get_or is i d in
-    let here : length (encode_utf8_all (items_then (drop i is) [])) ≡ length (encode_utf8_all (items_then (e ∷ rest) [])) =
-    at_drop_more (λ l. length (encode_utf8_all (items_then l []))) is i d below in
-    capped_on_exact n n' p (length (encode_utf8_all (item_then e []))) (length (encode_utf8_all (items_then rest []))) (length (encode_utf8_all (items_then (drop i is) []))) whole _ so_far (here ∙ item_split e rest) piece new
-
--- nothing is left
-pub capped_end : (n rest whole m : ℕ) → min (n + rest) m ≡ min whole m → rest ≡ 0 → n ≤ m → n ≡ min whole m
-capped_end n rest whole m so_far none bound = omega (arith, so_far, none, bound)
-
-pub capped_bound : (n n' m : ℕ) → n' ≡ min n m → n' ≤ m
-capped_bound n n' m e = omega (arith, e)
-
-pub nothing_left : {A : Type 0} (f : List A → ℕ) (xs : List A) (i : ℕ) → f [] ≡ 0 → length xs ≤ i → f (drop i xs) ≡ 0
-nothing_left f xs i none past = at_drop_all f xs i past ∙ none
-
--- ---- characters
-
-plain_split : (cs : List ℕ) (c : ℕ) → length (encode_utf8_all (pattern_text (plain_elements (cs ++ c ∷ [])))) ≡ length (encode_utf8_all (pattern_text (plain_elements cs))) + length (encode_utf8_all (plain_then c []))
-plain_split cs c =
-    ap (λ es. length (encode_utf8_all (pattern_text es))) (plain_elements-push cs c)
-    ∙ ap (λ t. length (encode_utf8_all t)) (pattern_text-append (plain_elements cs) (element.Plain c ∷ []))
-    ∙ length-encodes (pattern_text (plain_elements cs)) (plain_then c [])
-
-pub plain_on : (n n' p : ℕ) (cs : List ℕ) (c : ℕ) → n ≡ capped (length (encode_utf8_all (pattern_text (plain_elements cs)))) → p ≡ length (encode_utf8_all (plain_then c [])) → n' ≡ capped (n + p)
-    → n' ≡ capped (length (encode_utf8_all (pattern_text (plain_elements (cs ++ c ∷ [])))))
-plain_on n n' p cs c so_far piece new = let e = plain_split cs c in omega (arith, so_far, piece, new, e)
+-- the characters of a text, and then other elements
+plain_text-append : (cs : List ℕ) (es : List Element) → pattern_text (plain_elements cs ++ es) ≡ pattern_text (plain_elements cs) ++ pattern_text es
+plain_text-append [] es = refl
+plain_text-append (c ∷ cs) es =
+    ap (plain_then c) (plain_text-append cs es)
+    ∙ plain_then-append (c == 42 || c == 63 || c == 91 || c == 92 || c == 34) c (pattern_text (plain_elements cs)) (pattern_text es)
 
 length-star : (b : Bool) → length (encode_utf8_all (pattern_text (star_if b))) ≡ star_count b
 length-star true = ap (λ t. length (t ++ [])) (encode_ascii 42 (lit< tt))
 length-star false = refl
 
+star_first : (b : Bool) (es : List Element) → length (encode_utf8_all (pattern_text (star_if b ++ es))) ≡ star_count b + length (encode_utf8_all (pattern_text es))
+star_first true es = let e = ap (λ t. length (t ++ encode_utf8_all (pattern_text es))) (encode_ascii 42 (lit< tt)) in omega (arith, e)
+star_first false es = omega arith
+
 -- the characters of a text, and stars beside them
 pub starred_length : (before : Bool) (text : List ℕ) (behind : Bool)
     → length (encode_utf8_all (pattern_text (starred before text behind))) ≡ (length (encode_utf8_all (pattern_text (plain_elements (chars text)))) + star_count before) + star_count behind
 starred_length before text behind =
-    let plain = plain_elements (chars text) in
-    let rest = plain ++ star_if behind in
-    let whole = ap (λ t. length (encode_utf8_all t)) (pattern_text-append (star_if before) rest) ∙ length-encodes (pattern_text (star_if before)) (pattern_text rest) in
-    let parts = ap (λ t. length (encode_utf8_all t)) (pattern_text-append plain (star_if behind)) ∙ length-encodes (pattern_text plain) (pattern_text (star_if behind)) in
-    omega (arith, whole, parts, length-star before, length-star behind)
+    let plain = pattern_text (plain_elements (chars text)) in
+    let star = pattern_text (star_if behind) in
+    let first = star_first before (plain_elements (chars text) ++ star_if behind) in
+    let parts = ap (λ t. length (encode_utf8_all t)) (plain_text-append (chars text) (star_if behind)) ∙ ap length (encodes-append plain star) ∙ length-append (encode_utf8_all plain) (encode_utf8_all star) in
+    omega (arith, first, parts, length-star behind)
 
 -- ---- lists of parts
 

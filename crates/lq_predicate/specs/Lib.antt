@@ -5,7 +5,6 @@ pub mod TreeFalls
 pub mod MachineView
 pub mod PlainPlace
 pub mod Refusals
-pub mod Capped
 pub mod Truth
 pub mod Names
 pub mod Operand

@@ -15,7 +15,6 @@ mod operand;
 mod predicate;
 mod raw;
 mod reader;
-mod size;
 mod stack;
 mod stack_comparison;
 mod stack_op;

@@ -5,14 +5,13 @@ ghost use Rattle.lq_formula.specs.Canonical.{canonical, comparisons, depth, part
 ghost use Rattle.lq_formula.specs.Machine.{negate};
 ghost use Rattle.lq_formula.specs.Query.{Compare, both_of, either_of, queries};
 ghost use Rattle.lq_value.specs.Refusal.{IsRefusedBy};
-ghost use Rattle.lq_predicate.specs.Capped.{capped};
+ghost use Rattle.lq_formula.specs.Capped.{capped};
 ghost use Rattle.lq_predicate.specs.Limits.{is_formed};
 ghost use Rattle.lq_predicate.specs.Names.{attributes, each_once, is_among};
 ghost use Rattle.lq_predicate.specs.Truth.{truth};
 
-use crate::canonical::put_comparison;
-use crate::size::comparison_size;
 use crate::truth::Row;
+use lq_formula::{comparison_size, put_comparison};
 use lq_value::{AttrName, Literal, Op, Refusal, compare};
 use std::alloc::{AllocError, Global};
 use std::marker::Model;

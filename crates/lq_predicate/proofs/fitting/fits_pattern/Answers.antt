@@ -1,6 +1,6 @@
 use Rattle.lq_value.specs.declared.literal.Literal.TheVariants as literal
-use Rattle.lq_predicate.proofs.FitLemmas.{comparison_fits}
+use Rattle.lq_predicate.proofs.FitLemmas.{capped_test}
 use Rattle.lq_predicate.proofs.fitting.fits_pattern.Goals as goal
 
 pub returns : goal.returns
-returns c = comparison_fits c.args.attr.now c.args.op (literal.Pattern c.args.pattern.now) _ _ c.pattern_size.ensures c.size_with.ensures
+returns c = capped_test _ _ (c.comparison_size_with.ensures (literal.Pattern c.args.pattern.now) c.pattern_size.ensures)
