@@ -68,7 +68,7 @@ fn at_most(alloc: Global, number: &Push) -> Result<String, Refusal> {
 }
 
 #[test]
-fn postfix_stack_writes(rt: HostRuntime) -> Result<(), Fail> {
+fn scenario_postfix_stack(rt: HostRuntime) -> Result<(), Fail> {
     let mut stack = Stack::new(rt.alloc());
     for push in &SIZE_AND_NAME {
         apply(&mut stack, push)?;
@@ -79,7 +79,7 @@ fn postfix_stack_writes(rt: HostRuntime) -> Result<(), Fail> {
 }
 
 #[test]
-fn postfix_stack_names(rt: HostRuntime) -> Result<(), Fail> {
+fn scenario_postfix_stack_names(rt: HostRuntime) -> Result<(), Fail> {
     let mut stack = Stack::new(rt.alloc());
     for push in &SIZE_AND_NAME {
         apply(&mut stack, push)?;
@@ -93,7 +93,7 @@ fn postfix_stack_names(rt: HostRuntime) -> Result<(), Fail> {
 }
 
 #[test]
-fn postfix_stack_refuses(rt: HostRuntime) -> Result<(), Fail> {
+fn scenario_postfix_stack_refusals(rt: HostRuntime) -> Result<(), Fail> {
     let mut stack = Stack::new(rt.alloc());
     assert_eq!(rt; stack.finish().err(), Some(Refusal::BadQuery { place: 0 }));
     apply(&mut stack, &Push::Attr("a"))?;
@@ -107,7 +107,7 @@ fn postfix_stack_refuses(rt: HostRuntime) -> Result<(), Fail> {
 }
 
 #[test]
-fn moved_fold_and_pushes(rt: HostRuntime) -> Result<(), Fail> {
+fn scenario_moved_pushes(rt: HostRuntime) -> Result<(), Fail> {
     for (number, text) in &NUMBERS {
         let found = at_most(rt.alloc(), number)?;
         assert_eq!(rt; found.as_str(), *text);
