@@ -3,9 +3,9 @@ ghost use Rattle.std.specs.Prelude.{◌≡◌, ◌≤◌, ◌*◌, IfOk, OnOk, I
 ghost use Rattle.lq_core.specs.Held.{is_live};
 
 use crate::Sub;
-use lq_predicate::Predicate;
+use lq_predicate::read;
 use lq_update::{Cause, Parcel, steps_are_few};
-use lq_value::{AttrName, Kind, Literal, Name, Op, Pattern, Refusal};
+use lq_value::{Kind, Name, Refusal};
 use lq_volume::{Change, Volume, changes_are_counted};
 use std::alloc::Global;
 use std::test::Fail;
@@ -14,8 +14,7 @@ use std::test::Fail;
 fn opened(alloc: Global) -> Result<Sub, Refusal>
     ensures { IfOk result (λ sub. (sub.held.sent ≡ 0) × IsTrue (is_live sub.held)) }
 {
-    let every = Literal::Pattern(Pattern::read(alloc, "*")?);
-    let predicate = Predicate::compare(AttrName::read(alloc, "name")?, Op::Eq, every);
+    let predicate = read(alloc, "name=*")?;
     Ok(Sub::new(alloc, &predicate, 0, 2, false)?)
 }
 

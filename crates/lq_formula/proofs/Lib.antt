@@ -20,3 +20,5 @@ pub mod RawLemmas
 pub mod ExactLemmas
 pub mod ProperLemmas
 pub mod GoodLemmas
+pub mod WritingLemmas
+pub mod SizeLemmas

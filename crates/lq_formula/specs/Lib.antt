@@ -10,3 +10,4 @@ pub mod Faults
 pub mod Reading
 pub mod Limits
 pub mod Laws
+pub mod Capped

@@ -1,8 +1,10 @@
-//! Formulas: their tokens in code, and their grammar, reading and canonical text as definitions.
+//! Formulas: their tokens and the canonical text of comparisons in code, and their grammar, reading
+//! and canonical text as definitions.
 //!
 //! A contract sees a text as its bytes, its tokens as a list (`specs/Tokens`) and what they say
 //! as a `Query` (`specs/Query`, `specs/Grammar`); `specs/Reading` reads it, `specs/Faults` has the
-//! faults and `specs/Canonical` writes it. Nothing here waits. Begin with `token`, then `laws`.
+//! faults and `specs/Canonical` writes it. Nothing here waits. Begin with `token`, then `laws`, then
+//! `writing`.
 #![tactic(auto)]
 
 mod count;
@@ -10,9 +12,11 @@ mod laws;
 mod lexer;
 mod piece;
 mod raw;
+mod size;
 #[cfg(test)]
 mod tests;
 mod token;
+mod writing;
 
 pub use laws::{
     any_room, canonical_is_read, faults_are_found, formulas_are_read, patterns_are_good,
@@ -20,4 +24,6 @@ pub use laws::{
 };
 pub use lexer::next_token;
 pub use raw::{is_name, read_literal, read_name};
+pub use size::{characters_size, comparison_size, comparison_size_with, pattern_size, plain_size};
 pub use token::{Left, Placed, Token};
+pub use writing::put_comparison;

@@ -2,12 +2,11 @@ pub mod PartLemmas
 pub mod NameLemmas
 pub mod StackLemmas
 pub mod CanonicalLemmas
-pub mod UnescapedLemmas
 pub mod WeightLemmas
-pub mod NameOfLemmas
 pub mod DepthLemmas
 pub mod PlaceLemmas
 pub mod SoFarLemmas
 pub mod SizeLemmas
+pub mod FitLemmas
 pub mod LimitLemmas
 pub mod ReadLemmas

@@ -1,7 +1,7 @@
 -- The parts of a query within the limits are within them; what a formula reads as is formed.
 use Rattle.std.proofs.Common.{◌≡◌, ◌≤◌, ◌<◌, ℕ, zero, suc, Bool, true, false, ◌&&◌, List, [], ◌∷◌, length, get_or, Some, refl, ap, ◌∙◌, subst, arith, inl, inr}
 use Rattle.std.specs.Prelude.{nat_le}
-use Rattle.std.proofs.lemmas.Bool.{le-leb, leb-true}
+use Rattle.std.proofs.lemmas.Bool.{le-leb}
 use Rattle.lq_value.specs.Compare.{suits}
 use Rattle.lq_value.specs.declared.op.Op.{Op}
 use Rattle.lq_value.specs.declared.op.Op.TheVariants.{Eq, Ne, Lt, Le, Gt, Ge}
@@ -11,62 +11,39 @@ use Rattle.lq_value.specs.declared.element.Element.{Element}
 use Rattle.lq_value.specs.Source.{pattern_of}
 use Rattle.std.specs.Prelude.{Result, Ok, Err}
 use Rattle.lq_formula.specs.Tokens.{Token, bare}
-use Rattle.lq_formula.specs.Query.{Query, And, Or, Queries, no_more, and_then, queries, both_of, either_of}
+use Rattle.lq_formula.specs.Query.{Query, And, Or, Queries, queries, both_of, either_of}
 use Rattle.lq_formula.specs.Literals.{literal_of, pattern_literal}
 use Rattle.lq_formula.specs.Grammar.{Reading, Follows, IsAnd, IsOr, IsComparison, IsNot, nesting}
-use Rattle.lq_formula.specs.Canonical.{depth, deepest, comparisons, all_comparisons}
+use Rattle.lq_formula.specs.Canonical.{canonical, depth, comparisons}
 use Rattle.lq_formula.specs.Faults.{Reads}
-use Rattle.lq_predicate.specs.Limits.{is_formed, are_formed, part_count, is_predicate, are_predicates}
+use Rattle.lq_predicate.specs.Limits.{is_formed, are_formed, part_count, is_predicate}
 
-three : (a b c : Bool) → a ≡ true → b ≡ true → c ≡ true → (a && b && c) ≡ true
-three true true true e f g = refl
-three false b c e f g = e
-three true false c e f g = f
-three true true false e f g = g
+four : (a b c d : Bool) → a ≡ true → b ≡ true → c ≡ true → d ≡ true → (a && (b && c && d)) ≡ true
+four true true true true e f g h = refl
+four false b c d e f g h = e
+four true false c d e f g h = f
+four true true false d e f g h = g
+four true true true false e f g h = h
 
 split_two : (a b : Bool) → (a && b) ≡ true → (a ≡ true) × (b ≡ true)
 split_two true b e = (refl, e)
 split_two false b e = (e, cc)
 
-split_three : (a b c : Bool) → (a && b && c) ≡ true → (a ≡ true) × (b ≡ true) × (c ≡ true)
-split_three true true c e = (refl, refl, e)
-split_three true false c e = (refl, e, cc)
-split_three false b c e = (e, cc, cc)
+pub within : (q : Query) → is_formed q ≡ true → depth q ≤ 64 → comparisons q ≤ 256 → length (canonical q) ≤ 4096 → is_predicate q ≡ true
+within q formed shallow few brief =
+    four (is_formed q) (nat_le (depth q) 64) (nat_le (comparisons q) 256) (nat_le (length (canonical q)) 4096) formed (le-leb _ _ shallow) (le-leb _ _ few) (le-leb _ _ brief)
 
-pub within : (q : Query) → is_formed q ≡ true → depth q ≤ 64 → comparisons q ≤ 256 → is_predicate q ≡ true
-within q formed shallow few = three (is_formed q) (nat_le (depth q) 64) (nat_le (comparisons q) 256) formed (le-leb _ _ shallow) (le-leb _ _ few)
+-- the parts of a formed query are formed
+pub and_formed_parts : (qs : Queries) (q : Query) → And qs ≡ q → is_formed q ≡ true → are_formed qs ≡ true
+and_formed_parts qs q is whole = (split_two (nat_le 2 (part_count qs)) (are_formed qs) (ap is_formed is ∙ whole)).1
 
-parts_by : (qs : Queries) → are_formed qs ≡ true → deepest qs ≤ 64 → all_comparisons qs ≤ 256 → are_predicates qs ≡ true
-parts_by no_more formed shallow few = refl
-parts_by (and_then q qs) formed shallow few =
-    let f = split_two (is_formed q) (are_formed qs) formed in
-    let here = within q f.0 (omega (arith, shallow)) (omega (arith, few)) in
-    let others = parts_by qs f.1 (omega (arith, shallow)) (omega (arith, few)) in
-    both (is_predicate q) (are_predicates qs) here others
-  where
-    both : (a b : Bool) → a ≡ true → b ≡ true → (a && b) ≡ true
-    both true b e f = f
-    both false b e f = e
+pub or_formed_parts : (qs : Queries) (q : Query) → Or qs ≡ q → is_formed q ≡ true → are_formed qs ≡ true
+or_formed_parts qs q is whole = (split_two (nat_le 2 (part_count qs)) (are_formed qs) (ap is_formed is ∙ whole)).1
 
-parts_from : (two formed shallow few : Bool) (qs : Queries) → are_formed qs ≡ formed → nat_le (suc (deepest qs)) 64 ≡ shallow → nat_le (all_comparisons qs) 256 ≡ few
-    → ((two && formed) && shallow && few) ≡ true → are_predicates qs ≡ true
-parts_from two formed shallow few qs e f g whole =
-    let a = split_three (two && formed) shallow few whole in
-    let b = split_two two formed a.0 in
-    let deep = leb-true _ _ (f ∙ a.1) in
-    let many = leb-true _ _ (g ∙ a.2) in
-    parts_by qs (e ∙ b.1) (omega (arith, deep)) (omega (arith, many))
-
-pub and_parts : (qs : Queries) (q : Query) → And qs ≡ q → is_predicate q ≡ true → are_predicates qs ≡ true
-and_parts qs q is whole = parts_from (nat_le 2 (part_count qs)) (are_formed qs) (nat_le (suc (deepest qs)) 64) (nat_le (all_comparisons qs) 256) qs refl refl refl (ap is_predicate is ∙ whole)
-
-pub or_parts : (qs : Queries) (q : Query) → Or qs ≡ q → is_predicate q ≡ true → are_predicates qs ≡ true
-or_parts qs q is whole = parts_from (nat_le 2 (part_count qs)) (are_formed qs) (nat_le (suc (deepest qs)) 64) (nat_le (all_comparisons qs) 256) qs refl refl refl (ap is_predicate is ∙ whole)
-
-pub part_is : (qs : List Query) (i : ℕ) (q : Query) → i < length qs → q ≡ get_or qs i q → are_predicates (queries qs) ≡ true → is_predicate q ≡ true
-part_is [] i q below is all = absurd (let no : ⊥ = omega (arith, below) in no)
-part_is (p ∷ qs) zero q below is all = ap is_predicate is ∙ (split_two (is_predicate p) (are_predicates (queries qs)) all).0
-part_is (p ∷ qs) (suc i) q below is all = part_is qs i q (omega (arith, below)) is (split_two (is_predicate p) (are_predicates (queries qs)) all).1
+pub part_formed : (qs : List Query) (i : ℕ) (q : Query) → i < length qs → q ≡ get_or qs i q → are_formed (queries qs) ≡ true → is_formed q ≡ true
+part_formed [] i q below is all = absurd (let no : ⊥ = omega (arith, below) in no)
+part_formed (p ∷ qs) zero q below is all = ap is_formed is ∙ (split_two (is_formed p) (are_formed (queries qs)) all).0
+part_formed (p ∷ qs) (suc i) q below is all = part_formed qs i q (omega (arith, below)) is (split_two (is_formed p) (are_formed (queries qs)) all).1
 
 -- ---- what a formula reads as
 
@@ -120,4 +97,4 @@ not_formed (suc n) ts q (inr (inr (a, r, is, said, h))) = ap is_formed said ∙ 
 
 -- a formula's query is a predicate
 pub reads_predicate : (text : List ℕ) (q : Query) → Reads text q → is_predicate q ≡ true
-reads_predicate text q h = within q (or_formed (IsNot nesting) (not_formed nesting) (bare h.tokens) q h.formula) h.shallow h.few
+reads_predicate text q h = within q (or_formed (IsNot nesting) (not_formed nesting) (bare h.tokens) q h.formula) h.shallow h.few h.brief

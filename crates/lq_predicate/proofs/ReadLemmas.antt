@@ -9,7 +9,7 @@ use Rattle.lq_formula.specs.Canonical.{canonical, depth}
 use Rattle.lq_formula.specs.Faults.{most_bytes, IsFaulty}
 use Rattle.lq_formula.specs.Reading.{finished, reading_of}
 use Rattle.lq_formula.specs.Laws.{FormulasAreRead, FaultsAreFound}
-use Rattle.lq_predicate.specs.Capped.{capped}
+use Rattle.lq_formula.specs.Capped.{capped}
 use Rattle.lq_predicate.specs.Limits.{is_predicate}
 use Rattle.lq_predicate.specs.Refusals.{refusal_of}
 use Rattle.lq_predicate.proofs.LimitLemmas.{reads_predicate}

@@ -1,13 +1,10 @@
 pub mod QueryCode
 pub mod Limits
-pub mod Node
-pub mod NodeFalls
 pub mod Tree
 pub mod TreeFalls
 pub mod MachineView
 pub mod PlainPlace
 pub mod Refusals
-pub mod Capped
 pub mod Truth
 pub mod Names
 pub mod Operand

@@ -1,7 +1,7 @@
 -- Which queries a predicate may be: its literals suit its operators, its lists have two parts or more, and it is within the limits.
-use Rattle.std.specs.Prelude.{ℕ, suc, Bool, true, ◌&&◌, nat_le}
+use Rattle.std.specs.Prelude.{ℕ, suc, Bool, true, ◌&&◌, length, nat_le}
 use Rattle.lq_value.specs.Compare.{suits}
-use Rattle.lq_formula.specs.Canonical.{depth, comparisons}
+use Rattle.lq_formula.specs.Canonical.{canonical, depth, comparisons}
 use Rattle.lq_formula.specs.Query.{Query, Compare, Not, And, Or, Queries, no_more, and_then}
 
 abbrev pub part_count : Queries → ℕ
@@ -20,10 +20,9 @@ abbrev mutual
   are_formed no_more = true
   are_formed (and_then q qs) = is_formed q && are_formed qs
 
--- a predicate has depth 64 at most, and 256 comparisons at most
-abbrev pub is_predicate : Query → Bool
-is_predicate q = is_formed q && nat_le (depth q) 64 && nat_le (comparisons q) 256
+-- a predicate has depth 64 at most, 256 comparisons at most, and a canonical text of 4,096 bytes at most
+abbrev pub is_within : Query → Bool
+is_within q = nat_le (depth q) 64 && nat_le (comparisons q) 256 && nat_le (length (canonical q)) 4096
 
-abbrev pub are_predicates : Queries → Bool
-are_predicates no_more = true
-are_predicates (and_then q qs) = is_predicate q && are_predicates qs
+abbrev pub is_predicate : Query → Bool
+is_predicate q = is_formed q && is_within q

@@ -1,5 +1,5 @@
 -- The postfix stack: what each push gives, and when it doesn't fit.
-use Rattle.std.specs.Prelude.{ℕ, ◌+◌, ◌^◌, List, [], ◌∷◌, ◌++◌, length, Bool, true, false, ◌&&◌, nat_le, nat_lt, Option, Some, None, option_and_then, if◌then◌else◌}
+use Rattle.std.specs.Prelude.{ℕ, ◌+◌, ◌^◌, List, [], ◌∷◌, ◌++◌, length, Bool, true, false, nat_le, nat_lt, Option, Some, None, option_and_then, if◌then◌else◌}
 use Rattle.std.specs.Option.{option_map}
 use Rattle.std.specs.Str.{chars}
 use Rattle.lq_value.specs.declared.element.Element.{Element}
@@ -12,7 +12,7 @@ use Rattle.lq_value.specs.declared.refusal.Refusal.TheVariants.{BadQuery}
 use Rattle.lq_value.specs.Name.{is_attr_name}
 use Rattle.lq_value.specs.Pattern.{plain_elements}
 use Rattle.lq_formula.specs.Query.{Query, Compare, Not, And, Or, Queries, queries}
-use Rattle.lq_formula.specs.Canonical.{depth, comparisons}
+use Rattle.lq_predicate.specs.Limits.{is_within}
 use Rattle.lq_predicate.specs.Operand.{pattern_in}
 use Rattle.lq_predicate.specs.Stacked.{Stacked}
 use Rattle.lq_predicate.specs.declared.item.Item.{Item}
@@ -43,6 +43,10 @@ abbrev pub star_if : Bool → List Element
 star_if true = Star ∷ []
 star_if false = []
 
+abbrev pub star_count : Bool → ℕ
+star_count true = 1
+star_count false = 0
+
 abbrev pub starred : Bool → List ℕ → Bool → List Element
 starred before text behind = star_if before ++ (plain_elements (chars text) ++ star_if behind)
 
@@ -61,14 +65,14 @@ compared stack_op.And attr text = None
 compared stack_op.Or attr text = None
 compared stack_op.Not attr text = None
 
--- whether a predicate may be this query
-abbrev pub is_within : Query → Bool
-is_within q = nat_le (depth q) 64 && nat_le (comparisons q) 256
+-- the query, if it is within the limits of a predicate
+abbrev pub if_within : Option Query → Option Query
+if_within None = None
+if_within (Some q) = if is_within q then Some q else None
 
 -- the query in place of what it is made of, if it is within the limits
 abbrev pub in_place : Option Query → List Item → Option (List Item)
-in_place None rest = None
-in_place (Some q) rest = if is_within q then Some (Part q ∷ rest) else None
+in_place query rest = option_map (λ q. Part q ∷ rest) (if_within query)
 
 -- a value on top and an attribute below it
 abbrev pub after_comparison : StackOp → List Item → Option (List Item)

@@ -14,6 +14,6 @@ pub fn names(alloc: Global, predicate: &Predicate) -> Result<Vec<AttrName>, Refu
     ensures value { IfOk result (λ names. names.items ≡ names_of predicate.now) }
 {
     let mut names = Vec::new(alloc);
-    predicate.add_names(alloc, &mut names)?;
+    predicate.tree().add_names(alloc, &mut names)?;
     Ok(names)
 }

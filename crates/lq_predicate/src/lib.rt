@@ -8,13 +8,13 @@
 
 mod attributes;
 mod canonical;
+mod fitting;
 mod item;
 mod machine;
 mod operand;
 mod predicate;
 mod raw;
 mod reader;
-mod size;
 mod stack;
 mod stack_comparison;
 mod stack_op;

@@ -55,48 +55,36 @@ fn complete(
     alloc: Global,
     tree: Tree,
     below: Vec<Begun>,
-    frame: Begun,
+    mut top: Begun,
     room: usize,
 ) -> Result<Machine, AllocError>
-    requires { room + frame.bangs < 2 ^ 64 }
-    ensures { IfOk result (λ m. state_of m ≡ completed tree (below_of below) (frame_of frame) room) }
+    requires { room + top.bangs < 2 ^ 64 }
+    ensures { IfOk result (λ m. state_of m ≡ completed tree (below_of below) (frame_of top) room) }
 {
-    let Begun {
-        or_parts,
-        mut and_parts,
-        bangs,
-    } = frame;
-    let room = room + bangs;
-    and_parts.push(tree.negated(alloc, bangs)?)?;
+    let room = room + top.bangs;
+    top.and_parts.push(tree.negated(alloc, top.bangs)?)?;
+    top.bangs = 0;
     Ok(Machine {
         below,
-        top: Begun {
-            or_parts,
-            and_parts,
-            bangs: 0,
-        },
+        top,
         spot: Spot::AfterOperand,
         room,
     })
 }
 
 // What a frame says, once it is whole.
-fn said(frame: Begun) -> Result<Tree, AllocError>
+fn said(mut frame: Begun) -> Result<Tree, AllocError>
     ensures { IfOk result (λ tree. tree ≡ said_by (frame_of frame)) }
 {
-    let Begun {
-        mut or_parts,
-        and_parts,
-        bangs: _,
-    } = frame;
-    or_parts.push(Tree::both(and_parts))?;
-    Ok(Tree::either(or_parts))
+    let last = Tree::both(frame.and_parts);
+    frame.or_parts.push(last)?;
+    Ok(Tree::either(frame.or_parts))
 }
 
 fn read_operand(
     alloc: Global,
     mut below: Vec<Begun>,
-    top: Begun,
+    mut top: Begun,
     room: usize,
     token: &Token,
 ) -> Result<Machine, StepFault>
@@ -117,9 +105,7 @@ fn read_operand(
 {
     match token {
         Token::Word(word) => {
-            let Some(attr) = read_name(alloc, word)? else {
-                return Err(StepFault::Refused);
-            };
+            let attr = read_name(alloc, word)?;
             Ok(Machine {
                 below,
                 top,
@@ -143,18 +129,10 @@ fn read_operand(
             if room == 0 {
                 return Err(StepFault::Refused);
             }
-            let Begun {
-                or_parts,
-                and_parts,
-                bangs,
-            } = top;
+            top.bangs += 1;
             Ok(Machine {
                 below,
-                top: Begun {
-                    or_parts,
-                    and_parts,
-                    bangs: bangs + 1,
-                },
+                top,
                 spot: Spot::Operand,
                 room: room - 1,
             })
@@ -166,7 +144,7 @@ fn read_operand(
 fn read_behind_operand(
     alloc: Global,
     mut below: Vec<Begun>,
-    top: Begun,
+    mut top: Begun,
     room: usize,
     token: &Token,
 ) -> Result<Machine, StepFault>
@@ -187,18 +165,10 @@ fn read_behind_operand(
 {
     match token {
         Token::Ands => {
-            let Begun {
-                or_parts,
-                and_parts,
-                bangs: _,
-            } = top;
+            top.bangs = 0;
             Ok(Machine {
                 below,
-                top: Begun {
-                    or_parts,
-                    and_parts,
-                    bangs: 0,
-                },
+                top,
                 spot: Spot::Operand,
                 room,
             })

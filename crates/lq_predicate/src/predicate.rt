@@ -1,15 +1,10 @@
 //! The predicate.
-ghost use Rattle.std.specs.Prelude.{◌≡◌, ◌++◌, ◌∷◌, [], None, IfOk, IsTrue};
-ghost use Rattle.std.specs.String.{string_bytes};
+ghost use Rattle.std.specs.Prelude.{◌≡◌, ◌≤◌, None, IfOk, IsTrue};
 ghost use Rattle.lq_value.specs.Refusal.{IsRefusedBy};
 ghost use Rattle.lq_value.specs.Compare.{suits};
-ghost use Rattle.lq_predicate.specs.Names.{is_among};
-ghost use Rattle.lq_formula.specs.Query.{queries};
-ghost use Rattle.lq_formula.specs.Canonical.{canonical, parts_written};
 
-use crate::canonical::put_comparison;
-use crate::truth::Row;
-use lq_value::{AttrName, Literal, Op, Refusal, compare};
+use crate::tree::Tree;
+use lq_value::{AttrName, Literal, Op, Refusal};
 use std::alloc::Global;
 use std::marker::Model;
 
@@ -17,248 +12,69 @@ use std::marker::Model;
 /// of such.
 ///
 /// Each literal suits its operator, and each list has two parts or more. Its depth is at most 64 (a
-/// comparison has depth 1, every other predicate 1 more than its deepest part), and it has at most
-/// 256 comparisons. A contract sees it as a `Query`.
-#[cycle(predicate)]
+/// comparison has depth 1, every other predicate 1 more than its deepest part), it has at most 256
+/// comparisons, and its canonical text has at most 4,096 bytes. A contract sees it as a `Query`.
 #[derive(Debug, Drop)]
 pub struct Predicate {
-    node: Node,
-}
-
-#[cycle(predicate)]
-#[derive(Debug, Drop)]
-enum Node {
-    Compare(AttrName, Op, Literal),
-    Not(Box<Predicate>),
-    And(Vec<Predicate>),
-    Or(Vec<Predicate>),
+    tree: Tree,
 }
 
 impl Model for Predicate {
     ghost use Rattle.std.specs.Prelude.{IsTrue};
     ghost use Rattle.lq_formula.specs.Query.{Query};
     ghost use Rattle.lq_predicate.specs.QueryCode.{coded_query};
-    ghost use Rattle.lq_formula.specs.Canonical.{depth};
     ghost use Rattle.lq_predicate.specs.Limits.{is_predicate};
 
     ghost Value = { Query };
 
     ghost coded = { coded_query };
 
-    ghost use Rattle.lq_predicate.specs.Node.{query_of};
+    ghost view = { λ p. p.tree };
 
-    ghost view = { λ p. query_of p.node };
-
-    ghost invariant = { λ p. IsTrue (is_predicate (query_of p.node)) };
-
-    ghost size = { depth };
-
-    ghost use Rattle.lq_predicate.specs.NodeFalls.{deep_le-depth};
-
-    ghost size_decreases = { λ p h. deep_le-depth p.node };
+    ghost invariant = { λ p. IsTrue (is_predicate p.tree) };
 }
 
 impl Predicate {
-    ghost use Rattle.lq_formula.specs.Query.{Compare, Not, And, Or};
-    ghost use Rattle.lq_formula.specs.Canonical.{depth, comparisons};
-    ghost use Rattle.lq_predicate.specs.Limits.{is_predicate};
-    ghost use Rattle.lq_predicate.specs.Truth.{truth};
-    ghost use Rattle.lq_predicate.specs.Names.{attributes, each_once};
-
-    /// One comparison. It takes no memory.
-    pub fn compare(attr: AttrName, op: Op, literal: Literal) -> Predicate
-        requires { IsTrue (suits literal op) }
-        ensures { result ≡ Compare attr op literal }
-    {
-        Predicate {
-            node: Node::Compare(attr, op, literal),
-        }
-    }
+    ghost use Rattle.lq_formula.specs.Query.{Compare};
+    ghost use Rattle.lq_formula.specs.Canonical.{comparisons};
+    ghost use Rattle.lq_predicate.specs.Limits.{is_formed, is_predicate, is_within};
 
     /// Another predicate that is the same. Refused: `NoMemory`.
-    #[cycle(copy)]
     pub fn copy(&self, alloc: Global) -> Result<Predicate, Refusal>
         ensures refused { IsRefusedBy result None }
         ensures value { IfOk result (λ copy. copy ≡ self.now) }
     {
-        let node = match &self.node {
-            Node::Compare(attr, op, literal) => {
-                Node::Compare(attr.copy(alloc)?, *op, literal.copy(alloc)?)
-            }
-            Node::Not(part) => Node::Not(Box::new(alloc, part.copy(alloc)?)?),
-            Node::And(parts) => Node::And(copy_parts(alloc, parts.as_slice())?),
-            Node::Or(parts) => Node::Or(copy_parts(alloc, parts.as_slice())?),
-        };
-        Ok(Predicate { node })
+        Ok(Predicate {
+            tree: self.tree.copy(alloc)?,
+        })
     }
 
-    pub(crate) fn is_true_of<R: Row>(&self, row: &R) -> bool
-        ensures { result ≡ truth self.now (R.looks row.now) }
-    {
-        match &self.node {
-            Node::Compare(attr, op, literal) => match row.look(attr) {
-                None => false,
-                Some(view) => compare(view, *op, literal),
-            },
-            Node::Not(part) => !part.is_true_of(row),
-            Node::And(parts) => {
-                for part in parts {
-                    if !part.is_true_of(row) {
-                        return false;
-                    }
-                }
-                true
-            }
-            Node::Or(parts) => {
-                for part in parts {
-                    if part.is_true_of(row) {
-                        return true;
-                    }
-                }
-                false
-            }
-        }
-    }
-
-    // `Not` of a predicate.
-    pub(crate) fn negation(part: Box<Predicate>) -> Predicate
-        requires { IsTrue (is_predicate (Not part.value)) }
-        ensures { result ≡ Not part.value }
+    // One comparison.
+    pub(crate) fn compare(attr: AttrName, op: Op, literal: Literal) -> Predicate
+        requires suits { IsTrue (suits literal op) }
+        requires within { IsTrue (is_within (Compare attr op literal)) }
+        ensures { result ≡ Compare attr op literal }
     {
         Predicate {
-            node: Node::Not(part),
+            tree: Tree::compare(attr, op, literal),
         }
     }
 
-    // `And` of two predicates or more.
-    pub(crate) fn all_of(parts: Vec<Predicate>) -> Predicate
-        requires { IsTrue (is_predicate (And (queries parts.items))) }
-        ensures { result ≡ And (queries parts.items) }
+    // The predicate that a tree within the limits is.
+    pub(crate) fn of(tree: Tree) -> Predicate
+        requires { IsTrue (is_predicate tree) }
+        ensures { result ≡ tree }
     {
-        Predicate {
-            node: Node::And(parts),
-        }
+        Predicate { tree }
     }
 
-    // `Or` of two predicates or more.
-    pub(crate) fn some_of(parts: Vec<Predicate>) -> Predicate
-        requires { IsTrue (is_predicate (Or (queries parts.items))) }
-        ensures { result ≡ Or (queries parts.items) }
-    {
-        Predicate {
-            node: Node::Or(parts),
-        }
-    }
-
-    // How deep it is.
-    pub(crate) fn depth(&self) -> u64
-        ensures value { result ≡ depth self.now }
+    // What it says, which is within the limits.
+    pub(crate) fn tree(&self) -> &Tree
+        ensures value { result.now ≡ self.now }
         ensures valid { IsTrue (is_predicate self.now) }
+        ensures formed { IsTrue (is_formed self.now) }
+        ensures few { comparisons self.now ≤ 256 }
     {
-        match &self.node {
-            Node::Compare(_, _, _) => 1,
-            Node::Not(part) => part.depth() + 1,
-            Node::And(parts) | Node::Or(parts) => {
-                let mut deepest = 0;
-                for part in parts {
-                    deepest = deepest.max(part.depth());
-                }
-                deepest + 1
-            }
-        }
+        &self.tree
     }
-
-    // How many comparisons it has.
-    pub(crate) fn comparisons(&self) -> u64
-        ensures { result ≡ comparisons self.now }
-    {
-        match &self.node {
-            Node::Compare(_, _, _) => 1,
-            Node::Not(part) => part.comparisons(),
-            Node::And(parts) | Node::Or(parts) => {
-                let mut count = 0;
-                for part in parts {
-                    count += part.comparisons();
-                }
-                count
-            }
-        }
-    }
-
-    // Its canonical text, behind what is there.
-    #[cycle(put)]
-    pub(crate) fn put(&self, out: &mut String) -> Result<(), Refusal>
-        ensures refused { IsRefusedBy result None }
-        ensures value { IfOk result
-            (λ _. string_bytes out.new ≡ string_bytes out.old ++ canonical self.now) }
-    {
-        match &self.node {
-            Node::Compare(attr, op, literal) => put_comparison(attr, *op, literal, out),
-            Node::Not(part) => {
-                out.push_str("!")?;
-                part.put(out)
-            }
-            Node::And(parts) => put_parts(parts.as_slice(), "&&", out),
-            Node::Or(parts) => put_parts(parts.as_slice(), "||", out),
-        }
-    }
-
-    // The names of the attributes that are new, behind those before.
-    pub(crate) fn add_names(&self, alloc: Global, names: &mut Vec<AttrName>) -> Result<(), Refusal>
-        ensures refused { IsRefusedBy result None }
-        ensures value { IfOk result
-            (λ _. names.new.items ≡ each_once names.old.items (attributes self.now)) }
-    {
-        match &self.node {
-            Node::Compare(attr, _, _) => {
-                if !is_among(names.as_slice(), attr) {
-                    names.push(attr.copy(alloc)?)?;
-                }
-            }
-            Node::Not(part) => part.add_names(alloc, names)?,
-            Node::And(parts) | Node::Or(parts) => {
-                for part in parts {
-                    part.add_names(alloc, names)?;
-                }
-            }
-        }
-        Ok(())
-    }
-}
-
-// The parts in parentheses, with a separator between them.
-#[cycle(put)]
-fn put_parts(parts: &[Predicate], separator: &str, out: &mut String) -> Result<(), Refusal>
-    ensures refused { IsRefusedBy result None }
-    ensures value { IfOk result (λ _. string_bytes out.new ≡ string_bytes out.old
-        ++ 40 ∷ parts_written separator.now (queries parts.now) (41 ∷ [])) }
-{
-    out.push_str("(")?;
-    if let Some((first, others)) = parts.split_first() {
-        first.put(out)?;
-        for part in others {
-            out.push_str(separator)?;
-            part.put(out)?;
-        }
-    }
-    out.push_str(")")?;
-    Ok(())
-}
-
-fn is_among(names: &[AttrName], name: &AttrName) -> bool
-    ensures { result ≡ is_among names.now name.now }
-{
-    names.iter().any(|other| other.as_str() == name.as_str())
-}
-
-#[cycle(copy)]
-fn copy_parts(alloc: Global, parts: &[Predicate]) -> Result<Vec<Predicate>, Refusal>
-    ensures refused { IsRefusedBy result None }
-    ensures value { IfOk result (λ copies. copies.items ≡ parts.now) }
-{
-    let mut copies = Vec::new(alloc);
-    for part in parts {
-        copies.push(part.copy(alloc)?)?;
-    }
-    Ok(copies)
 }

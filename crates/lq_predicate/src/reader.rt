@@ -64,7 +64,7 @@ fn read_within(alloc: Global, formula: &str) -> Result<Predicate, Refusal>
         return Err(refused_at(formula.len()));
     }
     formulas_are_read();
-    tree.to_predicate(alloc)
+    Ok(Predicate::of(tree))
 }
 
 // The query of a text, whatever its depth and the length of its canonical text.

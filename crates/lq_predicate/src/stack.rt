@@ -2,17 +2,19 @@
 ghost use Rattle.std.specs.Prelude.{◌≡◌, ◌∷◌, ◌+◌, ◌<◌, ◌≤◌, ◌^◌, [], drop, length, Some, None, IsTrue, IfOk, IfErr, IfSome, IfNone, OnOk, OnErr};
 ghost use Rattle.std.specs.Fmt.{decimal, signed_decimal};
 ghost use Rattle.lq_value.specs.Refusal.{IsRefusedBy};
-ghost use Rattle.lq_formula.specs.Query.{And, Or, queries};
+ghost use Rattle.lq_formula.specs.Query.{And, Or, both_of, either_of};
 ghost use Rattle.lq_predicate.specs.Limits.{is_predicate};
 ghost use Rattle.lq_predicate.specs.Stacked.{Stacked, new_stack};
 ghost use Rattle.lq_predicate.specs.Stack.{pushed, attr_pushed, text_pushed, op_pushed, after_comparison, after_join, after_not, only_part, refusal_at};
 ghost use Rattle.lq_predicate.specs.declared.item.Item.TheVariants.{Part};
 
+use crate::fitting::{fit_joined, fits_not};
 use crate::item::Item;
 use crate::operand::Operand;
 use crate::predicate::Predicate;
 use crate::stack_comparison::compared;
 use crate::stack_op::StackOp;
+use crate::tree::Tree;
 use itoa::Buffer;
 use lq_value::{AttrName, Refusal};
 use std::alloc::Global;
@@ -20,12 +22,6 @@ use std::marker::Model;
 
 /// The longest text that is pushed, in bytes.
 const MAX_TEXT: usize = 4096;
-
-/// The greatest depth of a predicate.
-const MAX_DEPTH: u64 = 64;
-
-/// The most comparisons of a predicate.
-const MAX_COMPARISONS: u64 = 256;
 
 /// A stack that takes attributes, values and operators in postfix order, as BQuery does, and gives
 /// a predicate.
@@ -175,11 +171,11 @@ impl Stack {
                 self.replace(1, predicate);
             }
             StackOp::And => {
-                let predicate = Predicate::all_of(self.parts()?);
+                let predicate = Predicate::of(Tree::both(self.parts()?));
                 self.replace(2, predicate);
             }
             StackOp::Or => {
-                let predicate = Predicate::some_of(self.parts()?);
+                let predicate = Predicate::of(Tree::either(self.parts()?));
                 self.replace(2, predicate);
             }
             _ => {
@@ -273,34 +269,33 @@ impl Stack {
         let Some(Item::Part(part)) = self.items.last() else {
             return Err(self.misfit());
         };
-        if part.depth() >= MAX_DEPTH {
+        let tree = part.tree();
+        if !fits_not(tree) {
             return Err(self.misfit());
         }
-        let part = Box::new(alloc, part.copy(alloc)?)?;
-        Ok(Predicate::negation(part))
+        Ok(Predicate::of(tree.copy(alloc)?.negated(alloc, 1)?))
     }
 
     // The two predicates on top, the lower one first, where they may be joined.
-    fn parts(&self) -> Result<Vec<Predicate>, Refusal>
+    fn parts(&self) -> Result<Vec<Tree>, Refusal>
         ensures and_refused { IsRefusedBy result
             (refusal_at self.now.pushes (after_join And self.now.items)) }
         ensures or_refused { IsRefusedBy result
             (refusal_at self.now.pushes (after_join Or self.now.items)) }
         ensures and_value { IfOk result (λ parts. after_join And self.now.items
-            ≡ Some (Part (And (queries parts.items)) ∷ drop 2 self.now.items)) }
+            ≡ Some (Part (both_of parts.items) ∷ drop 2 self.now.items)) }
         ensures or_value { IfOk result (λ parts. after_join Or self.now.items
-            ≡ Some (Part (Or (queries parts.items)) ∷ drop 2 self.now.items)) }
-        ensures valid { IfOk result (λ parts. IsTrue (is_predicate (And (queries parts.items)))) }
+            ≡ Some (Part (either_of parts.items) ∷ drop 2 self.now.items)) }
+        ensures and_valid { IfOk result (λ parts. IsTrue (is_predicate (both_of parts.items))) }
+        ensures or_valid { IfOk result (λ parts. IsTrue (is_predicate (either_of parts.items))) }
         ensures there { OnOk result (2 ≤ length self.now.items) }
     {
         let alloc = *self.items.allocator();
         let Some((Item::Part(upper), Item::Part(lower))) = self.top_two() else {
             return Err(self.misfit());
         };
-        if lower.depth() >= MAX_DEPTH || upper.depth() >= MAX_DEPTH {
-            return Err(self.misfit());
-        }
-        if lower.comparisons() + upper.comparisons() > MAX_COMPARISONS {
+        let (lower, upper) = (lower.tree(), upper.tree());
+        if !fit_joined(lower, upper) {
             return Err(self.misfit());
         }
         let mut parts = Vec::new(alloc);

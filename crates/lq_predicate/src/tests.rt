@@ -34,6 +34,13 @@ const NUMBERS: [(Push, &str); 2] = [
     (Push::UInt32(7), "(a<=\"7\")"),
 ];
 
+// How long a text is that `a` is less than, and how the comparison is refused: six bytes stand
+// beside the text in the canonical text.
+const LENGTHS: [(usize, Option<Refusal>); 2] = [
+    (4090, None),
+    (4091, Some(Refusal::BadQuery { place: 2 })),
+];
+
 fn apply(stack: &mut Stack, push: &Push) -> Result<(), Refusal> {
     match push {
         Push::Attr(name) => stack.push_attr(name),
@@ -61,7 +68,7 @@ fn at_most(alloc: Global, number: &Push) -> Result<String, Refusal> {
 }
 
 #[test]
-fn postfix_stack_writes(rt: HostRuntime) -> Result<(), Fail> {
+fn scenario_postfix_stack(rt: HostRuntime) -> Result<(), Fail> {
     let mut stack = Stack::new(rt.alloc());
     for push in &SIZE_AND_NAME {
         apply(&mut stack, push)?;
@@ -72,7 +79,7 @@ fn postfix_stack_writes(rt: HostRuntime) -> Result<(), Fail> {
 }
 
 #[test]
-fn postfix_stack_names(rt: HostRuntime) -> Result<(), Fail> {
+fn scenario_postfix_stack_names(rt: HostRuntime) -> Result<(), Fail> {
     let mut stack = Stack::new(rt.alloc());
     for push in &SIZE_AND_NAME {
         apply(&mut stack, push)?;
@@ -86,7 +93,7 @@ fn postfix_stack_names(rt: HostRuntime) -> Result<(), Fail> {
 }
 
 #[test]
-fn postfix_stack_refuses(rt: HostRuntime) -> Result<(), Fail> {
+fn scenario_postfix_stack_refusals(rt: HostRuntime) -> Result<(), Fail> {
     let mut stack = Stack::new(rt.alloc());
     assert_eq!(rt; stack.finish().err(), Some(Refusal::BadQuery { place: 0 }));
     apply(&mut stack, &Push::Attr("a"))?;
@@ -100,10 +107,22 @@ fn postfix_stack_refuses(rt: HostRuntime) -> Result<(), Fail> {
 }
 
 #[test]
-fn moved_fold_and_pushes(rt: HostRuntime) -> Result<(), Fail> {
+fn scenario_moved_pushes(rt: HostRuntime) -> Result<(), Fail> {
     for (number, text) in &NUMBERS {
         let found = at_most(rt.alloc(), number)?;
         assert_eq!(rt; found.as_str(), *text);
+    }
+    Ok(())
+}
+
+#[test]
+fn a_canonical_text_has_4096_bytes_at_most(rt: HostRuntime) -> Result<(), Fail> {
+    for (length, refused) in LENGTHS {
+        let text = "x".repeat(rt.alloc(), length)?;
+        let mut stack = Stack::new(rt.alloc());
+        stack.push_attr("a")?;
+        stack.push_text(text.as_str())?;
+        assert_eq!(rt; stack.push_op(StackOp::Lt).err(), refused);
     }
     Ok(())
 }

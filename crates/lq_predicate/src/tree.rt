@@ -1,27 +1,30 @@
-//! What a formula says, before it is held to the limits of a predicate.
-ghost use Rattle.std.specs.Prelude.{◌≡◌, None, IfOk, IsTrue, length, nat_le};
-ghost use Rattle.lq_formula.specs.Canonical.{canonical, depth};
+//! What a formula says, whether it is within the limits of a predicate or not.
+ghost use Rattle.std.specs.Prelude.{◌≡◌, ◌≤◌, ◌++◌, ◌∷◌, [], None, IfOk, IsTrue, length, nat_le};
+ghost use Rattle.std.specs.String.{string_bytes};
+ghost use Rattle.lq_formula.specs.Canonical.{canonical, comparisons, depth, parts_written};
 ghost use Rattle.lq_formula.specs.Machine.{negate};
 ghost use Rattle.lq_formula.specs.Query.{Compare, both_of, either_of, queries};
 ghost use Rattle.lq_value.specs.Refusal.{IsRefusedBy};
-ghost use Rattle.lq_predicate.specs.Capped.{capped};
-ghost use Rattle.lq_predicate.specs.Limits.{are_predicates, is_predicate};
+ghost use Rattle.lq_formula.specs.Capped.{capped};
+ghost use Rattle.lq_predicate.specs.Limits.{is_formed};
+ghost use Rattle.lq_predicate.specs.Names.{attributes, each_once, is_among};
+ghost use Rattle.lq_predicate.specs.Truth.{truth};
 
-use crate::predicate::Predicate;
-use crate::size::comparison_size;
-use lq_value::{AttrName, Literal, Op, Refusal};
+use crate::truth::Row;
+use lq_formula::{comparison_size, put_comparison};
+use lq_value::{AttrName, Literal, Op, Refusal, compare};
 use std::alloc::{AllocError, Global};
 use std::marker::Model;
 
-// A query of any depth, as it was read. A contract sees it as a `Query`.
+// A query of any depth and size. A contract sees it as a `Query`.
 #[cycle(tree)]
-#[derive(Drop)]
+#[derive(Debug, Drop)]
 pub(crate) struct Tree {
     node: TreeNode,
 }
 
 #[cycle(tree)]
-#[derive(Drop)]
+#[derive(Debug, Drop)]
 enum TreeNode {
     Compare(AttrName, Op, Literal),
     Not(Box<Tree>),
@@ -152,42 +155,145 @@ impl Tree {
         }
     }
 
-    // The predicate that is this query. Refused: `NoMemory`.
-    #[cycle(to_predicate)]
-    pub(crate) fn to_predicate(&self, alloc: Global) -> Result<Predicate, Refusal>
-        requires { IsTrue (is_predicate self.now) }
-        ensures refused { IsRefusedBy result None }
-        ensures value { IfOk result (λ predicate. predicate ≡ self.now) }
+    // How many comparisons it has.
+    pub(crate) fn comparisons(&self) -> u64
+        requires { comparisons self.now ≤ 256 }
+        ensures { result ≡ comparisons self.now }
     {
         match &self.node {
-            TreeNode::Compare(attr, op, literal) => Ok(Predicate::compare(
-                attr.copy(alloc)?,
-                *op,
-                literal.copy(alloc)?,
-            )),
-            TreeNode::Not(part) => {
-                let part = part.to_predicate(alloc)?;
-                Ok(Predicate::negation(Box::new(alloc, part)?))
-            }
-            TreeNode::And(parts) => {
-                Ok(Predicate::all_of(to_predicates(alloc, parts.as_slice())?))
-            }
-            TreeNode::Or(parts) => {
-                Ok(Predicate::some_of(to_predicates(alloc, parts.as_slice())?))
+            TreeNode::Compare(_, _, _) => 1,
+            TreeNode::Not(part) => part.comparisons(),
+            TreeNode::And(parts) | TreeNode::Or(parts) => {
+                let mut count = 0;
+                for part in parts {
+                    count += part.comparisons();
+                }
+                count
             }
         }
     }
+
+    // Another tree that is the same.
+    #[cycle(copy)]
+    pub(crate) fn copy(&self, alloc: Global) -> Result<Tree, Refusal>
+        ensures refused { IsRefusedBy result None }
+        ensures value { IfOk result (λ copy. copy ≡ self.now) }
+    {
+        let node = match &self.node {
+            TreeNode::Compare(attr, op, literal) => {
+                TreeNode::Compare(attr.copy(alloc)?, *op, literal.copy(alloc)?)
+            }
+            TreeNode::Not(part) => TreeNode::Not(Box::new(alloc, part.copy(alloc)?)?),
+            TreeNode::And(parts) => TreeNode::And(copy_parts(alloc, parts.as_slice())?),
+            TreeNode::Or(parts) => TreeNode::Or(copy_parts(alloc, parts.as_slice())?),
+        };
+        Ok(Tree { node })
+    }
+
+    // Whether it holds of the row.
+    pub(crate) fn is_true_of<R: Row>(&self, row: &R) -> bool
+        requires { IsTrue (is_formed self.now) }
+        ensures { result ≡ truth self.now (R.looks row.now) }
+    {
+        match &self.node {
+            TreeNode::Compare(attr, op, literal) => match row.look(attr) {
+                None => false,
+                Some(view) => compare(view, *op, literal),
+            },
+            TreeNode::Not(part) => !part.is_true_of(row),
+            TreeNode::And(parts) => {
+                for part in parts {
+                    if !part.is_true_of(row) {
+                        return false;
+                    }
+                }
+                true
+            }
+            TreeNode::Or(parts) => {
+                for part in parts {
+                    if part.is_true_of(row) {
+                        return true;
+                    }
+                }
+                false
+            }
+        }
+    }
+
+    // Its canonical text, behind what is there.
+    #[cycle(put)]
+    pub(crate) fn put(&self, out: &mut String) -> Result<(), Refusal>
+        ensures refused { IsRefusedBy result None }
+        ensures value { IfOk result
+            (λ _. string_bytes out.new ≡ string_bytes out.old ++ canonical self.now) }
+    {
+        match &self.node {
+            TreeNode::Compare(attr, op, literal) => put_comparison(attr, *op, literal, out),
+            TreeNode::Not(part) => {
+                out.push_str("!")?;
+                part.put(out)
+            }
+            TreeNode::And(parts) => put_parts(parts.as_slice(), "&&", out),
+            TreeNode::Or(parts) => put_parts(parts.as_slice(), "||", out),
+        }
+    }
+
+    // The names of the attributes that are new, behind those before.
+    pub(crate) fn add_names(&self, alloc: Global, names: &mut Vec<AttrName>) -> Result<(), Refusal>
+        ensures refused { IsRefusedBy result None }
+        ensures value { IfOk result
+            (λ _. names.new.items ≡ each_once names.old.items (attributes self.now)) }
+    {
+        match &self.node {
+            TreeNode::Compare(attr, _, _) => {
+                if !is_among(names.as_slice(), attr) {
+                    names.push(attr.copy(alloc)?)?;
+                }
+            }
+            TreeNode::Not(part) => part.add_names(alloc, names)?,
+            TreeNode::And(parts) | TreeNode::Or(parts) => {
+                for part in parts {
+                    part.add_names(alloc, names)?;
+                }
+            }
+        }
+        Ok(())
+    }
 }
 
-#[cycle(to_predicate)]
-fn to_predicates(alloc: Global, parts: &[Tree]) -> Result<Vec<Predicate>, Refusal>
-    requires { IsTrue (are_predicates (queries parts.now)) }
+#[cycle(copy)]
+fn copy_parts(alloc: Global, parts: &[Tree]) -> Result<Vec<Tree>, Refusal>
     ensures refused { IsRefusedBy result None }
-    ensures value { IfOk result (λ made. made.items ≡ parts.now) }
+    ensures value { IfOk result (λ copies. copies.items ≡ parts.now) }
 {
-    let mut made = Vec::new(alloc);
+    let mut copies = Vec::new(alloc);
     for part in parts {
-        made.push(part.to_predicate(alloc)?)?;
+        copies.push(part.copy(alloc)?)?;
     }
-    Ok(made)
+    Ok(copies)
+}
+
+// The parts in parentheses, with a separator between them.
+#[cycle(put)]
+fn put_parts(parts: &[Tree], separator: &str, out: &mut String) -> Result<(), Refusal>
+    ensures refused { IsRefusedBy result None }
+    ensures value { IfOk result (λ _. string_bytes out.new ≡ string_bytes out.old
+        ++ 40 ∷ parts_written separator.now (queries parts.now) (41 ∷ [])) }
+{
+    out.push_str("(")?;
+    if let Some((first, others)) = parts.split_first() {
+        first.put(out)?;
+        for part in others {
+            out.push_str(separator)?;
+            part.put(out)?;
+        }
+    }
+    out.push_str(")")?;
+    Ok(())
+}
+
+fn is_among(names: &[AttrName], name: &AttrName) -> bool
+    ensures { result ≡ is_among names.now name.now }
+{
+    names.iter().any(|other| other.as_str() == name.as_str())
 }

@@ -25,5 +25,5 @@ pub trait Row {
 pub fn holds<R: Row>(predicate: &Predicate, row: &R) -> bool
     ensures { result ≡ truth predicate.now (R.looks row.now) }
 {
-    predicate.is_true_of(row)
+    predicate.tree().is_true_of(row)
 }

@@ -1,6 +1,0 @@
-use Rattle.lq_predicate.proofs.CanonicalLemmas.{items_on}
-use Rattle.lq_predicate.proofs.canonical.put_items.Goals as goal
-
-pub loop-item-preserved : goal.loop-item-preserved
-loop-item-preserved c =
-    items_on _ _ _ c.args.items.now c.loop-item.item-index _ c.loop-item-test.true c.loop-item.invariant c.in_ok-put_item.ensures.value
