@@ -1,62 +1,92 @@
 -- Each event keeps what is so of every desk.
-use Rattle.std.proofs.Common.{◌≡◌, ℕ, zero, suc, ◌+◌, ◌*◌, ◌-◌, ◌≤◌, List, [], ◌∷◌, ◌++◌, refl, ap, sym, subst, arith, Some, None, Option}
-use Rattle.std.specs.Prelude.{Bool, slice_get, slice_set}
+use Rattle.std.proofs.Common.{◌≡◌, ℕ, zero, suc, ◌*◌, ◌-◌, ◌≤◌, ◌<◌, List, [], ◌∷◌, refl, ap, sym, subst, ◌∙◌, arith, Some, None, Option, map, length}
+use Rattle.std.specs.Prelude.{Bool, slice_set, replicate}
+use Rattle.std.specs.Option.{option_map}
 use Rattle.std.specs.List.{AllByRecursion}
 use Rattle.std.proofs.lemmas.Bool.Decides.{nat_tests}
+use Rattle.lq_value.specs.declared.refusal.Refusal.{Refusal}
 use Rattle.lq_formula.specs.Query.{Query}
 use Rattle.lq_volume.specs.declared.change.Change.{Change as Change_}
 use Rattle.lq_volume.specs.State.{State, IsVolume}
-use Rattle.lq_volume.specs.Change.{after, IsLawful}
+use Rattle.lq_volume.specs.Change.{IsLawful}
+use Rattle.lq_volume.specs.Book.{Book}
 use Rattle.lq_volume.specs.Laws.{ChangesCount}
-use Rattle.lq_update.specs.Laws.{UpdatesJoin, StepsAreFew}
-use Rattle.lq_desk.specs.Held.{Held, held_after, taken_from}
-use Rattle.lq_desk.specs.World.{first_world, with_change, with_sub}
-use Rattle.lq_desk.specs.Desk.{Kept, IsDesk, Shows, changed, opened, held_at, taken, taken_if}
-use Rattle.lq_desk.proofs.KeptLemmas.{few-push, few-after}
-use Rattle.lq_desk.proofs.Shown.{shows-change, shows-open}
-use Rattle.lq_desk.proofs.Moved.{moves-take}
+use Rattle.lq_update.specs.Laws.{StepsAreFew}
+use Rattle.lq_world.specs.World.{first_world}
+use Rattle.lq_world.specs.Events.{Changing, Opening, Answer, next}
+use Rattle.lq_world.specs.Laws.{FirstWorldsAreFair}
+use Rattle.lq_desk.specs.declared.slot.Act.{Act}
+use Rattle.lq_desk.specs.Slot.{KeptSlot, PreparedSlot, slot_of, fresh_slot}
+use Rattle.lq_desk.specs.Act.{outcome_in, happening_at}
+use Rattle.lq_desk.specs.Kept.{Kept, IsDesk, IsFew, Shows, first_free, opening_refusal, opened, open_if, changed, change_if, kept_outcome, slot_for}
+use Rattle.lq_desk.specs.Laws.{KeptShowsWorlds}
+use Rattle.lq_desk.proofs.ListLemmas.{all-set, length-map, length-set, map-set}
+use Rattle.lq_desk.proofs.SlotsLemmas.{kept_slot, few-after, few-outcome_in}
 
-pub IsDesk-new : (s : State) → IsDesk (record { volume = s; openings = 0; held = [] })
-IsDesk-new s = record {
-  few = tt;
+few-free : (m n : ℕ) → AllByRecursion (IsFew m) (map kept_slot (replicate n None))
+few-free m zero = tt
+few-free m (suc n) = (tt, few-free m n)
+
+free-length : (n : ℕ) → length (map kept_slot (replicate n None)) ≡ n
+free-length zero = refl
+free-length (suc n) = ap suc (free-length n)
+
+free-same : {A B C : Type 0} (f : A → C) (g : B → C) (n : ℕ) → map (option_map f) (replicate n None) ≡ map (option_map g) (replicate n None)
+free-same f g zero = refl
+free-same f g (suc n) = ap (λ ks. None ∷ ks) (free-same f g n)
+
+pub Shows-new : FirstWorldsAreFair → (s : State) → Shows (record { volume = s; openings = 0; slots = map kept_slot (replicate 64 None) }) (first_world (record { start = s; changes = [] }))
+Shows-new fair s =
+    let b : Book = record { start = s; changes = [] } in
+    record { fair = fair b; kept = ap (λ ks. record { volume = s; openings = 0; slots = ks }) (free-same slot_of (slot_for b) 64) }
+
+pub IsDesk-new : FirstWorldsAreFair → (s : State) → IsDesk (record { volume = s; openings = 0; slots = map kept_slot (replicate 64 None) })
+IsDesk-new fair s = record {
+  slots = free-length 64;
+  few = few-free (3 * s.number) 64;
   world = first_world (record { start = s; changes = [] });
-  shows = record { fair = tt; kept = refl };
+  shows = Shows-new fair s;
 }
 
-pub IsDesk-change : UpdatesJoin → StepsAreFew → ChangesCount → (k : Kept) (c : Change_) → IsDesk k → IsVolume k.volume → IsLawful k.volume c → IsDesk (changed k c)
-IsDesk-change join steps count k c d v lawful = record {
-  few = subst (λ (n : ℕ). AllByRecursion (λ (h : Held). h.sent ≤ 3 * n) (changed k c).held) (sym (count k.volume c)) (few-after steps k.volume c k.held v lawful d.few);
-  world = with_change d.world c;
-  shows = shows-change join k d.world c d.shows;
-}
+module _ (alike : KeptShowsWorlds) where
+  pub IsDesk-change : StepsAreFew → ChangesCount → (k : Kept) (c : Change_) → IsDesk k → IsVolume k.volume → IsLawful k.volume c → IsDesk (changed k c)
+  IsDesk-change steps count k c d v lawful = record {
+    slots = length-map _ k.slots ∙ d.slots;
+    few = subst (λ (n : ℕ). AllByRecursion (IsFew (3 * n)) (changed k c).slots) (sym (count k.volume c)) (few-after steps k.volume c k.slots v lawful d.few);
+    world = next d.world (Changing c);
+    shows = subst (λ (r : Option Refusal). Shows (change_if k c r).1 (next d.world (Changing c))) lawful (alike k d.world (Changing c) d.shows).1;
+  }
 
-pub IsDesk-open : (k : Kept) (q : Query) (moved : Bool) → IsDesk k → IsDesk (opened k q moved)
-IsDesk-open k q moved d = record {
-  few = few-push (3 * k.volume.number) k.held _ d.few (omega arith);
-  world = with_sub d.world q moved;
-  shows = shows-open k d.world q moved d.shows;
-}
+  pub IsDesk-open : (k : Kept) (q : Query) (port backlog : ℕ) (moved : Bool) → IsDesk k → opening_refusal k port backlog ≡ None → IsDesk (opened k (fresh_slot q moved k.volume.number port backlog))
+  IsDesk-open k q port backlog moved d none =
+      let s = fresh_slot q moved k.volume.number port backlog in
+      record {
+        slots = length-set k.slots (first_free k.slots) (Some s) ∙ d.slots;
+        few = all-set (IsFew (3 * k.volume.number)) k.slots (first_free k.slots) (Some s) d.few (omega arith);
+        world = next d.world (Opening q port backlog moved);
+        shows = subst (λ (r : Option Refusal). Shows (open_if k s r).1 (next d.world (Opening q port backlog moved))) none (alike k d.world (Opening q port backlog moved) d.shows).1;
+      }
 
-few-set : (n : ℕ) (hs : List Held) (i : ℕ) (x : Held) → AllByRecursion (λ h. h.sent ≤ n) hs → x.sent ≤ n → AllByRecursion (λ h. h.sent ≤ n) (slice_set hs i x)
-few-set n [] i x h le = tt
-few-set n (y ∷ hs) zero x h le = (le, h.1)
-few-set n (y ∷ hs) (suc i) x h le = (h.0, few-set n hs i x h.1 le)
+  pub IsDesk-act : (k : Kept) (a : Act) (slot : ℕ) (r : Answer) (ks : List (Option KeptSlot)) → IsDesk k → (r, ks) ≡ outcome_in k.volume.number a k.slots (slot - 1)
+      → (r, record k { slots = ks }) ≡ kept_outcome k (happening_at a slot) → IsDesk (record k { slots = ks })
+  IsDesk-act k a slot r ks d is does =
+      let e = happening_at a slot in
+      let at : ks ≡ (outcome_in k.volume.number a k.slots (slot - 1)).1 = ap (λ (p : Answer × List (Option KeptSlot)). p.1) is in
+      record {
+        slots = ap length at ∙ (length-set k.slots (slot - 1) _ ∙ d.slots);
+        few = subst (λ (js : List (Option KeptSlot)). AllByRecursion (IsFew (3 * k.volume.number)) js) (sym at) (few-outcome_in (3 * k.volume.number) k.volume.number a k.slots (slot - 1) d.few);
+        world = next d.world e;
+        shows = subst (λ (p : Answer × Kept). Shows p.1 (next d.world e)) (sym does) (alike k d.world e d.shows).1;
+      }
 
-few-get : (n : ℕ) (hs : List Held) (i : ℕ) (x : Held) → AllByRecursion (λ h. h.sent ≤ n) hs → slice_get hs i ≡ Some x → x.sent ≤ n
-few-get n [] i x h at = absurd (let no : ⊥ = cc in no)
-few-get n (y ∷ hs) zero x h at = let same : y ≡ x = cc in subst (λ (z : Held). z.sent ≤ n) same h.0
-few-get n (y ∷ hs) (suc i) x h at = few-get n hs i x h.1 at
+-- an opening that passes the tests
+pub opens : (k : Kept) (port backlog : ℕ) → 1 ≤ port → port ≤ 1024 → backlog ≤ 65536 → first_free k.slots < length k.slots → k.openings < k.volume.limit → opening_refusal k port backlog ≡ None
+opens k port backlog one most few free more = grind (arith, nat_tests)
 
-few-taken : (n : ℕ) (hs : List Held) (i : ℕ) (o : Option Held) → slice_get hs i ≡ o → AllByRecursion (λ h. h.sent ≤ n) hs → AllByRecursion (λ h. h.sent ≤ n) (taken_if hs i o)
-few-taken n hs i None at h = h
-few-taken n hs i (Some x) at h = few-set n hs i (taken_from x) h (few-get n hs i x h at)
-
-pub IsDesk-take : (k : Kept) (slot : ℕ) → IsDesk k → (slot ≡ 0 → ⊥) → IsDesk (taken k slot (slice_get k.held (slot - 1)))
-IsDesk-take k slot d differs =
-    let there : held_at k slot ≡ slice_get k.held (slot - 1) = grind (arith, nat_tests) in
-    let moves = moves-take k d.world slot d.shows in
-    record {
-      few = few-taken (3 * k.volume.number) k.held (slot - 1) (slice_get k.held (slot - 1)) refl d.few;
-      world = moves.next;
-      shows = subst (λ (h : Option Held). Shows (taken k slot h) moves.next) there moves.shows;
-    }
+-- the slots with a new subscription in the first free one
+pub slots-opened : (xs ys : List (Option PreparedSlot)) (place : ℕ) (p : PreparedSlot) (k : KeptSlot) → ys ≡ slice_set xs place (Some p) → slot_of p ≡ k → place ≡ first_free (map kept_slot xs)
+    → map kept_slot ys ≡ slice_set (map kept_slot xs) (first_free (map kept_slot xs)) (Some k)
+slots-opened xs ys place p k is same at =
+    ap (map kept_slot) is
+    ∙ (map-set kept_slot xs place (Some p)
+    ∙ (ap (λ j. slice_set (map kept_slot xs) place (Some j)) same ∙ ap (λ n. slice_set (map kept_slot xs) n (Some k)) at))

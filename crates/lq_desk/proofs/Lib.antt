@@ -1,7 +1,12 @@
-pub mod WorldLaws
-pub mod Fronts
-pub mod Openings
-pub mod KeptLemmas
+pub mod ListLemmas
+pub mod UpdateLemmas
+pub mod HeldLemmas
+pub mod SlotLemmas
 pub mod Shown
-pub mod Moved
+pub mod SlotsLemmas
+pub mod FreeLemmas
 pub mod Desks
+pub mod RunLemmas
+pub mod PassedLemmas
+pub mod TurnLemmas
+pub mod PassingLemmas

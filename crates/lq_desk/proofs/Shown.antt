@@ -1,152 +1,185 @@
--- What the desk keeps goes on showing the world, event by event.
-use Rattle.std.proofs.Common.{◌≡◌, ℕ, zero, suc, ◌+◌, ◌-◌, ◌≤◌, List, [], ◌∷◌, ◌++◌, refl, ap, map, take, drop, length, ◌∙◌, sym, arith, length-append, Some, None, Option}
-use Rattle.std.specs.Prelude.{slice_get, slice_set, Bool}
-use Rattle.std.specs.Option.{option_map}
+-- What a desk keeps where a world stands does at each event what the world does.
+use Rattle.std.proofs.Common.{◌≡◌, ℕ, ◌+◌, ◌-◌, List, [], ◌∷◌, refl, ap, take, drop, length, ◌∙◌, sym, subst, arith, Some, None, Option, map, Bool, true, false, inl, inr}
+use Rattle.std.specs.Prelude.{slice_get, slice_set, ◌==◌, ◌&&◌, not, nat_lt, nat_le, if◌then◌else◌}
+use Rattle.std.specs.Option.{option_map, option_flatten}
 use Rattle.std.specs.List.{AllByRecursion}
+use Rattle.lq_value.specs.declared.entry.Entry.{Entry}
+use Rattle.lq_value.specs.declared.refusal.Refusal.{Refusal}
+use Rattle.lq_value.specs.declared.refusal.Refusal.TheVariants.{BadPort, BadBacklog, NoSlot, Exhausted}
+use Rattle.lq_value.specs.Refusal.{first_refusal}
 use Rattle.lq_formula.specs.Query.{Query}
 use Rattle.lq_volume.specs.declared.change.Change.{Change as Change_}
-use Rattle.lq_volume.specs.Change.{after}
-use Rattle.lq_volume.specs.Book.{Book, grown, number_of, state_of}
-use Rattle.lq_update.specs.declared.message.Message.{Message}
-use Rattle.lq_update.specs.Updates.{step_of}
+use Rattle.lq_volume.specs.Change.{refused as refused_by, node_of, after}
+use Rattle.lq_volume.specs.Result.{result_of}
+use Rattle.lq_volume.specs.Laws.{ChangesCount}
+use Rattle.lq_volume.specs.Book.{Book, grown, number_of, state_of, state_at}
+use Rattle.lq_update.specs.Updates.{updates_of, updates_from}
 use Rattle.lq_update.specs.Laws.{UpdatesJoin}
-use Rattle.lq_desk.specs.Held.{Held, held_after, told, taken_from}
-use Rattle.lq_desk.specs.World.{World, Sub, whole, with_change, with_sub, with_taken, opened_now, one_more_taken}
-use Rattle.lq_desk.specs.Desk.{Kept, changed, opened, held_for, kept_of, IsFair, Shows}
-use Rattle.lq_desk.proofs.WorldLaws.{whole-change, whole-from, after_all-append, drop-inside, drop-all}
-use Rattle.lq_desk.proofs.Fronts.{take-one_more}
+use Rattle.lq_world.specs.World.{World, Sub, told, slot_at, after_change, taken_before_free}
+use Rattle.lq_world.specs.Events.{Happening, Changing, Opening, Putting, Taking, HangingUp, Noticing, Closing, Finishing, Answer, Changed, Opened, changing, with_change, opening, opened_now, open_refusal, putting, taking, hanging_up, noticing, closing, finishing, at_slot, answer, next}
+use Rattle.lq_world.specs.Runs.{MayRunOut}
+use Rattle.lq_world.specs.Fair.{IsFair, IsFairSlot, IsFairWorld}
+use Rattle.lq_world.specs.Laws.{RunsKeepWorldsFair}
+use Rattle.lq_desk.specs.Slot.{KeptSlot, fresh_slot, slot_after, put_slot, take_slot, ask_slot, notice_slot, close_slot, finish_slot}
+use Rattle.lq_desk.specs.Kept.{Kept, Shows, KeptStep, kept_of, slot_for, kept_at, at_place, at_kept, first_free, opening_refusal, opened, open_if, changed, change_if, kept_outcome}
+use Rattle.lq_desk.specs.Kept as kept
+use Rattle.lq_desk.specs.Reply.{Moves}
+use Rattle.lq_desk.specs.Laws.{KeptShowsWorlds}
+use Rattle.lq_desk.proofs.ListLemmas.{all-get, map-set, slice_get-map, length-map, not-below}
+use Rattle.lq_desk.proofs.UpdateLemmas.{after_all-append, number-all}
+use Rattle.lq_desk.proofs.SlotLemmas.{kept_alike, put-same, take-same, ask-same, notice-same, close-same, finish-same, change-same}
 
-module _ (join : UpdatesJoin) where
-  fair-change : (b : Book) (c : Change_) (s : Sub) → IsFair b s → IsFair (grown b (c ∷ [])) s
-  fair-change b c s h =
-      let more = whole-change join b c s h.opened in
-      let ms = step_of s.query s.moved (state_of b) c (length (whole b s) + 1) in
-      record {
-        opened = omega (arith, h.opened, length-append b.changes (c ∷ []));
-        taken = omega (arith, h.taken, ap length more, length-append (whole b s) ms);
+-- ---- an event of one slot
+
+flatten-map : {A B : Type 0} (f : A → B) (o : Option (Option A)) → option_flatten (option_map (option_map f) o) ≡ option_map f (option_flatten o)
+flatten-map f None = refl
+flatten-map f (Some None) = refl
+flatten-map f (Some (Some x)) = refl
+
+pub kept_at-same : (w : World) (slot : ℕ) → kept_at (kept_of w) slot ≡ option_map (slot_for w.book) (slot_at w slot)
+kept_at-same w slot = by (slot == 0)
+  where
+    f : Sub → KeptSlot
+    f = slot_for w.book
+
+    by : (x : Bool) → (if x then None else option_flatten (slice_get (map (option_map (slot_for w.book)) w.slots) (slot - 1)))
+        ≡ option_map (slot_for w.book) (if x then None else option_flatten (slice_get w.slots (slot - 1)))
+    by true = refl
+    by false = ap option_flatten (slice_get-map (option_map (slot_for w.book)) w.slots (slot - 1)) ∙ flatten-map (slot_for w.book) (slice_get w.slots (slot - 1))
+
+pub slot-found : (w : World) (slot : ℕ) (s : Sub) → slot_at w slot ≡ Some s → slice_get w.slots (slot - 1) ≡ Some (Some s)
+slot-found w slot s is = by (slot == 0) (slice_get w.slots (slot - 1)) is
+  where
+    by : (x : Bool) (o : Option (Option Sub)) → (if x then None else option_flatten o) ≡ Some s → o ≡ Some (Some s)
+    by true o is = absurd (let no : ⊥ = cc in no)
+    by false None is = absurd (let no : ⊥ = cc in no)
+    by false (Some None) is = absurd (let no : ⊥ = cc in no)
+    by false (Some (Some t)) is = cc
+
+at-same : (w : World) → IsFairWorld w → (slot : ℕ) (event : Sub → Answer × Option Sub) (does : KeptSlot → Answer × Option KeptSlot)
+    → ((s : Sub) → IsFair w.book s → does (slot_for w.book s) ≡ ((event s).0, option_map (slot_for w.book) (event s).1))
+    → at_kept (kept_of w) slot does ≡ ((at_slot w slot (slot_at w slot) event).0, kept_of (at_slot w slot (slot_at w slot) event).1)
+at-same w fair slot event does same = ap (λ o. at_place (kept_of w) (slot - 1) o does) (kept_at-same w slot) ∙ by (slot_at w slot) refl
+  where
+    by : (o : Option Sub) → slot_at w slot ≡ o → at_place (kept_of w) (slot - 1) (option_map (slot_for w.book) o) does ≡ ((at_slot w slot o event).0, kept_of (at_slot w slot o event).1)
+    by None is = refl
+    by (Some s) is =
+        let f : IsFair w.book s = all-get (IsFairSlot w.book) w.slots (slot - 1) (Some s) fair (slot-found w slot s is) in
+        ap (λ (r : Answer × Option KeptSlot). (r.0, record (kept_of w) { slots = slice_set (kept_of w).slots (slot - 1) r.1 })) (same s f)
+        ∙ ap (λ ks. ((event s).0, record (kept_of w) { slots = ks })) (sym (map-set (option_map (slot_for w.book)) w.slots (slot - 1) (event s).1))
+
+-- ---- an opening
+
+free-same : (b : Book) (os : List (Option Sub)) → first_free (map (option_map (slot_for b)) os) ≡ taken_before_free os
+free-same b [] = refl
+free-same b (None ∷ os) = refl
+free-same b (Some s ∷ os) = ap (λ n. n + 1) (free-same b os)
+
+-- the tests of an opening, by how many slots there are and the place of the first free one
+abbrev refusal_by : World → ℕ → ℕ → ℕ → ℕ → Option Refusal
+refusal_by w port backlog size free = first_refusal (
+    (not (nat_le 1 port && nat_le port 1024), BadPort)
+    ∷ (not (nat_le backlog 65536), BadBacklog)
+    ∷ (nat_le size free, NoSlot)
+    ∷ (nat_le (state_of w.book).limit w.openings, Exhausted)
+    ∷ [])
+
+pub refusal-same : (w : World) (port backlog : ℕ) → opening_refusal (kept_of w) port backlog ≡ open_refusal w port backlog
+refusal-same w port backlog =
+    ap (λ n. refusal_by w port backlog n (first_free (kept_of w).slots)) (length-map (option_map (slot_for w.book)) w.slots)
+    ∙ ap (refusal_by w port backlog (length w.slots)) (free-same w.book w.slots)
+
+nothing_told : (q : Query) (moved : Bool) (b : Book) (n : ℕ) → updates_of q moved b n n ≡ []
+nothing_told q moved b n = ap (λ k. updates_from q moved (state_at b n) (take k (drop (n - b.start.number) b.changes)) 1) (let e : n - n ≡ 0 = omega arith in e)
+
+module _ (count : ChangesCount) where
+  numbered : (b : Book) → (state_of b).number ≡ number_of b
+  numbered b = number-all count b.start b.changes
+
+  fresh-same : (w : World) (q : Query) (port backlog : ℕ) (moved : Bool) → fresh_slot q moved (state_of w.book).number port backlog ≡ slot_for w.book (opened_now w q port backlog moved)
+  fresh-same w q port backlog moved =
+      let s = opened_now w q port backlog moved in
+      let none : [] ≡ told w.book s = sym (nothing_told q moved w.book (number_of w.book)) in
+      ap (λ n. fresh_slot q moved n port backlog) (numbered w.book)
+      ∙ kept_alike s 0 (length (told w.book s)) [] (told w.book s) None None false (nat_lt (length (told w.book s)) 0) [] [] (ap length none) none refl (not-below (length (told w.book s))) refl
+
+  opening-same : (w : World) (q : Query) (port backlog : ℕ) (moved : Bool) (r : Option Refusal)
+      → open_if (kept_of w) (fresh_slot q moved (state_of w.book).number port backlog) r
+      ≡ ((opening w (opened_now w q port backlog moved) r).0, kept_of (opening w (opened_now w q port backlog moved) r).1)
+  opening-same w q port backlog moved (Some e) = refl
+  opening-same w q port backlog moved None =
+      let k = kept_of w in
+      let s = opened_now w q port backlog moved in
+      let first : List Entry = result_of q (state_of w.book) in
+      ap (λ (t : KeptSlot). (Opened (first_free k.slots + 1) k.volume.number (result_of t.held.query k.volume), opened k t)) (fresh-same w q port backlog moved)
+      ∙ (ap (λ n. (Opened (first_free k.slots + 1) n first, opened k (slot_for w.book s))) (numbered w.book)
+      ∙ (ap (λ n. (Opened (n + 1) (number_of w.book) first, record { volume = k.volume; openings = k.openings + 1; slots = slice_set k.slots n (Some (slot_for w.book s)) })) (free-same w.book w.slots)
+      ∙ ap (λ ks. (Opened (taken_before_free w.slots + 1) (number_of w.book) first, record { volume = k.volume; openings = k.openings + 1; slots = ks }))
+      (sym (map-set (option_map (slot_for w.book)) w.slots (taken_before_free w.slots) (Some s)))))
+
+  -- ---- a change
+
+  module _ (join : UpdatesJoin) where
+    changed-slots : (b : Book) (c : Change_) (os : List (Option Sub)) → AllByRecursion (IsFairSlot b) os
+        → map (option_map (slot_after (state_of b) c)) (map (option_map (slot_for b)) os) ≡ map (option_map (slot_for (grown b (c ∷ [])))) (map (option_map (after_change b c)) os)
+    changed-slots b c [] h = refl
+    changed-slots b c (None ∷ os) h = ap (λ ks. None ∷ ks) (changed-slots b c os h.1)
+    changed-slots b c (Some s ∷ os) h =
+        ap (λ k. Some k ∷ map (option_map (slot_after (state_of b) c)) (map (option_map (slot_for b)) os)) (change-same join b c s h.0 (numbered b))
+        ∙ ap (λ ks. Some (slot_for (grown b (c ∷ [])) (after_change b c s)) ∷ ks) (changed-slots b c os h.1)
+
+    changing-same : (w : World) (c : Change_) → IsFairWorld w → (r : Option Refusal) → change_if (kept_of w) c r ≡ ((changing w c r).0, kept_of (changing w c r).1)
+    changing-same w c fair (Some e) = refl
+    changing-same w c fair None =
+        let k = kept_of w in
+        let node = node_of (state_of w.book) c in
+        ap (λ n. (Changed (record { change = n + 1; node = node }), changed k c)) (numbered w.book)
+        ∙ (ap (λ ks. (Changed (record { change = number_of w.book + 1; node = node }), record { volume = after (state_of w.book) c; openings = w.openings; slots = ks })) (changed-slots w.book c w.slots fair)
+        ∙ ap (λ v. (Changed (record { change = number_of w.book + 1; node = node }), record { volume = v; openings = w.openings; slots = (kept_of (with_change w c)).slots }))
+        (sym (after_all-append w.book.start w.book.changes (c ∷ []))))
+
+    -- ---- all events
+
+    outcome-same : (w : World) (e : Happening) → IsFairWorld w → kept_outcome (kept_of w) e ≡ (answer w e, kept_of (next w e))
+    outcome-same w (Changing c) fair = changing-same w c fair (refused_by (state_of w.book) c)
+    outcome-same w (Opening q port backlog moved) fair =
+        ap (open_if (kept_of w) (fresh_slot q moved (state_of w.book).number port backlog)) (refusal-same w port backlog)
+        ∙ opening-same w q port backlog moved (open_refusal w port backlog)
+    outcome-same w (Putting slot) fair = at-same w fair slot (putting w.book) put_slot (put-same w.book)
+    outcome-same w (Taking slot) fair = at-same w fair slot (taking w.book) take_slot (take-same w.book)
+    outcome-same w (HangingUp slot) fair = at-same w fair slot hanging_up ask_slot (λ s f. ask-same w.book s)
+    outcome-same w (Noticing slot) fair =
+        ap (λ n. at_kept (kept_of w) slot (notice_slot n)) (numbered w.book) ∙ at-same w fair slot (noticing w.book) (notice_slot (number_of w.book)) (notice-same w.book)
+    outcome-same w (Closing slot) fair =
+        ap (λ n. at_kept (kept_of w) slot (close_slot n)) (numbered w.book) ∙ at-same w fair slot (closing w.book) (close_slot (number_of w.book)) (close-same w.book)
+    outcome-same w (Finishing slot) fair = at-same w fair slot (finishing w.book) finish_slot (finish-same w.book)
+
+    module _ (stays : RunsKeepWorldsFair) where
+      next-fair : (w : World) (e : Happening) → IsFairWorld w → IsFairWorld (next w e)
+      next-fair w e fair = stays w (next w e) (e ∷ []) (answer w e ∷ []) fair (next w e, inl (refl, refl), refl)
+
+      pub kept-shows : KeptShowsWorlds
+      kept-shows k w e shows =
+          let same : kept_outcome k e ≡ (answer w e, kept_of (next w e)) = ap (λ j. kept_outcome j e) shows.kept ∙ outcome-same w e shows.fair in
+          (ap (λ (r : Answer × Kept). r.0) same, record { fair = next-fair w e shows.fair; kept = ap (λ (r : Answer × Kept). r.1) same })
+
+      -- what may run out in the desk may in the world
+      runs_out : (w : World) (e : Happening) → kept.MayRunOut (kept_of w) e → MayRunOut w e
+      runs_out w (Changing c) is = is
+      runs_out w (Opening q port backlog moved) is = sym (refusal-same w port backlog) ∙ is
+      runs_out w (Putting slot) is = is
+      runs_out w (Taking slot) is = is
+      runs_out w (HangingUp slot) is = is
+      runs_out w (Noticing slot) is = is
+      runs_out w (Closing slot) is = is
+      runs_out w (Finishing slot) is = is
+
+      pub moves : (old new : Kept) (w : World) (e : Happening) (a : Answer) → KeptStep old e a new → Shows old w → Moves new w e a
+      moves old new w e a (inl done) shows =
+          let same = kept-shows old w e shows in
+          record { next = next w e; step = inl (done.0 ∙ same.0, refl); shows = subst (λ (k : Kept). Shows k (next w e)) (sym done.1) same.1 }
+      moves old new w e a (inr ran) shows = record {
+        next = w;
+        step = inr (runs_out w e (subst (λ (k : Kept). kept.MayRunOut k e) shows.kept ran.0), ran.1, refl);
+        shows = subst (λ (k : Kept). Shows k w) (sym ran.2) shows;
       }
-
-  held_for-change : (b : Book) (c : Change_) (s : Sub) → IsFair b s → held_after (state_of b) c (held_for b s) ≡ held_for (grown b (c ∷ [])) s
-  held_for-change b c s h =
-      let ms = step_of s.query s.moved (state_of b) c (length (whole b s) + 1) in
-      let more = whole-change join b c s h.opened in
-      let list : told (held_for b s) ms ≡ record { query = s.query; moved = s.moved; sent = length (whole b s ++ ms); waiting = drop s.taken (whole b s ++ ms) } =
-      rw (length-append, drop-inside s.taken (whole b s) ms h.taken) refl in
-      list ∙ ap (λ ws. record { query = s.query; moved = s.moved; sent = length ws; waiting = drop s.taken ws }) (sym more)
-
-  map-change : (b : Book) (c : Change_) (ss : List Sub) → AllByRecursion (IsFair b) ss → map (held_after (state_of b) c) (map (held_for b) ss) ≡ map (held_for (grown b (c ∷ []))) ss
-  map-change b c [] h = refl
-  map-change b c (s ∷ ss) h = let here = held_for-change b c s h.0 in let rest = map-change b c ss h.1 in cc
-
-  all-change : (b : Book) (c : Change_) (ss : List Sub) → AllByRecursion (IsFair b) ss → AllByRecursion (IsFair (grown b (c ∷ []))) ss
-  all-change b c [] h = tt
-  all-change b c (s ∷ ss) h = (fair-change b c s h.0, all-change b c ss h.1)
-
-  -- a change that the desk makes is the world's
-  pub shows-change : (k : Kept) (w : World) (c : Change_) → Shows k w → Shows (changed k c) (with_change w c)
-  shows-change k w c h = record {
-    fair = all-change w.book c w.slots h.fair;
-    kept = ap (λ (j : Kept). changed j c) h.kept
-        ∙ (ap (λ hs. record { volume = after (state_of w.book) c; openings = w.openings; held = hs }) (map-change w.book c w.slots h.fair)
-        ∙ ap (λ t. record { volume = t; openings = w.openings; held = map (held_for (grown w.book (c ∷ []))) w.slots }) (sym (after_all-append w.book.start w.book.changes (c ∷ []))));
-  }
-
--- nothing was told yet at an opening
-whole-now : (b : Book) (q : Query) (moved : Bool) → whole b (record { query = q; moved = moved; opened = number_of b; taken = 0 }) ≡ []
-whole-now b q moved = rw (whole-from q moved b (number_of b), drop-all (number_of b - b.start.number) b.changes (omega arith)) refl
-
-map-held_for-push : (b : Book) (ss : List Sub) (s : Sub) → map (held_for b) (ss ++ s ∷ []) ≡ map (held_for b) ss ++ held_for b s ∷ []
-map-held_for-push b [] s = refl
-map-held_for-push b (t ∷ ss) s = ap (λ hs. held_for b t ∷ hs) (map-held_for-push b ss s)
-
-fair-push : (b : Book) (ss : List Sub) (s : Sub) → AllByRecursion (IsFair b) ss → IsFair b s → AllByRecursion (IsFair b) (ss ++ s ∷ [])
-fair-push b [] s h f = (f, tt)
-fair-push b (t ∷ ss) s h f = (h.0, fair-push b ss s h.1 f)
-
--- an opening that the desk makes is the world's
-pub shows-open : (k : Kept) (w : World) (q : Query) (moved : Bool) → Shows k w → Shows (opened k q moved) (with_sub w q moved)
-shows-open k w q moved h =
-    let s = opened_now w q moved in
-    let empty = whole-now w.book q moved in
-    let fresh : record { query = q; moved = moved; sent = 0; waiting = [] } ≡ held_for w.book s = sym (ap (λ ws. record { query = q; moved = moved; sent = length ws; waiting = drop 0 ws }) empty) in
-    record {
-      fair = fair-push w.book w.slots s h.fair (record { opened = omega arith; taken = omega arith });
-      kept = ap (λ (j : Kept). opened j q moved) h.kept
-          ∙ ap (λ hs. record { volume = state_of w.book; openings = w.openings + 1; held = hs })
-          (ap (λ x. map (held_for w.book) w.slots ++ x ∷ []) fresh ∙ sym (map-held_for-push w.book w.slots s));
-    }
-
--- ---- a take
-
-pub slice_get-map : {A B : Type 0} (f : A → B) (xs : List A) (i : ℕ) → slice_get (map f xs) i ≡ option_map f (slice_get xs i)
-slice_get-map f [] i = refl
-slice_get-map f (x ∷ xs) zero = refl
-slice_get-map f (x ∷ xs) (suc i) = slice_get-map f xs i
-
-map-set : {A B : Type 0} (f : A → B) (xs : List A) (i : ℕ) (x : A) → map f (slice_set xs i x) ≡ slice_set (map f xs) i (f x)
-map-set f [] i x = refl
-map-set f (y ∷ xs) zero x = refl
-map-set f (y ∷ xs) (suc i) x = ap (λ ys. f y ∷ ys) (map-set f xs i x)
-
-set-same : {A : Type 0} (xs : List A) (i : ℕ) (x : A) → slice_get xs i ≡ Some x → slice_set xs i x ≡ xs
-set-same [] i x h = refl
-set-same (y ∷ xs) zero x h = cc
-set-same (y ∷ xs) (suc i) x h = ap (λ ys. y ∷ ys) (set-same xs i x h)
-
-drop-suc : {A : Type 0} (n : ℕ) (xs : List A) → drop 1 (drop n xs) ≡ drop (suc n) xs
-drop-suc zero xs = refl
-drop-suc (suc n) [] = refl
-drop-suc (suc n) (x ∷ xs) = drop-suc n xs
-
-drop-drop : {A : Type 0} (n : ℕ) (xs : List A) → drop 1 (drop n xs) ≡ drop (n + 1) xs
-drop-drop n xs = drop-suc n xs ∙ ap (λ k. drop k xs) (let e : suc n ≡ n + 1 = omega arith in e)
-
--- the first that waits is the one past those taken
-pub first-waiting : {A : Type 0} (n : ℕ) (xs : List A) → slice_get (drop n xs) 0 ≡ slice_get xs n
-first-waiting zero xs = refl
-first-waiting (suc n) [] = refl
-first-waiting (suc n) (x ∷ xs) = first-waiting n xs
-
-none-waits : {A : Type 0} (n : ℕ) (xs : List A) → slice_get xs n ≡ None → drop n xs ≡ []
-none-waits zero [] h = refl
-none-waits zero (x ∷ xs) h = absurd (let no : ⊥ = cc in no)
-none-waits (suc n) [] h = refl
-none-waits (suc n) (x ∷ xs) h = none-waits n xs h
-
-fair-set : (b : Book) (ss : List Sub) (i : ℕ) (s : Sub) → AllByRecursion (IsFair b) ss → IsFair b s → AllByRecursion (IsFair b) (slice_set ss i s)
-fair-set b [] i s h f = tt
-fair-set b (t ∷ ss) zero s h f = (f, h.1)
-fair-set b (t ∷ ss) (suc i) s h f = (h.0, fair-set b ss i s h.1 f)
-
-fair-at : (b : Book) (ss : List Sub) (i : ℕ) (s : Sub) → AllByRecursion (IsFair b) ss → slice_get ss i ≡ Some s → IsFair b s
-fair-at b [] i s h at = absurd (let no : ⊥ = cc in no)
-fair-at b (t ∷ ss) zero s h at = let same : t ≡ s = cc in rw (← same) h.0
-fair-at b (t ∷ ss) (suc i) s h at = fair-at b ss i s h.1 at
-
--- one message more taken from this subscription
-pub shows-taken : (k : Kept) (w : World) (place : ℕ) (s : Sub) (m : Message) → Shows k w → slice_get w.slots place ≡ Some s → slice_get (whole w.book s) s.taken ≡ Some m
-    → Shows (record { volume = k.volume; openings = k.openings; held = slice_set k.held place (taken_from (held_for w.book s)) }) (with_taken w place s)
-shows-taken k w place s m h at here =
-    let f = fair-at w.book w.slots place s h.fair at in
-    let more = take-one_more (whole w.book s) s.taken m here in
-    let one : taken_from (held_for w.book s) ≡ held_for w.book (one_more_taken s) = ap (λ ws. record { query = s.query; moved = s.moved; sent = length (whole w.book s); waiting = ws }) (drop-drop s.taken (whole w.book s)) in
-    record {
-      fair = fair-set w.book w.slots place (one_more_taken s) h.fair (record { opened = f.opened; taken = more.1 });
-      kept = ap (λ (j : Kept). record { volume = j.volume; openings = j.openings; held = slice_set j.held place (taken_from (held_for w.book s)) }) h.kept
-          ∙ ap (λ hs. record { volume = state_of w.book; openings = w.openings; held = hs })
-          (ap (slice_set (map (held_for w.book) w.slots) place) one ∙ sym (map-set (held_for w.book) w.slots place (one_more_taken s)));
-    }
-
--- nothing waits, so nothing is taken
-pub shows-empty : (k : Kept) (w : World) (place : ℕ) (s : Sub) → Shows k w → slice_get w.slots place ≡ Some s → slice_get (whole w.book s) s.taken ≡ None
-    → Shows (record { volume = k.volume; openings = k.openings; held = slice_set k.held place (taken_from (held_for w.book s)) }) w
-shows-empty k w place s h at here =
-    let empty = none-waits s.taken (whole w.book s) here in
-    let none : taken_from (held_for w.book s) ≡ held_for w.book s = ap (λ ws. record { query = s.query; moved = s.moved; sent = length (whole w.book s); waiting = ws }) (ap (drop 1) empty ∙ sym empty) in
-    let there : slice_get (map (held_for w.book) w.slots) place ≡ Some (held_for w.book s) = slice_get-map (held_for w.book) w.slots place ∙ ap (option_map (held_for w.book)) at in
-    record {
-      fair = h.fair;
-      kept = ap (λ (j : Kept). record { volume = j.volume; openings = j.openings; held = slice_set j.held place (taken_from (held_for w.book s)) }) h.kept
-          ∙ ap (λ hs. record { volume = state_of w.book; openings = w.openings; held = hs })
-          (ap (slice_set (map (held_for w.book) w.slots) place) none ∙ set-same (map (held_for w.book) w.slots) place (held_for w.book s) there);
-    }

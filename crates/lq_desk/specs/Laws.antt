@@ -1,8 +1,36 @@
--- What is so of whatever a desk keeps.
-use Rattle.std.specs.Prelude.{◌≡◌}
-use Rattle.lq_desk.specs.World.{World, Happening, answer, next}
-use Rattle.lq_desk.specs.Desk.{Kept, Shows, kept_outcome}
+-- What is so of whatever a subscription holds, and of whatever a desk keeps.
+use Rattle.std.specs.Prelude.{◌≡◌, ℕ, List, [], ◌++◌, map, take, Some, if◌then◌else◌}
+use Rattle.std.specs.Option.{option_to_list}
+use Rattle.lq_update.specs.declared.parcel.Parcel.{Parcel}
+use Rattle.lq_update.specs.declared.parcel.Parcel.TheVariants.{Update, Fin}
+use Rattle.lq_world.specs.World.{World, Sub, whole, slot_at}
+use Rattle.lq_world.specs.Events.{Happening, answer, next}
+use Rattle.lq_world.specs.Turns.{turn_outcome}
+use Rattle.lq_desk.specs.Held.{Held, next_parcel, without, with_back}
+use Rattle.lq_desk.specs.Slot.{KeptSlot}
+use Rattle.lq_desk.specs.Kept.{Kept, Shows, kept_at, kept_outcome}
+use Rattle.lq_desk.specs.Turn as turn
+
+-- a parcel that goes out and is put back leaves all as it was
+abbrev pub PuttingBackUndoes : Type 0
+PuttingBackUndoes = (h : Held) (p : Parcel) → next_parcel h ≡ Some p → with_back (without h (Some p)) p ≡ h
 
 -- where what is kept shows a world, both answer each event alike, and then show each other again
 abbrev pub KeptShowsWorlds : Type 0
 KeptShowsWorlds = (k : Kept) (w : World) (e : Happening) → Shows k w → ((kept_outcome k e).0 ≡ answer w e) × Shows (kept_outcome k e).1 (next w e)
+
+-- and carry out each turn alike
+abbrev pub KeptTurnsShowWorlds : Type 0
+KeptTurnsShowWorlds = (k : Kept) (w : World) (e : Happening) → Shows k w →
+    ((turn.turn_outcome k e).0 ≡ (turn_outcome w e).0) × Shows (turn.turn_outcome k e).1 (turn_outcome w e).1
+
+-- the mark, where it hasn't gone out
+abbrev pub mark_left : Held → List Parcel
+mark_left h = if h.mark_out then [] else map (λ mark. Fin mark) (option_to_list h.mark)
+
+-- Of each subscription of a world that it shows: what was taken, then what is in the port, then the messages held,
+-- then a mark that hasn't gone out, is all that the subscription is told.
+abbrev pub KeptPassesListsOn : Type 0
+KeptPassesListsOn = (k : Kept) (w : World) (slot : ℕ) (s : Sub) → Shows k w → slot_at w slot ≡ Some s →
+    (c : KeptSlot) × (kept_at k slot ≡ Some c)
+    × (take s.taken (whole w.book s) ++ (c.queue ++ (map (λ m. Update m) c.held.messages ++ mark_left c.held)) ≡ whole w.book s)

@@ -1,6 +1,8 @@
-pub mod World
-pub mod Headline
 pub mod Held
-pub mod Desk
+pub mod Slot
+pub mod Act
+pub mod Kept
 pub mod Reply
+pub mod Passing
+pub mod Turn
 pub mod Laws

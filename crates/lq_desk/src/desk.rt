@@ -1,16 +1,21 @@
 //! The desk.
-ghost use Rattle.std.specs.Prelude.{◌≡◌, ◌+◌, ◌*◌, ◌<◌, ◌≤◌, ◌^◌, [], ◌∷◌, None, Some, IfOk, OnOk, OnErr, map, length};
-ghost use Rattle.lq_value.specs.Refusal.{IsRefusedBy};
+ghost use Rattle.std.specs.Prelude.{◌≡◌, ◌+◌, [], ◌∷◌, None, Some, IfOk, OnOk, OnErr, map, replicate};
 ghost use Rattle.lq_volume.specs.State.{IsVolume};
+ghost use Rattle.lq_value.specs.Refusal.{IsRefusedBy};
 ghost use Rattle.lq_volume.specs.Change.{refused, node_of};
 
-use crate::event::{Event, Read, Reply};
-use crate::sub::Sub;
-use crate::subs::{commit_all, prepare_all, take_at};
+mod turn;
+
+use crate::event::{Event, Reply};
+use crate::slot::{Act, Slot};
+use crate::slots::{SLOTS, Slots};
 use lq_predicate::Predicate;
 use lq_update::{steps_are_few, updates_join};
 use lq_value::Refusal;
 use lq_volume::{Applied, Change, Volume, changes_are_counted};
+use lq_world::{
+    first_worlds_are_fair, readers_are_told, refusals_leave_worlds, runs_keep_worlds_fair,
+};
 use std::alloc::Global;
 use std::marker::Model;
 
@@ -20,10 +25,7 @@ const MAX_PORT: u64 = 1024;
 /// The largest backlog, in messages.
 const MAX_BACKLOG: u64 = 65_536;
 
-/// The most live queries at one time.
-const MAX_SLOTS: usize = 64;
-
-/// The volume and its live queries, one event at a time.
+/// The volume and its live queries with their ports, one event at a time.
 ///
 /// A contract sees it as what it keeps, which shows a world.
 #[derive(Debug, Drop)]
@@ -31,13 +33,14 @@ pub struct Desk {
     volume: Volume,
     openings: u64,
     alloc: Global,
-    subs: Vec<Sub>,
+    slots: Slots,
 }
 
 impl Model for Desk {
     ghost use Rattle.std.specs.Prelude.{map};
-    ghost use Rattle.lq_desk.specs.Desk.{Kept, IsDesk};
-    ghost use Rattle.lq_desk.specs.Held.{held_of};
+    ghost use Rattle.std.specs.Option.{option_map};
+    ghost use Rattle.lq_desk.specs.Kept.{Kept, IsDesk};
+    ghost use Rattle.lq_desk.specs.Slot.{slot_of};
     ghost use Rattle.std.specs.Coded.{codes};
     ghost use Rattle.lq_predicate.specs.QueryCode.{coded_query};
 
@@ -45,31 +48,38 @@ impl Model for Desk {
 
     ghost coded = { Prim.hlevel (codes, coded_query) };
 
-    ghost view = { λ d. record { volume = d.volume; openings = d.openings; held = map held_of d.subs.items } };
+    ghost view = { λ d. record { volume = d.volume; openings = d.openings; slots = map (option_map slot_of) d.slots } };
 
-    ghost invariant = { λ d. IsDesk (record { volume = d.volume; openings = d.openings; held = map held_of d.subs.items }) };
+    ghost invariant = { λ d. IsDesk (record { volume = d.volume; openings = d.openings; slots = map (option_map slot_of) d.slots }) };
 }
 
 impl Desk {
-    ghost use Rattle.lq_volume.specs.State.{State};
     ghost use Rattle.lq_volume.specs.Result.{result_of};
-    ghost use Rattle.lq_desk.specs.Desk.{Kept, Shows, changed, opened, opening_refusal, held_at, take_answer, taken, KeptStep};
+    ghost use Rattle.lq_world.specs.World.{World, first_world};
+    ghost use Rattle.lq_world.specs.Events.{Opened, Refused};
+    ghost use Rattle.lq_value.specs.declared.refusal.Refusal.{Refusal};
+    ghost use Rattle.lq_world.specs.Headline.{ReadersAreTold};
+    ghost use Rattle.lq_desk.specs.Slot.{fresh_slot};
+    ghost use Rattle.lq_desk.specs.Kept.{Kept, KeptStep, Shows, changed, opened, opening_refusal, kept_outcome};
+    ghost use Rattle.lq_desk.specs.Kept as kept;
+    ghost use Rattle.lq_desk.specs.Act.{happening_at};
     ghost use Rattle.lq_desk.specs.Reply.{Moves, Runs, happening_of, answer_of};
-    ghost use Rattle.lq_desk.specs.World.{World, Opened, Taking, first_world, with_change, with_sub};
-    ghost use Rattle.lq_desk.specs.Headline.{ReadsArePrefixes};
 
-    /// A desk over a volume, with no live query. It takes no memory.
-    pub fn new(alloc: Global, volume: Volume) -> Desk
-        ensures kept { result ≡ record { volume = volume; openings = 0; held = [] } }
-        ensures world { Shows result (first_world (record { start = volume; changes = [] })) }
+    /// A desk over a volume, with 64 free slots. Refused: `NoMemory`.
+    pub fn new(alloc: Global, volume: Volume) -> Result<Desk, Refusal>
+        ensures refused { IsRefusedBy result None }
+        ensures kept { IfOk result (λ desk. desk ≡
+            record { volume = volume; openings = 0; slots = replicate 64 None }) }
+        ensures world { IfOk result (λ desk.
+            Shows desk (first_world (record { start = volume; changes = [] }))) }
     {
-        let _ = volume.changes();
-        Desk {
+        first_worlds_are_fair();
+        Ok(Desk {
             volume,
             openings: 0,
             alloc,
-            subs: Vec::new(alloc),
-        }
+            slots: Slots::new(alloc)?,
+        })
     }
 
     /// The volume as it is now. It takes no memory.
@@ -82,14 +92,52 @@ impl Desk {
     /// Carries out one event, and answers it.
     ///
     /// A change is refused as `Volume::apply` refuses it; an opening, the first that fits, with
-    /// `BadPort`, `BadBacklog`, `NoSlot`, `Exhausted`, `NoMemory`; a take of a slot where no query
-    /// stands with `NotOpen`. A refused event changes nothing. A take takes no memory.
+    /// `BadPort`, `BadBacklog`, `NoSlot`, `Exhausted`, `NoMemory`; any other event of a slot that is
+    /// free with `NotOpen`, and so is a close of a subscription that has ended; the finish of a slot
+    /// whose mark wasn't taken with `StillOpen`. A refused event changes nothing. Only a change and
+    /// an opening take memory.
     pub fn event(&mut self, event: &Event) -> Reply
         ensures kept { KeptStep self.old (happening_of event.now) (answer_of result) self.new }
         ensures world { (w : World) → Shows self.old w →
             Moves self.new w (happening_of event.now) (answer_of result) }
+        ensures refused { (refusal : Refusal) → answer_of result ≡ Refused refusal → self.new ≡ self.old }
     {
+        updates_join();
         changes_are_counted();
+        runs_keep_worlds_fair();
+        refusals_leave_worlds();
+        let _ = &self.volume;
+        self.carry_out(event)
+    }
+
+    /// Carries out events one after another, and answers each.
+    ///
+    /// Refused: `NoMemory`, before any event. The takes of each subscription that these events open
+    /// are answered as a reader of its update list is told: each message once and in order, the
+    /// mark behind them, and after each change that folds to the query's result.
+    pub fn run(&mut self, events: &[Event]) -> Result<Vec<Reply>, Refusal>
+        ensures refused { IsRefusedBy result None }
+        ensures run { IfOk result (λ replies. (w : World) → Shows self.old w →
+            Runs self.new w (map happening_of events.now) (map answer_of replies.items)) }
+        ensures readers { IfOk result (λ replies. ReadersAreTold self.old.volume
+            (map happening_of events.now) (map answer_of replies.items)) }
+        ensures volume { IsVolume self.old.volume }
+        ensures err { OnErr result (self.new ≡ self.old) }
+    {
+        readers_are_told();
+        let _ = self.volume.changes();
+        let mut replies = Vec::with_capacity(self.alloc, events.len())?;
+        for event in events {
+            let reply = self.event(event);
+            replies.push_reserved(reply);
+        }
+        Ok(replies)
+    }
+
+    // Carries out one event, and answers it.
+    fn carry_out(&mut self, event: &Event) -> Reply
+        ensures { KeptStep self.old (happening_of event.now) (answer_of result) self.new }
+    {
         match event {
             Event::Change(change) => match self.change(change) {
                 Ok(applied) => Reply::Changed(applied),
@@ -104,30 +152,13 @@ impl Desk {
                 Ok(reply) => reply,
                 Err(refusal) => Reply::Refused(refusal),
             },
-            Event::Take(slot) => self.take(*slot),
+            Event::Put(slot) => self.act(*slot, Act::Put),
+            Event::Take(slot) => self.act(*slot, Act::Take),
+            Event::HangUp(slot) => self.act(*slot, Act::HangUp),
+            Event::Notice(slot) => self.act(*slot, Act::Notice),
+            Event::Close(slot) => self.act(*slot, Act::Close),
+            Event::Finish(slot) => self.act(*slot, Act::Finish),
         }
-    }
-
-    /// Carries out events one after another, and answers each.
-    ///
-    /// Refused: `NoMemory`, before any event. What the takes of a query that these events open
-    /// give is a prefix of its update list over the changes that they make.
-    pub fn run(&mut self, events: &[Event]) -> Result<Vec<Reply>, Refusal>
-        ensures refused { IsRefusedBy result None }
-        ensures run { IfOk result (λ replies. (w : World) → Shows self.old w →
-            Runs self.new w (map happening_of events.now) (map answer_of replies.items)) }
-        ensures reads { IfOk result (λ replies. ReadsArePrefixes self.old.volume
-            (map happening_of events.now) (map answer_of replies.items)) }
-        ensures err { OnErr result (self.new ≡ self.old) }
-    {
-        updates_join();
-        changes_are_counted();
-        let mut replies = Vec::with_capacity(self.alloc, events.len())?;
-        for event in events {
-            let reply = self.event(event);
-            replies.push_reserved(reply);
-        }
-        Ok(replies)
     }
 
     // Makes a change, and tells each live query: the messages first, which may want memory, then
@@ -137,18 +168,17 @@ impl Desk {
         ensures value { IfOk result (λ applied. applied ≡
             record { change = self.old.volume.number + 1; node = node_of self.old.volume change.now }) }
         ensures ok { OnOk result (self.new ≡ changed self.old change.now) }
-        ensures world { OnOk result ((w : World) → Shows self.old w →
-            Shows self.new (with_change w change.now)) }
         ensures err { OnErr result (self.new ≡ self.old) }
     {
         updates_join();
         steps_are_few();
         changes_are_counted();
+        runs_keep_worlds_fair();
         let _ = self.volume.changes();
         let _ = self.volume.check(change)?;
-        prepare_all(&mut self.subs, &self.volume, change)?;
+        self.slots.ready(&self.volume, change)?;
         let applied = self.volume.apply(change)?;
-        commit_all(&mut self.subs);
+        self.slots.commit();
         Ok(applied)
     }
 
@@ -162,45 +192,50 @@ impl Desk {
     ) -> Result<Reply, Refusal>
         ensures refused { IsRefusedBy result (opening_refusal self.old port backlog) }
         ensures reply { IfOk result (λ reply. answer_of reply ≡
-            Opened (length self.old.held + 1) self.old.volume.number (result_of predicate.now self.old.volume)) }
-        ensures ok { OnOk result (self.new ≡ opened self.old predicate.now moved) }
-        ensures world { OnOk result ((w : World) → Shows self.old w →
-            Shows self.new (with_sub w predicate.now moved)) }
+            Opened (kept.first_free self.old.slots + 1) self.old.volume.number (result_of predicate.now self.old.volume)) }
+        ensures ok { OnOk result (self.new ≡ opened self.old
+            (fresh_slot predicate.now moved self.old.volume.number port backlog)) }
         ensures err { OnErr result (self.new ≡ self.old) }
     {
+        updates_join();
+        changes_are_counted();
+        runs_keep_worlds_fair();
         if port < 1 || port > MAX_PORT {
             return Err(Refusal::BadPort);
         }
         if backlog > MAX_BACKLOG {
             return Err(Refusal::BadBacklog);
         }
-        if self.subs.len() >= MAX_SLOTS {
+        let place = self.slots.first_free();
+        if place >= SLOTS {
             return Err(Refusal::NoSlot);
         }
         if self.volume.limit() <= self.openings {
             return Err(Refusal::Exhausted);
         }
+        let at = self.volume.changes();
         let result = self.volume.fetch(predicate)?;
-        let sub = Sub::new(self.alloc, predicate, moved)?;
-        self.subs.push(sub)?;
+        let slot = Slot::new(self.alloc, predicate, at, port, backlog, moved)?;
+        self.slots.open(slot);
         self.openings += 1;
         Ok(Reply::Opened {
-            slot: self.subs.len() as u64,
-            at: self.volume.changes(),
+            slot: place as u64 + 1,
+            at,
             result,
         })
     }
 
-    // Takes the next message of a slot.
-    fn take(&mut self, slot: u64) -> Reply
-        ensures reply { answer_of result ≡ take_answer (held_at self.old slot) }
-        ensures kept { self.new ≡ taken self.old slot (held_at self.old slot) }
-        ensures world { (w : World) → Shows self.old w →
-            Moves self.new w (Taking slot) (answer_of result) }
+    // Does an act at a slot.
+    fn act(&mut self, slot: u64, act: Act) -> Reply
+        ensures { (answer_of result, self.new) ≡ kept_outcome self.old (happening_at act slot) }
     {
-        if slot == 0 || slot > self.subs.len() as u64 {
+        updates_join();
+        changes_are_counted();
+        runs_keep_worlds_fair();
+        let number = self.volume.changes();
+        if slot == 0 || slot > SLOTS as u64 {
             return Reply::Refused(Refusal::NotOpen);
         }
-        Reply::Took(take_at(&mut self.subs, (slot - 1) as usize))
+        self.slots.act((slot - 1) as usize, act, number)
     }
 }

@@ -1,8 +1,14 @@
-//! Laws of worlds: each is the contract of a function that does nothing.
-ghost use Rattle.lq_desk.specs.Laws.{KeptShowsWorlds};
+//! Laws of subscriptions and desks: each is the contract of a function that does nothing.
+ghost use Rattle.lq_desk.specs.Laws.{KeptPassesListsOn, KeptShowsWorlds, KeptTurnsShowWorlds, PuttingBackUndoes};
 
 use lq_update::updates_join;
 use lq_volume::changes_are_counted;
+use lq_world::{lists_are_passed_on, runs_keep_worlds_fair};
+
+/// A parcel that goes out and is put back leaves a subscription as it was.
+pub fn putting_back_undoes()
+    ensures { PuttingBackUndoes }
+{}
 
 /// What a desk keeps answers each event as any world that it shows, and goes on showing it.
 pub fn kept_shows_worlds()
@@ -10,4 +16,20 @@ pub fn kept_shows_worlds()
 {
     updates_join();
     changes_are_counted();
+    runs_keep_worlds_fair();
+}
+
+/// And carries out each turn as that world does.
+pub fn kept_turns_show_worlds()
+    ensures { KeptTurnsShowWorlds }
+{
+    kept_shows_worlds();
+}
+
+/// What was taken of a subscription, then what is in its port, then what is held for it, then a mark
+/// that hasn't gone out, is its whole list.
+pub fn kept_passes_lists_on()
+    ensures { KeptPassesListsOn }
+{
+    lists_are_passed_on();
 }

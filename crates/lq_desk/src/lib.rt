@@ -1,16 +1,23 @@
-//! The core of the live query server, one event at a time, without threads.
+//! The core of the live query server with its ports, one event at a time, without threads.
 //!
-//! A contract sees a desk as what it keeps (`specs/Desk`), which shows a world: a book of changes
-//! and the subscriptions over it (`specs/World`). The headline stands in `specs/Headline`.
-//! Nothing here waits. Begin with `event`, then `desk`.
+//! A contract sees a desk as what it keeps (`specs/Kept`), which shows a world of lq_world: a book
+//! of changes and the subscriptions over it. Of a subscription (`specs/Held`) it sees what it was
+//! opened with, the messages that it holds and its mark. Nothing here waits. Begin with `event`,
+//! then `desk`.
 #![tactic(auto)]
 
 mod desk;
 mod event;
 mod laws;
+mod slot;
+mod slots;
 mod sub;
-mod subs;
+#[cfg(test)]
+mod tests;
 
 pub use desk::Desk;
 pub use event::{Event, Read, Reply};
-pub use laws::kept_shows_worlds;
+pub use laws::{
+    kept_passes_lists_on, kept_shows_worlds, kept_turns_show_worlds, putting_back_undoes,
+};
+pub use sub::Sub;

@@ -1,32 +1,42 @@
 //! One subscription.
-ghost use Rattle.std.specs.Prelude.{◌≡◌, ◌+◌, ◌<◌, ◌≤◌, ◌^◌, [], ◌++◌, vec_len, None, IfOk, OnOk, OnErr};
+ghost use Rattle.std.specs.Prelude.{◌≡◌, ◌+◌, ◌<◌, ◌≤◌, ◌^◌, [], ◌++◌, vec_len, true, false, None, Some, IfOk, OnOk, OnErr, IsTrue, IfSome};
 ghost use Rattle.std.specs.VecDeque.{deque_len, deque_capacity};
 ghost use Rattle.lq_value.specs.Refusal.{IsRefusedBy};
 ghost use Rattle.lq_volume.specs.Change.{IsLawful};
+ghost use Rattle.lq_predicate.specs.Names.{names_of};
+ghost use Rattle.lq_desk.specs.Passing.{is_among, passes_over};
 
-use lq_predicate::Predicate;
-use lq_update::{Message, step};
-use lq_value::Refusal;
+use lq_predicate::{Predicate, names};
+use lq_update::{Cause, Mark, Message, Parcel, changes_pass_over, step};
+use lq_value::{AttrName, Refusal};
 use lq_volume::{Change, Volume};
 use std::alloc::Global;
 use std::collections::VecDeque;
 use std::marker::Model;
 use std::mem::replace;
 
-/// One subscription: its query, the messages that wait, and those of a change that isn't accepted
-/// yet. There is always room for the latter behind the former.
+/// One subscription: its query and the names in it, the messages that it holds, and those of a
+/// change that isn't made yet, for which there is always room.
 #[derive(Debug, Drop)]
 pub struct Sub {
     alloc: Global,
     predicate: Predicate,
+    names: Vec<AttrName>,
     moved: bool,
+    opened: u64,
+    backlog: u64,
     sent: u64,
-    waiting: VecDeque<Message>,
+    messages: VecDeque<Message>,
+    mark: Option<Mark>,
+    mark_out: bool,
     ready: Vec<Message>,
+    before: u64,
+    lent: bool,
 }
 
 impl Model for Sub {
-    ghost use Rattle.std.specs.Prelude.{◌+◌, ◌≤◌, vec_len};
+    ghost use Rattle.std.specs.Prelude.{◌≡◌, ◌+◌, ◌≤◌, vec_len, if◌then◌else◌};
+    ghost use Rattle.lq_predicate.specs.Names.{names_of};
     ghost use Rattle.std.specs.VecDeque.{deque_len, deque_capacity};
     ghost use Rattle.lq_desk.specs.Held.{Prepared};
     ghost use Rattle.std.specs.Coded.{codes};
@@ -36,41 +46,79 @@ impl Model for Sub {
 
     ghost coded = { Prim.hlevel (codes, coded_query) };
 
-    ghost view = { λ s. record { held = record { query = s.predicate; moved = s.moved; sent = s.sent; waiting = s.waiting.items }; ready = s.ready.items } };
+    ghost view = { λ s. record { held = record { query = s.predicate; moved = s.moved; opened = s.opened; backlog = s.backlog; sent = s.sent; messages = s.messages.items; mark = s.mark; mark_out = s.mark_out }; ready = s.ready.items; before = s.before; lent = s.lent } };
 
-    ghost invariant = { λ s. deque_len s.waiting + vec_len s.ready ≤ deque_capacity s.waiting };
+    ghost invariant = { λ s. (deque_len s.messages + vec_len s.ready + (if s.lent then 1 else 0) ≤ deque_capacity s.messages) × (s.names.items ≡ names_of s.predicate) };
 }
 
 impl Sub {
-    ghost use Rattle.lq_desk.specs.Held.{Held, Prepared, prepared, committed, taken_from};
-    ghost use Rattle.std.specs.Prelude.{slice_get};
+    ghost use Rattle.lq_desk.specs.Held.{Held, Prepared, opened_with, is_live, prepared, committed, ended_by, next_parcel, without, with_back, fits_back};
 
-    /// A subscription that nothing was told yet. Refused: `NoMemory`.
-    pub fn new(alloc: Global, predicate: &Predicate, moved: bool) -> Result<Sub, Refusal>
+    /// A live subscription that holds nothing, opened after `at` changes. Refused: `NoMemory`.
+    pub fn new(
+        alloc: Global,
+        predicate: &Predicate,
+        at: u64,
+        backlog: u64,
+        moved: bool,
+    ) -> Result<Sub, Refusal>
         ensures refused { IsRefusedBy result None }
         ensures value { IfOk result (λ s. s ≡ record {
-          held = record { query = predicate.now; moved = moved; sent = 0; waiting = [] };
+          held = opened_with predicate.now moved at backlog;
           ready = [];
+          before = 0;
+          lent = false;
         }) }
     {
         Ok(Sub {
             alloc,
             predicate: predicate.copy(alloc)?,
+            names: names(alloc, predicate)?,
             moved,
+            opened: at,
+            backlog,
             sent: 0,
-            waiting: VecDeque::new(alloc),
+            messages: VecDeque::new(alloc),
+            mark: None,
+            mark_out: false,
             ready: Vec::new(alloc),
+            before: 0,
+            lent: false,
         })
     }
 
-    /// Makes the messages of a change, and room for them; tells none. Refused: `NoMemory`.
-    pub fn prepare(&mut self, volume: &Volume, change: &Change) -> Result<(), Refusal>
+    /// Whether it hasn't ended. It takes no memory.
+    pub fn is_live(&self) -> bool
+        ensures { result ≡ is_live self.now.held }
+    {
+        self.mark.is_none()
+    }
+
+    /// Whether its mark went out. It takes no memory.
+    pub fn is_marked(&self) -> bool
+        ensures { result ≡ self.now.held.mark_out }
+    {
+        self.mark_out
+    }
+
+    /// Makes the messages of a change, and room for them; it holds what it held.
+    ///
+    /// It passes over a change of values alone that the predicate doesn't look at. Refused:
+    /// `NoMemory`.
+    pub fn ready(&mut self, volume: &Volume, change: &Change) -> Result<(), Refusal>
         requires lawful { IsLawful volume.now change.now }
         requires few { self.old.held.sent < 2 ^ 63 }
+        requires live { IsTrue (is_live self.old.held) }
         ensures refused { IsRefusedBy result None }
         ensures ok { OnOk result (self.new ≡ prepared volume.now change.now self.old) }
         ensures err { OnErr result (self.new.held ≡ self.old.held) }
     {
+        changes_pass_over();
+        if self.passes_over(change) {
+            self.ready = Vec::new(self.alloc);
+            self.before = volume.changes();
+            return Ok(());
+        }
         let first = self.sent + 1;
         let step = step(
             self.alloc,
@@ -81,37 +129,113 @@ impl Sub {
             self.moved,
         )?;
         self.ready = Vec::new(self.alloc);
-        self.waiting.reserve(step.len())?;
+        self.messages.reserve(step.len() + 1)?;
         self.ready = step;
+        self.before = volume.changes();
         Ok(())
     }
 
-    /// Tells the messages that were made. It takes no memory.
+    // Whether a change tells the query nothing, by the names that it alters.
+    fn passes_over(&self, change: &Change) -> bool
+        ensures { result ≡ passes_over (names_of self.now.held.query) change.now }
+    {
+        match change {
+            Change::Create { .. } | Change::Remove { .. } | Change::Move { .. } => false,
+            Change::Write { .. } => {
+                !(is_among(&self.names, "size") || is_among(&self.names, "last_modified"))
+            }
+            Change::SetAttr { attr, .. } | Change::RemoveAttr { attr, .. } => {
+                !is_among(&self.names, attr.as_str())
+            }
+        }
+    }
+
+    /// Holds the messages that were made for a change; where they are more than its backlog has
+    /// room for, it ends with `Overrun` before that change. It takes no memory.
     pub fn commit(&mut self)
-        requires { self.old.held.sent < 2 ^ 63 }
+        requires few { self.old.held.sent < 2 ^ 63 }
+        requires live { IsTrue (is_live self.old.held) }
         ensures { self.new ≡ committed self.old }
     {
         let ready = replace(&mut self.ready, Vec::new(self.alloc));
+        let room = self.messages.len() + ready.len();
+        if !ready.is_empty() && room as u64 > self.backlog {
+            self.mark = Some(Mark {
+                seq: self.sent + 1,
+                change: self.before,
+                cause: Cause::Overrun,
+            });
+            return;
+        }
         self.sent += ready.len() as u64;
-        append(&mut self.waiting, ready);
+        append(&mut self.messages, ready);
     }
 
-    /// Takes the first message that waits. It takes no memory.
-    pub fn take(&mut self) -> Option<Message>
-        ensures first { result ≡ slice_get self.old.held.waiting 0 }
-        ensures rest { self.new.held ≡ taken_from self.old.held }
+    /// Ends it; the mark covers the changes up to a number. It takes no memory.
+    pub fn finish_with(&mut self, cause: Cause, change: u64)
+        requires few { self.old.held.sent < 2 ^ 63 }
+        requires live { IsTrue (is_live self.old.held) }
+        ensures { self.new ≡ record self.old { held = ended_by self.old.held cause change } }
     {
-        self.waiting.pop_front()
+        self.mark = Some(Mark {
+            seq: self.sent + 1,
+            change,
+            cause,
+        });
+    }
+
+    /// The first message that it holds, then once the mark, then nothing. It takes no memory.
+    pub fn next(&mut self) -> Option<Parcel>
+        ensures value { result ≡ next_parcel self.old.held }
+        ensures rest { self.new.held ≡ without self.old.held (next_parcel self.old.held) }
+        ensures room { IfSome result (λ parcel. IsTrue (fits_back self.new.lent parcel)) }
+        ensures sent { self.new.held.sent ≡ self.old.held.sent }
+        ensures mark { self.new.held.mark ≡ self.old.held.mark }
+    {
+        if let Some(message) = self.messages.pop_front() {
+            self.lent = true;
+            return Some(Parcel::Update(message));
+        }
+        if self.mark_out {
+            return None;
+        }
+        let mark = self.mark?;
+        self.mark_out = true;
+        Some(Parcel::Fin(mark))
+    }
+
+    /// Puts back the parcel that the latest `next` gave. It takes no memory.
+    pub fn put_back(&mut self, parcel: Parcel)
+        requires { IsTrue (fits_back self.old.lent parcel) }
+        ensures held { self.new.held ≡ with_back self.old.held parcel }
+        ensures sent { self.new.held.sent ≡ self.old.held.sent }
+        ensures mark { self.new.held.mark ≡ self.old.held.mark }
+    {
+        match parcel {
+            Parcel::Update(message) => {
+                self.lent = false;
+                self.messages.push_front_reserved(message);
+            }
+            Parcel::Fin(_) => self.mark_out = false,
+        }
     }
 }
 
 // Puts all messages at the end, where there is room for them.
-fn append(waiting: &mut VecDeque<Message>, ready: Vec<Message>)
-    requires { deque_len waiting.old + vec_len ready ≤ deque_capacity waiting.old }
-    ensures items { waiting.new.items ≡ waiting.old.items ++ ready.items }
-    ensures room { deque_len waiting.new ≤ deque_capacity waiting.new }
+fn append(messages: &mut VecDeque<Message>, ready: Vec<Message>)
+    requires { deque_len messages.old + vec_len ready ≤ deque_capacity messages.old }
+    ensures items { messages.new.items ≡ messages.old.items ++ ready.items }
+    ensures len { deque_len messages.new ≡ deque_len messages.old + vec_len ready }
+    ensures capacity { deque_capacity messages.new ≡ deque_capacity messages.old }
 {
     for message in ready {
-        waiting.push_back_reserved(message);
+        messages.push_back_reserved(message);
     }
+}
+
+// Whether a name is one of these.
+fn is_among(names: &[AttrName], name: &str) -> bool
+    ensures { result ≡ is_among names.now name.now }
+{
+    names.iter().any(|other| name == other.as_str())
 }

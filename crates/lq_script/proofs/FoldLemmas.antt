@@ -7,9 +7,9 @@ use Rattle.lq_volume.specs.State.{IsVolume}
 use Rattle.lq_update.specs.declared.parcel.Parcel.{Parcel}
 use Rattle.lq_update.specs.Laws.{ResultsRise}
 use Rattle.lq_world.specs.Events.{Happening, Changing, Opening, Putting, Taking, HangingUp, Noticing, Closing, Finishing, Answer, Ended, Empty}
-use Rattle.lq_core.specs.Slot.{KeptSlot, fresh_slot, put_if, put_slot, take_if, take_slot, ask_slot, notice_if, notice_slot, close_if, close_slot, finish_if, finish_slot, is_read}
-use Rattle.lq_core.specs.Kept.{Kept, at_kept, at_place, change_if, kept_at, open_if, opening_refusal}
-use Rattle.lq_core.specs.Turn.{kept_after, kept_turn, turn_outcome}
+use Rattle.lq_desk.specs.Slot.{KeptSlot, fresh_slot, put_if, put_slot, take_if, take_slot, ask_slot, notice_if, notice_slot, close_if, close_slot, finish_if, finish_slot, is_read}
+use Rattle.lq_desk.specs.Kept.{Kept, at_kept, at_place, change_if, kept_at, open_if, opening_refusal}
+use Rattle.lq_desk.specs.Turn.{kept_after, kept_turn, turn_outcome}
 use Rattle.lq_script.specs.Folds.{Rises}
 
 put-rises : (s : KeptSlot) (room : Bool) (o : Option Parcel) → Rises (put_if s room o).0

@@ -6,9 +6,9 @@ use Rattle.lq_value.specs.declared.refusal.Refusal.{Refusal}
 use Rattle.lq_volume.specs.Result.{result_of}
 use Rattle.lq_world.specs.World.{World}
 use Rattle.lq_world.specs.Turns.{turn_outcome}
-use Rattle.lq_core.specs.Kept.{Kept, Shows}
-use Rattle.lq_core.specs.Turn as kept
-use Rattle.lq_core.specs.Laws.{KeptTurnsShowWorlds}
+use Rattle.lq_desk.specs.Kept.{Kept, Shows}
+use Rattle.lq_desk.specs.Turn as kept
+use Rattle.lq_desk.specs.Laws.{KeptTurnsShowWorlds}
 use Rattle.lq_script.specs.Lines.{Begins, Line, long, empty, whole, line_of, lines_of, ended_lines, reply_to, state_after, replies_to}
 use Rattle.lq_script.specs.Output.{Answered, Ended, Passed, Stopped}
 use Rattle.lq_script.specs.Folds.{fold_at, folds_after}

@@ -1,6 +1,6 @@
 -- A response of the code, as what is answered.
 use Rattle.lq_volume.specs.Lookup.{listed}
-use Rattle.lq_core.specs.Reply.{answer_of}
+use Rattle.lq_desk.specs.Reply.{answer_of}
 use Rattle.lq_script.specs.declared.response.Response.{Response as Response_}
 use Rattle.lq_script.specs.declared.response.Response.TheVariants as response
 use Rattle.lq_script.specs.Response.{Response, Answers, Refuses, Found, Listed, Fetched, Rebuilt}

@@ -2,7 +2,7 @@
 use Rattle.lq_value.specs.declared.value.Value.TheVariants as value
 use Rattle.lq_value.specs.declared.view.View.{View}
 use Rattle.lq_value.specs.declared.view.View.TheVariants as view
-use Rattle.lq_core.specs.Reply.{happening_of}
+use Rattle.lq_desk.specs.Reply.{happening_of}
 use Rattle.lq_script.specs.declared.question.Question.{Question as Question_}
 use Rattle.lq_script.specs.declared.question.Question.TheVariants as question
 use Rattle.lq_script.specs.declared.request.Request.{Request}

@@ -6,8 +6,8 @@ use Rattle.lq_volume.specs.Book.{state_of}
 use Rattle.lq_world.specs.World.{World, first_world}
 use Rattle.lq_world.specs.Events.{Happening, Answer}
 use Rattle.lq_world.specs.Turns.{turn_outcome}
-use Rattle.lq_core.specs.Kept.{Kept}
-use Rattle.lq_core.specs.Turn as kept
+use Rattle.lq_desk.specs.Kept.{Kept}
+use Rattle.lq_desk.specs.Turn as kept
 use Rattle.lq_script.specs.Lines.{Rules}
 use Rattle.lq_script.specs.Output.{output_of}
 use Rattle.lq_script.specs.Request.{question_in}

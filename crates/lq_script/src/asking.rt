@@ -8,7 +8,7 @@ ghost use Rattle.lq_script.specs.Request.{Happens, asks_set, value_for, asked_in
 
 use crate::question::Question;
 use crate::request::{Request, request_in};
-use lq_core::Event;
+use lq_desk::Event;
 use lq_predicate::read;
 use lq_value::{AttrName, Name, Refusal, View};
 use lq_volume::Change;

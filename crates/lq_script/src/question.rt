@@ -1,5 +1,5 @@
 //! What a line asks of a session.
-use lq_core::Event;
+use lq_desk::Event;
 use lq_predicate::Predicate;
 use lq_value::Name;
 

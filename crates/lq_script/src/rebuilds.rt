@@ -3,10 +3,10 @@ ghost use Rattle.std.specs.Prelude.{◌≡◌, IfOk, IfErr, OnOk};
 ghost use Rattle.std.specs.Option.{option_map};
 ghost use Rattle.lq_value.specs.declared.refusal.Refusal.TheVariants.{NoMemory};
 ghost use Rattle.lq_value.specs.Refusal.{IsRefusedBy};
-ghost use Rattle.lq_core.specs.Reply.{answer_of};
+ghost use Rattle.lq_desk.specs.Reply.{answer_of};
 ghost use Rattle.lq_script.specs.Folds.{Rises, fed, fold_at, folds_after, no_folds, with_fold};
 
-use lq_core::{Read, Reply};
+use lq_desk::{Read, Reply};
 use lq_update::{Message, Rebuild};
 use lq_value::{Entry, Refusal};
 use std::alloc::Global;

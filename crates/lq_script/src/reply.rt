@@ -3,14 +3,14 @@ ghost use Rattle.std.specs.Prelude.{◌≡◌, ◌++◌, None, IfOk, IfErr, OnOk
 ghost use Rattle.serde_json.specs.View.{view, items_of};
 ghost use Rattle.serde_json.specs.Data.{array};
 ghost use Rattle.lq_value.specs.Refusal.{IsRefusedBy};
-ghost use Rattle.lq_core.specs.Reply.{answer_of, answer_of_read};
+ghost use Rattle.lq_desk.specs.Reply.{answer_of, answer_of_read};
 ghost use Rattle.lq_volume.specs.Lookup.{listed};
 ghost use Rattle.lq_script.specs.Answer.{response_of};
 ghost use Rattle.lq_script.specs.Lines.{Begins};
 ghost use Rattle.lq_script.specs.Reply.{answer_data, applied_data, attr_data, cause_name, entry_data, fetched_data, found_data, kind_name, listing_data, mark_data, message_data, moved_data, opcode_name, opened_data, place_of, placed_data, rebuilt_data, refusal_data, reply_text, response_data, shut_data, slot_data, type_name, value_data, what_data};
 
 use crate::response::Response;
-use lq_core::{Read, Reply};
+use lq_desk::{Read, Reply};
 use lq_update::{Cause, Mark, Message, Opcode};
 use lq_value::{AttrName, Entry, Kind, Name, Refusal};
 use lq_volume::{Applied, Listing};

@@ -1,5 +1,5 @@
 //! What a session answers a line.
-use lq_core::Reply;
+use lq_desk::Reply;
 use lq_value::{Entry, Refusal};
 use lq_volume::Listing;
 

@@ -8,7 +8,7 @@ use crate::over_lines::run_lines;
 use crate::rebuilds::no_rebuilds;
 use crate::run_fault::RunFault;
 use crate::session::Session;
-use lq_core::{Desk, kept_turns_show_worlds};
+use lq_desk::{Desk, kept_turns_show_worlds};
 use lq_volume::Volume;
 use std::alloc::Global;
 

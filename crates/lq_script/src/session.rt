@@ -1,8 +1,8 @@
 //! A script's session: a desk, and what was rebuilt of each slot, that answer lines.
 ghost use Rattle.std.specs.Prelude.{◌≡◌, IfOk, IfErr, OnOk};
 ghost use Rattle.lq_value.specs.declared.refusal.Refusal.TheVariants.{NoMemory};
-ghost use Rattle.lq_core.specs.Turn.{turn_outcome};
-ghost use Rattle.lq_core.specs.Reply.{happening_of};
+ghost use Rattle.lq_desk.specs.Turn.{turn_outcome};
+ghost use Rattle.lq_desk.specs.Reply.{happening_of};
 ghost use Rattle.lq_volume.specs.Result.{result_of};
 ghost use Rattle.lq_script.specs.Asked.{question_of};
 ghost use Rattle.lq_script.specs.Answer.{response_of};
@@ -18,7 +18,7 @@ use crate::rebuilds::{copied, note, rebuild_at};
 use crate::reply::put_reply;
 use crate::responder::Responder;
 use crate::response::Response;
-use lq_core::{Desk, Event, Reply};
+use lq_desk::{Desk, Event, Reply};
 use lq_predicate::Predicate;
 use lq_update::{Rebuild, results_rise};
 use lq_value::{Name, Refusal};
@@ -170,7 +170,7 @@ fn rebuilt_in(alloc: Global, rebuilds: &[Option<Rebuild>], slot: u64) -> Result<
 }
 
 impl Responder for Session {
-    ghost use Rattle.lq_core.specs.Kept.{Kept};
+    ghost use Rattle.lq_desk.specs.Kept.{Kept};
     ghost use Rattle.lq_script.specs.Session as spec;
     ghost use Rattle.lq_script.specs.Script.{kept_rules};
 

@@ -1,5 +1,5 @@
 //! What the tables of `events` ask a desk; whatever answers `NoMemory` is asked once more.
-use lq_core::{Desk, Event, Reply};
+use lq_desk::{Desk, Event, Reply};
 use lq_predicate::read;
 use lq_value::{AttrName, Kind, Name, Refusal, Value};
 use lq_volume::{Change, Volume};

@@ -4,7 +4,7 @@
 //! memory is refused.
 use crate::acts::{Act, Way, desk, found, reply};
 use crate::told::{Told, is_told};
-use lq_core::{Desk, Event, Reply};
+use lq_desk::{Desk, Event, Reply};
 use lq_predicate::read;
 use lq_update::Cause;
 use lq_value::Refusal;

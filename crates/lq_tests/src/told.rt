@@ -1,5 +1,5 @@
 //! What the tables of `events` want to be told. Comparing takes no memory.
-use lq_core::{Read, Reply};
+use lq_desk::{Read, Reply};
 use lq_update::{Cause, Message, Opcode};
 use lq_value::Refusal;
 

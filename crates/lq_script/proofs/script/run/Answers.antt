@@ -3,7 +3,7 @@ use Rattle.std.proofs.KnownBytes.{Appends-nil, Consumes-nil}
 use Rattle.std.specs.Prelude.{Result, Ok, Err, OnOk, OnErr}
 use Rattle.lq_volume.specs.State.{State}
 use Rattle.lq_world.specs.World.{first_world}
-use Rattle.lq_core.specs.Kept.{Shows}
+use Rattle.lq_desk.specs.Kept.{Shows}
 use Rattle.lq_script.specs.Output.{output_of}
 use Rattle.lq_script.specs.Session.{session_with}
 use Rattle.lq_script.specs.Script.{script_session, script_world, world_rules}

@@ -1,36 +1,30 @@
-use Rattle.std.proofs.Common.{◌*◌, ◌^◌, sym, subst, ap, arith}
+use Rattle.std.proofs.Common.{◌*◌, ◌-◌, ◌^◌, ap, arith}
 use Rattle.std.proofs.lemmas.Result.{err_from_is_err_and}
-use Rattle.lq_desk.specs.Desk.{Kept, Shows, changed}
-use Rattle.lq_desk.specs.World.{with_change}
-use Rattle.lq_desk.proofs.Shown.{shows-change}
-use Rattle.lq_desk.proofs.KeptLemmas.{few-weaker, map-prepared, map-committed}
+use Rattle.lq_desk.specs.Kept.{Kept, changed}
+use Rattle.lq_desk.proofs.Shown.{kept-shows}
+use Rattle.lq_desk.proofs.SlotsLemmas.{few-more, map-prepared, map-committed}
 use Rattle.lq_desk.proofs.Desks.{IsDesk-change}
 use Rattle.lq_desk.proofs.desk.Desk.change.Goals as goal
 
 pub invariant_of-self-in_err-applied : goal.invariant_of-self-in_err-applied
-invariant_of-self-in_err-applied c = rw (c.in_err-applied.ensures.err, c.in_ok-prepare_all.ensures.ok, map-prepared) c.self.invariant
+invariant_of-self-in_err-applied c = rw (c.in_err-applied.ensures.err, c.in_ok-ready.ensures.ok, map-prepared) c.self.invariant
 
 pub returns-in_err-applied-clause-err : goal.returns-in_err-applied-clause-err
 returns-in_err-applied-clause-err c =
     let p = err_from_is_err_and c.from_residual-in_err-applied.result c.from_residual-in_err-applied.ensures.1 in
-    rw (p.1, c.in_err-applied.ensures.err, c.in_ok-prepare_all.ensures.ok, map-prepared) c.self.view_is
+    rw (p.1, c.in_err-applied.ensures.err, c.in_ok-ready.ensures.ok, map-prepared) c.self.view_is
 
-pub commit_all-requires : goal.commit_all-requires
-commit_all-requires c =
+pub commit-requires : goal.commit-requires
+commit-requires c =
     let numbered = c.changes.ensures.volume.numbered in
-    rw (c.in_ok-prepare_all.ensures.ok, map-prepared) (few-weaker (3 * c.self.inside.volume.number) (2 ^ 63) _ (omega (arith, numbered.limit, numbered.number)) c.self.invariant.few)
+    rw (c.in_ok-ready.ensures.ok, map-prepared) (few-more (3 * c.self.inside.volume.number) (2 ^ 63 - 1) _ (omega (arith, numbered.limit, numbered.number)) c.self.invariant.few)
 
 pub invariant_of-self-2 : goal.invariant_of-self-2
 invariant_of-self-2 c =
-    rw (c.commit_all.ensures, c.in_ok-prepare_all.ensures.ok, c.in_ok-applied.ensures.ok, map-committed)
-    (IsDesk-change c.updates_join.ensures c.steps_are_few.ensures c.changes_are_counted.ensures _ c.args.change.now c.self.invariant c.changes.ensures.volume c.in_ok-check.ensures.ok)
+    rw (c.commit.ensures, c.in_ok-ready.ensures.ok, c.in_ok-applied.ensures.ok, map-committed)
+    (IsDesk-change (kept-shows c.changes_are_counted.ensures c.updates_join.ensures c.runs_keep_worlds_fair.ensures) c.steps_are_few.ensures c.changes_are_counted.ensures _ c.args.change.now c.self.invariant c.changes.ensures.volume c.in_ok-check.ensures.ok)
 
 pub returns-clause-ok : goal.returns-clause-ok
 returns-clause-ok c =
-    rw (c.commit_all.ensures, c.in_ok-prepare_all.ensures.ok, c.in_ok-applied.ensures.ok, map-committed)
+    rw (c.commit.ensures, c.in_ok-ready.ensures.ok, c.in_ok-applied.ensures.ok, map-committed)
     (ap (λ (k : Kept). changed k c.args.change.now) c.self.view_is)
-
-pub returns-clause-world : goal.returns-clause-world
-returns-clause-world c = λ w shows.
-    subst (λ (k : Kept). Shows k (with_change w c.args.change.now)) (sym (returns-clause-ok c))
-    (shows-change c.updates_join.ensures c.args.self.now w c.args.change.now shows)

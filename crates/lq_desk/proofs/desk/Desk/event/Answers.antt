@@ -1,7 +1,15 @@
-use Rattle.lq_desk.proofs.Moved.{moves-opened}
+use Rattle.std.proofs.Common.{subst}
+use Rattle.lq_desk.specs.Kept.{Kept, Shows}
+use Rattle.lq_desk.proofs.Shown.{moves}
+use Rattle.lq_desk.proofs.PassedLemmas.{refusal-leaves}
 use Rattle.lq_desk.proofs.desk.Desk.event.Goals as goal
 
-pub returns-in-Ok-open-clause-world : goal.returns-in-Ok-open-clause-world
-returns-in-Ok-open-clause-world c = λ w shows.
-    let e = c.in-Ok-open.ensures in
-    rw c.in-Open.is (moves-opened c.changes_are_counted.ensures c.args.self.now c.open.new.self w _ _ _ _ _ shows e.refused.0 e.reply (e.world w shows))
+pub returns-clause-world : goal.returns-clause-world
+returns-clause-world c = λ w shows.
+    moves c.changes_are_counted.ensures c.updates_join.ensures c.runs_keep_worlds_fair.ensures _ _ w _ _ c.carry_out.ensures shows
+
+pub returns-clause-refused : goal.returns-clause-refused
+returns-clause-refused c = λ refusal is.
+    let w = c.self.invariant.world in
+    let shows : Shows c.args.self.now w = subst (λ (k : Kept). Shows k w) c.self.view_is c.self.invariant.shows in
+    refusal-leaves c.refusals_leave_worlds.ensures _ _ w _ _ refusal shows (returns-clause-world c w shows) is

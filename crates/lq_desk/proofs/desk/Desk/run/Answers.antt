@@ -1,13 +1,12 @@
-use Rattle.std.proofs.Common.{◌≡◌, ◌+◌, ◌<◌, ◌++◌, ◌∷◌, [], take, length, get_or, arith, ap, sym, subst, List, map}
+use Rattle.std.proofs.Common.{◌<◌, length, arith, ap, sym, subst, List, map}
 use Rattle.std.proofs.lemmas.List.{take_more}
 use Rattle.lq_volume.specs.State.{State}
 use Rattle.lq_desk.specs.declared.event.Event.{Event}
-use Rattle.lq_desk.specs.Desk.{Kept, Shows}
+use Rattle.lq_desk.specs.Kept.{Kept, Shows}
 use Rattle.lq_desk.specs.Reply.{Runs, happening_of, answer_of}
-use Rattle.lq_desk.proofs.WorldLaws.{take-all}
-use Rattle.lq_desk.specs.Headline.{ReadsArePrefixes}
-use Rattle.lq_desk.proofs.Openings.{headline}
-use Rattle.lq_desk.proofs.Moved.{runs-more, map-more}
+use Rattle.lq_desk.proofs.ListLemmas.{take-all}
+use Rattle.lq_world.specs.Headline.{ReadersAreTold}
+use Rattle.lq_desk.proofs.RunLemmas.{runs-more, map-more}
 use Rattle.lq_desk.proofs.desk.Desk.run.Goals as goal
 
 pub loop-event-preserved : goal.loop-event-preserved
@@ -28,12 +27,12 @@ returns-clause-run c = λ w shows.
     let all = take-all c.loop-event.event-index c.args.events.now (omega (arith, c.loop-event-test.false)) in
     subst (λ (es : List Event). Runs c.loop-event.self w (map happening_of es) (map answer_of c.loop-event.replies.items)) all (c.loop-event.invariant.run w shows)
 
-pub returns-clause-reads : goal.returns-clause-reads
-returns-clause-reads c =
+pub returns-clause-readers : goal.returns-clause-readers
+returns-clause-readers c =
     let w = c.self.invariant.world in
     let shows : Shows c.args.self.now w = subst (λ (k : Kept). Shows k w) c.self.view_is c.self.invariant.shows in
     let runs = returns-clause-run c w shows in
     let events = map happening_of c.args.events.now in
     let answers = map answer_of c.loop-event.replies.items in
-    subst (λ (s : State). ReadsArePrefixes s events answers) (sym (ap (λ (k : Kept). k.volume) shows.kept))
-    (headline c.updates_join.ensures c.changes_are_counted.ensures w events answers runs.end runs.run)
+    subst (λ (s : State). ReadersAreTold s events answers) (sym (ap (λ (k : Kept). k.volume) shows.kept))
+    (c.readers_are_told.ensures w runs.end events answers runs.run)

@@ -1,5 +1,0 @@
-use Rattle.lq_core.proofs.Shown.{kept-shows}
-use Rattle.lq_core.proofs.laws.kept_shows_worlds.Goals as goal
-
-pub returns : goal.returns
-returns c = kept-shows c.changes_are_counted.ensures c.updates_join.ensures c.runs_keep_worlds_fair.ensures

@@ -1,0 +1,25 @@
+use Rattle.std.proofs.Common.{◌^◌, ◌-◌, ap, ◌∙◌, sym, subst, map, List, Option}
+use Rattle.std.specs.Option.{option_map}
+use Rattle.std.specs.List.{AllByRecursion}
+use Rattle.std.proofs.lemmas.Result.{err_from_is_err_and}
+use Rattle.lq_desk.specs.Slot.{PreparedSlot, prepared_slot, with_free}
+use Rattle.lq_desk.specs.Kept.{IsFew}
+use Rattle.lq_desk.proofs.SlotsLemmas.{kept_slot}
+use Rattle.lq_desk.proofs.FreeLemmas.{few-stored, kept-free, map-free}
+use Rattle.lq_desk.proofs.slots.Slots.ready.Goals as goal
+
+pub ready_all-requires-clause-few : goal.ready_all-requires-clause-few
+ready_all-requires-clause-few c =
+    few-stored (2 ^ 63 - 1) c.self.inside.stored.items (subst (λ (ys : List (Option PreparedSlot)). AllByRecursion (IsFew (2 ^ 63 - 1)) (map kept_slot ys)) (sym c.self.view_is) c.requires.few)
+
+pub returns-clause-ok : goal.returns-clause-ok
+returns-clause-ok c =
+    ap with_free c.in_ok-ready_all.ensures.ok
+    ∙ (sym (map-free (prepared_slot c.args.volume.now c.args.change.now) c.self.inside.stored.items)
+    ∙ ap (map (option_map (prepared_slot c.args.volume.now c.args.change.now))) c.self.view_is)
+
+pub returns-in_err-ready_all-clause-err : goal.returns-in_err-ready_all-clause-err
+returns-in_err-ready_all-clause-err c =
+    let p = err_from_is_err_and c.from_residual.result c.from_residual.ensures.1 in
+    let same = kept-free c.ready_all.new.slots.items c.self.inside.stored.items c.in_err-ready_all.ensures.err ∙ ap (map kept_slot) c.self.view_is in
+    rw (p.1) same

@@ -1,0 +1,18 @@
+use Rattle.std.proofs.Common.{◌≡◌, ◌+◌, [], ap, sym, ◌∙◌, true}
+use Rattle.lq_predicate.specs.Names.{names_of}
+use Rattle.lq_update.specs.Updates.{step_of}
+use Rattle.lq_desk.specs.Held.{Prepared}
+use Rattle.lq_desk.specs.Passing.{passes_over}
+use Rattle.lq_desk.proofs.PassingLemmas.{step-empty}
+use Rattle.lq_desk.proofs.sub.Sub.ready.Goals as goal
+
+pub returns-then-passes_over-clause-ok : goal.returns-then-passes_over-clause-ok
+returns-then-passes_over-clause-ok c =
+    let h = c.args.self.now.held in
+    let over : passes_over (names_of h.query) c.args.change.now ≡ true = sym c.passes_over.ensures ∙ c.if-passes_over.true in
+    let none : step_of h.query h.moved c.args.volume.now c.args.change.now (h.sent + 1) ≡ [] = step-empty c.changes_pass_over.ensures h.query h.moved c.args.volume.now c.args.change.now (h.sent + 1) c.changes-self-inside.ensures.volume over in
+    let p = c.args.self.now in
+    let r = c.changes-self-inside.result in
+    ap (λ (v : Prepared). record v { ready = c.new.result.items; before = r }) c.self.view_is
+    ∙ (ap (λ messages. record p { ready = messages; before = r }) (c.new.ensures.items ∙ sym none)
+    ∙ ap (λ n. record p { ready = step_of h.query h.moved c.args.volume.now c.args.change.now (h.sent + 1); before = n }) c.changes-self-inside.ensures.number)

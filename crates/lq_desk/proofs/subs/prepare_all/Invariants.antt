@@ -1,9 +1,0 @@
-use Rattle.std.proofs.Common.{◌≡◌, ℕ, ◌<◌, ◌≤◌, ◌^◌, ◌++◌, map, length, take, drop, get_or}
-use Rattle.lq_desk.specs.Held.{Prepared, prepared}
-use Rattle.lq_desk.proofs.subs.prepare_all.Given as goal
-
-abbrev pub invariant-loop-sub : goal.invariant-loop-sub
-invariant-loop-sub l = record {
-  done : l.sub-items ≡ map (prepared l.volume l.change) (take l.sub-index l.fn.subs.items) ++ drop l.sub-index l.fn.subs.items;
-  few : (k : ℕ) (d : Prepared) → l.sub-index ≤ k → k < length l.sub-items → (get_or l.sub-items k d).held.sent < 2 ^ 63;
-}

@@ -1,0 +1,140 @@
+-- What a desk keeps, what it answers each event, and which worlds it shows.
+use Rattle.std.specs.Prelude.{◌≡◌, ◌⊎◌, ℕ, ◌+◌, ◌-◌, ◌*◌, ◌≤◌, List, [], ◌∷◌, length, map, Bool, not, ◌&&◌, ◌==◌, nat_le, nat_lt, Option, Some, None, slice_get, slice_set, if◌then◌else◌}
+use Rattle.std.specs.Option.{option_map, option_flatten}
+use Rattle.std.specs.List.{AllByRecursion}
+use Rattle.lq_value.specs.declared.refusal.Refusal.{Refusal}
+use Rattle.lq_value.specs.declared.refusal.Refusal.TheVariants.{BadPort, BadBacklog, NoSlot, NotOpen, Exhausted, NoMemory}
+use Rattle.lq_value.specs.Refusal.{first_refusal}
+use Rattle.lq_volume.specs.declared.change.Change.{Change as Change_}
+use Rattle.lq_volume.specs.State.{State}
+use Rattle.lq_volume.specs.Change.{after, refused, node_of}
+use Rattle.lq_volume.specs.Result.{result_of}
+use Rattle.lq_volume.specs.Book.{Book, state_of}
+use Rattle.lq_update.specs.declared.mark.Mark.{Mark}
+use Rattle.lq_world.specs.World.{World, Sub, End, told, waiting, in_port}
+use Rattle.lq_world.specs.Events.{Happening, Changing, Opening, Putting, Taking, HangingUp, Noticing, Closing, Finishing, Answer, Changed, Opened, Refused}
+use Rattle.lq_world.specs.Fair.{IsFairWorld}
+use Rattle.lq_desk.specs.Held.{Held}
+use Rattle.lq_desk.specs.Slot.{KeptSlot, fresh_slot, slot_after, put_slot, take_slot, ask_slot, notice_slot, close_slot, finish_slot}
+
+-- the volume, the openings so far, and what is in slot k at place k - 1
+pub record Kept : Type 0 where
+  pub volume : State
+  pub openings : ℕ
+  pub slots : List (Option KeptSlot)
+
+-- ---- a change
+
+abbrev pub changed : Kept → Change_ → Kept
+changed k c = record { volume = after k.volume c; openings = k.openings; slots = map (option_map (slot_after k.volume c)) k.slots }
+
+abbrev pub change_if : Kept → Change_ → Option Refusal → Answer × Kept
+change_if k c (Some e) = (Refused e, k)
+change_if k c None = (Changed (record { change = k.volume.number + 1; node = node_of k.volume c }), changed k c)
+
+-- ---- an opening
+
+-- the place of the first free slot
+abbrev pub first_free : List (Option KeptSlot) → ℕ
+first_free [] = 0
+first_free (None ∷ slots) = 0
+first_free (Some s ∷ slots) = first_free slots + 1
+
+abbrev pub opening_refusals : Kept → ℕ → ℕ → List (Bool × Refusal)
+opening_refusals k port backlog =
+    (not (nat_le 1 port && nat_le port 1024), BadPort)
+    ∷ (not (nat_le backlog 65536), BadBacklog)
+    ∷ (nat_le (length k.slots) (first_free k.slots), NoSlot)
+    ∷ (nat_le k.volume.limit k.openings, Exhausted)
+    ∷ []
+
+abbrev pub opening_refusal : Kept → ℕ → ℕ → Option Refusal
+opening_refusal k port backlog = first_refusal (opening_refusals k port backlog)
+
+abbrev pub opened : Kept → KeptSlot → Kept
+opened k s = record { volume = k.volume; openings = k.openings + 1; slots = slice_set k.slots (first_free k.slots) (Some s) }
+
+abbrev pub open_if : Kept → KeptSlot → Option Refusal → Answer × Kept
+open_if k s (Some e) = (Refused e, k)
+open_if k s None = (Opened (first_free k.slots + 1) k.volume.number (result_of s.held.query k.volume), opened k s)
+
+-- ---- the events of one slot
+
+abbrev pub kept_at : Kept → ℕ → Option KeptSlot
+kept_at k slot = if slot == 0 then None else option_flatten (slice_get k.slots (slot - 1))
+
+abbrev pub at_place : Kept → ℕ → Option KeptSlot → (KeptSlot → Answer × Option KeptSlot) → Answer × Kept
+at_place k place None event = (Refused NotOpen, k)
+at_place k place (Some s) event = ((event s).0, record k { slots = slice_set k.slots place (event s).1 })
+
+abbrev pub at_kept : Kept → ℕ → (KeptSlot → Answer × Option KeptSlot) → Answer × Kept
+at_kept k slot event = at_place k (slot - 1) (kept_at k slot) event
+
+-- ---- all of them
+
+-- what an event is answered where this is kept, and what is kept then
+abbrev pub kept_outcome : Kept → Happening → Answer × Kept
+kept_outcome k (Changing c) = change_if k c (refused k.volume c)
+kept_outcome k (Opening q port backlog moved) = open_if k (fresh_slot q moved k.volume.number port backlog) (opening_refusal k port backlog)
+kept_outcome k (Putting slot) = at_kept k slot put_slot
+kept_outcome k (Taking slot) = at_kept k slot take_slot
+kept_outcome k (HangingUp slot) = at_kept k slot ask_slot
+kept_outcome k (Noticing slot) = at_kept k slot (notice_slot k.volume.number)
+kept_outcome k (Closing slot) = at_kept k slot (close_slot k.volume.number)
+kept_outcome k (Finishing slot) = at_kept k slot finish_slot
+
+-- a change and an opening that nothing else refuses may run out of memory
+abbrev pub MayRunOut : Kept → Happening → Type 0
+MayRunOut k (Changing c) = refused k.volume c ≡ None
+MayRunOut k (Opening q port backlog moved) = opening_refusal k port backlog ≡ None
+MayRunOut k (Putting slot) = ⊥
+MayRunOut k (Taking slot) = ⊥
+MayRunOut k (HangingUp slot) = ⊥
+MayRunOut k (Noticing slot) = ⊥
+MayRunOut k (Closing slot) = ⊥
+MayRunOut k (Finishing slot) = ⊥
+
+-- its outcome, or a want of memory that leaves what is kept
+abbrev pub KeptStep : Kept → Happening → Answer → Kept → Type 0
+KeptStep k e a l = ((a ≡ (kept_outcome k e).0) × (l ≡ (kept_outcome k e).1)) ⊎ (MayRunOut k e × (a ≡ Refused NoMemory) × (l ≡ k))
+
+-- ---- the worlds that it shows
+
+abbrev pub mark_of : ℕ → End → Mark
+mark_of n e = record { seq = n + 1; change = e.change; cause = e.cause }
+
+-- what a world's subscription leaves with the desk
+abbrev pub held_for : Book → Sub → Held
+held_for b s = record {
+  query = s.query;
+  moved = s.moved;
+  opened = s.opened;
+  backlog = s.backlog;
+  sent = length (told b s);
+  messages = waiting b s;
+  mark = option_map (mark_of (length (told b s))) s.end;
+  mark_out = nat_lt (length (told b s)) s.put;
+}
+
+abbrev pub slot_for : Book → Sub → KeptSlot
+slot_for b s = record { held = held_for b s; port = s.port; queue = in_port b s; asked = s.asked }
+
+-- what the desk keeps where this world stands
+abbrev pub kept_of : World → Kept
+kept_of w = record { volume = state_of w.book; openings = w.openings; slots = map (option_map (slot_for w.book)) w.slots }
+
+pub record Shows (k : Kept) (w : World) : Type 0 where
+  pub fair : IsFairWorld w
+  pub kept : k ≡ kept_of w
+
+-- at most so many messages were made
+abbrev pub IsFew : ℕ → Option KeptSlot → Type 0
+IsFew n None = Unit {0}
+IsFew n (Some s) = s.held.sent ≤ n
+
+-- a desk has 64 slots, numbers its messages within a `u64`, and shows some world
+pub record IsDesk (k : Kept) : Type 0 where
+  pub slots : length k.slots ≡ 64
+  pub few : AllByRecursion (IsFew (3 * k.volume.number)) k.slots
+  pub world : World
+  pub shows : Shows k world

@@ -1,0 +1,44 @@
+-- What a desk does in one turn: an event, and what it does about it of itself.
+use Rattle.std.specs.Prelude.{◌≡◌, ◌++◌, ◌∷◌, ℕ, List, length, map, Bool, false, Option}
+use Rattle.std.specs.Option.{option_map}
+use Rattle.lq_world.specs.World.{World}
+use Rattle.lq_world.specs.Events.{Happening, Answer, Moved}
+use Rattle.lq_world.specs.Turns.{Turn, turn_of, events_in, after_all, carried_out}
+use Rattle.lq_desk.specs.Slot.{KeptSlot}
+use Rattle.lq_desk.specs.Kept.{Kept, KeptStep, kept_outcome}
+use Rattle.lq_desk.specs.Reply.{Runs}
+
+abbrev pub slot_port : KeptSlot → ℕ
+slot_port s = s.port
+
+abbrev pub kept_ports : Kept → List (Option ℕ)
+kept_ports k = map (option_map slot_port) k.slots
+
+abbrev pub kept_turn : Kept → Happening → Turn
+kept_turn k e = turn_of (kept_ports k) e
+
+-- what the event is answered, and what is kept after the turn
+abbrev pub turn_outcome : Kept → Happening → Answer × Kept
+turn_outcome k e = carried_out kept_outcome k (kept_turn k e)
+
+-- whether a put moved a parcel
+abbrev pub is_moved : Answer → Bool
+is_moved (Moved was) = was
+is_moved a = false
+
+-- what is kept after events that take no memory
+abbrev pub kept_after : Kept → List Happening → Kept
+kept_after k events = after_all kept_outcome k events
+
+-- the whole turn, also where its event wants memory that isn't there
+pub record TurnStep (k : Kept) (e : Happening) (a : Answer) (l : Kept) : Type 0 where
+  pub middle : Kept
+  pub step : KeptStep (kept_after k (kept_turn k e).before) e a middle
+  pub after : l ≡ kept_after middle (kept_turn k e).after
+
+-- a turn is a run of its events, and the answer is that of the event
+pub record TurnRuns (k l : Kept) (w : World) (e : Happening) (a : Answer) : Type 0 where
+  pub before : List Answer
+  pub after : List Answer
+  pub place : length before ≡ length (kept_turn k e).before
+  pub runs : Runs l w (events_in (kept_turn k e)) (before ++ a ∷ after)

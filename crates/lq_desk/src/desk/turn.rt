@@ -1,0 +1,129 @@
+//! The turns of a desk: an event, and what the desk does about it of itself.
+ghost use Rattle.std.specs.Prelude.{◌≡◌, ◌⊎◌};
+ghost use Rattle.lq_value.specs.declared.refusal.Refusal.TheVariants.{NoMemory};
+ghost use Rattle.lq_world.specs.World.{World};
+ghost use Rattle.lq_world.specs.Events.{Noticing, Putting, Refused};
+ghost use Rattle.lq_world.specs.Turns.{all_puts, notices, places_at, puts};
+ghost use Rattle.lq_desk.specs.Kept.{Shows, kept_outcome};
+ghost use Rattle.lq_desk.specs.Reply.{answer_of, happening_of};
+ghost use Rattle.lq_desk.specs.Turn.{TurnRuns, TurnStep, is_moved, kept_after, kept_ports, turn_outcome};
+
+use crate::desk::Desk;
+use crate::event::{Event, Reply};
+use crate::slot::Act;
+use lq_update::updates_join;
+use lq_volume::changes_are_counted;
+use lq_world::runs_keep_worlds_fair;
+
+impl Desk {
+    /// Carries out one event with all that belongs to its turn, and answers the event.
+    ///
+    /// A change comes after the notices of all taken slots, and each port is filled behind it; a
+    /// take comes after the notice of its slot, and after its port was filled; a close comes
+    /// after the notice of its slot, whose port is filled behind it. Any other event comes alone.
+    /// The event is refused as `event` refuses it, and the rest of its turn stands.
+    pub fn turn(&mut self, event: &Event) -> Reply
+        ensures kept { TurnStep self.old (happening_of event.now) (answer_of result) self.new }
+        ensures outcome { (answer_of result ≡ Refused NoMemory)
+            ⊎ ((answer_of result, self.new) ≡ turn_outcome self.old (happening_of event.now)) }
+        ensures run { (w : World) → Shows self.old w →
+            TurnRuns self.old self.new w (happening_of event.now) (answer_of result) }
+    {
+        updates_join();
+        changes_are_counted();
+        runs_keep_worlds_fair();
+        self.take_turn(event)
+    }
+
+    // Carries out the events of a turn.
+    fn take_turn(&mut self, event: &Event) -> Reply
+        ensures { TurnStep self.old (happening_of event.now) (answer_of result) self.new }
+    {
+        match event {
+            Event::Change(_) => {
+                self.notice_all();
+                let reply = self.carry_out(event);
+                self.fill_all();
+                reply
+            }
+            Event::Take(slot) => {
+                self.notice(*slot);
+                self.fill(*slot);
+                self.act(*slot, Act::Take)
+            }
+            Event::Close(slot) => {
+                self.notice(*slot);
+                let reply = self.act(*slot, Act::Close);
+                self.fill(*slot);
+                reply
+            }
+            Event::Open { .. }
+            | Event::Put(_)
+            | Event::HangUp(_)
+            | Event::Notice(_)
+            | Event::Finish(_) => self.carry_out(event),
+        }
+    }
+
+    // Notices the end of each taken slot that asks for it.
+    fn notice_all(&mut self)
+        ensures { self.new ≡ kept_after self.old (notices (kept_ports self.old)) }
+    {
+        for place in 0..self.slots.len() {
+            self.notice(place as u64 + 1);
+        }
+    }
+
+    // Notices the end of a slot, where that asks for it.
+    fn notice(&mut self, slot: u64)
+        ensures { self.new ≡ (kept_outcome self.old (Noticing slot)).1 }
+    {
+        let _ = self.act(slot, Act::Notice);
+    }
+
+    // Fills each port.
+    fn fill_all(&mut self)
+        ensures { self.new ≡ kept_after self.old (all_puts (kept_ports self.old)) }
+    {
+        for place in 0..self.slots.len() {
+            self.fill(place as u64 + 1);
+        }
+    }
+
+    // Moves parcels into a slot's port until nothing moves.
+    fn fill(&mut self, slot: u64)
+        ensures { self.new ≡ kept_after self.old (puts slot (places_at (kept_ports self.old) slot)) }
+    {
+        for _ in 0..self.places(slot) {
+            if !self.put(slot) {
+                return;
+            }
+        }
+    }
+
+    // How many places the port of a slot has; none where the slot is free.
+    fn places(&self, slot: u64) -> u64
+        ensures { result ≡ places_at (kept_ports self.now) slot }
+    {
+        self.slots.places(slot)
+    }
+
+    // Moves a parcel into a slot's port, and tells whether it did.
+    fn put(&mut self, slot: u64) -> bool
+        ensures moved { result ≡ is_moved (kept_outcome self.old (Putting slot)).0 }
+        ensures put { self.new ≡ (kept_outcome self.old (Putting slot)).1 }
+    {
+        let reply = self.act(slot, Act::Put);
+        is_moved(&reply)
+    }
+}
+
+// Whether a reply says that a parcel moved.
+fn is_moved(reply: &Reply) -> bool
+    ensures { result ≡ is_moved (answer_of reply.now) }
+{
+    match reply {
+        Reply::Moved(moved) => *moved,
+        _ => false,
+    }
+}

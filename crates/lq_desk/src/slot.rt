@@ -1,0 +1,246 @@
+//! A taken slot: a subscription beside its port.
+ghost use Rattle.std.specs.Prelude.{◌≡◌, ◌<◌, ◌≤◌, ◌^◌, ◌-◌, true, if◌then◌else◌, None, Some, IfOk, OnOk, OnErr};
+ghost use Rattle.lq_value.specs.Refusal.{IsRefusedBy};
+ghost use Rattle.lq_volume.specs.Change.{IsLawful};
+ghost use Rattle.std.specs.Option.{option_map};
+ghost use Rattle.lq_desk.specs.Slot.{slot_of, prepared_slot, committed_slot};
+ghost use Rattle.lq_desk.specs.Kept.{IsFew};
+ghost use Rattle.lq_desk.specs.Act.{outcome_at};
+ghost use Rattle.lq_desk.specs.Reply.{answer_of};
+
+use crate::event::{Read, Reply};
+use crate::sub::Sub;
+use lq_predicate::Predicate;
+use lq_update::{Cause, Parcel};
+use lq_value::Refusal;
+use lq_volume::{Change, Volume};
+use std::alloc::Global;
+use std::collections::VecDeque;
+use std::marker::Model;
+
+/// What may be done at one slot.
+#[derive(Clone, Copy, Debug)]
+pub enum Act {
+    Put,
+    Take,
+    HangUp,
+    Notice,
+    Close,
+    Finish,
+}
+
+/// A subscription, its port with room for all its places, and whether its end was asked for.
+#[derive(Debug, Drop)]
+pub struct Slot {
+    sub: Sub,
+    port: u64,
+    queue: VecDeque<Parcel>,
+    asked: bool,
+}
+
+impl Model for Slot {
+    ghost use Rattle.std.specs.Prelude.{◌≤◌};
+    ghost use Rattle.std.specs.VecDeque.{deque_capacity};
+    ghost use Rattle.lq_desk.specs.Slot.{PreparedSlot};
+    ghost use Rattle.std.specs.Coded.{codes};
+    ghost use Rattle.lq_predicate.specs.QueryCode.{coded_query};
+
+    ghost Value = { PreparedSlot };
+
+    ghost coded = { Prim.hlevel (codes, coded_query) };
+
+    ghost view = { λ s. record { sub = s.sub; port = s.port; queue = s.queue.items; asked = s.asked } };
+
+    ghost invariant = { λ s. s.port ≤ deque_capacity s.queue };
+}
+
+impl Slot {
+    ghost use Rattle.lq_world.specs.Events.{Answer, Moved, Noticed};
+    ghost use Rattle.lq_desk.specs.Held.{is_live, ended_by};
+    ghost use Rattle.lq_desk.specs.Slot.{KeptSlot, PreparedSlot, fresh_slot, put_slot, take_slot, notice_slot, is_read};
+    ghost use Rattle.lq_desk.specs.Reply.{answer_of_read};
+    ghost use Rattle.lq_update.specs.declared.mark.Cause.TheVariants.{Closed};
+
+    /// A subscription that was told nothing yet, with an empty port of so many places.
+    pub fn new(
+        alloc: Global,
+        predicate: &Predicate,
+        at: u64,
+        port: u64,
+        backlog: u64,
+        moved: bool,
+    ) -> Result<Slot, Refusal>
+        ensures refused { IsRefusedBy result None }
+        ensures value { IfOk result (λ s. slot_of s ≡ fresh_slot predicate.now moved at port backlog) }
+    {
+        Ok(Slot {
+            sub: Sub::new(alloc, predicate, at, backlog, moved)?,
+            port,
+            queue: VecDeque::with_capacity(alloc, port as usize)?,
+            asked: false,
+        })
+    }
+
+    /// Makes the messages of a change, where it is live.
+    pub fn ready(&mut self, volume: &Volume, change: &Change) -> Result<(), Refusal>
+        requires lawful { IsLawful volume.now change.now }
+        requires few { self.old.sub.held.sent < 2 ^ 63 }
+        ensures refused { IsRefusedBy result None }
+        ensures ok { OnOk result (self.new ≡ prepared_slot volume.now change.now self.old) }
+        ensures err { OnErr result (slot_of self.new ≡ slot_of self.old) }
+    {
+        if self.sub.is_live() {
+            self.sub.ready(volume, change)?;
+        }
+        Ok(())
+    }
+
+    /// Tells the messages that were made, where it is live.
+    pub fn commit(&mut self)
+        requires { self.old.sub.held.sent < 2 ^ 63 }
+        ensures { self.new ≡ committed_slot self.old }
+    {
+        if self.sub.is_live() {
+            self.sub.commit();
+        }
+    }
+
+    /// Moves the next parcel into the port, where that has room, and tells whether there was one.
+    pub fn put(&mut self) -> bool
+        ensures { (Moved result, Some (slot_of self.new)) ≡ put_slot (slot_of self.old) }
+    {
+        if self.queue.len() as u64 >= self.port {
+            return false;
+        }
+        match self.sub.next() {
+            None => false,
+            Some(parcel) => {
+                self.queue.push_back_reserved(parcel);
+                true
+            }
+        }
+    }
+
+    /// Takes the first parcel in the port.
+    pub fn take(&mut self) -> Read
+        ensures { (answer_of_read result, Some (slot_of self.new)) ≡ take_slot (slot_of self.old) }
+    {
+        match self.queue.pop_front() {
+            Some(Parcel::Update(message)) => Read::Update(message),
+            Some(Parcel::Fin(mark)) => Read::Fin(mark),
+            None => {
+                if self.is_read() {
+                    Read::Ended
+                } else {
+                    Read::Empty
+                }
+            }
+        }
+    }
+
+    /// Notes that its end is asked for.
+    pub fn hang_up(&mut self)
+        ensures { slot_of self.new ≡ record (slot_of self.old) { asked = true } }
+    {
+        self.asked = true;
+    }
+
+    /// Ends it where that was asked for, and tells whether it did.
+    pub fn notice(&mut self, number: u64) -> bool
+        requires { self.old.sub.held.sent < 2 ^ 63 }
+        ensures { (Noticed result, Some (slot_of self.new)) ≡ notice_slot number (slot_of self.old) }
+    {
+        let ends = self.sub.is_live() && self.asked;
+        if ends {
+            self.sub.finish_with(Cause::HungUp, number);
+        }
+        ends
+    }
+
+    /// Ends it unless it has ended, and tells whether it did.
+    pub fn close(&mut self, number: u64) -> bool
+        requires { self.old.sub.held.sent < 2 ^ 63 }
+        ensures ended { result ≡ is_live self.old.sub.held }
+        ensures slot { slot_of self.new ≡ (if is_live self.old.sub.held
+            then record (slot_of self.old) { held = ended_by self.old.sub.held Closed number }
+            else slot_of self.old) }
+    {
+        let ends = self.sub.is_live();
+        if ends {
+            self.sub.finish_with(Cause::Closed, number);
+        }
+        ends
+    }
+
+    /// How many places its port has.
+    pub fn places(&self) -> u64
+        ensures { result ≡ (slot_of self.now).port }
+    {
+        self.port
+    }
+
+    /// Whether its mark went out, and its port is empty.
+    pub fn is_read(&self) -> bool
+        ensures { result ≡ is_read (slot_of self.now) }
+    {
+        self.sub.is_marked() && self.queue.is_empty()
+    }
+}
+
+/// Does an act at a slot that may be free.
+pub fn act_at(slot: &mut Option<Slot>, act: Act, number: u64) -> Reply
+    requires { IsFew (2 ^ 63 - 1) (option_map slot_of slot.old) }
+    ensures { (answer_of result, option_map slot_of slot.new) ≡ outcome_at number act (option_map slot_of slot.old) }
+{
+    let Some(there) = slot else {
+        return Reply::Refused(Refusal::NotOpen);
+    };
+    match act {
+        Act::Put => Reply::Moved(there.put()),
+        Act::Take => Reply::Took(there.take()),
+        Act::HangUp => {
+            there.hang_up();
+            Reply::Asked
+        }
+        Act::Notice => Reply::Noticed(there.notice(number)),
+        Act::Close => {
+            if there.close(number) {
+                Reply::Shut(number)
+            } else {
+                Reply::Refused(Refusal::NotOpen)
+            }
+        }
+        Act::Finish => {
+            if there.is_read() {
+                *slot = None;
+                Reply::Finished
+            } else {
+                Reply::Refused(Refusal::StillOpen)
+            }
+        }
+    }
+}
+
+/// Makes the messages of a change for a slot, where a live subscription is there.
+pub fn ready_at(slot: &mut Option<Slot>, volume: &Volume, change: &Change) -> Result<(), Refusal>
+    requires lawful { IsLawful volume.now change.now }
+    requires few { IsFew (2 ^ 63 - 1) (option_map slot_of slot.old) }
+    ensures refused { IsRefusedBy result None }
+    ensures ok { OnOk result (slot.new ≡ option_map (prepared_slot volume.now change.now) slot.old) }
+    ensures err { OnErr result (option_map slot_of slot.new ≡ option_map slot_of slot.old) }
+{
+    if let Some(there) = slot {
+        there.ready(volume, change)?;
+    }
+    Ok(())
+}
+
+/// Tells a slot's messages.
+pub fn commit_at(slot: &mut Option<Slot>)
+    requires { IsFew (2 ^ 63 - 1) (option_map slot_of slot.old) }
+    ensures { slot.new ≡ option_map committed_slot slot.old }
+{
+    if let Some(there) = slot {
+        there.commit();
+    }
+}
