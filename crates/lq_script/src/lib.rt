@@ -2,7 +2,8 @@
 //!
 //! A contract sees a device as the bytes that it has left or has taken, an input as its list of
 //! lines (`specs/Lines`), and its output as the texts of what a world answers those lines
-//! (`specs/Script`); what a run has read and written when it answers is in `specs/Output`.
+//! (`specs/Script`), beside the result that was read of each slot (`specs/Folds`);
+//! what a run has read and written when it answers is in `specs/Output`.
 //! Nothing here waits. Begin with `devices`, then `script`, then `session`.
 #![tactic(auto)]
 

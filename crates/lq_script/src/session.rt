@@ -34,7 +34,7 @@ pub struct Session {
 }
 
 impl Session {
-    /// A session over a desk. It takes no memory.
+    /// A session over a desk, and what was rebuilt of each of its slots. It takes no memory.
     pub fn new(alloc: Global, desk: Desk, rebuilds: Vec<Option<Rebuild>>) -> Session
         ensures desk { result.desk ≡ desk }
         ensures rebuilds { result.rebuilds.items ≡ rebuilds.items }
