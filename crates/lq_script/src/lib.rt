@@ -8,6 +8,7 @@
 
 mod asking;
 mod checking;
+mod command_line;
 mod devices;
 mod intake;
 mod laws;
