@@ -9,6 +9,7 @@
 
 mod asking;
 mod checking;
+mod command_line;
 mod devices;
 mod intake;
 mod laws;

@@ -2,6 +2,7 @@
 ghost use Rattle.std.specs.Prelude.{◌≡◌, false};
 
 use crate::checking::check;
+use crate::command_line::{Subcommand, WordsFault, subcommand_of};
 use crate::devices::{Failed, Sink, Source};
 use crate::run_fault::RunFault;
 use crate::script::run;
@@ -12,10 +13,10 @@ use std::alloc::Global;
 /// Does what the words after the program's name ask for, and answers its status.
 ///
 /// `run` carries out the reader's script, `check FORMULA` writes the formula's canonical text and
-/// LF; a formula that begins with `-` stands behind `--`. Status 0: done; 1: a `RunFault`, or want
-/// of memory or a fault of the writer in `check`, with one line on `faults`; 2: a formula that is
-/// refused, with `lq: BadQuery at P` there, or any other words, with `lq: usage`. A fault of
-/// `faults` is ignored.
+/// LF; a formula that begins with `-` stands behind `--`. Status 0: done; 1: a `RunFault`, a fault
+/// of the writer in `check`, or want of memory in `check` or for the words, with one line on
+/// `faults`; 2: a formula that is refused, with `lq: BadQuery at P` there, or any other words, with
+/// `lq: usage`. A fault of `faults` is ignored.
 pub fn program<R: Source, W: Sink, F: Sink>(
     alloc: Global,
     words: &[String],
@@ -27,21 +28,14 @@ pub fn program<R: Source, W: Sink, F: Sink>(
     requires writer_works { W.failed writer.old ≡ false }
     requires writer_moves { W.stalled writer.old ≡ false }
 {
-    match words {
-        [word] if word.as_str() == "run" => match run(alloc, reader, writer) {
+    match subcommand_of(alloc, words) {
+        Ok(Subcommand::Run) => match run(alloc, reader, writer) {
             Ok(()) => 0,
-            Err(fault) => {
-                let _ = write_all(faults, line_of(fault).as_bytes());
-                1
-            }
+            Err(fault) => tell_fault(fault, faults),
         },
-        [word, formula] if word.as_str() == "check" && !formula.as_str().starts_with('-') => {
-            check_formula(alloc, formula.as_str(), writer, faults)
-        }
-        [word, dashes, formula] if word.as_str() == "check" && dashes.as_str() == "--" => {
-            check_formula(alloc, formula.as_str(), writer, faults)
-        }
-        _ => {
+        Ok(Subcommand::Check(formula)) => check_formula(alloc, formula, writer, faults),
+        Err(WordsFault::NoMemory) => tell_fault(RunFault::Memory, faults),
+        Err(WordsFault::Usage) => {
             let _ = write_all(faults, b"lq: usage\n");
             2
         }
@@ -57,15 +51,9 @@ fn check_formula<W: Sink, F: Sink>(
     match line_for(alloc, formula) {
         Ok(line) => match write_line(line.as_str(), writer) {
             Ok(()) => 0,
-            Err(Failed) => {
-                let _ = write_all(faults, line_of(RunFault::Write).as_bytes());
-                1
-            }
+            Err(Failed) => tell_fault(RunFault::Write, faults),
         },
-        Err(Refusal::NoMemory) => {
-            let _ = write_all(faults, line_of(RunFault::Memory).as_bytes());
-            1
-        }
+        Err(Refusal::NoMemory) => tell_fault(RunFault::Memory, faults),
         Err(refusal) => tell_refusal(alloc, refusal, faults),
     }
 }
@@ -89,11 +77,14 @@ fn tell_refusal<F: Sink>(alloc: Global, refusal: Refusal, faults: &mut F) -> u8 
             let _ = write_all(faults, line.as_bytes());
             2
         }
-        Err(_) => {
-            let _ = write_all(faults, line_of(RunFault::Memory).as_bytes());
-            1
-        }
+        Err(_) => tell_fault(RunFault::Memory, faults),
     }
+}
+
+// Writes a fault's line to standard error, and answers its status.
+fn tell_fault<F: Sink>(fault: RunFault, faults: &mut F) -> u8 {
+    let _ = write_all(faults, line_of(fault).as_bytes());
+    1
 }
 
 // The line on standard error.
