@@ -90,14 +90,15 @@ fn event_of(alloc: Global, act: &Act) -> Result<Event, Refusal> {
         Act::Notice => Event::Notice(1),
         Act::Close => Event::Close(1),
         Act::Finish => Event::Finish(1),
-        Act::Create(name) => Event::Change(creation(alloc, name)?),
+        Act::Create(name) => Event::Change(file(alloc, name)?),
         Act::Move(name, clobber) => Event::Change(renaming(alloc, name, *clobber)?),
         Act::Text(text) => Event::Change(setting(alloc, Value::text(alloc, text)?)?),
         Act::Number(number) => Event::Change(setting(alloc, Value::Int32(*number))?),
     })
 }
 
-fn creation(alloc: Global, name: &str) -> Result<Change, Refusal> {
+/// A change that makes an empty file of this name in the root.
+pub fn file(alloc: Global, name: &str) -> Result<Change, Refusal> {
     Ok(Change::Create {
         dir: 1,
         name: Name::read(alloc, name)?,
@@ -107,7 +108,8 @@ fn creation(alloc: Global, name: &str) -> Result<Change, Refusal> {
     })
 }
 
-fn renaming(alloc: Global, name: &str, clobber: bool) -> Result<Change, Refusal> {
+/// A change that moves node 3 to this name in the root.
+pub fn renaming(alloc: Global, name: &str, clobber: bool) -> Result<Change, Refusal> {
     Ok(Change::Move {
         node: 3,
         dir: 1,

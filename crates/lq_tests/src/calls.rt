@@ -1,6 +1,8 @@
 //! Worked examples as calls of a volume.
+use crate::acts::{file, renaming};
+use crate::told::{Told, is_message};
 use lq_predicate::read;
-use lq_update::step;
+use lq_update::{Message, step};
 use lq_value::{Kind, Name, Refusal};
 use lq_volume::{Change, Volume};
 use std::alloc::Global;
@@ -66,5 +68,26 @@ fn each_call_once(rt: HostRuntime) -> Result<(), Fail> {
     assert!(rt; is_told(alloc, &mut volume)?);
     assert!(rt; is_fetched(alloc, &volume)?);
     assert!(rt; is_listed(alloc, &volume)?);
+    Ok(())
+}
+
+/// The messages of `name=*` for a move of the file `b` to the name of `a`.
+fn clobbering(alloc: Global) -> Result<Vec<Message>, Refusal> {
+    let mut volume = Volume::new(alloc, 9);
+    volume.apply(&file(alloc, "a")?)?;
+    volume.apply(&file(alloc, "b")?)?;
+    let change = renaming(alloc, "a", true)?;
+    let query = read(alloc, "name=*")?;
+    volume.check(&change)?;
+    step(alloc, &query, &volume, &change, 1, false)
+}
+
+#[test]
+fn scenario_clobber_by_step(rt: HostRuntime) -> Result<(), Fail> {
+    let messages = clobbering(rt.alloc())?;
+    assert_eq!(rt; messages.len(), 3);
+    assert!(rt; is_message(&messages[0], &Told::Went(1, 3, "a", 2, false)));
+    assert!(rt; is_message(&messages[1], &Told::Went(2, 3, "b", 3, false)));
+    assert!(rt; is_message(&messages[2], &Told::Came(3, 3, "a", 3, true)));
     Ok(())
 }

@@ -1,6 +1,6 @@
-//! Tests that cross crates: worked examples as calls and as lists of events, the limits of a
-//! script's input, a volume under a lock whose number is read beside it (`locked`, `tie`), and the
-//! plain body of `step` beside the fast one (`plain`).
+//! Tests that cross crates: worked examples as calls and as lists of events, scripts over devices
+//! that fail and at the limits of their input, a volume under a lock whose number is read beside
+//! it (`locked`, `tie`), and the plain body of `step` beside the fast one (`plain`).
 //!
 //! A contract sees the lock's value as a book, and the lock as its board. Calls that take the lock
 //! wait. Begin with `tie`.
@@ -20,6 +20,8 @@ mod calls;
 mod entry_calls;
 #[cfg(test)]
 mod events;
+#[cfg(test)]
+mod faults;
 #[cfg(test)]
 mod input;
 mod locked;

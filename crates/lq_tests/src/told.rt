@@ -55,7 +55,8 @@ fn is_read(read: &Read, told: &Told) -> bool {
     }
 }
 
-fn is_message(message: &Message, told: &Told) -> bool {
+/// Returns whether a message is what was wanted.
+pub fn is_message(message: &Message, told: &Told) -> bool {
     match (&message.op, told) {
         (Opcode::Created, Told::Came(seq, change, name, node, last)) => {
             is_of(message, *seq, *change, *last) && is_at(message, name, *node)
