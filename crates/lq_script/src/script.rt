@@ -21,7 +21,8 @@ const MAX_CHANGES: u64 = 1_000_000_000_000;
 /// the writer, which is flushed once at the end, also after `Read`, `Limit` and `Memory`.
 /// Refused: `Read` and `Write` where that device failed, `Write` too where the writer took none
 /// of the bytes given, `Limit` where a byte follows 10,000,000 lines or 1,073,741,824 bytes,
-/// `Memory`, also where it can't begin; the first fault is the answer. The formats and limits are our own.
+/// `Memory`, which before the first read flushes nothing; the first fault is the answer. The
+/// formats and limits are our own.
 pub fn run<R: Source, W: Sink>(
     alloc: Global,
     reader: &mut R,
