@@ -1,9 +1,10 @@
 //! A whole script, over the root alone.
 ghost use Rattle.std.specs.Prelude.{◌≡◌, ◌⊎◌, OnOk, OnErr, IsErrOf, true, false};
+ghost use Rattle.std.specs.Io.KnownBytes.{Keeps};
 ghost use Rattle.lq_script.specs.Output.{Answered, Ended, Passed, Stopped};
 ghost use Rattle.lq_script.specs.Script.{script_session, world_rules};
 
-use crate::devices::{Sink, Source};
+use crate::devices::{Failed, Sink, Source};
 use crate::over_lines::run_lines;
 use crate::rebuilds::no_rebuilds;
 use crate::run_fault::RunFault;
@@ -21,8 +22,8 @@ const MAX_CHANGES: u64 = 1_000_000_000_000;
 /// the writer, which is flushed once at the end, also after `Read`, `Limit` and `Memory`.
 /// Refused: `Read` and `Write` where that device failed, `Write` too where the writer took none
 /// of the bytes given, `Limit` where a byte follows 10,000,000 lines or 1,073,741,824 bytes,
-/// `Memory`, which before the first read flushes nothing; the first fault is the answer. The
-/// formats and limits are our own.
+/// `Memory`, also where it can't begin; the first fault is the answer. The formats and limits are
+/// our own.
 pub fn run<R: Source, W: Sink>(
     alloc: Global,
     reader: &mut R,
@@ -53,11 +54,21 @@ pub fn run<R: Source, W: Sink>(
 {
     kept_turns_show_worlds();
     let Ok(desk) = Desk::new(alloc, Volume::new(alloc, MAX_CHANGES)) else {
-        return Err(RunFault::Memory);
+        return Err(out_of_memory(writer));
     };
     let Ok(rebuilds) = no_rebuilds(alloc) else {
-        return Err(RunFault::Memory);
+        return Err(out_of_memory(writer));
     };
     let mut session = Session::new(alloc, desk, rebuilds);
     run_lines(alloc, reader, writer, &mut session)
+}
+
+// The fault of a run that can't begin: the writer is flushed once, as after any other.
+fn out_of_memory<W: Sink>(writer: &mut W) -> RunFault
+    ensures fault { result ≡ RunFault.Memory }
+    ensures bytes { Keeps (W.written writer.old) (W.written writer.new) }
+{
+    match writer.flush() {
+        Ok(()) | Err(Failed) => RunFault::Memory,
+    }
 }

@@ -8,6 +8,7 @@ use Rattle.lq_script.specs.Output.{output_of}
 use Rattle.lq_script.specs.Session.{session_with}
 use Rattle.lq_script.specs.Script.{script_session, script_world, world_rules}
 use Rattle.lq_script.proofs.ScriptLemmas.{Alike, answered-world, stopped-world, ended-world, passed-world}
+use Rattle.lq_script.proofs.ProgressLemmas.{appends_kept}
 use Rattle.lq_script.proofs.script.run.Goals as goal
 
 on_ok : {T E P Q : Type 0} (r : Result T E) → (P → Q) → OnOk r P → OnOk r Q
@@ -24,7 +25,7 @@ returns-in_default-clause-err g c = record {
   given = [];
   consumed = Consumes-nil _;
   text = [];
-  appended = Appends-nil _;
+  appended = appends_kept _ _ _ [] (Appends-nil _) c.out_of_memory.ensures.bytes;
   front = (output_of world_rules script_session [], refl);
 }
 
@@ -33,7 +34,7 @@ returns-in_default-no_rebuilds-clause-err g c = record {
   given = [];
   consumed = Consumes-nil _;
   text = [];
-  appended = Appends-nil _;
+  appended = appends_kept _ _ _ [] (Appends-nil _) c.out_of_memory-in_default-no_rebuilds.ensures.bytes;
   front = (output_of world_rules script_session [], refl);
 }
 
