@@ -1,5 +1,5 @@
 -- What a question is answered over a volume and the folds of the slots, and the session after it.
-use Rattle.std.specs.Prelude.{ℕ, Option, Some, None, Result, Ok, Err}
+use Rattle.std.specs.Prelude.{ℕ, List, Option, Some, None, Result, Ok, Err}
 use Rattle.lq_value.specs.declared.refusal.Refusal.{Refusal}
 use Rattle.lq_value.specs.declared.refusal.Refusal.TheVariants.{NoNode, NoEntry, NotOpen}
 use Rattle.lq_value.specs.Refusal.{first_refusal}

@@ -4,10 +4,10 @@ ghost use Rattle.std.specs.Io.KnownBytes.{Keeps};
 ghost use Rattle.lq_lines.specs.Output.{Answered, Ended, Passed, Stopped};
 ghost use Rattle.lq_script.specs.Script.{script_session, world_rules};
 
-use lq_lines::{Failed, RunFault, Sink, Source, run_lines};
 use crate::rebuilds::no_rebuilds;
 use crate::session::Session;
 use lq_desk::{Desk, kept_turns_show_worlds};
+use lq_lines::{Failed, RunFault, Sink, Source, run_lines};
 use lq_volume::Volume;
 use std::alloc::Global;
 

@@ -13,12 +13,12 @@ ghost use Rattle.lq_script.specs.Folds.{fold_at};
 ghost use Rattle.lq_script.specs.Session.{session_with};
 ghost use Rattle.lq_script.specs.Script.{kept_volume};
 
-use lq_request::{Question, question_in};
 use crate::rebuilds::{copied, note, rebuild_at};
-use lq_reply::{Response, put_reply};
-use lq_lines::Responder;
 use lq_desk::{Desk, Event, Reply};
+use lq_lines::Responder;
 use lq_predicate::Predicate;
+use lq_reply::{Response, put_reply};
+use lq_request::{Question, question_in};
 use lq_update::{Rebuild, results_rise};
 use lq_value::{Name, Refusal};
 use lq_volume::Volume;

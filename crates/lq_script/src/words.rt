@@ -3,8 +3,8 @@ ghost use Rattle.std.specs.Prelude.{◌≡◌, false};
 
 use crate::checking::check;
 use crate::command_line::{Subcommand, WordsFault, subcommand_of};
-use lq_lines::{Failed, RunFault, Sink, Source, write_all};
 use crate::script::run;
+use lq_lines::{Failed, RunFault, Sink, Source, write_all};
 use lq_value::Refusal;
 use std::alloc::Global;
 
