@@ -151,7 +151,7 @@ module _ (join : UpdatesJoin) where
   opening-fair w s (Some e) fair h = h
   opening-fair w s None fair h = all-set (IsFairSlot w.book) w.slots _ (Some s) h (fair refl)
 
-  outcome-fair : (w : World) (e : Happening) → IsFairWorld w → IsFairWorld (outcome w e).1
+  pub outcome-fair : (w : World) (e : Happening) → IsFairWorld w → IsFairWorld (outcome w e).1
   outcome-fair w (Changing c) h = changing-fair w c (refused_by (state_of w.book) c) h
   outcome-fair w (Opening q port backlog moved) h = opening-fair w (opened_now w q port backlog moved) (open_refusal w port backlog) (λ none. opened-fair w q port backlog moved (may_open w port backlog none)) h
   outcome-fair w (Putting k) h = at_slot-fair w k (putting w.book) (λ s f. left-fair w.book s _ _ (putting-leaves w.book s f)) h (slot_at w k) refl

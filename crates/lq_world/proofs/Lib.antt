@@ -8,3 +8,4 @@ pub mod RunLemmas
 pub mod BookLemmas
 pub mod HeadlineLemmas
 pub mod PassingLemmas
+pub mod FillLemmas

@@ -1,5 +1,5 @@
 -- What is so of every world and every run.
-use Rattle.std.specs.Prelude.{◌≡◌, ◌+◌, ◌-◌, List, [], ◌∷◌, ◌++◌, length, map, take, drop, false, ◌&&◌, ◌==◌, nat_lt, Some, None, slice_get, if◌then◌else◌}
+use Rattle.std.specs.Prelude.{◌≡◌, ◌+◌, ◌-◌, ℕ, List, [], ◌∷◌, ◌++◌, length, map, take, drop, true, false, ◌&&◌, ◌==◌, nat_lt, Some, None, slice_get, if◌then◌else◌}
 use Rattle.lq_value.specs.declared.refusal.Refusal.{Refusal}
 use Rattle.lq_volume.specs.declared.change.Change.{Change as Change_}
 use Rattle.lq_volume.specs.Book.{Book, IsBook, grown, number_of, state_of}
@@ -7,8 +7,9 @@ use Rattle.lq_update.specs.declared.mark.Cause.{Cause}
 use Rattle.lq_update.specs.declared.parcel.Parcel.TheVariants.{Update, Fin}
 use Rattle.lq_update.specs.Updates.{step_of}
 use Rattle.lq_world.specs.World.{World, Sub, End, first_world, told, whole, in_port, waiting, held, to_come, first_in_port, can_put, is_live, is_over, news, with_end, one_more_put, one_more_taken}
-use Rattle.lq_world.specs.Events.{Happening, Answer, Refused, answer, next}
+use Rattle.lq_world.specs.Events.{Happening, Changing, Putting, Taking, Closing, Answer, Moved, Refused, answer, next, outcome}
 use Rattle.lq_world.specs.Runs.{Run}
+use Rattle.lq_world.specs.Turns.{after_all, ports_of, turn_of, turn_outcome}
 use Rattle.lq_world.specs.Fair.{IsFair, IsFairWorld}
 use Rattle.lq_world.specs.Headline.{accepted, book_of, ReadersAreTold}
 
@@ -62,6 +63,18 @@ PortsAreQueues = (b : Book) (s : Sub) → IsFair b s →
     × (first_in_port b s ≡ slice_get (in_port b s) 0)
     × (in_port b (one_more_taken s) ≡ drop 1 (in_port b s))
     × (is_over b s ≡ (if is_live s then false else length (in_port b s) + length (to_come b s) == 0))
+
+-- nothing moves into the port of a slot
+abbrev pub IsStill : World → ℕ → Type 0
+IsStill w slot = answer w (Putting slot) ≡ Moved true → ⊥
+
+-- A turn puts until nothing moves: behind a change into no port, behind a close and before a take not into that of
+-- its slot.
+abbrev pub TurnsFillPorts : Type 0
+TurnsFillPorts = (w : World) → IsFairWorld w →
+    ((c : Change_) (slot : ℕ) → IsStill (turn_outcome w (Changing c)).1 slot)
+    × ((slot : ℕ) → IsStill (turn_outcome w (Closing slot)).1 slot)
+    × ((slot : ℕ) → IsStill (after_all outcome w (turn_of (ports_of w) (Taking slot)).before) slot)
 
 -- The accepted changes of a run are a book from the state before it, and stand behind the book that was there.
 abbrev pub RunsMakeBooks : Type 0

@@ -31,7 +31,7 @@ at_each events n (port ∷ ports) = at_slot_of events n port ++ at_each events (
 abbrev pub one_notice : ℕ → ℕ → List Happening
 one_notice slot port = Noticing slot ∷ []
 
--- As many puts as the port has places: nothing moves after them, and a put that moves nothing changes nothing.
+-- As many puts as the port has places: nothing moves after them (`Laws`), and a put that moves nothing changes nothing.
 abbrev pub puts : ℕ → ℕ → List Happening
 puts slot port = replicate port (Putting slot)
 

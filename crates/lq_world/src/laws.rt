@@ -1,5 +1,5 @@
 //! Laws of worlds and of their runs: each is the contract of a function that does nothing.
-ghost use Rattle.lq_world.specs.Laws.{EndedListsStay, EndsAddMarks, FirstWorldsAreFair, ListsArePassedOn, LiveListsGrow, PortsAreQueues, RefusalsLeaveWorlds, RunsKeepSlots, RunsKeepWorldsFair, RunsMakeBooks, RunsTellReaders};
+ghost use Rattle.lq_world.specs.Laws.{EndedListsStay, EndsAddMarks, FirstWorldsAreFair, ListsArePassedOn, LiveListsGrow, PortsAreQueues, RefusalsLeaveWorlds, RunsKeepSlots, RunsKeepWorldsFair, RunsMakeBooks, RunsTellReaders, TurnsFillPorts};
 
 use lq_update::{folds_give_results, updates_grow, updates_join, whole_folds_give_results};
 use lq_volume::changes_are_counted;
@@ -57,6 +57,14 @@ pub fn lists_are_passed_on()
 pub fn ports_are_queues()
     ensures { PortsAreQueues }
 {}
+
+/// A turn puts until nothing moves: behind a change no port takes one more parcel, and behind a close
+/// and before a take that of its slot takes none.
+pub fn turns_fill_ports()
+    ensures { TurnsFillPorts }
+{
+    updates_join();
+}
 
 /// The changes that a run accepts are a book from the state before it, and come to stand behind
 /// those that the world's book had.

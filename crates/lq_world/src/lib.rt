@@ -11,5 +11,5 @@ mod laws;
 pub use laws::{
     ended_lists_stay, ends_add_marks, first_worlds_are_fair, lists_are_passed_on, live_lists_grow,
     ports_are_queues, readers_are_told, refusals_leave_worlds, runs_keep_slots,
-    runs_keep_worlds_fair, runs_make_books,
+    runs_keep_worlds_fair, runs_make_books, turns_fill_ports,
 };
