@@ -1,5 +1,7 @@
 -- How an input is cut into lines, and what is written for lines one after another.
-use Rattle.std.proofs.Common.{◌≡◌, ◌==◌, ℕ, ◌++◌, List, [], ◌∷◌, Bool, true, false, refl, sym, ap, ◌∙◌, append_assoc, append-nil}
+use Rattle.std.proofs.Common.{◌≡◌, ◌==◌, ℕ, zero, suc, ◌≤◌, ◌++◌, List, [], ◌∷◌, take, length, Option, None, Some, Bool, true, false, refl, sym, ap, ◌∙◌, arith, append_assoc, append-nil}
+use Rattle.std.specs.Prelude.{unwrap_or}
+use Rattle.memchr.specs.Find.{IsFirstByte, Nowhere, Passes, is_byte}
 use Rattle.lq_lines.specs.Lines.{IsUnbroken, Rules, before_ended, ended_lines, line_of, lines_of, replies_to, reply_to, state_after, with_front}
 use Rattle.lq_lines.specs.Progress.{IsCut, state_after_all}
 
@@ -28,20 +30,36 @@ last_reply : {State : Type 0} (rules : Rules State) (state : State) (bytes : Lis
 last_reply rules state [] u = refl
 last_reply rules state (a ∷ bytes) u = ap (replies_to rules state) (lines_one a bytes u) ∙ append-nil (reply_to rules state (line_of (a ∷ bytes)))
 
-unbroken_push : (bytes : List ℕ) (b : ℕ) → IsUnbroken bytes → (b == 10) ≡ false → IsUnbroken (bytes ++ b ∷ [])
-unbroken_push [] b u e = (e, tt)
-unbroken_push (a ∷ bytes) b u e = (u.0, unbroken_push bytes b u.1 e)
+unbroken_append : (bytes more : List ℕ) → IsUnbroken bytes → IsUnbroken more → IsUnbroken (bytes ++ more)
+unbroken_append [] more u v = v
+unbroken_append (a ∷ bytes) more u v = (u.0, unbroken_append bytes more u.1 v)
+
+-- before the first LF there is none
+not_true : (b : Bool) → (b ≡ true → ⊥) → b ≡ false
+not_true true h = absurd (h refl)
+not_true false h = refl
+
+unbroken_before : (xs : List ℕ) (n j : ℕ) → Nowhere (Passes (is_byte 10) xs) 0 j → n ≤ j → IsUnbroken (take n xs)
+unbroken_before [] zero j none le = tt
+unbroken_before [] (suc n) j none le = tt
+unbroken_before (x ∷ xs) zero j none le = tt
+unbroken_before (x ∷ xs) (suc n) zero none le = absurd (let bad : ⊥ = omega arith in bad)
+unbroken_before (x ∷ xs) (suc n) (suc j) none le = (not_true (x == 10) (none 0 (omega arith) (omega arith)), unbroken_before xs n j (λ k low high. none (suc k) (omega arith) (omega arith)) (omega arith))
+
+pub unbroken_first : (xs : List ℕ) (r : Option ℕ) (n : ℕ) → IsFirstByte (is_byte 10) xs r → n ≤ unwrap_or r (length xs) → IsUnbroken (take n xs)
+unbroken_first xs None n none le = unbroken_before xs n (length xs) none le
+unbroken_first xs (Some k) n first le = unbroken_before xs n k first.0.before le
 
 -- nothing has come
 pub cut_none : IsCut [] [] []
 cut_none = record { ahead = λ rest. refl; ended = λ rest. refl; unbroken = tt }
 
--- one more byte, which is no LF
-pub cut_byte : (given : List ℕ) (lines : List (List ℕ)) (bytes : List ℕ) (b : ℕ) → IsCut given lines bytes → (b == 10) ≡ false → IsCut (given ++ b ∷ []) lines (bytes ++ b ∷ [])
-cut_byte given lines bytes b c e = record {
-  ahead = λ rest. ap lines_of (append_assoc given (b ∷ []) rest) ∙ c.ahead (b ∷ rest) ∙ ap (λ l. lines ++ lines_of l) (sym (append_assoc bytes (b ∷ []) rest));
-  ended = λ rest. ap ended_lines (append_assoc given (b ∷ []) rest) ∙ c.ended (b ∷ rest) ∙ ap (λ l. lines ++ ended_lines l) (sym (append_assoc bytes (b ∷ []) rest));
-  unbroken = unbroken_push bytes b c.unbroken e;
+-- more bytes, among which is no LF
+pub cut_run : (given : List ℕ) (lines : List (List ℕ)) (bytes more : List ℕ) → IsCut given lines bytes → IsUnbroken more → IsCut (given ++ more) lines (bytes ++ more)
+cut_run given lines bytes more c u = record {
+  ahead = λ rest. ap lines_of (append_assoc given more rest) ∙ c.ahead (more ++ rest) ∙ ap (λ l. lines ++ lines_of l) (sym (append_assoc bytes more rest));
+  ended = λ rest. ap ended_lines (append_assoc given more rest) ∙ c.ended (more ++ rest) ∙ ap (λ l. lines ++ ended_lines l) (sym (append_assoc bytes more rest));
+  unbroken = unbroken_append bytes more c.unbroken u;
 }
 
 -- an LF ends the line in progress

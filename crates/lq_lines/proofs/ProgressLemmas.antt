@@ -1,13 +1,14 @@
 -- What a byte, an LF, a write and the end of an input do to a run.
-use Rattle.std.proofs.Common.{◌≡◌, ◌==◌, ℕ, ◌+◌, ◌≤◌, ◌<◌, ◌≢◌, ◌++◌, List, [], ◌∷◌, length, take, drop, get_or, true, false, None, Some, Option, refl, sym, ap, ◌∙◌, subst, arith, append_assoc, append-nil, length-append, take-append-drop}
-use Rattle.std.proofs.lemmas.List.{drop_more, take_more}
+use Rattle.std.proofs.Common.{◌≡◌, ◌==◌, ℕ, zero, suc, ◌+◌, ◌≤◌, ◌<◌, ◌≢◌, ◌++◌, List, [], ◌∷◌, length, take, drop, get_or, true, false, None, Some, Option, refl, sym, ap, ◌∙◌, subst, arith, append_assoc, append-nil, length-append, take-append-drop}
+use Rattle.std.proofs.lemmas.Bool.Decides.{nat_tests}
+use Rattle.std.proofs.lemmas.List.{drop_more, nil_from_length}
 use Rattle.std.proofs.KnownBytes.{Appends-trans}
 use Rattle.std.specs.Io.KnownBytes.{Appends, Keeps}
 use Rattle.lq_lines.specs.declared.intake.Intake.{Intake}
 use Rattle.lq_lines.specs.Lines.{IsUnbroken, Rules, ended_lines, line_of, lines_of, replies_to, reply_to, state_after}
 use Rattle.lq_lines.specs.Output.{IsWithin, output_of}
 use Rattle.lq_lines.specs.Progress.{Began, Fronts, IsKept, Meets, Stands, state_after_all}
-use Rattle.lq_lines.proofs.LineLemmas.{cut_byte, cut_ended, cut_line, cut_lines, lines_one, output_cut, replies_append, replies_one, state_one}
+use Rattle.lq_lines.proofs.LineLemmas.{cut_ended, cut_line, cut_lines, cut_run, lines_one, output_cut, replies_append, replies_one, state_one}
 
 -- replies that wait are written
 pub stands_handed : {State : Type 0} (rules : Rules State) (began : Began State) (given : List ℕ) (w w' : Option (List ℕ)) (state : State) (intake : Intake) (out : List ℕ)
@@ -28,23 +29,23 @@ stands_handed rules began given w w' state intake out s a = record {
   full = s.full;
 }
 
--- a byte that is no LF is kept
-pub stands_byte : {State : Type 0} (rules : Rules State) (began : Began State) (given : List ℕ) (w : Option (List ℕ)) (state : State) (intake intake' : Intake) (out : List ℕ) (b : ℕ)
-    → Stands rules began given w state intake out → (b == 10) ≡ false
-    → ((bytes : List ℕ) → IsKept bytes intake.long intake.line.items → IsKept (bytes ++ b ∷ []) intake'.long intake'.line.items)
-    → intake'.lines ≡ intake.lines → intake'.bytes ≡ intake.bytes + 1 → intake.lines < 10000000 → intake.bytes < 1073741824
-    → Stands rules began (given ++ b ∷ []) w state intake' out
-stands_byte rules began given w state intake intake' out b s e keeps lines bytes below_lines below_bytes = record {
+-- bytes among which is no LF are kept
+pub stands_run : {State : Type 0} (rules : Rules State) (began : Began State) (given : List ℕ) (w : Option (List ℕ)) (state : State) (intake intake' : Intake) (out more : List ℕ)
+    → Stands rules began given w state intake out → IsUnbroken more
+    → ((bytes : List ℕ) → IsKept bytes intake.long intake.line.items → IsKept (bytes ++ more) intake'.long intake'.line.items)
+    → intake'.lines ≡ intake.lines → intake'.bytes ≡ intake.bytes + length more → intake.lines < 10000000 → intake.bytes + length more ≤ 1073741824
+    → Stands rules began (given ++ more) w state intake' out
+stands_run rules began given w state intake intake' out more s u keeps lines bytes below_lines below_bytes = record {
   lines = s.lines;
-  bytes = s.bytes ++ b ∷ [];
+  bytes = s.bytes ++ more;
   text = s.text;
-  cut = cut_byte given s.lines s.bytes b s.cut e;
+  cut = cut_run given s.lines s.bytes more s.cut u;
   kept = keeps s.bytes s.kept;
   answered = s.answered;
   appended = s.appended;
   due = s.due;
   lines_counted = lines ∙ s.lines_counted;
-  bytes_counted = omega (arith, bytes, s.bytes_counted, length-append given (b ∷ []));
+  bytes_counted = omega (arith, bytes, s.bytes_counted, length-append given more);
   lines_within = omega (arith, lines, below_lines);
   bytes_within = omega (arith, bytes, below_bytes);
   full = λ h. absurd (let no : ⊥ = omega (arith, lines, below_lines, h) in no);
@@ -160,11 +161,6 @@ appends_kept (Some x) None c bs p q = absurd p
 appends_kept (Some x) (Some y) None bs p q = absurd q
 appends_kept (Some x) (Some y) (Some z) bs p q = q ∙ p
 
--- one more byte of a piece
-given_more : (given xs : List ℕ) (i b : ℕ) → i < length xs → get_or xs i 0 ≡ b → given ++ take i xs ++ b ∷ [] ≡ given ++ take (i + 1) xs
-given_more given xs i b h e =
-    append_assoc given (take i xs) (b ∷ []) ∙ ap (λ l. given ++ l) (sym (take_more xs i 0 h ∙ ap (λ x. take i xs ++ x ∷ []) e))
-
 -- what has come of a piece, and its rest
 given_rest : (given xs : List ℕ) (i : ℕ) → given ++ take i xs ++ drop i xs ≡ given ++ xs
 given_rest given xs i = append_assoc given (take i xs) (drop i xs) ∙ ap (λ l. given ++ l) (take-append-drop i xs)
@@ -174,11 +170,26 @@ pub given_next : (given xs : List ℕ) (i b : ℕ) → i < length xs → get_or 
 given_next given xs i b h e =
     ap (λ x. given ++ take i xs ++ x ∷ drop (i + 1) xs) (sym e) ∙ ap (λ l. given ++ take i xs ++ l) (sym (drop_more xs i 0 h)) ∙ given_rest given xs i
 
--- a run over a piece, one byte further
-pub stands_further : {State : Type 0} (rules : Rules State) (began : Began State) (given xs : List ℕ) (i b : ℕ) (w : Option (List ℕ)) (state : State) (intake : Intake) (out : List ℕ)
-    → i < length xs → get_or xs i 0 ≡ b → Stands rules began (given ++ take i xs ++ b ∷ []) w state intake out → Stands rules began (given ++ take (i + 1) xs) w state intake out
-stands_further rules began given xs i b w state intake out h e s =
-    subst (λ l. Stands rules began l w state intake out) (given_more given xs i b h e) s
+-- a list whose length is 0
+pub no_bytes : (xs : List ℕ) → (length xs == 0) ≡ true → xs ≡ []
+no_bytes xs h = nil_from_length xs (grind (arith, nat_tests))
+
+take_none : (n : ℕ) → take {A = ℕ} n [] ≡ []
+take_none zero = refl
+take_none (suc n) = refl
+
+-- more of a list, and more again
+take_further : (xs : List ℕ) (i n : ℕ) → take i xs ++ take n (drop i xs) ≡ take (i + n) xs
+take_further [] zero n = ap (λ k. take {A = ℕ} k []) (let e : n ≡ 0 + n = omega arith in e)
+take_further [] (suc i) n = take_none n ∙ sym (take_none (suc i + n))
+take_further (x ∷ xs) zero n = ap (λ k. take k (x ∷ xs)) (let e : n ≡ 0 + n = omega arith in e)
+take_further (x ∷ xs) (suc i) n = ap (λ l. x ∷ l) (take_further xs i n) ∙ ap (λ k. take k (x ∷ xs)) (let e : suc (i + n) ≡ suc i + n = omega arith in e)
+
+-- a run over a piece, some bytes further
+pub stands_ahead : {State : Type 0} (rules : Rules State) (began : Began State) (given xs : List ℕ) (i n : ℕ) (w : Option (List ℕ)) (state : State) (intake : Intake) (out : List ℕ)
+    → Stands rules began (given ++ take i xs ++ take n (drop i xs)) w state intake out → Stands rules began (given ++ take (i + n) xs) w state intake out
+stands_ahead rules began given xs i n w state intake out s =
+    subst (λ l. Stands rules began l w state intake out) (append_assoc given (take i xs) (take n (drop i xs)) ∙ ap (λ l. given ++ l) (take_further xs i n)) s
 
 -- what stands at a place of a piece is a front of the output up to its end
 pub stopped_at : {State : Type 0} (rules : Rules State) (began : Began State) (given xs : List ℕ) (i : ℕ) (w : Option (List ℕ)) (state : State) (intake : Intake) (out : List ℕ)

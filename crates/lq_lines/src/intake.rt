@@ -1,5 +1,5 @@
 //! What has come of an input: the line in progress and the counts.
-ghost use Rattle.std.specs.Prelude.{◌≡◌, ◌+◌, ◌++◌, ◌<◌, ℕ, List, [], ◌∷◌, false, IfErr, OnOk, OnErr};
+ghost use Rattle.std.specs.Prelude.{◌≡◌, ◌+◌, ◌++◌, ◌≤◌, ℕ, List, [], length, false, IfErr, OnOk, OnErr};
 ghost use Rattle.lq_lines.specs.Lines.{Begins, given_line, line_of, reply_to, state_after, without_cr};
 ghost use Rattle.lq_lines.specs.Progress.{IsKept};
 
@@ -75,21 +75,21 @@ impl Intake {
         Ok(())
     }
 
-    /// Takes a byte that is no LF to the line in progress.
-    pub fn keep(&mut self, byte: u8) -> Result<(), RunFault>
-        requires { self.old.bytes < MAX_BYTES }
-        ensures ok { OnOk result ((bytes : List ℕ) → IsKept bytes self.old.long self.old.line.items
-            → IsKept (bytes ++ byte ∷ []) self.new.long self.new.line.items) }
+    /// Takes bytes among which is no LF to the line in progress.
+    pub fn keep(&mut self, bytes: &[u8]) -> Result<(), RunFault>
+        requires { self.old.bytes + length bytes.now ≤ MAX_BYTES }
+        ensures ok { OnOk result ((before : List ℕ) → IsKept before self.old.long self.old.line.items
+            → IsKept (before ++ bytes.now) self.new.long self.new.line.items) }
         ensures memory { IfErr result (λ e. e ≡ RunFault.Memory) }
         ensures lines { self.new.lines ≡ self.old.lines }
-        ensures bytes { OnOk result (self.new.bytes ≡ self.old.bytes + 1) }
+        ensures bytes { OnOk result (self.new.bytes ≡ self.old.bytes + length bytes.now) }
     {
-        if self.long || self.line.len() == MAX_LINE {
+        if self.long || self.line.len() + bytes.len() > MAX_LINE {
             self.long = true;
-        } else if self.line.push(byte).is_err() {
+        } else if self.line.extend_from_slice(bytes).is_err() {
             return Err(RunFault::Memory);
         }
-        self.bytes += 1;
+        self.bytes += bytes.len() as u64;
         Ok(())
     }
 }

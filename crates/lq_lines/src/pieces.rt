@@ -1,6 +1,7 @@
 //! A piece of an input: each line that ends in it is answered.
-ghost use Rattle.std.specs.Prelude.{◌≡◌, ◌+◌, ◌++◌, ◌⊎◌, ◌<◌, ℕ, List, [], ◌∷◌, length, true, IfErr, OnOk, OnErr, IsErrOf};
+ghost use Rattle.std.specs.Prelude.{◌≡◌, ◌+◌, ◌++◌, ◌⊎◌, ◌<◌, ◌≤◌, ℕ, List, [], ◌∷◌, length, slice_index, take, drop, true, IfErr, OnOk, OnErr, IsErrOf};
 ghost use Rattle.std.specs.Io.KnownBytes.{Appends};
+ghost use Rattle.lq_lines.specs.Lines.{IsUnbroken};
 ghost use Rattle.lq_lines.specs.Output.{output_of};
 ghost use Rattle.lq_lines.specs.Progress.{Began, Fronts, Goes, Leaves, MeetsLimit, Stands};
 
@@ -9,6 +10,7 @@ use crate::intake::{Intake, MAX_BYTES, MAX_LINES};
 use crate::responder::Responder;
 use crate::run_fault::RunFault;
 use crate::writing::{close, hand};
+use memchr::memchr;
 
 /// The bytes of replies from which on they are written.
 const GATHERED: usize = 65536;
@@ -73,17 +75,37 @@ pub fn take_piece<S: Responder, W: Sink>(
     ensures cause { IsErrOf result RunFault.Write →
         (W.failed writer.new ≡ true) ⊎ (W.stalled writer.new ≡ true) }
 {
-    for byte in piece {
+    let mut at = 0;
+    while at < piece.len() {
         if intake.lines >= MAX_LINES || intake.bytes >= MAX_BYTES {
             return Err(RunFault::Limit);
         }
-        if *byte == LF {
+        let run = run_at(piece, at, (MAX_BYTES - intake.bytes) as usize);
+        if run.is_empty() {
             end_line(intake, responder, out, writer)?;
+            at += 1;
         } else {
-            intake.keep(*byte)?;
+            intake.keep(run)?;
+            at += run.len();
         }
     }
     Ok(())
+}
+
+/// The bytes from a place to the next LF, and at most so many of them.
+fn run_at(piece: &[u8], at: usize, most: usize) -> &[u8]
+    requires at { at < length piece.now }
+    requires some { 0 < most }
+    ensures run { result.now ≡ take (length result.now) (drop at piece.now) }
+    ensures bound { at + length result.now ≤ length piece.now }
+    ensures most { length result.now ≤ most }
+    ensures unbroken { IsUnbroken result.now }
+    ensures stops { result.now ≡ [] → slice_index piece.now at ≡ 10 }
+{
+    let (_, rest) = piece.split_at(at);
+    let count = memchr(LF, rest).unwrap_or(rest.len());
+    let (run, _) = rest.split_at(count.min(most));
+    run
 }
 
 /// Answers the last line, if it has no LF, and flushes once.
