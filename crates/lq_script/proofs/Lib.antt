@@ -1,9 +1,2 @@
-pub mod WritingLemmas
-pub mod LineLemmas
-pub mod ProgressLemmas
-pub mod ResultLemmas
-pub mod RunLemmas
-pub mod RequestLemmas
-pub mod ReplyLemmas
 pub mod FoldLemmas
 pub mod ScriptLemmas

@@ -9,13 +9,14 @@ use Rattle.lq_world.specs.Turns.{turn_outcome}
 use Rattle.lq_desk.specs.Kept.{Kept, Shows}
 use Rattle.lq_desk.specs.Turn as kept
 use Rattle.lq_desk.specs.Laws.{KeptTurnsShowWorlds}
-use Rattle.lq_script.specs.Lines.{Begins, Line, long, empty, whole, line_of, lines_of, ended_lines, reply_to, state_after, replies_to}
-use Rattle.lq_script.specs.Output.{Answered, Ended, Passed, Stopped}
+use Rattle.lq_lines.specs.Lines.{Begins, Line, long, empty, whole, line_of, lines_of, ended_lines, reply_to, state_after, replies_to}
+use Rattle.lq_lines.specs.Output.{Answered, Ended, Passed, Stopped}
 use Rattle.lq_script.specs.Folds.{fold_at, folds_after}
 use Rattle.lq_script.specs.Session.{Session}
-use Rattle.lq_script.specs.Reply.{reply_text}
-use Rattle.lq_script.specs.Request.{Question, Happens, Finds, Lists, Fetches, Rebuilds, question_in}
-use Rattle.lq_script.specs.Response.{Answers, Fetched, answered, found_in, rebuilt, responds, shown_in, slot_of}
+use Rattle.lq_reply.specs.Reply.{reply_text}
+use Rattle.lq_request.specs.Request.{Question, Happens, Finds, Lists, Fetches, Rebuilds, question_in}
+use Rattle.lq_reply.specs.Response.{Answers, Fetched}
+use Rattle.lq_script.specs.Answered.{answered, found_in, rebuilt, responds, shown_in, slot_of}
 use Rattle.lq_script.specs.Script.{kept_rules, kept_volume, volume_of, world_rules}
 
 -- the desk shows the world, and both have the same folds

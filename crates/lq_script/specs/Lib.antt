@@ -1,12 +1,5 @@
-pub mod Lines
-pub mod Output
-pub mod Progress
-pub mod Request
 pub mod Folds
 pub mod Session
-pub mod Response
-pub mod Reply
+pub mod Answered
 pub mod Script
-pub mod Asked
-pub mod Answer
 pub mod Check

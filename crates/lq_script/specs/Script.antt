@@ -8,13 +8,14 @@ use Rattle.lq_world.specs.Events.{Happening, Answer}
 use Rattle.lq_world.specs.Turns.{turn_outcome}
 use Rattle.lq_desk.specs.Kept.{Kept}
 use Rattle.lq_desk.specs.Turn as kept
-use Rattle.lq_script.specs.Lines.{Rules}
-use Rattle.lq_script.specs.Output.{output_of}
-use Rattle.lq_script.specs.Request.{question_in}
+use Rattle.lq_lines.specs.Lines.{Rules}
+use Rattle.lq_lines.specs.Output.{output_of}
+use Rattle.lq_request.specs.Request.{question_in}
 use Rattle.lq_script.specs.Folds.{no_folds}
 use Rattle.lq_script.specs.Session.{Session, session_with}
-use Rattle.lq_script.specs.Response.{Refuses, answered}
-use Rattle.lq_script.specs.Reply.{reply_text}
+use Rattle.lq_reply.specs.Response.{Refuses}
+use Rattle.lq_script.specs.Answered.{answered}
+use Rattle.lq_reply.specs.Reply.{reply_text}
 
 -- how lines are answered where turns are, over a volume
 abbrev pub rules_by : {Core : Type 0} → (Core → Happening → Answer × Core) → (Core → State) → Rules (Session Core)

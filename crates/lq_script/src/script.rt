@@ -1,15 +1,13 @@
 //! A whole script, over the root alone.
 ghost use Rattle.std.specs.Prelude.{◌≡◌, ◌⊎◌, OnOk, OnErr, IsErrOf, true, false};
 ghost use Rattle.std.specs.Io.KnownBytes.{Keeps};
-ghost use Rattle.lq_script.specs.Output.{Answered, Ended, Passed, Stopped};
+ghost use Rattle.lq_lines.specs.Output.{Answered, Ended, Passed, Stopped};
 ghost use Rattle.lq_script.specs.Script.{script_session, world_rules};
 
-use crate::devices::{Failed, Sink, Source};
-use crate::over_lines::run_lines;
 use crate::rebuilds::no_rebuilds;
-use crate::run_fault::RunFault;
 use crate::session::Session;
 use lq_desk::{Desk, kept_turns_show_worlds};
+use lq_lines::{Failed, RunFault, Sink, Source, run_lines};
 use lq_volume::Volume;
 use std::alloc::Global;
 

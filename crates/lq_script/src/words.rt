@@ -3,10 +3,8 @@ ghost use Rattle.std.specs.Prelude.{◌≡◌, false};
 
 use crate::checking::check;
 use crate::command_line::{Subcommand, WordsFault, subcommand_of};
-use crate::devices::{Failed, Sink, Source};
-use crate::run_fault::RunFault;
 use crate::script::run;
-use crate::writing::write_all;
+use lq_lines::{Failed, RunFault, Sink, Source, write_all};
 use lq_value::Refusal;
 use std::alloc::Global;
 

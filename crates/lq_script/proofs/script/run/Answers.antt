@@ -4,11 +4,11 @@ use Rattle.std.specs.Prelude.{Result, Ok, Err, OnOk, OnErr}
 use Rattle.lq_volume.specs.State.{State}
 use Rattle.lq_world.specs.World.{first_world}
 use Rattle.lq_desk.specs.Kept.{Shows}
-use Rattle.lq_script.specs.Output.{output_of}
+use Rattle.lq_lines.specs.Output.{output_of}
 use Rattle.lq_script.specs.Session.{session_with}
 use Rattle.lq_script.specs.Script.{script_session, script_world, world_rules}
 use Rattle.lq_script.proofs.ScriptLemmas.{Alike, answered-world, stopped-world, ended-world, passed-world}
-use Rattle.lq_script.proofs.ProgressLemmas.{appends_kept}
+use Rattle.lq_lines.proofs.ProgressLemmas.{appends_kept}
 use Rattle.lq_script.proofs.script.run.Goals as goal
 
 on_ok : {T E P Q : Type 0} (r : Result T E) → (P → Q) → OnOk r P → OnOk r Q

@@ -1,0 +1,12 @@
+use Rattle.std.proofs.Common.{◌≡◌, ◌+◌, ◌++◌, ℕ, List, take}
+use Rattle.lq_lines.specs.Progress.{Began, Stands}
+use Rattle.lq_lines.proofs.pieces.take_piece.Given as goal
+
+abbrev pub invariant-loop-byte : goal.invariant-loop-byte
+invariant-loop-byte g l = record {
+  stands : (began : Began g.S.Responder.State) → (given : List ℕ)
+      → Stands g.S.Responder.rules began given (g.W.Sink.written l.fn.writer) (g.S.Responder.state l.fn.responder) l.fn.intake l.fn.out.items
+      → Stands g.S.Responder.rules began (given ++ take l.byte-index l.piece) (g.W.Sink.written l.writer) (g.S.Responder.state l.responder) l.intake l.out.items;
+  works : (g.W.Sink.failed l.writer ≡ g.W.Sink.failed l.fn.writer) × (g.W.Sink.stalled l.writer ≡ g.W.Sink.stalled l.fn.writer);
+  bytes : l.intake.bytes ≡ l.fn.intake.bytes + l.byte-index;
+}

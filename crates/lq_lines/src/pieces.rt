@@ -1,0 +1,122 @@
+//! A piece of an input: each line that ends in it is answered.
+ghost use Rattle.std.specs.Prelude.{◌≡◌, ◌+◌, ◌++◌, ◌⊎◌, ◌<◌, ℕ, List, [], ◌∷◌, length, true, IfErr, OnOk, OnErr, IsErrOf};
+ghost use Rattle.std.specs.Io.KnownBytes.{Appends};
+ghost use Rattle.lq_lines.specs.Output.{output_of};
+ghost use Rattle.lq_lines.specs.Progress.{Began, Fronts, Goes, Leaves, MeetsLimit, Stands};
+
+use crate::devices::{Failed, Sink};
+use crate::intake::{Intake, MAX_BYTES, MAX_LINES};
+use crate::responder::Responder;
+use crate::run_fault::RunFault;
+use crate::writing::{close, hand};
+
+/// The bytes of replies from which on they are written.
+const GATHERED: usize = 65536;
+
+const LF: u8 = 10;
+
+/// Answers the line that LF ended, and writes the replies where many wait.
+fn end_line<S: Responder, W: Sink>(
+    intake: &mut Intake,
+    responder: &mut S,
+    out: &mut Vec<u8>,
+    writer: &mut W,
+) -> Result<(), RunFault>
+    requires lines { intake.old.lines < MAX_LINES }
+    requires bytes { intake.old.bytes < MAX_BYTES }
+    ensures ok { OnOk result (Goes S.rules (LF ∷ [])
+        (W.written writer.old) (S.state responder.old) intake.old out.old.items
+        (W.written writer.new) (S.state responder.new) intake.new out.new.items) }
+    ensures bytes { OnOk result (intake.new.bytes ≡ intake.old.bytes + 1) }
+    ensures works { OnOk result ((W.failed writer.new ≡ W.failed writer.old)
+        × (W.stalled writer.new ≡ W.stalled writer.old)) }
+    ensures err { OnErr result ((rest : List ℕ) → Leaves S.rules (LF ∷ rest)
+        (W.written writer.old) (S.state responder.old) intake.old out.old.items
+        (W.written writer.new) out.new.items) }
+    ensures fault { IfErr result (λ e. (e ≡ RunFault.Write) ⊎ (e ≡ RunFault.Memory)) }
+    ensures cause { IsErrOf result RunFault.Write →
+        (W.failed writer.new ≡ true) ⊎ (W.stalled writer.new ≡ true) }
+{
+    intake.answer(responder, out)?;
+    intake.line.clear();
+    intake.long = false;
+    intake.lines += 1;
+    intake.bytes += 1;
+    if out.len() < GATHERED {
+        return Ok(());
+    }
+    hand(out, writer)
+}
+
+/// Takes a piece of the input, and answers each line that ends in it.
+pub fn take_piece<S: Responder, W: Sink>(
+    intake: &mut Intake,
+    piece: &[u8],
+    responder: &mut S,
+    out: &mut Vec<u8>,
+    writer: &mut W,
+) -> Result<(), RunFault>
+    ensures ok { OnOk result (Goes S.rules piece.now
+        (W.written writer.old) (S.state responder.old) intake.old out.old.items
+        (W.written writer.new) (S.state responder.new) intake.new out.new.items) }
+    ensures bytes { OnOk result (intake.new.bytes ≡ intake.old.bytes + length piece.now) }
+    ensures works { OnOk result ((W.failed writer.new ≡ W.failed writer.old)
+        × (W.stalled writer.new ≡ W.stalled writer.old)) }
+    ensures err { OnErr result (Leaves S.rules piece.now
+        (W.written writer.old) (S.state responder.old) intake.old out.old.items
+        (W.written writer.new) out.new.items) }
+    ensures limit { IsErrOf result RunFault.Limit → MeetsLimit S.rules piece.now
+        (W.written writer.old) (S.state responder.old) intake.old out.old.items
+        (W.written writer.new) (S.state responder.new) intake.new out.new.items }
+    ensures not_read { IsErrOf result RunFault.Read → ⊥ }
+    ensures not_thread { IsErrOf result RunFault.Thread → ⊥ }
+    ensures cause { IsErrOf result RunFault.Write →
+        (W.failed writer.new ≡ true) ⊎ (W.stalled writer.new ≡ true) }
+{
+    for byte in piece {
+        if intake.lines >= MAX_LINES || intake.bytes >= MAX_BYTES {
+            return Err(RunFault::Limit);
+        }
+        if *byte == LF {
+            end_line(intake, responder, out, writer)?;
+        } else {
+            intake.keep(*byte)?;
+        }
+    }
+    Ok(())
+}
+
+/// Answers the last line, if it has no LF, and flushes once.
+pub fn finish<S: Responder, W: Sink>(
+    intake: &Intake,
+    responder: &mut S,
+    out: &mut Vec<u8>,
+    writer: &mut W,
+) -> Result<(), RunFault>
+    ensures ok { OnOk result ((began : Began S.State) → (given : List ℕ)
+        → Stands S.rules began given (W.written writer.old) (S.state responder.old)
+        intake.now out.old.items
+        → Appends began.written (W.written writer.new) (output_of S.rules began.state given)) }
+    ensures works { OnOk result ((W.failed writer.new ≡ W.failed writer.old)
+        × (W.stalled writer.new ≡ W.stalled writer.old)) }
+    ensures err { OnErr result ((began : Began S.State) → (given : List ℕ)
+        → Stands S.rules began given (W.written writer.old) (S.state responder.old)
+        intake.now out.old.items
+        → Fronts S.rules began given (W.written writer.new) []) }
+    ensures flushed { OnOk result (W.flushed writer.new ≡ true) }
+    ensures fault { IfErr result (λ e. (e ≡ RunFault.Write) ⊎ (e ≡ RunFault.Memory)) }
+    ensures cause { IsErrOf result RunFault.Write →
+        (W.failed writer.new ≡ true) ⊎ (W.stalled writer.new ≡ true) }
+    ensures memory_flushed { IsErrOf result RunFault.Memory →
+        (W.flushed writer.new ≡ true) ⊎ (W.failed writer.new ≡ true) }
+{
+    if intake.answer(responder, out).is_err() {
+        close(out, writer)?;
+        return Err(RunFault::Memory);
+    }
+    hand(out, writer)?;
+    match writer.flush() {
+        Ok(()) => Ok(()),
+        Err(Failed) => Err(RunFault::Write),
+    }
+}

@@ -1,0 +1,160 @@
+//! From the bytes of a line to what it asks.
+ghost use Rattle.std.specs.Prelude.{◌≡◌, ◌⊎◌, IfOk, IfErr, Ok, Err};
+ghost use Rattle.serde_json.specs.View.{view};
+ghost use Rattle.lq_value.specs.declared.refusal.Refusal.TheVariants.{NoMemory};
+ghost use Rattle.lq_world.specs.Events.{Changing};
+ghost use Rattle.lq_request.specs.Asked.{asked, given, question_of};
+ghost use Rattle.lq_request.specs.Request.{Happens, asks_set, value_for, asked_in, asked_of, asked_or, question_for, question_from, question_in};
+
+use crate::question::Question;
+use crate::request::{Request, request_in};
+use lq_desk::Event;
+use lq_predicate::read;
+use lq_value::{AttrName, Name, Refusal, View};
+use lq_volume::Change;
+use serde_json::{Category, Value};
+use std::alloc::Global;
+
+/// What a line asks, the line being without its LF and CR.
+///
+/// Refused: `NoMemory`; else, the first that fits, `NotUtf8`, `NotJson`, `BadLine` (no object, an
+/// unknown `do`, a field missing, of the wrong type or out of its range), then as the values are,
+/// `BadName` or `BadQuery`. The faults and their order are our own.
+pub fn question_in(alloc: Global, line: &[u8]) -> Result<Question, Refusal>
+    ensures value { IfOk result (λ question. question_in line.now ≡ Ok (question_of question)) }
+    ensures refused { IfErr result (λ e. (e ≡ NoMemory) ⊎ (question_in line.now ≡ Err e)) }
+{
+    let value = value_in(alloc, line)?;
+    Ok(question_of(alloc, &value)?)
+}
+
+// The JSON value that a line writes.
+fn value_in(alloc: Global, line: &[u8]) -> Result<Value, Refusal>
+    ensures value { IfOk result (λ value. asked_in line.now ≡ asked_or (asked_of (view value))) }
+    ensures refused { IfErr result (λ e. (e ≡ NoMemory) ⊎ (asked_in line.now ≡ Err e)) }
+{
+    let Ok(text) = str::from_utf8(line) else {
+        return Err(Refusal::NotUtf8);
+    };
+    match Value::from_str(alloc, text) {
+        Ok(value) => Ok(value),
+        Err(error) => match error.classify() {
+            Category::Memory => Err(Refusal::NoMemory),
+            _ => Err(Refusal::NotJson),
+        },
+    }
+}
+
+// What a line's JSON value asks.
+fn question_of(alloc: Global, value: &Value) -> Result<Question, Refusal>
+    ensures value { IfOk result (λ question.
+        question_from (asked_or (asked_of (view value.now))) ≡ Ok (question_of question)) }
+    ensures refused { IfErr result (λ e. (e ≡ NoMemory)
+        ⊎ (question_from (asked_or (asked_of (view value.now))) ≡ Err e)) }
+{
+    match request_in(value) {
+        None => Err(Refusal::BadLine),
+        Some(request) => Ok(question_for(alloc, &request)?),
+    }
+}
+
+// What a request asks, its values read.
+fn question_for(alloc: Global, request: &Request<'_>) -> Result<Question, Refusal>
+    ensures value { IfOk result (λ question. question_for (asked request.now) ≡ Ok (question_of question)) }
+    ensures refused { IfErr result (λ e. (e ≡ NoMemory) ⊎ (question_for (asked request.now) ≡ Err e)) }
+{
+    match request {
+        Request::Create {
+            dir,
+            name,
+            kind,
+            size,
+            time,
+        } => Ok(change(Change::Create {
+            dir: *dir,
+            name: Name::read(alloc, name)?,
+            kind: *kind,
+            size: *size,
+            time: *time,
+        })),
+        Request::Remove { node } => Ok(change(Change::Remove { node: *node })),
+        Request::Move {
+            node,
+            dir,
+            name,
+            clobber,
+        } => Ok(change(Change::Move {
+            node: *node,
+            dir: *dir,
+            name: Name::read(alloc, name)?,
+            clobber: *clobber,
+        })),
+        Request::Write { node, size, time } => Ok(change(Change::Write {
+            node: *node,
+            size: *size,
+            time: *time,
+        })),
+        Request::Set { node, attr, value } => Ok(setting(alloc, *node, attr, *value)?),
+        Request::Unset { node, attr } => Ok(change(Change::RemoveAttr {
+            node: *node,
+            attr: AttrName::read(alloc, attr)?,
+        })),
+        Request::Open {
+            query,
+            port,
+            backlog,
+            moved,
+        } => Ok(Question::Event(Event::Open {
+            predicate: read(alloc, query)?,
+            port: *port,
+            backlog: *backlog,
+            moved: *moved,
+        })),
+        Request::Read { slot } => Ok(Question::Event(Event::Take(*slot))),
+        Request::HangUp { slot } => Ok(Question::Event(Event::HangUp(*slot))),
+        Request::Close { slot } => Ok(Question::Event(Event::Close(*slot))),
+        Request::Finish { slot } => Ok(Question::Event(Event::Finish(*slot))),
+        Request::Find { dir, name } => Ok(Question::Find {
+            dir: *dir,
+            name: Name::read(alloc, name)?,
+        }),
+        Request::Entry { node } => Ok(Question::Entry { node: *node }),
+        Request::Fetch { query } => Ok(Question::Fetch {
+            predicate: read(alloc, query)?,
+        }),
+        Request::Rebuilt { slot } => Ok(Question::Rebuilt { slot: *slot }),
+    }
+}
+
+// The question that makes a change.
+fn change(change: Change) -> Question
+    ensures { question_of result ≡ Happens (Changing change) }
+{
+    Question::Event(Event::Change(change))
+}
+
+// The question that sets an attribute, its name read before its value.
+fn setting(alloc: Global, node: u64, attr: &str, value: View<'_>) -> Result<Question, Refusal>
+    ensures value { IfOk result (λ question.
+        question_for (asks_set node attr.now (given value.entry)) ≡ Ok (question_of question)) }
+    ensures refused { IfErr result (λ e. (e ≡ NoMemory)
+        ⊎ (question_for (asks_set node attr.now (given value.entry)) ≡ Err e)) }
+{
+    let attr = AttrName::read(alloc, attr)?;
+    let value = typed(alloc, value)?;
+    Ok(change(Change::SetAttr { node, attr, value }))
+}
+
+// The value of an attribute that a line gives.
+fn typed(alloc: Global, shown: View<'_>) -> Result<lq_value::Value, Refusal>
+    ensures refused { IfErr result (λ e. (e ≡ NoMemory) ⊎ (value_for (given shown.entry) ≡ Err e)) }
+    ensures value { IfOk result (λ value. value_for (given shown.entry) ≡ Ok value) }
+{
+    match shown {
+        View::Text(text) => Ok(lq_value::Value::text(alloc, text)?),
+        View::Int32(number) => Ok(lq_value::Value::Int32(number)),
+        View::Int64(number) => Ok(lq_value::Value::Int64(number)),
+        View::UInt32(number) => Ok(lq_value::Value::UInt32(number)),
+        View::UInt64(number) => Ok(lq_value::Value::UInt64(number)),
+    }
+}

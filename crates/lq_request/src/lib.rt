@@ -1,0 +1,12 @@
+//! What a line of a script asks.
+//!
+//! A contract sees a line as its bytes, its JSON as serde_json's data, and what it asks as a
+//! question, or the first fault that fits (`specs/Request`). Begin with `question`, then `asking`.
+#![tactic(auto)]
+
+mod asking;
+mod question;
+mod request;
+
+pub use asking::question_in;
+pub use question::Question;
