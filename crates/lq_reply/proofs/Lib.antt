@@ -1,1 +1,2 @@
 pub mod ReplyLemmas
+pub mod PieceLemmas

@@ -1,3 +1,4 @@
 pub mod Response
 pub mod Reply
+pub mod Parts
 pub mod Answer

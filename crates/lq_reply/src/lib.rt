@@ -1,11 +1,18 @@
 //! The replies of a script's lines.
 //!
 //! A contract sees a response as what it tells (`specs/Response`), and its text as serde_json's
-//! compact text of its data (`specs/Reply`), with LF. Begin with `response`, then `reply`.
+//! compact text of its data (`specs/Reply`), with LF. The code makes no such data: it writes the
+//! text piece by piece. Begin with `response`, then `reply`.
 #![tactic(auto)]
 
+mod listing;
+mod message;
+#[cfg(test)]
+mod plain;
 mod reply;
 mod response;
+#[cfg(test)]
+mod tests;
 
 pub use reply::put_reply;
 pub use response::Response;

@@ -181,10 +181,10 @@ impl Responder for Session {
 
     fn respond(&mut self, line: &[u8], out: &mut Vec<u8>) -> Result<(), Refusal> {
         let response = self.answer(line)?;
-        put_reply(self.alloc, out, &response)
+        put_reply(out, &response)
     }
 
     fn respond_long(&self, out: &mut Vec<u8>) -> Result<(), Refusal> {
-        put_reply(self.alloc, out, &Response::Refused(Refusal::LongLine))
+        put_reply(out, &Response::Refused(Refusal::LongLine))
     }
 }

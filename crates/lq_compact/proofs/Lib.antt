@@ -1,0 +1,2 @@
+pub mod EscapeLemmas
+pub mod FrontLemmas
