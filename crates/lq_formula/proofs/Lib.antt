@@ -22,3 +22,4 @@ pub mod ProperLemmas
 pub mod GoodLemmas
 pub mod WritingLemmas
 pub mod SizeLemmas
+pub mod SourceSizeLemmas

@@ -41,10 +41,10 @@ length-comparison attr op literal =
 length-encodes : (xs ys : List ℕ) → length (encode_utf8_all (xs ++ ys)) ≡ length (encode_utf8_all xs) + length (encode_utf8_all ys)
 length-encodes xs ys = ap length (encodes-append xs ys) ∙ length-append (encode_utf8_all xs) (encode_utf8_all ys)
 
-element_split : (e : Element) (es : List Element) → length (encode_utf8_all (pattern_text (e ∷ es))) ≡ length (encode_utf8_all (element_then e [])) + length (encode_utf8_all (pattern_text es))
+pub element_split : (e : Element) (es : List Element) → length (encode_utf8_all (pattern_text (e ∷ es))) ≡ length (encode_utf8_all (element_then e [])) + length (encode_utf8_all (pattern_text es))
 element_split e es = ap (λ t. length (encode_utf8_all t)) (element_then-append e [] (pattern_text es)) ∙ length-encodes (element_then e []) (pattern_text es)
 
-item_split : (i : Item) (is : List Item) → length (encode_utf8_all (items_then (i ∷ is) [])) ≡ length (encode_utf8_all (item_then i [])) + length (encode_utf8_all (items_then is []))
+pub item_split : (i : Item) (is : List Item) → length (encode_utf8_all (items_then (i ∷ is) [])) ≡ length (encode_utf8_all (item_then i [])) + length (encode_utf8_all (items_then is []))
 item_split i is = ap (λ t. length (encode_utf8_all t)) (item_then-append i [] (items_then is [])) ∙ length-encodes (item_then i []) (items_then is [])
 
 pub list_on : (n n' p : ℕ) (es : List Element) (i : ℕ) (e : Element) (whole : ℕ) → i < length es → e ≡ get_or es i e

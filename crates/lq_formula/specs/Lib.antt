@@ -11,3 +11,4 @@ pub mod Reading
 pub mod Limits
 pub mod Laws
 pub mod Capped
+pub mod Sizes

@@ -10,7 +10,7 @@ use lq_value::{AttrName, Literal, Op, Pattern, Refusal, Text};
 use std::alloc::Global;
 
 /// The longest name of an attribute, in bytes.
-const MAX_NAME: usize = 255;
+pub(crate) const MAX_NAME: usize = 255;
 
 /// Whether a raw text is an attribute's name: with each `\` before a character taken off, it has
 /// 1 to 255 bytes and no NUL. It takes no memory. The limits are our own.
@@ -56,7 +56,7 @@ pub fn read_literal(alloc: Global, op: Op, raw: &str) -> Result<Literal, Refusal
     }
 }
 
-fn takes_pattern(op: Op) -> bool
+pub(crate) fn takes_pattern(op: Op) -> bool
     ensures { result ≡ patterned op }
 {
     match op {
@@ -66,7 +66,7 @@ fn takes_pattern(op: Op) -> bool
 }
 
 // How many bytes there are with each `\` before a byte taken off; none where one of them is NUL.
-fn count_unescaped(bytes: &[u8]) -> Option<usize>
+pub(crate) fn count_unescaped(bytes: &[u8]) -> Option<usize>
     ensures none { IfNone result (has_no_nul (unescaped false bytes.now) ≡ false) }
     ensures some { IfSome result (λ n. n ≡ length (unescaped false bytes.now)) }
     ensures nul { IfSome result (λ n. has_no_nul (unescaped false bytes.now) ≡ true) }

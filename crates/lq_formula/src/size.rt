@@ -38,7 +38,7 @@ fn size_with(attr: &AttrName, op: Op, literal: usize) -> usize
         .saturating_add(4)
 }
 
-fn op_size(op: Op) -> usize
+pub(crate) fn op_size(op: Op) -> usize
     ensures { result ≡ length (op_text op) }
 {
     match op {
@@ -138,7 +138,7 @@ fn element_size(element: &Element) -> usize
 }
 
 // A plain character, with `\` before one of `*`, `?`, `[`, `\` and `"`.
-fn character_size(c: char) -> usize
+pub(crate) fn character_size(c: char) -> usize
     ensures { result ≡ length (encode_utf8_all (plain_then c [])) }
 {
     if c == '*' || c == '?' || c == '[' || c == '\\' || c == '"' {
@@ -159,7 +159,7 @@ fn items_size(items: &[Item]) -> usize
     size.saturating_add(1)
 }
 
-fn item_size(item: Item) -> usize
+pub(crate) fn item_size(item: Item) -> usize
     ensures { result ≡ length (encode_utf8_all (item_then item [])) }
 {
     match item {

@@ -68,7 +68,7 @@ pub(crate) fn is_bare(name: &[u8]) -> bool
     name.iter().all(|b| is_bare_byte(*b))
 }
 
-fn is_bare_byte(byte: u8) -> bool
+pub(crate) fn is_bare_byte(byte: u8) -> bool
     ensures { result ≡ is_bare_byte byte }
 {
     matches!(byte, b'A'..=b'Z' | b'a'..=b'z' | b'0'..=b'9' | b'_' | b':' | b'.' | b'-')

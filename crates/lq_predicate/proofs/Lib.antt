@@ -10,3 +10,5 @@ pub mod SizeLemmas
 pub mod FitLemmas
 pub mod LimitLemmas
 pub mod ReadLemmas
+pub mod ExtentLemmas
+pub mod GaugeLemmas

@@ -1,17 +1,24 @@
 -- The reading of a whole text, by the limits on its query.
-use Rattle.std.proofs.Common.{◌≡◌, ◌≤◌, ◌⊎◌, ℕ, true, ◌&&◌, List, length, Some, ap, ◌∙◌, arith, inl, inr}
-use Rattle.std.specs.Prelude.{nat_le, if◌then◌else◌, IfErr, Result, Ok, Err}
-use Rattle.std.proofs.lemmas.Bool.{le-leb}
+use Rattle.std.proofs.Common.{◌≡◌, ◌≤◌, ◌<◌, ◌+◌, ◌^◌, ◌∷◌, ◌⊎◌, ℕ, Bool, true, false, Option, None, refl, sym, ◌&&◌, List, length, Some, ap, ◌∙◌, arith, inl, inr}
+use Rattle.std.specs.Prelude.{nat_le, if◌then◌else◌, IfSome, MatchOption, Result, Ok, Err, unwrap_or}
+use Rattle.std.proofs.lemmas.Bool.{le-leb, lt-leb}
 use Rattle.lq_value.specs.declared.refusal.Refusal.{Refusal}
 use Rattle.lq_value.specs.declared.refusal.Refusal.TheVariants.{BadQuery, NoMemory}
 use Rattle.lq_formula.specs.Query.{Query}
 use Rattle.lq_formula.specs.Canonical.{canonical, depth}
 use Rattle.lq_formula.specs.Faults.{most_bytes, IsFaulty}
+use Rattle.lq_formula.specs.Machine.{State, step}
+use Rattle.lq_formula.specs.Tokens.{Placed, Yields, tokens_from}
 use Rattle.lq_formula.specs.Reading.{finished, reading_of}
 use Rattle.lq_formula.specs.Laws.{FormulasAreRead, FaultsAreFound}
 use Rattle.lq_formula.specs.Capped.{capped}
+use Rattle.lq_predicate.specs.declared.extent.Extent.{Extent}
+use Rattle.lq_predicate.specs.Gauge.{extent_of}
 use Rattle.lq_predicate.specs.Limits.{is_predicate}
-use Rattle.lq_predicate.specs.Refusals.{refusal_of}
+use Rattle.lq_predicate.specs.Refusals.{fault_of, refusal_of}
+use Rattle.lq_predicate.specs.MachineView.{pattern_fault}
+use Rattle.lq_predicate.specs.PlainPlace.{plain_place}
+use Rattle.lq_predicate.proofs.SoFarLemmas.{SoFar, place_fits, stops_here, stops_within}
 use Rattle.lq_predicate.proofs.LimitLemmas.{reads_predicate}
 
 pub finished_whole : (text : List ℕ) (q : Query) (size : ℕ) → reading_of text ≡ finished (length text) (Some q) → nat_le (depth q) 64 ≡ true → size ≡ capped (length (canonical q)) → size ≤ 4096 → reading_of text ≡ Ok q
@@ -22,14 +29,53 @@ finished_whole text q size e deep is h =
 pub read_predicate : FormulasAreRead → (text : List ℕ) (q : Query) → reading_of text ≡ Ok q → is_predicate q ≡ true
 read_predicate law text q e = reads_predicate text q ((law text q).0 e)
 
-fault_by : (r : Result Query ℕ) (e : Refusal) (place : ℕ) → (e ≡ NoMemory) ⊎ (refusal_of r ≡ Some e) → e ≡ BadQuery place → r ≡ Err place
-fault_by r e place (inl none) is = cc
-fault_by (Ok q) e place (inr of) is = cc
-fault_by (Err at) e place (inr of) is = let same : at ≡ place = cc in ap (λ p. Err p) same
+fault_by : (r : Result Query ℕ) (e : Refusal) (place : ℕ) → e ≡ unwrap_or (refusal_of r) NoMemory → e ≡ BadQuery place → r ≡ Err place
+fault_by (Ok q) e place why is = absurd (let no : ⊥ = cc in no)
+fault_by (Err at) e place why is = let same : at ≡ place = cc in ap (λ p. Err p) same
 
-pub fault_found : FaultsAreFound → (text : List ℕ) (e : Refusal) (place : ℕ) → (e ≡ NoMemory) ⊎ (refusal_of (reading_of text) ≡ Some e) → e ≡ BadQuery place → IsFaulty text place
-fault_found law text e place why is = (law text place).0 (fault_by (reading_of text) e place why is)
+-- the place that is refused is the leftmost fault's
+pub fault_found : FaultsAreFound → (text : List ℕ) (e : Refusal) → e ≡ unwrap_or (refusal_of (reading_of text)) NoMemory → (place : ℕ) → e ≡ BadQuery place → IsFaulty text place
+fault_found law text e why place is = (law text place).0 (fault_by (reading_of text) e place why is)
 
-pub faults_found : {T : Type 0} → FaultsAreFound → (text : List ℕ) (r : Result T Refusal) → IfErr r (λ e. (e ≡ NoMemory) ⊎ (refusal_of (reading_of text) ≡ Some e)) → IfErr r (λ e. (place : ℕ) → e ≡ BadQuery place → IsFaulty text place)
-faults_found law text (Ok x) why = why
-faults_found law text (Err e) why = λ place is. fault_found law text e place why is
+-- ---- without memory
+
+pub fault_is : (r : Result Query ℕ) (place : ℕ) → refusal_of r ≡ Some (BadQuery place) → Some place ≡ fault_of r
+fault_is (Ok q) place e = absurd (let no : ⊥ = cc in no)
+fault_is (Err at) place e = let same : at ≡ place = cc in ap (λ p. Some p) (sym same)
+
+pub fault_of-none : (end : ℕ) (r : Result Query ℕ) → r ≡ finished end None → Some end ≡ fault_of r
+fault_of-none end r e = ap fault_of (sym e)
+
+limits_by : (end : ℕ) (q : Query) (a b : Bool) → nat_le (depth q) 64 ≡ a → nat_le (length (canonical q)) most_bytes ≡ b → (a && b) ≡ false → Some end ≡ fault_of (finished end (Some q))
+limits_by end q a b deep long over = ap (λ t. fault_of (if t then Ok q else Err end)) (sym (ap (λ t. t && nat_le (length (canonical q)) most_bytes) deep ∙ ap (λ t. a && t) long ∙ over))
+
+pub too_great : (text : List ℕ) (q : Query) (e : Extent) → reading_of text ≡ finished (length text) (Some q) → e ≡ extent_of q → (64 < e.depth) ⊎ ((e.depth ≤ 64) × (4096 < e.bytes)) → Some (length text) ≡ fault_of (reading_of text)
+too_great text q e is same (inl deep) =
+    let d : e.depth ≡ capped (depth q) = ap (λ x. x.depth) same in
+    limits_by (length text) q false _ (lt-leb (depth q) 64 (omega (arith, d, deep))) refl refl ∙ sym (ap fault_of is)
+too_great text q e is same (inr (shallow, long)) =
+    let b : e.bytes ≡ capped (length (canonical q)) = ap (λ x. x.bytes) same in
+    and_false (nat_le (depth q) 64) (length text) q (lt-leb (length (canonical q)) most_bytes (omega (arith, b, long))) ∙ sym (ap fault_of is)
+  where
+    and_false : (a : Bool) (end : ℕ) (q : Query) → nat_le (length (canonical q)) most_bytes ≡ false → Some end ≡ fault_of (if a && nat_le (length (canonical q)) most_bytes then Ok q else Err end)
+    and_false true end q h = ap (λ t. fault_of (if t then Ok q else Err end)) (sym h)
+    and_false false end q h = refl
+
+pub fits : (text : List ℕ) (q : Query) (e : Extent) → reading_of text ≡ finished (length text) (Some q) → e ≡ extent_of q → e.depth ≤ 64 → e.bytes ≤ 4096 → None ≡ fault_of (reading_of text)
+fits text q e is same deep long =
+    let d : e.depth ≡ capped (depth q) = ap (λ x. x.depth) same in
+    let b : e.bytes ≡ capped (length (canonical q)) = ap (λ x. x.bytes) same in
+    sym (ap fault_of (finished_whole text q e.bytes is (le-leb (depth q) 64 (omega (arith, d, deep))) b long))
+
+-- the place of a pattern's fault is a number of 64 bits
+pub token_fits : (text : List ℕ) (place : ℕ) (rest : List ℕ) (s : State) (count : ℕ) → SoFar text place rest s count → (t : Placed) (next : ℕ) (behind : List ℕ) (o : Option ℕ) → Yields place rest t next behind
+    → next + length behind ≡ place + length rest → pattern_fault s.place t.token ≡ o → IfSome o (λ k. t.raw_place + k < 2 ^ 64)
+token_fits text place rest s count h t next behind None y total e = tt
+token_fits text place rest s count h t next behind (Some k) y total e = place_fits text place rest s count h t next behind k y total e
+
+-- the token can't be taken
+pub token_stops : (text : List ℕ) (place : ℕ) (rest : List ℕ) (s : State) (count : ℕ) → SoFar text place rest s count → (t : Placed) (ts : List Placed) (o : Option ℕ) (p : ℕ) → tokens_from place rest ≡ t ∷ ts
+    → step s t.token ≡ None → pattern_fault s.place t.token ≡ o → MatchOption o (p ≡ plain_place (length text) t) (λ k. p ≡ t.raw_place + k) → Some p ≡ fault_of (reading_of text)
+token_stops text place rest s count h t ts None p e none fault is = fault_is (reading_of text) p (stops_here text place rest s count h t ts p e none fault is)
+token_stops text place rest s count h t ts (Some k) p e none fault is =
+    fault_is (reading_of text) p (stops_within text place rest s count h t ts k e none fault ∙ ap (λ n. Some (BadQuery n)) (sym is))

@@ -10,3 +10,4 @@ pub mod Names
 pub mod Operand
 pub mod Stacked
 pub mod Stack
+pub mod Gauge

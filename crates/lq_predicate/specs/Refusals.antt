@@ -9,6 +9,11 @@ abbrev pub refusal_of : Result Query ℕ → Option Refusal
 refusal_of (Ok q) = None
 refusal_of (Err place) = Some (BadQuery place)
 
+-- the place of a reading's fault
+abbrev pub fault_of : Result Query ℕ → Option ℕ
+fault_of (Ok q) = None
+fault_of (Err place) = Some place
+
 -- A refusal of the call is that one, or memory ran out.
 abbrev pub IsRefusedOrFails : {T : Type 0} → Result T Refusal → Option Refusal → Type 0
 IsRefusedOrFails result refusal = IfErr result (λ e. (e ≡ NoMemory) ⊎ (refusal ≡ Some e))

@@ -8,7 +8,10 @@
 
 mod attributes;
 mod canonical;
+mod extent;
+mod fault_place;
 mod fitting;
+mod gauge;
 mod item;
 mod machine;
 mod operand;

@@ -1,12 +1,14 @@
 //! Reading a formula.
-ghost use Rattle.std.specs.Prelude.{◌≡◌, ◌≤◌, ◌<◌, ◌+◌, ◌^◌, ◌⊎◌, ℕ, length, None, Some, Ok, Err, IfOk, IfErr};
+ghost use Rattle.std.specs.Prelude.{◌≡◌, ◌≤◌, ◌<◌, ◌+◌, ◌^◌, ◌⊎◌, ℕ, length, None, Some, Ok, Err, IfOk, IfErr, unwrap_or};
 ghost use Rattle.lq_formula.specs.Faults.{Reads, IsFaulty};
 ghost use Rattle.lq_formula.specs.Reading.{finished, reading_of, word_count};
 ghost use Rattle.lq_formula.specs.TokenView.{placed_of, token_of};
-ghost use Rattle.lq_value.specs.declared.refusal.Refusal.TheVariants.{BadQuery};
+ghost use Rattle.lq_value.specs.declared.refusal.Refusal.TheVariants.{BadQuery, NoMemory};
+ghost use Rattle.lq_value.specs.Refusal.{IsRefusedBy};
 ghost use Rattle.lq_predicate.specs.Refusals.{IsRefusedOrFails, refusal_of};
 ghost use Rattle.lq_predicate.specs.PlainPlace.{plain_place};
 
+use crate::fault_place::fault_place;
 use crate::machine::{Machine, Spot, end_of, new_frame, read_token};
 use crate::predicate::Predicate;
 use crate::step_fault::StepFault;
@@ -16,36 +18,54 @@ use lq_value::Refusal;
 use std::alloc::Global;
 
 /// The most bytes of a formula.
-const MOST_BYTES: usize = 4096;
+pub(crate) const MOST_BYTES: usize = 4096;
 
 /// How deep parentheses and `!` may nest.
-const NESTING: usize = 64;
+pub(crate) const NESTING: usize = 64;
 
 /// How deep a predicate may be.
-const MOST_DEPTH: usize = 64;
+pub(crate) const MOST_DEPTH: usize = 64;
 
 /// The most words: each comparison has two.
-const MOST_WORDS: usize = 512;
+pub(crate) const MOST_WORDS: usize = 512;
 
 /// The predicate that a formula writes.
 ///
 /// A formula has at most 4,096 bytes, nests at most 64 deep and has at most 256 comparisons; its
 /// predicate's depth is at most 64, and its canonical text has at most 4,096 bytes. Behind `=`,
 /// `==` and `!=` stands a pattern, behind the operators of order a plain text. Refused: `BadQuery`
-/// with the byte place of the leftmost fault; `NoMemory`, also before a fault is come to.
+/// with the byte place of the leftmost fault; `NoMemory` where there is none.
 /// The operators are BQuery's.
 pub fn read(alloc: Global, formula: &str) -> Result<Predicate, Refusal>
     ensures value { IfOk result (λ p. reading_of formula.now ≡ Ok p) }
     ensures reads { IfOk result (λ p. Reads formula.now p) }
 
-    // A refusal other than for memory is that of the reading, and its place is the leftmost fault's.
-    ensures refused { IsRefusedOrFails result (refusal_of (reading_of formula.now)) }
+    // The refusal is that of the reading, whatever the memory, and its place is the leftmost
+    // fault's.
+    ensures refused { IsRefusedBy result (refusal_of (reading_of formula.now)) }
     ensures fault { IfErr result
         (λ e. (place : ℕ) → e ≡ BadQuery place → IsFaulty formula.now place) }
 {
     formulas_are_read();
     faults_are_found();
-    read_within(alloc, formula)
+    match read_within(alloc, formula) {
+        Ok(predicate) => Ok(predicate),
+        Err(refusal) => Err(first_refusal(formula, refusal)),
+    }
+}
+
+// The refusal of a formula: where memory ran out, a fault may stand further on.
+fn first_refusal(formula: &str, refusal: Refusal) -> Refusal
+    requires { (refusal ≡ NoMemory) ⊎ (refusal_of (reading_of formula.now) ≡ Some refusal) }
+    ensures { result ≡ unwrap_or (refusal_of (reading_of formula.now)) NoMemory }
+{
+    match refusal {
+        Refusal::NoMemory => match fault_place(formula) {
+            Some(place) => Refusal::BadQuery { place },
+            None => Refusal::NoMemory,
+        },
+        _ => refusal,
+    }
 }
 
 // The predicate, within the limits of the whole text.
@@ -125,7 +145,7 @@ fn refused_within(raw_place: usize, k: u64) -> Refusal
 }
 
 // Whether a token is a word, as a number.
-fn words_of(token: &Token) -> usize
+pub(crate) fn words_of(token: &Token) -> usize
     ensures value { result ≡ word_count (token_of token.now) }
     ensures bound { result ≤ 1 }
 {
@@ -136,7 +156,7 @@ fn words_of(token: &Token) -> usize
 }
 
 // Where the fault of a token lies that has no pattern with a fault.
-fn plain_place(end: usize, placed: &Placed) -> usize
+pub(crate) fn plain_place(end: usize, placed: &Placed) -> usize
     ensures { result ≡ plain_place end (placed_of placed.now) }
 {
     match placed.token {

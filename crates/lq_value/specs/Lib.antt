@@ -12,3 +12,4 @@ pub mod Source
 pub mod Written
 pub mod Laws
 pub mod Reading
+pub mod Piece

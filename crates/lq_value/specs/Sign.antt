@@ -5,6 +5,10 @@ use Rattle.std.specs.Str.{chars}
 use Rattle.lq_value.specs.declared.sign.Sign.{Sign}
 use Rattle.lq_value.specs.declared.sign.Sign.TheVariants.{Bare, Escaped, Dangling}
 
+-- signs in a row, under a name for other crates
+abbrev pub Signs : Type 0
+Signs = List Sign
+
 -- the signs of the characters, where a `\` stands before them or not
 abbrev pub signs : Bool → List ℕ → List Sign
 signs false [] = []

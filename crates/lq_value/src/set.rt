@@ -10,8 +10,8 @@ use crate::sign::{Sign, first_sign};
 use std::alloc::Global;
 
 /// What stands first where an item of a set is looked for, and the text behind it.
-#[derive(Clone, Copy)]
-pub(crate) enum FirstItem<'a> {
+#[derive(Clone, Copy, Debug)]
+pub enum FirstItem<'a> {
     /// The `]` that ends the set.
     End(&'a str),
     /// An item.
@@ -53,7 +53,9 @@ fn with_item(items: Result<Items, Refusal>, item: Item) -> Result<Items, Refusal
     Ok(items)
 }
 
-fn first_item<'a>(text: &'a str) -> FirstItem<'a>
+/// What stands first in the text behind a set's begin, where an item is looked for. It takes no
+/// memory.
+pub fn first_item<'a>(text: &'a str) -> FirstItem<'a>
     ensures first { item_at (signs_of text.entry.now) ≡ first_item_of result }
     ensures text { IsTextBehindItem result }
 {

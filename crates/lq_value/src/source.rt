@@ -2,13 +2,13 @@
 ghost use Rattle.std.specs.Prelude.{◌≡◌, IfOk, Ok};
 ghost use Rattle.lq_value.specs.Refusal.{IsRefusedBy};
 ghost use Rattle.lq_value.specs.Sign.{signs_of};
-ghost use Rattle.lq_value.specs.Source.{element_at, item_at, pattern_of, pieces_of, set_at, set_with, source_refusal};
+ghost use Rattle.lq_value.specs.Source.{element_at, item_at, pattern_of, pieces_of, set_with, source_refusal};
 ghost use Rattle.lq_value.specs.Reading.{IsFirst, IsWithElement};
 
 use crate::element::Element;
+use crate::piece::{FirstPiece, first_piece};
 use crate::refusal::Refusal;
 use crate::set::read_items;
-use crate::sign::{Sign, first_sign};
 use std::alloc::Global;
 
 /// What stands first where an element is looked for, and the text behind it.
@@ -62,24 +62,13 @@ fn with_element(
 fn first_element<'a>(alloc: Global, text: &'a str) -> FirstElement<'a>
     ensures { IsFirst (element_at (signs_of text.entry.now)) result }
 {
-    match first_sign(text) {
-        None => FirstElement::End,
-        Some((Sign::Bare('*'), rest)) => FirstElement::Has(Ok(Element::Star), rest),
-        Some((Sign::Bare('?'), rest)) => FirstElement::Has(Ok(Element::Any), rest),
-        Some((Sign::Bare('['), rest)) => first_set(alloc, rest),
-        Some((Sign::Bare(c), rest)) => FirstElement::Has(Ok(Element::Plain(c)), rest),
-        Some((Sign::Escaped(c), rest)) => FirstElement::Has(Ok(Element::Plain(c)), rest),
-        Some((Sign::Dangling, _)) => FirstElement::Faulty,
-    }
-}
-
-// The set whose `[` stands before the text.
-fn first_set<'a>(alloc: Global, text: &'a str) -> FirstElement<'a>
-    ensures { IsFirst (set_at (signs_of text.entry.now)) result }
-{
-    match first_sign(text) {
-        Some((Sign::Bare('^'), rest)) => set_of(alloc, true, rest),
-        _ => set_of(alloc, false, text),
+    match first_piece(text) {
+        FirstPiece::End => FirstElement::End,
+        FirstPiece::Star(rest) => FirstElement::Has(Ok(Element::Star), rest),
+        FirstPiece::Any(rest) => FirstElement::Has(Ok(Element::Any), rest),
+        FirstPiece::Plain(c, rest) => FirstElement::Has(Ok(Element::Plain(c)), rest),
+        FirstPiece::Opens { negated, items } => set_of(alloc, negated, items),
+        FirstPiece::Faulty => FirstElement::Faulty,
     }
 }
 
