@@ -1,11 +1,11 @@
 -- What a line's bytes ask for, by whether they are UTF-8.
-use Rattle.std.proofs.Common.{◌≡◌, ℕ, List, refl, sym, ap, ◌∙◌, true, false, Some, None, Option, inl, inr}
+use Rattle.std.proofs.Common.{◌≡◌, ℕ, List, refl, sym, ap, true, false, Some, None, Option, inl, inr}
 use Rattle.std.specs.Prelude.{Bool, Result, Ok, Err, unwrap_or, if◌then◌else◌, ◌⊎◌}
 use Rattle.std.specs.Str.{IsUtf8, is_utf8}
 use Rattle.std.proofs.lemmas.Str.{IsUtf8-from_is_utf8, is_utf8-from_IsUtf8}
 use Rattle.serde_json.specs.Read.{read}
 use Rattle.lq_value.specs.declared.refusal.Refusal.{Refusal}
-use Rattle.lq_value.specs.declared.refusal.Refusal.TheVariants.{NoMemory, NotUtf8, BadName, BadQuery}
+use Rattle.lq_value.specs.declared.refusal.Refusal.TheVariants.{NoMemory, NotUtf8, BadName}
 use Rattle.lq_value.specs.declared.value.Value.{Value}
 use Rattle.lq_formula.specs.Query.{Query}
 use Rattle.lq_predicate.specs.Refusals.{refusal_of}
@@ -37,16 +37,13 @@ text-refused None text e was = inl was
 text-refused (Some f) text e was = inr (ap (λ x. Err x) (sym was))
 
 -- a formula is refused for its place, or memory ran out
-pub opening-refused : (r : Result Query ℕ) (port backlog : ℕ) (moved : Bool) (e f : Refusal) → f ≡ e → (e ≡ NoMemory) ⊎ (refusal_of r ≡ Some e)
-    → (f ≡ NoMemory) ⊎ (opening_or r port backlog moved ≡ Err f)
-opening-refused r port backlog moved e f same (inl was) = inl (same ∙ was)
-opening-refused (Ok q) port backlog moved e f same (inr was) = absurd (cc was)
-opening-refused (Err place) port backlog moved e f same (inr was) = let is : BadQuery place ≡ e = cc was in inr (ap (λ x. Err x) (is ∙ sym same))
+pub opening-refused : (r : Result Query ℕ) (port backlog : ℕ) (moved : Bool) (e : Refusal) → e ≡ unwrap_or (refusal_of r) NoMemory → (e ≡ NoMemory) ⊎ (opening_or r port backlog moved ≡ Err e)
+opening-refused (Ok q) port backlog moved e was = inl was
+opening-refused (Err place) port backlog moved e was = inr (ap (λ x. Err x) (sym was))
 
-pub fetching-refused : (r : Result Query ℕ) (e f : Refusal) → f ≡ e → (e ≡ NoMemory) ⊎ (refusal_of r ≡ Some e) → (f ≡ NoMemory) ⊎ (fetching_or r ≡ Err f)
-fetching-refused r e f same (inl was) = inl (same ∙ was)
-fetching-refused (Ok q) e f same (inr was) = absurd (cc was)
-fetching-refused (Err place) e f same (inr was) = let is : BadQuery place ≡ e = cc was in inr (ap (λ x. Err x) (is ∙ sym same))
+pub fetching-refused : (r : Result Query ℕ) (e : Refusal) → e ≡ unwrap_or (refusal_of r) NoMemory → (e ≡ NoMemory) ⊎ (fetching_or r ≡ Err e)
+fetching-refused (Ok q) e was = inl was
+fetching-refused (Err place) e was = inr (ap (λ x. Err x) (sym was))
 
 -- a value that is refused refuses its setting
 pub setting-refused : (node : ℕ) (attr : List ℕ) (r : Result Value Refusal) (e : Refusal) → (e ≡ NoMemory) ⊎ (r ≡ Err e) → (e ≡ NoMemory) ⊎ (setting_for node attr r ≡ Err e)

@@ -21,7 +21,7 @@ returns-in_err-read-in-Unset-clause-refused c =
 pub returns-in_err-read-in-Open-clause-refused : goal.returns-in_err-read-in-Open-clause-refused
 returns-in_err-read-in-Open-clause-refused c =
     let p = err_from_is_err_and c.from_residual-in_err-read-in-Open.result c.from_residual-in_err-read-in-Open.ensures.1 in
-    rw (p.1, c.in-Open.is) (opening-refused _ _ _ _ _ _ p.2 c.in_err-read-in-Open.ensures.refused)
+    rw (p.1, c.in-Open.is) (opening-refused _ _ _ _ _ (p.2 ∙ c.in_err-read-in-Open.ensures.refused.1))
 
 pub returns-in_err-read-in-Find-clause-refused : goal.returns-in_err-read-in-Find-clause-refused
 returns-in_err-read-in-Find-clause-refused c =
@@ -31,4 +31,4 @@ returns-in_err-read-in-Find-clause-refused c =
 pub returns-in_err-read-in-Fetch-clause-refused : goal.returns-in_err-read-in-Fetch-clause-refused
 returns-in_err-read-in-Fetch-clause-refused c =
     let p = err_from_is_err_and c.from_residual-in_err-read-in-Fetch.result c.from_residual-in_err-read-in-Fetch.ensures.1 in
-    rw (p.1, c.in-Fetch.is) (fetching-refused _ _ _ p.2 c.in_err-read-in-Fetch.ensures.refused)
+    rw (p.1, c.in-Fetch.is) (fetching-refused _ _ (p.2 ∙ c.in_err-read-in-Fetch.ensures.refused.1))
