@@ -1,2 +1,4 @@
 pub mod FoldLemmas
 pub mod ScriptLemmas
+mod CommandLineLemmas
+mod WordsLemmas

@@ -3,3 +3,5 @@ pub mod Session
 pub mod Answered
 pub mod Script
 pub mod Check
+pub mod Words
+pub mod CommandLine

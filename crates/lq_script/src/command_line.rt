@@ -1,4 +1,10 @@
 //! The command line, read with clap.
+ghost use Rattle.std.specs.Prelude.{◌≡◌, false, IfOk, IsErrOf};
+ghost use Rattle.clap.specs.Simple.{app_of};
+ghost use Rattle.clap.specs.declared.builder.command.Command.TheViews.{out-Command as fields_of};
+ghost use Rattle.lq_script.specs.CommandLine.{bare, lq_app};
+ghost use Rattle.lq_script.specs.Words.{IsAskedBy, IsUsage, has_stray, texts_of};
+
 use clap::error::ErrorKind;
 use clap::{Arg, ArgAction, Command};
 use std::alloc::{AllocError, Global};
@@ -23,7 +29,10 @@ pub enum WordsFault {
 ///
 /// `Usage` for any words but `run`, `check FORMULA` and `check -- FORMULA`, help and version too;
 /// a FORMULA that begins with `-` stands behind `--`. `NoMemory` for want of memory.
-pub fn subcommand_of<'a>(alloc: Global, words: &'a [String]) -> Result<Subcommand<'a>, WordsFault> {
+pub fn subcommand_of<'a>(alloc: Global, words: &'a [String]) -> Result<Subcommand<'a>, WordsFault>
+    ensures ok { IfOk result (IsAskedBy (texts_of words.entry.now)) }
+    ensures usage { IsErrOf result WordsFault.Usage → IsUsage (texts_of words.entry.now) }
+{
     if has_stray_dashes(words) {
         return Err(WordsFault::Usage);
     }
@@ -35,26 +44,32 @@ pub fn subcommand_of<'a>(alloc: Global, words: &'a [String]) -> Result<Subcomman
         Err(error) if error.kind() == ErrorKind::OutOfMemory => return Err(WordsFault::NoMemory),
         Err(_) => return Err(WordsFault::Usage),
     };
-    match matches.subcommand() {
-        Some(("run", _)) => Ok(Subcommand::Run),
-        Some(("check", inner)) => match inner.get_str("formula") {
-            Some(formula) => Ok(Subcommand::Check(formula)),
-            None => Err(WordsFault::Usage),
-        },
-        _ => Err(WordsFault::Usage),
+    let Some((name, inner)) = matches.subcommand() else {
+        return Err(WordsFault::Usage);
+    };
+    if name == "run" {
+        return Ok(Subcommand::Run);
+    }
+    match inner.get_str("formula") {
+        Some(formula) => Ok(Subcommand::Check(formula)),
+        None => Err(WordsFault::Usage),
     }
 }
 
 // clap takes `-` as a FORMULA, and a `--` that nothing stands behind; this program takes neither.
-fn has_stray_dashes(words: &[String]) -> bool {
+fn has_stray_dashes(words: &[String]) -> bool
+    ensures { result ≡ has_stray (texts_of words.now) }
+{
     match words {
-        [_, second] => second.as_str().starts_with('-'),
+        [_, second] => second.as_bytes().starts_with(b"-"),
         [_, second, third] => second.as_str() != "--" && third.as_str() == "--",
         _ => false,
     }
 }
 
-fn command_of<'a>(alloc: Global) -> Result<Command<'a>, AllocError> {
+fn command_of<'a>(alloc: Global) -> Result<Command<'a>, AllocError>
+    ensures { IfOk result (λ command. app_of command ≡ lq_app) }
+{
     let formula = Arg::new(alloc, "formula")
         .required(true)
         .action(ArgAction::Set);
@@ -66,7 +81,10 @@ fn command_of<'a>(alloc: Global) -> Result<Command<'a>, AllocError> {
 }
 
 // A command without help and version of its own: those are other words.
-fn without_help<'a>(alloc: Global, name: &'a str) -> Command<'a> {
+fn without_help<'a>(alloc: Global, name: &'a str) -> Command<'a>
+    ensures app { app_of result ≡ bare name.entry.now }
+    ensures locals { (fields_of result).has_globals ≡ false }
+{
     Command::new(alloc, name)
         .disable_help_flag(true)
         .disable_version_flag(true)

@@ -2,7 +2,8 @@
 //!
 //! A contract sees a session as what its desk keeps and the result that was read of each slot
 //! (`specs/Folds`), and the output of a script as the texts of what a world answers its lines
-//! (`specs/Script`). Nothing here waits. Begin with `session`, then `script`, then `words`.
+//! (`specs/Script`); the program's words are texts (`specs/Words`). Nothing here waits. Begin with
+//! `session`, then `script`, then `words`.
 #![tactic(auto)]
 
 mod checking;

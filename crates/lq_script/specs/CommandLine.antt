@@ -1,0 +1,31 @@
+-- The command by which clap reads the program's words.
+use Rattle.std.specs.Prelude.{List, ℕ, [], codes, true, Some}
+use Rattle.clap.specs.Walk.{Rule}
+use Rattle.clap.specs.Simple.{App, new_rule, new_shape, with_rule, with_subcommand}
+use Rattle.clap.specs.declared.builder.action.ArgAction.TheVariants.{Set}
+
+-- a command without help and version of its own
+abbrev pub bare : List ℕ → App
+bare name = record {
+  top = record (new_shape name) {
+    disable_help_flag = true;
+    disable_version_flag = true;
+    disable_help_subcommand = true;
+  };
+  subs = [];
+}
+
+abbrev pub formula_rule : Rule
+formula_rule = record (new_rule (codes "formula")) { action = Some Set; required = true }
+
+abbrev pub check_app : App
+check_app = with_rule (bare (codes "check")) formula_rule
+
+abbrev pub lq_top : App
+lq_top = record (bare (codes "lq")) {
+  top = record (bare (codes "lq")).top { no_binary_name = true; subcommand_required = true };
+}
+
+-- `run`, and `check` with a formula
+abbrev pub lq_app : App
+lq_app = with_subcommand (with_subcommand lq_top (bare (codes "run")).top) check_app.top

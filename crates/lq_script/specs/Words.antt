@@ -1,0 +1,101 @@
+-- What the program's words ask for, and what it writes and tells.
+use Rattle.std.specs.Prelude.{◌≡◌, ◌⊎◌, ℕ, List, [], ◌∷◌, ◌++◌, Option, Bool, true, false, codes, map, nat_eq, not, ◌&&◌, String}
+use Rattle.std.specs.Str.{bytes_eq}
+use Rattle.std.specs.List.{starts_with}
+use Rattle.std.specs.String.{string_bytes}
+use Rattle.std.specs.Fmt.{decimal}
+use Rattle.std.specs.Io.KnownBytes.{Appends}
+use Rattle.lq_formula.specs.Query.{Query}
+use Rattle.lq_formula.specs.Faults.{Reads}
+use Rattle.lq_formula.specs.Canonical.{canonical}
+use Rattle.lq_lines.specs.Lines.{Begins}
+use Rattle.lq_lines.specs.Output.{Ended, Passed}
+use Rattle.lq_lines.specs.declared.run_fault.RunFault.{RunFault}
+use Rattle.lq_lines.specs.declared.run_fault.RunFault.TheVariants.{Read, Write, Limit, Memory, Thread}
+use Rattle.lq_script.specs.Script.{script_session, world_rules}
+use Rattle.lq_script.specs.declared.command_line.Subcommand.{Subcommand}
+use Rattle.lq_script.specs.declared.command_line.Subcommand.TheVariants.{Run, Check}
+
+-- the texts of words
+abbrev pub texts_of : {Z : Type 0} → List (String Z) → List (List ℕ)
+texts_of words = map string_bytes words
+
+-- `run`
+abbrev pub IsRun : List (List ℕ) → Type 0
+IsRun words = words ≡ codes "run" ∷ []
+
+-- `check FORMULA`, where it doesn't begin with `-`, or `check -- FORMULA`
+abbrev pub IsCheckOf : List (List ℕ) → List ℕ → Type 0
+IsCheckOf words formula =
+    ((words ≡ codes "check" ∷ formula ∷ []) × (starts_with nat_eq formula (codes "-") ≡ false))
+    ⊎ (words ≡ codes "check" ∷ codes "--" ∷ formula ∷ [])
+
+-- any other words
+pub record IsUsage (words : List (List ℕ)) : Type 0 where
+  pub not_run : ¬ IsRun words
+  pub not_check : (formula : List ℕ) → ¬ IsCheckOf words formula
+
+-- a word behind the first that begins with `-`, where it is the last, or a `--` that nothing stands
+-- behind
+abbrev pub has_stray : List (List ℕ) → Bool
+has_stray (first ∷ second ∷ []) = starts_with nat_eq second (codes "-")
+has_stray (first ∷ second ∷ third ∷ []) =
+    not (bytes_eq second (codes "--")) && bytes_eq third (codes "--")
+has_stray words = false
+
+-- words ask for this
+abbrev pub IsAskedBy : List (List ℕ) → Subcommand → Type 0
+IsAskedBy words Run = IsRun words
+IsAskedBy words (Check formula) = IsCheckOf words formula.now
+
+-- a text and LF
+abbrev pub line_with : List ℕ → List ℕ
+line_with text = text ++ 10 ∷ []
+
+-- the lines on standard error: of a fault, of a formula that is refused, and of any other words
+abbrev pub fault_line : RunFault → List ℕ
+fault_line Read = line_with (codes "lq: read fault")
+fault_line Write = line_with (codes "lq: write fault")
+fault_line Limit = line_with (codes "lq: input too long")
+fault_line Memory = line_with (codes "lq: no memory")
+fault_line Thread = line_with (codes "lq: no thread")
+
+abbrev pub refusal_line : ℕ → List ℕ
+refusal_line place = codes "lq: BadQuery at " ++ line_with (decimal place)
+
+abbrev pub usage_line : List ℕ
+usage_line = line_with (codes "lq: usage")
+
+-- a front of a line was written
+pub record WritesFront (line : List ℕ) (written written' : Option (List ℕ)) : Type 0 where
+  pub text : List ℕ
+  pub appended : Appends written written' text
+  pub front : Begins line text
+
+-- a line was written, or a front of it where the device failed or took nothing of some bytes
+abbrev pub Tells : List ℕ → Option (List ℕ) → Option (List ℕ) → Bool → Bool → Type 0
+Tells line written written' failed stalled = Appends written written' line
+    ⊎ (WritesFront line written written' × ((failed ≡ true) ⊎ (stalled ≡ true)))
+
+-- a formula's canonical text and LF were written, or a front of them
+pub record Prints (formula : List ℕ) (written written' : Option (List ℕ)) : Type 0 where
+  pub query : Query
+  pub reads : Reads formula query
+  pub appended : Appends written written' (line_with (canonical query))
+
+pub record PrintsFront (formula : List ℕ) (written written' : Option (List ℕ)) : Type 0 where
+  pub query : Query
+  pub reads : Reads formula query
+  pub appended : WritesFront (line_with (canonical query)) written written'
+
+-- What each fault says: after one of the reader just the lines that LF ended are answered; the
+-- writer failed, or took nothing of some bytes; and a limit was met.
+abbrev pub IsFaultOf : RunFault → Option (List ℕ) → Option (List ℕ) → Bool
+    → Option (List ℕ) → Option (List ℕ) → Bool → Bool → Type 0
+IsFaultOf Read left left' fails written written' failed stalled =
+    (fails ≡ true) × Ended world_rules script_session left left' written written'
+IsFaultOf Write left left' fails written written' failed stalled = (failed ≡ true) ⊎ (stalled ≡ true)
+IsFaultOf Limit left left' fails written written' failed stalled =
+    Passed world_rules script_session left left' written written'
+IsFaultOf Memory left left' fails written written' failed stalled = Unit {0}
+IsFaultOf Thread left left' fails written written' failed stalled = ⊥
