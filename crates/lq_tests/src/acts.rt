@@ -43,10 +43,7 @@ pub fn desk(alloc: Global) -> Result<Desk, Refusal> {
 /// What the desk answers an act.
 pub fn reply(alloc: Global, desk: &mut Desk, way: Way, act: &Act) -> Result<Reply, Refusal> {
     let event = event(alloc, act)?;
-    match give(desk, way, &event) {
-        Reply::Refused(Refusal::NoMemory) => Ok(give(desk, way, &event)),
-        told => Ok(told),
-    }
+    Ok(give(desk, way, &event))
 }
 
 /// How many entries a static query of the desk's volume finds.
@@ -63,6 +60,13 @@ fn fetch(alloc: Global, desk: &Desk, query: &str) -> Result<usize, Refusal> {
 }
 
 fn give(desk: &mut Desk, way: Way, event: &Event) -> Reply {
+    match give_once(desk, way, event) {
+        Reply::Refused(Refusal::NoMemory) => give_once(desk, way, event),
+        told => told,
+    }
+}
+
+fn give_once(desk: &mut Desk, way: Way, event: &Event) -> Reply {
     match way {
         Way::Event => desk.event(event),
         Way::Turn => desk.turn(event),

@@ -1,9 +1,9 @@
 //! Calls that are given again where memory ran out: with any one growth refused, all is as without.
 use crate::act::Act;
 use lq_predicate::{Predicate, read};
-use lq_update::{Rebuild, step};
+use lq_update::{Message, Rebuild, step};
 use lq_value::{Entry, Refusal};
-use lq_volume::Volume;
+use lq_volume::{Change, Volume};
 use std::alloc::Global;
 use std::test::Fail;
 
@@ -30,51 +30,67 @@ const ACTS: [Act; 9] = [
     Act::Remove(4),
 ];
 
-/// Tells a result that is kept of one change, and makes it; the number of the next message.
+fn fold(rebuild: &mut Rebuild, messages: &[Message]) -> Result<(), Refusal> {
+    for message in messages {
+        again!(rebuild.apply(message))?;
+    }
+    Ok(())
+}
+
+/// Tells a result that is kept of one change; the number of the next message.
+fn tell(
+    alloc: Global,
+    predicate: &Predicate,
+    volume: &Volume,
+    rebuild: &mut Rebuild,
+    seq: u32,
+    change: &Change,
+) -> Result<u32, Refusal> {
+    volume.check(change)?;
+    let messages = again!(step(alloc, predicate, volume, change, u64::from(seq), true))?;
+    fold(rebuild, &messages)?;
+    Ok(seq.saturating_add(messages.len() as u32))
+}
+
+/// Tells a result that is kept of each change, and makes it; the number of the next message.
 fn follow(
     alloc: Global,
     predicate: &Predicate,
     volume: &mut Volume,
     rebuild: &mut Rebuild,
-    seq: u32,
-    act: Act,
 ) -> Result<u32, Refusal> {
-    let change = again!(act.change(alloc))?;
-    volume.check(&change)?;
-    let messages = again!(step(alloc, predicate, volume, &change, u64::from(seq), true))?;
-    for message in &messages {
-        again!(rebuild.apply(message))?;
+    let mut seq = 1;
+    for act in ACTS {
+        let change = again!(act.change(alloc))?;
+        seq = tell(alloc, predicate, volume, rebuild, seq, &change)?;
+        again!(volume.apply(&change))?;
     }
-    again!(volume.apply(&change))?;
-    Ok(seq.saturating_add(messages.len() as u32))
+    Ok(seq)
 }
 
 fn is_same(a: &Entry, b: &Entry) -> bool {
     a.dir == b.dir && a.name == b.name && a.node == b.node
 }
 
+/// Returns whether the entries that are kept are those that are fetched.
+fn is_result(kept: &[Entry], predicate: &Predicate, volume: &Volume) -> Result<bool, Refusal> {
+    let found = again!(volume.fetch(predicate))?;
+    Ok(kept.len() == found.len() && kept.iter().zip(&found).all(|(a, b)| is_same(a, b)))
+}
+
 /// Returns whether the result that was kept by messages is the one that is fetched, after all
 /// changes, and how many of both there are.
-fn is_kept(alloc: Global) -> Result<bool, Refusal> {
-    let predicate = again!(read(alloc, "name='a*'"))?;
+fn is_kept(alloc: Global, predicate: &Predicate) -> Result<bool, Refusal> {
     let mut volume = Volume::new(alloc, 99);
     let mut rebuild = Rebuild::new(alloc, 0, Vec::new(alloc));
-    let mut seq = 1;
-    for act in ACTS {
-        seq = follow(alloc, &predicate, &mut volume, &mut rebuild, seq, act)?;
-    }
-    let found = again!(volume.fetch(&predicate))?;
-    let kept = rebuild.result();
-    Ok(
-        seq == 10
-            && volume.changes() == 9
-            && kept.len() == found.len()
-            && kept.iter().zip(&found).all(|(a, b)| is_same(a, b)),
-    )
+    let seq = follow(alloc, predicate, &mut volume, &mut rebuild)?;
+    let is_result = is_result(rebuild.result(), predicate, &volume)?;
+    Ok(is_result && seq == 10 && volume.changes() == 9)
 }
 
 #[test]
 fn a_refused_growth_is_made_good(rt: HostRuntime) -> Result<(), Fail> {
-    assert!(rt; is_kept(rt.alloc())?);
+    let predicate = again!(read(rt.alloc(), "name='a*'"))?;
+    assert!(rt; is_kept(rt.alloc(), &predicate)?);
     Ok(())
 }

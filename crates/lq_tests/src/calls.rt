@@ -1,7 +1,7 @@
 //! Worked examples as calls of a volume.
 use crate::acts::{file, renaming};
 use crate::told::{Told, is_message};
-use lq_predicate::read;
+use lq_predicate::{Predicate, read};
 use lq_update::{Message, step};
 use lq_value::{Kind, Name, Refusal};
 use lq_volume::{Change, Volume};
@@ -35,21 +35,36 @@ fn scenario_change_limit(rt: HostRuntime) -> Result<(), Fail> {
     Ok(())
 }
 
+/// The messages of a query for an accepted change.
+fn messages(
+    alloc: Global,
+    query: &str,
+    volume: &Volume,
+    change: &Change,
+) -> Result<Vec<Message>, Refusal> {
+    let query = read(alloc, query)?;
+    volume.check(change)?;
+    step(alloc, &query, volume, change, 1, false)
+}
+
 /// Returns whether `size>100` tells a change that creates one entry as one message, and the change is taken.
 fn is_told(alloc: Global, volume: &mut Volume) -> Result<bool, Refusal> {
     let change = creation(alloc, "a")?;
-    let query = read(alloc, "size>100")?;
-    volume.check(&change)?;
-    let messages = step(alloc, &query, volume, &change, 1, false)?;
+    let count = messages(alloc, "size>100", volume, &change)?.len();
     volume.apply(&change)?;
-    Ok(messages.len() == 1)
+    Ok(count == 1)
+}
+
+fn copy_of_query(alloc: Global) -> Result<Predicate, Refusal> {
+    let query = read(alloc, "size>100")?;
+    query.copy(alloc)
 }
 
 /// Returns whether a copy of the volume fetches one entry by a copy of `size>100`.
 fn is_fetched(alloc: Global, volume: &Volume) -> Result<bool, Refusal> {
-    let query = read(alloc, "size>100")?;
-    let found = volume.copy()?.fetch(&query.copy(alloc)?)?;
-    Ok(found.len() == 1)
+    let query = copy_of_query(alloc)?;
+    let copy = volume.copy()?;
+    Ok(copy.fetch(&query)?.len() == 1)
 }
 
 /// Returns whether node 2 is the one called `a`, and its listing and its entry have its size.
@@ -71,15 +86,18 @@ fn each_call_once(rt: HostRuntime) -> Result<(), Fail> {
     Ok(())
 }
 
+fn put(alloc: Global, volume: &mut Volume, name: &str) -> Result<(), Refusal> {
+    volume.apply(&file(alloc, name)?)?;
+    Ok(())
+}
+
 /// The messages of `name=*` for a move of the file `b` to the name of `a`.
 fn clobbering(alloc: Global) -> Result<Vec<Message>, Refusal> {
-    let mut volume = Volume::new(alloc, 9);
-    volume.apply(&file(alloc, "a")?)?;
-    volume.apply(&file(alloc, "b")?)?;
     let change = renaming(alloc, "a", true)?;
-    let query = read(alloc, "name=*")?;
-    volume.check(&change)?;
-    step(alloc, &query, &volume, &change, 1, false)
+    let mut volume = Volume::new(alloc, 9);
+    put(alloc, &mut volume, "a")?;
+    put(alloc, &mut volume, "b")?;
+    messages(alloc, "name=*", &volume, &change)
 }
 
 #[test]

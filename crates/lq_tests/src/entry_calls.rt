@@ -1,6 +1,6 @@
 //! The look-ups of one entry with attributes, and a copy of its volume.
 use lq_predicate::read;
-use lq_value::{AttrName, Kind, Name, Refusal, Value, View};
+use lq_value::{AttrName, Entry, Kind, Name, Refusal, Value, View};
 use lq_volume::{Change, EntryRef, Volume};
 use std::alloc::Global;
 use std::test::Fail;
@@ -62,16 +62,24 @@ fn has_at(entry: &EntryRef<'_>, place: usize, name: &str, text: &str) -> bool {
 
 /// Returns whether a copy of the volume answers a fetch of all names as the volume does.
 fn copies_alike(alloc: Global, volume: &Volume) -> Result<bool, Refusal> {
-    let all = read(alloc, "name=*")?;
-    let found = volume.fetch(&all)?;
-    let copied = volume.copy()?.fetch(&all)?;
-    Ok(
-        found.len() == 1
-            && copied.len() == 1
-            && copied[0].node == found[0].node
-            && copied[0].dir == found[0].dir
-            && copied[0].name == found[0].name,
-    )
+    let copy = volume.copy()?;
+    let found = all(alloc, volume)?;
+    Ok(is_one(&found, &all(alloc, &copy)?))
+}
+
+/// The entries of a volume.
+fn all(alloc: Global, volume: &Volume) -> Result<Vec<Entry>, Refusal> {
+    volume.fetch(&read(alloc, "name=*")?)
+}
+
+/// Returns whether both lists have one entry alone, the same.
+fn is_one(found: &[Entry], copied: &[Entry]) -> bool {
+    match (found, copied) {
+        ([one], [other]) => {
+            one.node == other.node && one.dir == other.dir && one.name == other.name
+        }
+        _ => false,
+    }
 }
 
 #[test]

@@ -197,16 +197,31 @@ fn opening(alloc: Global) -> Result<Event, Refusal> {
     })
 }
 
+/// Returns whether a desk opens two subscriptions of three, and no more.
+fn opens_two(alloc: Global, desk: &mut Desk) -> Result<bool, Refusal> {
+    let mut openings = Vec::new(alloc);
+    for _ in 0..3 {
+        openings.push(opening(alloc)?)?;
+    }
+    Ok(are_two(&desk.run(&openings)?))
+}
+
+fn are_two(replies: &[Reply]) -> bool {
+    matches!(
+        replies,
+        [
+            Reply::Opened { .. },
+            Reply::Opened { .. },
+            Reply::Refused(Refusal::Exhausted)
+        ]
+    )
+}
+
 #[test]
 fn scenario_change_limit_of_a_desk(rt: HostRuntime) -> Result<(), Fail> {
-    let alloc = rt.alloc();
-    let mut desk = Desk::new(alloc, Volume::new(alloc, 2))?;
+    let mut desk = Desk::new(rt.alloc(), Volume::new(rt.alloc(), 2))?;
     assert!(rt; desk.run(&[])?.is_empty());
-    let replies = desk.run(&[opening(alloc)?, opening(alloc)?, opening(alloc)?])?;
-    assert_eq!(rt; replies.len(), 3);
-    assert!(rt; matches!(&replies[0], Reply::Opened { .. }));
-    assert!(rt; matches!(&replies[1], Reply::Opened { .. }));
-    assert!(rt; is_told(&replies[2], &Told::Refused(Refusal::Exhausted)));
+    assert!(rt; opens_two(rt.alloc(), &mut desk)?);
     assert!(rt; desk.volume().changes() == 0);
     Ok(())
 }

@@ -1,104 +1,75 @@
-//! The scenario `first-message` over devices of the tests' own that fail.
-ghost use Rattle.std.specs.Prelude.{None, true};
-
-use lq_script::{Failed, RunFault, Sink, Source, run};
+//! Worked examples as scripts, over devices of which each call in turn fails or moves few bytes.
+use crate::devices::{Given, Pace, Taken, Trouble};
+use crate::scripts::{CLOSE_AFTER_HELD, Example, FIRST_MESSAGE, RENAME_TOLD_AS_TWO, Row};
+use lq_script::{RunFault, run};
 use std::alloc::{AllocError, Global};
 use std::test::Fail;
 
-const OPENING: &str = "{\"do\":\"open\",\"query\":\"size>100\",\"port\":4,\"backlog\":16}\n";
-
-const FIRST_MESSAGE: &str = "{\"do\":\"open\",\"query\":\"size>100\",\"port\":4,\"backlog\":16}
-{\"do\":\"create\",\"name\":\"a\",\"size\":200}
-{\"do\":\"read\",\"slot\":1}
-";
-
-const OPENED: &str = "{\"at\":0,\"result\":[],\"slot\":1}\n";
-
-const REPLIES: &str = "{\"at\":0,\"result\":[],\"slot\":1}
-{\"change\":1,\"node\":2}
-{\"change\":1,\"dir\":1,\"last\":true,\"name\":\"a\",\"node\":2,\"op\":\"B_ENTRY_CREATED\",\"seq\":1,\"what\":\"B_QUERY_UPDATE\"}
-";
-
-/// Gives a text, and at its end may fail.
-#[derive(Drop)]
-struct Given<'a> {
-    left: &'a [u8],
-    fails: bool,
-    failed: bool,
+#[derive(Clone, Copy, Debug)]
+enum Device {
+    Reader,
+    Writer,
 }
 
-impl<'a> Source for Given<'a> {
-    ghost left = { λ _. None };
+// a script; a device, its trouble at each of its calls in turn, their number by 1 and by 10 bytes a
+// call, the last read that of the end and the last write the flush
+const TROUBLES: [(&[Row], [(Device, Trouble, usize, usize); 5]); 3] = [
+    (
+        FIRST_MESSAGE,
+        [
+            (Device::Reader, Trouble::Fails, 117, 13),
+            (Device::Reader, Trouble::MovesOne, 117, 13),
+            (Device::Writer, Trouble::Fails, 161, 17),
+            (Device::Writer, Trouble::MovesNone, 160, 16),
+            (Device::Writer, Trouble::MovesOne, 160, 16),
+        ],
+    ),
+    (
+        RENAME_TOLD_AS_TWO,
+        [
+            (Device::Reader, Trouble::Fails, 211, 22),
+            (Device::Reader, Trouble::MovesOne, 211, 22),
+            (Device::Writer, Trouble::Fails, 431, 44),
+            (Device::Writer, Trouble::MovesNone, 430, 43),
+            (Device::Writer, Trouble::MovesOne, 430, 43),
+        ],
+    ),
+    (
+        CLOSE_AFTER_HELD,
+        [
+            (Device::Reader, Trouble::Fails, 296, 31),
+            (Device::Reader, Trouble::MovesOne, 296, 31),
+            (Device::Writer, Trouble::Fails, 528, 54),
+            (Device::Writer, Trouble::MovesNone, 527, 53),
+            (Device::Writer, Trouble::MovesOne, 527, 53),
+        ],
+    ),
+];
 
-    ghost failed = { λ s. s.failed };
+/// Moves all at its first call, and has no trouble.
+const FREE: Pace = Pace {
+    step: 1000,
+    at: 1000,
+    trouble: Trouble::Fails,
+};
 
-    fn read(&mut self, buf: &mut [u8]) -> Result<usize, Failed> {
-        if self.fails && self.left.is_empty() {
-            self.failed = true;
-            return Err(Failed);
-        }
-        let count = self.left.len().min(buf.len());
-        buf[..count].copy_from_slice(&self.left[..count]);
-        self.left = &self.left[count..];
-        Ok(count)
-    }
-}
-
-/// Takes `step` bytes at a time and `room` in all, and then fails.
-#[derive(Drop)]
-struct Narrow {
-    text: Vec<u8>,
-    step: usize,
-    room: usize,
-    failed: bool,
-    stalled: bool,
-}
-
-impl Sink for Narrow {
-    ghost written = { λ _. None };
-
-    ghost failed = { λ n. n.failed };
-
-    ghost stalled = { λ n. n.stalled };
-
-    ghost flushed = { λ _. true };
-
-    fn write(&mut self, bytes: &[u8]) -> Result<usize, Failed> {
-        let count = bytes.len().min(self.step).min(self.room);
-        if self.room == 0 || self.text.extend_from_slice(&bytes[..count]).is_err() {
-            self.failed = true;
-            return Err(Failed);
-        }
-        self.room -= count;
-        if count == 0 {
-            self.stalled = true;
-        }
-        Ok(count)
-    }
-
-    fn flush(&mut self) -> Result<(), Failed> {
-        Ok(())
-    }
-}
-
-/// What a script's run answers and has written, over a reader that may fail at the end of the
-/// script, and a writer that takes `step` bytes at a time and `room` in all.
+/// What a run answers, and what it has written.
 fn answer(
     alloc: Global,
     script: &str,
-    fails: bool,
-    step: usize,
-    room: usize,
+    reads: Pace,
+    writes: Pace,
 ) -> Result<(Result<(), RunFault>, Vec<u8>), AllocError> {
     let mut reader = Given {
         left: script.as_bytes(),
-        fails,
+        pace: reads,
+        calls: 0,
         failed: false,
     };
-    let mut writer = Narrow {
-        text: Vec::with_capacity(alloc, 256)?,
-        step,
-        room,
+    let mut writer = Taken {
+        text: Vec::with_capacity(alloc, 1000)?,
+        pace: writes,
+        calls: 0,
         failed: false,
         stalled: false,
     };
@@ -106,24 +77,97 @@ fn answer(
     Ok((answer, writer.text))
 }
 
+/// What a run with trouble that ends it answers, and how many bytes it has written.
+fn fate(example: &Example, device: Device, moved: usize) -> (Result<(), RunFault>, usize) {
+    match device {
+        Device::Reader => (Err(RunFault::Read), example.due(moved)),
+        Device::Writer => (Err(RunFault::Write), moved),
+    }
+}
+
+/// Returns whether a run ends as it has to, with or without trouble that ends it.
+fn is_met(
+    alloc: Global,
+    example: &Example,
+    device: Device,
+    pace: Pace,
+    ends: bool,
+) -> Result<bool, AllocError> {
+    let (answer, written) = match device {
+        Device::Reader => answer(alloc, &example.script, pace, FREE)?,
+        Device::Writer => answer(alloc, &example.script, FREE, pace)?,
+    };
+    let (wanted, count) = if ends {
+        fate(example, device, pace.at.saturating_mul(pace.step))
+    } else {
+        (Ok(()), usize::MAX)
+    };
+    let output = example.output.as_bytes();
+    Ok(answer == wanted && written.as_slice() == &output[..count.min(output.len())])
+}
+
+/// The call at which a run first ends otherwise than it has to, where there is one.
+fn unmet(
+    alloc: Global,
+    example: &Example,
+    device: Device,
+    trouble: Trouble,
+    step: usize,
+    calls: usize,
+) -> Result<Option<usize>, AllocError> {
+    let is_harmless = matches!(trouble, Trouble::MovesOne);
+    for at in 0..=calls {
+        let pace = Pace { step, at, trouble };
+        if !is_met(alloc, example, device, pace, at < calls && !is_harmless)? {
+            return Ok(Some(at));
+        }
+    }
+    Ok(None)
+}
+
+#[test]
+fn each_call_of_a_device_has_trouble_in_turn(rt: HostRuntime) -> Result<(), Fail> {
+    for (rows, troubles) in TROUBLES {
+        let example = Example::of(rt.alloc(), rows)?;
+        for (device, trouble, by_one, by_ten) in troubles {
+            for (step, calls) in [(1, by_one), (10, by_ten)] {
+                let at = unmet(rt.alloc(), &example, device, trouble, step, calls)?;
+                assert!(rt;
+                    at.is_none(),
+                    "{device:?} {trouble:?} {step} {calls} {at:?}"
+                );
+            }
+        }
+    }
+    Ok(())
+}
+
 #[test]
 fn scenario_read_fault(rt: HostRuntime) -> Result<(), Fail> {
-    let (answer, text) = answer(rt.alloc(), OPENING, true, 999, 999)?;
+    let opening = Example::of(rt.alloc(), &FIRST_MESSAGE[..1])?;
+    let reads = Pace {
+        step: 999,
+        at: 1,
+        trouble: Trouble::Fails,
+    };
+    let (answer, text) = answer(rt.alloc(), &opening.script, reads, FREE)?;
     assert_eq!(rt; answer, Err(RunFault::Read));
-    assert!(rt; text.as_slice() == OPENED.as_bytes());
+    assert!(rt; text.as_slice() == opening.output.as_bytes());
     Ok(())
 }
 
 #[test]
 fn scenario_write_faults(rt: HostRuntime) -> Result<(), Fail> {
-    // bytes a write, bytes in all; the answer, what was written
+    let example = Example::of(rt.alloc(), FIRST_MESSAGE)?;
+    // bytes a write, the write with trouble; the answer, what was written
     let rows = [
-        (999, 10, Err(RunFault::Write), "{\"at\":0,\"r"),
-        (1, 999, Ok(()), REPLIES),
-        (0, 999, Err(RunFault::Write), ""),
+        (10, 1, Trouble::Fails, Err(RunFault::Write), "{\"at\":0,\"r"),
+        (1, 999, Trouble::Fails, Ok(()), example.output.as_str()),
+        (999, 0, Trouble::MovesNone, Err(RunFault::Write), ""),
     ];
-    for (step, room, wanted, text) in rows {
-        let (answer, written) = answer(rt.alloc(), FIRST_MESSAGE, false, step, room)?;
+    for (step, at, trouble, wanted, text) in rows {
+        let writes = Pace { step, at, trouble };
+        let (answer, written) = answer(rt.alloc(), &example.script, FREE, writes)?;
         assert_eq!(rt; answer, wanted, "{step}");
         assert!(rt; written.as_slice() == text.as_bytes(), "{step}");
     }

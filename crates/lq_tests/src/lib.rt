@@ -17,6 +17,8 @@ mod bodies;
 #[cfg(test)]
 mod calls;
 #[cfg(test)]
+mod devices;
+#[cfg(test)]
 mod entry_calls;
 #[cfg(test)]
 mod events;
@@ -26,6 +28,8 @@ mod faults;
 mod input;
 mod locked;
 pub mod plain;
+#[cfg(test)]
+mod scripts;
 #[cfg(test)]
 mod threads;
 mod tie;
