@@ -1,7 +1,7 @@
 //! The text of what is read of a subscription.
 #![tactic(auto, unfolding(json::specs::Print::escape_byte))]
 
-ghost use Rattle.std.specs.Prelude.{◌≡◌, ◌++◌, codes, OnOk, true};
+ghost use Rattle.std.specs.Prelude.{◌≡◌, ℕ, ◌++◌, codes, OnOk, true};
 ghost use Rattle.serde_json.specs.Written.{compact_text, members_text};
 ghost use Rattle.lq_compact.specs.Front.{Extends};
 ghost use Rattle.lq_desk.specs.Reply.{answer_of_read};
@@ -14,9 +14,12 @@ use lq_update::{Cause, Mark, Message, Opcode};
 use lq_value::Name;
 use std::alloc::AllocError;
 
+/// Puts what taking from a slot gave behind `out`: the same text whatever the slot.
+///
+/// An error says that memory ran out: `out` then has what it had, and maybe a part of the text.
 pub fn put_read(out: &mut Vec<u8>, read: &Read) -> Result<(), AllocError>
-    ensures ok { OnOk result (out.new.items
-        ≡ out.old.items ++ compact_text (answer_data 0 (answer_of_read read.now))) }
+    ensures ok { OnOk result ((slot : ℕ) → out.new.items
+        ≡ out.old.items ++ compact_text (answer_data slot (answer_of_read read.now))) }
     ensures front { Extends out.new.items out.old.items }
 {
     match read {
