@@ -1,7 +1,7 @@
 //! The canonical text of a formula.
-ghost use Rattle.std.specs.Prelude.{◌≡◌, ◌⊎◌, IfOk, IfErr, Some};
+ghost use Rattle.std.specs.Prelude.{IfOk};
 ghost use Rattle.std.specs.String.{string_bytes};
-ghost use Rattle.lq_value.specs.declared.refusal.Refusal.TheVariants.{NoMemory};
+ghost use Rattle.lq_value.specs.Refusal.{IsRefusedBy};
 ghost use Rattle.lq_formula.specs.Reading.{reading_of};
 ghost use Rattle.lq_predicate.specs.Refusals.{refusal_of};
 ghost use Rattle.lq_script.specs.Check.{IsCanonicalOf};
@@ -12,11 +12,11 @@ use std::alloc::Global;
 
 /// The canonical text of a formula, as `lq check` prints it.
 ///
-/// Refused: `BadQuery` with the byte place of the formula's leftmost fault, and `NoMemory`.
+/// Refused, the first that fits: `BadQuery` with the byte place of the formula's leftmost fault,
+/// `NoMemory`.
 pub fn check(alloc: Global, text: &str) -> Result<String, Refusal>
     ensures value { IfOk result (λ written. IsCanonicalOf text.now (string_bytes written)) }
-    ensures refused { IfErr result (λ e. (e ≡ NoMemory)
-        ⊎ (refusal_of (reading_of text.now) ≡ Some e)) }
+    ensures refused { IsRefusedBy result (refusal_of (reading_of text.now)) }
 {
     let predicate = read(alloc, text)?;
     Ok(write(alloc, &predicate)?)
