@@ -5,7 +5,7 @@ use Rattle.lq_compact.specs.Front.{Extends}
 use Rattle.lq_reply.specs.Reply.{attr_data}
 use Rattle.lq_reply.proofs.listing.put_attrs.Given as goal
 
--- what is put and the text of the attrs left are the whole
+-- what is put and the text of the attributes left are the whole
 abbrev pub invariant-loop-attr : goal.invariant-loop-attr
 invariant-loop-attr l = record {
   whole : l.out.items ++ items_text l.later (items_of (map attr_data (drop l.attr-index l.attrs)))
