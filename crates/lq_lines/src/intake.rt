@@ -1,5 +1,5 @@
 //! What has come of an input: the line in progress and the counts.
-ghost use Rattle.std.specs.Prelude.{◌≡◌, ◌+◌, ◌++◌, ◌≤◌, ℕ, List, [], length, false, IfErr, OnOk, OnErr};
+ghost use Rattle.std.specs.Prelude.{◌≡◌, ◌+◌, ◌++◌, ◌≤◌, ℕ, List, [], length, false, true, IfErr, IsOk, OnOk, OnErr};
 ghost use Rattle.lq_lines.specs.Lines.{Begins, given_line, line_of, reply_to, state_after, without_cr};
 ghost use Rattle.lq_lines.specs.Progress.{IsKept};
 
@@ -61,6 +61,9 @@ impl Intake {
             → S.state responder.new ≡ state_after S.rules (S.state responder.old) (line_of bytes)) }
         ensures err { OnErr result (out.new.items ≡ out.old.items) }
         ensures memory { IfErr result (λ e. e ≡ RunFault.Memory) }
+
+        // An empty line has no reply, and takes no memory.
+        ensures empty { self.now.long ≡ false → self.now.line.items ≡ [] → IsOk result }
     {
         let before = out.len();
         let answered = if self.long {
@@ -81,6 +84,9 @@ impl Intake {
         ensures ok { OnOk result ((before : List ℕ) → IsKept before self.old.long self.old.line.items
             → IsKept (before ++ bytes.now) self.new.long self.new.line.items) }
         ensures memory { IfErr result (λ e. e ≡ RunFault.Memory) }
+
+        // A line that is too long is not kept, and takes no memory.
+        ensures long { self.old.long ≡ true → IsOk result }
         ensures lines { self.new.lines ≡ self.old.lines }
         ensures bytes { OnOk result (self.new.bytes ≡ self.old.bytes + length bytes.now) }
     {
@@ -118,6 +124,7 @@ fn answer_given<S: Responder>(
         (S.state responder.new
         ≡ state_after S.rules (S.state responder.old) (given_line line.now)) }
     ensures err { OnErr result (Begins out.new.items out.old.items) }
+    ensures empty { line.now ≡ [] → IsOk result }
 {
     if line.is_empty() {
         return Ok(());

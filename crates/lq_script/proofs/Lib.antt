@@ -1,4 +1,5 @@
 pub mod FoldLemmas
 pub mod ScriptLemmas
+mod CommandWalkLemmas
 mod CommandLineLemmas
 mod WordsLemmas

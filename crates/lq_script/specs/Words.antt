@@ -35,8 +35,7 @@ pub record IsUsage (words : List (List ℕ)) : Type 0 where
   pub not_run : ¬ IsRun words
   pub not_check : (formula : List ℕ) → ¬ IsCheckOf words formula
 
--- a word behind the first that begins with `-`, where it is the last, or a `--` that nothing stands
--- behind
+-- the second of two words begins with `-`, or the third of three is `--` and the second isn't
 abbrev pub has_stray : List (List ℕ) → Bool
 has_stray (first ∷ second ∷ []) = starts_with nat_eq second (codes "-")
 has_stray (first ∷ second ∷ third ∷ []) =
@@ -88,13 +87,14 @@ pub record PrintsFront (formula : List ℕ) (written written' : Option (List ℕ
   pub reads : Reads formula query
   pub appended : WritesFront (line_with (canonical query)) written written'
 
--- What each fault says: after one of the reader just the lines that LF ended are answered; the
--- writer failed, or took nothing of some bytes; and a limit was met.
+-- What each fault says: the reader failed, and just the lines that LF ended are answered; the
+-- writer failed, or took nothing of some bytes; a limit was met, and likewise; none has no thread.
 abbrev pub IsFaultOf : RunFault → Option (List ℕ) → Option (List ℕ) → Bool
     → Option (List ℕ) → Option (List ℕ) → Bool → Bool → Type 0
 IsFaultOf Read left left' fails written written' failed stalled =
     (fails ≡ true) × Ended world_rules script_session left left' written written'
-IsFaultOf Write left left' fails written written' failed stalled = (failed ≡ true) ⊎ (stalled ≡ true)
+IsFaultOf Write left left' fails written written' failed stalled =
+    (failed ≡ true) ⊎ (stalled ≡ true)
 IsFaultOf Limit left left' fails written written' failed stalled =
     Passed world_rules script_session left left' written written'
 IsFaultOf Memory left left' fails written written' failed stalled = Unit {0}

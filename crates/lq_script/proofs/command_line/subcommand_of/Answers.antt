@@ -7,7 +7,8 @@ use Rattle.clap.specs.Simple.{App, app_of, is_simple, subcommand_of, subcommand_
 use Rattle.clap.specs.declared.error.kind.ErrorKind.TheVariants.{OutOfMemory}
 use Rattle.lq_script.specs.CommandLine.{lq_app}
 use Rattle.lq_script.specs.Words.{has_stray, texts_of}
-use Rattle.lq_script.proofs.CommandLineLemmas.{check_has_formula, check_named, given, is_free, is_plain, read_is_given, read_of, refused_is_usage, run_named}
+use Rattle.lq_script.proofs.CommandLineLemmas.{check_has_formula, check_named, read_is_given, read_of, refused_is_usage, run_named}
+use Rattle.lq_script.proofs.CommandWalkLemmas.{given, is_free, is_plain}
 use Rattle.lq_script.proofs.command_line.subcommand_of.Goals as goal
 
 pub returns-in-Err-2-clause-usage : goal.returns-in-Err-2-clause-usage
