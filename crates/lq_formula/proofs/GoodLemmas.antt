@@ -1,6 +1,6 @@
 -- A pattern that is read from a text has a source: it is of characters, its sets have items, no range falls.
-use Rattle.std.proofs.Common.{◌≡◌, ℕ, Bool, true, false, cond, List, [], ◌∷◌, ◌++◌, subst}
-use Rattle.std.specs.Prelude.{◌==◌, Ok}
+use Rattle.std.proofs.Common.{◌≡◌, ℕ, Bool, true, false, cond, List, [], ◌∷◌, ◌++◌, subst, refl, Some}
+use Rattle.std.specs.Prelude.{◌==◌, Result, Ok, Err}
 use Rattle.std.specs.Char.{IsScalar}
 use Rattle.std.specs.Str.{IsUtf8, chars}
 use Rattle.std.proofs.Math.Utf8.{scalar, scalars}
@@ -13,7 +13,18 @@ use Rattle.lq_value.specs.Laws.{SourcesAreRead}
 use Rattle.lq_value.specs.Sign.{signs, signs_of}
 use Rattle.lq_value.specs.Source.{pattern_of}
 use Rattle.lq_value.specs.Written.{AreItems, IsElement, IsItem, StandsFor, StandsInSet, Writes}
-use Rattle.lq_formula.specs.Limits.{AreGoodItems, IsGoodElement, IsGoodItem, IsGoodPattern}
+use Rattle.lq_value.specs.declared.literal.Literal.{Literal}
+use Rattle.lq_value.specs.declared.literal.Literal.TheVariants.{Pattern}
+use Rattle.lq_value.specs.declared.literal.Literal.TheVariants as literals
+use Rattle.lq_value.specs.declared.op.Op.{Op}
+use Rattle.lq_value.specs.declared.op.Op.TheVariants.{Eq, Ne, Lt, Le, Gt, Ge}
+use Rattle.lq_formula.specs.Grammar.{IsFormula}
+use Rattle.lq_formula.specs.Literals.{literal_of, pattern_literal, unescaped}
+use Rattle.lq_formula.specs.Query.{Query}
+use Rattle.lq_formula.specs.Tokens.{Token}
+use Rattle.lq_formula.specs.Limits.{AreGoodItems, IsGoodBehind, IsGoodElement, IsGoodItem, IsGoodLiteral, IsGoodPattern, IsProper}
+use Rattle.lq_formula.specs.Words.{WordsAre}
+use Rattle.lq_formula.proofs.ProperLemmas.{formula_proper_by, read_suits}
 use Rattle.lq_formula.proofs.CanonicalLemmas.{and_true}
 use Rattle.lq_formula.proofs.PatternTextLemmas.{Sign, bare, escaped}
 
@@ -78,3 +89,24 @@ pattern_good (e ∷ es) text h k =
 -- a pattern that is read has a source
 pub read_good : SourcesAreRead → (text : List ℕ) (es : List Element) → IsUtf8 text → pattern_of text ≡ Ok es → IsGoodPattern es
 read_good law text es u e = pattern_good es (signs_of text) ((law text es).0 e) (signs_scalar false (chars text) (scalars-chars text u))
+
+-- ---- literals
+
+good_pattern : SourcesAreRead → (raw : List ℕ) → IsUtf8 raw → (r : Result (List Element) ℕ) (literal : Literal) → pattern_of raw ≡ r → pattern_literal r ≡ Some literal → IsGoodLiteral literal
+good_pattern law raw u (Ok es) literal is e = subst IsGoodLiteral (let same : Pattern es ≡ literal = cc in same) (read_good law raw es u is)
+good_pattern law raw u (Err k) literal is e = absurd (let no : ⊥ = cc in no)
+
+good_plain : (text : List ℕ) (literal : Literal) → Some (literals.Plain text) ≡ Some literal → IsGoodLiteral literal
+good_plain text literal e = subst IsGoodLiteral (let same : literals.Plain text ≡ literal = cc in same) tt
+
+literal_good : SourcesAreRead → (o : Op) (raw : List ℕ) (literal : Literal) → IsUtf8 raw → literal_of o raw ≡ Some literal → IsGoodLiteral literal
+literal_good law Eq raw literal u e = good_pattern law raw u (pattern_of raw) literal refl e
+literal_good law Ne raw literal u e = good_pattern law raw u (pattern_of raw) literal refl e
+literal_good law Lt raw literal u e = good_plain (unescaped false raw) literal e
+literal_good law Le raw literal u e = good_plain (unescaped false raw) literal e
+literal_good law Gt raw literal u e = good_plain (unescaped false raw) literal e
+literal_good law Ge raw literal u e = good_plain (unescaped false raw) literal e
+
+-- what a formula of texts is read as has a canonical text that is read
+pub formula_good : SourcesAreRead → (n : ℕ) (ts : List Token) (q : Query) → WordsAre IsUtf8 ts → IsFormula n ts q → IsProper q
+formula_good law n ts q w h = formula_proper_by IsUtf8 IsGoodBehind (λ o raw literal u e. (read_suits o raw literal e, literal_good law o raw literal u e)) n ts q w h

@@ -1,5 +1,5 @@
 -- What a formula is read as is proper.
-use Rattle.std.proofs.Common.{◌≡◌, ℕ, zero, suc, Bool, true, false, List, [], ◌∷◌, Some, None, refl, sym, ap, ◌∙◌, subst, inl, inr}
+use Rattle.std.proofs.Common.{◌≡◌, ℕ, zero, suc, Bool, true, false, List, [], ◌∷◌, ◌++◌, Some, None, refl, sym, ap, ◌∙◌, subst, inl, inr}
 use Rattle.std.specs.Prelude.{if◌then◌else◌, Result, Ok, Err}
 use Rattle.lq_value.specs.declared.element.Element.{Element}
 use Rattle.lq_value.specs.declared.literal.Literal.{Literal}
@@ -9,11 +9,12 @@ use Rattle.lq_value.specs.declared.op.Op.TheVariants.{Eq, Ne, Lt, Le, Gt, Ge}
 use Rattle.lq_value.specs.Compare.{suits}
 use Rattle.lq_value.specs.Name.{is_attr_name}
 use Rattle.lq_value.specs.Source.{pattern_of}
-use Rattle.lq_formula.specs.Tokens.{Token, ands, ors}
+use Rattle.lq_formula.specs.Tokens.{Token, opens, closes, bang, ands, ors, op, word, lone, cut}
 use Rattle.lq_formula.specs.Query.{Query, queries, both_of, either_of}
 use Rattle.lq_formula.specs.Literals.{literal_of, name_of, pattern_literal, unescaped}
 use Rattle.lq_formula.specs.Grammar.{Reading, Follows, IsAnd, IsOr, IsComparison, IsNot, IsFormula}
 use Rattle.lq_formula.specs.Limits.{AreProperBy, IsProperBy, IsReadBehind}
+use Rattle.lq_formula.specs.Words.{WordIs, WordsAre}
 
 none_some : {A : Type 0} {X : Type 0} (x : A) → None ≡ Some x → X
 none_some x e = cc
@@ -37,7 +38,7 @@ plain_suits : (o : Op) (text : List ℕ) (literal : Literal) → suits (Plain te
 plain_suits o text literal h e = ap (λ l. suits l o) (sym (some_same (Plain text) literal e)) ∙ h
 
 -- a literal that is read suits its operator
-read_suits : (o : Op) (raw : List ℕ) (literal : Literal) → literal_of o raw ≡ Some literal → suits literal o ≡ true
+pub read_suits : (o : Op) (raw : List ℕ) (literal : Literal) → literal_of o raw ≡ Some literal → suits literal o ≡ true
 read_suits Eq raw literal e = pattern_suits Eq (λ es. refl) (pattern_of raw) literal e
 read_suits Ne raw literal e = pattern_suits Ne (λ es. refl) (pattern_of raw) literal e
 read_suits Lt raw literal e = plain_suits Lt (unescaped false raw) literal refl e
@@ -45,47 +46,80 @@ read_suits Le raw literal e = plain_suits Le (unescaped false raw) literal refl 
 read_suits Gt raw literal e = plain_suits Gt (unescaped false raw) literal refl e
 read_suits Ge raw literal e = plain_suits Ge (unescaped false raw) literal refl e
 
-abbrev Good : Query → Type 0
-Good q = IsProperBy IsReadBehind q
+-- ---- where each literal that is read from a word of the tokens is one of W
 
-abbrev AllGood : List Query → Type 0
-AllGood qs = AreProperBy IsReadBehind (queries qs)
+abbrev pub Readers : (List ℕ → Type 0) → (Op → Literal → Type 0) → Type 0
+Readers T W = (o : Op) (raw : List ℕ) (literal : Literal) → T raw → literal_of o raw ≡ Some literal → W o literal
 
--- what P reads is proper
-abbrev Proper : Reading → Type 0
-Proper P = (a : List Token) (q : Query) → P a q → Good q
+-- what P reads of such words is proper
+abbrev Proper : (List ℕ → Type 0) → (Op → Literal → Type 0) → Reading → Type 0
+Proper T W P = (a : List Token) (q : Query) → WordsAre T a → P a q → IsProperBy W q
 
-follows_proper : (P : Reading) → Proper P → (sep : Token) (ts : List Token) (qs : List Query) → Follows P sep ts qs → AllGood qs
-follows_proper P good sep ts [] h = tt
-follows_proper P good sep ts (q ∷ qs) h = (good h.0 q h.3, follows_proper P good sep h.1 qs h.4)
+front_words : (T : List ℕ → Type 0) (a b : List Token) → WordsAre T (a ++ b) → WordsAre T a
+front_words T [] b w = tt
+front_words T (t ∷ a) b w = (w.0, front_words T a b w.1)
 
-both_good : (q : Query) (qs : List Query) → Good q → AllGood qs → Good (both_of (q ∷ qs))
-both_good q [] h k = h
-both_good q (r ∷ qs) h k = (tt, (h, k))
+back_words : (T : List ℕ → Type 0) (a b : List Token) → WordsAre T (a ++ b) → WordsAre T b
+back_words T [] b w = w
+back_words T (t ∷ a) b w = back_words T a b w.1
 
-either_good : (q : Query) (qs : List Query) → Good q → AllGood qs → Good (either_of (q ∷ qs))
-either_good q [] h k = h
-either_good q (r ∷ qs) h k = (tt, (h, k))
+follows_proper : (T : List ℕ → Type 0) (W : Op → Literal → Type 0) (P : Reading) → Proper T W P → (sep : Token) (ts : List Token) (qs : List Query) → WordsAre T ts → Follows P sep ts qs → AreProperBy W (queries qs)
+follows_proper T W P good sep ts [] w h = tt
+follows_proper T W P good sep ts (q ∷ qs) w h =
+    let k = subst (WordsAre T) h.2 w in
+    (good h.0 q (front_words T h.0 h.1 k.1) h.3, follows_proper T W P good sep h.1 qs (back_words T h.0 h.1 k.1) h.4)
 
-and_proper : (P : Reading) → Proper P → Proper (IsAnd P)
-and_proper P good a r h = subst Good (sym h.2) (both_good h.0 h.1 (good h.3.0 h.0 h.3.3) (follows_proper P good ands h.3.1 h.1 h.3.4))
+both_good : (W : Op → Literal → Type 0) (q : Query) (qs : List Query) → IsProperBy W q → AreProperBy W (queries qs) → IsProperBy W (both_of (q ∷ qs))
+both_good W q [] h k = h
+both_good W q (r ∷ qs) h k = (tt, (h, k))
 
-or_proper : (P : Reading) → Proper P → Proper (IsOr P)
-or_proper P good a r h = subst Good (sym h.2) (either_good h.0 h.1 (and_proper P good h.3.0 h.0 h.3.3) (follows_proper (IsAnd P) (and_proper P good) ors h.3.1 h.1 h.3.4))
+either_good : (W : Op → Literal → Type 0) (q : Query) (qs : List Query) → IsProperBy W q → AreProperBy W (queries qs) → IsProperBy W (either_of (q ∷ qs))
+either_good W q [] h k = h
+either_good W q (r ∷ qs) h k = (tt, (h, k))
 
-comparison_proper : Proper IsComparison
-comparison_proper a q h = subst Good (sym h.8) (named h.0 h.3 h.6, (read_suits h.1 h.2 h.4 h.7, (h.2, h.7)))
+and_proper : (T : List ℕ → Type 0) (W : Op → Literal → Type 0) (P : Reading) → Proper T W P → Proper T W (IsAnd P)
+and_proper T W P good a r w h =
+    let k = subst (WordsAre T) h.3.2 w in
+    subst (IsProperBy W) (sym h.2) (both_good W h.0 h.1 (good h.3.0 h.0 (front_words T h.3.0 h.3.1 k) h.3.3) (follows_proper T W P good ands h.3.1 h.1 (back_words T h.3.0 h.3.1 k) h.3.4))
 
-not_proper : (n : ℕ) → Proper (IsNot n)
-not_proper zero a q h = comparison_proper a q h
-not_proper (suc n) a q h = elim h [
-  | inl c ↦ comparison_proper a q c
+or_proper : (T : List ℕ → Type 0) (W : Op → Literal → Type 0) (P : Reading) → Proper T W P → Proper T W (IsOr P)
+or_proper T W P good a r w h =
+    let k = subst (WordsAre T) h.3.2 w in
+    subst (IsProperBy W) (sym h.2) (either_good W h.0 h.1 (and_proper T W P good h.3.0 h.0 (front_words T h.3.0 h.3.1 k) h.3.3) (follows_proper T W (IsAnd P) (and_proper T W P good) ors h.3.1 h.1 (back_words T h.3.0 h.3.1 k) h.3.4))
+
+comparison_proper : (T : List ℕ → Type 0) (W : Op → Literal → Type 0) → Readers T W → Proper T W IsComparison
+comparison_proper T W f a q w h =
+    let k = subst (WordsAre T) h.5 w in
+    subst (IsProperBy W) (sym h.8) (named h.0 h.3 h.6, f h.1 h.2 h.4 k.1.1.0 h.7)
+
+not_proper : (T : List ℕ → Type 0) (W : Op → Literal → Type 0) → Readers T W → (n : ℕ) → Proper T W (IsNot n)
+not_proper T W f zero a q w h = comparison_proper T W f a q w h
+not_proper T W f (suc n) a q w h = elim h [
+  | inl c ↦ comparison_proper T W f a q w c
   | inr g ↦ elim g [
-    | inl p ↦ or_proper (IsNot n) (not_proper n) p.0 q p.2
-    | inr b ↦ subst Good (sym b.3) (not_proper n b.0 b.1 b.4)
+    | inl p ↦ or_proper T W (IsNot n) (not_proper T W f n) p.0 q (front_words T p.0 (closes ∷ []) (subst (WordsAre T) p.1 w).1) p.2
+    | inr b ↦ subst (IsProperBy W) (sym b.3) (not_proper T W f n b.0 b.1 (subst (WordsAre T) b.2 w).1 b.4)
   ]
 ]
 
 -- what a formula is read as is proper
+pub formula_proper_by : (T : List ℕ → Type 0) (W : Op → Literal → Type 0) → Readers T W → (n : ℕ) (ts : List Token) (q : Query) → WordsAre T ts → IsFormula n ts q → IsProperBy W q
+formula_proper_by T W f n ts q w h = or_proper T W (IsNot n) (not_proper T W f n) ts q w h
+
+any_word : (t : Token) → WordIs (λ _. Unit {0}) t
+any_word opens = tt
+any_word closes = tt
+any_word bang = tt
+any_word ands = tt
+any_word ors = tt
+any_word (op o) = tt
+any_word (word raw) = tt
+any_word lone = tt
+any_word cut = tt
+
+any_words : (ts : List Token) → WordsAre (λ _. Unit {0}) ts
+any_words [] = tt
+any_words (t ∷ ts) = (any_word t, any_words ts)
+
 pub formula_proper : (n : ℕ) (ts : List Token) (q : Query) → IsFormula n ts q → IsProperBy IsReadBehind q
-formula_proper n ts q h = or_proper (IsNot n) (not_proper n) ts q h
+formula_proper n ts q h = formula_proper_by (λ _. Unit {0}) IsReadBehind (λ o raw literal u e. (read_suits o raw literal e, (raw, e))) n ts q (any_words ts) h

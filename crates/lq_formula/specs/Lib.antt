@@ -12,3 +12,4 @@ pub mod Limits
 pub mod Laws
 pub mod Capped
 pub mod Sizes
+pub mod Words

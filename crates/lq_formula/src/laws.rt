@@ -4,7 +4,7 @@ ghost use Rattle.lq_formula.specs.Tokens.{HasTokens, Placed, Token, bang, opens,
 ghost use Rattle.lq_formula.specs.Query.{Query};
 ghost use Rattle.lq_formula.specs.Grammar.{IsBegun, IsFormula, nesting};
 ghost use Rattle.lq_formula.specs.Machine.{run, start};
-ghost use Rattle.lq_formula.specs.Laws.{CanonicalIsRead, FaultsAreFound, FormulasAreRead, PatternsAreGood, ReadIsProper};
+ghost use Rattle.lq_formula.specs.Laws.{CanonicalIsRead, FaultsAreFound, FormulasAreRead, PatternsAreGood, ReadIsGood, ReadIsProper};
 
 use lq_value::sources_are_read;
 
@@ -67,6 +67,14 @@ pub fn canonical_is_read()
 pub fn read_is_proper()
     ensures { ReadIsProper }
 {}
+
+/// A query that is read from words of UTF-8 is one whose canonical text reads as it, if that is
+/// within the limits.
+pub fn read_is_good()
+    ensures { ReadIsGood }
+{
+    sources_are_read();
+}
 
 /// A pattern that is read from a text is of characters, its sets have items, and no range of it
 /// falls: so its canonical text is a source of it.

@@ -1,8 +1,10 @@
 //! The tokens of a text, one at a time.
 ghost use Rattle.std.specs.Prelude.{◌≡◌, ◌≤◌, ◌<◌, ◌+◌, ◌^◌, ◌∷◌, [], length, IfSome, IfNone};
 ghost use Rattle.lq_formula.specs.Bytes.{spaces};
+ghost use Rattle.std.specs.Str.{IsUtf8};
+ghost use Rattle.lq_formula.specs.Words.{WordIs};
 ghost use Rattle.lq_formula.specs.Tokens.{Yields, tokens_from, trimmed};
-ghost use Rattle.lq_formula.specs.TokenView.{placed_of};
+ghost use Rattle.lq_formula.specs.TokenView.{placed_of, token_of};
 
 use crate::count::count_spaces;
 use crate::piece::first_piece;
@@ -23,6 +25,9 @@ pub fn next_token<'a>(left: Left<'a>) -> Option<(Placed<'a>, Left<'a>)>
     ensures last { IfNone result (tokens_from left.entry.place left.entry.rest.now ≡ []) }
     ensures first { IfSome result (λ r. tokens_from left.entry.place left.entry.rest.now
         ≡ placed_of r.0 ∷ tokens_from r.1.place r.1.rest.now) }
+
+    // A word is a text.
+    ensures text { IfSome result (λ r. WordIs IsUtf8 (token_of r.0.token)) }
 
     // What is left is the end of the same text, and shorter.
     ensures place { IfSome result (λ r. r.1.place + length r.1.rest.now

@@ -1,7 +1,8 @@
 //! The token that a text begins with, and how many bytes it has.
 ghost use Rattle.std.specs.Prelude.{◌≡◌, ◌≤◌, ◌<◌, ◌⊎◌, length, IfSome, IfNone, true, false, slice_index, drop, pred};
-ghost use Rattle.std.specs.Str.{IsCharBoundary};
+ghost use Rattle.std.specs.Str.{IsCharBoundary, IsUtf8};
 ghost use Rattle.lq_formula.specs.Bytes.{quoted_bytes, word_bytes};
+ghost use Rattle.lq_formula.specs.Words.{WordIs};
 ghost use Rattle.lq_formula.specs.Tokens.{fixed as fixed_front, front_at, is_symbol, longer as longer_front, quoted_front, symbol_front, word_front};
 ghost use Rattle.lq_formula.specs.TokenView.{front_of, token_of};
 
@@ -55,6 +56,7 @@ fn symbol(bytes: &[u8]) -> Option<Piece<'static>>
     ensures bound { IfSome result
         (λ p. (0 < p.size) × (p.size ≤ length bytes.now) × (p.inside ≡ 0)) }
     ensures last { IfSome result (λ p. slice_index bytes.now (pred p.size) < 128) }
+    ensures text { IfSome result (λ p. WordIs IsUtf8 (token_of p.token)) }
 {
     match bytes[0] {
         b'(' => Some(fixed(Token::Opens, 1)),
@@ -78,6 +80,7 @@ fn quoted<'a>(rest: &'a str) -> Piece<'a>
     ensures boundary { IsCharBoundary rest.entry.now result.size }
     ensures some { 0 < result.size }
     ensures inside { result.inside ≤ result.size }
+    ensures text { WordIs IsUtf8 (token_of result.token) }
 {
     let mark = rest.as_bytes()[0];
     let (_, after) = rest.split_at(1);
@@ -105,6 +108,7 @@ fn word<'a>(rest: &'a str) -> Piece<'a>
     ensures boundary { IsCharBoundary rest.entry.now result.size }
     ensures some { 0 < result.size }
     ensures inside { result.inside ≤ result.size }
+    ensures text { WordIs IsUtf8 (token_of result.token) }
 {
     let n = count_word(rest.as_bytes());
     if n == 0 {
@@ -129,6 +133,7 @@ pub(crate) fn first_piece<'a>(rest: &'a str) -> Piece<'a>
     ensures boundary { IsCharBoundary rest.entry.now result.size }
     ensures some { 0 < result.size }
     ensures inside { result.inside ≤ result.size }
+    ensures text { WordIs IsUtf8 (token_of result.token) }
 {
     let bytes = rest.as_bytes();
     if let Some(piece) = symbol(bytes) {

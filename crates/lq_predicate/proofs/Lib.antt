@@ -12,3 +12,4 @@ pub mod LimitLemmas
 pub mod ReadLemmas
 pub mod ExtentLemmas
 pub mod GaugeLemmas
+pub mod StarredLemmas

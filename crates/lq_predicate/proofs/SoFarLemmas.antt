@@ -1,12 +1,14 @@
 -- What is known while a formula is read.
-use Rattle.std.proofs.Common.{◌≡◌, ◌≤◌, ◌<◌, ◌+◌, ◌^◌, ℕ, List, [], ◌∷◌, length, Option, Some, None, refl, sym, ap, ◌∙◌, subst, arith}
+use Rattle.std.proofs.Common.{◌≡◌, ◌≤◌, ◌<◌, ◌+◌, ◌^◌, ℕ, List, [], ◌∷◌, ◌++◌, append_assoc, IsUtf8, length, Option, Some, None, refl, sym, ap, ◌∙◌, subst, arith}
 use Rattle.std.specs.Prelude.{if◌then◌else◌, Result, Err}
 use Rattle.std.proofs.lemmas.Bool.{lt-leb, le-leb}
+use Rattle.std.proofs.lemmas.List.{append-nil}
+use Rattle.lq_formula.specs.Words.{WordIs, WordsAre}
 use Rattle.lq_value.specs.declared.refusal.Refusal.TheVariants.{BadQuery}
-use Rattle.lq_formula.specs.Tokens.{Placed, Yields, tokens_from, tokens_of}
+use Rattle.lq_formula.specs.Tokens.{Placed, Yields, bare, tokens_from, tokens_of}
 use Rattle.lq_formula.specs.Query.{Query}
 use Rattle.lq_formula.specs.Grammar.{nesting}
-use Rattle.lq_formula.specs.Machine.{State, start, step, whole, weight}
+use Rattle.lq_formula.specs.Machine.{Frame, State, empty_frame, operand, start, step, whole, weight}
 use Rattle.lq_formula.specs.Faults.{most_bytes, most_comparisons}
 use Rattle.lq_formula.specs.Reading.{after_token, fault_place, finished, read_tokens, reading_of, word_count}
 use Rattle.lq_predicate.specs.MachineView.{pattern_fault}
@@ -30,6 +32,10 @@ starts text s h e = record {
   short = h;
   room = omega arith;
 }
+
+-- nothing is begun
+pub begun : (below : List Frame) (top : Frame) → below ≡ [] → top ≡ empty_frame → record { below = below; top = top; place = operand; room = 64 } ≡ start nesting
+begun below top e f = ap (λ b. record { below = b; top = top; place = operand; room = 64 }) e ∙ ap (λ t. record { below = []; top = t; place = operand; room = 64 }) f
 
 -- one token, and the others behind it
 one_token : (end : ℕ) (s : State) (count : ℕ) (t : Placed) (ts : List Placed)
@@ -90,3 +96,27 @@ module _ (text : List ℕ) (place : ℕ) (rest : List ℕ) (s : State) (count : 
   place_fits t next behind k y total f =
       let bound = pattern_place-bound place rest t next behind s.place k y total f in
       omega (arith, bound, h.room, h.short)
+
+-- ---- the words that are read are texts
+
+pub record TextsSoFar (text : List ℕ) (place : ℕ) (rest : List ℕ) : Type 0 where
+  pub front : List Placed
+  pub split : tokens_of text ≡ front ++ tokens_from place rest
+  pub texts : WordsAre IsUtf8 (bare front)
+
+pub no_texts : (text : List ℕ) → TextsSoFar text 0 text
+no_texts text = record { front = []; split = refl; texts = tt }
+
+words-push : (ts : List Placed) (t : Placed) → WordsAre IsUtf8 (bare ts) → WordIs IsUtf8 t.token → WordsAre IsUtf8 (bare (ts ++ t ∷ []))
+words-push [] t w h = (h, tt)
+words-push (u ∷ ts) t w h = (w.0, words-push ts t w.1 h)
+
+pub one_text : (text : List ℕ) (place : ℕ) (rest : List ℕ) → TextsSoFar text place rest → (t : Placed) (next : ℕ) (behind : List ℕ) → tokens_from place rest ≡ t ∷ tokens_from next behind → WordIs IsUtf8 t.token → TextsSoFar text next behind
+one_text text place rest s t next behind e h = record {
+  front = s.front ++ t ∷ [];
+  split = s.split ∙ ap (λ ts. s.front ++ ts) e ∙ sym (append_assoc s.front (t ∷ []) (tokens_from next behind));
+  texts = words-push s.front t s.texts h;
+}
+
+pub all_texts : (text : List ℕ) (place : ℕ) (rest : List ℕ) → TextsSoFar text place rest → tokens_from place rest ≡ [] → WordsAre IsUtf8 (bare (tokens_of text))
+all_texts text place rest s e = subst (λ ts. WordsAre IsUtf8 (bare ts)) (sym (s.split ∙ ap (λ ts. s.front ++ ts) e ∙ append-nil s.front)) s.texts

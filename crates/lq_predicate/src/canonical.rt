@@ -3,20 +3,24 @@ ghost use Rattle.std.specs.Prelude.{◌≡◌, None, IfOk, IsTrue};
 ghost use Rattle.std.specs.String.{string_bytes};
 ghost use Rattle.lq_value.specs.Refusal.{IsRefusedBy};
 ghost use Rattle.lq_formula.specs.Canonical.{canonical};
+ghost use Rattle.lq_formula.specs.Faults.{Reads};
 ghost use Rattle.lq_predicate.specs.Limits.{is_predicate};
 
 use crate::predicate::Predicate;
+use lq_formula::canonical_is_read;
 use lq_value::Refusal;
 use std::alloc::Global;
 
 /// The canonical text of a predicate: each comparison, `And` and `Or` in parentheses, each literal
 /// between `"` marks, and no white space but what names and literals have. It has at most 4,096
-/// bytes, as the predicate is within its limits. Refused: `NoMemory`.
+/// bytes, as the predicate is within its limits, and reads as that predicate. Refused: `NoMemory`.
 pub fn write(alloc: Global, predicate: &Predicate) -> Result<String, Refusal>
     ensures valid { IsTrue (is_predicate predicate.now) }
     ensures value { IfOk result (λ text. string_bytes text ≡ canonical predicate.now) }
+    ensures reads { IfOk result (λ text. Reads (string_bytes text) predicate.now) }
     ensures refused { IsRefusedBy result None }
 {
+    canonical_is_read();
     let mut out = String::new(alloc);
     predicate.tree().put(&mut out)?;
     Ok(out)

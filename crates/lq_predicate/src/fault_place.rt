@@ -122,7 +122,24 @@ mod tests {
         ("a=", "[a-]", 818, "", Some(3274)),
     ];
 
-    fn refusal(alloc: Global, formula: &str) -> Option<u64> {
+    // A piece so often, between two others.
+    fn filled(
+        alloc: Global,
+        front: &str,
+        piece: &str,
+        count: usize,
+        behind: &str,
+    ) -> Result<String, Fail> {
+        let mut text = String::from_str(alloc, front)?;
+        for _ in 0..count {
+            text.push_str(piece)?;
+        }
+        text.push_str(behind)?;
+        Ok(text)
+    }
+
+    // The place of the fault for which a formula is refused.
+    fn refused_at(alloc: Global, formula: &str) -> Option<u64> {
         match read(alloc, formula) {
             Err(Refusal::BadQuery { place }) => Some(place),
             _ => None,
@@ -133,14 +150,13 @@ mod tests {
     fn a_fault_has_one_place_with_memory_and_without(rt: HostRuntime) -> Result<(), Fail> {
         for (formula, place) in FORMULAS {
             assert_eq!(rt; fault_place(formula), place, "{formula}");
-            assert_eq!(rt; refusal(rt.alloc(), formula), place, "{formula}");
+            assert_eq!(rt; refused_at(rt.alloc(), formula), place, "{formula}");
         }
         for (front, piece, count, behind, place) in LIMITS {
-            let pieces = piece.repeat(rt.alloc(), count)?;
-            let formula = format!(in rt.alloc(); "{front}{pieces}{behind}")?;
+            let formula = filled(rt.alloc(), front, piece, count, behind)?;
             assert_eq!(rt; fault_place(formula.as_str()), place, "{count} of {piece}");
             assert_eq!(rt;
-                refusal(rt.alloc(), formula.as_str()),
+                refused_at(rt.alloc(), formula.as_str()),
                 place,
                 "{count} of {piece}"
             );

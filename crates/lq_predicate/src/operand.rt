@@ -1,8 +1,9 @@
 //! A text on the stack.
-ghost use Rattle.std.specs.Prelude.{◌≡◌, None, IfOk};
+ghost use Rattle.std.specs.Prelude.{◌≡◌, None, IfOk, IfSome};
 ghost use Rattle.std.specs.Option.{option_copied};
 ghost use Rattle.lq_value.specs.Refusal.{IsRefusedBy};
 
+use lq_formula::patterns_are_good;
 use lq_value::{Pattern, Refusal, Text};
 use std::alloc::Global;
 use std::marker::Model;
@@ -18,17 +19,20 @@ pub struct Operand {
 }
 
 impl Model for Operand {
-    ghost use Rattle.std.specs.Prelude.{◌≡◌, ℕ, List};
+    ghost use Rattle.std.specs.Prelude.{◌≡◌, ℕ, List, IfSome};
+    ghost use Rattle.lq_formula.specs.Limits.{IsGoodPattern};
     ghost use Rattle.lq_predicate.specs.Operand.{pattern_in};
 
     ghost Value = { List ℕ };
 
     ghost view = { λ operand. operand.text };
 
-    ghost invariant = { λ operand. operand.pattern ≡ pattern_in operand.text };
+    ghost invariant = { λ operand. (operand.pattern ≡ pattern_in operand.text)
+        × IfSome operand.pattern IsGoodPattern };
 }
 
 impl Operand {
+    ghost use Rattle.lq_formula.specs.Limits.{IsGoodPattern};
     ghost use Rattle.lq_predicate.specs.Operand.{pattern_in};
 
     /// The operand with this text. Refused: `NoMemory`.
@@ -36,6 +40,7 @@ impl Operand {
         ensures refused { IsRefusedBy result None }
         ensures value { IfOk result (λ operand. operand ≡ text.now) }
     {
+        patterns_are_good();
         let pattern = match Pattern::read(alloc, text) {
             Ok(pattern) => Some(pattern),
             Err(Refusal::NoMemory) => return Err(Refusal::NoMemory),
@@ -56,7 +61,8 @@ impl Operand {
 
     /// The pattern that the text writes, if it writes one. It takes no memory.
     pub fn pattern(&self) -> Option<&Pattern>
-        ensures { option_copied result ≡ pattern_in self.now }
+        ensures value { option_copied result ≡ pattern_in self.now }
+        ensures good { IfSome result (λ pattern. IsGoodPattern pattern.now) }
     {
         self.pattern.as_ref()
     }

@@ -13,7 +13,8 @@ use std::marker::Model;
 ///
 /// Each literal suits its operator, and each list has two parts or more. Its depth is at most 64 (a
 /// comparison has depth 1, every other predicate 1 more than its deepest part), it has at most 256
-/// comparisons, and its canonical text has at most 4,096 bytes. A contract sees it as a `Query`.
+/// comparisons, and its canonical text has at most 4,096 bytes and reads as it. A contract sees it
+/// as a `Query`.
 #[derive(Debug, Drop)]
 pub struct Predicate {
     tree: Tree,
@@ -23,6 +24,7 @@ impl Model for Predicate {
     ghost use Rattle.std.specs.Prelude.{IsTrue};
     ghost use Rattle.lq_formula.specs.Query.{Query};
     ghost use Rattle.lq_predicate.specs.QueryCode.{coded_query};
+    ghost use Rattle.lq_formula.specs.Limits.{IsProper};
     ghost use Rattle.lq_predicate.specs.Limits.{is_predicate};
 
     ghost Value = { Query };
@@ -31,12 +33,13 @@ impl Model for Predicate {
 
     ghost view = { λ p. p.tree };
 
-    ghost invariant = { λ p. IsTrue (is_predicate p.tree) };
+    ghost invariant = { λ p. IsTrue (is_predicate p.tree) × IsProper p.tree };
 }
 
 impl Predicate {
     ghost use Rattle.lq_formula.specs.Query.{Compare};
     ghost use Rattle.lq_formula.specs.Canonical.{comparisons};
+    ghost use Rattle.lq_formula.specs.Limits.{IsProper};
     ghost use Rattle.lq_predicate.specs.Limits.{is_formed, is_predicate, is_within};
 
     /// Another predicate that is the same. Refused: `NoMemory`.
@@ -53,6 +56,7 @@ impl Predicate {
     pub(crate) fn compare(attr: AttrName, op: Op, literal: Literal) -> Predicate
         requires suits { IsTrue (suits literal op) }
         requires within { IsTrue (is_within (Compare attr op literal)) }
+        requires proper { IsProper (Compare attr op literal) }
         ensures { result ≡ Compare attr op literal }
     {
         Predicate {
@@ -62,7 +66,8 @@ impl Predicate {
 
     // The predicate that a tree within the limits is.
     pub(crate) fn of(tree: Tree) -> Predicate
-        requires { IsTrue (is_predicate tree) }
+        requires valid { IsTrue (is_predicate tree) }
+        requires proper { IsProper tree }
         ensures { result ≡ tree }
     {
         Predicate { tree }
@@ -74,6 +79,7 @@ impl Predicate {
         ensures valid { IsTrue (is_predicate self.now) }
         ensures formed { IsTrue (is_formed self.now) }
         ensures few { comparisons self.now ≤ 256 }
+        ensures proper { IsProper self.now }
     {
         &self.tree
     }

@@ -1,7 +1,10 @@
 //! Reading a formula.
-ghost use Rattle.std.specs.Prelude.{◌≡◌, ◌≤◌, ◌<◌, ◌+◌, ◌^◌, ◌⊎◌, ℕ, length, None, Some, Ok, Err, IfOk, IfErr, unwrap_or};
+ghost use Rattle.std.specs.Prelude.{◌≡◌, ◌≤◌, ◌<◌, ◌+◌, ◌^◌, ◌⊎◌, ℕ, length, None, Some, Ok, Err, IfOk, IfErr, OnOk, unwrap_or};
 ghost use Rattle.lq_formula.specs.Faults.{Reads, IsFaulty};
 ghost use Rattle.lq_formula.specs.Reading.{finished, reading_of, word_count};
+ghost use Rattle.std.specs.Str.{IsUtf8};
+ghost use Rattle.lq_formula.specs.Tokens.{bare, tokens_of};
+ghost use Rattle.lq_formula.specs.Words.{WordsAre};
 ghost use Rattle.lq_formula.specs.TokenView.{placed_of, token_of};
 ghost use Rattle.lq_value.specs.declared.refusal.Refusal.TheVariants.{BadQuery, NoMemory};
 ghost use Rattle.lq_value.specs.Refusal.{IsRefusedBy};
@@ -13,7 +16,9 @@ use crate::machine::{Machine, Spot, end_of, new_frame, read_token};
 use crate::predicate::Predicate;
 use crate::step_fault::StepFault;
 use crate::tree::Tree;
-use lq_formula::{Left, Placed, Token, faults_are_found, formulas_are_read, next_token};
+use lq_formula::{
+    Left, Placed, Token, faults_are_found, formulas_are_read, next_token, read_is_good,
+};
 use lq_value::Refusal;
 use std::alloc::Global;
 
@@ -84,6 +89,7 @@ fn read_within(alloc: Global, formula: &str) -> Result<Predicate, Refusal>
         return Err(refused_at(formula.len()));
     }
     formulas_are_read();
+    read_is_good();
     Ok(Predicate::of(tree))
 }
 
@@ -92,6 +98,7 @@ fn read_whole(alloc: Global, text: &str) -> Result<Tree, Refusal>
     requires { length text.now ≤ 4096 }
     ensures value { IfOk result
         (λ tree. reading_of text.now ≡ finished (length text.now) (Some tree)) }
+    ensures texts { OnOk result (WordsAre IsUtf8 (bare (tokens_of text.now))) }
     ensures refused { IsRefusedOrFails result (refusal_of (reading_of text.now)) }
 {
     let mut machine = Machine {

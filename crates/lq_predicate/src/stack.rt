@@ -3,6 +3,7 @@ ghost use Rattle.std.specs.Prelude.{◌≡◌, ◌∷◌, ◌+◌, ◌<◌, ◌�
 ghost use Rattle.std.specs.Fmt.{decimal, signed_decimal};
 ghost use Rattle.lq_value.specs.Refusal.{IsRefusedBy};
 ghost use Rattle.lq_formula.specs.Query.{And, Or, both_of, either_of};
+ghost use Rattle.lq_formula.specs.Limits.{IsProper};
 ghost use Rattle.lq_predicate.specs.Limits.{is_predicate};
 ghost use Rattle.lq_predicate.specs.Stacked.{Stacked, new_stack};
 ghost use Rattle.lq_predicate.specs.Stack.{pushed, attr_pushed, text_pushed, op_pushed, after_comparison, after_join, after_not, only_part, refusal_at};
@@ -288,6 +289,8 @@ impl Stack {
             ≡ Some (Part (either_of parts.items) ∷ drop 2 self.now.items)) }
         ensures and_valid { IfOk result (λ parts. IsTrue (is_predicate (both_of parts.items))) }
         ensures or_valid { IfOk result (λ parts. IsTrue (is_predicate (either_of parts.items))) }
+        ensures and_proper { IfOk result (λ parts. IsProper (both_of parts.items)) }
+        ensures or_proper { IfOk result (λ parts. IsProper (either_of parts.items)) }
         ensures there { OnOk result (2 ≤ length self.now.items) }
     {
         let alloc = *self.items.allocator();

@@ -62,6 +62,7 @@ impl AttrName {
     pub fn copy(&self, alloc: Global) -> Result<AttrName, Refusal>
         ensures refused { IsRefusedBy result None }
         ensures value { IfOk result (λ name. name ≡ self.now) }
+        ensures valid { IfOk result (λ name. IsTrue (is_attr_name name)) }
     {
         Ok(AttrName {
             text: String::from_str(alloc, self.text.as_str())?,
