@@ -87,8 +87,9 @@ pub record PrintsFront (formula : List ℕ) (written written' : Option (List ℕ
   pub reads : Reads formula query
   pub appended : WritesFront (line_with (canonical query)) written written'
 
--- What each fault says: the reader failed, and just the lines that LF ended are answered; the
--- writer failed, or took nothing of some bytes; a limit was met, and likewise; none has no thread.
+-- What each fault says. Read: the reader failed, and just the lines that LF ended are answered.
+-- Write: the writer failed, or took nothing of some bytes. Limit: a limit was met, and just the lines
+-- before it that LF ended are answered. No thread is started.
 abbrev pub IsFaultOf : RunFault → Option (List ℕ) → Option (List ℕ) → Bool
     → Option (List ℕ) → Option (List ℕ) → Bool → Bool → Type 0
 IsFaultOf Read left left' fails written written' failed stalled =
