@@ -60,7 +60,7 @@ fn follow(
     rebuild: &mut Rebuild,
 ) -> Result<u32, Refusal> {
     let mut seq = 1;
-    for act in ACTS {
+    for act in &ACTS {
         let change = again!(act.change(alloc))?;
         seq = tell(alloc, predicate, volume, rebuild, seq, &change)?;
         again!(volume.apply(&change))?;

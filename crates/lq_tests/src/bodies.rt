@@ -149,10 +149,10 @@ fn over_examples(alloc: Global) -> Result<Tally, Refusal> {
         messages: 0,
         unlike: 0,
     };
-    for acts in EXAMPLES {
+    for acts in &EXAMPLES {
         let mut volume = Volume::new(alloc, 99);
         for act in acts {
-            make(alloc, &mut tally, &predicates, &mut volume, act)?;
+            make(alloc, &mut tally, &predicates, &mut volume, *act)?;
         }
     }
     Ok(tally)
