@@ -66,10 +66,10 @@ pattern_number es = option_and_then (λ cs. number_of (encode_utf8_all cs)) (pla
 
 -- the elements that a form of them stands for
 abbrev pub elements_of : Form → List Element
-elements_of (PlainText text) = plain_elements (chars (string_bytes text))
+elements_of (PlainText text number) = plain_elements (chars (string_bytes text))
 elements_of (Elements elements) = elements.items
 
--- a form is a text just where all elements are plain
+-- a form is a text just where all elements are plain, and has the number that it writes
 abbrev pub IsTextIfPlain : Form → Type 0
-IsTextIfPlain (PlainText text) = Unit {0}
+IsTextIfPlain (PlainText text number) = number ≡ pattern_number (plain_elements (chars (string_bytes text)))
 IsTextIfPlain (Elements elements) = plain_chars elements.items ≡ None

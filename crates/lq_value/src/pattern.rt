@@ -28,8 +28,8 @@ pub struct Pattern {
 // How the elements are kept.
 #[derive(Debug, Drop)]
 pub(crate) enum Form {
-    // The text of plain elements, which compares and writes a number by its bytes.
-    PlainText(String),
+    // The text of plain elements, which compares by its bytes, and the number that it writes.
+    PlainText { text: String, number: Option<i128> },
     // Elements that are not all plain.
     Elements(Vec<Element>),
 }
@@ -62,9 +62,7 @@ impl Pattern {
         ensures refused { IsRefusedBy result None }
         ensures value { IfOk result (λ pattern. pattern ≡ plain_elements (chars text.now)) }
     {
-        Ok(Pattern {
-            form: Form::PlainText(String::from_str(alloc, text)?),
-        })
+        Ok(plain_pattern(String::from_str(alloc, text)?))
     }
 
     /// The pattern that a source text writes.
@@ -92,9 +90,7 @@ impl Pattern {
         ensures value { IfOk result (λ pattern. pattern ≡ elements.items) }
     {
         match plain_text(alloc, elements.as_slice())? {
-            Some(text) => Ok(Pattern {
-                form: Form::PlainText(text),
-            }),
+            Some(text) => Ok(plain_pattern(text)),
             None => Ok(Pattern {
                 form: Form::Elements(elements),
             }),
@@ -106,7 +102,7 @@ impl Pattern {
         ensures { elements_shown result ≡ self.now }
     {
         match &self.form {
-            Form::PlainText(plain) => Elements::Text(plain.as_str()),
+            Form::PlainText { text, .. } => Elements::Text(text.as_str()),
             Form::Elements(elements) => Elements::List(elements.as_slice()),
         }
     }
@@ -119,7 +115,7 @@ impl Pattern {
         ensures split { IsTrue result ↔ Fits self.now (chars text.now) }
     {
         match &self.form {
-            Form::PlainText(plain) => fits_plain(plain.as_str(), text),
+            Form::PlainText { text: plain, .. } => fits_plain(plain.as_str(), text),
             Form::Elements(elements) => fits_text(Left {
                 elements: elements.as_slice(),
                 text,
@@ -133,7 +129,7 @@ impl Pattern {
         ensures { result ≡ pattern_number self.now }
     {
         match &self.form {
-            Form::PlainText(plain) => plain_number(plain.as_str()),
+            Form::PlainText { number, .. } => *number,
             Form::Elements(_) => None,
         }
     }
@@ -144,11 +140,26 @@ impl Pattern {
         ensures value { IfOk result (λ pattern. pattern ≡ self.now) }
     {
         match &self.form {
-            Form::PlainText(plain) => Pattern::plain(alloc, plain.as_str()),
+            Form::PlainText { text, number } => Ok(Pattern {
+                form: Form::PlainText {
+                    text: String::from_str(alloc, text.as_str())?,
+                    number: *number,
+                },
+            }),
             Form::Elements(elements) => Ok(Pattern {
                 form: Form::Elements(copy_elements(alloc, elements.as_slice())?),
             }),
         }
+    }
+}
+
+// The pattern whose elements are the characters of a text.
+fn plain_pattern(text: String) -> Pattern
+    ensures { result ≡ plain_elements (chars (string_bytes text)) }
+{
+    let number = plain_number(text.as_str());
+    Pattern {
+        form: Form::PlainText { text, number },
     }
 }
 

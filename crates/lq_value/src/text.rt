@@ -14,15 +14,20 @@ use std::marker::Model;
 #[derive(Debug, Drop)]
 pub struct Text {
     text: String,
+    // The whole number that the text writes, kept since it is compared often.
+    number: Option<i128>,
 }
 
 impl Model for Text {
-    ghost use Rattle.std.specs.Prelude.{ℕ, List};
+    ghost use Rattle.std.specs.Prelude.{◌≡◌, ℕ, List};
     ghost use Rattle.std.specs.String.{string_bytes};
+    ghost use Rattle.lq_value.specs.Number.{number_of};
 
     ghost Value = { List ℕ };
 
     ghost view = { λ text. string_bytes text.text };
+
+    ghost invariant = { λ text. text.number ≡ number_of (string_bytes text.text) };
 }
 
 impl Text {
@@ -32,7 +37,8 @@ impl Text {
     pub fn new(text: String) -> Text
         ensures { result ≡ string_bytes text }
     {
-        Text { text }
+        let number = number_of_bytes(text.as_bytes());
+        Text { text, number }
     }
 
     /// The bytes as a `str`. It takes no memory.
@@ -46,7 +52,7 @@ impl Text {
     pub fn into_string(self) -> String
         ensures { string_bytes result ≡ self }
     {
-        let Text { text } = self;
+        let Text { text, number: _ } = self;
         text
     }
 
@@ -57,6 +63,7 @@ impl Text {
     {
         Ok(Text {
             text: String::from_str(alloc, self.text.as_str())?,
+            number: self.number,
         })
     }
 
@@ -65,6 +72,6 @@ impl Text {
     pub fn number(&self) -> Option<i128>
         ensures { result ≡ number_of self.now }
     {
-        number_of_bytes(self.text.as_bytes())
+        self.number
     }
 }
