@@ -1,5 +1,5 @@
 -- The attributes of an entry: names with their values, in the order in which they were first set.
-use Rattle.std.specs.Prelude.{◌≡◌, ℕ, pos, List, [], ◌∷◌, Bool, false, not, ◌||◌, filter, codes, Option}
+use Rattle.std.specs.Prelude.{◌≡◌, ℕ, pos, List, [], ◌∷◌, Bool, false, not, ◌||◌, filter, codes, Option, None, Some}
 use Rattle.std.specs.List.{AllByRecursion}
 use Rattle.std.specs.Map.{lookup}
 use Rattle.std.specs.Str.{bytes_eq}
@@ -10,6 +10,11 @@ use Rattle.lq_value.specs.declared.value.Value.TheVariants as value
 
 abbrev pub Attributes : Type 0
 Attributes = List (List ℕ × Value)
+
+-- those that are kept, if any are
+abbrev pub attributes_in : Option Attributes → Attributes
+attributes_in None = []
+attributes_in (Some attrs) = attrs
 
 -- no name comes twice
 abbrev pub HasOwnNames : Attributes → Type 0

@@ -9,6 +9,7 @@ ghost use Rattle.std.specs.Option.{option_copied, option_map};
 ghost use Rattle.std.specs.Str.{bytes_eq};
 ghost use Rattle.std.proofs.Common.{ap, rules};
 ghost use Rattle.lq_value.specs.Refusal.{IsRefusedBy};
+ghost use Rattle.lq_volume.specs.Attributes.{without_attr};
 
 use indexmap::{Equivalent, IndexMap};
 use lq_value::{AttrName, Refusal, Value};
@@ -71,15 +72,18 @@ impl Equivalent<Key> for &str {
 /// A contract sees them as the list of their names and values.
 #[derive(Debug, Drop)]
 pub struct Attributes {
-    map: IndexMap<Key, Value>,
+    alloc: Global,
+    // Most entries have none: they keep no map.
+    map: Option<Box<IndexMap<Key, Value>>>,
 }
 
 impl Model for Attributes {
-    ghost use Rattle.lq_volume.specs.Attributes.{Attributes as List};
+    ghost use Rattle.std.specs.Option.{option_map};
+    ghost use Rattle.lq_volume.specs.Attributes.{Attributes as List, attributes_in};
 
     ghost Value = { List };
 
-    ghost view = { λ a. a.map.entries };
+    ghost view = { λ a. attributes_in (option_map (λ m. m.value.entries) a.map) };
 }
 
 impl Attributes {
@@ -89,31 +93,38 @@ impl Attributes {
     pub fn new(alloc: Global) -> Attributes
         ensures { result ≡ [] }
     {
-        Attributes {
-            map: IndexMap::new(alloc),
-        }
+        Attributes { alloc, map: None }
     }
 
     pub fn len(&self) -> usize
         ensures { result ≡ length self.now }
     {
-        self.map.len()
+        match &self.map {
+            None => 0,
+            Some(map) => map.len(),
+        }
     }
 
     /// The value of an attribute.
     pub fn get(&self, attr: &AttrName) -> Option<&Value>
         ensures { option_copied result ≡ value_of self.now attr.now }
     {
-        self.map.get(attr.as_str())
+        match &self.map {
+            None => None,
+            Some(map) => map.get(attr.as_str()),
+        }
     }
 
     /// The name and value at a place, counted from 0.
     pub fn at(&self, place: usize) -> Option<(&AttrName, &Value)>
         ensures { option_map deref_pair result ≡ slice_get self.now place }
     {
-        match self.map.get_index(place) {
+        match &self.map {
             None => None,
-            Some((key, value)) => Some((&key.name, value)),
+            Some(map) => match map.get_index(place) {
+                None => None,
+                Some((key, value)) => Some((&key.name, value)),
+            },
         }
     }
 
@@ -123,7 +134,17 @@ impl Attributes {
         ensures ok { OnOk result (self.new ≡ with_attr self.old attr value) }
         ensures err { OnErr result (self.new ≡ self.old) }
     {
-        self.map.insert(Key { name: attr }, value)?;
+        let key = Key { name: attr };
+        match &mut self.map {
+            Some(map) => {
+                map.insert(key, value)?;
+            }
+            None => {
+                let mut map = IndexMap::new(self.alloc);
+                map.insert(key, value)?;
+                self.map = Some(Box::new(self.alloc, map)?);
+            }
+        }
         Ok(())
     }
 
@@ -131,8 +152,9 @@ impl Attributes {
     pub fn unset(&mut self, attr: &AttrName)
         ensures { self.new ≡ without_attr self.old attr.now }
     {
-        let _ = self.map.len();
-        self.map.shift_remove(attr.as_str());
+        if let Some(map) = &mut self.map {
+            take_out(map, attr);
+        }
     }
 
     /// The same attributes in the same order. Refused: `NoMemory`.
@@ -140,11 +162,10 @@ impl Attributes {
         ensures refused { IsRefusedBy result None }
         ensures value { IfOk result (λ copy. copy ≡ self.now) }
     {
-        let mut copy = Attributes::new(alloc);
-        for (key, value) in &self.map {
-            copy.set(key.name.copy(alloc)?, value.copy(alloc)?)?;
+        match &self.map {
+            None => Ok(Attributes::new(alloc)),
+            Some(map) => Ok(copied(alloc, map)?),
         }
-        Ok(copy)
     }
 
     /// The names and values, copied, in order. Refused: `NoMemory`.
@@ -152,10 +173,38 @@ impl Attributes {
         ensures refused { IsRefusedBy result None }
         ensures value { IfOk result (λ list. list.items ≡ self.now) }
     {
-        let mut list = Vec::new(alloc);
-        for (key, value) in &self.map {
-            list.push((key.name.copy(alloc)?, value.copy(alloc)?))?;
+        match &self.map {
+            None => Ok(Vec::new(alloc)),
+            Some(map) => Ok(listed(alloc, map)?),
         }
-        Ok(list)
     }
+}
+
+fn take_out(map: &mut IndexMap<Key, Value>, attr: &AttrName)
+    ensures { map.new.entries ≡ without_attr map.old.entries attr.now }
+{
+    let _ = map.len();
+    map.shift_remove(attr.as_str());
+}
+
+fn copied(alloc: Global, map: &IndexMap<Key, Value>) -> Result<Attributes, Refusal>
+    ensures refused { IsRefusedBy result None }
+    ensures value { IfOk result (λ copy. copy ≡ map.now.entries) }
+{
+    let mut copy = Attributes::new(alloc);
+    for (key, value) in map {
+        copy.set(key.name.copy(alloc)?, value.copy(alloc)?)?;
+    }
+    Ok(copy)
+}
+
+fn listed(alloc: Global, map: &IndexMap<Key, Value>) -> Result<Vec<(AttrName, Value)>, Refusal>
+    ensures refused { IsRefusedBy result None }
+    ensures value { IfOk result (λ list. list.items ≡ map.now.entries) }
+{
+    let mut list = Vec::new(alloc);
+    for (key, value) in map {
+        list.push((key.name.copy(alloc)?, value.copy(alloc)?))?;
+    }
+    Ok(list)
 }
