@@ -1,4 +1,6 @@
 //! The tokens of a board: its keeper and its seats.
+ghost use Rattle.std.specs.Prelude.{◌≡◌, ◌<◌};
+
 use crate::views::View;
 use std::marker::Model;
 
@@ -47,4 +49,14 @@ impl<M> Model for Seat<M> {
     ghost invariant = { λ s. IsSitting (me_of s.token)
         × (s.slot ≡ (sitting_of (me_of s.token).0).slot)
         × (s.slot < 65) };
+}
+
+impl<M> Seat<M> {
+    /// Its slot, 1 to 64, or 0 for a seat of no slot. It takes no memory.
+    pub fn slot(&self) -> u64
+        ensures value { result ≡ self.now.slot }
+        ensures within { result < 65 }
+    {
+        self.slot
+    }
 }

@@ -1,0 +1,3 @@
+pub mod TellLemmas
+
+pub mod Crossing

@@ -1,0 +1,15 @@
+-- A reader lends its seat.
+use Rattle.std.specs.Borrow.{Lends, MutBor, Fml}
+use Rattle.lq_board.specs.Token.{SeatToken}
+use Rattle.lq_board.specs.contracts.tokens.Seat as seat
+use Rattle.lq_subscription.specs.declared.identity.Identity.{Identity}
+use Rattle.lq_subscription.specs.contracts.identity.Identity as identity
+use Rattle.lq_server.specs.Hold.{ReaderHold}
+use Rattle.lq_server.specs.contracts.reader.Reader as reader
+
+abbrev pub with_seat : ReaderHold → SeatToken Identity → ReaderHold
+with_seat r s = record { reading = r.reading; seat = s; slot = r.slot; asked = r.asked }
+
+-- the reader ends with the last seat behind s
+abbrev pub LendsSeat : MutBor ReaderHold → MutBor (SeatToken Identity) → Fml
+LendsSeat r s = Lends reader.the_row (seat.the_row identity.the_row) r s (with_seat r.now)

@@ -1,0 +1,5 @@
+pub mod Hold
+pub mod Own
+pub mod Syncing
+pub mod Retired
+pub mod Lending

@@ -1,0 +1,3 @@
+pub mod SlotLemmas
+pub mod SyncLemmas
+pub mod OpenLemmas

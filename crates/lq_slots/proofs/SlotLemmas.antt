@@ -1,0 +1,201 @@
+-- The slots under the lock, one or all.
+use Rattle.std.proofs.Common.{◌≡◌, ◌≢◌, ℕ, zero, suc, ◌+◌, ◌-◌, ◌*◌, ◌<◌, ◌≤◌, ◌^◌, ◌⊎◌, ⊎_elim, Bool, true, false, true≢false, List, [], ◌∷◌, ◌++◌, length, take, Option, Some, None, refl, sym, ap, ◌∙◌, subst, arith, append_assoc, length-append, length-set, get_or-set_same, get_or-set_other, slice_set}
+use Rattle.std.specs.Prelude.{IfSome, IsSome, IsSomeAnd, replicate}
+use Rattle.std.proofs.lemmas.List.{get_or-replicate, length-replicate, take-append-le, take_all}
+use mathlib.Core.Logic.{dite}
+use native.Mathlib.Decide.{ℕ_discrete}
+use Rattle.lq_volume.specs.State.{State}
+use Rattle.lq_volume.specs.declared.change.Change.{Change}
+use Rattle.lq_volume.specs.Change.{IsLawful}
+use Rattle.lq_volume.specs.Book.{Book, grown, state_of}
+use Rattle.lq_board.specs.declared.views.Slot.{Slot as Known}
+use Rattle.lq_board.specs.Book.{IsFullBook}
+use Rattle.lq_board.specs.Slot.{slot_at, unused, unused_slots, counted, gone_out, come_back}
+use Rattle.lq_board.specs.Token.{KeeperToken}
+use Rattle.lq_update.specs.declared.message.Message.{Message}
+use Rattle.lq_update.specs.declared.mark.Mark.{Mark}
+use Rattle.lq_update.specs.declared.parcel.Parcel.{Parcel}
+use Rattle.lq_update.specs.declared.parcel.Parcel.TheVariants.{Update, Fin}
+use Rattle.lq_port.specs.End.{End, all_put}
+use Rattle.lq_subscription.specs.declared.delivery.Delivery.{Delivery}
+use Rattle.lq_subscription.specs.declared.delivery.Opening.{Opening}
+use Rattle.lq_subscription.specs.declared.identity.Identity.{Identity}
+use Rattle.lq_subscription.specs.declared.subscription.Subscription.{Subscription}
+use Rattle.lq_subscription.specs.Rule.{message_of, mark_or, messages_in, mark_in}
+use Rattle.lq_subscription.specs.Marking.{hung_mark}
+use Rattle.lq_subscription.specs.Identity.{identity_of, port_id}
+use Rattle.lq_subscription.specs.Standing.{StandsAt, IsFilled, IsStuck, IsOut, IsDrained, SameButPuts, SameButHeld}
+use Rattle.lq_subscription.proofs.PutLemmas.{not_moved}
+use Rattle.lq_slots.specs.Slots.{IsTaken, SlotStands, slot_in, AllStand, OnlyAt, IsReadyAt, AllReady, before_of, IsGrown, PartlyTold}
+
+-- ---- one slot
+
+pub few_sent : (s : Subscription) (book : Book) → StandsAt s book → s.sub.held.sent < 2 ^ 63
+few_sent s book stands =
+    let few = stands.few in
+    let number = stands.full.number in
+    let most = stands.full.state.numbered.number in
+    let limit = stands.full.state.numbered.limit in
+    omega arith
+
+one_more : (w : Parcel) (o : Option Mark) (l : List Message) (n : ℕ) → mark_or w o ≡ None → (o ≡ None → length l ≡ n) → length (message_of w ++ l) ≡ suc n
+one_more (Update m) o l n e f = ap suc (f e)
+one_more (Fin k) o l n e f = absurd (cc)
+
+-- with no mark each parcel is a message
+pub told_length : (ps : List Delivery) → mark_in ps ≡ None → length (messages_in ps) ≡ length ps
+told_length [] e = refl
+told_length (p ∷ ps) e = one_more p.what (mark_in ps) (messages_in ps) (length ps) e (told_length ps)
+
+pub held_unmoved : (s : Subscription) (book : Book) → StandsAt s book → 0 < length s.sub.held.messages → mark_in (all_put s.input) ≡ None
+held_unmoved s book stands some =
+    stands.out ∙ not_moved s.sub.held.mark_out s.sub.held.mark (λ e. let none : length s.sub.held.messages ≡ 0 = ap (length {A = Message}) (stands.done e).0 in absurd (omega arith))
+
+pub stuck_filled : (s : Subscription) (book : Book) → StandsAt s book → IsStuck s → IsFilled s
+stuck_filled s book stands stuck some =
+    let told : length (messages_in (all_put s.input)) ≡ length (all_put s.input) = told_length (all_put s.input) (held_unmoved s book stands some) in
+    let long : length (all_put s.input) ≡ length s.input.taken + length s.input.ahead = length-append s.input.taken s.input.ahead in
+    ⊎_elim (λ (n : IsOut s.sub.held). let none : length s.sub.held.messages ≡ 0 = ap (length {A = Message}) n.0 in absurd (omega arith))
+    (λ (le : s.places ≤ length s.input.ahead). omega arith) stuck
+
+pub identity_alike : (s t : Subscription) → SameButPuts s t → identity_of t ≡ identity_of s
+identity_alike s t a = λ i. record {
+  query = a.held.query i; moved = a.held.moved i; opened = a.held.opened i; places = a.places i; backlog = a.held.backlog i; asks = a.asks i; shut = a.shut i; port = port_id (a.port.0 i)
+}
+
+pub identity_others : (s t : Subscription) → SameButHeld s t → t.shut ≡ s.shut → identity_of t ≡ identity_of s
+identity_others s t a shut = λ i. record {
+  query = a.query i; moved = a.moved i; opened = a.opened i; places = a.places i; backlog = a.backlog i; asks = a.asks i; shut = shut i; port = port_id (a.input i).port
+}
+
+pub taken_then : (s t : Subscription) (p : Known Identity) (openings : ℕ) (book0 book : Book) → IsTaken s p openings book0 → StandsAt t book → IsStuck t → identity_of t ≡ identity_of s → (hung_mark t.sub.held.mark → hung_mark s.sub.held.mark) → IsTaken t p openings book
+taken_then s t p openings book0 book taken stands stuck identity hung =
+    let asks : t.asks ≡ s.asks = ap (λ (x : Identity). x.asks) identity in
+    record {
+      stands = stands;
+      filled = stuck_filled t book stands stuck;
+      out = taken.out;
+      name = taken.name ∙ ap (λ (x : Identity). Some x) (sym identity);
+      hung = λ h. subst (λ n. n < p.asks) (sym asks) (taken.hung (hung h));
+      below = subst (λ n. n < openings) (sym asks) taken.below;
+    }
+
+-- the keeper knows more of its asks, and it may have ended
+pub taken_noticed : (s t : Subscription) (p q : Known Identity) (openings n : ℕ) (asked : Bool) (book : Book) → IsTaken s p openings book → StandsAt t book → SameButHeld s t → t.shut ≡ s.shut → t.sub.held.messages ≡ s.sub.held.messages
+    → (hung_mark t.sub.held.mark → (asked ≡ true) ⊎ hung_mark s.sub.held.mark) → (asked ≡ true → s.asks < n) → p.asks ≤ n → q ≡ record { out = p.out; asks = n; name = p.name } → IsTaken t q openings book
+taken_noticed s t p q openings n asked book taken stands others shut messages hung test le is =
+    let identity = identity_others s t others shut in
+    let asks = others.asks in
+    let known : q.asks ≡ n = ap (λ (x : Known Identity). x.asks) is in
+    record {
+      stands = stands;
+      filled = subst (λ (z : List Message × ℕ × End Delivery Opening). 0 < length z.0 → z.1 ≤ length (messages_in (all_put z.2))) (λ i. (sym messages i, sym others.places i, sym others.input i)) taken.filled;
+      out = ap (λ (x : Known Identity). x.out) is ∙ taken.out;
+      name = ap (λ (x : Known Identity). x.name) is ∙ taken.name ∙ ap (λ (x : Identity). Some x) (sym identity);
+      hung = λ h. ⊎_elim (λ (a : asked ≡ true). let lt = test a in omega arith) (λ (o : hung_mark s.sub.held.mark). let lt = taken.hung o in omega arith) (hung h);
+      below = subst (λ n. n < openings) (sym asks) taken.below;
+    }
+
+-- ---- all slots
+
+pub in_here : (slots : List (Option Subscription)) (k : ℕ) (o : Option Subscription) → k < length slots → slot_in (slice_set slots k o) k ≡ o
+in_here slots k o lt = get_or-set_same slots k o None lt
+
+pub in_else : (slots : List (Option Subscription)) (k j : ℕ) (o : Option Subscription) → j ≢ k → slot_in (slice_set slots k o) j ≡ slot_in slots j
+in_else slots k j o ne = get_or-set_other slots k j o None ne
+
+pub only_counted : (ps : List (Known Identity)) (k n : ℕ) → OnlyAt ps (counted ps k n) k
+only_counted ps k n =
+    let q : Known Identity = record { out = (slot_at ps k).out; asks = n; name = (slot_at ps k).name } in
+    record { wide = length-set ps k q; others = λ j ne. get_or-set_other ps k j q unused ne }
+
+pub counted_here : (ps : List (Known Identity)) (k n : ℕ) → k < length ps → slot_at (counted ps k n) k ≡ record { out = (slot_at ps k).out; asks = n; name = (slot_at ps k).name }
+counted_here ps k n lt = let q : Known Identity = record { out = (slot_at ps k).out; asks = n; name = (slot_at ps k).name } in get_or-set_same ps k q unused lt
+
+pub only_self : (ps : List (Known Identity)) (k : ℕ) → OnlyAt ps ps k
+only_self ps k = record { wide = refl; others = λ j ne. refl }
+
+-- one slot was set
+pub holding_set : (keeper keeper' : KeeperToken Identity) (slots : List (Option Subscription)) (k openings : ℕ) (o : Option Subscription) (book : Book) → AllStand keeper slots openings book → OnlyAt keeper.slots keeper'.slots k
+    → SlotStands o (slot_at keeper'.slots k) openings book → AllStand keeper' (slice_set slots k o) openings book
+holding_set keeper keeper' slots k openings o book h only fits =
+    record {
+      known = only.wide ∙ h.known;
+      wide = length-set slots k o ∙ h.wide;
+      each = λ j pos within. dite (ℕ_discrete j k)
+          (λ (e : j ≡ k). subst (λ (i : ℕ). SlotStands (slot_in (slice_set slots k o) i) (slot_at keeper'.slots i) openings book) (sym e)
+          (subst (λ (z : Option Subscription). SlotStands z (slot_at keeper'.slots k) openings book) (sym (in_here slots k o (let w = h.wide in omega arith))) fits))
+          (λ (ne : j ≢ k). subst (λ (z : Option Subscription × Known Identity). SlotStands z.0 z.1 openings book) (λ i. (sym (in_else slots k j o ne) i, sym (only.others j ne) i)) (h.each j pos within));
+    }
+
+fits_more : (o : Option Subscription) (p : Known Identity) (m n : ℕ) (book : Book) → m ≤ n → SlotStands o p m book → SlotStands o p n book
+fits_more None p m n book le f = let was = f.1 in (f.0, omega arith)
+fits_more (Some s) p m n book le f = let was = f.below in record { stands = f.stands; filled = f.filled; out = f.out; name = f.name; hung = f.hung; below = omega arith }
+
+-- more openings
+pub holding_more : (keeper : KeeperToken Identity) (slots : List (Option Subscription)) (m n : ℕ) (book : Book) → m ≤ n → AllStand keeper slots m book → AllStand keeper slots n book
+holding_more keeper slots m n book le h = record { known = h.known; wide = h.wide; each = λ k pos within. fits_more (slot_in slots k) (slot_at keeper.slots k) m n book le (h.each k pos within) }
+
+-- no subscriptions
+pub holding_none : (keeper : KeeperToken Identity) (slots : List (Option Subscription)) (book : Book) → keeper.slots ≡ unused_slots → length slots ≡ 65 → ((k : ℕ) → k < 65 → slot_in slots k ≡ None) → AllStand keeper slots 0 book
+holding_none keeper slots book known wide none =
+    record {
+      known = ap (length {A = Known Identity}) known ∙ length-replicate {A = Known Identity} 65 unused;
+      wide = wide;
+      each = λ k pos within.
+          let p : slot_at keeper.slots k ≡ unused = ap (λ (l : List (Known Identity)). slot_at l k) known ∙ get_or-replicate {A = Known Identity} 65 k unused unused within in
+          subst (λ (z : Option Subscription × Known Identity). SlotStands z.0 z.1 0 book) (λ i. (sym (none k within) i, sym p i)) (refl, omega arith);
+    }
+
+pub none_more : (slots : List (Option Subscription)) (n k : ℕ) → length slots ≡ n → ((k : ℕ) → k < n → slot_in slots k ≡ None) → slot_in (slots ++ None ∷ []) k ≡ None
+none_more [] n zero long h = refl
+none_more [] n (suc k) long h = refl
+none_more (o ∷ slots) n zero long h = h zero (omega arith)
+none_more (o ∷ slots) n (suc k) long h = none_more slots (length slots) k refl (λ j lt. h (suc j) (omega arith))
+
+-- ---- a change, told to one slot after another
+
+before-grown : (b : Book) (c : Change) → before_of (grown b (c ∷ [])) ≡ b
+before-grown b c =
+    let n : length (b.changes ++ c ∷ []) - 1 ≡ length b.changes = omega (arith, length-append b.changes (c ∷ [])) in
+    ap (λ (cs : List Change). let d : Book = record { start = b.start; changes = cs } in d)
+        (ap (λ (n : ℕ). take n (b.changes ++ c ∷ [])) n ∙ take-append-le (length b.changes) b.changes (c ∷ []) (omega arith) ∙ take_all (length b.changes) b.changes (omega arith))
+
+pub before_is : (b d : Book) (c : Change) → d ≡ grown b (c ∷ []) → before_of d ≡ b
+before_is b d c e = ap before_of e ∙ before-grown b c
+
+pub grown_is : (b d : Book) (c : Change) → d ≡ grown b (c ∷ []) → IsLawful (state_of b) c → IsFullBook d → IsGrown d c
+grown_is b d c e lawful full =
+    let before = before_is b d c e in
+    record {
+      book = e ∙ ap (λ (x : Book). grown x (c ∷ [])) (sym before);
+      lawful = subst (λ (x : Book). IsLawful (state_of x) c) (sym before) lawful;
+      full = full;
+    }
+
+pub mixed_first : (keeper : KeeperToken Identity) (slots : List (Option Subscription)) (openings : ℕ) (c : Change) → AllStand keeper slots openings (before_of keeper.book) → AllReady slots (state_of (before_of keeper.book)) c → PartlyTold keeper slots openings c 1
+mixed_first keeper slots openings c h ready =
+    record {
+      known = h.known;
+      wide = h.wide;
+      below = λ k pos lt. absurd (omega arith);
+      from = λ k le within. (h.each k (omega arith) within, ready k (omega arith) within);
+    }
+
+pub mixed_step : (keeper : KeeperToken Identity) (slots : List (Option Subscription)) (openings : ℕ) (c : Change) (place : ℕ) (o : Option Subscription) → PartlyTold keeper slots openings c place → place < 65 → SlotStands o (slot_at keeper.slots place) openings keeper.book
+    → PartlyTold keeper (slice_set slots place o) openings c (place + 1)
+mixed_step keeper slots openings c place o m lt fits =
+    record {
+      known = m.known;
+      wide = length-set slots place o ∙ m.wide;
+      below = λ j pos under. dite (ℕ_discrete j place)
+          (λ (e : j ≡ place). subst (λ (i : ℕ). SlotStands (slot_in (slice_set slots place o) i) (slot_at keeper.slots i) openings keeper.book) (sym e)
+          (subst (λ (z : Option Subscription). SlotStands z (slot_at keeper.slots place) openings keeper.book) (sym (in_here slots place o (let w = m.wide in omega arith))) fits))
+          (λ (ne : j ≢ place). subst (λ (z : Option Subscription). SlotStands z (slot_at keeper.slots j) openings keeper.book) (sym (in_else slots place j o ne)) (m.below j pos (omega (arith, ne))));
+      from = λ j le within.
+          subst (λ (z : Option Subscription). SlotStands z (slot_at keeper.slots j) openings (before_of keeper.book) × IsReadyAt z (state_of (before_of keeper.book)) c)
+          (sym (in_else slots place j o (λ e. absurd (omega arith)))) (m.from j (omega arith) within);
+    }
+
+pub mixed_last : (keeper : KeeperToken Identity) (slots : List (Option Subscription)) (openings : ℕ) (c : Change) (place : ℕ) → place ≡ 65 → PartlyTold keeper slots openings c place → AllStand keeper slots openings keeper.book
+mixed_last keeper slots openings c place e m = record { known = m.known; wide = m.wide; each = λ k pos within. m.below k pos (omega arith) }

@@ -1,0 +1,14 @@
+use Rattle.std.proofs.Common.{subst, ◌∙◌}
+use Rattle.lq_subscription.specs.Marking.{hung_mark}
+use Rattle.lq_slots.specs.Slots.{before_of}
+use Rattle.lq_slots.proofs.SlotLemmas.{taken_then, identity_alike, identity_others}
+use Rattle.lq_slots.proofs.slots.tell_slot.Goals as goal
+
+pub returns : goal.returns
+returns g c =
+    let p = c.pump.ensures in
+    let m = c.commit.ensures in
+    record {
+      taken = taken_then c.args.slot.now c.pump.new.slot _ c.args.openings (before_of c.args.keeper.now.book) _ c.requires.taken p.stands p.stuck
+          (identity_alike c.commit.new.slot c.pump.new.slot p.alike ∙ identity_others c.args.slot.now c.commit.new.slot m.others m.shut) (λ h. m.hung (subst hung_mark p.alike.held.mark h));
+    }

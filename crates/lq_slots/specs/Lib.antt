@@ -1,0 +1,4 @@
+pub mod Slots
+pub mod Opening
+pub mod Progress
+pub mod Applied

@@ -1,0 +1,270 @@
+//! The slots under the lock, one or all.
+ghost use Rattle.std.specs.Prelude.{◌≡◌, ◌+◌, ◌<◌, ◌≤◌, ◌^◌, ℕ, length, None, Some, IsSome, IfOk, OnOk, OnErr, true, false};
+ghost use Rattle.lq_value.specs.Refusal.{IsRefusedBy};
+ghost use Rattle.lq_volume.specs.Change.{IsLawful};
+ghost use Rattle.lq_volume.specs.Book.{state_of};
+ghost use Rattle.lq_board.specs.Slot.{slot_at, counted};
+ghost use Rattle.lq_subscription.specs.Standing.{SameButHeld, SameButPuts};
+ghost use Rattle.lq_slots.specs.Slots.{IsTaken, SlotStands, AllStand, OnlyAt, IsReadyAt, AllReady, before_of, IsGrown, slot_in};
+
+use lq_board::{Board, Keeper};
+use lq_subscription::{Subscription, Identity, commit, notice, pump, ready};
+use lq_value::Refusal;
+use lq_volume::{Change, Volume};
+use std::alloc::Global;
+use std::sync::Wait;
+
+/// The number of slots, and a place that isn't used before them.
+pub(crate) const PLACES: usize = 65;
+
+/// All slots free.
+pub(crate) fn free(alloc: Global) -> Result<Vec<Option<Subscription>>, Refusal>
+    ensures refused { IsRefusedBy result None }
+    ensures wide { IfOk result (λ slots. length slots.items ≡ 65) }
+    ensures none { IfOk result (λ slots. (k : ℕ) → k < 65 → slot_in slots.items k ≡ None) }
+{
+    let mut slots = Vec::with_capacity(alloc, PLACES)?;
+    for place in 0..PLACES {
+        let _ = place;
+        slots.push_reserved(None);
+    }
+    Ok(slots)
+}
+
+/// Ends a subscription where its reader asked, and answers how often its slot's seat has asked.
+pub(crate) fn notice_slot(
+    board: &Board<Identity>,
+    keeper: &mut Keeper<Identity>,
+    slot: &mut Subscription,
+    place: usize,
+    openings: u64,
+    number: u64,
+) -> u64
+    requires board { keeper.old.board ≡ board.now }
+    requires place { (0 < place) × (place < 65) × (length keeper.old.slots ≡ 65) }
+    requires number { number ≡ length keeper.old.book.changes }
+    requires taken { IsTaken slot.old (slot_at keeper.old.slots place) openings keeper.old.book }
+    ensures board { keeper.new.board ≡ keeper.old.board }
+    ensures book { keeper.new.book ≡ keeper.old.book }
+    ensures slots { keeper.new.slots ≡ counted keeper.old.slots place result }
+    ensures asks { (slot_at keeper.old.slots place).asks ≤ result }
+    ensures taken { IsTaken slot.new (slot_at keeper.new.slots place) openings keeper.new.book }
+    ensures ended { slot.old.asks < result → IsSome slot.new.sub.held.mark }
+    ensures others { SameButHeld slot.old slot.new × (slot.new.shut ≡ slot.old.shut) }
+    ensures still { IsSome slot.old.sub.held.mark
+        → slot.new.sub.held.mark ≡ slot.old.sub.held.mark }
+{
+    let _ = openings;
+    let asks = board.asks(keeper, place as u64);
+    let asked = asks > slot.asks;
+    notice(slot, asked, number);
+    asks
+}
+
+// The same for a slot that may be free.
+fn notice_at(
+    board: &Board<Identity>,
+    keeper: &mut Keeper<Identity>,
+    slot: &mut Option<Subscription>,
+    place: usize,
+    openings: u64,
+    number: u64,
+)
+    requires board { keeper.old.board ≡ board.now }
+    requires place { (0 < place) × (place < 65) × (length keeper.old.slots ≡ 65) }
+    requires number { number ≡ length keeper.old.book.changes }
+    requires fits { SlotStands slot.old (slot_at keeper.old.slots place) openings keeper.old.book }
+    ensures board { keeper.new.board ≡ keeper.old.board }
+    ensures book { keeper.new.book ≡ keeper.old.book }
+    ensures only { OnlyAt keeper.old.slots keeper.new.slots place }
+    ensures fits { SlotStands slot.new (slot_at keeper.new.slots place) openings keeper.new.book }
+{
+    if let Some(taken) = slot {
+        notice_slot(board, keeper, taken, place, openings, number);
+    }
+}
+
+/// Ends each subscription whose reader asked.
+pub(crate) fn notice_all(
+    board: &Board<Identity>,
+    keeper: &mut Keeper<Identity>,
+    slots: &mut Vec<Option<Subscription>>,
+    openings: u64,
+    number: u64,
+)
+    requires board { keeper.old.board ≡ board.now }
+    requires number { number ≡ length keeper.old.book.changes }
+    requires holding { AllStand keeper.old slots.old.items openings keeper.old.book }
+    ensures board { keeper.new.board ≡ keeper.old.board }
+    ensures book { keeper.new.book ≡ keeper.old.book }
+    ensures holding { AllStand keeper.new slots.new.items openings keeper.new.book }
+{
+    for place in 1..PLACES {
+        notice_at(board, keeper, &mut slots[place], place, openings, number);
+    }
+}
+
+// Makes the messages of a change for a slot that may be free.
+fn ready_at(
+    keeper: &Keeper<Identity>,
+    slot: &mut Option<Subscription>,
+    place: usize,
+    openings: u64,
+    volume: &Volume,
+    change: &Change,
+) -> Result<(), Refusal>
+    requires lawful { IsLawful volume.now change.now }
+    requires fits { SlotStands slot.old (slot_at keeper.now.slots place) openings keeper.now.book }
+    ensures refused { IsRefusedBy result None }
+    ensures fits { SlotStands slot.new (slot_at keeper.now.slots place) openings keeper.now.book }
+    ensures ready { OnOk result (IsReadyAt slot.new volume.now change.now) }
+{
+    let _ = keeper;
+    let _ = (place, openings);
+    match slot {
+        Some(taken) => ready_slot(keeper, taken, place, openings, volume, change),
+        None => Ok(()),
+    }
+}
+
+fn ready_slot(
+    keeper: &Keeper<Identity>,
+    slot: &mut Subscription,
+    place: usize,
+    openings: u64,
+    volume: &Volume,
+    change: &Change,
+) -> Result<(), Refusal>
+    requires lawful { IsLawful volume.now change.now }
+    requires taken { IsTaken slot.old (slot_at keeper.now.slots place) openings keeper.now.book }
+    ensures refused { IsRefusedBy result None }
+    ensures taken { IsTaken slot.new (slot_at keeper.now.slots place) openings keeper.now.book }
+    ensures ready { OnOk result (IsReadyAt (Some slot.new) volume.now change.now) }
+{
+    let _ = keeper;
+    let _ = (place, openings);
+    ready(slot, volume, change)
+}
+
+/// Makes the messages of a change for each subscription.
+pub(crate) fn ready_all(
+    keeper: &Keeper<Identity>,
+    slots: &mut Vec<Option<Subscription>>,
+    openings: u64,
+    volume: &Volume,
+    change: &Change,
+) -> Result<(), Refusal>
+    requires lawful { IsLawful volume.now change.now }
+    requires holding { AllStand keeper.now slots.old.items openings keeper.now.book }
+    ensures refused { IsRefusedBy result None }
+    ensures holding { AllStand keeper.now slots.new.items openings keeper.now.book }
+    ensures ready { OnOk result (AllReady slots.new.items volume.now change.now) }
+{
+    for place in 1..PLACES {
+        ready_at(keeper, &mut slots[place], place, openings, volume, change)?;
+    }
+    Ok(())
+}
+
+// Tells a slot that may be free the change that was just added, and puts what its port takes.
+fn tell_at<R: Wait>(
+    rt: &R,
+    keeper: &Keeper<Identity>,
+    slot: &mut Option<Subscription>,
+    place: usize,
+    openings: u64,
+    change: &Change,
+)
+    requires grown { IsGrown keeper.now.book change.now }
+    requires ready { IsReadyAt slot.old (state_of (before_of keeper.now.book)) change.now }
+    requires fits { SlotStands slot.old (slot_at keeper.now.slots place) openings
+        (before_of keeper.now.book) }
+    ensures fits { SlotStands slot.new (slot_at keeper.now.slots place) openings keeper.now.book }
+{
+    if let Some(taken) = slot {
+        tell_slot(rt, keeper, taken, place, openings, change);
+    }
+}
+
+fn tell_slot<R: Wait>(
+    rt: &R,
+    keeper: &Keeper<Identity>,
+    slot: &mut Subscription,
+    place: usize,
+    openings: u64,
+    change: &Change,
+)
+    requires grown { IsGrown keeper.now.book change.now }
+    requires ready { IsReadyAt (Some slot.old) (state_of (before_of keeper.now.book)) change.now }
+    requires taken { IsTaken slot.old (slot_at keeper.now.slots place) openings
+        (before_of keeper.now.book) }
+    ensures taken { IsTaken slot.new (slot_at keeper.now.slots place) openings keeper.now.book }
+{
+    let _ = (place, openings);
+    commit(slot, change);
+    pump(rt, keeper, slot);
+}
+
+/// Tells each subscription the change that was just added.
+pub(crate) fn tell_all<R: Wait>(
+    rt: &R,
+    keeper: &Keeper<Identity>,
+    slots: &mut Vec<Option<Subscription>>,
+    openings: u64,
+    change: &Change,
+)
+    requires grown { IsGrown keeper.now.book change.now }
+    requires ready { AllReady slots.old.items (state_of (before_of keeper.now.book)) change.now }
+    requires holding { AllStand keeper.now slots.old.items openings (before_of keeper.now.book) }
+    ensures holding { AllStand keeper.now slots.new.items openings keeper.now.book }
+{
+    for place in 1..PLACES {
+        tell_at(rt, keeper, &mut slots[place], place, openings, change);
+    }
+}
+
+/// Puts what a port takes.
+pub(crate) fn pump_slot<R: Wait>(
+    rt: &R,
+    keeper: &Keeper<Identity>,
+    slot: &mut Subscription,
+    place: usize,
+    openings: u64,
+)
+    requires taken { IsTaken slot.old (slot_at keeper.now.slots place) openings keeper.now.book }
+    ensures taken { IsTaken slot.new (slot_at keeper.now.slots place) openings keeper.now.book }
+    ensures alike { SameButPuts slot.old slot.new }
+{
+    let _ = (place, openings);
+    pump(rt, keeper, slot);
+}
+
+fn pump_at<R: Wait>(
+    rt: &R,
+    keeper: &Keeper<Identity>,
+    slot: &mut Option<Subscription>,
+    place: usize,
+    openings: u64,
+)
+    requires fits { SlotStands slot.old (slot_at keeper.now.slots place) openings keeper.now.book }
+    ensures fits { SlotStands slot.new (slot_at keeper.now.slots place) openings keeper.now.book }
+{
+    if let Some(taken) = slot {
+        pump_slot(rt, keeper, taken, place, openings);
+    }
+}
+
+/// Puts what each port takes.
+pub(crate) fn pump_all<R: Wait>(
+    rt: &R,
+    keeper: &Keeper<Identity>,
+    slots: &mut Vec<Option<Subscription>>,
+    openings: u64,
+)
+    requires holding { AllStand keeper.now slots.old.items openings keeper.now.book }
+    ensures holding { AllStand keeper.now slots.new.items openings keeper.now.book }
+{
+    for place in 1..PLACES {
+        pump_at(rt, keeper, &mut slots[place], place, openings);
+    }
+}

@@ -1,0 +1,7 @@
+pub mod Updates
+pub mod Rule
+pub mod LegalList
+pub mod Identity
+pub mod Standing
+pub mod Marking
+pub mod Reading

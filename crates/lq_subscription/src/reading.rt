@@ -1,0 +1,219 @@
+//! The end of a subscription that reads.
+ghost use Rattle.std.specs.Prelude.{◌≡◌, [], length, IfOk, IfSome, IfNone, OnOk, OnErr, Some, None, is_some, IsTrue};
+ghost use mathlib.Core.List.{IsPrefix};
+ghost use Rattle.lq_value.specs.Refusal.{IsRefusedBy, first_refusal};
+ghost use Rattle.lq_volume.specs.Book.{Extends, state_of, state_at};
+ghost use Rattle.lq_volume.specs.Result.{result_of};
+ghost use Rattle.lq_board.specs.Book.{IsFullBook};
+ghost use Rattle.lq_update.specs.Fold.{fold_refusals, folding_after, opened_at};
+ghost use Rattle.lq_port.specs.End.{IsSamePort, Loses, all_put};
+ghost use Rattle.lq_port.specs.Port.{IsLegal};
+ghost use Rattle.lq_subscription.specs.Rule.{MayFollow, floor_of, query_of, whole};
+ghost use Rattle.lq_subscription.specs.Reading.{Gives, Fails, known, received, is_marked, IsTold};
+
+use crate::delivery::Delivery;
+use lq_desk::Read;
+use lq_port::{PortIn, PortOut};
+use lq_update::{
+    Message, Parcel, Rebuild, folds_give_results, foldings_follow, rebuilds_take_all,
+    settled_is_tested,
+};
+use lq_value::{Entry, Refusal};
+use std::marker::Model;
+use std::sync::Wait;
+
+/// The end of a port for takes, the result so far, and a message that couldn't be folded.
+#[derive(Drop)]
+pub struct Reading {
+    output: PortOut<Delivery>,
+    rebuild: Rebuild,
+    hand: Option<Message>,
+    ended: bool,
+}
+
+impl Model for Reading {
+    ghost use Rattle.lq_subscription.specs.Reading.{ReadingHold, Reads};
+
+    ghost use Rattle.std.specs.Coded.{codes};
+    ghost use Rattle.lq_port.specs.contracts.ends.PortOut as port_out;
+    ghost use Rattle.lq_subscription.specs.contracts.delivery.Delivery as delivery;
+    ghost use Rattle.lq_subscription.specs.contracts.delivery.Opening as opening_at;
+    ghost use Rattle.lq_subscription.specs.contracts.delivery.DeliveryFollows.TheImpl.{ghosts};
+
+    ghost Value = { ReadingHold };
+
+    ghost coded = { Prim.hlevel (codes, (port_out.the_row delivery.the_row opening_at.the_row ghosts).coded) };
+
+    ghost view = { λ r. record { port = r.output; hand = r.hand; result = r.rebuild } };
+
+    ghost invariant = { λ r. Reads r.output r.rebuild r.hand r.ended };
+}
+
+// Folds a message. Without memory it stays in hand.
+fn keep(
+    rebuild: &mut Rebuild,
+    hand: &mut Option<Message>,
+    message: Message,
+) -> Result<Read, Refusal>
+    requires { first_refusal (fold_refusals rebuild.old message) ≡ None }
+    ensures refused { IsRefusedBy result None }
+    ensures ok { OnOk result ((rebuild.new ≡ folding_after rebuild.old message) × (hand.new ≡ None)) }
+    ensures err { OnErr result ((rebuild.new ≡ rebuild.old) × (hand.new ≡ Some message)) }
+    ensures read { IfOk result (λ r. r ≡ Read.Update message) }
+{
+    match rebuild.apply(&message) {
+        Ok(()) => {
+            *hand = None;
+            Ok(Read::Update(message))
+        }
+        Err(refusal) => {
+            *hand = Some(message);
+            Err(refusal)
+        }
+    }
+}
+
+impl Reading {
+    /// A reading that was told nothing yet.
+    pub fn new(output: PortOut<Delivery>, rebuild: Rebuild) -> Reading
+        requires taken { output.taken ≡ [] }
+        requires opening { output.floor.opened ≡ length (floor_of output.floor).changes }
+        requires full { IsFullBook (floor_of output.floor) }
+        requires result { rebuild ≡ opened_at output.floor.opened
+            (result_of (query_of output.floor) (state_of (floor_of output.floor))) }
+        ensures { result ≡ record { port = output; hand = None; result = rebuild } }
+    {
+        Reading {
+            output,
+            rebuild,
+            hand: None,
+            ended: false,
+        }
+    }
+
+    /// Whether its mark was read.
+    pub fn is_ended(&self) -> bool
+        ensures { result ≡ is_marked self.now }
+    {
+        self.ended
+    }
+
+    /// Whether a message is in hand.
+    pub fn has_hand(&self) -> bool
+        ensures { result ≡ is_some self.now.hand }
+    {
+        self.hand.is_some()
+    }
+
+    /// The next of what was told. Without memory the message stays in hand, and the next read
+    /// gives it.
+    pub fn read<R: Wait>(&mut self, rt: &R) -> Result<Read, Refusal>
+        ensures refused { IsRefusedBy result None }
+        ensures same { IsSamePort self.old.port self.new.port }
+        ensures known { Extends (known self.new) (known self.old) }
+        ensures received { IsPrefix (received self.new) (whole self.new.port.floor (known self.new)) }
+        ensures gives { IfOk result (Gives self.old self.new) }
+        ensures fails { OnErr result (Fails self.old self.new) }
+    {
+        self.read_by(rt, false)
+    }
+
+    /// As `read`, but it waits for the next of what is told.
+    pub fn read_waiting<R: Wait>(&mut self, rt: &R) -> Result<Read, Refusal>
+        ensures refused { IsRefusedBy result None }
+        ensures same { IsSamePort self.old.port self.new.port }
+        ensures known { Extends (known self.new) (known self.old) }
+        ensures received { IsPrefix (received self.new) (whole self.new.port.floor (known self.new)) }
+        ensures gives { IfOk result (Gives self.old self.new) }
+        ensures fails { OnErr result (Fails self.old self.new) }
+    {
+        self.read_by(rt, true)
+    }
+
+    fn read_by<R: Wait>(&mut self, rt: &R, waits: bool) -> Result<Read, Refusal>
+        ensures refused { IsRefusedBy result None }
+        ensures same { IsSamePort self.old.port self.new.port }
+        ensures known { Extends (known self.new) (known self.old) }
+        ensures received { IsPrefix (received self.new) (whole self.new.port.floor (known self.new)) }
+        ensures gives { IfOk result (Gives self.old self.new) }
+        ensures fails { OnErr result (Fails self.old self.new) }
+    {
+        rebuilds_take_all();
+        if let Some(message) = self.hand.take() {
+            return keep(&mut self.rebuild, &mut self.hand, message);
+        }
+        if self.ended {
+            return Ok(Read::Ended);
+        }
+        let Some(item) = take_one(&mut self.output, rt, waits) else {
+            return Ok(Read::Empty);
+        };
+        let Delivery { what, book: _ } = item;
+        match what {
+            Parcel::Fin(mark) => {
+                self.ended = true;
+                Ok(Read::Fin(mark))
+            }
+            Parcel::Update(message) => keep(&mut self.rebuild, &mut self.hand, message),
+        }
+    }
+
+    /// Both ends side by side: how many parcels wait in the port.
+    pub fn beside(&mut self, input: &mut PortIn<Delivery>) -> u64
+        requires port { self.old.port.port ≡ input.old.port }
+        ensures value { result ≡ length self.new.port.ahead }
+        ensures put { all_put self.new.port ≡ all_put input.old }
+        ensures taken { self.new.port.taken ≡ self.old.port.taken }
+        ensures known { IsPrefix self.old.port.ahead self.new.port.ahead }
+        ensures input { (input.new.taken ≡ self.new.port.taken)
+            × (input.new.ahead ≡ self.new.port.ahead) }
+        ensures floor { self.old.port.floor ≡ input.old.floor }
+        ensures legal { IsLegal MayFollow self.new.port.floor (all_put self.new.port) }
+        ensures ports { IsSamePort self.old.port self.new.port × IsSamePort input.old input.new }
+        ensures hand { self.new.hand ≡ self.old.hand }
+        ensures result { self.new.result ≡ self.old.result }
+    {
+        self.output.beside(input)
+    }
+
+    /// The result after what was received, by rising node.
+    pub fn result(&self) -> &[Entry]
+        ensures { result.now ≡ self.now.result.entries }
+    {
+        self.rebuild.result()
+    }
+
+    /// Whether the latest update was the last of its change. The result is then the query's after
+    /// that change, or at the opening.
+    pub fn is_settled(&self) -> bool
+        ensures settled { result ≡ self.now.result.settled }
+        ensures whole { IsTrue result → self.now.result.entries
+            ≡ result_of (query_of self.now.port.floor) (state_at (known self.now) self.now.result.change) }
+    {
+        folds_give_results();
+        foldings_follow();
+        settled_is_tested();
+        self.rebuild.is_settled()
+    }
+
+    /// What is so of each reading.
+    pub fn told(&self)
+        ensures { IsTold self.now }
+    {
+        let _ = &self.rebuild;
+    }
+}
+
+// The next item, with or without waiting for it.
+fn take_one<R: Wait>(output: &mut PortOut<Delivery>, rt: &R, waits: bool) -> Option<Delivery>
+    ensures some { IfSome result (λ item. Loses output.old item output.new) }
+    ensures follows { IfSome result (λ item. MayFollow output.old.taken output.old.floor item) }
+    ensures port { IsSamePort output.old output.new }
+    ensures empty { IfNone result (output.old.ahead ≡ []) }
+    ensures none { IfNone result (output.new ≡ output.old) }
+{
+    if waits {
+        return output.take_waiting(rt);
+    }
+    output.take(rt)
+}
