@@ -134,3 +134,8 @@ back_only ps (suc k) n name pos = let b : Known Identity = record { out = false;
 
 pub free_fits : (p : Known Identity) (openings n : ℕ) (name : Option Identity) (book : Book) → p ≡ record { out = false; asks = n; name = name } → n ≤ openings → SlotStands None p openings book
 free_fits p openings n name book is le = (ap (λ (x : Known Identity). x.out) is, subst (λ (m : ℕ). m ≤ openings) (sym (ap (λ (x : Known Identity). x.asks) is)) le)
+
+-- a slot stands as before once its seat has met the keeper
+pub fits_met : (o : Option Subscription) (p q : Known Identity) (openings : ℕ) (book : Book) (n : ℕ) (name : Option Identity) → SlotStands o p openings book → p.out ≡ true → q ≡ record { out = true; asks = n; name = name } → p.name ≡ name → p.asks ≤ n → SlotStands o q openings book
+fits_met None p q openings book n name free out is same le = absurd (true≢false (sym out ∙ free.0))
+fits_met (Some s) p q openings book n name taken out is same le = taken_met s p q openings book n name taken is same le

@@ -374,6 +374,7 @@ impl<N: Named> Locked<N> {
             slots: _,
             volume,
             openings: _,
+            seats: _,
             alloc: _,
             of: _,
         } = self;

@@ -218,7 +218,8 @@ fn meet_slot_at(
     ensures seat { seat.new ≡ record seat.old { book = keeper.old.book } }
     ensures later { Extends keeper.old.book seat.old.book }
 {
-    let _ = (slot, openings);
+    let _ = slot;
+    let _ = openings;
     meet_at(board, keeper, seat, place)
 }
 
