@@ -144,7 +144,7 @@ module _ (s : Subscription) (old new : ReaderHold) (l : Progress) (lv : ShowsPro
   given_is : received new.reading ++ w ++ s.sub.held.messages ≡ given s.sub.held s.input
   given_is =
       ap (λ m. m ++ s.sub.held.messages) (sym (append_assoc (received new.reading) (option_to_list new.reading.hand) (messages_in e.ahead)) ∙ ap (λ m. m ++ messages_in e.ahead) (sym all_taken)
-          ∙ sym (messages_in-append e.taken e.ahead) ∙ ap messages_in (sym put_is))
+      ∙ sym (messages_in-append e.taken e.ahead) ∙ ap messages_in (sym put_is))
 
   pub few_waiting : length w < 2 ^ 62
   few_waiting =
@@ -154,7 +154,7 @@ module _ (s : Subscription) (old new : ReaderHold) (l : Progress) (lv : ShowsPro
       let most = lv.stands.full.state.numbered.number in
       let limit = lv.stands.full.state.numbered.limit in
       let count : length (given s.sub.held s.input) ≡ length (received new.reading) + length w + length s.sub.held.messages =
-          ap (length {A = Message}) (sym given_is) ∙ length-append (received new.reading ++ w) s.sub.held.messages ∙ ap (λ n. n + length s.sub.held.messages) (length-append (received new.reading) w) in
+      ap (length {A = Message}) (sym given_is) ∙ length-append (received new.reading ++ w) s.sub.held.messages ∙ ap (λ n. n + length s.sub.held.messages) (length-append (received new.reading) w) in
       omega arith
 
   mark_put : mark_in (e.taken ++ e.ahead) ≡ moved_mark s.sub.held.mark_out s.sub.held.mark
@@ -180,8 +180,8 @@ module _ (s : Subscription) (old new : ReaderHold) (l : Progress) (lv : ShowsPro
   waiting_is =
       let here = waits e.floor e.taken e.ahead lv.legal in
       let long : length e.ahead ≡ length (messages_in e.ahead) + bit (is_some (mark_in e.ahead)) =
-          sym (length_map what_of e.ahead) ∙ ap (length {A = Parcel}) here ∙ length-append (map (λ m. Update m) (messages_in e.ahead)) (fin_list (mark_in e.ahead))
-              ∙ (λ i. length_map {A = Message} {B = Parcel} (λ m. Update m) (messages_in e.ahead) i + fin_length (mark_in e.ahead) i) in
+      sym (length_map what_of e.ahead) ∙ ap (length {A = Parcel}) here ∙ length-append (map (λ m. Update m) (messages_in e.ahead)) (fin_list (mark_in e.ahead))
+      ∙ (λ i. length_map {A = Message} {B = Parcel} (λ m. Update m) (messages_in e.ahead) i + fin_length (mark_in e.ahead) i) in
       let mark : bit (is_some (mark_in e.ahead)) ≡ bit (in_port s.sub.held.mark_out (is_some (mark_in e.taken))) = ap bit (in_port_is (mark_in e.taken) refl) in
       let hand = hand_length new.reading.hand in
       omega (arith, length-append (option_to_list new.reading.hand) (messages_in e.ahead))
@@ -210,6 +210,7 @@ module _ (s : Subscription) (old new : ReaderHold) (l : Progress) (lv : ShowsPro
       drained_at empty room bare same =
           ⊎_elim (λ (n : IsOut s.sub.held). ⊎_elim (λ m. sym m) (λ m. same ∙ ap (λ b. moved_mark b s.sub.held.mark) m) n.1)
           (λ (le : s.places ≤ length e.ahead). let long = short bare in absurd (omega (arith, places_is))) lv.drained
+
       at : (o : Option Mark) → mark_in e.ahead ≡ o → mark_in e.ahead ≡ moved_mark s.sub.held.mark_out s.sub.held.mark → mark_in e.ahead ≡ s.sub.held.mark
       at None is same = is ∙ drained_at empty room is (sym is ∙ same)
       at (Some k) is same = is ∙ sym (moved_some s.sub.held.mark_out s.sub.held.mark k (sym same ∙ is))
@@ -224,9 +225,9 @@ module _ (s : Subscription) (old new : ReaderHold) (l : Progress) (lv : ShowsPro
       let moved : s.sub.held.moved ≡ e.floor.moved = mine.0.moved ∙ ap (λ (f : Opening). f.moved) (sym lv.port.2) in
       let opened : s.sub.held.opened ≡ e.floor.opened = mine.0.opened ∙ ap (λ (f : Opening). f.opened) (sym lv.port.2) in
       let ready_now : ready new.reading ≡ map (λ m. Update m) w ++ fin_list (mark_in e.ahead) =
-          ap (λ m. map (λ m. Update m) (option_to_list new.reading.hand) ++ m) (waits e.floor e.taken e.ahead lv.legal)
-              ∙ sym (append_assoc (map (λ m. Update m) (option_to_list new.reading.hand)) (map (λ m. Update m) (messages_in e.ahead)) (fin_list (mark_in e.ahead)))
-              ∙ ap (λ m. m ++ fin_list (mark_in e.ahead)) (sym (map-append (λ m. Update m) (option_to_list new.reading.hand) (messages_in e.ahead))) in
+      ap (λ m. map (λ m. Update m) (option_to_list new.reading.hand) ++ m) (waits e.floor e.taken e.ahead lv.legal)
+      ∙ sym (append_assoc (map (λ m. Update m) (option_to_list new.reading.hand)) (map (λ m. Update m) (messages_in e.ahead)) (fin_list (mark_in e.ahead)))
+      ∙ ap (λ m. m ++ fin_list (mark_in e.ahead)) (sym (map-append (λ m. Update m) (option_to_list new.reading.hand) (messages_in e.ahead))) in
       record {
         own = record {
           low = subst (λ n. 0 < n) (sym same.0) own.low;
@@ -267,10 +268,12 @@ module _ (s : Subscription) (old new : ReaderHold) (l : Progress) (lv : ShowsPro
     where
       known_put : known_by e.floor (e.taken ++ e.ahead) ≡ known_by s.input.floor (all_put s.input)
       known_put = λ i. known_by (lv.floor i) (sym put_is i)
+
       full_at : 0 < length s.sub.held.messages → length w ≡ x.waiting → e.places ≤ x.waiting
       full_at some wait =
           ⊎_elim (λ (n : IsOut s.sub.held). let none : length s.sub.held.messages ≡ 0 = ap (length {A = Message}) n.0 in absurd (omega arith))
           (λ (le : s.places ≤ length e.ahead). let long = short (mark_none e.taken e.ahead (ap mark_in (sym put_is) ∙ held_unmoved s new.seat.book lv.stands some)) in omega (arith, places_is)) lv.drained
+
       read_mark : (o : Option Mark) → mark_in d.taken ≡ o → IsSome (mark_in d.taken) → s.sub.held.mark ≡ mark_in d.taken
       read_mark None is some = absurd (true≢false (sym (subst IsSome is some)))
       read_mark (Some k) is some = moved_some s.sub.held.mark_out s.sub.held.mark k (sym mark_put ∙ mark_first e.taken e.ahead k (ap mark_in lv.taken ∙ is)) ∙ sym is

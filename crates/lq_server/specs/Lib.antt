@@ -1,5 +1,6 @@
 pub mod Hold
 pub mod Own
+pub mod Opened
 pub mod Syncing
 pub mod Retired
 pub mod Lending

@@ -1,5 +1,5 @@
 //! The reader of a subscription.
-ghost use Rattle.std.specs.Prelude.{◌≡◌, IfOk, OnErr, None};
+ghost use Rattle.std.specs.Prelude.{◌≡◌, length, IfOk, OnErr, None, true, false};
 ghost use mathlib.Core.List.{IsPrefix};
 ghost use Rattle.std.specs.Borrow.{sem};
 ghost use Rattle.lq_value.specs.Refusal.{IsRefusedBy};
@@ -11,11 +11,11 @@ ghost use Rattle.lq_server.specs.Own.{IsOwn};
 ghost use Rattle.lq_server.specs.Lending.{LendsSeat};
 ghost use Rattle.lq_server.specs.Syncing.{IsRead, IsUnread};
 
-use crate::named::Named;
 use crate::server::Server;
 use lq_board::Seat;
 use lq_desk::Read;
-use lq_subscription::{Reading, Identity};
+use lq_slots::{Named, Opened};
+use lq_subscription::{Identity, Reading};
 use lq_value::{Entry, Refusal};
 use std::marker::Model;
 use std::sync::Wait;
@@ -44,6 +44,60 @@ impl Model for Reader {
 }
 
 impl Reader {
+    // A reader of a subscription that was just opened.
+    pub(crate) fn new(opened: Opened) -> Reader
+        ensures { result ≡ record {
+          reading = opened.reading;
+          seat = opened.seat;
+          slot = opened.slot;
+          asked = false;
+        } }
+    {
+        Reader {
+            reading: opened.reading,
+            seat: opened.seat,
+            slot: opened.slot,
+            asked: false,
+        }
+    }
+
+    /// Its slot, 1 to 64. It takes no lock.
+    pub fn slot(&self) -> u64
+        ensures { result ≡ self.now.slot }
+    {
+        self.slot
+    }
+
+    /// The number of changes so far, whose book its seat then knows. It takes no lock.
+    pub fn latest<N: Named>(&mut self, server: &Server<N>) -> u64
+        requires board { self.old.seat.board ≡ N.board }
+        ensures number { result ≡ length self.new.seat.book.changes }
+        ensures later { Extends self.new.seat.book self.old.seat.book }
+        ensures seat { self.new.seat ≡ record self.old.seat { book = self.new.seat.book } }
+        ensures rest { self.new ≡ record self.old { seat = self.new.seat } }
+        ensures own { IsOwn self.old → IsOwn self.new }
+    {
+        server.board.latest(&mut self.seat)
+    }
+
+    /// Asks for the end of its subscription. A second call does nothing. It takes no lock.
+    ///
+    /// The server's next call that looks at the slot ends the subscription.
+    pub fn hang_up<N: Named>(&mut self, server: &Server<N>)
+        requires board { self.old.seat.board ≡ N.board }
+        requires own { IsOwn self.old }
+        ensures own { IsOwn self.new }
+        ensures asked { self.new.asked ≡ true }
+        ensures reading { self.new.reading ≡ self.old.reading }
+        ensures slot { self.new.slot ≡ self.old.slot }
+        ensures seat { self.new.seat ≡ record self.old.seat { asks = self.new.seat.asks } }
+    {
+        if !self.asked {
+            server.board.ask(&mut self.seat);
+            self.asked = true;
+        }
+    }
+
     /// The seat of its slot.
     pub fn seat(&mut self) -> &mut Seat<Identity>
         ensures* lends { sem 𝓛 (LendsSeat self.entry result) }

@@ -34,7 +34,7 @@ pub begun_new : (s : Subscription) (r : ReadingHold) (book : Book) (q : Query) (
 begun_new s r book q mv port backlog at g held number places shut ports opening_at query moved opened floor taken ahead full end hand result =
     let now : s.sub.held ≡ opened_with q mv (length book.changes) backlog = held ∙ ap (λ (n : ℕ). opened_with q mv n backlog) number in
     let stands : Stands (opened_with q mv (length book.changes) backlog) s.input s.places Never book =
-        stands_new q mv backlog s.input s.places book taken ahead (ap floor_of opening_at ∙ floor) (ap query_of opening_at ∙ query) (ap (λ (f : Opening). f.moved) opening_at ∙ moved) (ap (λ (f : Opening). f.opened) opening_at ∙ opened ∙ number) (ports ∙ sym places) full in
+    stands_new q mv backlog s.input s.places book taken ahead (ap floor_of opening_at ∙ floor) (ap query_of opening_at ∙ query) (ap (λ (f : Opening). f.moved) opening_at ∙ moved) (ap (λ (f : Opening). f.opened) opening_at ∙ opened ∙ number) (ports ∙ sym places) full in
     record {
       stands = subst (λ (z : Held × Shut). Stands z.0 s.input s.places z.1 book) (λ i. (sym now i, sym shut i)) stands;
       messages = ap (λ (h : Held). h.messages) now;
@@ -67,20 +67,20 @@ settled keeper one two slots place openings n s book h pos within free counts id
     let known = h.known in
     let long : length one.slots ≡ 65 = ap (length {A = Known Identity}) counts ∙ (only_counted keeper.slots place n).wide ∙ h.known in
     let here : slot_at one.slots place ≡ record { out = (slot_at keeper.slots place).out; asks = n; name = (slot_at keeper.slots place).name } =
-        ap (λ (ps : List (Known Identity)). slot_at ps place) counts ∙ counted_here keeper.slots place n (omega arith) in
+    ap (λ (ps : List (Known Identity)). slot_at ps place) counts ∙ counted_here keeper.slots place n (omega arith) in
     let q : Known Identity = record { out = true; asks = (slot_at one.slots place).asks; name = Some (identity_of s) } in
     let there : slot_at two.slots place ≡ q = ap (λ (ps : List (Known Identity)). slot_at ps place) gone ∙ get_or-set_same one.slots place q unused (omega arith) in
     let only : OnlyAt keeper.slots two.slots place =
-        only_trans keeper.slots one.slots two.slots place (subst (λ (ps : List (Known Identity)). OnlyAt keeper.slots ps place) (sym counts) (only_counted keeper.slots place n))
-            (subst (λ (ps : List (Known Identity)). OnlyAt one.slots ps place) (sym gone) (only_gone one.slots place (Some (identity_of s)))) in
+    only_trans keeper.slots one.slots two.slots place (subst (λ (ps : List (Known Identity)). OnlyAt keeper.slots ps place) (sym counts) (only_counted keeper.slots place n))
+    (subst (λ (ps : List (Known Identity)). OnlyAt one.slots ps place) (sym gone) (only_gone one.slots place (Some (identity_of s)))) in
     let count : n ≡ (slot_at keeper.slots place).asks = idle was.0 in
     let most : (slot_at keeper.slots place).asks ≤ openings = was.1 in
     holding_set keeper two slots place (openings + 1) (Some s) book (holding_more keeper slots openings (openings + 1) book (omega arith) h) only
-        (record {
-          stands = stands;
-          filled = λ some. let zero_ : length s.sub.held.messages ≡ 0 = ap (length {A = Message}) none in absurd (omega arith);
-          out = ap (λ (p : Known Identity). p.out) there;
-          name = ap (λ (p : Known Identity). p.name) there;
-          hung = λ hu. absurd (subst hung_mark live hu);
-          below = omega arith;
-        })
+    (record {
+      stands = stands;
+      filled = λ some. let zero_ : length s.sub.held.messages ≡ 0 = ap (length {A = Message}) none in absurd (omega arith);
+      out = ap (λ (p : Known Identity). p.out) there;
+      name = ap (λ (p : Known Identity). p.name) there;
+      hung = λ hu. absurd (subst hung_mark live hu);
+      below = omega arith;
+    })

@@ -60,12 +60,26 @@ stuck_filled s book stands stuck some =
 
 pub identity_alike : (s t : Subscription) → SameButPuts s t → identity_of t ≡ identity_of s
 identity_alike s t a = λ i. record {
-  query = a.held.query i; moved = a.held.moved i; opened = a.held.opened i; places = a.places i; backlog = a.held.backlog i; asks = a.asks i; shut = a.shut i; port = port_id (a.port.0 i)
+  query = a.held.query i;
+  moved = a.held.moved i;
+  opened = a.held.opened i;
+  places = a.places i;
+  backlog = a.held.backlog i;
+  asks = a.asks i;
+  shut = a.shut i;
+  port = port_id (a.port.0 i);
 }
 
 pub identity_others : (s t : Subscription) → SameButHeld s t → t.shut ≡ s.shut → identity_of t ≡ identity_of s
 identity_others s t a shut = λ i. record {
-  query = a.query i; moved = a.moved i; opened = a.opened i; places = a.places i; backlog = a.backlog i; asks = a.asks i; shut = shut i; port = port_id (a.input i).port
+  query = a.query i;
+  moved = a.moved i;
+  opened = a.opened i;
+  places = a.places i;
+  backlog = a.backlog i;
+  asks = a.asks i;
+  shut = shut i;
+  port = port_id (a.input i).port;
 }
 
 pub taken_then : (s t : Subscription) (p : Known Identity) (openings : ℕ) (book0 book : Book) → IsTaken s p openings book0 → StandsAt t book → IsStuck t → identity_of t ≡ identity_of s → (hung_mark t.sub.held.mark → hung_mark s.sub.held.mark) → IsTaken t p openings book
@@ -159,7 +173,7 @@ before-grown : (b : Book) (c : Change) → before_of (grown b (c ∷ [])) ≡ b
 before-grown b c =
     let n : length (b.changes ++ c ∷ []) - 1 ≡ length b.changes = omega (arith, length-append b.changes (c ∷ [])) in
     ap (λ (cs : List Change). let d : Book = record { start = b.start; changes = cs } in d)
-        (ap (λ (n : ℕ). take n (b.changes ++ c ∷ [])) n ∙ take-append-le (length b.changes) b.changes (c ∷ []) (omega arith) ∙ take_all (length b.changes) b.changes (omega arith))
+    (ap (λ (n : ℕ). take n (b.changes ++ c ∷ [])) n ∙ take-append-le (length b.changes) b.changes (c ∷ []) (omega arith) ∙ take_all (length b.changes) b.changes (omega arith))
 
 pub before_is : (b d : Book) (c : Change) → d ≡ grown b (c ∷ []) → before_of d ≡ b
 before_is b d c e = ap before_of e ∙ before-grown b c

@@ -86,7 +86,14 @@ taken_closed s t p q openings n book taken stands others messages hung le is =
 
 pub identity_closed : (s t : Subscription) → SameButHeld s t → identity_of t ≡ record (identity_of s) { shut = t.shut }
 identity_closed s t a = λ i. record {
-  query = a.query i; moved = a.moved i; opened = a.opened i; places = a.places i; backlog = a.backlog i; asks = a.asks i; shut = t.shut; port = port_id (a.input i).port
+  query = a.query i;
+  moved = a.moved i;
+  opened = a.opened i;
+  places = a.places i;
+  backlog = a.backlog i;
+  asks = a.asks i;
+  shut = t.shut;
+  port = port_id (a.input i).port;
 }
 
 -- the lock's port is that of the reader's name
@@ -98,10 +105,26 @@ must_some o p openings book fits out none = let f = subst (λ z. SlotStands z p 
 
 pub levels_from : (s : Subscription) (old mid new : SeatToken Identity) (d e : ReadingHold) (x : Progress) (book : Book) → mid ≡ record old { book = book } → Extends book old.book → ShowsProgress s mid new d e x → ShowsProgress s old new d e x
 levels_from s old mid new d e x book is later l = record {
-  stands = l.stands; drained = l.drained; port = l.port; floor = l.floor; taken = l.taken; all = l.all; known = l.known; legal = l.legal; hand = l.hand; result = l.result; identity = l.identity;
+  stands = l.stands;
+  drained = l.drained;
+  port = l.port;
+  floor = l.floor;
+  taken = l.taken;
+  all = l.all;
+  known = l.known;
+  legal = l.legal;
+  hand = l.hand;
+  result = l.result;
+  identity = l.identity;
   seat = l.seat ∙ ap (λ (m : SeatToken Identity). let n : SeatToken Identity = record m { book = new.book } in n) is;
   later = extends_trans old.book mid.book new.book (subst (λ (b : Book). Extends b old.book) (sym (ap (λ (m : SeatToken Identity). m.book) is)) later) l.later;
-  number = l.number; waiting = l.waiting; held = l.held; mark = l.mark; out = l.out; hung = l.hung; ended = l.ended;
+  number = l.number;
+  waiting = l.waiting;
+  held = l.held;
+  mark = l.mark;
+  out = l.out;
+  hung = l.hung;
+  ended = l.ended;
 }
 
 -- only a subscription that wasn't closed is live

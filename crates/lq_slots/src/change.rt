@@ -8,7 +8,7 @@ ghost use Rattle.lq_slots.specs.Slots.{AllStand, AllReady};
 
 use crate::slots::{notice_all, pump_all, ready_all, tell_all};
 use lq_board::{Board, Keeper};
-use lq_subscription::{Subscription, Identity};
+use lq_subscription::{Identity, Subscription};
 use lq_value::Refusal;
 use lq_volume::{Applied, Change, Volume};
 use std::sync::Wait;

@@ -11,7 +11,7 @@ ghost use Rattle.lq_slots.specs.Opening.{asks_after, name_or};
 use crate::slots::{notice_slot, pump_slot};
 use crate::sync::{meet_at, meet_under};
 use lq_board::{Board, Keeper, Seat};
-use lq_subscription::{Subscription, Identity, close};
+use lq_subscription::{Identity, Subscription, close};
 use std::sync::Wait;
 
 // Closes a subscription, once the keeper and its seat have met.
@@ -39,7 +39,8 @@ fn close_slot<R: Wait>(
     ensures taken { IsTaken slot.new (slot_at keeper.new.slots place) openings keeper.new.book }
     ensures seat { seat.new ≡ record seat.old { book = keeper.old.book; name = seat.new.name } }
     ensures name { seat.new.name ≡ Some (record (name_or seat.old.name) {
-        shut = first_close (name_or seat.old.name).shut result number }) }
+      shut = first_close (name_or seat.old.name).shut result number;
+    }) }
 {
     notice_slot(board, keeper, slot, place, openings, number);
     let closed = close(slot, number);
@@ -71,8 +72,9 @@ fn close_at<R: Wait>(
     ensures seat { seat.new ≡ record seat.old { book = keeper.old.book; name = seat.new.name } }
     ensures later { Extends keeper.old.book seat.old.book }
     ensures name { seat.new.name ≡ Some (record (name_or seat.old.name) {
-        shut = first_close (name_or seat.old.name).shut (is_some result)
-            (length keeper.old.book.changes) }) }
+      shut = first_close (name_or seat.old.name).shut (is_some result)
+          (length keeper.old.book.changes);
+    }) }
 {
     let number = meet_at(board, keeper, seat, place);
     let Some(taken) = slot else { unreachable!() };
@@ -105,8 +107,9 @@ pub(crate) fn close_in<R: Wait>(
     ensures seat { seat.new ≡ record seat.old { book = keeper.old.book; name = seat.new.name } }
     ensures later { Extends keeper.old.book seat.old.book }
     ensures name { seat.new.name ≡ Some (record (name_or seat.old.name) {
-        shut = first_close (name_or seat.old.name).shut (is_some result)
-            (length keeper.old.book.changes) }) }
+      shut = first_close (name_or seat.old.name).shut (is_some result)
+          (length keeper.old.book.changes);
+    }) }
 {
     close_at(rt, board, keeper, &mut slots[place], place, openings, seat)
 }
@@ -157,5 +160,13 @@ pub(crate) fn free_in(
     ensures holding { AllStand keeper.new slots.new.items openings keeper.new.book }
     ensures later { Extends keeper.old.book seat.book }
 {
-    free_at(board, keeper, &mut slots[place], place, openings, seat, asked);
+    free_at(
+        board,
+        keeper,
+        &mut slots[place],
+        place,
+        openings,
+        seat,
+        asked,
+    );
 }

@@ -13,7 +13,7 @@ mod open;
 mod slots;
 mod sync;
 
-pub use locked::Locked;
+pub use locked::{Found, Locked};
 pub use named::{Base, Named};
 pub use open::Opened;
 pub use sync::Progress;

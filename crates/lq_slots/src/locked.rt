@@ -23,7 +23,7 @@ use crate::open::{Opened, open_in};
 use crate::sync::{Progress, meet_in, sync_in};
 use lq_board::{Board, Keeper, Seat};
 use lq_predicate::Predicate;
-use lq_subscription::{Reading, Subscription, Identity};
+use lq_subscription::{Identity, Reading, Subscription};
 use lq_value::{Entry, Name, Refusal};
 use lq_volume::{Applied, Change, Listing, Volume};
 use std::alloc::Global;
@@ -32,6 +32,13 @@ use std::sync::Wait;
 
 /// The most seats that are out at a time.
 const MAX_SEATS: u64 = 16;
+
+/// The entries that a predicate holds of after `at` changes, by rising node.
+#[derive(Debug, Drop)]
+pub struct Found {
+    pub at: u64,
+    pub entries: Vec<Entry>,
+}
 
 /// The volume, the subscriptions and the keeper of N's board. A contract sees the keeper's book.
 #[derive(Drop)]
@@ -154,19 +161,21 @@ impl<N: Named> Locked<N> {
         board: &Board<Identity>,
         seat: &mut Seat<Identity>,
         predicate: &Predicate,
-    ) -> Result<Vec<Entry>, Refusal>
+    ) -> Result<Found, Refusal>
         requires { (board.now ≡ N.board) × (seat.old.board ≡ N.board) × (seat.old.slot ≡ 0) }
         ensures same { self.new ≡ self.old }
         ensures seat { (seat.new.board ≡ N.board) × (seat.new.slot ≡ 0) }
         ensures later { Extends seat.new.book seat.old.book }
-        ensures entries { IfOk result (λ entries.
-            entries.items ≡ result_of predicate.now (state_of seat.new.book)) }
+        ensures at { IfOk result (λ found. found.at ≡ length seat.new.book.changes) }
+        ensures entries { IfOk result (λ found.
+            found.entries.items ≡ result_of predicate.now (state_of seat.new.book)) }
 
         // Only memory can be wanting.
         ensures refused { IsRefusedBy result None }
     {
-        self.meet(board, seat);
-        self.volume.fetch(predicate)
+        let at = self.meet(board, seat);
+        let entries = self.volume.fetch(predicate)?;
+        Ok(Found { at, entries })
     }
 
     /// The node that has a place, after the book that the seat then knows.
@@ -330,8 +339,9 @@ impl<N: Named> Locked<N> {
         ensures seat { seat.new ≡ record seat.old { book = self.old; name = seat.new.name } }
         ensures later { Extends seat.new.book seat.old.book }
         ensures name { seat.new.name ≡ Some (record (name_or seat.old.name) {
-            shut = first_close (name_or seat.old.name).shut (is_some result)
-                (length seat.new.book.changes) }) }
+          shut = first_close (name_or seat.old.name).shut (is_some result)
+              (length seat.new.book.changes);
+        }) }
     {
         close_in(
             rt,

@@ -4,7 +4,7 @@ ghost use Rattle.lq_value.specs.Refusal.{IsRefusedBy};
 
 use crate::locked::Locked;
 use lq_board::{Board, Keeper};
-use lq_subscription::{Subscription, Identity};
+use lq_subscription::{Identity, Subscription};
 use lq_value::Refusal;
 use lq_volume::Volume;
 use std::alloc::Global;

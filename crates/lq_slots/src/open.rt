@@ -12,13 +12,13 @@ ghost use Rattle.lq_slots.specs.Opening.{IsBegun, IsOpened, IsOpeningRefused, op
 use crate::slots::PLACES;
 use lq_board::{Board, Keeper, Seat};
 use lq_desk::Sub;
-use lq_witness::Witness;
 use lq_port::make;
 use lq_predicate::Predicate;
-use lq_subscription::{Delivery, Opening, Reading, Shut, Subscription, Identity};
+use lq_subscription::{Delivery, Identity, Opening, Reading, Shut, Subscription};
 use lq_update::{Rebuild, results_rise};
 use lq_value::Refusal;
 use lq_volume::Volume;
+use lq_witness::Witness;
 use std::alloc::Global;
 
 /// The most parcels that a port holds.
@@ -89,7 +89,12 @@ fn begin(
 }
 
 // The slot's seat, under a name, that of a subscription.
-fn sit_named(board: &Board<Identity>, keeper: &mut Keeper<Identity>, slot: &Subscription, place: u64) -> Seat<Identity>
+fn sit_named(
+    board: &Board<Identity>,
+    keeper: &mut Keeper<Identity>,
+    slot: &Subscription,
+    place: u64,
+) -> Seat<Identity>
     ghost name: { IdentityOf }
     requires named { name ≡ identity_of slot.now }
     requires board { keeper.old.board ≡ board.now }
@@ -111,7 +116,12 @@ fn sit_named(board: &Board<Identity>, keeper: &mut Keeper<Identity>, slot: &Subs
 }
 
 // The slot's seat, under the name of this subscription.
-fn sit(board: &Board<Identity>, keeper: &mut Keeper<Identity>, slot: &Subscription, place: u64) -> Seat<Identity>
+fn sit(
+    board: &Board<Identity>,
+    keeper: &mut Keeper<Identity>,
+    slot: &Subscription,
+    place: u64,
+) -> Seat<Identity>
     requires board { keeper.old.board ≡ board.now }
     requires place { (0 < place) × (place < 65) }
     requires free { (slot_at keeper.old.slots place).out ≡ false }

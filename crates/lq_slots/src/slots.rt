@@ -8,7 +8,7 @@ ghost use Rattle.lq_subscription.specs.Standing.{SameButHeld, SameButPuts};
 ghost use Rattle.lq_slots.specs.Slots.{IsTaken, SlotStands, AllStand, OnlyAt, IsReadyAt, AllReady, before_of, IsGrown, slot_in};
 
 use lq_board::{Board, Keeper};
-use lq_subscription::{Subscription, Identity, commit, notice, pump, ready};
+use lq_subscription::{Identity, Subscription, commit, notice, pump, ready};
 use lq_value::Refusal;
 use lq_volume::{Change, Volume};
 use std::alloc::Global;

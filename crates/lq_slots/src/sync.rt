@@ -12,7 +12,7 @@ ghost use Rattle.lq_slots.specs.Progress.{ShowsProgress};
 
 use crate::slots::{notice_slot, pump_slot};
 use lq_board::{Board, Keeper, Seat};
-use lq_subscription::{Reading, Subscription, Identity, close, drain};
+use lq_subscription::{Identity, Reading, Subscription, close, drain};
 use lq_update::Mark;
 use lq_value::Refusal;
 use std::sync::Wait;
@@ -29,7 +29,11 @@ pub struct Progress {
 }
 
 // The keeper and a slot's seat meet, and its name stays.
-fn meet_same(board: &Board<Identity>, keeper: &mut Keeper<Identity>, seat: &mut Seat<Identity>) -> u64
+fn meet_same(
+    board: &Board<Identity>,
+    keeper: &mut Keeper<Identity>,
+    seat: &mut Seat<Identity>,
+) -> u64
     requires board { (keeper.old.board ≡ board.now) × (seat.old.board ≡ board.now) }
     requires slot { (0 < seat.old.slot) × (seat.old.slot < 65) }
     requires named { IsSome seat.old.name }
@@ -194,7 +198,9 @@ fn sync_at<R: Wait>(
 {
     let number = meet_at(board, keeper, seat, place);
     let Some(taken) = slot else { unreachable!() };
-    sync_slot(rt, board, keeper, taken, place, openings, seat, reading, number)
+    sync_slot(
+        rt, board, keeper, taken, place, openings, seat, reading, number,
+    )
 }
 
 // The keeper and the seat of a place that may be free meet, and its name stays.
@@ -268,5 +274,14 @@ pub(crate) fn sync_in<R: Wait>(
     ensures seat { seat.new.book ≡ keeper.old.book }
     ensures progress { (s : SubscriptionOf) × ShowsProgress s seat.old seat.new reading.old reading.new result }
 {
-    sync_at(rt, board, keeper, &mut slots[place], place, openings, seat, reading)
+    sync_at(
+        rt,
+        board,
+        keeper,
+        &mut slots[place],
+        place,
+        openings,
+        seat,
+        reading,
+    )
 }

@@ -10,4 +10,4 @@ returns-clause-taken g c =
     let b = c.drain-waiting.ensures.between in
     let met = taken_met c.notice_slot.new.slot (slot_at c.notice_slot.new.keeper.slots c.args.place) (slot_at c.meet_at.new.keeper.slots c.args.place) c.args.openings c.notice_slot.new.keeper.book _ _ c.notice_slot.ensures.taken m.place m.name m.asks in
     taken_drained c.notice_slot.new.slot c.drain-waiting.new.slot (slot_at c.meet_at.new.keeper.slots c.args.place) c.args.openings c.meet_at.new.keeper.book c.drain-waiting.new.reading.port _
-        (subst (IsTaken c.notice_slot.new.slot (slot_at c.meet_at.new.keeper.slots c.args.place) c.args.openings) (sym m.book) met) b.stands b.alike b.ahead b.value c.drain-waiting.ensures.drained
+    (subst (IsTaken c.notice_slot.new.slot (slot_at c.meet_at.new.keeper.slots c.args.place) c.args.openings) (sym m.book) met) b.stands b.alike b.ahead b.value c.drain-waiting.ensures.drained

@@ -25,7 +25,7 @@ waiting-waiting-requires-clause-marks g c =
     let new : ReaderHold = record { reading = c.sync-progress.new.reading; seat = c.sync-progress.new.seat; slot = i.slot; asked = i.asked } in
     let own : IsOwn old = subst IsOwn (sym c.reader.view_is) c.requires.own in
     subst (λ (z : Bool × ℕ). bit (in_port z.0 (is_some (mark_read c.sync-progress.new.reading))) ≤ z.1 + bit (is_some c.sync-progress.new.reading.hand)) (λ i. (sym v.1.out i, sym v.1.waiting i))
-        (marks_few v.0 old new c.sync-progress.result v.1 (refl, refl) c.told.ensures own)
+    (marks_few v.0 old new c.sync-progress.result v.1 (refl, refl) c.told.ensures own)
 
 pub returns : goal.returns
 returns g c =
@@ -36,7 +36,7 @@ returns g c =
     let own : IsOwn old = subst IsOwn (sym c.reader.view_is) c.requires.own in
     let x : Synced = record { change = c.sync-progress.result.change; waiting = c.waiting-waiting.result; held = c.sync-progress.result.held; mark = c.sync-progress.result.mark } in
     subst (λ (z : ReaderHold). IsSynced z new x) c.reader.view_is
-        (synced v.0 old new c.sync-progress.result v.1 (refl, refl) c.told.ensures own x refl
-        (w_is v.0 old new c.sync-progress.result v.1 (refl, refl) c.told.ensures own c.waiting-waiting.result
-        (subst (λ (z : Bool × ℕ). c.waiting-waiting.result + bit (in_port z.0 (is_some (mark_read c.sync-progress.new.reading))) ≡ z.1 + bit (is_some c.sync-progress.new.reading.hand)) (λ i. (v.1.out i, v.1.waiting i)) c.waiting-waiting.ensures))
-        refl refl)
+    (synced v.0 old new c.sync-progress.result v.1 (refl, refl) c.told.ensures own x refl
+    (w_is v.0 old new c.sync-progress.result v.1 (refl, refl) c.told.ensures own c.waiting-waiting.result
+    (subst (λ (z : Bool × ℕ). c.waiting-waiting.result + bit (in_port z.0 (is_some (mark_read c.sync-progress.new.reading))) ≡ z.1 + bit (is_some c.sync-progress.new.reading.hand)) (λ i. (v.1.out i, v.1.waiting i)) c.waiting-waiting.ensures))
+    refl refl)
