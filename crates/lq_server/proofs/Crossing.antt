@@ -66,7 +66,7 @@ board_sync = search (sendable, crosses, found_board.the_sync) depth 20
 
 pub locked_send : (N : RattleType) (g : Ghosts N.Denot) → IsSend (locked.the_row N g)
 locked_send N g = view_send (in_locked.the_row N g) _ _ _ _
-    (declared_send (in_locked.the_type N g) (keeper_send, (slots_send, (found_volume.the_send, (search sendable, (search sendable, (heap.send, (phantom_send N, tt)))))))
+    (declared_send (in_locked.the_type N g) (keeper_send, (slots_send, (found_volume.the_send, (search sendable, (search sendable, (heap.send, (phantom_send N, tt))))))))
 
 mutex_sync : (N : RattleType) (g : Ghosts N.Denot) → IsSync (mutex.the_row (locked.the_row N g))
 mutex_sync N g = search (sendable, crosses, locked_send N g) depth 20
