@@ -1,5 +1,5 @@
 //! One subscription.
-ghost use Rattle.std.specs.Prelude.{◌≡◌, ◌+◌, ◌<◌, ◌≤◌, ◌^◌, [], ◌++◌, vec_len, true, false, None, Some, IfOk, OnOk, OnErr, IsTrue, IfSome};
+ghost use Rattle.std.specs.Prelude.{◌≡◌, ◌+◌, ◌<◌, ◌≤◌, ◌^◌, [], ◌++◌, length, vec_len, true, false, None, Some, IfOk, OnOk, OnErr, IsTrue, IfSome};
 ghost use Rattle.std.specs.VecDeque.{deque_len, deque_capacity};
 ghost use Rattle.lq_value.specs.Refusal.{IsRefusedBy};
 ghost use Rattle.lq_volume.specs.Change.{IsLawful};
@@ -99,6 +99,20 @@ impl Sub {
         ensures { result ≡ self.now.held.mark_out }
     {
         self.mark_out
+    }
+
+    /// How many messages it holds. It takes no memory.
+    pub fn held(&self) -> u64
+        ensures { result ≡ length self.now.held.messages }
+    {
+        self.messages.len() as u64
+    }
+
+    /// Its mark, if it has ended. It takes no memory.
+    pub fn mark(&self) -> Option<Mark>
+        ensures { result ≡ self.now.held.mark }
+    {
+        self.mark
     }
 
     /// Makes the messages of a change, and room for them; it holds what it held.
