@@ -118,14 +118,14 @@ impl Sub {
     /// Makes the messages of a change, and room for them; it holds what it held.
     ///
     /// It passes over a change of values alone that the predicate doesn't look at. Refused:
-    /// `NoMemory`.
+    /// `NoMemory`, and then nothing has changed, nor has what was made ready before.
     pub fn ready(&mut self, volume: &Volume, change: &Change) -> Result<(), Refusal>
         requires lawful { IsLawful volume.now change.now }
         requires few { self.old.held.sent < 2 ^ 63 }
         requires live { IsTrue (is_live self.old.held) }
         ensures refused { IsRefusedBy result None }
         ensures ok { OnOk result (self.new ≡ prepared volume.now change.now self.old) }
-        ensures err { OnErr result (self.new.held ≡ self.old.held) }
+        ensures err { OnErr result (self.new ≡ self.old) }
     {
         changes_pass_over();
         if self.passes_over(change) {
@@ -142,7 +142,6 @@ impl Sub {
             first,
             self.moved,
         )?;
-        self.ready = Vec::new(self.alloc);
         self.messages.reserve(step.len() + 1)?;
         self.ready = step;
         self.before = volume.changes();
@@ -198,13 +197,17 @@ impl Sub {
         });
     }
 
-    /// The first message that it holds, then once the mark, then nothing. It takes no memory.
+    /// The first message that it holds, then once the mark, then nothing. What was made ready for a
+    /// change stays. It takes no memory.
     pub fn next(&mut self) -> Option<Parcel>
         ensures value { result ≡ next_parcel self.old.held }
         ensures rest { self.new.held ≡ without self.old.held (next_parcel self.old.held) }
         ensures room { IfSome result (λ parcel. IsTrue (fits_back self.new.lent parcel)) }
         ensures sent { self.new.held.sent ≡ self.old.held.sent }
         ensures mark { self.new.held.mark ≡ self.old.held.mark }
+        // What was made ready for a change stays.
+        ensures ready { self.new.ready ≡ self.old.ready }
+        ensures before { self.new.before ≡ self.old.before }
     {
         if let Some(message) = self.messages.pop_front() {
             self.lent = true;
@@ -218,12 +221,16 @@ impl Sub {
         Some(Parcel::Fin(mark))
     }
 
-    /// Puts back the parcel that the latest `next` gave. It takes no memory.
+    /// Puts back the parcel that the latest `next` gave. What was made ready for a change stays. It
+    /// takes no memory.
     pub fn put_back(&mut self, parcel: Parcel)
         requires { IsTrue (fits_back self.old.lent parcel) }
         ensures held { self.new.held ≡ with_back self.old.held parcel }
         ensures sent { self.new.held.sent ≡ self.old.held.sent }
         ensures mark { self.new.held.mark ≡ self.old.held.mark }
+        // What was made ready for a change stays.
+        ensures ready { self.new.ready ≡ self.old.ready }
+        ensures before { self.new.before ≡ self.old.before }
     {
         match parcel {
             Parcel::Update(message) => {

@@ -19,6 +19,7 @@ use Rattle.lq_update.specs.Diff.{diff}
 use Rattle.lq_update.specs.Updates.{numbered, step_of, updates_from, updates_of, IsSettled}
 use Rattle.lq_update.specs.Fold.{EntriesRise, folded, folded_one, fits_in, last_change}
 use Rattle.lq_update.specs.Laws.{ResultsRise, FoldsGiveResults, WholeFoldsGiveResults, MessagesFitIn}
+use Rattle.lq_update.proofs.Lists.{after_all-append}
 use Rattle.lq_update.proofs.EntryLemmas.{Above}
 use Rattle.lq_update.proofs.FoldLemmas.{told-folds, told-fits, MessagesFit, folded-numbered, fits-numbered}
 
@@ -219,10 +220,6 @@ module _ (keep : ChangesKeepTrees) (count : ChangesCount) (q : Query) (moved : B
       inside (y ∷ ys) step_is rest_is go some = absurd (some (unsettled seq (s.number + 1) (diff q moved s (after s c)) (m ∷ ms) ys y step_is settled))
 
 -- ---- over a book
-
-after_all-append : (s : State) (xs ys : List Change) → after_all s (xs ++ ys) ≡ after_all (after_all s xs) ys
-after_all-append s [] ys = refl
-after_all-append s (x ∷ xs) ys = after_all-append (after s x) xs ys
 
 take-add : {X : Type 0} (a k : ℕ) (xs : List X) → take (a + k) xs ≡ take a xs ++ take k (drop a xs)
 take-add zero k xs = ap (λ n. take n xs) (let e : 0 + k ≡ k = omega arith in e)

@@ -2,6 +2,7 @@
 use Rattle.std.specs.Prelude.{◌≡◌, ◌↔◌, ℕ, ◌+◌, ◌≤◌, List, [], ◌∷◌, ◌++◌, length, Bool, true, false, codes, Option, Some, None}
 use Rattle.std.specs.List.{AllByRecursion, list_any}
 use Rattle.std.specs.Str.{bytes_eq}
+use mathlib.Core.List.{IsPrefix}
 use Rattle.lq_value.specs.Refusal.{first_refusal}
 use Rattle.lq_formula.specs.Query.{Query}
 use Rattle.lq_predicate.specs.Truth.{Look, truth}
@@ -9,7 +10,7 @@ use Rattle.lq_volume.specs.declared.change.Change.{Change}
 use Rattle.lq_volume.specs.declared.change.Change.TheVariants.{Create, Remove, Move, Write, SetAttr, RemoveAttr}
 use Rattle.lq_volume.specs.State.{State, IsVolume}
 use Rattle.lq_volume.specs.Change.{after, IsLawful}
-use Rattle.lq_volume.specs.Book.{Book, after_all, state_at, number_of, IsBook}
+use Rattle.lq_volume.specs.Book.{Book, Extends, after_all, grown, state_at, state_of, number_of, IsBook}
 use Rattle.lq_volume.specs.Result.{result_of}
 use Rattle.lq_update.specs.declared.message.Message.{Message}
 use Rattle.lq_update.specs.Diff.{diff}
@@ -25,6 +26,25 @@ abbrev pub UpdatesJoin : Type 0
 UpdatesJoin = (q : Query) (moved : Bool) (s : State) (cs ds : List Change) (seq : ℕ) →
     updates_from q moved s (cs ++ ds) seq
     ≡ updates_from q moved s cs seq ++ updates_from q moved (after_all s cs) ds (seq + length (updates_from q moved s cs seq))
+
+-- one more change in a book adds just its messages to the end of an update list
+abbrev pub ChangesAddSteps : Type 0
+ChangesAddSteps = (q : Query) (moved : Bool) (b : Book) (c : Change) (m n : ℕ) → n ≡ number_of b → m ≤ n →
+    updates_of q moved (grown b (c ∷ [])) m (n + 1)
+    ≡ updates_of q moved b m n ++ step_of q moved (state_of b) c (length (updates_of q moved b m n) + 1)
+
+-- a longer book has the same update list up to a number of the shorter one
+abbrev pub UpdatesStay : Type 0
+UpdatesStay = (q : Query) (moved : Bool) (longer b : Book) (m e : ℕ) → Extends longer b → b.start.number ≤ m → m ≤ e → e ≤ number_of b
+    → updates_of q moved longer m e ≡ updates_of q moved b m e
+
+-- an update list up to a number is a prefix of that up to a later one
+abbrev pub UpdatesArePrefixes : Type 0
+UpdatesArePrefixes = (q : Query) (moved : Bool) (b : Book) (m e n : ℕ) → e ≤ n → IsPrefix (updates_of q moved b m e) (updates_of q moved b m n)
+
+-- an update list begins with no message
+abbrev pub UpdatesBeginEmpty : Type 0
+UpdatesBeginEmpty = (q : Query) (moved : Bool) (b : Book) (m : ℕ) → updates_of q moved b m m ≡ []
 
 -- an accepted change tells a query at most three messages
 abbrev pub StepsAreFew : Type 0

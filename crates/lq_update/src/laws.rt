@@ -1,5 +1,5 @@
 //! Laws of the update lists: each is the contract of a function with no body.
-ghost use Rattle.lq_update.specs.Laws.{ChangesPassOver, FoldingsFollow, FoldsGiveResults, MessagesFitIn, RebuildsTakeAll, ResultsRise, SettledIsTested, StepsAreFew, UpdatesGrow, UpdatesJoin, WholeFoldsGiveResults};
+ghost use Rattle.lq_update.specs.Laws.{ChangesAddSteps, ChangesPassOver, FoldingsFollow, FoldsGiveResults, MessagesFitIn, RebuildsTakeAll, ResultsRise, SettledIsTested, StepsAreFew, UpdatesArePrefixes, UpdatesBeginEmpty, UpdatesGrow, UpdatesJoin, UpdatesStay, WholeFoldsGiveResults};
 
 use lq_volume::{
     accepted_changes_keep_trees, changes_are_counted, clobbered_nodes_go, untouched_nodes_stay,
@@ -14,6 +14,27 @@ pub fn updates_grow()
 /// others from the state and the number that the first lead to.
 pub fn updates_join()
     ensures { UpdatesJoin }
+{}
+
+/// One more change in a book adds just its messages to the end of an update list, numbered on.
+pub fn changes_add_steps()
+    ensures { ChangesAddSteps }
+{}
+
+/// A longer book has the same update list up to each number of the shorter one.
+pub fn updates_stay()
+    ensures { UpdatesStay }
+{}
+
+/// An update list up to a number is a prefix of that up to a later one: `updates_grow`, over many
+/// changes.
+pub fn updates_are_prefixes()
+    ensures { UpdatesArePrefixes }
+{}
+
+/// Before any change an update list has no message.
+pub fn updates_begin_empty()
+    ensures { UpdatesBeginEmpty }
 {}
 
 /// An accepted change tells a query at most three messages.

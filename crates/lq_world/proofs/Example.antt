@@ -1,5 +1,5 @@
 -- The definitions compute: scenarios of one query that every entry matches.
-use Rattle.std.proofs.Common.{◌≡◌, ℕ, None, List, [], ◌∷◌, refl, true, false, pos}
+use Rattle.std.proofs.Common.{◌≡◌, ℕ, None, List, [], ◌∷◌, refl, true, false, pos, arith}
 use Rattle.std.specs.Prelude.{codes}
 use Rattle.lq_value.specs.declared.op.Op.TheVariants.{Ge}
 use Rattle.lq_value.specs.declared.literal.Literal.TheVariants.{Plain}
@@ -12,6 +12,7 @@ use Rattle.lq_update.specs.declared.message.Message.{Message}
 use Rattle.lq_update.specs.declared.message.Opcode.TheVariants.{Created, Moved as MovedFrom}
 use Rattle.lq_update.specs.declared.mark.Cause.TheVariants.{Closed, HungUp, Overrun}
 use Rattle.lq_update.specs.declared.parcel.Parcel.TheVariants.{Update, Fin}
+use Rattle.lq_world.specs.Headline.{ReadersAreTold}
 use Rattle.lq_world.specs.World.{World, first_world}
 use Rattle.lq_world.specs.Events.{Happening, Changing, Opening, Putting, Taking, HangingUp, Noticing, Closing, Finishing, Answer, Changed, Opened, Moved, Took, Empty, Ended, Asked, Noticed, Shut, Finished, Refused, answer, next}
 
@@ -94,3 +95,11 @@ moved_saves_backlog : answers_to (
     ∷ Took (Update (record { seq = 1; change = 2; last = true; op = MovedFrom 1 (codes "a"); dir = 1; name = codes "b"; node = 2 })) ∷ Moved true
     ∷ Took (Fin (record { seq = 1; change = 1; cause = Overrun })) ∷ []
 moved_saves_backlog = refl
+
+-- no reader is told that it was opened before a change that came first
+not_opened_before : ReadersAreTold (empty_state 10) (create ∷ Opening every 1 1 false ∷ []) (Changed (record { change = 1; node = 2 }) ∷ Opened 1 0 [] ∷ []) → ⊥
+not_opened_before told =
+    let opening = told (create ∷ []) [] (Changed (record { change = 1; node = 2 }) ∷ []) [] every 1 1 false 1 0 [] refl refl refl in
+    let at : ℕ = 0 in
+    let number : at ≡ 1 = opening.0.number in
+    omega arith

@@ -16,7 +16,7 @@ use Rattle.lq_update.specs.Laws.{FoldsGiveResults, UpdatesJoin, UpdatesGrow, Who
 use Rattle.lq_world.specs.World.{World, Sub, taken_before_free}
 use Rattle.lq_world.specs.Events.{Happening, Opening, Answer, Opened, opening, opened_now, open_refusal, with_sub}
 use Rattle.lq_world.specs.Runs.{Step, Run}
-use Rattle.lq_world.specs.Headline.{reads_of, parcels_in, updates_among, updates_in, accepted_by, accepted, book_of, AreReads, ReadersAreTold}
+use Rattle.lq_world.specs.Headline.{reads_of, parcels_in, updates_among, updates_in, accepted_by, accepted, book_of, IsOpening, AreReads, ReadersAreTold}
 use Rattle.lq_world.proofs.WorldLemmas.{after_all-append, number-all, updates_of-rebased}
 use Rattle.lq_world.proofs.ListLemmas.{take-all, take-inside}
 use Rattle.lq_world.proofs.BookLemmas.{run-lawful}
@@ -142,8 +142,11 @@ module _ (join : UpdatesJoin) (grow : UpdatesGrow) (count : ChangesCount) (fold 
       let at_number : at ≡ start.number + length early = omega (arith, reads.0, ap number_of here, length-append w.book.changes early, counted) in
       let past : number_of w.book ≤ at = omega (arith, at_number, counted) in
       let within : at ≤ number_of b = omega (arith, at_number, ap length both, length-append early late) in
+      let then : state_of mid.book ≡ after_all start early = ap state_of here ∙ after_all-append w.book.start w.book.changes early in
       let state : state_of mid.book ≡ state_at b at =
-      ap state_of here ∙ (after_all-append w.book.start w.book.changes early
-      ∙ (sym (state-after start early late at at_number) ∙ ap (λ ds. state_at (record { start = start; changes = ds }) at) (sym both))) in
-      told-reads fold fold_all b q moved at first _ (run-lawful w end events answers run) (omega (arith, at_number)) within (reads.1 ∙ ap (result_of q) state)
-      (told_over end.book b q moved at _ number (λ n. ap (λ d. updates_of q moved d at n) all ∙ updates_of-rebased count q moved w.book cs at n past) reads.2)
+      then ∙ (sym (state-after start early late at at_number) ∙ ap (λ ds. state_at (record { start = start; changes = ds }) at) (sym both)) in
+      let opening : IsOpening (book_of start before befores) q at first = record { number = at_number; entries = reads.1 ∙ ap (result_of q) then } in (
+        opening,
+        told-reads fold fold_all b q moved at first _ (run-lawful w end events answers run) (omega (arith, at_number)) within (reads.1 ∙ ap (result_of q) state)
+            (told_over end.book b q moved at _ number (λ n. ap (λ d. updates_of q moved d at n) all ∙ updates_of-rebased count q moved w.book cs at n past) reads.2),
+      )

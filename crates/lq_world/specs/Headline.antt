@@ -5,7 +5,7 @@ use Rattle.lq_value.specs.declared.entry.Entry.{Entry}
 use Rattle.lq_formula.specs.Query.{Query}
 use Rattle.lq_volume.specs.declared.change.Change.{Change as Change_}
 use Rattle.lq_volume.specs.State.{State, IsVolume}
-use Rattle.lq_volume.specs.Book.{Book, number_of, state_at}
+use Rattle.lq_volume.specs.Book.{Book, number_of, state_at, state_of}
 use Rattle.lq_volume.specs.Result.{result_of}
 use Rattle.lq_update.specs.declared.message.Message.{Message}
 use Rattle.lq_update.specs.declared.mark.Mark.{Mark}
@@ -65,6 +65,12 @@ book_of s events answers = record { start = s; changes = accepted events answers
 abbrev pub HasMark : List Answer → Type 0
 HasMark reads = (m : Mark) × (front : List Answer) × (rest : List Answer) × (reads ≡ front ++ Took (Fin m) ∷ rest)
 
+-- What an opening may be answered, over the book of the changes before it: their number, and the query's result
+-- after them.
+pub record IsOpening (b : Book) (q : Query) (at : ℕ) (first : List Entry) : Type 0 where
+  pub number : at ≡ number_of b
+  pub entries : first ≡ result_of q (state_of b)
+
 -- What the takes of a subscription may be answered, over a book: its query, the number of changes at its opening,
 -- and the result then.
 pub record AreReads (b : Book) (q : Query) (moved : Bool) (at : ℕ) (first : List Entry) (reads : List Answer) : Type 0 where
@@ -85,10 +91,10 @@ pub record AreReads (b : Book) (q : Query) (moved : Bool) (at : ℕ) (first : Li
   pub closing : IsVolume b.start → (front rest : List Answer) (m : Mark) → reads ≡ front ++ Took (Fin m) ∷ rest →
       folded first (updates_in front) ≡ result_of q (state_at b m.change)
 
--- Whatever came before an opening and comes after it: the takes of the subscription that it opened are such
--- reads, over the changes that the whole run accepted.
+-- Whatever came before an opening and comes after it: it is answered over the changes that the run accepted before
+-- it, and the takes of the subscription that it opened are such reads, over those that the whole run accepted.
 abbrev pub ReadersAreTold : State → List Happening → List Answer → Type 0
 ReadersAreTold s events answers =
     (before after : List Happening) (befores afters : List Answer) (q : Query) (port backlog : ℕ) (moved : Bool) (slot at : ℕ) (first : List Entry)
     → events ≡ before ++ Opening q port backlog moved ∷ after → answers ≡ befores ++ Opened slot at first ∷ afters → length before ≡ length befores
-    → AreReads (book_of s events answers) q moved at first (reads_of slot after afters)
+    → IsOpening (book_of s before befores) q at first × AreReads (book_of s events answers) q moved at first (reads_of slot after afters)

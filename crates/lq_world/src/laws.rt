@@ -78,6 +78,7 @@ pub fn runs_make_books()
 /// The closing mark comes only after the whole list up to the change that it names, nothing follows
 /// it, and `Ended` is answered only after it. Wherever a change's last message is in, folding gives
 /// the query's result after that change; so it does before the mark, for the change that it names.
+/// The opening itself is answered with the number of the changes before it and the result then.
 pub fn readers_are_told()
     ensures { RunsTellReaders }
 {
