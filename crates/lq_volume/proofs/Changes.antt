@@ -1,5 +1,5 @@
 -- An accepted change keeps the numbers and nodes of a volume.
-use Rattle.std.proofs.Common.{◌≡◌, ℕ, ◌+◌, ◌^◌, List, [], ◌∷◌, arith, Bool, false, None, Option, ◌++◌, ◌<◌, ℤ, filter}
+use Rattle.std.proofs.Common.{◌≡◌, ℕ, ◌+◌, ◌≤◌, ◌^◌, List, [], ◌∷◌, arith, Bool, false, None, Option, ◌++◌, ◌<◌, ℤ, filter}
 use Rattle.std.specs.List.{AllByRecursion}
 use Rattle.std.proofs.lemmas.Bool.Decides.{nat_tests}
 use Rattle.lq_value.specs.declared.refusal.Refusal.{Refusal}
@@ -39,6 +39,7 @@ IsNumbered-create s v n more = record {
   next = omega (arith, n.next);
   few = omega (arith, n.few);
   rise = Rises-push s.records s.next v n.rise n.below;
+  above = All-push (λ e. 2 ≤ e.0) s.records (s.next, v) n.above n.next;
   below = All-push (λ e. e.0 < s.next + 1) s.records (s.next, v) (All-weaker (λ e. e.0 < s.next) (λ e. e.0 < s.next + 1) s.records (λ e lt. omega arith) n.below) (omega arith);
 }
 
@@ -50,6 +51,7 @@ IsNumbered-filter s test n more = record {
   next = n.next;
   few = omega (arith, n.few);
   rise = Rises-filter test s.records n.rise;
+  above = All-filter (λ e. 2 ≤ e.0) test s.records n.above;
   below = All-filter (λ e. e.0 < s.next) test s.records n.below;
 }
 
@@ -61,5 +63,6 @@ IsNumbered-altered s other node f n more = record {
   next = n.next;
   few = omega (arith, n.few);
   rise = Rises-altered node f (without other s.records) (Rises-without other s.records n.rise);
+  above = All-altered (λ k. 2 ≤ k) node f (without other s.records) (All-without (λ e. 2 ≤ e.0) other s.records n.above);
   below = All-altered (λ k. k < s.next) node f (without other s.records) (All-without (λ e. e.0 < s.next) other s.records n.below);
 }

@@ -80,6 +80,8 @@ pub record IsNumbered (s : State) : Type 0 where
   pub next : 2 ≤ s.next
   pub few : s.next ≤ s.number + 2
   pub rise : Rises s.records
+  -- each node is from 2 to the one before the next
+  pub above : AllByRecursion (λ e. 2 ≤ e.0) s.records
   pub below : AllByRecursion (λ e. e.0 < s.next) s.records
 
 -- the records are a tree

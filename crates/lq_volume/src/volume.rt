@@ -74,6 +74,8 @@ impl Volume {
     }
 
     /// How many changes it accepted, and so the number of the latest one. It takes no memory.
+    ///
+    /// The volume is a tree within its limit, and its nodes are 2 and up.
     pub fn changes(&self) -> u64
         ensures number { result ≡ self.now.number }
         ensures volume { IsVolume self.now }
