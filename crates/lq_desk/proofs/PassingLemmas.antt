@@ -1,117 +1,18 @@
 -- A change under names that a predicate doesn't use tells its subscription nothing.
-use Rattle.std.proofs.Common.{◌≡◌, ℕ, ◌+◌, List, [], ◌∷◌, ◌++◌, refl, ap, sym, Some, None, Option, Bool, true, false}
-use Rattle.std.specs.Prelude.{not, ◌||◌, if◌then◌else◌}
+use Rattle.std.proofs.Common.{◌≡◌, ℕ, ◌+◌, List, [], ◌∷◌, ap, Some, None, Option, Bool, true, false, refl}
+use Rattle.std.specs.Prelude.{not, ◌||◌}
 use Rattle.std.specs.List.{list_any, AllByRecursion}
 use Rattle.std.specs.Str.{bytes_eq}
-use Rattle.std.proofs.lemmas.Slice.Eq.{bytes_eq-Decides}
-use Rattle.lq_formula.specs.Query.{Query, Compare, Not, And, Or, Queries, no_more, and_then}
-use Rattle.lq_predicate.specs.Names as names
-use Rattle.lq_predicate.specs.Names.{attributes, all_attributes, with_name, each_once, names_of}
-use Rattle.lq_predicate.specs.Truth.{Look, compares_if_present, truth, all_true, some_true}
+use Rattle.lq_formula.specs.Query.{Query}
+use Rattle.lq_predicate.specs.Names.{names_of}
+use Rattle.lq_predicate.specs.Laws.{TruthGoesByNames}
 use Rattle.lq_volume.specs.declared.change.Change.{Change}
 use Rattle.lq_volume.specs.State.{State, IsVolume}
-use Rattle.lq_update.specs.Laws.{GoesBy, ChangesPassOver, names_altered}
+use Rattle.lq_update.specs.Laws.{ChangesPassOver, names_altered}
 use Rattle.lq_update.specs.Updates.{numbered, step_of}
 use Rattle.lq_desk.specs.Passing.{is_among, are_apart, passes_over}
 
--- ---- the truth of a predicate goes by its names
-
-alike-left : (look other : Look) (xs ys : List (List ℕ)) → AllByRecursion (λ name. look name ≡ other name) (xs ++ ys) → AllByRecursion (λ name. look name ≡ other name) xs
-alike-left look other [] ys h = tt
-alike-left look other (x ∷ xs) ys h = (h.0, alike-left look other xs ys h.1)
-
-alike-right : (look other : Look) (xs ys : List (List ℕ)) → AllByRecursion (λ name. look name ≡ other name) (xs ++ ys) → AllByRecursion (λ name. look name ≡ other name) ys
-alike-right look other [] ys h = h
-alike-right look other (x ∷ xs) ys h = alike-right look other xs ys h.1
-
-mutual
-  truth-same : (q : Query) (look other : Look) → AllByRecursion (λ name. look name ≡ other name) (attributes q) → truth q look ≡ truth q other
-  truth-same (Compare attr op literal) look other h = ap (λ o. compares_if_present o op literal) h.0
-  truth-same (Not q) look other h = ap not (truth-same q look other h)
-  truth-same (And qs) look other h = all-same qs look other h
-  truth-same (Or qs) look other h = some-same qs look other h
-
-  all-same : (qs : Queries) (look other : Look) → AllByRecursion (λ name. look name ≡ other name) (all_attributes qs) → all_true qs look ≡ all_true qs other
-  all-same no_more look other h = refl
-  all-same (and_then q qs) look other h =
-      let first = truth-same q look other (alike-left look other (attributes q) (all_attributes qs) h) in
-      let rest = all-same qs look other (alike-right look other (attributes q) (all_attributes qs) h) in
-      cc
-
-  some-same : (qs : Queries) (look other : Look) → AllByRecursion (λ name. look name ≡ other name) (all_attributes qs) → some_true qs look ≡ some_true qs other
-  some-same no_more look other h = refl
-  some-same (and_then q qs) look other h =
-      let first = truth-same q look other (alike-left look other (attributes q) (all_attributes qs) h) in
-      let rest = some-same qs look other (alike-right look other (attributes q) (all_attributes qs) h) in
-      cc
-
--- ---- a predicate's names are its attributes
-
-or-right : (a b : Bool) → b ≡ true → (a || b) ≡ true
-or-right true b h = refl
-or-right false b h = h
-
-among-front : (name : List ℕ) (xs ys : List (List ℕ)) → is_among xs name ≡ true → is_among (xs ++ ys) name ≡ true
-among-front name [] ys h = absurd (let bad : ⊥ = cc in bad)
-among-front name (x ∷ xs) ys h = by (bytes_eq name x) h (λ more. among-front name xs ys more)
-  where
-    by : (b : Bool) → (b || is_among xs name) ≡ true → (is_among xs name ≡ true → is_among (xs ++ ys) name ≡ true) → (b || is_among (xs ++ ys) name) ≡ true
-    by true h more = refl
-    by false h more = more h
-
-same-among : (name : List ℕ) → bytes_eq name name ≡ true
-same-among name = (bytes_eq-Decides name name).1 refl
-
-among-back : (name : List ℕ) (xs : List (List ℕ)) → is_among (xs ++ name ∷ []) name ≡ true
-among-back name [] = let e = same-among name in rw e refl
-among-back name (x ∷ xs) = or-right (bytes_eq name x) (is_among (xs ++ name ∷ []) name) (among-back name xs)
-
--- the definition of names compares the other way round
-turned : (a b : List ℕ) → bytes_eq a b ≡ true → bytes_eq b a ≡ true
-turned a b h =
-    let same : a ≡ b = (bytes_eq-Decides a b).0 h in
-    (bytes_eq-Decides b a).1 (sym same)
-
-among-turned : (name : List ℕ) (xs : List (List ℕ)) → names.is_among xs name ≡ true → is_among xs name ≡ true
-among-turned name [] h = absurd (let bad : ⊥ = cc in bad)
-among-turned name (x ∷ xs) h = by (bytes_eq x name) refl h (λ more. among-turned name xs more)
-  where
-    by : (b : Bool) → bytes_eq x name ≡ b → (b || names.is_among xs name) ≡ true → (names.is_among xs name ≡ true → is_among xs name ≡ true) → (bytes_eq name x || is_among xs name) ≡ true
-    by true is h more = let here = turned x name is in rw here refl
-    by false is h more = or-right (bytes_eq name x) (is_among xs name) (more h)
-
-with-has : (xs : List (List ℕ)) (name : List ℕ) → is_among (with_name xs name) name ≡ true
-with-has xs name = by (names.is_among xs name) refl
-  where
-    by : (b : Bool) → names.is_among xs name ≡ b → is_among (if b then xs else xs ++ name ∷ []) name ≡ true
-    by true is = among-turned name xs is
-    by false is = among-back name xs
-
-with-keeps : (xs : List (List ℕ)) (one name : List ℕ) → is_among xs name ≡ true → is_among (with_name xs one) name ≡ true
-with-keeps xs one name h = by (names.is_among xs one)
-  where
-    by : (b : Bool) → is_among (if b then xs else xs ++ one ∷ []) name ≡ true
-    by true = h
-    by false = among-front name xs (one ∷ []) h
-
-each-keeps : (xs uses : List (List ℕ)) (name : List ℕ) → is_among xs name ≡ true → is_among (each_once xs uses) name ≡ true
-each-keeps xs [] name h = h
-each-keeps xs (use_ ∷ uses) name h = each-keeps (with_name xs use_) uses name (with-keeps xs use_ name h)
-
-each-has : (xs uses : List (List ℕ)) → AllByRecursion (λ name. is_among (each_once xs uses) name ≡ true) uses
-each-has xs [] = tt
-each-has xs (one ∷ uses) = (each-keeps (with_name xs one) uses one (with-has xs one), each-has (with_name xs one) uses)
-
-all-alike : (look other : Look) (all uses : List (List ℕ)) → AllByRecursion (λ name. is_among all name ≡ true) uses → ((name : List ℕ) → is_among all name ≡ true → look name ≡ other name)
-    → AllByRecursion (λ name. look name ≡ other name) uses
-all-alike look other all [] h same = tt
-all-alike look other all (one ∷ uses) h same = (same one h.0, all-alike look other all uses h.1 same)
-
-pub goes-by : (q : Query) → GoesBy (names_of q) q
-goes-by q = λ look other same. truth-same q look other (all-alike look other (names_of q) (attributes q) (each-has [] (attributes q)) same)
-
--- ---- such a change has no messages
-
+-- none of the names that are apart is one of the others
 none-among : (names altered : List (List ℕ)) → list_any (is_among names) altered ≡ false → AllByRecursion (λ name. list_any (bytes_eq name) names ≡ false) altered
 none-among names [] h = tt
 none-among names (one ∷ altered) h = by (is_among names one) refl h (λ more. none-among names altered more)
@@ -125,11 +26,12 @@ flip : (b : Bool) → not b ≡ true → b ≡ false
 flip true h = absurd (let bad : ⊥ = cc in bad)
 flip false h = refl
 
-pub step-empty : ChangesPassOver → (q : Query) (moved : Bool) (s : State) (c : Change) (n : ℕ) → IsVolume s → passes_over (names_of q) c ≡ true → step_of q moved s c n ≡ []
-step-empty over q moved s c n v h = by (names_altered c) refl h
+-- such a change has no messages
+pub step-empty : ChangesPassOver → TruthGoesByNames → (q : Query) (moved : Bool) (s : State) (c : Change) (n : ℕ) → IsVolume s → passes_over (names_of q) c ≡ true → step_of q moved s c n ≡ []
+step-empty over names q moved s c n v h = by (names_altered c) refl h
   where
     by : (o : Option (List (List ℕ))) → names_altered c ≡ o → are_apart (names_of q) o ≡ true → step_of q moved s c n ≡ []
     by None is h = absurd (let bad : ⊥ = cc in bad)
     by (Some altered) is h =
         let apart : list_any (is_among (names_of q)) altered ≡ false = flip (list_any (is_among (names_of q)) altered) h in
-        ap (numbered n (s.number + 1)) (over q moved s c (names_of q) altered v (goes-by q) is (none-among (names_of q) altered apart))
+        ap (numbered n (s.number + 1)) (over q moved s c (names_of q) altered v (names q) is (none-among (names_of q) altered apart))

@@ -6,7 +6,7 @@ ghost use Rattle.lq_volume.specs.Change.{IsLawful};
 ghost use Rattle.lq_predicate.specs.Names.{names_of};
 ghost use Rattle.lq_desk.specs.Passing.{is_among, passes_over};
 
-use lq_predicate::{Predicate, names};
+use lq_predicate::{Predicate, names, truth_goes_by_names};
 use lq_update::{Cause, Mark, Message, Parcel, changes_pass_over, step};
 use lq_value::{AttrName, Refusal};
 use lq_volume::{Change, Volume};
@@ -128,6 +128,7 @@ impl Sub {
         ensures err { OnErr result (self.new ≡ self.old) }
     {
         changes_pass_over();
+        truth_goes_by_names();
         if self.passes_over(change) {
             self.ready = Vec::new(self.alloc);
             self.before = volume.changes();

@@ -1,5 +1,6 @@
 pub mod PartLemmas
 pub mod NameLemmas
+pub mod TruthLemmas
 pub mod StackLemmas
 pub mod CanonicalLemmas
 pub mod WeightLemmas

@@ -7,6 +7,7 @@ pub mod PlainPlace
 pub mod Refusals
 pub mod Truth
 pub mod Names
+pub mod Laws
 pub mod Operand
 pub mod Stacked
 pub mod Stack

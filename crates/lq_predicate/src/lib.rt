@@ -13,6 +13,7 @@ mod fault_place;
 mod fitting;
 mod gauge;
 mod item;
+mod laws;
 mod machine;
 mod operand;
 mod predicate;
@@ -29,6 +30,7 @@ mod truth;
 
 pub use attributes::names;
 pub use canonical::write;
+pub use laws::truth_goes_by_names;
 pub use predicate::Predicate;
 pub use reader::read;
 pub use stack::Stack;

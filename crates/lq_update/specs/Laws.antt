@@ -5,7 +5,7 @@ use Rattle.std.specs.Str.{bytes_eq}
 use mathlib.Core.List.{IsPrefix}
 use Rattle.lq_value.specs.Refusal.{first_refusal}
 use Rattle.lq_formula.specs.Query.{Query}
-use Rattle.lq_predicate.specs.Truth.{Look, truth}
+use Rattle.lq_predicate.specs.Laws.{GoesBy}
 use Rattle.lq_volume.specs.declared.change.Change.{Change}
 use Rattle.lq_volume.specs.declared.change.Change.TheVariants.{Create, Remove, Move, Write, SetAttr, RemoveAttr}
 use Rattle.lq_volume.specs.State.{State, IsVolume}
@@ -84,10 +84,6 @@ FoldingsFollow = (f : Folding) (ms : List Message) → ((folding_after_all f ms)
 -- the test of a settled list
 abbrev pub SettledIsTested : Type 0
 SettledIsTested = (ms : List Message) → IsSettled ms ↔ (is_settled ms ≡ true)
-
--- the truth of a predicate goes by what a row shows under these names alone
-abbrev pub GoesBy : List (List ℕ) → Query → Type 0
-GoesBy names q = (look other : Look) → ((name : List ℕ) → list_any (bytes_eq name) names ≡ true → look name ≡ other name) → truth q look ≡ truth q other
 
 -- the names under which alone a change alters what an entry shows, where it leaves every place
 abbrev pub names_altered : Change → Option (List (List ℕ))

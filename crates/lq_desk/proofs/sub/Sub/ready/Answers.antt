@@ -10,7 +10,7 @@ pub returns-then-passes_over-clause-ok : goal.returns-then-passes_over-clause-ok
 returns-then-passes_over-clause-ok c =
     let h = c.args.self.now.held in
     let over : passes_over (names_of h.query) c.args.change.now ≡ true = sym c.passes_over.ensures ∙ c.if-passes_over.true in
-    let none : step_of h.query h.moved c.args.volume.now c.args.change.now (h.sent + 1) ≡ [] = step-empty c.changes_pass_over.ensures h.query h.moved c.args.volume.now c.args.change.now (h.sent + 1) c.changes-self-inside.ensures.volume over in
+    let none : step_of h.query h.moved c.args.volume.now c.args.change.now (h.sent + 1) ≡ [] = step-empty c.changes_pass_over.ensures c.truth_goes_by_names.ensures h.query h.moved c.args.volume.now c.args.change.now (h.sent + 1) c.changes-self-inside.ensures.volume over in
     let p = c.args.self.now in
     let r = c.changes-self-inside.result in
     ap (λ (v : Prepared). record v { ready = c.new.result.items; before = r }) c.self.view_is

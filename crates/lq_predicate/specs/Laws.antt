@@ -1,0 +1,15 @@
+-- What is so of every predicate.
+use Rattle.std.specs.Prelude.{◌≡◌, ℕ, List, true}
+use Rattle.std.specs.List.{list_any}
+use Rattle.std.specs.Str.{bytes_eq}
+use Rattle.lq_formula.specs.Query.{Query}
+use Rattle.lq_predicate.specs.Names.{names_of}
+use Rattle.lq_predicate.specs.Truth.{Look, truth}
+
+-- the truth of a predicate goes by what a row shows under these names alone
+abbrev pub GoesBy : List (List ℕ) → Query → Type 0
+GoesBy names q = (look other : Look) → ((name : List ℕ) → list_any (bytes_eq name) names ≡ true → look name ≡ other name) → truth q look ≡ truth q other
+
+-- and it goes by the names of its attributes
+abbrev pub TruthGoesByNames : Type 0
+TruthGoesByNames = (q : Query) → GoesBy (names_of q) q
