@@ -33,10 +33,14 @@ pub fn run<R: Source, W: Sink>(
     ensures ok { OnOk result (Answered world_rules script_session
         (R.left reader.old) (R.left reader.new) (W.written writer.old) (W.written writer.new)) }
     ensures flushed { OnOk result (W.flushed writer.new ≡ true) }
+    ensures works { OnOk result ((R.failed reader.new ≡ false)
+        × (W.failed writer.new ≡ false) × (W.stalled writer.new ≡ false)) }
 
     // After a fault what was written is a front of the output of what was read.
     ensures err { OnErr result (Stopped world_rules script_session
         (R.left reader.old) (R.left reader.new) (W.written writer.old) (W.written writer.new)) }
+    ensures flush { OnErr result ((result ≡ Err RunFault.Write)
+        ⊎ ((W.flushed writer.new ≡ true) ⊎ (W.failed writer.new ≡ true))) }
 
     // After a read fault and at a limit it is that of the lines that LF ended.
     ensures read { IsErrOf result RunFault.Read → Ended world_rules script_session
@@ -65,6 +69,7 @@ pub fn run<R: Source, W: Sink>(
 fn out_of_memory<W: Sink>(writer: &mut W) -> RunFault
     ensures fault { result ≡ RunFault.Memory }
     ensures bytes { Keeps (W.written writer.old) (W.written writer.new) }
+    ensures flushed { (W.flushed writer.new ≡ true) ⊎ (W.failed writer.new ≡ true) }
 {
     match writer.flush() {
         Ok(()) | Err(Failed) => RunFault::Memory,
