@@ -1,9 +1,6 @@
 //! Tests that cross crates: worked examples as calls and as lists of events, scripts over devices
-//! that fail and at the limits of their input, a volume under a lock whose number is read beside
-//! it (`locked`, `tie`), and the plain body of `step` beside the fast one (`plain`).
-//!
-//! A contract sees the lock's value as a book, and the lock as its board. Calls that take the lock
-//! wait. Begin with `tie`.
+//! that fail and at the limits of their input, and the plain body of `step` beside the fast one
+//! (`plain`). Nothing here waits.
 #![tactic(auto)]
 
 #[cfg(test)]
@@ -26,15 +23,8 @@ mod events;
 mod faults;
 #[cfg(test)]
 mod input;
-mod locked;
 pub mod plain;
 #[cfg(test)]
 mod scripts;
 #[cfg(test)]
-mod threads;
-mod tie;
-#[cfg(test)]
 mod told;
-
-pub use locked::{Locked, Named, Tag};
-pub use tie::{Base, Tie, two_threads};
