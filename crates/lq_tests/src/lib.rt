@@ -35,6 +35,8 @@ mod threads;
 mod tie;
 #[cfg(test)]
 mod told;
+#[cfg(test)]
+mod variants;
 
 pub use locked::{Locked, Named, Tag};
 pub use tie::{Base, Tie, two_threads};
