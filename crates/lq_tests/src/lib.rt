@@ -1,5 +1,6 @@
 //! Tests that cross crates: worked examples as calls and as lists of events, scripts over devices
-//! that fail and at the limits of their input, and the plain body of `step` beside the fast one
+//! that fail and at the limits of their input, each call that may give up with memory for each
+//! variant of its arguments (`variants`), and the plain body of `step` beside the fast one
 //! (`plain`). Nothing here waits.
 #![tactic(auto)]
 
@@ -28,3 +29,5 @@ pub mod plain;
 mod scripts;
 #[cfg(test)]
 mod told;
+#[cfg(test)]
+mod variants;
