@@ -1,5 +1,5 @@
 -- Parcels under their rule.
-use Rattle.std.proofs.Common.{◌≡◌, ℕ, zero, suc, ◌+◌, ◌<◌, ◌≤◌, List, [], ◌∷◌, ◌++◌, length, Option, Some, None, refl, sym, ap, ◌∙◌, subst, arith, append_assoc, append-nil}
+use Rattle.std.proofs.Common.{◌≡◌, List, [], ◌∷◌, ◌++◌, length, Option, None, refl, sym, ap, ◌∙◌, subst, append_assoc, append-nil}
 use Rattle.std.specs.Prelude.{IfSome}
 use mathlib.Core.List.{IsPrefix}
 use Rattle.lq_volume.specs.Book.{Book, Extends}
@@ -13,7 +13,7 @@ use Rattle.lq_subscription.specs.declared.delivery.Opening.{Opening}
 use Rattle.lq_subscription.specs.Rule.{book_of, floor_of, query_of, message_of, mark_or, messages_in, mark_in, last_book, whole, IsMark, Tells, MayFollow}
 use Rattle.lq_subscription.specs.LegalList.{known_by, LegalList}
 use Rattle.lq_subscription.proofs.Books.{extends_self, extends_trans}
-use Rattle.lq_subscription.proofs.UpdateLemmas.{updates-front, updates-none}
+use Rattle.lq_subscription.proofs.UpdateLemmas.{updates-front}
 
 pub prefix_self : {A : Type 0} (xs : List A) → IsPrefix xs xs
 prefix_self xs = ([], append-nil xs)
@@ -53,9 +53,10 @@ legal_list-what : (f : Opening) (messages : List Message) (book : Book) (w : Par
     → IsPrefix (messages ++ message_of w) (whole f book) × IfSome (mark_or w None) (IsMark f (messages ++ message_of w) book)
 legal_list-what f messages book (Update m) t = (t, tt)
 legal_list-what f messages book (Fin k) t =
-    let same : messages ++ [] ≡ messages = append-nil messages in
-    (subst (λ l. IsPrefix l (whole f book)) (sym (same ∙ t.all)) (updates-front (query_of f) f.moved book f.opened k.change (length book.changes) t.within),
-      subst (λ l. IsMark f l book k) (sym same) t)
+    let same : messages ++ [] ≡ messages = append-nil messages in (
+      subst (λ l. IsPrefix l (whole f book)) (sym (same ∙ t.all)) (updates-front (query_of f) f.moved book f.opened k.change (length book.changes) t.within),
+      subst (λ l. IsMark f l book k) (sym same) t,
+    )
 
 pub legal_list-step : (f : Opening) (ps : List Delivery) (x : Delivery) → LegalList f ps → MayFollow ps f x → LegalList f (ps ++ x ∷ [])
 legal_list-step f ps x legal_list comes =

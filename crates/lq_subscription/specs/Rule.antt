@@ -1,5 +1,5 @@
 -- What a port of a subscription may hold.
-use Rattle.std.specs.Prelude.{◌≡◌, ℕ, ◌+◌, ◌≤◌, Bool, false, List, [], ◌∷◌, ◌++◌, length, Option, Some, None}
+use Rattle.std.specs.Prelude.{◌≡◌, ℕ, ◌+◌, ◌≤◌, false, List, [], ◌∷◌, ◌++◌, length, Option, Some, None}
 use mathlib.Core.List.{IsPrefix}
 use Rattle.lq_formula.specs.Query.{Query, And, no_more}
 use Rattle.lq_volume.specs.Book.{Book, Extends}
@@ -63,10 +63,11 @@ upto_change f book n = updates (query_of f) f.moved book f.opened n
 abbrev pub whole : Opening → Book → List Message
 whole f book = upto_change f book (length book.changes)
 
--- the mark comes after all updates up to its change
+-- the mark comes after all updates up to its change, which isn't before the opening
 pub record IsMark (f : Opening) (messages : List Message) (book : Book) (k : Mark) : Type 0 where
   pub all : messages ≡ upto_change f book k.change
   pub seq : k.seq ≡ length messages + 1
+  pub opened : f.opened ≤ k.change
   pub within : k.change ≤ length book.changes
 
 abbrev pub Tells : Opening → List Message → Book → Parcel → Type 0
