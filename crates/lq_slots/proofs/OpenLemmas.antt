@@ -1,5 +1,5 @@
 -- A subscription that was just made.
-use Rattle.std.proofs.Common.{◌≡◌, ℕ, ◌+◌, ◌<◌, ◌≤◌, Bool, true, false, true≢false, List, [], length, Option, Some, None, refl, sym, ap, ◌∙◌, subst, arith, length-set, get_or-set_same, get_or-set_other}
+use Rattle.std.proofs.Common.{◌≡◌, ℕ, ◌+◌, ◌<◌, ◌≤◌, Bool, true, false, true≢false, List, [], length, Option, Some, None, refl, sym, ap, ◌∙◌, subst, arith, length-set, get_or-set_same, get_or-set_other, slice_set}
 use Rattle.lq_formula.specs.Query.{Query}
 use Rattle.lq_volume.specs.Book.{Book, state_of}
 use Rattle.lq_volume.specs.Result.{result_of}
@@ -23,9 +23,9 @@ use Rattle.lq_subscription.specs.Identity.{identity_of}
 use Rattle.lq_subscription.specs.Reading.{ReadingHold}
 use Rattle.lq_subscription.specs.Standing.{Stands, StandsAt}
 use Rattle.lq_subscription.proofs.EndLemmas.{stands_new}
-use Rattle.lq_slots.specs.Slots.{IsTaken, SlotStands, slot_in, AllStand, OnlyAt}
+use Rattle.lq_slots.specs.Slots.{IsTaken, SlotStands, asks_of, slot_in, AllStand, OnlyAt}
 use Rattle.lq_slots.specs.Opening.{IsBegun}
-use Rattle.lq_slots.proofs.SlotLemmas.{holding_set, holding_more, only_counted, counted_here}
+use Rattle.lq_slots.proofs.SlotLemmas.{all_stand-set, only_counted, counted_here}
 use Rattle.lq_slots.proofs.SyncLemmas.{only_trans}
 
 pub begun_new : (s : Subscription) (r : ReadingHold) (book : Book) (q : Query) (mv : Bool) (port backlog at : ℕ) (g : Opening) → s.sub.held ≡ opened_with q mv at backlog → at ≡ length book.changes → s.places ≡ port → s.shut ≡ Never
@@ -59,11 +59,17 @@ only_gone ps k name =
     record { wide = length-set ps k q; others = λ j ne. get_or-set_other ps k j q unused ne }
 
 -- a subscription takes a free place
-pub settled : (keeper one two : KeeperToken Identity) (slots : List (Option Subscription)) (place openings n : ℕ) (s : Subscription) (book : Book) → AllStand keeper slots openings book → 0 < place → place < 65 → slot_in slots place ≡ None
-    → one.slots ≡ counted keeper.slots place n → ((slot_at keeper.slots place).out ≡ false → n ≡ (slot_at keeper.slots place).asks) → two.slots ≡ gone_out one.slots place (Some (identity_of s)) → s.asks ≡ n
-    → StandsAt s book → s.sub.held.messages ≡ [] → s.sub.held.mark ≡ None → AllStand two (Rattle.std.proofs.Common.slice_set slots place (Some s)) (openings + 1) book
+pub settled : (keeper one two : KeeperToken Identity) (slots : List (Option Subscription))
+    (place openings n : ℕ) (s : Subscription) (book : Book) → AllStand keeper slots openings book
+    → 0 < place → place < 65 → slot_in slots place ≡ None
+    → one.slots ≡ counted keeper.slots place n
+    → ((slot_at keeper.slots place).out ≡ false → n ≡ (slot_at keeper.slots place).asks)
+    → two.slots ≡ gone_out one.slots place (Some (identity_of s)) → s.asks ≡ n
+    → StandsAt s book → s.sub.held.messages ≡ [] → s.sub.held.mark ≡ None
+    → AllStand two (slice_set slots place (Some s)) (openings + 1) book
 settled keeper one two slots place openings n s book h pos within free counts idle gone asks stands none live =
-    let was : SlotStands None (slot_at keeper.slots place) openings book = subst (λ (z : Option Subscription). SlotStands z (slot_at keeper.slots place) openings book) free (h.each place pos within) in
+    let was : SlotStands None (slot_at keeper.slots place) book = subst (λ (z : Option Subscription). SlotStands z (slot_at keeper.slots place) book) free (h.each place pos within) in
+    let most : (slot_at keeper.slots place).asks ≤ openings = subst (λ (z : Option Subscription). asks_of z (slot_at keeper.slots place) ≤ openings) free (h.asks place pos within) in
     let known = h.known in
     let long : length one.slots ≡ 65 = ap (length {A = Known Identity}) counts ∙ (only_counted keeper.slots place n).wide ∙ h.known in
     let here : slot_at one.slots place ≡ record { out = (slot_at keeper.slots place).out; asks = n; name = (slot_at keeper.slots place).name } =
@@ -73,14 +79,12 @@ settled keeper one two slots place openings n s book h pos within free counts id
     let only : OnlyAt keeper.slots two.slots place =
     only_trans keeper.slots one.slots two.slots place (subst (λ (ps : List (Known Identity)). OnlyAt keeper.slots ps place) (sym counts) (only_counted keeper.slots place n))
     (subst (λ (ps : List (Known Identity)). OnlyAt one.slots ps place) (sym gone) (only_gone one.slots place (Some (identity_of s)))) in
-    let count : n ≡ (slot_at keeper.slots place).asks = idle was.0 in
-    let most : (slot_at keeper.slots place).asks ≤ openings = was.1 in
-    holding_set keeper two slots place (openings + 1) (Some s) book (holding_more keeper slots openings (openings + 1) book (omega arith) h) only
+    let count : n ≡ (slot_at keeper.slots place).asks = idle was in
+    all_stand-set keeper two slots place openings (openings + 1) (Some s) book h (omega arith) only
     (record {
       stands = stands;
       filled = λ some. let zero_ : length s.sub.held.messages ≡ 0 = ap (length {A = Message}) none in absurd (omega arith);
       out = ap (λ (p : Known Identity). p.out) there;
       name = ap (λ (p : Known Identity). p.name) there;
       hung = λ hu. absurd (subst hung_mark live hu);
-      below = omega arith;
-    })
+    }) (omega arith)

@@ -26,7 +26,7 @@ use Rattle.lq_subscription.specs.Marking.{hung_mark}
 use Rattle.lq_subscription.specs.Identity.{identity_of, port_id}
 use Rattle.lq_subscription.specs.Standing.{StandsAt, IsFilled, IsStuck, IsOut, IsDrained, SameButPuts, SameButHeld}
 use Rattle.lq_subscription.proofs.PutLemmas.{not_moved}
-use Rattle.lq_slots.specs.Slots.{IsTaken, SlotStands, slot_in, AllStand, OnlyAt, IsReadyAt, AllReady, before_of, IsGrown, PartlyTold}
+use Rattle.lq_slots.specs.Slots.{IsTaken, SlotStands, asks_of, slot_in, AllStand, OnlyAt, IsReadyAt, AllReady, before_of, IsGrown, PartlyTold}
 
 -- ---- one slot
 
@@ -82,8 +82,11 @@ identity_others s t a shut = λ i. record {
   port = port_id (a.input i).port;
 }
 
-pub taken_then : (s t : Subscription) (p : Known Identity) (openings : ℕ) (book0 book : Book) → IsTaken s p openings book0 → StandsAt t book → IsStuck t → identity_of t ≡ identity_of s → (hung_mark t.sub.held.mark → hung_mark s.sub.held.mark) → IsTaken t p openings book
-taken_then s t p openings book0 book taken stands stuck identity hung =
+-- a taken slot stands on, with what was put and the book changed
+pub taken_then : (s t : Subscription) (p : Known Identity) (book0 book : Book) → IsTaken s p book0
+    → StandsAt t book → IsStuck t → identity_of t ≡ identity_of s
+    → (hung_mark t.sub.held.mark → hung_mark s.sub.held.mark) → IsTaken t p book
+taken_then s t p book0 book taken stands stuck identity hung =
     let asks : t.asks ≡ s.asks = ap (λ (x : Identity). x.asks) identity in
     record {
       stands = stands;
@@ -91,13 +94,12 @@ taken_then s t p openings book0 book taken stands stuck identity hung =
       out = taken.out;
       name = taken.name ∙ ap (λ (x : Identity). Some x) (sym identity);
       hung = λ h. subst (λ n. n < p.asks) (sym asks) (taken.hung (hung h));
-      below = subst (λ n. n < openings) (sym asks) taken.below;
     }
 
 -- the keeper knows more of its asks, and it may have ended
-pub taken_noticed : (s t : Subscription) (p q : Known Identity) (openings n : ℕ) (asked : Bool) (book : Book) → IsTaken s p openings book → StandsAt t book → SameButHeld s t → t.shut ≡ s.shut → t.sub.held.messages ≡ s.sub.held.messages
-    → (hung_mark t.sub.held.mark → (asked ≡ true) ⊎ hung_mark s.sub.held.mark) → (asked ≡ true → s.asks < n) → p.asks ≤ n → q ≡ record { out = p.out; asks = n; name = p.name } → IsTaken t q openings book
-taken_noticed s t p q openings n asked book taken stands others shut messages hung test le is =
+pub taken_noticed : (s t : Subscription) (p q : Known Identity) (n : ℕ) (asked : Bool) (book : Book) → IsTaken s p book → StandsAt t book → SameButHeld s t → t.shut ≡ s.shut → t.sub.held.messages ≡ s.sub.held.messages
+    → (hung_mark t.sub.held.mark → (asked ≡ true) ⊎ hung_mark s.sub.held.mark) → (asked ≡ true → s.asks < n) → p.asks ≤ n → q ≡ record { out = p.out; asks = n; name = p.name } → IsTaken t q book
+taken_noticed s t p q n asked book taken stands others shut messages hung test le is =
     let identity = identity_others s t others shut in
     let asks = others.asks in
     let known : q.asks ≡ n = ap (λ (x : Known Identity). x.asks) is in
@@ -107,7 +109,6 @@ taken_noticed s t p q openings n asked book taken stands others shut messages hu
       out = ap (λ (x : Known Identity). x.out) is ∙ taken.out;
       name = ap (λ (x : Known Identity). x.name) is ∙ taken.name ∙ ap (λ (x : Identity). Some x) (sym identity);
       hung = λ h. ⊎_elim (λ (a : asked ≡ true). let lt = test a in omega arith) (λ (o : hung_mark s.sub.held.mark). let lt = taken.hung o in omega arith) (hung h);
-      below = subst (λ n. n < openings) (sym asks) taken.below;
     }
 
 -- ---- all slots
@@ -129,36 +130,54 @@ counted_here ps k n lt = let q : Known Identity = record { out = (slot_at ps k).
 pub only_self : (ps : List (Known Identity)) (k : ℕ) → OnlyAt ps ps k
 only_self ps k = record { wide = refl; others = λ j ne. refl }
 
--- one slot was set
-pub holding_set : (keeper keeper' : KeeperToken Identity) (slots : List (Option Subscription)) (k openings : ℕ) (o : Option Subscription) (book : Book) → AllStand keeper slots openings book → OnlyAt keeper.slots keeper'.slots k
-    → SlotStands o (slot_at keeper'.slots k) openings book → AllStand keeper' (slice_set slots k o) openings book
-holding_set keeper keeper' slots k openings o book h only fits =
+-- one slot was set, and what the keeper knows of it
+pub all_stand-set : (keeper keeper' : KeeperToken Identity) (slots : List (Option Subscription))
+    (k m n : ℕ) (o : Option Subscription) (book : Book) → AllStand keeper slots m book → m ≤ n
+    → OnlyAt keeper.slots keeper'.slots k → SlotStands o (slot_at keeper'.slots k) book
+    → asks_of o (slot_at keeper'.slots k) ≤ n → AllStand keeper' (slice_set slots k o) n book
+all_stand-set keeper keeper' slots k m n o book h le only fits asks =
+    let here = λ (lt : k < 65). in_here slots k o (let w = h.wide in omega arith) in
     record {
       known = only.wide ∙ h.known;
       wide = length-set slots k o ∙ h.wide;
       each = λ j pos within. dite (ℕ_discrete j k)
-          (λ (e : j ≡ k). subst (λ (i : ℕ). SlotStands (slot_in (slice_set slots k o) i) (slot_at keeper'.slots i) openings book) (sym e)
-          (subst (λ (z : Option Subscription). SlotStands z (slot_at keeper'.slots k) openings book) (sym (in_here slots k o (let w = h.wide in omega arith))) fits))
-          (λ (ne : j ≢ k). subst (λ (z : Option Subscription × Known Identity). SlotStands z.0 z.1 openings book) (λ i. (sym (in_else slots k j o ne) i, sym (only.others j ne) i)) (h.each j pos within));
+          (λ (e : j ≡ k). subst (λ (i : ℕ). SlotStands (slot_in (slice_set slots k o) i) (slot_at keeper'.slots i) book) (sym e)
+          (subst (λ (z : Option Subscription). SlotStands z (slot_at keeper'.slots k) book) (sym (here (omega arith))) fits))
+          (λ (ne : j ≢ k). subst (λ (z : Option Subscription × Known Identity). SlotStands z.0 z.1 book) (λ i. (sym (in_else slots k j o ne) i, sym (only.others j ne) i)) (h.each j pos within));
+      asks = λ j pos within. dite (ℕ_discrete j k)
+          (λ (e : j ≡ k). subst (λ (i : ℕ). asks_of (slot_in (slice_set slots k o) i) (slot_at keeper'.slots i) ≤ n) (sym e)
+          (subst (λ (z : Option Subscription). asks_of z (slot_at keeper'.slots k) ≤ n) (sym (here (omega arith))) asks))
+          (λ (ne : j ≢ k). subst (λ (z : Option Subscription × Known Identity). asks_of z.0 z.1 ≤ n) (λ i. (sym (in_else slots k j o ne) i, sym (only.others j ne) i)) (let was = h.asks j pos within in omega arith));
     }
 
-fits_more : (o : Option Subscription) (p : Known Identity) (m n : ℕ) (book : Book) → m ≤ n → SlotStands o p m book → SlotStands o p n book
-fits_more None p m n book le f = let was = f.1 in (f.0, omega arith)
-fits_more (Some s) p m n book le f = let was = f.below in record { stands = f.stands; filled = f.filled; out = f.out; name = f.name; hung = f.hung; below = omega arith }
-
--- more openings
-pub holding_more : (keeper : KeeperToken Identity) (slots : List (Option Subscription)) (m n : ℕ) (book : Book) → m ≤ n → AllStand keeper slots m book → AllStand keeper slots n book
-holding_more keeper slots m n book le h = record { known = h.known; wide = h.wide; each = λ k pos within. fits_more (slot_in slots k) (slot_at keeper.slots k) m n book le (h.each k pos within) }
+-- one slot was set, j beside k for the place of its seat, and no asks were added
+pub all_stand-step : (keeper keeper' : KeeperToken Identity) (slots : List (Option Subscription))
+    (j k openings : ℕ) (o : Option Subscription) (book book' : Book)
+    → AllStand keeper slots openings book → 0 < k → k < 65 → j ≡ k → book' ≡ book
+    → OnlyAt keeper.slots keeper'.slots j → SlotStands o (slot_at keeper'.slots j) book'
+    → asks_of o (slot_at keeper'.slots j) ≤ asks_of (slot_in slots k) (slot_at keeper.slots j)
+    → AllStand keeper' (slice_set slots k o) openings book'
+all_stand-step keeper keeper' slots j k openings o book book' h pos within e same only fits asks =
+    let was : asks_of (slot_in slots k) (slot_at keeper.slots j) ≤ openings =
+    subst (λ (i : ℕ). asks_of (slot_in slots k) (slot_at keeper.slots i) ≤ openings) (sym e) (h.asks k pos within) in
+    let fewer : asks_of o (slot_at keeper'.slots j) ≤ openings = omega arith in
+    subst (AllStand keeper' (slice_set slots k o) openings) (sym same)
+    (all_stand-set keeper keeper' slots k openings openings o book h (omega arith) (subst (OnlyAt keeper.slots keeper'.slots) e only)
+    (subst (λ (z : ℕ × Book). SlotStands o (slot_at keeper'.slots z.0) z.1) (λ i. (e i, same i)) fits)
+    (subst (λ (i : ℕ). asks_of o (slot_at keeper'.slots i) ≤ openings) e fewer))
 
 -- no subscriptions
-pub holding_none : (keeper : KeeperToken Identity) (slots : List (Option Subscription)) (book : Book) → keeper.slots ≡ unused_slots → length slots ≡ 65 → ((k : ℕ) → k < 65 → slot_in slots k ≡ None) → AllStand keeper slots 0 book
-holding_none keeper slots book known wide none =
+pub all_stand-none : (keeper : KeeperToken Identity) (slots : List (Option Subscription))
+    (book : Book) → keeper.slots ≡ unused_slots → length slots ≡ 65
+    → ((k : ℕ) → k < 65 → slot_in slots k ≡ None) → AllStand keeper slots 0 book
+all_stand-none keeper slots book known wide none =
+    let p : (k : ℕ) → k < 65 → slot_at keeper.slots k ≡ unused =
+    λ k within. ap (λ (l : List (Known Identity)). slot_at l k) known ∙ get_or-replicate {A = Known Identity} 65 k unused unused within in
     record {
       known = ap (length {A = Known Identity}) known ∙ length-replicate {A = Known Identity} 65 unused;
       wide = wide;
-      each = λ k pos within.
-          let p : slot_at keeper.slots k ≡ unused = ap (λ (l : List (Known Identity)). slot_at l k) known ∙ get_or-replicate {A = Known Identity} 65 k unused unused within in
-          subst (λ (z : Option Subscription × Known Identity). SlotStands z.0 z.1 0 book) (λ i. (sym (none k within) i, sym p i)) (refl, omega arith);
+      each = λ k pos within. subst (λ (z : Option Subscription × Known Identity). SlotStands z.0 z.1 book) (λ i. (sym (none k within) i, sym (p k within) i)) refl;
+      asks = λ k pos within. subst (λ (z : Option Subscription × Known Identity). asks_of z.0 z.1 ≤ 0) (λ i. (sym (none k within) i, sym (p k within) i)) (omega arith);
     }
 
 pub none_more : (slots : List (Option Subscription)) (n k : ℕ) → length slots ≡ n → ((k : ℕ) → k < n → slot_in slots k ≡ None) → slot_in (slots ++ None ∷ []) k ≡ None
@@ -187,29 +206,52 @@ grown_is b d c e lawful full =
       full = full;
     }
 
-pub mixed_first : (keeper : KeeperToken Identity) (slots : List (Option Subscription)) (openings : ℕ) (c : Change) → AllStand keeper slots openings (before_of keeper.book) → AllReady slots (state_of (before_of keeper.book)) c → PartlyTold keeper slots openings c 1
-mixed_first keeper slots openings c h ready =
+-- none was told yet
+pub partly_told-first : (keeper : KeeperToken Identity) (slots : List (Option Subscription))
+    (openings : ℕ) (c : Change) → AllStand keeper slots openings (before_of keeper.book)
+    → AllReady slots (state_of (before_of keeper.book)) c → PartlyTold keeper slots openings c 1
+partly_told-first keeper slots openings c h ready =
     record {
       known = h.known;
       wide = h.wide;
       below = λ k pos lt. absurd (omega arith);
       from = λ k le within. (h.each k (omega arith) within, ready k (omega arith) within);
+      asks = h.asks;
     }
 
-pub mixed_step : (keeper : KeeperToken Identity) (slots : List (Option Subscription)) (openings : ℕ) (c : Change) (place : ℕ) (o : Option Subscription) → PartlyTold keeper slots openings c place → place < 65 → SlotStands o (slot_at keeper.slots place) openings keeper.book
+-- one more was told
+pub partly_told-step : (keeper : KeeperToken Identity) (slots : List (Option Subscription))
+    (openings : ℕ) (c : Change) (place : ℕ) (o : Option Subscription)
+    → PartlyTold keeper slots openings c place → 0 < place → place < 65
+    → SlotStands o (slot_at keeper.slots place) keeper.book
+    → asks_of o (slot_at keeper.slots place) ≤ asks_of (slot_in slots place) (slot_at keeper.slots place)
     → PartlyTold keeper (slice_set slots place o) openings c (place + 1)
-mixed_step keeper slots openings c place o m lt fits =
+partly_told-step keeper slots openings c place o m pos_ lt fits asks =
+    let here : slot_in (slice_set slots place o) place ≡ o = in_here slots place o (let w = m.wide in omega arith) in
     record {
       known = m.known;
       wide = length-set slots place o ∙ m.wide;
       below = λ j pos under. dite (ℕ_discrete j place)
-          (λ (e : j ≡ place). subst (λ (i : ℕ). SlotStands (slot_in (slice_set slots place o) i) (slot_at keeper.slots i) openings keeper.book) (sym e)
-          (subst (λ (z : Option Subscription). SlotStands z (slot_at keeper.slots place) openings keeper.book) (sym (in_here slots place o (let w = m.wide in omega arith))) fits))
-          (λ (ne : j ≢ place). subst (λ (z : Option Subscription). SlotStands z (slot_at keeper.slots j) openings keeper.book) (sym (in_else slots place j o ne)) (m.below j pos (omega (arith, ne))));
+          (λ (e : j ≡ place). subst (λ (i : ℕ). SlotStands (slot_in (slice_set slots place o) i) (slot_at keeper.slots i) keeper.book) (sym e)
+          (subst (λ (z : Option Subscription). SlotStands z (slot_at keeper.slots place) keeper.book) (sym here) fits))
+          (λ (ne : j ≢ place). subst (λ (z : Option Subscription). SlotStands z (slot_at keeper.slots j) keeper.book) (sym (in_else slots place j o ne)) (m.below j pos (omega (arith, ne))));
       from = λ j le within.
-          subst (λ (z : Option Subscription). SlotStands z (slot_at keeper.slots j) openings (before_of keeper.book) × IsReadyAt z (state_of (before_of keeper.book)) c)
+          subst (λ (z : Option Subscription). SlotStands z (slot_at keeper.slots j) (before_of keeper.book) × IsReadyAt z (state_of (before_of keeper.book)) c)
           (sym (in_else slots place j o (λ e. absurd (omega arith)))) (m.from j (omega arith) within);
+      asks = λ j pos within. dite (ℕ_discrete j place)
+          (λ (e : j ≡ place). subst (λ (i : ℕ). asks_of (slot_in (slice_set slots place o) i) (slot_at keeper.slots i) ≤ openings) (sym e)
+          (subst (λ (z : Option Subscription). asks_of z (slot_at keeper.slots place) ≤ openings) (sym here) (let was = m.asks place pos_ lt in omega arith)))
+          (λ (ne : j ≢ place). subst (λ (z : Option Subscription). asks_of z (slot_at keeper.slots j) ≤ openings) (sym (in_else slots place j o ne)) (m.asks j pos within));
     }
 
-pub mixed_last : (keeper : KeeperToken Identity) (slots : List (Option Subscription)) (openings : ℕ) (c : Change) (place : ℕ) → place ≡ 65 → PartlyTold keeper slots openings c place → AllStand keeper slots openings keeper.book
-mixed_last keeper slots openings c place e m = record { known = m.known; wide = m.wide; each = λ k pos within. m.below k pos (omega arith) }
+-- all were told
+pub partly_told-last : (keeper : KeeperToken Identity) (slots : List (Option Subscription))
+    (openings : ℕ) (c : Change) (place : ℕ) → place ≡ 65
+    → PartlyTold keeper slots openings c place → AllStand keeper slots openings keeper.book
+partly_told-last keeper slots openings c place e m =
+    record {
+      known = m.known;
+      wide = m.wide;
+      each = λ k pos within. m.below k pos (omega arith);
+      asks = m.asks;
+    }

@@ -20,7 +20,7 @@ use Rattle.lq_subscription.specs.Identity.{identity_of, port_id, port_id_inj}
 use Rattle.lq_subscription.specs.Reading.{ReadingHold}
 use Rattle.lq_subscription.specs.Standing.{StandsAt, IsFilled, IsStuck, IsDrained, SameButPuts, SameButHeld, ShutFits}
 use Rattle.lq_subscription.proofs.Books.{extends_trans}
-use Rattle.lq_slots.specs.Slots.{IsTaken, SlotStands, OnlyAt}
+use Rattle.lq_slots.specs.Slots.{IsTaken, SlotStands, asks_of, OnlyAt}
 use Rattle.lq_slots.specs.Opening.{IdentityFits, asks_after, name_or}
 use Rattle.lq_slots.specs.Progress.{ShowsProgress}
 use Rattle.lq_slots.specs.declared.sync.Progress.{Progress}
@@ -53,8 +53,12 @@ met_only ps (suc k) n was name =
 pub only_trans : (ps qs rs : List (Known Identity)) (k : ℕ) → OnlyAt ps qs k → OnlyAt qs rs k → OnlyAt ps rs k
 only_trans ps qs rs k a b = record { wide = b.wide ∙ a.wide; others = λ j ne. b.others j ne ∙ a.others j ne }
 
-pub taken_met : (s : Subscription) (p q : Known Identity) (openings : ℕ) (book : Book) (n : ℕ) (name : Option Identity) → IsTaken s p openings book → q ≡ record { out = true; asks = n; name = name } → p.name ≡ name → p.asks ≤ n → IsTaken s q openings book
-taken_met s p q openings book n name taken is same le =
+-- a taken slot stands on once its seat has met the keeper
+pub taken_met : (s : Subscription) (p q : Known Identity) (book : Book) (n : ℕ)
+    (name : Option Identity) → IsTaken s p book
+    → q ≡ record { out = true; asks = n; name = name } → p.name ≡ name → p.asks ≤ n
+    → IsTaken s q book
+taken_met s p q book n name taken is same le =
     let e : q.asks ≡ n = ap (λ (x : Known Identity). x.asks) is in
     record {
       stands = taken.stands;
@@ -62,17 +66,20 @@ taken_met s p q openings book n name taken is same le =
       out = ap (λ (x : Known Identity). x.out) is;
       name = ap (λ (x : Known Identity). x.name) is ∙ sym same ∙ taken.name;
       hung = λ h. let lt = taken.hung h in omega arith;
-      below = taken.below;
     }
 
-pub taken_drained : (s t : Subscription) (p : Known Identity) (openings : ℕ) (book : Book) (e : End Delivery Opening) (waiting : ℕ) → IsTaken s p openings book → StandsAt t book → SameButPuts s t → t.input.ahead ≡ e.ahead → waiting ≡ length e.ahead → IsDrained t waiting → IsTaken t p openings book
-taken_drained s t p openings book e waiting taken stands alike ahead value drained =
-    taken_then s t p openings book book taken stands (subst (IsDrained t) (value ∙ ap (length {A = Delivery}) (sym ahead)) drained) (identity_alike s t alike) (λ h. subst hung_mark alike.held.mark h)
+-- a taken slot stands on once its port is drained
+pub taken_drained : (s t : Subscription) (p : Known Identity) (book : Book)
+    (e : End Delivery Opening) (waiting : ℕ) → IsTaken s p book → StandsAt t book
+    → SameButPuts s t → t.input.ahead ≡ e.ahead → waiting ≡ length e.ahead → IsDrained t waiting
+    → IsTaken t p book
+taken_drained s t p book e waiting taken stands alike ahead value drained =
+    taken_then s t p book book taken stands (subst (IsDrained t) (value ∙ ap (length {A = Delivery}) (sym ahead)) drained) (identity_alike s t alike) (λ h. subst hung_mark alike.held.mark h)
 
 -- it was closed, and its seat has its new name
-pub taken_closed : (s t : Subscription) (p q : Known Identity) (openings n : ℕ) (book : Book) → IsTaken s p openings book → StandsAt t book → SameButHeld s t → t.sub.held.messages ≡ s.sub.held.messages → (hung_mark t.sub.held.mark → hung_mark s.sub.held.mark)
-    → p.asks ≤ n → q ≡ record { out = true; asks = n; name = Some (identity_of t) } → IsTaken t q openings book
-taken_closed s t p q openings n book taken stands others messages hung le is =
+pub taken_closed : (s t : Subscription) (p q : Known Identity) (n : ℕ) (book : Book) → IsTaken s p book → StandsAt t book → SameButHeld s t → t.sub.held.messages ≡ s.sub.held.messages → (hung_mark t.sub.held.mark → hung_mark s.sub.held.mark)
+    → p.asks ≤ n → q ≡ record { out = true; asks = n; name = Some (identity_of t) } → IsTaken t q book
+taken_closed s t p q n book taken stands others messages hung le is =
     let asks = others.asks in
     let known : q.asks ≡ n = ap (λ (x : Known Identity). x.asks) is in
     record {
@@ -81,7 +88,6 @@ taken_closed s t p q openings n book taken stands others messages hung le is =
       out = ap (λ (x : Known Identity). x.out) is;
       name = ap (λ (x : Known Identity). x.name) is;
       hung = λ h. let lt = taken.hung (hung h) in omega arith;
-      below = subst (λ n. n < openings) (sym asks) taken.below;
     }
 
 pub identity_closed : (s t : Subscription) → SameButHeld s t → identity_of t ≡ record (identity_of s) { shut = t.shut }
@@ -100,8 +106,11 @@ identity_closed s t a = λ i. record {
 pub same_port : (s : Subscription) (name : Option Identity) (e : End Delivery Opening) → name ≡ Some (identity_of s) → IsSomeAnd name (λ t. IdentityFits t e) → e.port ≡ s.input.port
 same_port s name e is fits = let f = subst (λ o. IsSomeAnd o (λ t. IdentityFits t e)) is fits in sym (port_id_inj s.input.port e.port f.port)
 
-pub must_some : (o : Option Subscription) (p : Known Identity) (openings : ℕ) (book : Book) → SlotStands o p openings book → p.out ≡ true → o ≡ None → ⊥
-must_some o p openings book fits out none = let f = subst (λ z. SlotStands z p openings book) none fits in true≢false (sym out ∙ f.0)
+-- a slot whose seat is out is taken
+pub must_some : (o : Option Subscription) (p : Known Identity) (book : Book)
+    → SlotStands o p book → p.out ≡ true → o ≡ None → ⊥
+must_some o p book fits out none =
+    let f = subst (λ z. SlotStands z p book) none fits in true≢false (sym out ∙ f)
 
 pub levels_from : (s : Subscription) (old mid new : SeatToken Identity) (d e : ReadingHold) (x : Progress) (book : Book) → mid ≡ record old { book = book } → Extends book old.book → ShowsProgress s mid new d e x → ShowsProgress s old new d e x
 levels_from s old mid new d e x book is later l = record {
@@ -136,16 +145,18 @@ live_never u o e f = at u (subst (ShutFits u) e f)
     at (At m) f = absurd f
     at Late f = absurd f
 
-asks_within : (n o : ℕ) (b : Bool) → n < o → asks_after n b ≤ o
-asks_within n o true lt = omega arith
-asks_within n o false lt = omega arith
+asks_within : (n : ℕ) (b : Bool) → asks_after n b ≤ n + 1
+asks_within n true = omega arith
+asks_within n false = omega arith
 
--- a slot whose seat came back is free, and was asked at most once for each opening
-pub asks_below : (o : Option Subscription) (p : Known Identity) (openings n : ℕ) (book : Book) (name : Option Identity) (asked : Bool) → SlotStands o p openings book → p.out ≡ true → p.name ≡ name → IsSomeAnd name (λ t. n ≡ asks_after t.asks asked) → n ≤ openings
-asks_below None p openings n book name asked fits out is h = absurd (true≢false (sym out ∙ fits.0))
-asks_below (Some s) p openings n book name asked fits out is h =
+-- a slot's seat that came back has asked at most once since the opening
+pub asks_back : (o : Option Subscription) (p : Known Identity) (n : ℕ) (book : Book)
+    (name : Option Identity) (asked : Bool) → SlotStands o p book → p.out ≡ true → p.name ≡ name
+    → IsSomeAnd name (λ t. n ≡ asks_after t.asks asked) → n ≤ asks_of o p
+asks_back None p n book name asked fits out is h = absurd (true≢false (sym out ∙ fits))
+asks_back (Some s) p n book name asked fits out is h =
     let e : n ≡ asks_after s.asks asked = subst (λ (o : Option Identity). IsSomeAnd o (λ t. n ≡ asks_after t.asks asked)) (sym is ∙ fits.name) h in
-    subst (λ (m : ℕ). m ≤ openings) (sym e) (asks_within s.asks openings asked fits.below)
+    subst (λ (m : ℕ). m ≤ s.asks + 1) (sym e) (asks_within s.asks asked)
 
 pub back_place : (ps : List (Known Identity)) (k n : ℕ) (name : Option Identity) → 0 < k → k < length ps → slot_at (come_back ps k n name) k ≡ record { out = false; asks = n; name = name }
 back_place ps zero n name pos lt = absurd (omega arith)
@@ -155,10 +166,16 @@ pub back_only : (ps : List (Known Identity)) (k n : ℕ) (name : Option Identity
 back_only ps zero n name pos = absurd (omega arith)
 back_only ps (suc k) n name pos = let b : Known Identity = record { out = false; asks = n; name = name } in record { wide = length-set ps (suc k) b; others = λ j ne. get_or-set_other ps (suc k) j b unused ne }
 
-pub free_fits : (p : Known Identity) (openings n : ℕ) (name : Option Identity) (book : Book) → p ≡ record { out = false; asks = n; name = name } → n ≤ openings → SlotStands None p openings book
-free_fits p openings n name book is le = (ap (λ (x : Known Identity). x.out) is, subst (λ (m : ℕ). m ≤ openings) (sym (ap (λ (x : Known Identity). x.asks) is)) le)
-
 -- a slot stands as before once its seat has met the keeper
-pub fits_met : (o : Option Subscription) (p q : Known Identity) (openings : ℕ) (book : Book) (n : ℕ) (name : Option Identity) → SlotStands o p openings book → p.out ≡ true → q ≡ record { out = true; asks = n; name = name } → p.name ≡ name → p.asks ≤ n → SlotStands o q openings book
-fits_met None p q openings book n name free out is same le = absurd (true≢false (sym out ∙ free.0))
-fits_met (Some s) p q openings book n name taken out is same le = taken_met s p q openings book n name taken is same le
+pub fits_met : (o : Option Subscription) (p q : Known Identity) (book : Book) (n : ℕ)
+    (name : Option Identity) → SlotStands o p book → p.out ≡ true
+    → q ≡ record { out = true; asks = n; name = name } → p.name ≡ name → p.asks ≤ n
+    → SlotStands o q book
+fits_met None p q book n name free out is same le = absurd (true≢false (sym out ∙ free))
+fits_met (Some s) p q book n name taken out is same le = taken_met s p q book n name taken is same le
+
+-- and counts as many asks
+pub asks_met : (o : Option Subscription) (p q : Known Identity) (book : Book)
+    → SlotStands o p book → p.out ≡ true → asks_of o q ≤ asks_of o p
+asks_met None p q book free out = absurd (true≢false (sym out ∙ free))
+asks_met (Some s) p q book taken out = omega arith

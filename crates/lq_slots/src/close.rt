@@ -5,13 +5,13 @@ ghost use Rattle.lq_board.specs.Slot.{slot_at};
 ghost use Rattle.lq_subscription.specs.declared.identity.Shut.TheVariants.{Never};
 ghost use Rattle.lq_subscription.specs.Marking.{first_close};
 ghost use Rattle.lq_subscription.specs.Identity.{identity_of};
-ghost use Rattle.lq_slots.specs.Slots.{IsTaken, SlotStands, AllStand, OnlyAt, slot_in};
+ghost use Rattle.lq_slots.specs.Slots.{IsTaken, SlotStands, SlotsStand, OnlyAt, asks_of, slot_in};
 ghost use Rattle.lq_slots.specs.Opening.{asks_after, name_or};
 
-use crate::slots::{notice_slot, pump_slot};
-use crate::sync::{meet_at, meet_under};
+use crate::slots::Slots;
+use crate::sync::{meet_same, meet_under, notice_by};
 use lq_board::{Board, Keeper, Seat};
-use lq_subscription::{Identity, Subscription, close};
+use lq_subscription::{Identity, Subscription, close, pump};
 use std::sync::Wait;
 
 // Closes a subscription, once the keeper and its seat have met.
@@ -20,32 +20,32 @@ fn close_slot<R: Wait>(
     board: &Board<Identity>,
     keeper: &mut Keeper<Identity>,
     slot: &mut Subscription,
-    place: usize,
-    openings: u64,
     seat: &mut Seat<Identity>,
     number: u64,
 ) -> bool
     requires board { (keeper.old.board ≡ board.now) × (seat.old.board ≡ board.now) }
-    requires place { (0 < place) × (place < 65) × (length keeper.old.slots ≡ 65) }
-    requires seat { (seat.old.slot ≡ place) × (seat.old.book ≡ keeper.old.book) }
-    requires known { slot_at keeper.old.slots place
+    requires place { (0 < seat.old.slot) × (seat.old.slot < 65)
+        × (length keeper.old.slots ≡ 65) }
+    requires seat { seat.old.book ≡ keeper.old.book }
+    requires known { slot_at keeper.old.slots seat.old.slot
         ≡ record { out = true; asks = seat.old.asks; name = seat.old.name } }
     requires number { number ≡ length keeper.old.book.changes }
-    requires taken { IsTaken slot.old (slot_at keeper.old.slots place) openings keeper.old.book }
+    requires taken { IsTaken slot.old (slot_at keeper.old.slots seat.old.slot) keeper.old.book }
     ensures closes { result ≡ true → (name_or seat.old.name).shut ≡ Never }
     ensures board { keeper.new.board ≡ keeper.old.board }
     ensures book { keeper.new.book ≡ keeper.old.book }
-    ensures only { OnlyAt keeper.old.slots keeper.new.slots place }
-    ensures taken { IsTaken slot.new (slot_at keeper.new.slots place) openings keeper.new.book }
+    ensures only { OnlyAt keeper.old.slots keeper.new.slots seat.old.slot }
+    ensures taken { IsTaken slot.new (slot_at keeper.new.slots seat.old.slot) keeper.new.book }
+    ensures asks { slot.new.asks ≡ slot.old.asks }
     ensures seat { seat.new ≡ record seat.old { book = keeper.old.book; name = seat.new.name } }
     ensures name { seat.new.name ≡ Some (record (name_or seat.old.name) {
       shut = first_close (name_or seat.old.name).shut result number;
     }) }
 {
-    notice_slot(board, keeper, slot, place, openings, number);
+    notice_by(board, keeper, slot, seat, number);
     let closed = close(slot, number);
-    meet_under(board, keeper, seat, slot, place);
-    pump_slot(rt, keeper, slot, place, openings);
+    meet_under(board, keeper, seat, slot);
+    pump(rt, keeper, slot);
     closed
 }
 
@@ -55,20 +55,21 @@ fn close_at<R: Wait>(
     board: &Board<Identity>,
     keeper: &mut Keeper<Identity>,
     slot: &mut Option<Subscription>,
-    place: usize,
-    openings: u64,
     seat: &mut Seat<Identity>,
 ) -> Option<u64>
     requires board { (keeper.old.board ≡ board.now) × (seat.old.board ≡ board.now) }
-    requires place { (0 < place) × (place < 65) × (length keeper.old.slots ≡ 65) }
-    requires seat { (seat.old.slot ≡ place) × IsSome seat.old.name }
-    requires fits { SlotStands slot.old (slot_at keeper.old.slots place) openings keeper.old.book }
+    requires place { (0 < seat.old.slot) × (seat.old.slot < 65)
+        × (length keeper.old.slots ≡ 65) }
+    requires seat { IsSome seat.old.name }
+    requires fits { SlotStands slot.old (slot_at keeper.old.slots seat.old.slot) keeper.old.book }
     ensures number { IfSome result (λ n. n ≡ length keeper.old.book.changes) }
     ensures closes { IfSome result (λ _. (name_or seat.old.name).shut ≡ Never) }
     ensures board { keeper.new.board ≡ keeper.old.board }
     ensures book { keeper.new.book ≡ keeper.old.book }
-    ensures only { OnlyAt keeper.old.slots keeper.new.slots place }
-    ensures fits { SlotStands slot.new (slot_at keeper.new.slots place) openings keeper.new.book }
+    ensures only { OnlyAt keeper.old.slots keeper.new.slots seat.old.slot }
+    ensures fits { SlotStands slot.new (slot_at keeper.new.slots seat.old.slot) keeper.new.book }
+    ensures asks { asks_of slot.new (slot_at keeper.new.slots seat.old.slot)
+        ≤ asks_of slot.old (slot_at keeper.old.slots seat.old.slot) }
     ensures seat { seat.new ≡ record seat.old { book = keeper.old.book; name = seat.new.name } }
     ensures later { Extends keeper.old.book seat.old.book }
     ensures name { seat.new.name ≡ Some (record (name_or seat.old.name) {
@@ -76,9 +77,9 @@ fn close_at<R: Wait>(
           (length keeper.old.book.changes);
     }) }
 {
-    let number = meet_at(board, keeper, seat, place);
+    let number = meet_same(board, keeper, seat);
     let Some(taken) = slot else { unreachable!() };
-    if close_slot(rt, board, keeper, taken, place, openings, seat, number) {
+    if close_slot(rt, board, keeper, taken, seat, number) {
         Some(number)
     } else {
         None
@@ -89,29 +90,32 @@ fn close_at<R: Wait>(
 pub(crate) fn close_in<R: Wait>(
     rt: &R,
     board: &Board<Identity>,
-    keeper: &mut Keeper<Identity>,
-    slots: &mut Vec<Option<Subscription>>,
+    slots: &mut Slots,
     place: usize,
-    openings: u64,
     seat: &mut Seat<Identity>,
 ) -> Option<u64>
-    requires board { (keeper.old.board ≡ board.now) × (seat.old.board ≡ board.now) }
+    requires board { (slots.old.keeper.board ≡ board.now) × (seat.old.board ≡ board.now) }
     requires place { (0 < place) × (place < 65) }
     requires seat { (seat.old.slot ≡ place) × IsSome seat.old.name }
-    requires holding { AllStand keeper.old slots.old.items openings keeper.old.book }
-    ensures number { IfSome result (λ n. n ≡ length keeper.old.book.changes) }
+    requires holding { SlotsStand slots.old slots.old.keeper.book }
+    ensures number { IfSome result (λ n. n ≡ length slots.old.keeper.book.changes) }
     ensures closes { IfSome result (λ _. (name_or seat.old.name).shut ≡ Never) }
-    ensures board { keeper.new.board ≡ keeper.old.board }
-    ensures book { keeper.new.book ≡ keeper.old.book }
-    ensures holding { AllStand keeper.new slots.new.items openings keeper.new.book }
-    ensures seat { seat.new ≡ record seat.old { book = keeper.old.book; name = seat.new.name } }
-    ensures later { Extends keeper.old.book seat.old.book }
+    ensures board { slots.new.keeper.board ≡ slots.old.keeper.board }
+    ensures book { slots.new.keeper.book ≡ slots.old.keeper.book }
+    ensures openings { slots.new.openings ≡ slots.old.openings }
+    ensures holding { SlotsStand slots.new slots.new.keeper.book }
+    ensures seat { seat.new ≡ record seat.old {
+      book = slots.old.keeper.book;
+      name = seat.new.name;
+    } }
+    ensures later { Extends slots.old.keeper.book seat.old.book }
     ensures name { seat.new.name ≡ Some (record (name_or seat.old.name) {
       shut = first_close (name_or seat.old.name).shut (is_some result)
-          (length keeper.old.book.changes);
+          (length slots.old.keeper.book.changes);
     }) }
 {
-    close_at(rt, board, keeper, &mut slots[place], place, openings, seat)
+    let keeper = &mut slots.keeper;
+    close_at(rt, board, keeper, &mut slots.subscriptions[place], seat)
 }
 
 // A slot's seat comes back, and the slot is free.
@@ -119,23 +123,23 @@ fn free_at(
     board: &Board<Identity>,
     keeper: &mut Keeper<Identity>,
     slot: &mut Option<Subscription>,
-    place: usize,
-    openings: u64,
     seat: Seat<Identity>,
     asked: bool,
 )
     requires board { (keeper.old.board ≡ board.now) × (seat.board ≡ board.now) }
-    requires place { (0 < place) × (place < 65) × (length keeper.old.slots ≡ 65) }
-    requires seat { (seat.slot ≡ place)
-        × IsSomeAnd seat.name (λ t. seat.asks ≡ asks_after t.asks asked) }
-    requires fits { SlotStands slot.old (slot_at keeper.old.slots place) openings keeper.old.book }
+    requires place { (0 < seat.slot) × (seat.slot < 65) × (length keeper.old.slots ≡ 65) }
+    requires seat { IsSomeAnd seat.name (λ t. seat.asks ≡ asks_after t.asks asked) }
+    requires fits { SlotStands slot.old (slot_at keeper.old.slots seat.slot) keeper.old.book }
     ensures board { keeper.new.board ≡ keeper.old.board }
     ensures book { keeper.new.book ≡ keeper.old.book }
-    ensures only { OnlyAt keeper.old.slots keeper.new.slots place }
-    ensures fits { SlotStands slot.new (slot_at keeper.new.slots place) openings keeper.new.book }
+    ensures only { OnlyAt keeper.old.slots keeper.new.slots seat.slot }
+    ensures free { slot.new ≡ None }
+    ensures back { (slot_at keeper.new.slots seat.slot).out ≡ false }
+    ensures asks { (slot_at keeper.new.slots seat.slot).asks
+        ≤ asks_of slot.old (slot_at keeper.old.slots seat.slot) }
     ensures later { Extends keeper.old.book seat.book }
 {
-    let _ = (place, openings, asked);
+    let _ = asked;
     board.join(keeper, seat);
     *slot = None;
 }
@@ -143,30 +147,22 @@ fn free_at(
 /// Frees a slot, whose seat comes back.
 pub(crate) fn free_in(
     board: &Board<Identity>,
-    keeper: &mut Keeper<Identity>,
-    slots: &mut Vec<Option<Subscription>>,
+    slots: &mut Slots,
     place: usize,
-    openings: u64,
     seat: Seat<Identity>,
     asked: bool,
 )
-    requires board { (keeper.old.board ≡ board.now) × (seat.board ≡ board.now) }
+    requires board { (slots.old.keeper.board ≡ board.now) × (seat.board ≡ board.now) }
     requires place { (0 < place) × (place < 65) }
     requires seat { (seat.slot ≡ place)
         × IsSomeAnd seat.name (λ t. seat.asks ≡ asks_after t.asks asked) }
-    requires holding { AllStand keeper.old slots.old.items openings keeper.old.book }
-    ensures board { keeper.new.board ≡ keeper.old.board }
-    ensures book { keeper.new.book ≡ keeper.old.book }
-    ensures holding { AllStand keeper.new slots.new.items openings keeper.new.book }
-    ensures later { Extends keeper.old.book seat.book }
+    requires holding { SlotsStand slots.old slots.old.keeper.book }
+    ensures board { slots.new.keeper.board ≡ slots.old.keeper.board }
+    ensures book { slots.new.keeper.book ≡ slots.old.keeper.book }
+    ensures openings { slots.new.openings ≡ slots.old.openings }
+    ensures holding { SlotsStand slots.new slots.new.keeper.book }
+    ensures later { Extends slots.old.keeper.book seat.book }
 {
-    free_at(
-        board,
-        keeper,
-        &mut slots[place],
-        place,
-        openings,
-        seat,
-        asked,
-    );
+    let keeper = &mut slots.keeper;
+    free_at(board, keeper, &mut slots.subscriptions[place], seat, asked);
 }

@@ -11,7 +11,7 @@ ghost use Rattle.lq_board.specs.Book.{IsFullBook};
 ghost use Rattle.lq_subscription.specs.declared.identity.Shut.TheVariants.{Never};
 ghost use Rattle.lq_subscription.specs.declared.subscription.Subscription.{Subscription as SubscriptionOf};
 ghost use Rattle.lq_subscription.specs.Marking.{first_close};
-ghost use Rattle.lq_slots.specs.Slots.{AllStand};
+ghost use Rattle.lq_slots.specs.Slots.{SlotsStand};
 ghost use Rattle.lq_slots.specs.Opening.{IsOpened, IsOpeningRefused, IdentityFits, asks_after, name_or, opening_refusal};
 ghost use Rattle.lq_slots.specs.Progress.{ShowsProgress};
 ghost use Rattle.lq_slots.specs.Applied.{IsAdded};
@@ -19,11 +19,12 @@ ghost use Rattle.lq_slots.specs.Applied.{IsAdded};
 use crate::change::change_in;
 use crate::close::{close_in, free_in};
 use crate::named::Named;
-use crate::open::{Opened, open_in};
+use crate::open::{Asked, Opened, open_in};
+use crate::slots::Slots;
 use crate::sync::{Progress, meet_in, sync_in};
 use lq_board::{Board, Keeper, Seat};
 use lq_predicate::Predicate;
-use lq_subscription::{Identity, Reading, Subscription};
+use lq_subscription::{Identity, Reading};
 use lq_value::{Entry, Name, Refusal};
 use lq_volume::{Applied, Change, Listing, Volume};
 use std::alloc::Global;
@@ -43,10 +44,8 @@ pub struct Found {
 /// The volume, the subscriptions and the keeper of N's board. A contract sees the keeper's book.
 #[derive(Drop)]
 pub struct Locked<N: Named> {
-    keeper: Keeper<Identity>,
-    slots: Vec<Option<Subscription>>,
+    slots: Slots,
     volume: Volume,
-    openings: u64,
     seats: u64,
     alloc: Global,
     of: PhantomData<N>,
@@ -56,36 +55,32 @@ impl<N: Named> Model for Locked<N> {
     ghost use Rattle.std.specs.Prelude.{◌≡◌, ◌≤◌};
     ghost use Rattle.lq_volume.specs.Book.{Book, state_of};
     ghost use Rattle.lq_board.specs.Book.{IsFullBook};
-    ghost use Rattle.lq_slots.specs.Slots.{AllStand};
+    ghost use Rattle.lq_slots.specs.Slots.{SlotsStand};
 
     ghost Value = { Book };
 
-    ghost view = { λ l. l.keeper.book };
+    ghost view = { λ l. l.slots.keeper.book };
 
-    ghost invariant = { λ l. (l.keeper.board ≡ N.board)
-        × (l.volume ≡ state_of l.keeper.book)
-        × IsFullBook l.keeper.book
-        × (l.openings ≤ l.volume.limit)
-        × AllStand l.keeper l.slots.items l.openings l.keeper.book };
+    ghost invariant = { λ l. (l.slots.keeper.board ≡ N.board)
+        × (l.volume ≡ state_of l.slots.keeper.book)
+        × IsFullBook l.slots.keeper.book
+        × (l.slots.openings ≤ l.volume.limit)
+        × SlotsStand l.slots l.slots.keeper.book };
 }
 
 impl<N: Named> Locked<N> {
-    pub fn new(
-        alloc: Global,
-        keeper: Keeper<Identity>,
-        volume: Volume,
-        slots: Vec<Option<Subscription>>,
-    ) -> Locked<N>
-        requires board { keeper.board ≡ N.board }
-        requires volume { volume ≡ state_of keeper.book }
-        requires full { IsFullBook keeper.book }
-        requires holding { AllStand keeper slots.items 0 keeper.book }
+    /// What stands under the lock of a server that begins: no seat is out, and no slot taken.
+    pub(crate) fn new(alloc: Global, slots: Slots, volume: Volume) -> Locked<N>
+        requires board { slots.keeper.board ≡ N.board }
+        requires volume { volume ≡ state_of slots.keeper.book }
+        requires full { IsFullBook slots.keeper.book }
+        requires openings { slots.openings ≡ 0 }
+        requires holding { SlotsStand slots slots.keeper.book }
+        ensures { result ≡ slots.keeper.book }
     {
         Locked {
-            keeper,
             slots,
             volume,
-            openings: 0,
             seats: 0,
             alloc,
             of: PhantomData,
@@ -104,7 +99,7 @@ impl<N: Named> Locked<N> {
             return Err(Refusal::NoSeat);
         }
         self.seats += 1;
-        Ok(board.seat(&mut self.keeper))
+        Ok(board.seat(&mut self.slots.keeper))
     }
 
     /// Takes a seat back, so that another may go out. It takes no memory.
@@ -112,7 +107,7 @@ impl<N: Named> Locked<N> {
         requires { (board.now ≡ N.board) × (seat.board ≡ N.board) × (seat.slot ≡ 0) }
         ensures same { self.new ≡ self.old }
     {
-        board.join(&mut self.keeper, seat);
+        board.join(&mut self.slots.keeper, seat);
         self.seats = self.seats.saturating_sub(1);
     }
 
@@ -125,7 +120,7 @@ impl<N: Named> Locked<N> {
         ensures later { Extends seat.new.book seat.old.book }
         ensures number { result ≡ length self.old.changes }
     {
-        board.meet(&mut self.keeper, seat)
+        board.meet(&mut self.slots.keeper, seat)
     }
 
     /// As `meet`, for a seat of any slot, which keeps all but its book. It takes no memory.
@@ -144,14 +139,7 @@ impl<N: Named> Locked<N> {
         if place == 0 {
             return self.meet(board, seat);
         }
-        meet_in(
-            board,
-            &mut self.keeper,
-            &self.slots,
-            place as usize,
-            self.openings,
-            seat,
-        )
+        meet_in(board, &mut self.slots, place as usize, seat)
     }
 
     /// The entries that a predicate holds of, by rising node, after the book that the seat then
@@ -242,15 +230,7 @@ impl<N: Named> Locked<N> {
             e ≡ unwrap_or (refused (state_of seat.new.book) change.now) NoMemory) }
     {
         self.meet(board, seat);
-        let outcome = change_in(
-            rt,
-            board,
-            &mut self.keeper,
-            &mut self.slots,
-            &mut self.volume,
-            self.openings,
-            change,
-        );
+        let outcome = change_in(rt, board, &mut self.slots, &mut self.volume, change);
         self.meet(board, seat);
         outcome
     }
@@ -278,18 +258,13 @@ impl<N: Named> Locked<N> {
         ensures others { IfNone (opening_refusal port backlog) (IfErr result IsOpeningRefused) }
     {
         self.meet(board, seat);
-        open_in(
-            self.alloc,
-            board,
-            &mut self.keeper,
-            &mut self.slots,
-            &self.volume,
-            &mut self.openings,
+        let asked = Asked {
             predicate,
             port,
             backlog,
             moved,
-        )
+        };
+        open_in(self.alloc, board, &mut self.slots, &self.volume, &asked)
     }
 
     /// How far a reader's subscription is. Its port is filled.
@@ -310,16 +285,7 @@ impl<N: Named> Locked<N> {
         ensures progress { (s : SubscriptionOf)
             × ShowsProgress s seat.old seat.new reading.old reading.new result }
     {
-        sync_in(
-            rt,
-            board,
-            &mut self.keeper,
-            &mut self.slots,
-            place as usize,
-            self.openings,
-            seat,
-            reading,
-        )
+        sync_in(rt, board, &mut self.slots, place as usize, seat, reading)
     }
 
     /// Closes a reader's subscription.
@@ -343,15 +309,7 @@ impl<N: Named> Locked<N> {
               (length seat.new.book.changes);
         }) }
     {
-        close_in(
-            rt,
-            board,
-            &mut self.keeper,
-            &mut self.slots,
-            place as usize,
-            self.openings,
-            seat,
-        )
+        close_in(rt, board, &mut self.slots, place as usize, seat)
     }
 
     /// Frees a slot, whose seat comes back.
@@ -362,15 +320,7 @@ impl<N: Named> Locked<N> {
             × IsSomeAnd seat.name (λ t. seat.asks ≡ asks_after t.asks asked) }
         ensures same { self.new ≡ self.old }
     {
-        free_in(
-            board,
-            &mut self.keeper,
-            &mut self.slots,
-            place as usize,
-            self.openings,
-            seat,
-            asked,
-        );
+        free_in(board, &mut self.slots, place as usize, seat, asked);
     }
 
     /// The keeper and the volume.
@@ -380,14 +330,17 @@ impl<N: Named> Locked<N> {
         ensures state { result.1 ≡ state_of self }
     {
         let Locked {
-            keeper,
-            slots: _,
+            slots,
             volume,
-            openings: _,
             seats: _,
             alloc: _,
             of: _,
         } = self;
+        let Slots {
+            keeper,
+            subscriptions: _,
+            openings: _,
+        } = slots;
         (keeper, volume)
     }
 }

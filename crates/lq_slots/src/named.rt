@@ -3,8 +3,9 @@ ghost use Rattle.std.specs.Prelude.{◌≡◌, None};
 ghost use Rattle.lq_value.specs.Refusal.{IsRefusedBy};
 
 use crate::locked::Locked;
-use lq_board::{Board, Keeper};
-use lq_subscription::{Identity, Subscription};
+use crate::slots::{Slots, free};
+use lq_board::Board;
+use lq_subscription::Identity;
 use lq_value::Refusal;
 use lq_volume::Volume;
 use std::alloc::Global;
@@ -27,9 +28,8 @@ impl Named for Brand {
 #[derive(Drop)]
 pub struct Base {
     board: Board<Identity>,
-    keeper: Keeper<Identity>,
+    slots: Slots,
     volume: Volume,
-    slots: Vec<Option<Subscription>>,
     alloc: Global,
 }
 
@@ -38,7 +38,7 @@ impl Model for Base {
     ghost use Rattle.atomic_table.specs.Seated.{TableId, table_id_coded};
     ghost use Rattle.lq_volume.specs.Book.{state_of};
     ghost use Rattle.lq_board.specs.Book.{IsFullBook};
-    ghost use Rattle.lq_slots.specs.Slots.{AllStand};
+    ghost use Rattle.lq_slots.specs.Slots.{SlotsStand};
 
     ghost Value = { TableId };
 
@@ -46,10 +46,11 @@ impl Model for Base {
 
     ghost view = { λ b. b.board };
 
-    ghost invariant = { λ b. (b.keeper.board ≡ b.board)
-        × (state_of b.keeper.book ≡ b.volume)
-        × IsFullBook b.keeper.book
-        × AllStand b.keeper b.slots.items 0 b.keeper.book };
+    ghost invariant = { λ b. (b.slots.keeper.board ≡ b.board)
+        × (b.volume ≡ state_of b.slots.keeper.book)
+        × IsFullBook b.slots.keeper.book
+        × (b.slots.openings ≡ 0)
+        × SlotsStand b.slots b.slots.keeper.book };
 }
 
 impl Base {
@@ -59,12 +60,16 @@ impl Base {
         ensures refused { IsRefusedBy result None }
     {
         let (board, keeper) = Board::new(alloc, &volume)?;
-        let slots = crate::slots::free(alloc)?;
+        let subscriptions = free(alloc)?;
+        let slots = Slots {
+            keeper,
+            subscriptions,
+            openings: 0,
+        };
         Ok(Base {
             board,
-            keeper,
-            volume,
             slots,
+            volume,
             alloc,
         })
     }
@@ -76,11 +81,10 @@ impl Base {
     {
         let Base {
             board,
-            keeper,
-            volume,
             slots,
+            volume,
             alloc,
         } = self;
-        (board, Locked::new(alloc, keeper, volume, slots))
+        (board, Locked::new(alloc, slots, volume))
     }
 }

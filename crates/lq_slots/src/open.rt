@@ -6,10 +6,10 @@ ghost use Rattle.lq_board.specs.Book.{IsFullBook};
 ghost use Rattle.lq_board.specs.Slot.{slot_at, gone_out};
 ghost use Rattle.lq_subscription.specs.Identity.{identity_of};
 ghost use Rattle.lq_subscription.specs.declared.identity.Identity.{Identity as IdentityOf};
-ghost use Rattle.lq_slots.specs.Slots.{AllStand, slot_in};
+ghost use Rattle.lq_slots.specs.Slots.{SlotsStand, slot_in};
 ghost use Rattle.lq_slots.specs.Opening.{IsBegun, IsOpened, IsOpeningRefused, opening_refusal};
 
-use crate::slots::PLACES;
+use crate::slots::{PLACES, Slots};
 use lq_board::{Board, Keeper, Seat};
 use lq_desk::Sub;
 use lq_port::make;
@@ -49,38 +49,44 @@ fn free_place(slots: &[Option<Subscription>]) -> Option<usize>
     None
 }
 
+/// What an opening asks for.
+#[derive(Clone, Copy)]
+pub(crate) struct Asked<'a> {
+    pub(crate) predicate: &'a Predicate,
+    pub(crate) port: u64,
+    pub(crate) backlog: u64,
+    pub(crate) moved: bool,
+}
+
 // A subscription over the keeper's book, and the end of it that reads.
 fn begin(
     alloc: Global,
     keeper: &Keeper<Identity>,
     volume: &Volume,
-    predicate: &Predicate,
-    port: u64,
-    backlog: u64,
-    moved: bool,
+    asked: &Asked,
 ) -> Result<(Subscription, Reading), Refusal>
     requires volume { volume.now ≡ state_of keeper.now.book }
     requires full { IsFullBook keeper.now.book }
-    requires port { (0 < port) × (port ≤ 1024) }
+    requires port { (0 < asked.now.port) × (asked.now.port ≤ 1024) }
     ensures refused { IsRefusedBy result None }
-    ensures begun { IfOk result (λ r.
-        IsBegun r.0 r.1 keeper.now.book predicate.now moved port backlog) }
+    ensures begun { IfOk result (λ r. IsBegun r.0 r.1 keeper.now.book
+        asked.now.predicate.now asked.now.moved asked.now.port asked.now.backlog) }
 {
     results_rise();
     let at = volume.changes();
-    let entries = volume.fetch(predicate)?;
-    let sub = Sub::new(alloc, predicate, at, backlog, moved)?;
+    let entries = volume.fetch(asked.predicate)?;
+    let sub = Sub::new(alloc, asked.predicate, at, asked.backlog, asked.moved)?;
     let opening_at = Opening {
-        query: Witness::of(predicate),
-        moved,
+        query: Witness::of(asked.predicate),
+        moved: asked.moved,
         opened: at,
         book: Witness::of(keeper),
     };
-    let (input, output) = make::<Delivery>(alloc, port, &opening_at)?;
+    let (input, output) = make::<Delivery>(alloc, asked.port, &opening_at)?;
     let slot = Subscription {
         sub,
         input,
-        places: port,
+        places: asked.port,
         asks: 0,
         shut: Shut::Never,
     };
@@ -102,7 +108,8 @@ fn sit_named(
     requires free { (slot_at keeper.old.slots place).out ≡ false }
     ensures board { keeper.new.board ≡ keeper.old.board }
     ensures book { keeper.new.book ≡ keeper.old.book }
-    ensures slots { keeper.new.slots ≡ gone_out keeper.old.slots place (Some (identity_of slot.now)) }
+    ensures slots { keeper.new.slots
+        ≡ gone_out keeper.old.slots place (Some (identity_of slot.now)) }
     ensures seat { result ≡ record {
       board = keeper.old.board;
       slot = place;
@@ -127,7 +134,8 @@ fn sit(
     requires free { (slot_at keeper.old.slots place).out ≡ false }
     ensures board { keeper.new.board ≡ keeper.old.board }
     ensures book { keeper.new.book ≡ keeper.old.book }
-    ensures slots { keeper.new.slots ≡ gone_out keeper.old.slots place (Some (identity_of slot.now)) }
+    ensures slots { keeper.new.slots
+        ≡ gone_out keeper.old.slots place (Some (identity_of slot.now)) }
     ensures seat { result ≡ record {
       board = keeper.old.board;
       slot = place;
@@ -142,32 +150,30 @@ fn sit(
 // Puts a subscription into a free place, which has a seat then.
 fn settle(
     board: &Board<Identity>,
-    keeper: &mut Keeper<Identity>,
-    slots: &mut Vec<Option<Subscription>>,
-    openings: &mut u64,
+    slots: &mut Slots,
     place: usize,
     mut slot: Subscription,
     reading: Reading,
 ) -> Opened
-    requires board { keeper.old.board ≡ board.now }
+    requires board { slots.old.keeper.board ≡ board.now }
     requires place { (0 < place) × (place < 65) }
-    requires free { slot_in slots.old.items place ≡ None }
-    requires room { openings.old < 1000000000000 }
-    requires begun { IsBegun slot reading keeper.old.book slot.sub.held.query slot.sub.held.moved
-        slot.places slot.sub.held.backlog }
-    requires holding { AllStand keeper.old slots.old.items openings.old keeper.old.book }
-    ensures board { keeper.new.board ≡ keeper.old.board }
-    ensures book { keeper.new.book ≡ keeper.old.book }
-    ensures openings { openings.new ≡ openings.old + 1 }
-    ensures holding { AllStand keeper.new slots.new.items openings.new keeper.new.book }
-    ensures opened { IsOpened result keeper.old.board keeper.old.book slot.sub.held.query
+    requires free { slot_in slots.old.subscriptions.items place ≡ None }
+    requires room { slots.old.openings < 1000000000000 }
+    requires begun { IsBegun slot reading slots.old.keeper.book slot.sub.held.query
         slot.sub.held.moved slot.places slot.sub.held.backlog }
+    requires holding { SlotsStand slots.old slots.old.keeper.book }
+    ensures board { slots.new.keeper.board ≡ slots.old.keeper.board }
+    ensures book { slots.new.keeper.book ≡ slots.old.keeper.book }
+    ensures openings { slots.new.openings ≡ slots.old.openings + 1 }
+    ensures holding { SlotsStand slots.new slots.new.keeper.book }
+    ensures opened { IsOpened result slots.old.keeper.board slots.old.keeper.book
+        slot.sub.held.query slot.sub.held.moved slot.places slot.sub.held.backlog }
 {
-    let asks = board.asks(keeper, place as u64);
+    let asks = board.asks(&mut slots.keeper, place as u64);
     slot.asks = asks;
-    let seat = sit(board, keeper, &slot, place as u64);
-    slots[place] = Some(slot);
-    *openings += 1;
+    let seat = sit(board, &mut slots.keeper, &slot, place as u64);
+    slots.subscriptions[place] = Some(slot);
+    slots.openings += 1;
     Opened {
         reading,
         seat,
@@ -179,43 +185,40 @@ fn settle(
 pub(crate) fn open_in(
     alloc: Global,
     board: &Board<Identity>,
-    keeper: &mut Keeper<Identity>,
-    slots: &mut Vec<Option<Subscription>>,
+    slots: &mut Slots,
     volume: &Volume,
-    openings: &mut u64,
-    predicate: &Predicate,
-    port: u64,
-    backlog: u64,
-    moved: bool,
+    asked: &Asked,
 ) -> Result<Opened, Refusal>
-    requires board { keeper.old.board ≡ board.now }
-    requires volume { volume.now ≡ state_of keeper.old.book }
-    requires full { IsFullBook keeper.old.book }
-    requires limit { openings.old ≤ volume.now.limit }
-    requires holding { AllStand keeper.old slots.old.items openings.old keeper.old.book }
-    ensures board { keeper.new.board ≡ keeper.old.board }
-    ensures book { keeper.new.book ≡ keeper.old.book }
-    ensures limit { openings.new ≤ volume.now.limit }
-    ensures holding { AllStand keeper.new slots.new.items openings.new keeper.new.book }
-    ensures opened { IfOk result (λ o.
-        IsOpened o keeper.old.board keeper.old.book predicate.now moved port backlog) }
+    requires board { slots.old.keeper.board ≡ board.now }
+    requires volume { volume.now ≡ state_of slots.old.keeper.book }
+    requires full { IsFullBook slots.old.keeper.book }
+    requires limit { slots.old.openings ≤ volume.now.limit }
+    requires holding { SlotsStand slots.old slots.old.keeper.book }
+    ensures board { slots.new.keeper.board ≡ slots.old.keeper.board }
+    ensures book { slots.new.keeper.book ≡ slots.old.keeper.book }
+    ensures limit { slots.new.openings ≤ volume.now.limit }
+    ensures holding { SlotsStand slots.new slots.new.keeper.book }
+    ensures opened { IfOk result (λ o. IsOpened o slots.old.keeper.board slots.old.keeper.book
+        asked.now.predicate.now asked.now.moved asked.now.port asked.now.backlog) }
 
     // Its numbers refuse it first, and just by their bounds.
-    ensures refused { IfSome (opening_refusal port backlog) (λ e. result ≡ Err e) }
-    ensures others { IfNone (opening_refusal port backlog) (IfErr result IsOpeningRefused) }
+    ensures refused { IfSome (opening_refusal asked.now.port asked.now.backlog)
+        (λ e. result ≡ Err e) }
+    ensures others { IfNone (opening_refusal asked.now.port asked.now.backlog)
+        (IfErr result IsOpeningRefused) }
 {
-    if port == 0 || port > MAX_PLACES {
+    if asked.port == 0 || asked.port > MAX_PLACES {
         return Err(Refusal::BadPort);
     }
-    if backlog > MAX_BACKLOG {
+    if asked.backlog > MAX_BACKLOG {
         return Err(Refusal::BadBacklog);
     }
-    let Some(place) = free_place(slots) else {
+    let Some(place) = free_place(&slots.subscriptions) else {
         return Err(Refusal::NoSlot);
     };
-    if volume.limit() <= *openings {
+    if volume.limit() <= slots.openings {
         return Err(Refusal::Exhausted);
     }
-    let (slot, reading) = begin(alloc, keeper, volume, predicate, port, backlog, moved)?;
-    Ok(settle(board, keeper, slots, openings, place, slot, reading))
+    let (slot, reading) = begin(alloc, &slots.keeper, volume, asked)?;
+    Ok(settle(board, slots, place, slot, reading))
 }

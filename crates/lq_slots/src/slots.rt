@@ -5,7 +5,7 @@ ghost use Rattle.lq_volume.specs.Change.{IsLawful};
 ghost use Rattle.lq_volume.specs.Book.{state_of};
 ghost use Rattle.lq_board.specs.Slot.{slot_at, counted};
 ghost use Rattle.lq_subscription.specs.Standing.{SameButHeld, SameButPuts};
-ghost use Rattle.lq_slots.specs.Slots.{IsTaken, SlotStands, AllStand, OnlyAt, IsReadyAt, AllReady, before_of, IsGrown, slot_in};
+ghost use Rattle.lq_slots.specs.Slots.{IsTaken, SlotStands, asks_of, SlotsStand, OnlyAt, IsReadyAt, AllReady, before_of, IsGrown, slot_in};
 
 use lq_board::{Board, Keeper};
 use lq_subscription::{Identity, Subscription, commit, notice, pump, ready};
@@ -16,6 +16,14 @@ use std::sync::Wait;
 
 /// The number of slots, and a place that isn't used before them.
 pub(crate) const PLACES: usize = 65;
+
+/// What stands in the slots, what the keeper knows of them, and how often one was opened.
+#[derive(Drop)]
+pub struct Slots {
+    pub keeper: Keeper<Identity>,
+    pub subscriptions: Vec<Option<Subscription>>,
+    pub openings: u64,
+}
 
 /// All slots free.
 pub(crate) fn free(alloc: Global) -> Result<Vec<Option<Subscription>>, Refusal>
@@ -37,24 +45,22 @@ pub(crate) fn notice_slot(
     keeper: &mut Keeper<Identity>,
     slot: &mut Subscription,
     place: usize,
-    openings: u64,
     number: u64,
 ) -> u64
     requires board { keeper.old.board ≡ board.now }
     requires place { (0 < place) × (place < 65) × (length keeper.old.slots ≡ 65) }
     requires number { number ≡ length keeper.old.book.changes }
-    requires taken { IsTaken slot.old (slot_at keeper.old.slots place) openings keeper.old.book }
+    requires taken { IsTaken slot.old (slot_at keeper.old.slots place) keeper.old.book }
     ensures board { keeper.new.board ≡ keeper.old.board }
     ensures book { keeper.new.book ≡ keeper.old.book }
     ensures slots { keeper.new.slots ≡ counted keeper.old.slots place result }
     ensures asks { (slot_at keeper.old.slots place).asks ≤ result }
-    ensures taken { IsTaken slot.new (slot_at keeper.new.slots place) openings keeper.new.book }
+    ensures taken { IsTaken slot.new (slot_at keeper.new.slots place) keeper.new.book }
     ensures ended { slot.old.asks < result → IsSome slot.new.sub.held.mark }
     ensures others { SameButHeld slot.old slot.new × (slot.new.shut ≡ slot.old.shut) }
     ensures still { IsSome slot.old.sub.held.mark
         → slot.new.sub.held.mark ≡ slot.old.sub.held.mark }
 {
-    let _ = openings;
     let asks = board.asks(keeper, place as u64);
     let asked = asks > slot.asks;
     notice(slot, asked, number);
@@ -67,40 +73,42 @@ fn notice_at(
     keeper: &mut Keeper<Identity>,
     slot: &mut Option<Subscription>,
     place: usize,
-    openings: u64,
     number: u64,
 )
     requires board { keeper.old.board ≡ board.now }
     requires place { (0 < place) × (place < 65) × (length keeper.old.slots ≡ 65) }
     requires number { number ≡ length keeper.old.book.changes }
-    requires fits { SlotStands slot.old (slot_at keeper.old.slots place) openings keeper.old.book }
+    requires fits { SlotStands slot.old (slot_at keeper.old.slots place) keeper.old.book }
     ensures board { keeper.new.board ≡ keeper.old.board }
     ensures book { keeper.new.book ≡ keeper.old.book }
     ensures only { OnlyAt keeper.old.slots keeper.new.slots place }
-    ensures fits { SlotStands slot.new (slot_at keeper.new.slots place) openings keeper.new.book }
+    ensures fits { SlotStands slot.new (slot_at keeper.new.slots place) keeper.new.book }
+    ensures asks { asks_of slot.new (slot_at keeper.new.slots place)
+        ≤ asks_of slot.old (slot_at keeper.old.slots place) }
 {
     if let Some(taken) = slot {
-        notice_slot(board, keeper, taken, place, openings, number);
+        notice_slot(board, keeper, taken, place, number);
     }
 }
 
 /// Ends each subscription whose reader asked.
-pub(crate) fn notice_all(
-    board: &Board<Identity>,
-    keeper: &mut Keeper<Identity>,
-    slots: &mut Vec<Option<Subscription>>,
-    openings: u64,
-    number: u64,
-)
-    requires board { keeper.old.board ≡ board.now }
-    requires number { number ≡ length keeper.old.book.changes }
-    requires holding { AllStand keeper.old slots.old.items openings keeper.old.book }
-    ensures board { keeper.new.board ≡ keeper.old.board }
-    ensures book { keeper.new.book ≡ keeper.old.book }
-    ensures holding { AllStand keeper.new slots.new.items openings keeper.new.book }
+pub(crate) fn notice_all(board: &Board<Identity>, slots: &mut Slots, number: u64)
+    requires board { slots.old.keeper.board ≡ board.now }
+    requires number { number ≡ length slots.old.keeper.book.changes }
+    requires holding { SlotsStand slots.old slots.old.keeper.book }
+    ensures board { slots.new.keeper.board ≡ slots.old.keeper.board }
+    ensures book { slots.new.keeper.book ≡ slots.old.keeper.book }
+    ensures openings { slots.new.openings ≡ slots.old.openings }
+    ensures holding { SlotsStand slots.new slots.new.keeper.book }
 {
     for place in 1..PLACES {
-        notice_at(board, keeper, &mut slots[place], place, openings, number);
+        notice_at(
+            board,
+            &mut slots.keeper,
+            &mut slots.subscriptions[place],
+            place,
+            number,
+        );
     }
 }
 
@@ -109,20 +117,21 @@ fn ready_at(
     keeper: &Keeper<Identity>,
     slot: &mut Option<Subscription>,
     place: usize,
-    openings: u64,
     volume: &Volume,
     change: &Change,
 ) -> Result<(), Refusal>
     requires lawful { IsLawful volume.now change.now }
-    requires fits { SlotStands slot.old (slot_at keeper.now.slots place) openings keeper.now.book }
+    requires fits { SlotStands slot.old (slot_at keeper.now.slots place) keeper.now.book }
     ensures refused { IsRefusedBy result None }
-    ensures fits { SlotStands slot.new (slot_at keeper.now.slots place) openings keeper.now.book }
+    ensures fits { SlotStands slot.new (slot_at keeper.now.slots place) keeper.now.book }
+    ensures asks { asks_of slot.new (slot_at keeper.now.slots place)
+        ≤ asks_of slot.old (slot_at keeper.now.slots place) }
     ensures ready { OnOk result (IsReadyAt slot.new volume.now change.now) }
 {
     let _ = keeper;
-    let _ = (place, openings);
+    let _ = place;
     match slot {
-        Some(taken) => ready_slot(keeper, taken, place, openings, volume, change),
+        Some(taken) => ready_slot(keeper, taken, place, volume, change),
         None => Ok(()),
     }
 }
@@ -131,37 +140,39 @@ fn ready_slot(
     keeper: &Keeper<Identity>,
     slot: &mut Subscription,
     place: usize,
-    openings: u64,
     volume: &Volume,
     change: &Change,
 ) -> Result<(), Refusal>
     requires lawful { IsLawful volume.now change.now }
-    requires taken { IsTaken slot.old (slot_at keeper.now.slots place) openings keeper.now.book }
+    requires taken { IsTaken slot.old (slot_at keeper.now.slots place) keeper.now.book }
     ensures refused { IsRefusedBy result None }
-    ensures taken { IsTaken slot.new (slot_at keeper.now.slots place) openings keeper.now.book }
+    ensures taken { IsTaken slot.new (slot_at keeper.now.slots place) keeper.now.book }
+    ensures asks { slot.new.asks ≡ slot.old.asks }
     ensures ready { OnOk result (IsReadyAt (Some slot.new) volume.now change.now) }
 {
     let _ = keeper;
-    let _ = (place, openings);
+    let _ = place;
     ready(slot, volume, change)
 }
 
 /// Makes the messages of a change for each subscription.
-pub(crate) fn ready_all(
-    keeper: &Keeper<Identity>,
-    slots: &mut Vec<Option<Subscription>>,
-    openings: u64,
-    volume: &Volume,
-    change: &Change,
-) -> Result<(), Refusal>
+pub(crate) fn ready_all(slots: &mut Slots, volume: &Volume, change: &Change) -> Result<(), Refusal>
     requires lawful { IsLawful volume.now change.now }
-    requires holding { AllStand keeper.now slots.old.items openings keeper.now.book }
+    requires holding { SlotsStand slots.old slots.old.keeper.book }
     ensures refused { IsRefusedBy result None }
-    ensures holding { AllStand keeper.now slots.new.items openings keeper.now.book }
-    ensures ready { OnOk result (AllReady slots.new.items volume.now change.now) }
+    ensures keeper { slots.new.keeper ≡ slots.old.keeper }
+    ensures openings { slots.new.openings ≡ slots.old.openings }
+    ensures holding { SlotsStand slots.new slots.new.keeper.book }
+    ensures ready { OnOk result (AllReady slots.new.subscriptions.items volume.now change.now) }
 {
     for place in 1..PLACES {
-        ready_at(keeper, &mut slots[place], place, openings, volume, change)?;
+        ready_at(
+            &slots.keeper,
+            &mut slots.subscriptions[place],
+            place,
+            volume,
+            change,
+        )?;
     }
     Ok(())
 }
@@ -172,17 +183,18 @@ fn tell_at<R: Wait>(
     keeper: &Keeper<Identity>,
     slot: &mut Option<Subscription>,
     place: usize,
-    openings: u64,
     change: &Change,
 )
     requires grown { IsGrown keeper.now.book change.now }
     requires ready { IsReadyAt slot.old (state_of (before_of keeper.now.book)) change.now }
-    requires fits { SlotStands slot.old (slot_at keeper.now.slots place) openings
+    requires fits { SlotStands slot.old (slot_at keeper.now.slots place)
         (before_of keeper.now.book) }
-    ensures fits { SlotStands slot.new (slot_at keeper.now.slots place) openings keeper.now.book }
+    ensures fits { SlotStands slot.new (slot_at keeper.now.slots place) keeper.now.book }
+    ensures asks { asks_of slot.new (slot_at keeper.now.slots place)
+        ≤ asks_of slot.old (slot_at keeper.now.slots place) }
 {
     if let Some(taken) = slot {
-        tell_slot(rt, keeper, taken, place, openings, change);
+        tell_slot(rt, keeper, taken, place, change);
     }
 }
 
@@ -191,35 +203,38 @@ fn tell_slot<R: Wait>(
     keeper: &Keeper<Identity>,
     slot: &mut Subscription,
     place: usize,
-    openings: u64,
     change: &Change,
 )
     requires grown { IsGrown keeper.now.book change.now }
     requires ready { IsReadyAt (Some slot.old) (state_of (before_of keeper.now.book)) change.now }
-    requires taken { IsTaken slot.old (slot_at keeper.now.slots place) openings
+    requires taken { IsTaken slot.old (slot_at keeper.now.slots place)
         (before_of keeper.now.book) }
-    ensures taken { IsTaken slot.new (slot_at keeper.now.slots place) openings keeper.now.book }
+    ensures taken { IsTaken slot.new (slot_at keeper.now.slots place) keeper.now.book }
+    ensures asks { slot.new.asks ≡ slot.old.asks }
 {
-    let _ = (place, openings);
+    let _ = place;
     commit(slot, change);
     pump(rt, keeper, slot);
 }
 
 /// Tells each subscription the change that was just added.
-pub(crate) fn tell_all<R: Wait>(
-    rt: &R,
-    keeper: &Keeper<Identity>,
-    slots: &mut Vec<Option<Subscription>>,
-    openings: u64,
-    change: &Change,
-)
-    requires grown { IsGrown keeper.now.book change.now }
-    requires ready { AllReady slots.old.items (state_of (before_of keeper.now.book)) change.now }
-    requires holding { AllStand keeper.now slots.old.items openings (before_of keeper.now.book) }
-    ensures holding { AllStand keeper.now slots.new.items openings keeper.now.book }
+pub(crate) fn tell_all<R: Wait>(rt: &R, slots: &mut Slots, change: &Change)
+    requires grown { IsGrown slots.old.keeper.book change.now }
+    requires ready { AllReady slots.old.subscriptions.items
+        (state_of (before_of slots.old.keeper.book)) change.now }
+    requires holding { SlotsStand slots.old (before_of slots.old.keeper.book) }
+    ensures keeper { slots.new.keeper ≡ slots.old.keeper }
+    ensures openings { slots.new.openings ≡ slots.old.openings }
+    ensures holding { SlotsStand slots.new slots.new.keeper.book }
 {
     for place in 1..PLACES {
-        tell_at(rt, keeper, &mut slots[place], place, openings, change);
+        tell_at(
+            rt,
+            &slots.keeper,
+            &mut slots.subscriptions[place],
+            place,
+            change,
+        );
     }
 }
 
@@ -229,13 +244,12 @@ pub(crate) fn pump_slot<R: Wait>(
     keeper: &Keeper<Identity>,
     slot: &mut Subscription,
     place: usize,
-    openings: u64,
 )
-    requires taken { IsTaken slot.old (slot_at keeper.now.slots place) openings keeper.now.book }
-    ensures taken { IsTaken slot.new (slot_at keeper.now.slots place) openings keeper.now.book }
+    requires taken { IsTaken slot.old (slot_at keeper.now.slots place) keeper.now.book }
+    ensures taken { IsTaken slot.new (slot_at keeper.now.slots place) keeper.now.book }
     ensures alike { SameButPuts slot.old slot.new }
 {
-    let _ = (place, openings);
+    let _ = place;
     pump(rt, keeper, slot);
 }
 
@@ -244,27 +258,25 @@ fn pump_at<R: Wait>(
     keeper: &Keeper<Identity>,
     slot: &mut Option<Subscription>,
     place: usize,
-    openings: u64,
 )
-    requires fits { SlotStands slot.old (slot_at keeper.now.slots place) openings keeper.now.book }
-    ensures fits { SlotStands slot.new (slot_at keeper.now.slots place) openings keeper.now.book }
+    requires fits { SlotStands slot.old (slot_at keeper.now.slots place) keeper.now.book }
+    ensures fits { SlotStands slot.new (slot_at keeper.now.slots place) keeper.now.book }
+    ensures asks { asks_of slot.new (slot_at keeper.now.slots place)
+        ≤ asks_of slot.old (slot_at keeper.now.slots place) }
 {
     if let Some(taken) = slot {
-        pump_slot(rt, keeper, taken, place, openings);
+        pump_slot(rt, keeper, taken, place);
     }
 }
 
 /// Puts what each port takes.
-pub(crate) fn pump_all<R: Wait>(
-    rt: &R,
-    keeper: &Keeper<Identity>,
-    slots: &mut Vec<Option<Subscription>>,
-    openings: u64,
-)
-    requires holding { AllStand keeper.now slots.old.items openings keeper.now.book }
-    ensures holding { AllStand keeper.now slots.new.items openings keeper.now.book }
+pub(crate) fn pump_all<R: Wait>(rt: &R, slots: &mut Slots)
+    requires holding { SlotsStand slots.old slots.old.keeper.book }
+    ensures keeper { slots.new.keeper ≡ slots.old.keeper }
+    ensures openings { slots.new.openings ≡ slots.old.openings }
+    ensures holding { SlotsStand slots.new slots.new.keeper.book }
 {
     for place in 1..PLACES {
-        pump_at(rt, keeper, &mut slots[place], place, openings);
+        pump_at(rt, &slots.keeper, &mut slots.subscriptions[place], place);
     }
 }

@@ -10,8 +10,9 @@ use Rattle.lq_slots.proofs.open.settle.Goals as goal
 pub returns-clause-holding : goal.returns-clause-holding
 returns-clause-holding c =
     let b = c.requires.begun in
+    let was = c.args.slots.now in
     let s : Subscription = record { sub = c.args.slot.sub; input = c.args.slot.input; places = c.args.slot.places; asks = c.asks-asks.result; shut = c.args.slot.shut } in
-    let book : c.sit-seat.new.keeper.book ≡ c.args.keeper.now.book = c.sit-seat.ensures.book ∙ ap (λ (k : KeeperToken Identity). k.book) c.asks-asks.ensures.keeper in
-    subst (λ (x : Book). AllStand c.sit-seat.new.keeper (slice_set c.args.slots.now.items c.args.place (Some s)) (c.args.openings.now + 1) x) (sym book)
-    (settled c.args.keeper.now c.asks-asks.new.keeper c.sit-seat.new.keeper c.args.slots.now.items c.args.place c.args.openings.now c.asks-asks.result s c.args.keeper.now.book c.requires.holding c.requires.place.0 c.requires.place.1 c.requires.free
+    let book : c.sit-seat.new.keeper.book ≡ was.keeper.book = c.sit-seat.ensures.book ∙ ap (λ (k : KeeperToken Identity). k.book) c.asks-asks.ensures.keeper in
+    subst (λ (x : Book). AllStand c.sit-seat.new.keeper (slice_set was.subscriptions.items c.args.place (Some s)) (was.openings + 1) x) (sym book)
+    (settled was.keeper c.asks-asks.new.keeper c.sit-seat.new.keeper was.subscriptions.items c.args.place was.openings c.asks-asks.result s was.keeper.book c.requires.holding c.requires.place.0 c.requires.place.1 c.requires.free
     (ap (λ (k : KeeperToken Identity). k.slots) c.asks-asks.ensures.keeper) c.asks-asks.ensures.idle c.sit-seat.ensures.slots refl b.stands b.messages b.live)
