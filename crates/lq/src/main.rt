@@ -2,14 +2,18 @@
 #![tactic(auto)]
 
 use lq_script::{Host, Sink, program};
+use std::alloc::{AllocError, Global};
 use std::process::ExitCode;
 use std::{env, io};
 
-/// The status of a run that had no memory for its words.
+/// The status of a run that had no memory, for its words or for its stack.
 const NO_MEMORY: u8 = 1;
 
 /// The status of a run with a word that is not UTF-8.
 const USAGE: u8 = 2;
+
+/// The stack that is taken before all else, in bytes: more than any script was seen to take.
+const STACK: usize = 131_072;
 
 fn main(rt: HostRuntime) -> ExitCode {
     let mut faults = Host::new(rt.stderr());
@@ -31,9 +35,33 @@ fn main(rt: HostRuntime) -> ExitCode {
 
 // The words after the program's name. `InvalidData` where one is not UTF-8.
 fn words_of(rt: &HostRuntime) -> io::Result<Vec<String>> {
+    take_stack(rt.alloc())?;
     let mut words = Vec::new(rt.alloc());
     for word in env::args(rt)?.skip(1) {
         words.push(word)?;
     }
     Ok(words)
+}
+
+// Takes the stack while a want of it can still be told. The system lets the stack grow by itself, and
+// where it can't, ends the program by a signal: so more than that is allocated first, which can be
+// refused, and given back, and then the stack grows into what was free. It is twice as much, since
+// the C library keeps what is smaller when that is freed.
+fn take_stack(alloc: Global) -> Result<(), AllocError> {
+    let room: Vec<u8> = Vec::with_capacity(alloc, 2 * STACK)?;
+    let bytes = room.capacity();
+    drop(room);
+    // It asks for none, so that the stack is of use to something and isn't left out.
+    let none: Vec<u8> = Vec::with_capacity(alloc, touched(bytes))?;
+    drop(none);
+    Ok(())
+}
+
+// Fills a part of the stack, and answers 0.
+#[inline(never)]
+fn touched(number: usize) -> usize {
+    let mut room = [0_u8; STACK];
+    let place = number % (STACK - 1);
+    room[place] = 1;
+    room[place + 1] as usize
 }
