@@ -1,5 +1,5 @@
 //! Bytes, numbers and truths.
-ghost use Rattle.std.specs.Prelude.{◌≡◌, ◌++◌, OnOk};
+ghost use Rattle.std.specs.Prelude.{◌≡◌, ◌++◌, OnErr, OnOk};
 ghost use Rattle.serde_json.specs.Data.{number, unsigned, boolean};
 ghost use Rattle.serde_json.specs.Find.{of_integer};
 ghost use Rattle.serde_json.specs.Written.{compact_text};
@@ -13,6 +13,7 @@ use std::alloc::AllocError;
 #[inline(always)]
 pub fn put_bytes(out: &mut Vec<u8>, bytes: &[u8]) -> Result<(), AllocError>
     ensures ok { OnOk result (out.new.items ≡ out.old.items ++ bytes.now) }
+    ensures err { OnErr result (out.new.items ≡ out.old.items) }
     ensures front { Extends out.new.items out.old.items }
 {
     out.extend_from_slice(bytes)?;
