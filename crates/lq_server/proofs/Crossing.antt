@@ -36,6 +36,7 @@ use Rattle.lq_subscription.specs.contracts.subscription.Subscription as slot
 use Rattle.lq_subscription.proofs.delivery.Delivery.TheSendSync as found_delivery
 use Rattle.lq_slots.specs.declared.named.Named.{Ghosts}
 use Rattle.lq_slots.specs.contracts.locked.Locked as locked
+use Rattle.lq_slots.specs.contracts.slots.Slots as slots
 use Rattle.lq_slots.specs.contracts.locked.Locked.TheInside as in_locked
 use Rattle.lq_server.specs.contracts.server.Server as server
 use Rattle.lq_server.specs.contracts.server.Server.TheInside as in_server
@@ -52,11 +53,8 @@ in_send = found_in.the_send delivery.the_row opening_at.the_row ghosts found_del
 pub slot_send : IsSend slot.the_row
 slot_send = search (sendable, crosses, sub_send, in_send) depth 20
 
-keeper_send : IsSend (keeper.the_row identity.the_row)
-keeper_send = search (sendable, crosses, found_keeper.the_send) depth 20
-
-slots_send : IsSend (vec.the_row (option.the_row slot.the_row) global.the_row heap_ghosts)
-slots_send = search (sendable, crosses, slot_send) depth 20
+slots_send : IsSend slots.the_row
+slots_send = search (sendable, crosses, slot_send, found_keeper.the_send) depth 20
 
 phantom_send : (N : RattleType) → IsSend (phantom.the_row N)
 phantom_send N = search (sendable, crosses) depth 20
@@ -66,7 +64,7 @@ board_sync = search (sendable, crosses, found_board.the_sync) depth 20
 
 pub locked_send : (N : RattleType) (g : Ghosts N.Denot) → IsSend (locked.the_row N g)
 locked_send N g = view_send (in_locked.the_row N g) _ _ _ _
-    (declared_send (in_locked.the_type N g) (keeper_send, (slots_send, (found_volume.the_send, (search sendable, (search sendable, (heap.send, (phantom_send N, tt))))))))
+    (declared_send (in_locked.the_type N g) (slots_send, (found_volume.the_send, (search sendable, (heap.send, (phantom_send N, tt))))))
 
 mutex_sync : (N : RattleType) (g : Ghosts N.Denot) → IsSync (mutex.the_row (locked.the_row N g))
 mutex_sync N g = search (sendable, crosses, locked_send N g) depth 20
