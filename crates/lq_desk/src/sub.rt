@@ -206,6 +206,7 @@ impl Sub {
         ensures room { IfSome result (λ parcel. IsTrue (fits_back self.new.lent parcel)) }
         ensures sent { self.new.held.sent ≡ self.old.held.sent }
         ensures mark { self.new.held.mark ≡ self.old.held.mark }
+
         // What was made ready for a change stays.
         ensures ready { self.new.ready ≡ self.old.ready }
         ensures before { self.new.before ≡ self.old.before }
@@ -229,6 +230,7 @@ impl Sub {
         ensures held { self.new.held ≡ with_back self.old.held parcel }
         ensures sent { self.new.held.sent ≡ self.old.held.sent }
         ensures mark { self.new.held.mark ≡ self.old.held.mark }
+
         // What was made ready for a change stays.
         ensures ready { self.new.ready ≡ self.old.ready }
         ensures before { self.new.before ≡ self.old.before }
