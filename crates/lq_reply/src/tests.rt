@@ -11,9 +11,33 @@ use std::test::Fail;
 // A quote, a backslash, control characters with a short escape and without, and more bytes.
 const NAME: &str = "a\"b\\c\u{1}\t\n\u{1f}\u{7f}é€𝄞";
 
-const REFUSALS: [Refusal; 3] = [
+const REFUSALS: [Refusal; 27] = [
     Refusal::BadName,
+    Refusal::NoNode,
+    Refusal::NotFolder,
+    Refusal::NoEntry,
+    Refusal::Exists,
+    Refusal::WouldLoop,
+    Refusal::NotEmpty,
+    Refusal::KindClash,
+    Refusal::IsFolder,
+    Refusal::NoAttr,
+    Refusal::Reserved,
+    Refusal::TooLong,
+    Refusal::Exhausted,
+    Refusal::NoMemory,
     Refusal::BadQuery { place: 12 },
+    Refusal::BadPort,
+    Refusal::BadBacklog,
+    Refusal::NoSlot,
+    Refusal::NoSeat,
+    Refusal::NotOpen,
+    Refusal::StillOpen,
+    Refusal::LongLine,
+    Refusal::NotUtf8,
+    Refusal::NotJson,
+    Refusal::BadLine,
+    Refusal::OutOfStep,
     Refusal::Mismatch,
 ];
 
