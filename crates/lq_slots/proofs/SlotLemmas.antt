@@ -26,7 +26,7 @@ use Rattle.lq_subscription.specs.Marking.{hung_mark}
 use Rattle.lq_subscription.specs.Identity.{identity_of, port_id}
 use Rattle.lq_subscription.specs.Standing.{StandsAt, IsFilled, IsStuck, IsOut, IsDrained, SameButPuts, SameButHeld}
 use Rattle.lq_subscription.proofs.PutLemmas.{not_moved}
-use Rattle.lq_slots.specs.Slots.{IsTaken, SlotStands, asks_of, slot_in, AllStand, OnlyAt, IsReadyAt, AllReady, before_of, IsGrown, PartlyTold}
+use Rattle.lq_slots.specs.Slots.{IsTaken, SlotStands, asks_of, slot_in, AllStand, OnlyAt, before_of, IsGrown}
 
 -- ---- one slot
 
@@ -204,54 +204,4 @@ grown_is b d c e lawful full =
       book = e ∙ ap (λ (x : Book). grown x (c ∷ [])) (sym before);
       lawful = subst (λ (x : Book). IsLawful (state_of x) c) (sym before) lawful;
       full = full;
-    }
-
--- none was told yet
-pub partly_told-first : (keeper : KeeperToken Identity) (slots : List (Option Subscription))
-    (openings : ℕ) (c : Change) → AllStand keeper slots openings (before_of keeper.book)
-    → AllReady slots (state_of (before_of keeper.book)) c → PartlyTold keeper slots openings c 1
-partly_told-first keeper slots openings c h ready =
-    record {
-      known = h.known;
-      wide = h.wide;
-      below = λ k pos lt. absurd (omega arith);
-      from = λ k le within. (h.each k (omega arith) within, ready k (omega arith) within);
-      asks = h.asks;
-    }
-
--- one more was told
-pub partly_told-step : (keeper : KeeperToken Identity) (slots : List (Option Subscription))
-    (openings : ℕ) (c : Change) (place : ℕ) (o : Option Subscription)
-    → PartlyTold keeper slots openings c place → 0 < place → place < 65
-    → SlotStands o (slot_at keeper.slots place) keeper.book
-    → asks_of o (slot_at keeper.slots place) ≤ asks_of (slot_in slots place) (slot_at keeper.slots place)
-    → PartlyTold keeper (slice_set slots place o) openings c (place + 1)
-partly_told-step keeper slots openings c place o m pos_ lt fits asks =
-    let here : slot_in (slice_set slots place o) place ≡ o = in_here slots place o (let w = m.wide in omega arith) in
-    record {
-      known = m.known;
-      wide = length-set slots place o ∙ m.wide;
-      below = λ j pos under. dite (ℕ_discrete j place)
-          (λ (e : j ≡ place). subst (λ (i : ℕ). SlotStands (slot_in (slice_set slots place o) i) (slot_at keeper.slots i) keeper.book) (sym e)
-          (subst (λ (z : Option Subscription). SlotStands z (slot_at keeper.slots place) keeper.book) (sym here) fits))
-          (λ (ne : j ≢ place). subst (λ (z : Option Subscription). SlotStands z (slot_at keeper.slots j) keeper.book) (sym (in_else slots place j o ne)) (m.below j pos (omega (arith, ne))));
-      from = λ j le within.
-          subst (λ (z : Option Subscription). SlotStands z (slot_at keeper.slots j) (before_of keeper.book) × IsReadyAt z (state_of (before_of keeper.book)) c)
-          (sym (in_else slots place j o (λ e. absurd (omega arith)))) (m.from j (omega arith) within);
-      asks = λ j pos within. dite (ℕ_discrete j place)
-          (λ (e : j ≡ place). subst (λ (i : ℕ). asks_of (slot_in (slice_set slots place o) i) (slot_at keeper.slots i) ≤ openings) (sym e)
-          (subst (λ (z : Option Subscription). asks_of z (slot_at keeper.slots place) ≤ openings) (sym here) (let was = m.asks place pos_ lt in omega arith)))
-          (λ (ne : j ≢ place). subst (λ (z : Option Subscription). asks_of z (slot_at keeper.slots j) ≤ openings) (sym (in_else slots place j o ne)) (m.asks j pos within));
-    }
-
--- all were told
-pub partly_told-last : (keeper : KeeperToken Identity) (slots : List (Option Subscription))
-    (openings : ℕ) (c : Change) (place : ℕ) → place ≡ 65
-    → PartlyTold keeper slots openings c place → AllStand keeper slots openings keeper.book
-partly_told-last keeper slots openings c place e m =
-    record {
-      known = m.known;
-      wide = m.wide;
-      each = λ k pos within. m.below k pos (omega arith);
-      asks = m.asks;
     }

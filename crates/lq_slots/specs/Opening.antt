@@ -85,6 +85,15 @@ opening_refusal port backlog =
     ∷ (not (nat_le backlog 65536), BadBacklog)
     ∷ [])
 
+-- why an opening is refused, all but memory, in order
+abbrev pub opening_refusals : Bool → ℕ → ℕ → ℕ → ℕ → List (Bool × Refusal)
+opening_refusals full openings limit port backlog =
+    (not (nat_le 1 port && nat_le port 1024), BadPort)
+    ∷ (not (nat_le backlog 65536), BadBacklog)
+    ∷ (full, NoSlot)
+    ∷ (nat_le limit openings, Exhausted)
+    ∷ []
+
 -- what else may refuse one: no slot is free, as many openings were made as the volume takes changes, or memory
 abbrev pub IsOpeningRefused : Refusal → Type 0
 IsOpeningRefused e = (e ≡ NoSlot) ⊎ (e ≡ Exhausted) ⊎ (e ≡ NoMemory)

@@ -339,6 +339,7 @@ impl<N: Named> Locked<N> {
         let Slots {
             keeper,
             subscriptions: _,
+            taken: _,
             openings: _,
         } = slots;
         (keeper, volume)

@@ -3,7 +3,7 @@ ghost use Rattle.std.specs.Prelude.{◌≡◌, None};
 ghost use Rattle.lq_value.specs.Refusal.{IsRefusedBy};
 
 use crate::locked::Locked;
-use crate::slots::{Slots, free};
+use crate::slots::{PLACES, Slots, free};
 use lq_board::Board;
 use lq_subscription::Identity;
 use lq_value::Refusal;
@@ -61,9 +61,11 @@ impl Base {
     {
         let (board, keeper) = Board::new(alloc, &volume)?;
         let subscriptions = free(alloc)?;
+        let taken = Vec::with_capacity(alloc, PLACES)?;
         let slots = Slots {
             keeper,
             subscriptions,
+            taken,
             openings: 0,
         };
         Ok(Base {
