@@ -71,7 +71,8 @@ pub listed-set : (taken : List ℕ) (slots : List (Option Subscription)) (k : �
 listed-set taken slots k o l wide within kept =
     listed-alike taken slots (slice_set slots k o)
     (λ j lt. dite (ℕ_discrete j k)
-    (λ (e : j ≡ k). subst (λ (i : ℕ). is_some (slot_in (slice_set slots k o) i) ≡ is_some (slot_in slots i)) (sym e)
+    (λ (e : j ≡ k). subst (λ (i : ℕ). is_some (slot_in (slice_set slots k o) i) ≡ is_some
+    (slot_in slots i)) (sym e)
     (some_ap _ _ (in_here slots k o (omega arith)) ∙ kept))
     (λ (ne : j ≢ k). some_ap _ _ (in_else slots k j o ne)))
     l
@@ -79,7 +80,8 @@ listed-set taken slots k o l wide within kept =
 -- what holds of each number below n and of n holds below n + 1
 up_to : (P : ℕ → Type 0) (n i : ℕ) → i < n + 1 → (i < n → P i) → P n → P i
 up_to P n i lt below last =
-    dite (ℕ_discrete i n) (λ (e : i ≡ n). subst P (sym e) last) (λ (ne : i ≢ n). below (omega (arith, ne)))
+    dite (ℕ_discrete i n) (λ (e : i ≡ n). subst P (sym e) last)
+    (λ (ne : i ≢ n). below (omega (arith, ne)))
 
 -- a free slot was taken, and its place added
 pub listed-add : (taken : List ℕ) (slots : List (Option Subscription)) (k : ℕ) (s : Subscription)
@@ -90,15 +92,19 @@ listed-add taken slots k s l wide pos within none =
     let more : List ℕ = taken ++ k ∷ [] in
     let set : List (Option Subscription) = slice_set slots k (Some s) in
     let long : length more ≡ length taken + 1 = length-append taken (k ∷ []) in
-    let old : (i : ℕ) → i < n → place_at more i ≡ place_at taken i = λ i lt. get_or_append_left taken (k ∷ []) 0 i lt in
+    let old : (i : ℕ) → i < n → place_at more i ≡ place_at taken i = λ i lt. get_or_append_left
+    taken (k ∷ []) 0 i lt in
     let new : place_at more n ≡ k = get_or-append_seam taken k [] 0 in
     let apart : (i : ℕ) → i < n → place_at taken i ≢ k =
-    λ i lt e. true≢false (sym (subst (λ (j : ℕ). is_some (slot_in slots j) ≡ true) e (l.some i lt)) ∙ some_ap _ _ none) in
+    λ i lt e. true≢false (sym (subst (λ (j : ℕ). is_some (slot_in slots j) ≡ true) e (l.some i lt))
+    ∙ some_ap _ _ none) in
     record {
       low = λ i lt. up_to (λ i. 0 < place_at more i) n i (omega arith)
-          (λ b. subst (λ (p : ℕ). 0 < p) (sym (old i b)) (l.low i b)) (subst (λ (p : ℕ). 0 < p) (sym new) pos);
+          (λ b. subst (λ (p : ℕ). 0 < p) (sym (old i b)) (l.low i b))
+          (subst (λ (p : ℕ). 0 < p) (sym new) pos);
       high = λ i lt. up_to (λ i. place_at more i < 65) n i (omega arith)
-          (λ b. subst (λ (p : ℕ). p < 65) (sym (old i b)) (l.high i b)) (subst (λ (p : ℕ). p < 65) (sym new) within);
+          (λ b. subst (λ (p : ℕ). p < 65) (sym (old i b)) (l.high i b))
+          (subst (λ (p : ℕ). p < 65) (sym new) within);
       once = λ i j lti ltj. up_to (λ i. place_at more i ≡ place_at more j → i ≡ j) n i (omega arith)
           (λ bi. up_to (λ j. place_at more i ≡ place_at more j → i ≡ j) n j (omega arith)
           (λ bj e. l.once i j bi bj (sym (old i bi) ∙ e ∙ old j bj))
@@ -128,6 +134,7 @@ record WasAt (taken fewer : List ℕ) (a i : ℕ) : Type 0 where
   pub below : i < a → old ≡ i
   pub above : a ≤ i → old ≡ i + 1
 
+-- and there was such a place
 was_at : (taken : List ℕ) (a i : ℕ) → a < length taken → i < length (remove taken a)
     → WasAt taken (remove taken a) a i
 was_at taken a i at lt =
@@ -160,12 +167,15 @@ listed-remove taken slots k a l at here wide =
     let set : List (Option Subscription) = slice_set slots k None in
     let long : length (remove taken a) + 1 ≡ length taken = length-remove taken a at in
     record {
-      low = λ i lt. let v = was_at taken a i at lt in subst (λ (p : ℕ). 0 < p) (sym v.same) (l.low v.old v.within);
-      high = λ i lt. let v = was_at taken a i at lt in subst (λ (p : ℕ). p < 65) (sym v.same) (l.high v.old v.within);
+      low = λ i lt. let v = was_at taken a i at lt in subst (λ (p : ℕ). 0 < p) (sym v.same)
+          (l.low v.old v.within);
+      high = λ i lt. let v = was_at taken a i at lt in subst (λ (p : ℕ). p < 65) (sym v.same)
+          (l.high v.old v.within);
       once = λ i j lti ltj e.
           let v = was_at taken a i at lti in
           let w = was_at taken a j at ltj in
-          let one : v.old ≡ w.old = l.once v.old w.old v.within w.within (sym v.same ∙ e ∙ w.same) in
+          let one : v.old ≡ w.old = l.once v.old w.old v.within w.within (sym v.same ∙ e ∙ w.same)
+          in
           ⊎_elim
           (λ (bi : i < a). ⊎_elim
           (λ (bj : j < a). let p = v.below bi in let q = w.below bj in omega arith)
@@ -176,7 +186,8 @@ listed-remove taken slots k a l at here wide =
           (cases_lt i a);
       some = λ i lt.
           let v = was_at taken a i at lt in
-          let ne : place_at taken v.old ≢ k = λ e. v.other (l.once v.old a v.within at (e ∙ sym here)) in
+          let ne : place_at taken v.old ≢ k =
+          λ e. v.other (l.once v.old a v.within at (e ∙ sym here)) in
           subst (λ (p : ℕ). is_some (slot_in set p) ≡ true) (sym v.same)
           (some_ap _ _ (in_else slots k (place_at taken v.old) None ne) ∙ l.some v.old v.within);
       each = λ j low high some. dite (ℕ_discrete j k)
@@ -190,8 +201,12 @@ listed-remove taken slots k a l at here wide =
           let off : m ≢ a = λ e. ne (sym is ∙ ap (place_at taken) e ∙ here) in
           ⊎_elim
           (λ (b : m < a). (m, omega arith, get_or-remove_below taken a 0 m b at ∙ is))
-          (λ (b : a ≤ m). let up : (m - 1) + 1 ≡ m = omega (arith, off) in
-          (m - 1, omega (arith, off), get_or-remove_above taken a 0 (m - 1) (omega (arith, off)) at ∙ ap (place_at taken) up ∙ is))
+          (λ (b : a ≤ m). let up : (m - 1) + 1 ≡ m = omega (arith, off) in (
+            m - 1,
+            omega (arith, off),
+            get_or-remove_above taken a 0 (m - 1) (omega (arith, off)) at
+                ∙ ap (place_at taken) up ∙ is,
+          ))
           (cases_lt m a));
     }
 
@@ -210,7 +225,8 @@ pub all_ready : (taken : List ℕ) (slots : List (Option Subscription)) (told : 
     → AllReady slots s c
 all_ready taken slots told s c l most h k pos within =
     ⊎_elim
-    (λ (e : slot_in slots k ≡ None). subst (λ (z : Option Subscription). IsReadyAt z s c) (sym e) tt)
+    (λ (e : slot_in slots k ≡ None). subst (λ (z : Option Subscription). IsReadyAt z s c) (sym e)
+    tt)
     (λ (some : IsSome (slot_in slots k)).
     let i = l.each k pos within some in
     let lt = i.1 in
@@ -227,14 +243,17 @@ pub ready_more : (taken : List ℕ) (slots : List (Option Subscription)) (told p
 ready_more taken slots told place o s c l wide lt is ready h j under within =
     let high = l.high told lt in
     dite (ℕ_discrete j told)
-    (λ (e : j ≡ told). subst (λ (p : ℕ). IsReadyAt (slot_in (slice_set slots place o) p) s c) (is ∙ ap (place_at taken) (sym e))
-    (subst (λ (z : Option Subscription). IsReadyAt z s c) (sym (in_here slots place o (omega arith))) ready))
+    (λ (e : j ≡ told). subst (λ (p : ℕ). IsReadyAt (slot_in (slice_set slots place o) p) s c)
+    (is ∙ ap (place_at taken) (sym e))
+    (subst (λ (z : Option Subscription). IsReadyAt z s c)
+    (sym (in_here slots place o (omega arith))) ready))
     (λ (ne : j ≢ told). subst (λ (z : Option Subscription). IsReadyAt z s c)
     (sym (in_else slots place (place_at taken j) o (λ q. ne (l.once j told within lt (q ∙ is)))))
     (h j (omega (arith, ne)) within))
 
 -- ---- whether a slot is free
 
+-- one of these slots is free
 all_taken-none : (slots : List (Option Subscription)) (k : ℕ) → k < length slots
     → slot_in slots k ≡ None → all_taken slots ≡ false
 all_taken-none [] k lt none = absurd (omega arith)
@@ -242,6 +261,7 @@ all_taken-none (None ∷ slots) k lt none = refl
 all_taken-none (Some s ∷ slots) zero lt none = absurd (true≢false (some_ap _ _ none))
 all_taken-none (Some s ∷ slots) (suc k) lt none = all_taken-none slots k (omega arith) none
 
+-- each of these slots is taken
 all_taken-each : (slots : List (Option Subscription))
     → ((k : ℕ) → k < length slots → IsSome (slot_in slots k)) → all_taken slots ≡ true
 all_taken-each [] h = refl

@@ -25,10 +25,14 @@ partly_told-first keeper slots taken openings c h l ready =
       wide = h.wide;
       listed = l;
       below = λ j lt. absurd (omega arith);
-      from = λ j le lt.
-          (h.each (place_at taken j) (l.low j lt) (l.high j lt), ready (place_at taken j) (l.low j lt) (l.high j lt));
+      from = λ j le lt. (
+        h.each (place_at taken j) (l.low j lt) (l.high j lt),
+        ready (place_at taken j)
+            (l.low j lt) (l.high j lt),
+      );
       free = λ k pos within none.
-          subst (λ (z : Option Subscription). SlotStands z (slot_at keeper.slots k) (before_of keeper.book)) none (h.each k pos within);
+          subst (λ (z : Option Subscription). SlotStands z (slot_at keeper.slots k)
+          (before_of keeper.book)) none (h.each k pos within);
       asks = h.asks;
     }
 
@@ -54,23 +58,35 @@ partly_told-step keeper slots taken openings c told place o m lt is fits asks ke
       wide = length-set slots place o ∙ m.wide;
       listed = listed-set taken slots place o l wide high kept;
       below = λ j under within. dite (ℕ_discrete j told)
-          (λ (e : j ≡ told). subst (λ (p : ℕ). SlotStands (slot_in (slice_set slots place o) p) (slot_at keeper.slots p) keeper.book) (is ∙ ap (place_at taken) (sym e))
-          (subst (λ (z : Option Subscription). SlotStands z (slot_at keeper.slots place) keeper.book) (sym here) fits))
-          (λ (ne : j ≢ told). subst (λ (z : Option Subscription). SlotStands z (slot_at keeper.slots (place_at taken j)) keeper.book)
-          (sym (in_else slots place (place_at taken j) o (apart j within ne))) (m.below j (omega (arith, ne)) within));
+          (λ (e : j ≡ told). subst (λ (p : ℕ). SlotStands (slot_in (slice_set slots place o) p)
+          (slot_at keeper.slots p) keeper.book) (is ∙ ap (place_at taken) (sym e))
+          (subst (λ (z : Option Subscription). SlotStands z (slot_at keeper.slots place)
+          keeper.book) (sym here) fits))
+          (λ (ne : j ≢ told). subst (λ (z : Option Subscription). SlotStands z
+          (slot_at keeper.slots (place_at taken j)) keeper.book)
+          (sym (in_else slots place (place_at taken j) o (apart j within ne)))
+          (m.below j (omega (arith, ne)) within));
       from = λ j le within.
-          subst (λ (z : Option Subscription). SlotStands z (slot_at keeper.slots (place_at taken j)) (before_of keeper.book) × IsReadyAt z (state_of (before_of keeper.book)) c)
-          (sym (in_else slots place (place_at taken j) o (apart j within (λ e. absurd (omega arith))))) (m.from j (omega arith) within);
+          subst (λ (z : Option Subscription). SlotStands z (slot_at keeper.slots (place_at taken j))
+          (before_of keeper.book) × IsReadyAt z (state_of (before_of keeper.book)) c)
+          (sym (in_else slots place (place_at taken j) o
+          (apart j within (λ e. absurd (omega arith))))) (m.from j (omega arith) within);
       free = λ k pos within none. dite (ℕ_discrete k place)
           (λ (e : k ≡ place).
-          let gone : is_some o ≡ false = some_ap _ _ (sym here ∙ ap (slot_in (slice_set slots place o)) (sym e) ∙ none) in
-          let some : is_some (slot_in slots place) ≡ true = subst (λ (p : ℕ). is_some (slot_in slots p) ≡ true) (sym is) (l.some told lt) in
+          let gone : is_some o ≡ false =
+          some_ap _ _ (sym here ∙ ap (slot_in (slice_set slots place o)) (sym e) ∙ none) in
+          let some : is_some (slot_in slots place) ≡ true =
+          subst (λ (p : ℕ). is_some (slot_in slots p) ≡ true) (sym is) (l.some told lt) in
           absurd (true≢false (sym some ∙ sym kept ∙ gone)))
           (λ (ne : k ≢ place). m.free k pos within (sym (in_else slots place k o ne) ∙ none));
       asks = λ j pos within. dite (ℕ_discrete j place)
-          (λ (e : j ≡ place). subst (λ (i : ℕ). asks_of (slot_in (slice_set slots place o) i) (slot_at keeper.slots i) ≤ openings) (sym e)
-          (subst (λ (z : Option Subscription). asks_of z (slot_at keeper.slots place) ≤ openings) (sym here) (let was = m.asks place low high in omega arith)))
-          (λ (ne : j ≢ place). subst (λ (z : Option Subscription). asks_of z (slot_at keeper.slots j) ≤ openings) (sym (in_else slots place j o ne)) (m.asks j pos within));
+          (λ (e : j ≡ place). subst (λ (i : ℕ). asks_of (slot_in (slice_set slots place o) i)
+          (slot_at keeper.slots i) ≤ openings) (sym e)
+          (subst (λ (z : Option Subscription). asks_of z (slot_at keeper.slots place) ≤ openings)
+          (sym here) (let was = m.asks place low high in omega arith)))
+          (λ (ne : j ≢ place). subst (λ (z : Option Subscription). asks_of z
+          (slot_at keeper.slots j) ≤ openings) (sym (in_else slots place j o ne))
+          (m.asks j pos within));
     }
 
 -- all were told
@@ -83,11 +99,13 @@ partly_told-last keeper slots taken openings c told most m =
       wide = m.wide;
       each = λ k pos within.
           ⊎_elim
-          (λ (none : slot_in slots k ≡ None). subst (λ (z : Option Subscription). SlotStands z (slot_at keeper.slots k) keeper.book) (sym none) (m.free k pos within none))
+          (λ (none : slot_in slots k ≡ None). subst (λ (z : Option Subscription). SlotStands z
+          (slot_at keeper.slots k) keeper.book) (sym none) (m.free k pos within none))
           (λ (some : IsSome (slot_in slots k)).
           let i = m.listed.each k pos within some in
           let lt = i.1 in
-          subst (λ (p : ℕ). SlotStands (slot_in slots p) (slot_at keeper.slots p) keeper.book) i.2 (m.below i.0 (omega arith) lt))
+          subst (λ (p : ℕ). SlotStands (slot_in slots p) (slot_at keeper.slots p) keeper.book) i.2
+          (m.below i.0 (omega arith) lt))
           (free_or_taken (slot_in slots k));
       asks = m.asks;
     }

@@ -51,6 +51,7 @@ pub record AllStand (keeper : KeeperToken Identity) (slots : List (Option Subscr
 abbrev pub place_at : List ℕ → ℕ → ℕ
 place_at taken i = slice_index taken i
 
+-- the list has this place
 abbrev pub IsPlaceIn : List ℕ → ℕ → Type 0
 IsPlaceIn taken k = (i : ℕ) × (i < length taken) × (place_at taken i ≡ k)
 
@@ -96,6 +97,7 @@ abbrev pub IsReadyAt : Option Subscription → State → Change → Type 0
 IsReadyAt None s c = Unit {0}
 IsReadyAt (Some slot) s c = IsReady slot.sub s c
 
+-- and for all slots
 abbrev pub AllReady : List (Option Subscription) → State → Change → Type 0
 AllReady slots s c = (k : ℕ) → 0 < k → k < 65 → IsReadyAt (slot_in slots k) s c
 

@@ -24,7 +24,9 @@ impl Named for Brand {
     ghost board = { no_board };
 }
 
-/// A volume with a new board and its keeper, and no subscriptions. A contract sees which board it is.
+/// A volume with a new board and its keeper, and no subscriptions.
+///
+/// A contract sees which board it is.
 #[derive(Drop)]
 pub struct Base {
     board: Board<Identity>,

@@ -291,11 +291,11 @@ pub(crate) fn tell_all<R: Wait>(rt: &R, slots: &mut Slots, change: &Change)
 }
 
 // Puts what a port takes.
-fn pump_slot<R: Wait>(rt: &R, keeper: &Keeper<Identity>, slot: &mut Subscription, place: usize)
-    requires taken { IsTaken slot.old (slot_at keeper.now.slots place) keeper.now.book }
-    ensures taken { IsTaken slot.new (slot_at keeper.now.slots place) keeper.now.book }
-    ensures alike { SameButPuts slot.old slot.new }
+fn pump_slot<R: Wait>(rt: &R, keeper: &Keeper<Identity>, taken: &mut Subscription, place: usize)
+    requires taken { IsTaken taken.old (slot_at keeper.now.slots place) keeper.now.book }
+    ensures taken { IsTaken taken.new (slot_at keeper.now.slots place) keeper.now.book }
+    ensures alike { SameButPuts taken.old taken.new }
 {
     let _ = place;
-    pump(rt, keeper, slot);
+    pump(rt, keeper, taken);
 }

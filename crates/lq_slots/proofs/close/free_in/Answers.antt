@@ -19,10 +19,16 @@ returns-clause-holding c =
     let wide = h.wide in
     let within = c.requires.place.1 in
     let read = get_or_read items place _ (omega arith) c.index_mut.ensures.value None in
-    let asks = subst (λ (z : Option Subscription). (slot_at known.slots slot).asks ≤ asks_of z (slot_at was.keeper.slots slot)) read f.asks in (
-      all_stand-step was.keeper known items slot place was.openings c.free_at.new.slot was.keeper.book known.book h c.requires.place.0 within c.requires.seat.0 f.book f.only
-          (subst (λ (z : Option Subscription). SlotStands z (slot_at known.slots slot) known.book) (sym f.free) f.back)
-          (subst (λ (z : Option Subscription). asks_of z (slot_at known.slots slot) ≤ asks_of (slot_in items place) (slot_at was.keeper.slots slot)) (sym f.free) asks),
-      subst (λ (z : Option Subscription). IsListed c.take_out.new.taken.items (slice_set items place z)) (sym f.free)
-          (listed-drop was.taken.items c.take_out.new.taken.items items place c.requires.holding.1 wide c.take_out.ensures),
+    let asks = subst (λ (z : Option Subscription). (slot_at known.slots slot).asks ≤ asks_of z
+    (slot_at was.keeper.slots slot)) read f.asks in (
+      all_stand-step was.keeper known items slot place was.openings c.free_at.new.slot
+          was.keeper.book known.book h c.requires.place.0 within c.requires.seat.0 f.book f.only
+          (subst (λ (z : Option Subscription). SlotStands z (slot_at known.slots slot) known.book)
+          (sym f.free) f.back)
+          (subst (λ (z : Option Subscription). asks_of z (slot_at known.slots slot) ≤ asks_of
+          (slot_in items place) (slot_at was.keeper.slots slot)) (sym f.free) asks),
+      subst (λ (z : Option Subscription). IsListed c.take_out.new.taken.items
+          (slice_set items place z)) (sym f.free)
+          (listed-drop was.taken.items c.take_out.new.taken.items items place c.requires.holding.1
+          wide c.take_out.ensures),
     )

@@ -21,8 +21,10 @@ loop-index-preserved g c =
       i.0,
       i.1,
       i.2,
-      partly_told-step slots.keeper items slots.taken.items slots.openings c.args.change.now c.loop-index.index place c.tell_at.new.slot i.3
+      partly_told-step slots.keeper items slots.taken.items slots.openings c.args.change.now
+          c.loop-index.index place c.tell_at.new.slot i.3
           (omega (arith, i.2, c.loop-index-test.true)) c.place_of-place.ensures.value t.fits
-          (subst (λ (z : Option Subscription). asks_of c.tell_at.new.slot at ≤ asks_of z at) read t.asks)
+          (subst (λ (z : Option Subscription). asks_of c.tell_at.new.slot at ≤ asks_of z at) read
+          t.asks)
           (subst (λ (z : Option Subscription). is_some c.tell_at.new.slot ≡ is_some z) read t.kept),
     )

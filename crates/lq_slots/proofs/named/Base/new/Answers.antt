@@ -13,7 +13,9 @@ invariant_of-result c =
       n.full,
       refl,
       (
-        all_stand-none c.in_ok-board.keeper c.in_ok-subscriptions.subscriptions.items c.in_ok-board.keeper.book n.slots f.wide f.none,
-        listed-none c.in_ok-taken.taken.items c.in_ok-subscriptions.subscriptions.items c.in_ok-taken.ensures.items f.none,
+        all_stand-none c.in_ok-board.keeper c.in_ok-subscriptions.subscriptions.items
+            c.in_ok-board.keeper.book n.slots f.wide f.none,
+        listed-none c.in_ok-taken.taken.items c.in_ok-subscriptions.subscriptions.items
+            c.in_ok-taken.ensures.items f.none,
       ),
     )
