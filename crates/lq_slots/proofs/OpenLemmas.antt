@@ -28,15 +28,26 @@ use Rattle.lq_slots.specs.Opening.{IsBegun}
 use Rattle.lq_slots.proofs.SlotLemmas.{all_stand-set, only_counted, counted_here}
 use Rattle.lq_slots.proofs.SyncLemmas.{only_trans}
 
-pub begun_new : (s : Subscription) (r : ReadingHold) (book : Book) (q : Query) (mv : Bool) (port backlog at : ℕ) (g : Opening) → s.sub.held ≡ opened_with q mv at backlog → at ≡ length book.changes → s.places ≡ port → s.shut ≡ Never
-    → s.input.places ≡ port → s.input.floor ≡ g → query_of g ≡ q → g.moved ≡ mv → g.opened ≡ at → floor_of g ≡ book → s.input.taken ≡ [] → s.input.ahead ≡ [] → IsFullBook book
-    → r.port ≡ s.input → r.hand ≡ None → r.result ≡ opened_at at (result_of q (state_of book)) → IsBegun s r book q mv port backlog
-begun_new s r book q mv port backlog at g held number places shut ports opening_at query moved opened floor taken ahead full end hand result =
-    let now : s.sub.held ≡ opened_with q mv (length book.changes) backlog = held ∙ ap (λ (n : ℕ). opened_with q mv n backlog) number in
-    let stands : Stands (opened_with q mv (length book.changes) backlog) s.input s.places Never book =
-    stands_new q mv backlog s.input s.places book taken ahead (ap floor_of opening_at ∙ floor) (ap query_of opening_at ∙ query) (ap (λ (f : Opening). f.moved) opening_at ∙ moved) (ap (λ (f : Opening). f.opened) opening_at ∙ opened ∙ number) (ports ∙ sym places) full in
+-- a subscription that was just made, and the end that reads
+pub begun_new : (s : Subscription) (r : ReadingHold) (book : Book) (q : Query) (mv : Bool)
+    (port backlog at : ℕ) (g : Opening) → s.sub.held ≡ opened_with q mv at backlog
+    → at ≡ length book.changes → s.places ≡ port → s.shut ≡ Never
+    → s.input.places ≡ port → s.input.floor ≡ g → query_of g ≡ q → g.moved ≡ mv → g.opened ≡ at
+    → floor_of g ≡ book → s.input.taken ≡ [] → s.input.ahead ≡ [] → IsFullBook book
+    → r.port ≡ s.input → r.hand ≡ None → r.result ≡ opened_at at (result_of q (state_of book))
+    → IsBegun s r book q mv port backlog
+begun_new s r book q mv port backlog at g held number places shut ports opening_at query moved
+    opened floor taken ahead full end hand result =
+    let now : s.sub.held ≡ opened_with q mv (length book.changes) backlog = held
+    ∙ ap (λ (n : ℕ). opened_with q mv n backlog) number in
+    let stands : Stands (opened_with q mv (length book.changes) backlog) s.input s.places Never book
+    =
+    stands_new q mv backlog s.input s.places book taken ahead (ap floor_of opening_at ∙ floor)
+    (ap query_of opening_at ∙ query) (ap (λ (f : Opening). f.moved) opening_at ∙ moved)
+    (ap (λ (f : Opening). f.opened) opening_at ∙ opened ∙ number) (ports ∙ sym places) full in
     record {
-      stands = subst (λ (z : Held × Shut). Stands z.0 s.input s.places z.1 book) (λ i. (sym now i, sym shut i)) stands;
+      stands = subst (λ (z : Held × Shut). Stands z.0 s.input s.places z.1 book)
+          (λ i. (sym now i, sym shut i)) stands;
       messages = ap (λ (h : Held). h.messages) now;
       live = ap (λ (h : Held). h.mark) now;
       query = ap (λ (h : Held). h.query) now;
@@ -46,14 +57,17 @@ begun_new s r book q mv port backlog at g held number places shut ports opening_
       places = places;
       shut = shut;
       end = end;
-      floor = ap (λ (e : End Delivery Opening). floor_of e.floor) end ∙ ap floor_of opening_at ∙ floor;
+      floor = ap (λ (e : End Delivery Opening). floor_of e.floor) end ∙ ap floor_of opening_at
+          ∙ floor;
       taken = ap (λ (e : End Delivery Opening). e.taken) end ∙ taken;
       ahead = ap (λ (e : End Delivery Opening). e.ahead) end ∙ ahead;
       hand = hand;
       result = result ∙ ap (λ (n : ℕ). opened_at n (result_of q (state_of book))) number;
     }
 
-only_gone : (ps : List (Known Identity)) (k : ℕ) (name : Option Identity) → OnlyAt ps (gone_out ps k name) k
+-- a seat that goes out changes what is known of one slot
+only_gone : (ps : List (Known Identity)) (k : ℕ) (name : Option Identity)
+    → OnlyAt ps (gone_out ps k name) k
 only_gone ps k name =
     let q : Known Identity = record { out = true; asks = (slot_at ps k).asks; name = name } in
     record { wide = length-set ps k q; others = λ j ne. get_or-set_other ps k j q unused ne }
@@ -67,23 +81,45 @@ pub settled : (keeper one two : KeeperToken Identity) (slots : List (Option Subs
     → two.slots ≡ gone_out one.slots place (Some (identity_of s)) → s.asks ≡ n
     → StandsAt s book → s.sub.held.messages ≡ [] → s.sub.held.mark ≡ None
     → AllStand two (slice_set slots place (Some s)) (openings + 1) book
-settled keeper one two slots place openings n s book h pos within free counts idle gone asks stands none live =
-    let was : SlotStands None (slot_at keeper.slots place) book = subst (λ (z : Option Subscription). SlotStands z (slot_at keeper.slots place) book) free (h.each place pos within) in
-    let most : (slot_at keeper.slots place).asks ≤ openings = subst (λ (z : Option Subscription). asks_of z (slot_at keeper.slots place) ≤ openings) free (h.asks place pos within) in
+settled keeper one two slots place openings n s book h pos within free counts idle gone asks stands
+    none live =
+    let was : SlotStands None (slot_at keeper.slots place) book =
+    subst (λ (z : Option Subscription). SlotStands z (slot_at keeper.slots place) book) free
+    (h.each place pos within) in
+    let most : (slot_at keeper.slots place).asks ≤ openings =
+    subst (λ (z : Option Subscription). asks_of z (slot_at keeper.slots place) ≤ openings) free
+    (h.asks place pos within) in
     let known = h.known in
-    let long : length one.slots ≡ 65 = ap (length {A = Known Identity}) counts ∙ (only_counted keeper.slots place n).wide ∙ h.known in
-    let here : slot_at one.slots place ≡ record { out = (slot_at keeper.slots place).out; asks = n; name = (slot_at keeper.slots place).name } =
-    ap (λ (ps : List (Known Identity)). slot_at ps place) counts ∙ counted_here keeper.slots place n (omega arith) in
-    let q : Known Identity = record { out = true; asks = (slot_at one.slots place).asks; name = Some (identity_of s) } in
-    let there : slot_at two.slots place ≡ q = ap (λ (ps : List (Known Identity)). slot_at ps place) gone ∙ get_or-set_same one.slots place q unused (omega arith) in
+    let long : length one.slots ≡ 65 = ap (length {A = Known Identity}) counts
+    ∙ (only_counted keeper.slots place n).wide ∙ h.known in
+    let here : slot_at one.slots place ≡ record {
+      out = (slot_at keeper.slots place).out;
+      asks =
+          n;
+      name = (slot_at keeper.slots place).name;
+    } =
+    ap (λ (ps : List (Known Identity)). slot_at ps place) counts ∙ counted_here keeper.slots place n
+    (omega arith) in
+    let q : Known Identity = record {
+      out = true;
+      asks = (slot_at one.slots place).asks;
+      name =
+          Some (identity_of s);
+    } in
+    let there : slot_at two.slots place ≡ q = ap (λ (ps : List (Known Identity)). slot_at ps place)
+    gone ∙ get_or-set_same one.slots place q unused (omega arith) in
     let only : OnlyAt keeper.slots two.slots place =
-    only_trans keeper.slots one.slots two.slots place (subst (λ (ps : List (Known Identity)). OnlyAt keeper.slots ps place) (sym counts) (only_counted keeper.slots place n))
-    (subst (λ (ps : List (Known Identity)). OnlyAt one.slots ps place) (sym gone) (only_gone one.slots place (Some (identity_of s)))) in
+    only_trans keeper.slots one.slots two.slots place
+    (subst (λ (ps : List (Known Identity)). OnlyAt keeper.slots ps place) (sym counts)
+    (only_counted keeper.slots place n))
+    (subst (λ (ps : List (Known Identity)). OnlyAt one.slots ps place) (sym gone)
+    (only_gone one.slots place (Some (identity_of s)))) in
     let count : n ≡ (slot_at keeper.slots place).asks = idle was in
     all_stand-set keeper two slots place openings (openings + 1) (Some s) book h (omega arith) only
     (record {
       stands = stands;
-      filled = λ some. let zero_ : length s.sub.held.messages ≡ 0 = ap (length {A = Message}) none in absurd (omega arith);
+      filled = λ some. let zero_ : length s.sub.held.messages ≡ 0 = ap (length {A = Message}) none
+          in absurd (omega arith);
       out = ap (λ (p : Known Identity). p.out) there;
       name = ap (λ (p : Known Identity). p.name) there;
       hung = λ hu. absurd (subst hung_mark live hu);

@@ -1,7 +1,8 @@
 -- What a reader does under the lock.
-use Rattle.std.proofs.Common.{◌≡◌, ◌≢◌, ℕ, zero, suc, ◌+◌, ◌<◌, ◌≤◌, Bool, true, false, true≢false, List, [], ◌∷◌, ◌++◌, length, Option, Some, None, refl, sym, ap, ◌∙◌, subst, arith, length-set, get_or-set_same, get_or-set_other, slice_set}
+use Rattle.std.proofs.Common.{◌≡◌, ◌≢◌, ℕ, zero, suc, ◌+◌, ◌<◌, ◌≤◌, Bool, true, false, true≢false, List, [], ◌∷◌, ◌++◌, length, Option, Some, None, refl, sym, ap, ◌∙◌, subst, arith, length-set, get_or-set_same, get_or-set_other, slice_set, append_assoc}
 use Rattle.std.specs.Prelude.{IfSome, IsSome, IsSomeAnd, is_none}
-use Rattle.lq_volume.specs.Book.{Book, Extends}
+use Rattle.lq_volume.specs.declared.change.Change.{Change}
+use Rattle.lq_volume.specs.Book.{Book, Extends, grown}
 use Rattle.lq_board.specs.declared.views.Slot.{Slot as Known}
 use Rattle.lq_board.specs.Slot.{slot_at, unused, gone_out, come_back}
 use Rattle.lq_board.specs.Token.{KeeperToken, SeatToken}
@@ -19,18 +20,30 @@ use Rattle.lq_subscription.specs.Marking.{hung_mark, first_close}
 use Rattle.lq_subscription.specs.Identity.{identity_of, port_id, port_id_inj}
 use Rattle.lq_subscription.specs.Reading.{ReadingHold}
 use Rattle.lq_subscription.specs.Standing.{StandsAt, IsFilled, IsStuck, IsDrained, SameButPuts, SameButHeld, ShutFits}
-use Rattle.lq_subscription.proofs.Books.{extends_trans}
 use Rattle.lq_slots.specs.Slots.{IsTaken, SlotStands, asks_of, OnlyAt}
 use Rattle.lq_slots.specs.Opening.{IdentityFits, asks_after, name_or}
 use Rattle.lq_slots.specs.Progress.{ShowsProgress}
 use Rattle.lq_slots.specs.declared.sync.Progress.{Progress}
 use Rattle.lq_slots.proofs.SlotLemmas.{taken_then, identity_alike, identity_others, stuck_filled}
 
+-- a book that extends one that extends a third extends the third
+extends_twice : (b c d : Book) → Extends c b → Extends d c → Extends d b
+extends_twice b c d e f =
+    let with : List Change → Book = λ cs. record { start = b.start; changes = cs } in (
+      e.0 ++ f.0,
+      f.1 ∙ ap (λ (x : Book). grown x f.0) e.1
+          ∙ ap with (append_assoc b.changes e.0 f.0),
+    )
+
+-- the name that is there
 pub some_name : (o : Option Identity) → IsSome o → Some (name_or o) ≡ o
 some_name (Some t) h = refl
 some_name None h = absurd (true≢false (sym h))
 
-pub met_place : (ps : List (Known Identity)) (k n : ℕ) (was name : Option Identity) → 0 < k → k < length ps → slot_at (gone_out (come_back ps k n was) k name) k ≡ record { out = true; asks = n; name = name }
+-- what the keeper knows of a slot whose seat came back and went out
+pub met_place : (ps : List (Known Identity)) (k n : ℕ) (was name : Option Identity) → 0 < k
+    → k < length ps → slot_at (gone_out (come_back ps k n was) k name) k ≡ record
+    { out = true; asks = n; name = name }
 met_place ps zero n was name pos lt = absurd (omega arith)
 met_place ps (suc j) n was name pos lt =
     let b : Known Identity = record { out = false; asks = n; name = was } in
@@ -38,9 +51,13 @@ met_place ps (suc j) n was name pos lt =
     let one : slot_at qs (suc j) ≡ b = get_or-set_same ps (suc j) b unused lt in
     let long : length qs ≡ length ps = length-set ps (suc j) b in
     let q : Known Identity = record { out = true; asks = (slot_at qs (suc j)).asks; name = name } in
-    get_or-set_same qs (suc j) q unused (omega arith) ∙ ap (λ (p : Known Identity). let r : Known Identity = record { out = true; asks = p.asks; name = name } in r) one
+    get_or-set_same qs (suc j) q unused (omega arith)
+    ∙ ap (λ (p : Known Identity). let r : Known Identity =
+    record { out = true; asks = p.asks; name = name } in r) one
 
-pub met_only : (ps : List (Known Identity)) (k n : ℕ) (was name : Option Identity) → OnlyAt ps (gone_out (come_back ps k n was) k name) k
+-- and nothing of the others changed
+pub met_only : (ps : List (Known Identity)) (k n : ℕ) (was name : Option Identity)
+    → OnlyAt ps (gone_out (come_back ps k n was) k name) k
 met_only ps zero n was name =
     let q : Known Identity = record { out = true; asks = (slot_at ps zero).asks; name = name } in
     record { wide = length-set ps zero q; others = λ j ne. get_or-set_other ps zero j q unused ne }
@@ -48,10 +65,21 @@ met_only ps (suc k) n was name =
     let b : Known Identity = record { out = false; asks = n; name = was } in
     let qs : List (Known Identity) = slice_set ps (suc k) b in
     let q : Known Identity = record { out = true; asks = (slot_at qs (suc k)).asks; name = name } in
-    record { wide = length-set qs (suc k) q ∙ length-set ps (suc k) b; others = λ j ne. get_or-set_other qs (suc k) j q unused ne ∙ get_or-set_other ps (suc k) j b unused ne }
+    record {
+      wide = length-set qs (suc k) q ∙ length-set ps (suc k) b;
+      others =
+          λ j ne. get_or-set_other qs (suc k) j q unused ne ∙ get_or-set_other ps (suc k) j b unused
+          ne;
+    }
 
-pub only_trans : (ps qs rs : List (Known Identity)) (k : ℕ) → OnlyAt ps qs k → OnlyAt qs rs k → OnlyAt ps rs k
-only_trans ps qs rs k a b = record { wide = b.wide ∙ a.wide; others = λ j ne. b.others j ne ∙ a.others j ne }
+-- two changes at one place
+pub only_trans : (ps qs rs : List (Known Identity)) (k : ℕ) → OnlyAt ps qs k → OnlyAt qs rs k
+    → OnlyAt ps rs k
+only_trans ps qs rs k a b = record {
+  wide = b.wide ∙ a.wide;
+  others = λ j ne. b.others j ne
+      ∙ a.others j ne;
+}
 
 -- a taken slot stands on once its seat has met the keeper
 pub taken_met : (s : Subscription) (p q : Known Identity) (book : Book) (n : ℕ)
@@ -74,23 +102,32 @@ pub taken_drained : (s t : Subscription) (p : Known Identity) (book : Book)
     → SameButPuts s t → t.input.ahead ≡ e.ahead → waiting ≡ length e.ahead → IsDrained t waiting
     → IsTaken t p book
 taken_drained s t p book e waiting taken stands alike ahead value drained =
-    taken_then s t p book book taken stands (subst (IsDrained t) (value ∙ ap (length {A = Delivery}) (sym ahead)) drained) (identity_alike s t alike) (λ h. subst hung_mark alike.held.mark h)
+    taken_then s t p book book taken stands
+    (subst (IsDrained t) (value ∙ ap (length {A = Delivery}) (sym ahead)) drained)
+    (identity_alike s t alike) (λ h. subst hung_mark alike.held.mark h)
 
--- it was closed, and its seat has its new name
-pub taken_closed : (s t : Subscription) (p q : Known Identity) (n : ℕ) (book : Book) → IsTaken s p book → StandsAt t book → SameButHeld s t → t.sub.held.messages ≡ s.sub.held.messages → (hung_mark t.sub.held.mark → hung_mark s.sub.held.mark)
-    → p.asks ≤ n → q ≡ record { out = true; asks = n; name = Some (identity_of t) } → IsTaken t q book
+-- a taken slot stands on once it was closed, and its seat has its new name
+pub taken_closed : (s t : Subscription) (p q : Known Identity) (n : ℕ) (book : Book)
+    → IsTaken s p book → StandsAt t book → SameButHeld s t → t.sub.held.messages ≡
+    s.sub.held.messages → (hung_mark t.sub.held.mark → hung_mark s.sub.held.mark)
+    → p.asks ≤ n → q ≡ record { out = true; asks = n; name = Some (identity_of t) }
+    → IsTaken t q book
 taken_closed s t p q n book taken stands others messages hung le is =
     let asks = others.asks in
     let known : q.asks ≡ n = ap (λ (x : Known Identity). x.asks) is in
     record {
       stands = stands;
-      filled = subst (λ (z : List Message × ℕ × End Delivery Opening). 0 < length z.0 → z.1 ≤ length (messages_in (all_put z.2))) (λ i. (sym messages i, sym others.places i, sym others.input i)) taken.filled;
+      filled = subst (λ (z : List Message × ℕ × End Delivery Opening). 0 < length z.0
+          → z.1 ≤ length (messages_in (all_put z.2)))
+          (λ i. (sym messages i, sym others.places i, sym others.input i)) taken.filled;
       out = ap (λ (x : Known Identity). x.out) is;
       name = ap (λ (x : Known Identity). x.name) is;
       hung = λ h. let lt = taken.hung (hung h) in omega arith;
     }
 
-pub identity_closed : (s t : Subscription) → SameButHeld s t → identity_of t ≡ record (identity_of s) { shut = t.shut }
+-- a close changes what its name says of closes
+pub identity_closed : (s t : Subscription) → SameButHeld s t → identity_of t ≡ record
+    (identity_of s) { shut = t.shut }
 identity_closed s t a = λ i. record {
   query = a.query i;
   moved = a.moved i;
@@ -103,8 +140,10 @@ identity_closed s t a = λ i. record {
 }
 
 -- the lock's port is that of the reader's name
-pub same_port : (s : Subscription) (name : Option Identity) (e : End Delivery Opening) → name ≡ Some (identity_of s) → IsSomeAnd name (λ t. IdentityFits t e) → e.port ≡ s.input.port
-same_port s name e is fits = let f = subst (λ o. IsSomeAnd o (λ t. IdentityFits t e)) is fits in sym (port_id_inj s.input.port e.port f.port)
+pub same_port : (s : Subscription) (name : Option Identity) (e : End Delivery Opening)
+    → name ≡ Some (identity_of s) → IsSomeAnd name (λ t. IdentityFits t e) → e.port ≡ s.input.port
+same_port s name e is fits = let f = subst (λ o. IsSomeAnd o (λ t. IdentityFits t e)) is fits in sym
+    (port_id_inj s.input.port e.port f.port)
 
 -- a slot whose seat is out is taken
 pub must_some : (o : Option Subscription) (p : Known Identity) (book : Book)
@@ -112,8 +151,11 @@ pub must_some : (o : Option Subscription) (p : Known Identity) (book : Book)
 must_some o p book fits out none =
     let f = subst (λ z. SlotStands z p book) none fits in true≢false (sym out ∙ f)
 
-pub levels_from : (s : Subscription) (old mid new : SeatToken Identity) (d e : ReadingHold) (x : Progress) (book : Book) → mid ≡ record old { book = book } → Extends book old.book → ShowsProgress s mid new d e x → ShowsProgress s old new d e x
-levels_from s old mid new d e x book is later l = record {
+-- what a sync shows from a seat that has met the keeper, it shows from the seat before
+pub shows_from : (s : Subscription) (old mid new : SeatToken Identity) (d e : ReadingHold)
+    (x : Progress) (book : Book) → mid ≡ record old { book = book } → Extends book old.book
+    → ShowsProgress s mid new d e x → ShowsProgress s old new d e x
+shows_from s old mid new d e x book is later l = record {
   stands = l.stands;
   drained = l.drained;
   port = l.port;
@@ -125,8 +167,10 @@ levels_from s old mid new d e x book is later l = record {
   hand = l.hand;
   result = l.result;
   identity = l.identity;
-  seat = l.seat ∙ ap (λ (m : SeatToken Identity). let n : SeatToken Identity = record m { book = new.book } in n) is;
-  later = extends_trans old.book mid.book new.book (subst (λ (b : Book). Extends b old.book) (sym (ap (λ (m : SeatToken Identity). m.book) is)) later) l.later;
+  seat = l.seat ∙ ap (λ (m : SeatToken Identity). let n : SeatToken Identity =
+      record m { book = new.book } in n) is;
+  later = extends_twice old.book mid.book new.book (subst (λ (b : Book). Extends b old.book)
+      (sym (ap (λ (m : SeatToken Identity). m.book) is)) later) l.later;
   number = l.number;
   waiting = l.waiting;
   held = l.held;
@@ -145,6 +189,7 @@ live_never u o e f = at u (subst (ShutFits u) e f)
     at (At m) f = absurd f
     at Late f = absurd f
 
+-- one ask more at most
 asks_within : (n : ℕ) (b : Bool) → asks_after n b ≤ n + 1
 asks_within n true = omega arith
 asks_within n false = omega arith
@@ -155,16 +200,37 @@ pub asks_back : (o : Option Subscription) (p : Known Identity) (n : ℕ) (book :
     → IsSomeAnd name (λ t. n ≡ asks_after t.asks asked) → n ≤ asks_of o p
 asks_back None p n book name asked fits out is h = absurd (true≢false (sym out ∙ fits))
 asks_back (Some s) p n book name asked fits out is h =
-    let e : n ≡ asks_after s.asks asked = subst (λ (o : Option Identity). IsSomeAnd o (λ t. n ≡ asks_after t.asks asked)) (sym is ∙ fits.name) h in
+    let e : n ≡ asks_after s.asks asked =
+    subst (λ (o : Option Identity). IsSomeAnd o (λ t. n ≡ asks_after t.asks asked))
+    (sym is ∙ fits.name) h in
     subst (λ (m : ℕ). m ≤ s.asks + 1) (sym e) (asks_within s.asks asked)
 
-pub back_place : (ps : List (Known Identity)) (k n : ℕ) (name : Option Identity) → 0 < k → k < length ps → slot_at (come_back ps k n name) k ≡ record { out = false; asks = n; name = name }
+-- what the keeper knows of a slot whose seat came back
+pub back_place : (ps : List (Known Identity)) (k n : ℕ) (name : Option Identity) → 0 < k
+    → k < length ps → slot_at (come_back ps k n name) k ≡ record {
+      out = false;
+      asks = n;
+      name =
+          name;
+    }
 back_place ps zero n name pos lt = absurd (omega arith)
-back_place ps (suc j) n name pos lt = let b : Known Identity = record { out = false; asks = n; name = name } in get_or-set_same ps (suc j) b unused lt
+back_place ps (suc j) n name pos lt = let b : Known Identity =
+    record { out = false; asks = n; name = name } in get_or-set_same ps (suc j) b unused lt
 
-pub back_only : (ps : List (Known Identity)) (k n : ℕ) (name : Option Identity) → 0 < k → OnlyAt ps (come_back ps k n name) k
+-- and nothing of the others changed
+pub back_only : (ps : List (Known Identity)) (k n : ℕ) (name : Option Identity) → 0 < k
+    → OnlyAt ps (come_back ps k n name) k
 back_only ps zero n name pos = absurd (omega arith)
-back_only ps (suc k) n name pos = let b : Known Identity = record { out = false; asks = n; name = name } in record { wide = length-set ps (suc k) b; others = λ j ne. get_or-set_other ps (suc k) j b unused ne }
+back_only ps (suc k) n name pos = let b : Known Identity = record {
+  out = false;
+  asks = n;
+  name =
+      name;
+} in record {
+  wide = length-set ps (suc k) b;
+  others = λ j ne. get_or-set_other ps (suc k)
+      j b unused ne;
+}
 
 -- a slot stands as before once its seat has met the keeper
 pub fits_met : (o : Option Subscription) (p q : Known Identity) (book : Book) (n : ℕ)
@@ -172,7 +238,8 @@ pub fits_met : (o : Option Subscription) (p q : Known Identity) (book : Book) (n
     → q ≡ record { out = true; asks = n; name = name } → p.name ≡ name → p.asks ≤ n
     → SlotStands o q book
 fits_met None p q book n name free out is same le = absurd (true≢false (sym out ∙ free))
-fits_met (Some s) p q book n name taken out is same le = taken_met s p q book n name taken is same le
+fits_met (Some s) p q book n name taken out is same le = taken_met s p q book n name taken is same
+    le
 
 -- and counts as many asks
 pub asks_met : (o : Option Subscription) (p q : Known Identity) (book : Book)

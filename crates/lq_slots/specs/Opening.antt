@@ -21,7 +21,7 @@ use Rattle.lq_subscription.specs.Reading.{ReadingHold}
 use Rattle.lq_subscription.specs.Standing.{StandsAt}
 use Rattle.lq_slots.specs.declared.open.Opened.{Opened}
 
--- the name is that of the port
+-- a name is that of a port
 pub record IdentityFits (t : Identity) (e : End Delivery Opening) : Type 0 where
   pub query : t.query ≡ query_of e.floor
   pub moved : t.moved ≡ e.floor.moved
@@ -29,12 +29,14 @@ pub record IdentityFits (t : Identity) (e : End Delivery Opening) : Type 0 where
   pub places : t.places ≡ e.places
   pub port : t.port ≡ port_id e.port
 
+-- how often a seat has asked, once it asked or not
 abbrev pub asks_after : ℕ → Bool → ℕ
 asks_after n false = n
 asks_after n true = n + 1
 
 -- a subscription that was just made, and its end that reads
-pub record IsBegun (s : Subscription) (r : ReadingHold) (book : Book) (q : Query) (mv : Bool) (port backlog : ℕ) : Type 0 where
+pub record IsBegun (s : Subscription) (r : ReadingHold) (book : Book) (q : Query) (mv : Bool)
+    (port backlog : ℕ) : Type 0 where
   pub stands : StandsAt s book
   pub messages : s.sub.held.messages ≡ []
   pub live : s.sub.held.mark ≡ None
@@ -59,8 +61,10 @@ pub record IsNamed (t : Identity) (o : Opened) (backlog : ℕ) : Type 0 where
   pub backlog_is : t.backlog ≡ backlog
   pub shut : t.shut ≡ Never
 
--- a subscription that was just opened over this book: nothing was read, and the result is the query's
-pub record IsOpened (o : Opened) (board : TableId) (book : Book) (q : Query) (mv : Bool) (port backlog : ℕ) : Type 0 where
+-- a subscription that was just opened over this book: nothing was read, and the result is the
+-- query's
+pub record IsOpened (o : Opened) (board : TableId) (book : Book) (q : Query) (mv : Bool)
+    (port backlog : ℕ) : Type 0 where
   pub low : 0 < o.slot
   pub high : o.slot < 65
   pub slot_is : o.seat.slot ≡ o.slot
@@ -85,14 +89,35 @@ opening_refusal port backlog =
     ∷ (not (nat_le backlog 65536), BadBacklog)
     ∷ [])
 
--- what else may refuse one: no slot is free, as many openings were made as the volume takes changes, or memory
+-- why an opening is refused, all but memory, in order
+abbrev pub opening_refusals : Bool → ℕ → ℕ → ℕ → ℕ → List (Bool × Refusal)
+opening_refusals full openings limit port backlog =
+    (not (nat_le 1 port && nat_le port 1024), BadPort)
+    ∷ (not (nat_le backlog 65536), BadBacklog)
+    ∷ (full, NoSlot)
+    ∷ (nat_le limit openings, Exhausted)
+    ∷ []
+
+-- what else may refuse one: no slot is free, as many openings were made as the volume takes
+-- changes, or memory
 abbrev pub IsOpeningRefused : Refusal → Type 0
 IsOpeningRefused e = (e ≡ NoSlot) ⊎ (e ≡ Exhausted) ⊎ (e ≡ NoMemory)
 
 -- the name of no subscription
 abbrev pub no_identity : Identity
-no_identity = record { query = And no_more; moved = false; opened = 0; places = 0; backlog = 0; asks = 0; shut = Never; port = gnil }
+no_identity = record {
+  query = And no_more;
+  moved = false;
+  opened = 0;
+  places = 0;
+  backlog =
+      0;
+  asks = 0;
+  shut = Never;
+  port = gnil;
+}
 
+-- the name that goes with a seat, where it has one
 abbrev pub name_or : Option Identity → Identity
 name_or (Some t) = t
 name_or None = no_identity

@@ -15,7 +15,8 @@ use Rattle.lq_subscription.specs.Standing.{StandsAt, IsDrained}
 use Rattle.lq_slots.specs.declared.sync.Progress.{Progress}
 
 -- what the lock shows of a subscription: s is what it has of it
-pub record ShowsProgress (s : Subscription) (seat0 seat1 : SeatToken Identity) (d e : ReadingHold) (x : Progress) : Type 0 where
+pub record ShowsProgress (s : Subscription) (seat0 seat1 : SeatToken Identity) (d e : ReadingHold)
+    (x : Progress) : Type 0 where
   pub stands : StandsAt s seat1.book
   pub drained : IsDrained s (length e.port.ahead)
   pub port : IsSamePort d.port e.port

@@ -1,5 +1,6 @@
 -- What the lock has of the slots, beside what the keeper knows of them.
-use Rattle.std.specs.Prelude.{◌≡◌, ◌≢◌, ℕ, ◌+◌, ◌<◌, ◌≤◌, ◌-◌, true, false, List, ◌∷◌, [], length, take, Option, Some, None, slice_index_or}
+use Rattle.std.specs.Prelude.{◌≡◌, ◌≢◌, ℕ, ◌+◌, ◌<◌, ◌≤◌, ◌-◌, true, false, List, ◌∷◌, [], length, take, drop, Bool, Option, Some, None, IsSome, slice_index, slice_index_or}
+use Rattle.std.specs.List.{remove}
 use Rattle.lq_volume.specs.State.{State}
 use Rattle.lq_volume.specs.declared.change.Change.{Change}
 use Rattle.lq_volume.specs.Change.{IsLawful}
@@ -46,19 +47,57 @@ pub record AllStand (keeper : KeeperToken Identity) (slots : List (Option Subscr
   pub asks : (k : ℕ) → 0 < k → k < 65
       → asks_of (slot_in slots k) (slot_at keeper.slots k) ≤ openings
 
+-- the place that a list of places has at an index
+abbrev pub place_at : List ℕ → ℕ → ℕ
+place_at taken i = slice_index taken i
+
+-- the list has this place
+abbrev pub IsPlaceIn : List ℕ → ℕ → Type 0
+IsPlaceIn taken k = (i : ℕ) × (i < length taken) × (place_at taken i ≡ k)
+
+-- the list has the places of the taken slots, each once, and no others
+pub record IsListed (taken : List ℕ) (slots : List (Option Subscription)) : Type 0 where
+  pub low : (i : ℕ) → i < length taken → 0 < place_at taken i
+  pub high : (i : ℕ) → i < length taken → place_at taken i < 65
+  pub once : (i j : ℕ) → i < length taken → j < length taken
+      → place_at taken i ≡ place_at taken j → i ≡ j
+  pub some : (i : ℕ) → i < length taken → IsSome (slot_in slots (place_at taken i))
+  pub each : (k : ℕ) → 0 < k → k < 65 → IsSome (slot_in slots k) → IsPlaceIn taken k
+
+-- the place was taken out of the list, and the rest stays in order
+pub record IsDropped (old new : List ℕ) (k : ℕ) : Type 0 where
+  pub index : ℕ
+  pub within : index < length old
+  pub place : place_at old index ≡ k
+  pub rest : new ≡ remove old index
+
+-- all slots stand over a book, and those that are taken are listed
 abbrev pub SlotsStand : Slots → Book → Type 0
-SlotsStand s book = AllStand s.keeper s.subscriptions.items s.openings book
+SlotsStand s book =
+    AllStand s.keeper s.subscriptions.items s.openings book
+    × IsListed s.taken.items s.subscriptions.items
 
 -- what is known of the other slots stays
 pub record OnlyAt (old new : List (Known Identity)) (place : ℕ) : Type 0 where
   pub wide : length new ≡ length old
   pub others : (k : ℕ) → k ≢ place → slot_at new k ≡ slot_at old k
 
+-- each of these slots is taken
+abbrev pub all_taken : List (Option Subscription) → Bool
+all_taken [] = true
+all_taken (None ∷ slots) = false
+all_taken (Some s ∷ slots) = all_taken slots
+
+-- no slot, 1 to 64, is free
+abbrev pub is_full : List (Option Subscription) → Bool
+is_full slots = all_taken (drop 1 slots)
+
 -- the messages of a change are made for the slot
 abbrev pub IsReadyAt : Option Subscription → State → Change → Type 0
 IsReadyAt None s c = Unit {0}
 IsReadyAt (Some slot) s c = IsReady slot.sub s c
 
+-- and for all slots
 abbrev pub AllReady : List (Option Subscription) → State → Change → Type 0
 AllReady slots s c = (k : ℕ) → 0 < k → k < 65 → IsReadyAt (slot_in slots k) s c
 
@@ -72,15 +111,21 @@ pub record IsGrown (b : Book) (c : Change) : Type 0 where
   pub lawful : IsLawful (state_of (before_of b)) c
   pub full : IsFullBook b
 
--- those below a place stand over the keeper's book, the others over that without the last change
+-- the first so many of the listed slots stand over the keeper's book, and the others over that
+-- without the last change
 pub record PartlyTold (keeper : KeeperToken Identity) (slots : List (Option Subscription))
-    (openings : ℕ) (c : Change) (place : ℕ) : Type 0 where
+    (taken : List ℕ) (openings : ℕ) (c : Change) (told : ℕ) : Type 0 where
   pub known : length keeper.slots ≡ 65
   pub wide : length slots ≡ 65
-  pub below : (k : ℕ) → 0 < k → k < place
-      → SlotStands (slot_in slots k) (slot_at keeper.slots k) keeper.book
-  pub from : (k : ℕ) → place ≤ k → k < 65
-      → SlotStands (slot_in slots k) (slot_at keeper.slots k) (before_of keeper.book)
-      × IsReadyAt (slot_in slots k) (state_of (before_of keeper.book)) c
+  pub listed : IsListed taken slots
+  pub below : (j : ℕ) → j < told → j < length taken
+      → SlotStands (slot_in slots (place_at taken j)) (slot_at keeper.slots (place_at taken j))
+      keeper.book
+  pub from : (j : ℕ) → told ≤ j → j < length taken
+      → SlotStands (slot_in slots (place_at taken j)) (slot_at keeper.slots (place_at taken j))
+      (before_of keeper.book)
+      × IsReadyAt (slot_in slots (place_at taken j)) (state_of (before_of keeper.book)) c
+  pub free : (k : ℕ) → 0 < k → k < 65 → slot_in slots k ≡ None
+      → (slot_at keeper.slots k).out ≡ false
   pub asks : (k : ℕ) → 0 < k → k < 65
       → asks_of (slot_in slots k) (slot_at keeper.slots k) ≤ openings

@@ -6,7 +6,7 @@ ghost use Rattle.lq_volume.specs.Change.{refused, node_of};
 ghost use Rattle.lq_board.specs.Book.{IsFullBook};
 ghost use Rattle.lq_slots.specs.Slots.{SlotsStand, AllReady};
 
-use crate::slots::{Slots, notice_all, pump_all, ready_all, tell_all};
+use crate::slots::{Planned, Slots, fill_all, ready_all, tell_all};
 use lq_board::Board;
 use lq_subscription::Identity;
 use lq_value::Refusal;
@@ -14,6 +14,9 @@ use lq_volume::{Applied, Change, Volume};
 use std::sync::Wait;
 
 /// Ends the subscriptions whose readers asked, makes a change, and fills the ports.
+///
+/// A refused change takes one walk over the taken slots, or two where memory was wanting; an
+/// accepted one takes two.
 pub(crate) fn change_in<R: Wait>(
     rt: &R,
     board: &Board<Identity>,
@@ -39,21 +42,19 @@ pub(crate) fn change_in<R: Wait>(
     ensures full { IsFullBook slots.new.keeper.book }
     ensures holding { SlotsStand slots.new slots.new.keeper.book }
 {
-    let number = volume.changes();
-    notice_all(board, slots, number);
     match add(board, slots, volume, change) {
         Ok(applied) => {
             tell_all(rt, slots, change);
             Ok(applied)
         }
         Err(refusal) => {
-            pump_all(rt, slots);
+            fill_all(rt, board, slots, volume.changes());
             Err(refusal)
         }
     }
 }
 
-// Makes a change: all growth first, then the point of the change, and nothing is told yet.
+// Makes a change: all growth first, then the point of the change, and no message is held yet.
 fn add(
     board: &Board<Identity>,
     slots: &mut Slots,
@@ -82,7 +83,7 @@ fn add(
     ensures holding { SlotsStand slots.new slots.old.keeper.book }
 {
     volume.check(change)?;
-    ready_all(slots, volume, change)?;
+    ready_all(board, slots, &Planned { volume, change })?;
     let applied = volume.apply(change)?;
     board.add(&mut slots.keeper, change);
     Ok(applied)

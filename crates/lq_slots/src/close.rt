@@ -1,11 +1,11 @@
 //! How a reader ends its subscription under the lock, and frees its slot.
-ghost use Rattle.std.specs.Prelude.{◌≡◌, ◌+◌, ◌<◌, ◌≤◌, ◌≢◌, length, IsSome, IsSomeAnd, IfSome, is_some, Some, None, true, false};
+ghost use Rattle.std.specs.Prelude.{◌≡◌, ◌+◌, ◌<◌, ◌≤◌, ◌≢◌, ℕ, length, IfNone, IsSome, IsSomeAnd, IfSome, is_some, Some, None, true, false};
 ghost use Rattle.lq_volume.specs.Book.{Extends};
 ghost use Rattle.lq_board.specs.Slot.{slot_at};
 ghost use Rattle.lq_subscription.specs.declared.identity.Shut.TheVariants.{Never};
 ghost use Rattle.lq_subscription.specs.Marking.{first_close};
 ghost use Rattle.lq_subscription.specs.Identity.{identity_of};
-ghost use Rattle.lq_slots.specs.Slots.{IsTaken, SlotStands, SlotsStand, OnlyAt, asks_of, slot_in};
+ghost use Rattle.lq_slots.specs.Slots.{IsTaken, SlotStands, SlotsStand, IsPlaceIn, IsDropped, place_at, OnlyAt, asks_of, slot_in};
 ghost use Rattle.lq_slots.specs.Opening.{asks_after, name_or};
 
 use crate::slots::Slots;
@@ -70,6 +70,7 @@ fn close_at<R: Wait>(
     ensures fits { SlotStands slot.new (slot_at keeper.new.slots seat.old.slot) keeper.new.book }
     ensures asks { asks_of slot.new (slot_at keeper.new.slots seat.old.slot)
         ≤ asks_of slot.old (slot_at keeper.old.slots seat.old.slot) }
+    ensures kept { is_some slot.new ≡ is_some slot.old }
     ensures seat { seat.new ≡ record seat.old { book = keeper.old.book; name = seat.new.name } }
     ensures later { Extends keeper.old.book seat.old.book }
     ensures name { seat.new.name ≡ Some (record (name_or seat.old.name) {
@@ -133,6 +134,7 @@ fn free_at(
     ensures board { keeper.new.board ≡ keeper.old.board }
     ensures book { keeper.new.book ≡ keeper.old.book }
     ensures only { OnlyAt keeper.old.slots keeper.new.slots seat.slot }
+    ensures taken { IsSome slot.old }
     ensures free { slot.new ≡ None }
     ensures back { (slot_at keeper.new.slots seat.slot).out ≡ false }
     ensures asks { (slot_at keeper.new.slots seat.slot).asks
@@ -142,6 +144,30 @@ fn free_at(
     let _ = asked;
     board.join(keeper, seat);
     *slot = None;
+}
+
+// The index of a place.
+fn index_of(taken: &[usize], place: usize) -> Option<usize>
+    ensures found { IfSome result (λ i. (i < length taken.now) × (place_at taken.now i ≡ place)) }
+    ensures none { IfNone result ((i : ℕ) → i < length taken.now → place_at taken.now i ≢ place) }
+{
+    for index in 0..taken.len() {
+        if taken[index] == place {
+            return Some(index);
+        }
+    }
+    None
+}
+
+// Takes a place out of the list.
+fn take_out(taken: &mut Vec<usize>, place: usize)
+    requires { IsPlaceIn taken.old.items place }
+    ensures { IsDropped taken.old.items taken.new.items place }
+{
+    let Some(index) = index_of(taken, place) else {
+        unreachable!()
+    };
+    taken.remove(index);
 }
 
 /// Frees a slot, whose seat comes back.
@@ -165,4 +191,5 @@ pub(crate) fn free_in(
 {
     let keeper = &mut slots.keeper;
     free_at(board, keeper, &mut slots.subscriptions[place], seat, asked);
+    take_out(&mut slots.taken, place);
 }

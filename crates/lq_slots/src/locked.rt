@@ -213,7 +213,10 @@ impl<N: Named> Locked<N> {
         self.volume.listing(node)
     }
 
-    /// Makes a change, and tells the subscriptions.
+    /// Makes a change, and tells the subscriptions. The seat then knows the book.
+    ///
+    /// First each subscription whose reader asked ends as hung up. Refused as the volume refuses
+    /// it, or `NoMemory`; then the book stays, but the ports are still filled.
     pub fn apply<R: Wait>(
         &mut self,
         rt: &R,
@@ -235,7 +238,12 @@ impl<N: Named> Locked<N> {
         outcome
     }
 
-    /// Opens a live query.
+    /// Opens a live query over the book that the seat then knows.
+    ///
+    /// `port` is how many parcels its port holds, 1 to 1,024, and `backlog` how many messages may
+    /// be held before it, at most 65,536; `moved` asks for entries that moved too. Refused, the
+    /// first that fits: `BadPort`, `BadBacklog`, `NoSlot` where 64 are open, `Exhausted` where as
+    /// many were opened as the volume takes changes; or else `NoMemory`.
     pub fn open(
         &mut self,
         board: &Board<Identity>,
@@ -267,7 +275,9 @@ impl<N: Named> Locked<N> {
         open_in(self.alloc, board, &mut self.slots, &self.volume, &asked)
     }
 
-    /// How far a reader's subscription is. Its port is filled.
+    /// How far a reader's subscription is. Its port is filled, and the seat knows the book.
+    ///
+    /// It ends as hung up first, where its reader asked. It takes no memory.
     pub fn sync<R: Wait>(
         &mut self,
         rt: &R,
@@ -288,7 +298,10 @@ impl<N: Named> Locked<N> {
         sync_in(rt, board, &mut self.slots, place as usize, seat, reading)
     }
 
-    /// Closes a reader's subscription.
+    /// Closes a reader's subscription, and answers the number of changes then.
+    ///
+    /// `None` where it had ended before. The seat knows the book, and its name tells what the
+    /// first close answered. It takes no memory.
     pub fn close<R: Wait>(
         &mut self,
         rt: &R,
@@ -312,7 +325,9 @@ impl<N: Named> Locked<N> {
         close_in(rt, board, &mut self.slots, place as usize, seat)
     }
 
-    /// Frees a slot, whose seat comes back.
+    /// Frees a slot, whose seat comes back; `asked` tells whether its reader asked for the end.
+    ///
+    /// It takes no memory.
     pub fn free(&mut self, board: &Board<Identity>, place: u64, seat: Seat<Identity>, asked: bool)
         requires board { (board.now ≡ N.board) × (seat.board ≡ N.board) }
         requires place { (0 < place) × (place < 65) }
@@ -339,6 +354,7 @@ impl<N: Named> Locked<N> {
         let Slots {
             keeper,
             subscriptions: _,
+            taken: _,
             openings: _,
         } = slots;
         (keeper, volume)

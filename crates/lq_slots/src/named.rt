@@ -3,7 +3,7 @@ ghost use Rattle.std.specs.Prelude.{◌≡◌, None};
 ghost use Rattle.lq_value.specs.Refusal.{IsRefusedBy};
 
 use crate::locked::Locked;
-use crate::slots::{Slots, free};
+use crate::slots::{PLACES, Slots, free};
 use lq_board::Board;
 use lq_subscription::Identity;
 use lq_value::Refusal;
@@ -24,7 +24,9 @@ impl Named for Brand {
     ghost board = { no_board };
 }
 
-/// A volume with a new board and its keeper, and no subscriptions. A contract sees which board it is.
+/// A volume with a new board and its keeper, and no subscriptions.
+///
+/// A contract sees which board it is.
 #[derive(Drop)]
 pub struct Base {
     board: Board<Identity>,
@@ -61,9 +63,11 @@ impl Base {
     {
         let (board, keeper) = Board::new(alloc, &volume)?;
         let subscriptions = free(alloc)?;
+        let taken = Vec::with_capacity(alloc, PLACES)?;
         let slots = Slots {
             keeper,
             subscriptions,
+            taken,
             openings: 0,
         };
         Ok(Base {

@@ -1,13 +1,13 @@
 //! An opening under the lock.
-ghost use Rattle.std.specs.Prelude.{◌≡◌, ◌+◌, ◌<◌, ◌≤◌, length, IfOk, IfErr, IfSome, IfNone, Some, None, Err, false};
-ghost use Rattle.lq_value.specs.Refusal.{IsRefusedBy};
+ghost use Rattle.std.specs.Prelude.{◌≡◌, ◌+◌, ◌<◌, ◌≤◌, length, ℕ, IfOk, IfErr, OnOk, OnErr, IfSome, IfNone, IsSome, is_none, Some, None, Err, false};
+ghost use Rattle.lq_value.specs.Refusal.{IsRefusedBy, first_refusal};
 ghost use Rattle.lq_volume.specs.Book.{state_of};
 ghost use Rattle.lq_board.specs.Book.{IsFullBook};
 ghost use Rattle.lq_board.specs.Slot.{slot_at, gone_out};
 ghost use Rattle.lq_subscription.specs.Identity.{identity_of};
 ghost use Rattle.lq_subscription.specs.declared.identity.Identity.{Identity as IdentityOf};
-ghost use Rattle.lq_slots.specs.Slots.{SlotsStand, slot_in};
-ghost use Rattle.lq_slots.specs.Opening.{IsBegun, IsOpened, IsOpeningRefused, opening_refusal};
+ghost use Rattle.lq_slots.specs.Slots.{SlotsStand, is_full, slot_in};
+ghost use Rattle.lq_slots.specs.Opening.{IsBegun, IsOpened, IsOpeningRefused, opening_refusal, opening_refusals};
 
 use crate::slots::{PLACES, Slots};
 use lq_board::{Board, Keeper, Seat};
@@ -35,11 +35,14 @@ pub struct Opened {
     pub slot: u64,
 }
 
-// A place that is free.
+// The lowest place that is free.
 fn free_place(slots: &[Option<Subscription>]) -> Option<usize>
     requires { length slots.now ≡ 65 }
     ensures place { IfSome result (λ k. (0 < k) × (k < 65)) }
     ensures free { IfSome result (λ k. slot_in slots.now k ≡ None) }
+    ensures lowest { IfSome result (λ k.
+        (j : ℕ) → 0 < j → j < k → IsSome (slot_in slots.now j)) }
+    ensures full { is_none result ≡ is_full slots.now }
 {
     for place in 1..PLACES {
         if slots[place].is_none() {
@@ -154,7 +157,7 @@ fn settle(
     place: usize,
     mut slot: Subscription,
     reading: Reading,
-) -> Opened
+) -> Result<Opened, Refusal>
     requires board { slots.old.keeper.board ≡ board.now }
     requires place { (0 < place) × (place < 65) }
     requires free { slot_in slots.old.subscriptions.items place ≡ None }
@@ -162,26 +165,34 @@ fn settle(
     requires begun { IsBegun slot reading slots.old.keeper.book slot.sub.held.query
         slot.sub.held.moved slot.places slot.sub.held.backlog }
     requires holding { SlotsStand slots.old slots.old.keeper.book }
+    ensures refused { IsRefusedBy result None }
+    ensures err { OnErr result (slots.new.openings ≡ slots.old.openings) }
     ensures board { slots.new.keeper.board ≡ slots.old.keeper.board }
     ensures book { slots.new.keeper.book ≡ slots.old.keeper.book }
-    ensures openings { slots.new.openings ≡ slots.old.openings + 1 }
+    ensures openings { OnOk result (slots.new.openings ≡ slots.old.openings + 1) }
     ensures holding { SlotsStand slots.new slots.new.keeper.book }
-    ensures opened { IsOpened result slots.old.keeper.board slots.old.keeper.book
-        slot.sub.held.query slot.sub.held.moved slot.places slot.sub.held.backlog }
+    ensures slot { IfOk result (λ o. o.slot ≡ place) }
+    ensures opened { IfOk result (λ o. IsOpened o slots.old.keeper.board slots.old.keeper.book
+        slot.sub.held.query slot.sub.held.moved slot.places slot.sub.held.backlog) }
 {
+    // There is room for all places since the start, so this takes no memory.
+    slots.taken.push(place)?;
     let asks = board.asks(&mut slots.keeper, place as u64);
     slot.asks = asks;
     let seat = sit(board, &mut slots.keeper, &slot, place as u64);
     slots.subscriptions[place] = Some(slot);
     slots.openings += 1;
-    Opened {
+    Ok(Opened {
         reading,
         seat,
         slot: place as u64,
-    }
+    })
 }
 
-/// Opens a live query in a free slot.
+/// Opens a live query in the lowest free slot.
+///
+/// Refused, the first that fits: `BadPort`, `BadBacklog`, `NoSlot` where no slot is free,
+/// `Exhausted` where as many were opened as the volume takes changes; or else `NoMemory`.
 pub(crate) fn open_in(
     alloc: Global,
     board: &Board<Identity>,
@@ -200,6 +211,13 @@ pub(crate) fn open_in(
     ensures holding { SlotsStand slots.new slots.new.keeper.book }
     ensures opened { IfOk result (λ o. IsOpened o slots.old.keeper.board slots.old.keeper.book
         asked.now.predicate.now asked.now.moved asked.now.port asked.now.backlog) }
+
+    // The first that fits, and no other.
+    ensures table { IsRefusedBy result (first_refusal (opening_refusals
+        (is_full slots.old.subscriptions.items) slots.old.openings volume.now.limit
+        asked.now.port asked.now.backlog)) }
+    ensures lowest { IfOk result (λ o. (j : ℕ) → 0 < j → j < o.slot
+        → IsSome (slot_in slots.old.subscriptions.items j)) }
 
     // Its numbers refuse it first, and just by their bounds.
     ensures refused { IfSome (opening_refusal asked.now.port asked.now.backlog)
@@ -220,5 +238,5 @@ pub(crate) fn open_in(
         return Err(Refusal::Exhausted);
     }
     let (slot, reading) = begin(alloc, &slots.keeper, volume, asked)?;
-    Ok(settle(board, slots, place, slot, reading))
+    settle(board, slots, place, slot, reading)
 }

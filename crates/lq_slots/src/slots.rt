@@ -1,11 +1,11 @@
 //! The slots under the lock, one or all.
-ghost use Rattle.std.specs.Prelude.{◌≡◌, ◌+◌, ◌<◌, ◌≤◌, ◌^◌, ℕ, length, None, Some, IsSome, IfOk, OnOk, OnErr, true, false};
+ghost use Rattle.std.specs.Prelude.{◌≡◌, ◌+◌, ◌<◌, ◌≤◌, ◌^◌, ℕ, length, None, Some, IsSome, is_some, IfOk, OnOk, OnErr, true, false};
 ghost use Rattle.lq_value.specs.Refusal.{IsRefusedBy};
 ghost use Rattle.lq_volume.specs.Change.{IsLawful};
 ghost use Rattle.lq_volume.specs.Book.{state_of};
 ghost use Rattle.lq_board.specs.Slot.{slot_at, counted};
 ghost use Rattle.lq_subscription.specs.Standing.{SameButHeld, SameButPuts};
-ghost use Rattle.lq_slots.specs.Slots.{IsTaken, SlotStands, asks_of, SlotsStand, OnlyAt, IsReadyAt, AllReady, before_of, IsGrown, slot_in};
+ghost use Rattle.lq_slots.specs.Slots.{IsTaken, SlotStands, asks_of, SlotsStand, IsListed, place_at, OnlyAt, IsReadyAt, AllReady, before_of, IsGrown, slot_in};
 
 use lq_board::{Board, Keeper};
 use lq_subscription::{Identity, Subscription, commit, notice, pump, ready};
@@ -17,12 +17,21 @@ use std::sync::Wait;
 /// The number of slots, and a place that isn't used before them.
 pub(crate) const PLACES: usize = 65;
 
-/// What stands in the slots, what the keeper knows of them, and how often one was opened.
+/// What stands in the slots, what the keeper knows of them, the places of those that are taken,
+/// and how often one was opened.
 #[derive(Drop)]
 pub struct Slots {
     pub keeper: Keeper<Identity>,
     pub subscriptions: Vec<Option<Subscription>>,
+    pub taken: Vec<usize>,
     pub openings: u64,
+}
+
+/// A change that the volume takes, before it is made.
+#[derive(Clone, Copy)]
+pub(crate) struct Planned<'a> {
+    pub(crate) volume: &'a Volume,
+    pub(crate) change: &'a Change,
 }
 
 /// All slots free.
@@ -67,8 +76,20 @@ pub(crate) fn notice_slot(
     asks
 }
 
-// The same for a slot that may be free.
-fn notice_at(
+/// The place of a taken slot, by its index among them.
+pub(crate) fn place_of(slots: &Slots, index: usize) -> usize
+    requires index { index < length slots.now.taken.items }
+    requires listed { IsListed slots.now.taken.items slots.now.subscriptions.items }
+    ensures value { result ≡ place_at slots.now.taken.items index }
+    ensures low { 0 < result }
+    ensures high { result < 65 }
+{
+    slots.taken[index]
+}
+
+// Notices for a slot that may be free whether its reader asked, and puts what its port takes.
+fn fill_at<R: Wait>(
+    rt: &R,
     board: &Board<Identity>,
     keeper: &mut Keeper<Identity>,
     slot: &mut Option<Subscription>,
@@ -85,14 +106,16 @@ fn notice_at(
     ensures fits { SlotStands slot.new (slot_at keeper.new.slots place) keeper.new.book }
     ensures asks { asks_of slot.new (slot_at keeper.new.slots place)
         ≤ asks_of slot.old (slot_at keeper.old.slots place) }
+    ensures kept { is_some slot.new ≡ is_some slot.old }
 {
     if let Some(taken) = slot {
         notice_slot(board, keeper, taken, place, number);
+        pump_slot(rt, keeper, taken, place);
     }
 }
 
-/// Ends each subscription whose reader asked.
-pub(crate) fn notice_all(board: &Board<Identity>, slots: &mut Slots, number: u64)
+/// Ends each subscription whose reader asked, and puts what each port takes.
+pub(crate) fn fill_all<R: Wait>(rt: &R, board: &Board<Identity>, slots: &mut Slots, number: u64)
     requires board { slots.old.keeper.board ≡ board.now }
     requires number { number ≡ length slots.old.keeper.book.changes }
     requires holding { SlotsStand slots.old slots.old.keeper.book }
@@ -101,10 +124,13 @@ pub(crate) fn notice_all(board: &Board<Identity>, slots: &mut Slots, number: u64
     ensures openings { slots.new.openings ≡ slots.old.openings }
     ensures holding { SlotsStand slots.new slots.new.keeper.book }
 {
-    for place in 1..PLACES {
-        notice_at(
+    for index in 0..slots.taken.len() {
+        let place = place_of(slots, index);
+        let keeper = &mut slots.keeper;
+        fill_at(
+            rt,
             board,
-            &mut slots.keeper,
+            keeper,
             &mut slots.subscriptions[place],
             place,
             number,
@@ -112,66 +138,90 @@ pub(crate) fn notice_all(board: &Board<Identity>, slots: &mut Slots, number: u64
     }
 }
 
-// Makes the messages of a change for a slot that may be free.
+// Notices whether the reader of a subscription asked, and makes its messages of a change.
+fn ready_slot(
+    board: &Board<Identity>,
+    keeper: &mut Keeper<Identity>,
+    slot: &mut Subscription,
+    place: usize,
+    planned: &Planned,
+) -> Result<(), Refusal>
+    requires board { keeper.old.board ≡ board.now }
+    requires place { (0 < place) × (place < 65) × (length keeper.old.slots ≡ 65) }
+    requires state { planned.now.volume.now ≡ state_of keeper.old.book }
+    requires lawful { IsLawful planned.now.volume.now planned.now.change.now }
+    requires taken { IsTaken slot.old (slot_at keeper.old.slots place) keeper.old.book }
+    ensures refused { IsRefusedBy result None }
+    ensures board { keeper.new.board ≡ keeper.old.board }
+    ensures book { keeper.new.book ≡ keeper.old.book }
+    ensures only { OnlyAt keeper.old.slots keeper.new.slots place }
+    ensures taken { IsTaken slot.new (slot_at keeper.new.slots place) keeper.new.book }
+    ensures asks { slot.new.asks ≡ slot.old.asks }
+    ensures ready { OnOk result
+        (IsReadyAt (Some slot.new) planned.now.volume.now planned.now.change.now) }
+{
+    let number = planned.volume.changes();
+    notice_slot(board, keeper, slot, place, number);
+    ready(slot, planned.volume, planned.change)
+}
+
+// The same for a slot that may be free.
 fn ready_at(
-    keeper: &Keeper<Identity>,
+    board: &Board<Identity>,
+    keeper: &mut Keeper<Identity>,
     slot: &mut Option<Subscription>,
     place: usize,
-    volume: &Volume,
-    change: &Change,
+    planned: &Planned,
 ) -> Result<(), Refusal>
-    requires lawful { IsLawful volume.now change.now }
-    requires fits { SlotStands slot.old (slot_at keeper.now.slots place) keeper.now.book }
+    requires board { keeper.old.board ≡ board.now }
+    requires place { (0 < place) × (place < 65) × (length keeper.old.slots ≡ 65) }
+    requires state { planned.now.volume.now ≡ state_of keeper.old.book }
+    requires lawful { IsLawful planned.now.volume.now planned.now.change.now }
+    requires fits { SlotStands slot.old (slot_at keeper.old.slots place) keeper.old.book }
     ensures refused { IsRefusedBy result None }
-    ensures fits { SlotStands slot.new (slot_at keeper.now.slots place) keeper.now.book }
-    ensures asks { asks_of slot.new (slot_at keeper.now.slots place)
-        ≤ asks_of slot.old (slot_at keeper.now.slots place) }
-    ensures ready { OnOk result (IsReadyAt slot.new volume.now change.now) }
+    ensures board { keeper.new.board ≡ keeper.old.board }
+    ensures book { keeper.new.book ≡ keeper.old.book }
+    ensures only { OnlyAt keeper.old.slots keeper.new.slots place }
+    ensures fits { SlotStands slot.new (slot_at keeper.new.slots place) keeper.new.book }
+    ensures asks { asks_of slot.new (slot_at keeper.new.slots place)
+        ≤ asks_of slot.old (slot_at keeper.old.slots place) }
+    ensures kept { is_some slot.new ≡ is_some slot.old }
+    ensures ready { OnOk result
+        (IsReadyAt slot.new planned.now.volume.now planned.now.change.now) }
 {
-    let _ = keeper;
-    let _ = place;
     match slot {
-        Some(taken) => ready_slot(keeper, taken, place, volume, change),
+        Some(taken) => ready_slot(board, keeper, taken, place, planned),
         None => Ok(()),
     }
 }
 
-fn ready_slot(
-    keeper: &Keeper<Identity>,
-    slot: &mut Subscription,
-    place: usize,
-    volume: &Volume,
-    change: &Change,
+/// Ends each subscription whose reader asked, and makes the messages of a change for the others.
+pub(crate) fn ready_all(
+    board: &Board<Identity>,
+    slots: &mut Slots,
+    planned: &Planned,
 ) -> Result<(), Refusal>
-    requires lawful { IsLawful volume.now change.now }
-    requires taken { IsTaken slot.old (slot_at keeper.now.slots place) keeper.now.book }
-    ensures refused { IsRefusedBy result None }
-    ensures taken { IsTaken slot.new (slot_at keeper.now.slots place) keeper.now.book }
-    ensures asks { slot.new.asks ≡ slot.old.asks }
-    ensures ready { OnOk result (IsReadyAt (Some slot.new) volume.now change.now) }
-{
-    let _ = keeper;
-    let _ = place;
-    ready(slot, volume, change)
-}
-
-/// Makes the messages of a change for each subscription.
-pub(crate) fn ready_all(slots: &mut Slots, volume: &Volume, change: &Change) -> Result<(), Refusal>
-    requires lawful { IsLawful volume.now change.now }
+    requires board { slots.old.keeper.board ≡ board.now }
+    requires state { planned.now.volume.now ≡ state_of slots.old.keeper.book }
+    requires lawful { IsLawful planned.now.volume.now planned.now.change.now }
     requires holding { SlotsStand slots.old slots.old.keeper.book }
     ensures refused { IsRefusedBy result None }
-    ensures keeper { slots.new.keeper ≡ slots.old.keeper }
+    ensures board { slots.new.keeper.board ≡ slots.old.keeper.board }
+    ensures book { slots.new.keeper.book ≡ slots.old.keeper.book }
     ensures openings { slots.new.openings ≡ slots.old.openings }
     ensures holding { SlotsStand slots.new slots.new.keeper.book }
-    ensures ready { OnOk result (AllReady slots.new.subscriptions.items volume.now change.now) }
+    ensures ready { OnOk result (AllReady slots.new.subscriptions.items
+        planned.now.volume.now planned.now.change.now) }
 {
-    for place in 1..PLACES {
+    for index in 0..slots.taken.len() {
+        let place = place_of(slots, index);
+        let keeper = &mut slots.keeper;
         ready_at(
-            &slots.keeper,
+            board,
+            keeper,
             &mut slots.subscriptions[place],
             place,
-            volume,
-            change,
+            planned,
         )?;
     }
     Ok(())
@@ -192,6 +242,7 @@ fn tell_at<R: Wait>(
     ensures fits { SlotStands slot.new (slot_at keeper.now.slots place) keeper.now.book }
     ensures asks { asks_of slot.new (slot_at keeper.now.slots place)
         ≤ asks_of slot.old (slot_at keeper.now.slots place) }
+    ensures kept { is_some slot.new ≡ is_some slot.old }
 {
     if let Some(taken) = slot {
         tell_slot(rt, keeper, taken, place, change);
@@ -227,7 +278,8 @@ pub(crate) fn tell_all<R: Wait>(rt: &R, slots: &mut Slots, change: &Change)
     ensures openings { slots.new.openings ≡ slots.old.openings }
     ensures holding { SlotsStand slots.new slots.new.keeper.book }
 {
-    for place in 1..PLACES {
+    for index in 0..slots.taken.len() {
+        let place = place_of(slots, index);
         tell_at(
             rt,
             &slots.keeper,
@@ -238,45 +290,12 @@ pub(crate) fn tell_all<R: Wait>(rt: &R, slots: &mut Slots, change: &Change)
     }
 }
 
-/// Puts what a port takes.
-pub(crate) fn pump_slot<R: Wait>(
-    rt: &R,
-    keeper: &Keeper<Identity>,
-    slot: &mut Subscription,
-    place: usize,
-)
-    requires taken { IsTaken slot.old (slot_at keeper.now.slots place) keeper.now.book }
-    ensures taken { IsTaken slot.new (slot_at keeper.now.slots place) keeper.now.book }
-    ensures alike { SameButPuts slot.old slot.new }
+// Puts what a port takes.
+fn pump_slot<R: Wait>(rt: &R, keeper: &Keeper<Identity>, taken: &mut Subscription, place: usize)
+    requires taken { IsTaken taken.old (slot_at keeper.now.slots place) keeper.now.book }
+    ensures taken { IsTaken taken.new (slot_at keeper.now.slots place) keeper.now.book }
+    ensures alike { SameButPuts taken.old taken.new }
 {
     let _ = place;
-    pump(rt, keeper, slot);
-}
-
-fn pump_at<R: Wait>(
-    rt: &R,
-    keeper: &Keeper<Identity>,
-    slot: &mut Option<Subscription>,
-    place: usize,
-)
-    requires fits { SlotStands slot.old (slot_at keeper.now.slots place) keeper.now.book }
-    ensures fits { SlotStands slot.new (slot_at keeper.now.slots place) keeper.now.book }
-    ensures asks { asks_of slot.new (slot_at keeper.now.slots place)
-        ≤ asks_of slot.old (slot_at keeper.now.slots place) }
-{
-    if let Some(taken) = slot {
-        pump_slot(rt, keeper, taken, place);
-    }
-}
-
-/// Puts what each port takes.
-pub(crate) fn pump_all<R: Wait>(rt: &R, slots: &mut Slots)
-    requires holding { SlotsStand slots.old slots.old.keeper.book }
-    ensures keeper { slots.new.keeper ≡ slots.old.keeper }
-    ensures openings { slots.new.openings ≡ slots.old.openings }
-    ensures holding { SlotsStand slots.new slots.new.keeper.book }
-{
-    for place in 1..PLACES {
-        pump_at(rt, &slots.keeper, &mut slots.subscriptions[place], place);
-    }
+    pump(rt, keeper, taken);
 }

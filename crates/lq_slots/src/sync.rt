@@ -1,5 +1,5 @@
 //! What a reader does under the lock.
-ghost use Rattle.std.specs.Prelude.{◌≡◌, ◌+◌, ◌<◌, ◌≤◌, ◌≢◌, length, IfOk, IsSome, IsSomeAnd, Some, None, true, is_ok};
+ghost use Rattle.std.specs.Prelude.{◌≡◌, ◌+◌, ◌<◌, ◌≤◌, ◌≢◌, length, IfOk, IsSome, IsSomeAnd, Some, None, true, is_ok, is_some};
 ghost use Rattle.lq_volume.specs.Book.{Extends};
 ghost use Rattle.lq_board.specs.Slot.{slot_at};
 ghost use Rattle.lq_subscription.specs.Marking.{first_close};
@@ -186,6 +186,7 @@ fn sync_at<R: Wait>(
     ensures fits { SlotStands slot.new (slot_at keeper.new.slots seat.old.slot) keeper.new.book }
     ensures asks { asks_of slot.new (slot_at keeper.new.slots seat.old.slot)
         ≤ asks_of slot.old (slot_at keeper.old.slots seat.old.slot) }
+    ensures kept { is_some slot.new ≡ is_some slot.old }
     ensures seat { seat.new.book ≡ keeper.old.book }
     ensures progress { (s : SubscriptionOf)
         × ShowsProgress s seat.old seat.new reading.old reading.new result }

@@ -14,6 +14,12 @@ returns-clause-taken g c =
     let p = c.pump.ensures in
     let place = c.args.seat.now.slot in
     let book = c.notice_by.new.keeper.book in
-    let number : c.args.number ≡ length book.changes = c.requires.number ∙ ap (λ (b : Book). length b.changes) (sym n.book) in
-    let closed = taken_closed c.notice_by.new.slot c.close-closed.new.slot (slot_at c.notice_by.new.keeper.slots place) (slot_at c.meet_under.new.keeper.slots place) _ book n.taken (k.stands book n.taken.stands number) k.others k.messages k.hung m.asks m.place in
-    taken_then c.close-closed.new.slot c.pump.new.slot _ book _ closed p.stands p.stuck (identity_alike c.close-closed.new.slot c.pump.new.slot p.alike) (λ h. subst hung_mark p.alike.held.mark h)
+    let number : c.args.number ≡ length book.changes = c.requires.number
+    ∙ ap (λ (b : Book). length b.changes) (sym n.book) in
+    let closed = taken_closed c.notice_by.new.slot c.close-closed.new.slot
+    (slot_at c.notice_by.new.keeper.slots place) (slot_at c.meet_under.new.keeper.slots place) _
+    book n.taken (k.stands book n.taken.stands number) k.others k.messages k.hung m.asks m.place
+    in
+    taken_then c.close-closed.new.slot c.pump.new.slot _ book _ closed p.stands p.stuck
+    (identity_alike c.close-closed.new.slot c.pump.new.slot p.alike)
+    (λ h. subst hung_mark p.alike.held.mark h)

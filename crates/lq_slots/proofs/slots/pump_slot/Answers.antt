@@ -6,4 +6,6 @@ use Rattle.lq_slots.proofs.slots.pump_slot.Goals as goal
 pub returns-clause-taken : goal.returns-clause-taken
 returns-clause-taken g c =
     let p = c.pump.ensures in
-    taken_then c.args.slot.now c.pump.new.slot _ _ _ c.requires.taken p.stands p.stuck (identity_alike c.args.slot.now c.pump.new.slot p.alike) (λ h. subst hung_mark p.alike.held.mark h)
+    taken_then c.args.taken.now c.pump.new.slot _ _ _ c.requires.taken p.stands p.stuck
+    (identity_alike c.args.taken.now c.pump.new.slot p.alike)
+    (λ h. subst hung_mark p.alike.held.mark h)
