@@ -66,7 +66,11 @@ module _ (h : Held) (e : End Delivery Opening) (places : ℕ) (shut : Shut) (boo
       let le : h.opened ≤ k.change = subst (λ n. h.opened ≤ n) e1 s.opened in
       let long = extends_length book book' p in
       record {
-        query = s.query; moves = s.moves; opening = s.opening; port = s.port; full = full;
+        query = s.query;
+        moves = s.moves;
+        opening = s.opening;
+        port = s.port;
+        full = full;
         later = extends_trans (known_by e.floor (all_put e)) book book' s.later p;
         list = s.list ∙ ap (updates h.query h.moved book h.opened) e1 ∙ sym (updates-same h.query h.moved book book' h.opened k.change s.full.first p le within) ∙ ap (updates h.query h.moved book' h.opened) (sym e2);
         sent = s.sent;
@@ -99,7 +103,11 @@ module _ (h : Held) (e : End Delivery Opening) (places : ℕ) (shut : Shut) (boo
     ends book' cause shut' p full fits over =
         let long = extends_length book book' p in
         record {
-          query = s.query; moves = s.moves; opening = s.opening; port = s.port; full = full;
+          query = s.query;
+          moves = s.moves;
+          opening = s.opening;
+          port = s.port;
+          full = full;
           later = extends_trans (known_by e.floor (all_put e)) book book' s.later p;
           list = old_is ∙ sym (updates-same h.query h.moved book book' h.opened (length book.changes) s.full.first p opened_is (omega arith));
           sent = s.sent;
@@ -138,7 +146,11 @@ module _ (h : Held) (e : End Delivery Opening) (places : ℕ) (shut : Shut) (boo
           let e2 : upto h.mark (length book'.changes) ≡ length book.changes + 1 = ap (λ o. upto o (length book'.changes)) live ∙ long in
           let all : given (with_messages h more) e ≡ given h e ++ more = sym (append_assoc (messages_in (all_put e)) h.messages more) in
           record {
-            query = s.query; moves = s.moves; opening = s.opening; port = s.port; full = full';
+            query = s.query;
+            moves = s.moves;
+            opening = s.opening;
+            port = s.port;
+            full = full';
             later = extends_trans (known_by e.floor (all_put e)) book book' s.later (c ∷ [], refl);
             list = all ∙ sym now ∙ ap (updates h.query h.moved book' h.opened) (sym e2);
             sent = ap (λ n. n + length more) s.sent ∙ sym (length-append (given h e) more) ∙ ap (length {A = Message}) (sym all);
@@ -155,11 +167,11 @@ module _ (h : Held) (e : End Delivery Opening) (places : ℕ) (shut : Shut) (boo
         over_is : 0 < length more → h.backlog < length h.messages + length more → IsOverrun h.query h.moved h.opened places h.backlog book' (length book.changes)
         over_is some many =
             let front : updates h.query h.moved book' h.opened (length book.changes) ≡ given h e =
-                updates-same h.query h.moved book book' h.opened (length book.changes) s.full.first (c ∷ [], refl) opened_is (omega arith) ∙ sym old_is in
+            updates-same h.query h.moved book book' h.opened (length book.changes) s.full.first (c ∷ [], refl) opened_is (omega arith) ∙ sym old_is in
             let a : length (updates h.query h.moved book' h.opened (length book.changes)) ≡ length (messages_in (all_put e)) + length h.messages =
-                ap (length {A = Message}) front ∙ length-append (messages_in (all_put e)) h.messages in
+            ap (length {A = Message}) front ∙ length-append (messages_in (all_put e)) h.messages in
             let b : length (updates h.query h.moved book' h.opened (length book.changes + 1)) ≡ length (messages_in (all_put e)) + length h.messages + length more =
-                ap (length {A = Message}) now ∙ length-append (given h e) more ∙ ap (λ n. n + length more) (length-append (messages_in (all_put e)) h.messages) in
+            ap (length {A = Message}) now ∙ length-append (given h e) more ∙ ap (λ n. n + length more) (length-append (messages_in (all_put e)) h.messages) in
             record {
               within = omega (arith, long);
               some = omega arith;
@@ -183,7 +195,11 @@ stands_new q mv backlog e places book taken ahead floor query moves opening port
     let put : all_put e ≡ [] = λ i. taken i ++ ahead i in
     let none : given (opened_with q mv (length book.changes) backlog) e ≡ [] = λ i. messages_in (put i) ++ [] in
     record {
-      query = query; moves = moves; opening = opening; port = port; full = full;
+      query = query;
+      moves = moves;
+      opening = opening;
+      port = port;
+      full = full;
       later = subst (Extends book) (sym (ap (known_by e.floor) put ∙ floor)) (extends_self book);
       list = none ∙ sym (updates-none q mv book (length book.changes));
       sent = sym (ap (length {A = Message}) none);
@@ -227,5 +243,5 @@ committed_stands p q e places shut book c live is few filled s ready lawful full
     let r = ready live in
     let three = few p.held.query p.held.moved (state_of book) c (p.held.sent + 1) s.full.state lawful in
     let t : Stands (told p.held (step_of p.held.query p.held.moved (state_of book) c (p.held.sent + 1)) (length book.changes)) e places shut (grown book (c ∷ [])) =
-        told_stands p.held e places shut book s live c full three filled in
+    told_stands p.held e places shut book s live c full three filled in
     subst (λ (h : Held). Stands h e places shut (grown book (c ∷ []))) (sym (ap (λ (z : Prepared). z.held) is ∙ (λ i. told p.held (r.0 i) ((r.1 ∙ s.full.number) i)))) t

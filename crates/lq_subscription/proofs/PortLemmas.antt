@@ -53,9 +53,10 @@ legal_list-what : (f : Opening) (messages : List Message) (book : Book) (w : Par
     → IsPrefix (messages ++ message_of w) (whole f book) × IfSome (mark_or w None) (IsMark f (messages ++ message_of w) book)
 legal_list-what f messages book (Update m) t = (t, tt)
 legal_list-what f messages book (Fin k) t =
-    let same : messages ++ [] ≡ messages = append-nil messages in
-    (subst (λ l. IsPrefix l (whole f book)) (sym (same ∙ t.all)) (updates-front (query_of f) f.moved book f.opened k.change (length book.changes) t.within),
-      subst (λ l. IsMark f l book k) (sym same) t)
+    let same : messages ++ [] ≡ messages = append-nil messages in (
+      subst (λ l. IsPrefix l (whole f book)) (sym (same ∙ t.all)) (updates-front (query_of f) f.moved book f.opened k.change (length book.changes) t.within),
+      subst (λ l. IsMark f l book k) (sym same) t,
+    )
 
 pub legal_list-step : (f : Opening) (ps : List Delivery) (x : Delivery) → LegalList f ps → MayFollow ps f x → LegalList f (ps ++ x ∷ [])
 legal_list-step f ps x legal_list comes =

@@ -61,9 +61,9 @@ module _ (h : Held) (d : End Delivery Opening) (places : ℕ) (shut : Shut) (boo
   tells_update m held =
       let rest : List Message = drop 1 h.messages in
       let here : messages_in (all_put d) ++ m ∷ [] ++ rest ≡ updates h.query h.moved book h.opened (upto h.mark (length book.changes)) =
-          append_assoc (messages_in (all_put d)) (m ∷ []) rest ∙ ap (λ l. messages_in (all_put d) ++ l) (sym held) ∙ s.list in
+      append_assoc (messages_in (all_put d)) (m ∷ []) rest ∙ ap (λ l. messages_in (all_put d) ++ l) (sym held) ∙ s.list in
       let front : IsPrefix (messages_in (all_put d) ++ m ∷ []) (updates h.query h.moved book h.opened (length book.changes)) =
-          prefix_trans _ _ _ (rest, here) (updates-front h.query h.moved book h.opened (upto h.mark (length book.changes)) (length book.changes) (upto_within h.mark (length book.changes) (λ k. k.seq ≡ h.sent + 1) s.mark)) in
+      prefix_trans _ _ _ (rest, here) (updates-front h.query h.moved book h.opened (upto h.mark (length book.changes)) (length book.changes) (upto_within h.mark (length book.changes) (λ k. k.seq ≡ h.sent + 1) s.mark)) in
       subst (λ (t : Query × Bool × ℕ). IsPrefix (messages_in (all_put d) ++ m ∷ []) (updates t.0 t.1 book t.2 (length book.changes))) (λ i. (sym s.query i, sym s.moves i, sym s.opening i)) front
 
   tells_mark : (k : Mark) → (h.messages ≡ []) × (h.mark ≡ Some k) × (h.mark_out ≡ false) → IsMark d.floor (messages_in (all_put d)) book k
@@ -74,6 +74,8 @@ module _ (h : Held) (d : End Delivery Opening) (places : ℕ) (shut : Shut) (boo
       record {
         all = all ∙ (λ i. updates (sym s.query i) (sym s.moves i) book (sym s.opening i) k.change);
         seq = fits.0 ∙ ap (λ n. n + 1) (s.sent ∙ ap (length {A = Message}) same);
+        opened = subst (λ (z : ℕ × Option Mark). z.0 ≤ upto z.1 (length book.changes))
+            (λ i. (sym s.opening i, n.1 i)) s.opened;
         within = fits.1;
       }
 
@@ -129,7 +131,7 @@ module _ (h : Held) (d : End Delivery Opening) (places : ℕ) (shut : Shut) (boo
     pub given_then : given (without h (Some p)) e ≡ given h d
     given_then =
         ap (λ l. l ++ (without h (Some p)).messages) put_messages ∙ append_assoc (messages_in (all_put d)) (message_of p) (without h (Some p)).messages
-            ∙ ap (λ l. messages_in (all_put d) ++ l) (messages_then p (next_is h.messages h.mark h.mark_out p next))
+        ∙ ap (λ l. messages_in (all_put d) ++ l) (messages_then p (next_is h.messages h.mark h.mark_out p next))
 
     -- a parcel was put, and the list of what is put and held stays
     pub put_stands : Stands (without h (Some p)) e places shut book

@@ -1,9 +1,10 @@
 -- The steps of a read.
-use Rattle.std.proofs.Common.{◌≡◌, ℕ, zero, suc, ◌+◌, ◌-◌, ◌<◌, ◌≤◌, Bool, true, false, true≢false, List, [], ◌∷◌, ◌++◌, length, take, map, Option, Some, None, refl, sym, ap, ◌∙◌, subst, arith, append_assoc, append-nil, length-append}
+use Rattle.std.proofs.Common.{◌≡◌, ◌↔◌, ℕ, zero, suc, ◌+◌, ◌-◌, ◌<◌, ◌≤◌, Bool, true, false, true≢false, List, [], ◌∷◌, ◌++◌, length, take, map, Option, Some, None, refl, sym, ap, ◌∙◌, subst, arith, append_assoc, append-nil, length-append}
 use Rattle.std.specs.Prelude.{IfSome, IsSome, is_some, option_to_list, Result, Ok, Err, OnErr, OnOk, IfOk}
 use Rattle.std.proofs.lemmas.List.{take_all, take-append-le}
 use mathlib.Core.List.{IsPrefix}
 use Rattle.lq_value.specs.Refusal.{first_refusal}
+use Rattle.lq_value.specs.declared.entry.Entry.{Entry}
 use Rattle.lq_volume.specs.State.{State}
 use Rattle.lq_volume.specs.declared.change.Change.{Change}
 use Rattle.lq_volume.specs.Book.{Book, Extends, grown, state_of, state_at, after_all}
@@ -14,7 +15,7 @@ use Rattle.lq_update.specs.declared.mark.Mark.{Mark}
 use Rattle.lq_update.specs.declared.parcel.Parcel.{Parcel}
 use Rattle.lq_update.specs.declared.parcel.Parcel.TheVariants.{Update as told_update, Fin as told_fin}
 use Rattle.lq_update.specs.Fold.{Folding, folded, last_change, settled_after, fold_refusals, folding_after, folding_after_all, opened_at}
-use Rattle.lq_update.specs.Laws.{RebuildsTakeAll, FoldsGiveResults, FoldingsFollow, SettledIsTested}
+use Rattle.lq_update.specs.Laws.{RebuildsTakeAll, FoldsGiveResults, FoldingsFollow, SettledIsTested, WholeFoldsGiveResults}
 use Rattle.lq_update.specs.Updates.{IsSettled, IsPrefixOf, updates_of}
 use Rattle.lq_desk.specs.declared.event.Read.{Read}
 use Rattle.lq_desk.specs.declared.event.Read.TheVariants.{Update, Fin, Empty, Ended}
@@ -45,7 +46,7 @@ state_then : (fl book : Book) (n : ℕ) → n ≡ length fl.changes → fl.start
 state_then fl book n is first e =
     let k : n - fl.start.number ≡ length fl.changes = omega arith in
     ap (λ (b : Book). state_at b n) e.1 ∙ ap (λ (k : ℕ). after_all fl.start (take k (fl.changes ++ e.0))) k
-        ∙ ap (after_all fl.start) (take-append-le (length fl.changes) fl.changes e.0 (omega arith) ∙ take_all (length fl.changes) fl.changes (omega arith))
+    ∙ ap (after_all fl.start) (take-append-le (length fl.changes) fl.changes e.0 (omega arith) ∙ take_all (length fl.changes) fl.changes (omega arith))
 
 -- the fold refuses no next message
 pub fold_fits : RebuildsTakeAll → (f : Opening) (book : Book) (got : List Message) (m : Message) → f.opened ≡ length (floor_of f).changes → Extends book (floor_of f) → IsFullBook book
@@ -57,12 +58,12 @@ fold_fits law f book got m opening later full front =
     let zero : book.start.number ≡ 0 = full.first in
     let long = extends_length (floor_of f) book later in
     subst (λ (s : State). first_refusal (fold_refusals (folding_after_all (opened_at f.opened (result_of (query_of f) s)) got) m) ≡ None) (state_then (floor_of f) book f.opened opening first later)
-        (law (query_of f) f.moved book f.opened (length book.changes) got front.0 m full.start full.lawful (omega arith) (omega arith) (sym (append_assoc got (m ∷ []) front.0) ∙ front.1))
+    (law (query_of f) f.moved book f.opened (length book.changes) got front.0 m full.start full.lawful (omega arith) (omega arith) (sym (append_assoc got (m ∷ []) front.0) ∙ front.1))
 
 pub received_front : (e : End Delivery Opening) (hand : Option Message) (result : Folding) (ended : Bool) → Reads e result hand ended → IsPrefix (received (hold e hand result)) (whole e.floor (known_by e.floor e.taken))
 received_front e hand result ended r =
     subst (λ (l : List Message). IsPrefix l (whole e.floor (known_by e.floor e.taken))) (sym (received_is e hand result r.got r.all))
-        (prefix_trans r.got (messages_in e.taken) (whole e.floor (known_by e.floor e.taken)) (option_to_list hand, sym r.all) r.legal_list.front)
+    (prefix_trans r.got (messages_in e.taken) (whole e.floor (known_by e.floor e.taken)) (option_to_list hand, sym r.all) r.legal_list.front)
 
 front_of : (ps : List Delivery) (x : Delivery) (rest : List Delivery) → IsFront ps x rest → IsFront (map what_of ps) x.what (map what_of rest)
 front_of [] x rest e = ap (map what_of) e
@@ -73,7 +74,7 @@ module _ (law : RebuildsTakeAll) (e : End Delivery Opening) (result : Folding) (
   pub hand_fits : first_refusal (fold_refusals result m) ≡ None
   hand_fits =
       subst (λ (g : Folding). first_refusal (fold_refusals g m) ≡ None) (sym r.folds)
-          (fold_fits law e.floor (known_by e.floor e.taken) r.got m r.legal_list.opening r.legal_list.later r.legal_list.full (subst (λ (l : List Message). IsPrefix l (whole e.floor (known_by e.floor e.taken))) r.all r.legal_list.front))
+      (fold_fits law e.floor (known_by e.floor e.taken) r.got m r.legal_list.opening r.legal_list.later r.legal_list.full (subst (λ (l : List Message). IsPrefix l (whole e.floor (known_by e.floor e.taken))) r.all r.legal_list.front))
 
   pub kept_hand : (result' : Folding) (hand' : Option Message) → (result' ≡ folding_after result m) × (hand' ≡ None) → Reads e result' hand' ended
   kept_hand result' hand' is =
@@ -92,9 +93,11 @@ module _ (law : RebuildsTakeAll) (e : End Delivery Opening) (result : Folding) (
   pub gives_hand : (result' : Folding) (hand' : Option Message) → (result' ≡ folding_after result m) × (hand' ≡ None) → Gives (hold e (Some m) result) (hold e hand' result') (Update m)
   unfolding kept_hand
   gives_hand result' hand' is =
-      let k = kept_hand result' hand' is in
-      (received_is e hand' result' (r.got ++ m ∷ []) k.all ∙ ap (λ (l : List Message). l ++ m ∷ []) (sym (received_is e (Some m) result r.got r.all)),
-        (refl, ap (λ (o : Option Message). map (λ m. told_update m) (option_to_list o) ++ map what_of e.ahead) is.1), refl)
+      let k = kept_hand result' hand' is in (
+        received_is e hand' result' (r.got ++ m ∷ []) k.all ∙ ap (λ (l : List Message). l ++ m ∷ []) (sym (received_is e (Some m) result r.got r.all)),
+        (refl, ap (λ (o : Option Message). map (λ m. told_update m) (option_to_list o) ++ map what_of e.ahead) is.1),
+        refl,
+      )
 
   pub fails_hand : (result' : Folding) (hand' : Option Message) → (result' ≡ result) × (hand' ≡ Some m) → Fails (hold e (Some m) result) (hold e hand' result')
   fails_hand result' hand' is =
@@ -138,7 +141,7 @@ module _ (d e : End Delivery Opening) (x : Delivery) (same : IsSamePort d e) (lo
           let f = legal_list_then r.legal_list in
           let floor : opening_of e.floor ≡ opening_of d.floor = ap opening_of same.2 in
           subst (λ (g : Folding). first_refusal (fold_refusals g m) ≡ None) (ap (λ (g : Folding). folding_after_all g r.got) floor ∙ sym r.folds)
-              (fold_fits law e.floor (known_by e.floor e.taken) r.got m f.opening f.later f.full (subst (λ (l : List Message). IsPrefix l (whole e.floor (known_by e.floor e.taken))) told_then f.front))
+          (fold_fits law e.floor (known_by e.floor e.taken) r.got m f.opening f.later f.full (subst (λ (l : List Message). IsPrefix l (whole e.floor (known_by e.floor e.taken))) told_then f.front))
 
       pub took : (result' : Folding) (hand' : Option Message) → (result' ≡ folding_after result m) × (hand' ≡ None) → Reads e result' hand' ended
       took result' hand' at =
@@ -166,19 +169,23 @@ module _ (d e : End Delivery Opening) (x : Delivery) (same : IsSamePort d e) (lo
       unfolding took
       took_gives result' hand' at =
           let t = took result' hand' at in
-          let b : ready (hold e hand' result') ≡ map what_of e.ahead = ap (λ (o : Option Message). map (λ m. told_update m) (option_to_list o) ++ map what_of e.ahead) at.1 in
-          (received_is e hand' result' (r.got ++ m ∷ []) t.all ∙ ap (λ (l : List Message). l ++ m ∷ []) (sym got_is),
+          let b : ready (hold e hand' result') ≡ map what_of e.ahead = ap (λ (o : Option Message). map (λ m. told_update m) (option_to_list o) ++ map what_of e.ahead) at.1 in (
+            received_is e hand' result' (r.got ++ m ∷ []) t.all ∙ ap (λ (l : List Message). l ++ m ∷ []) (sym got_is),
             subst (λ (z : List Parcel × List Parcel). IsFront z.0 (told_update m) z.1) (λ i. (sym old_ready i, sym b i)) (ready_then hand (told_update m) is),
-            mark_then ∙ ap (λ w. mark_or w None) is ∙ sym comes.open_yet)
+            mark_then ∙ ap (λ w. mark_or w None) is ∙ sym comes.open_yet,
+          )
 
       pub took_fails : (result' : Folding) (hand' : Option Message) → (result' ≡ result) × (hand' ≡ Some m) → Fails (hold d hand result) (hold e hand' result')
       unfolding took_in_hand
       took_fails result' hand' at =
-          let t = took_in_hand result' hand' at in
-          (m, map what_of e.ahead, received_is e hand' result' r.got t.all ∙ sym got_is,
+          let t = took_in_hand result' hand' at in (
+            m,
+            map what_of e.ahead,
+            received_is e hand' result' r.got t.all ∙ sym got_is,
             ap (λ (o : Option Message). map (λ m. told_update m) (option_to_list o) ++ map what_of e.ahead) at.1,
             subst (λ (z : List Parcel). IsFront z (told_update m) (map what_of e.ahead)) (sym old_ready) (ready_then hand (told_update m) is),
-            mark_then ∙ ap (λ w. mark_or w None) is ∙ sym comes.open_yet)
+            mark_then ∙ ap (λ w. mark_or w None) is ∙ sym comes.open_yet,
+          )
 
     module _ (k : Mark) (is : x.what ≡ told_fin k) where
       marked : mark_in e.taken ≡ Some k
@@ -203,11 +210,13 @@ module _ (d e : End Delivery Opening) (x : Delivery) (same : IsSamePort d e) (lo
       gives_mark hand' bare' =
           let t = took_mark hand' bare' in
           let b : ready (hold e hand' result) ≡ map what_of e.ahead = ap (λ (o : Option Message). map (λ m. told_update m) (option_to_list o) ++ map what_of e.ahead) bare' in
-          let fits : IsMark e.floor (messages_in e.taken) (known_by e.floor e.taken) k = subst (λ o. IfSome o (IsMark e.floor (messages_in e.taken) (known_by e.floor e.taken))) marked t.legal_list.mark in
-          (received_is e hand' result r.got t.all ∙ sym got_is,
+          let fits : IsMark e.floor (messages_in e.taken) (known_by e.floor e.taken) k = subst (λ o. IfSome o (IsMark e.floor (messages_in e.taken) (known_by e.floor e.taken))) marked t.legal_list.mark in (
+            received_is e hand' result r.got t.all ∙ sym got_is,
             subst (λ (z : List Parcel × List Parcel). IsFront z.0 (told_fin k) z.1) (λ i. (sym old_ready i, sym b i)) (ready_then hand (told_fin k) is),
-            comes.open_yet, marked,
-            subst (λ (l : List Message). IsMark e.floor l (known_by e.floor e.taken) k) (fin_then ∙ sym (received_is e hand' result r.got t.all)) fits)
+            comes.open_yet,
+            marked,
+            subst (λ (l : List Message). IsMark e.floor l (known_by e.floor e.taken) k) (fin_then ∙ sym (received_is e hand' result r.got t.all)) fits,
+          )
 
 none_of : (o : Option Mark) → false ≡ is_some o → o ≡ None
 none_of (Some k) e = absurd (cc)
@@ -231,6 +240,10 @@ reads_new e result taken opening full is =
       over = ap (λ (ps : List Delivery). is_some (mark_in ps)) (sym taken);
       no_hand = λ _. refl;
     }
+
+-- the port's opening stays, and what is known of its number
+pub opened_then : (d e : End Delivery Opening) → IsSamePort d e → (n : ℕ) → n ≡ d.floor.opened → n ≡ e.floor.opened
+opened_then d e port n is = is ∙ sym (ap (λ (f : Opening). f.opened) port.2)
 
 -- what was received is folded
 pub folds_received : (e : End Delivery Opening) (hand : Option Message) (result : Folding) (ended : Bool) → Reads e result hand ended → result ≡ folding_after_all (opening_of e.floor) (received (hold e hand result))
@@ -265,10 +278,47 @@ settled_result law follow test r told settled =
     let opening : f.opened ≡ length (floor_of f).changes = legal_list.opening in
     let state = state_then (floor_of f) b f.opened opening first legal_list.later in
     let front : IsPrefixOf got (updates_of (query_of f) f.moved b f.opened (length b.changes)) =
-        prefix_trans got (messages_in r.port.taken) (updates_of (query_of f) f.moved b f.opened (length b.changes)) (option_to_list r.hand, sym told.all) legal_list.front in
+    prefix_trans got (messages_in r.port.taken) (updates_of (query_of f) f.moved b f.opened (length b.changes)) (option_to_list r.hand, sym told.all) legal_list.front in
     entries ∙ ap (λ (s : State). folded (result_of (query_of f) s) got) (sym state)
-        ∙ law (query_of f) f.moved b f.opened (length b.changes) got legal_list.full.start legal_list.full.lawful (omega arith) (omega arith) front ((test got).1 tested)
-        ∙ ap (λ (n : ℕ). result_of (query_of f) (state_at b n)) (sym change)
+    ∙ law (query_of f) f.moved b f.opened (length b.changes) got legal_list.full.start legal_list.full.lawful (omega arith) (omega arith) front ((test got).1 tested)
+    ∙ ap (λ (n : ℕ). result_of (query_of f) (state_at b n)) (sym change)
+
+-- the entries are those of the opening with what was received folded in
+pub entries_folded : FoldingsFollow → (r : ReadingHold) → IsTold r → r.result.entries ≡ folded (opening_of r.port.floor).entries (received r)
+entries_folded follow r told = ap (λ (g : Folding). g.entries) told.folds ∙ (follow (opening_of r.port.floor) (received r)).0
+
+-- the latest change is that of the last message received
+pub change_received : FoldingsFollow → (r : ReadingHold) → IsTold r → r.result.change ≡ last_change r.port.floor.opened (received r)
+change_received follow r told = ap (λ (g : Folding). g.change) told.folds ∙ (follow (opening_of r.port.floor) (received r)).1
+
+-- it is settled just where what was received is
+pub settled_received : FoldingsFollow → SettledIsTested → (r : ReadingHold) → IsTold r → (b : Bool) → b ≡ r.result.settled → (b ≡ true) ↔ IsSettled (received r)
+settled_received follow test r told b is =
+    let got = received r in
+    let same : b ≡ settled_after true got = is ∙ ap (λ (g : Folding). g.settled) told.folds ∙ (follow (opening_of r.port.floor) got).2 in
+    ((λ yes. (test got).1 (sym same ∙ yes)), (λ settled. same ∙ (test got).0 settled))
+
+-- after the mark the result is the query's after the mark's change
+pub marked_result : WholeFoldsGiveResults → FoldingsFollow → (r : ReadingHold) → IsTold r → (shown : List Entry) → shown ≡ r.result.entries → (o : Option Mark) → mark_read r ≡ o
+    → IfSome o (λ k. shown ≡ result_of (query_of r.port.floor) (state_at (known r) k.change))
+unfolding updates
+marked_result law follow r told shown now None is = tt
+marked_result law follow r told shown now (Some k) is =
+    let f = r.port.floor in
+    let b = known r in
+    let legal_list = told.legal_list in
+    let fits : IsMark f (messages_in r.port.taken) b k = subst (λ o. IfSome o (IsMark f (messages_in r.port.taken) b)) is legal_list.mark in
+    let bare : r.hand ≡ None = told.no_hand (subst IsSome (sym is) refl) in
+    let got : received r ≡ updates_of (query_of f) f.moved b f.opened k.change =
+    sym (append-nil (received r)) ∙ ap (λ (o : Option Message). received r ++ option_to_list o) (sym bare) ∙ sym told.all ∙ fits.all in
+    let begin : b.start.number ≡ (floor_of f).start.number = ap (λ (b : Book). b.start.number) legal_list.later.1 in
+    let first : (floor_of f).start.number ≡ 0 = sym begin ∙ legal_list.full.first in
+    let zero : b.start.number ≡ 0 = legal_list.full.first in
+    let after = fits.opened in
+    let state = state_then (floor_of f) b f.opened legal_list.opening first legal_list.later in
+    now ∙ entries_folded follow r told
+    ∙ (λ i. folded (result_of (query_of f) (sym state i)) (got i))
+    ∙ law (query_of f) f.moved b f.opened k.change legal_list.full.start legal_list.full.lawful (omega arith) after
 
 -- a result's cases
 module _ {A E : Type 0} where

@@ -20,8 +20,8 @@ append q mv s (c ∷ cs) ds seq =
     let rest : List Message = updates_from q mv (after s c) cs (seq + length here) in
     let count : seq + length here + length rest ≡ seq + length (here ++ rest) = omega (arith, length-append here rest) in
     ap (λ l. here ++ l) (append q mv (after s c) cs ds (seq + length here))
-        ∙ sym (append_assoc here rest (updates_from q mv (after_all (after s c) cs) ds (seq + length here + length rest)))
-        ∙ ap (λ n. (here ++ rest) ++ updates_from q mv (after_all (after s c) cs) ds n) count
+    ∙ sym (append_assoc here rest (updates_from q mv (after_all (after s c) cs) ds (seq + length here + length rest)))
+    ∙ ap (λ n. (here ++ rest) ++ updates_from q mv (after_all (after s c) cs) ds n) count
 
 -- one more change adds just its messages
 pub updates-add : (q : Query) (mv : Bool) (b : Book) (c : Change) (m : ℕ) → b.start.number ≡ 0 → m ≤ length b.changes
@@ -37,16 +37,16 @@ updates-add q mv b c m first within =
     let front : drop k (cs ++ c ∷ []) ≡ d ++ c ∷ [] = drop-append-le k cs (c ∷ []) (omega arith) in
     let long : length d ≡ length cs - k = length-drop k cs in
     let all : take (length cs + 1 - m) (drop k (cs ++ c ∷ [])) ≡ d ++ c ∷ [] =
-        ap (take (length cs + 1 - m)) front ∙ take_all (length cs + 1 - m) (d ++ c ∷ []) (omega (arith, length-append d (c ∷ []))) in
+    ap (take (length cs + 1 - m)) front ∙ take_all (length cs + 1 - m) (d ++ c ∷ []) (omega (arith, length-append d (c ∷ []))) in
     let now : take (length cs - m) d ≡ d = take_all (length cs - m) d (omega arith) in
     let old : List Message = updates_from q mv s d 1 in
     let whole : after_all s d ≡ after_all b.start cs = sym (after_all-append b.start (take k cs) d) ∙ ap (after_all b.start) (take-append-drop k cs) in
     let seq : 1 + length old ≡ length old + 1 = omega arith in
     (λ i. updates_from q mv (state i) (all i) 1)
-        ∙ append q mv s d (c ∷ []) 1
-        ∙ ap (λ l. old ++ l) (append-nil (step_of q mv (after_all s d) c (1 + length old)))
-        ∙ (λ i. old ++ step_of q mv (whole i) c (seq i))
-        ∙ ap (λ (l : List Change). updates_from q mv s l 1 ++ step_of q mv (after_all b.start cs) c (length (updates_from q mv s l 1) + 1)) (sym now)
+    ∙ append q mv s d (c ∷ []) 1
+    ∙ ap (λ l. old ++ l) (append-nil (step_of q mv (after_all s d) c (1 + length old)))
+    ∙ (λ i. old ++ step_of q mv (whole i) c (seq i))
+    ∙ ap (λ (l : List Change). updates_from q mv s l 1 ++ step_of q mv (after_all b.start cs) c (length (updates_from q mv s l 1) + 1)) (sym now)
 
 same_in : (q : Query) (mv : Bool) (b : Book) (more : List Change) (m e : ℕ) → b.start.number ≡ 0 → m ≤ e → e ≤ length b.changes
     → updates q mv (grown b more) m e ≡ updates q mv b m e
@@ -57,7 +57,7 @@ same_in q mv b more m e first le within =
     let at : k ≡ m = omega arith in
     let state : after_all b.start (take k (cs ++ more)) ≡ after_all b.start (take k cs) = ap (after_all b.start) (take-append-le k cs more (omega arith)) in
     let list : take (e - m) (drop k (cs ++ more)) ≡ take (e - m) (drop k cs) =
-        ap (take (e - m)) (drop-append-le k cs more (omega arith)) ∙ take-append-le (e - m) (drop k cs) more (omega (arith, length-drop k cs)) in
+    ap (take (e - m)) (drop-append-le k cs more (omega arith)) ∙ take-append-le (e - m) (drop k cs) more (omega (arith, length-drop k cs)) in
     λ i. updates_from q mv (state i) (list i) 1
 
 -- a longer book has the same updates up to the same change
@@ -72,10 +72,11 @@ updates-front q mv b m e n le =
     let front : List Change = take (e - m) all in
     let rest : List Change = drop (e - m) (take (n - m) all) in
     let split : front ++ rest ≡ take (n - m) all =
-        ap (λ l. l ++ rest) (sym (take-take (e - m) (n - m) all (omega arith))) ∙ take-append-drop (e - m) (take (n - m) all) in
-    let s : State = state_at b m in
-    (updates_from q mv (after_all s front) rest (1 + length (updates_from q mv s front 1)),
-      sym (append q mv s front rest 1) ∙ ap (λ l. updates_from q mv s l 1) split)
+    ap (λ l. l ++ rest) (sym (take-take (e - m) (n - m) all (omega arith))) ∙ take-append-drop (e - m) (take (n - m) all) in
+    let s : State = state_at b m in (
+      updates_from q mv (after_all s front) rest (1 + length (updates_from q mv s front 1)),
+      sym (append q mv s front rest 1) ∙ ap (λ l. updates_from q mv s l 1) split,
+    )
 
 pub updates-none : (q : Query) (mv : Bool) (b : Book) (m : ℕ) → updates q mv b m m ≡ []
 unfolding updates

@@ -63,10 +63,11 @@ upto_change f book n = updates (query_of f) f.moved book f.opened n
 abbrev pub whole : Opening → Book → List Message
 whole f book = upto_change f book (length book.changes)
 
--- the mark comes after all updates up to its change
+-- the mark comes after all updates up to its change, which isn't before the opening
 pub record IsMark (f : Opening) (messages : List Message) (book : Book) (k : Mark) : Type 0 where
   pub all : messages ≡ upto_change f book k.change
   pub seq : k.seq ≡ length messages + 1
+  pub opened : f.opened ≤ k.change
   pub within : k.change ≤ length book.changes
 
 abbrev pub Tells : Opening → List Message → Book → Parcel → Type 0

@@ -1,10 +1,10 @@
 //! What goes through a port.
 use crate::identity::Identity;
 use lq_board::Keeper;
-use lq_witness::Witness;
 use lq_port::Follows;
 use lq_predicate::Predicate;
 use lq_update::Parcel;
+use lq_witness::Witness;
 
 /// A parcel, and the book of the keeper when it was put.
 #[derive(Drop)]

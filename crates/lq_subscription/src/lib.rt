@@ -8,7 +8,7 @@ mod reading;
 mod subscription;
 
 pub use delivery::{Delivery, Opening};
-pub use identity::{PortId, Shut, Identity};
+pub use identity::{Identity, PortId, Shut};
 pub use puts::{drain, pump, put_one};
 pub use reading::Reading;
 pub use subscription::{Subscription, close, commit, notice, ready};

@@ -12,9 +12,9 @@ use crate::reading::Reading;
 use crate::subscription::Subscription;
 use lq_board::Keeper;
 use lq_desk::putting_back_undoes;
-use lq_witness::Witness;
 use lq_port::PortIn;
 use lq_update::Parcel;
+use lq_witness::Witness;
 use std::sync::Wait;
 
 // Puts a parcel, with the keeper's book.

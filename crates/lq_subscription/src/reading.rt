@@ -1,22 +1,23 @@
 //! The end of a subscription that reads.
-ghost use Rattle.std.specs.Prelude.{◌≡◌, [], length, IfOk, IfSome, IfNone, OnOk, OnErr, Some, None, is_some, IsTrue};
+ghost use Rattle.std.specs.Prelude.{◌≡◌, [], length, IfOk, IfSome, IfNone, OnOk, OnErr, Some, None, is_some, IsTrue, true, ◌↔◌};
 ghost use mathlib.Core.List.{IsPrefix};
 ghost use Rattle.lq_value.specs.Refusal.{IsRefusedBy, first_refusal};
 ghost use Rattle.lq_volume.specs.Book.{Extends, state_of, state_at};
 ghost use Rattle.lq_volume.specs.Result.{result_of};
 ghost use Rattle.lq_board.specs.Book.{IsFullBook};
-ghost use Rattle.lq_update.specs.Fold.{fold_refusals, folding_after, opened_at};
+ghost use Rattle.lq_update.specs.Fold.{fold_refusals, folding_after, opened_at, folded, last_change};
+ghost use Rattle.lq_update.specs.Updates.{IsSettled};
 ghost use Rattle.lq_port.specs.End.{IsSamePort, Loses, all_put};
 ghost use Rattle.lq_port.specs.Port.{IsLegal};
 ghost use Rattle.lq_subscription.specs.Rule.{MayFollow, floor_of, query_of, whole};
-ghost use Rattle.lq_subscription.specs.Reading.{Gives, Fails, known, received, is_marked, IsTold};
+ghost use Rattle.lq_subscription.specs.Reading.{Gives, Fails, known, received, is_marked, mark_read, opening_of, IsTold};
 
 use crate::delivery::Delivery;
 use lq_desk::Read;
 use lq_port::{PortIn, PortOut};
 use lq_update::{
-    Message, Parcel, Rebuild, folds_give_results, foldings_follow, rebuilds_take_all,
-    settled_is_tested,
+    Message, Parcel, Rebuild, foldings_follow, folds_give_results, rebuilds_take_all,
+    settled_is_tested, whole_folds_give_results,
 };
 use lq_value::{Entry, Refusal};
 use std::marker::Model;
@@ -29,11 +30,12 @@ pub struct Reading {
     rebuild: Rebuild,
     hand: Option<Message>,
     ended: bool,
+    opened: u64,
 }
 
 impl Model for Reading {
     ghost use Rattle.lq_subscription.specs.Reading.{ReadingHold, Reads};
-
+    ghost use Rattle.std.specs.Prelude.{◌≡◌};
     ghost use Rattle.std.specs.Coded.{codes};
     ghost use Rattle.lq_port.specs.contracts.ends.PortOut as port_out;
     ghost use Rattle.lq_subscription.specs.contracts.delivery.Delivery as delivery;
@@ -46,7 +48,8 @@ impl Model for Reading {
 
     ghost view = { λ r. record { port = r.output; hand = r.hand; result = r.rebuild } };
 
-    ghost invariant = { λ r. Reads r.output r.rebuild r.hand r.ended };
+    ghost invariant = { λ r. Reads r.output r.rebuild r.hand r.ended
+        × (r.opened ≡ r.output.floor.opened) };
 }
 
 // Folds a message. Without memory it stays in hand.
@@ -83,12 +86,21 @@ impl Reading {
             (result_of (query_of output.floor) (state_of (floor_of output.floor))) }
         ensures { result ≡ record { port = output; hand = None; result = rebuild } }
     {
+        let opened = rebuild.last_change();
         Reading {
             output,
             rebuild,
             hand: None,
             ended: false,
+            opened,
         }
+    }
+
+    /// The number of changes at the opening.
+    pub fn opened(&self) -> u64
+        ensures { result ≡ self.now.port.floor.opened }
+    {
+        self.opened
     }
 
     /// Whether its mark was read.
@@ -176,10 +188,17 @@ impl Reading {
         self.output.beside(input)
     }
 
-    /// The result after what was received, by rising node.
+    /// The result after what was received, by rising node: the opening's, with each message
+    /// received folded in. After the mark it is the query's result after the mark's change.
     pub fn result(&self) -> &[Entry]
-        ensures { result.now ≡ self.now.result.entries }
+        ensures entries { result.now ≡ self.now.result.entries }
+        ensures folded { result.now ≡ folded (opening_of self.now.port.floor).entries
+            (received self.now) }
+        ensures marked { IfSome (mark_read self.now) (λ k. result.now
+            ≡ result_of (query_of self.now.port.floor) (state_at (known self.now) k.change)) }
     {
+        whole_folds_give_results();
+        foldings_follow();
         self.rebuild.result()
     }
 
@@ -187,6 +206,7 @@ impl Reading {
     /// that change, or at the opening.
     pub fn is_settled(&self) -> bool
         ensures settled { result ≡ self.now.result.settled }
+        ensures received { (result ≡ true) ↔ IsSettled (received self.now) }
         ensures whole { IsTrue result → self.now.result.entries
             ≡ result_of (query_of self.now.port.floor) (state_at (known self.now) self.now.result.change) }
     {
@@ -194,6 +214,15 @@ impl Reading {
         foldings_follow();
         settled_is_tested();
         self.rebuild.is_settled()
+    }
+
+    /// The change of the latest message received, or the number at the opening before the first.
+    pub fn last_change(&self) -> u64
+        ensures change { result ≡ self.now.result.change }
+        ensures received { result ≡ last_change self.now.port.floor.opened (received self.now) }
+    {
+        foldings_follow();
+        self.rebuild.last_change()
     }
 
     /// What is so of each reading.

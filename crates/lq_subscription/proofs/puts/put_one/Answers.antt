@@ -18,7 +18,7 @@ returns-in-Ok-clause-stands g c =
     let next : next_parcel s.sub.held ≡ Some c.in-Some.parcel = sym c.in-Some.ensures.value in
     let held : c.next.new.self.held ≡ without s.sub.held (Some c.in-Some.parcel) = c.next.ensures.rest ∙ ap (without s.sub.held) next in
     subst (λ (h : Held). Stands h c.offer.new.input s.places s.shut c.args.keeper.now.book) (sym held)
-        (put_stands s.sub.held s.input s.places s.shut c.args.keeper.now.book c.requires c.offer.new.input c.in-Some.parcel o.0 next o.1 (ap (λ (k : KeeperToken Identity). k.book) o.2) c.offer.ensures.port o.3)
+    (put_stands s.sub.held s.input s.places s.shut c.args.keeper.now.book c.requires c.offer.new.input c.in-Some.parcel o.0 next o.1 (ap (λ (k : KeeperToken Identity). k.book) o.2) c.offer.ensures.port o.3)
 
 pub returns-in-Ok-clause-alike : goal.returns-in-Ok-clause-alike
 returns-in-Ok-clause-alike g c =
