@@ -1,11 +1,11 @@
 //! The end of a subscription that reads.
-ghost use Rattle.std.specs.Prelude.{◌≡◌, [], length, IfOk, IfSome, IfNone, OnOk, OnErr, Some, None, is_some, IsTrue, true, ◌↔◌};
+ghost use Rattle.std.specs.Prelude.{◌≡◌, [], length, IfOk, IfSome, IfNone, OnOk, OnErr, Ok, Some, None, is_some, IsSome, IsTrue, true, ◌↔◌};
 ghost use mathlib.Core.List.{IsPrefix};
 ghost use Rattle.lq_value.specs.Refusal.{IsRefusedBy, first_refusal};
 ghost use Rattle.lq_volume.specs.Book.{Extends, state_of, state_at};
 ghost use Rattle.lq_volume.specs.Result.{result_of};
 ghost use Rattle.lq_board.specs.Book.{IsFullBook};
-ghost use Rattle.lq_update.specs.Fold.{fold_refusals, folding_after, opened_at, folded, last_change};
+ghost use Rattle.lq_update.specs.Fold.{EntriesRise, fold_refusals, folding_after, opened_at, folded, last_change};
 ghost use Rattle.lq_update.specs.Updates.{IsSettled};
 ghost use Rattle.lq_port.specs.End.{IsSamePort, Loses, all_put};
 ghost use Rattle.lq_port.specs.Port.{IsLegal};
@@ -126,6 +126,8 @@ impl Reading {
         ensures received { IsPrefix (received self.new) (whole self.new.port.floor (known self.new)) }
         ensures gives { IfOk result (Gives self.old self.new) }
         ensures fails { OnErr result (Fails self.old self.new) }
+        ensures hand { OnErr result (IsSome self.new.hand) }
+        ensures over { IsSome (mark_read self.old) → result ≡ Ok Read.Ended }
     {
         self.read_by(rt, false)
     }
@@ -138,6 +140,8 @@ impl Reading {
         ensures received { IsPrefix (received self.new) (whole self.new.port.floor (known self.new)) }
         ensures gives { IfOk result (Gives self.old self.new) }
         ensures fails { OnErr result (Fails self.old self.new) }
+        ensures hand { OnErr result (IsSome self.new.hand) }
+        ensures over { IsSome (mark_read self.old) → result ≡ Ok Read.Ended }
     {
         self.read_by(rt, true)
     }
@@ -149,6 +153,8 @@ impl Reading {
         ensures received { IsPrefix (received self.new) (whole self.new.port.floor (known self.new)) }
         ensures gives { IfOk result (Gives self.old self.new) }
         ensures fails { OnErr result (Fails self.old self.new) }
+        ensures hand { OnErr result (IsSome self.new.hand) }
+        ensures over { IsSome (mark_read self.old) → result ≡ Ok Read.Ended }
     {
         rebuilds_take_all();
         if let Some(message) = self.hand.take() {
@@ -192,6 +198,7 @@ impl Reading {
     /// received folded in. After the mark it is the query's result after the mark's change.
     pub fn result(&self) -> &[Entry]
         ensures entries { result.now ≡ self.now.result.entries }
+        ensures rise { EntriesRise result.now }
         ensures folded { result.now ≡ folded (opening_of self.now.port.floor).entries
             (received self.now) }
         ensures marked { IfSome (mark_read self.now) (λ k. result.now
