@@ -1,5 +1,5 @@
 -- A subscription as its parcels move into its port.
-use Rattle.std.proofs.Common.{◌≡◌, ℕ, zero, suc, ◌+◌, ◌*◌, ◌<◌, ◌≤◌, ◌⊎◌, inl, inr, Bool, true, false, true≢false, List, [], ◌∷◌, ◌++◌, length, drop, Option, Some, None, refl, sym, ap, ◌∙◌, subst, arith, append_assoc, append-nil, length-append}
+use Rattle.std.proofs.Common.{◌≡◌, ℕ, suc, ◌+◌, ◌*◌, ◌<◌, ◌≤◌, ◌⊎◌, inl, inr, Bool, true, false, List, [], ◌∷◌, ◌++◌, length, drop, Option, Some, None, refl, sym, ap, ◌∙◌, subst, arith, append_assoc, append-nil}
 use Rattle.std.specs.Prelude.{IfSome, IsSome}
 use mathlib.Core.List.{IsPrefix}
 use Rattle.lq_formula.specs.Query.{Query}
@@ -17,7 +17,7 @@ use Rattle.lq_subscription.specs.declared.delivery.Opening.{Opening}
 use Rattle.lq_subscription.specs.declared.identity.Shut.{Shut}
 use Rattle.lq_subscription.specs.declared.subscription.Subscription.{Subscription}
 use Rattle.lq_subscription.specs.Updates.{updates}
-use Rattle.lq_subscription.specs.Rule.{book_of, floor_of, query_of, message_of, mark_or, messages_in, mark_in, last_book, whole, IsMark, Tells, MayFollow}
+use Rattle.lq_subscription.specs.Rule.{book_of, floor_of, query_of, message_of, mark_or, messages_in, mark_in, IsMark, Tells, MayFollow}
 use Rattle.lq_subscription.specs.LegalList.{known_by}
 use Rattle.lq_subscription.specs.Standing.{given, upto, moved_mark, Stands, StandsAt, SameHeld, SameButPuts, mark_left, left_of, IsOut, IsOverrun}
 use Rattle.lq_subscription.proofs.Books.{extends_self}
@@ -213,3 +213,10 @@ alike_trans s t u a b = record {
   shut = b.shut ∙ a.shut;
   given_same = b.given_same ∙ a.given_same;
 }
+
+-- while a message is held, no mark was put
+pub held_unmarked : (h : Held) (e : End Delivery Opening) (places : ℕ) (answer : Shut) (book : Book)
+    → Stands h e places answer book → 0 < length h.messages → mark_in (all_put e) ≡ None
+held_unmarked h e places answer book stands some =
+    stands.out ∙ not_moved h.mark_out h.mark
+    (λ out. let none : length h.messages ≡ 0 = ap (length {A = Message}) (stands.done out).0 in absurd (omega arith))

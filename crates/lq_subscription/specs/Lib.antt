@@ -5,3 +5,4 @@ pub mod Identity
 pub mod Standing
 pub mod Marking
 pub mod Reading
+pub mod Laws
