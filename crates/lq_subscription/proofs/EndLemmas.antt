@@ -1,8 +1,7 @@
 -- A subscription as the book grows, and as it ends.
-use Rattle.std.proofs.Common.{◌≡◌, ℕ, zero, suc, ◌+◌, ◌*◌, ◌<◌, ◌≤◌, Bool, true, false, true≢false, List, [], ◌∷◌, ◌++◌, length, Option, Some, None, refl, sym, ap, ◌∙◌, subst, arith, append_assoc, append-nil, length-append}
-use Rattle.std.specs.Prelude.{IfSome, IsSome, IsSomeAnd, nat_lt, is_none, ◌&&◌, Result, Ok, Err, OnOk}
+use Rattle.std.proofs.Common.{◌≡◌, ℕ, ◌+◌, ◌<◌, ◌≤◌, Bool, true, false, true≢false, List, [], ◌∷◌, ◌++◌, length, Option, Some, None, refl, sym, ap, ◌∙◌, subst, arith, append_assoc, length-append}
+use Rattle.std.specs.Prelude.{IfSome, IsSome, nat_lt, is_none, ◌&&◌, Result, Ok, Err, OnOk}
 use Rattle.std.proofs.lemmas.Bool.Decides.{nat_tests}
-use mathlib.Core.List.{IsPrefix}
 use Rattle.lq_formula.specs.Query.{Query}
 use Rattle.lq_volume.specs.declared.change.Change.{Change}
 use Rattle.lq_volume.specs.State.{State}
@@ -25,7 +24,7 @@ use Rattle.lq_subscription.specs.Updates.{updates}
 use Rattle.lq_subscription.specs.Rule.{floor_of, query_of, messages_in, mark_in}
 use Rattle.lq_subscription.specs.LegalList.{known_by}
 use Rattle.lq_subscription.specs.Marking.{first_close}
-use Rattle.lq_subscription.specs.Standing.{given, upto, moved_mark, Stands, ShutFits, NotClosed, IsOverrun, IsReady}
+use Rattle.lq_subscription.specs.Standing.{given, upto, Stands, ShutFits, NotClosed, IsOverrun, IsReady}
 use Rattle.lq_subscription.proofs.Books.{extends_self, extends_trans, extends_length}
 use Rattle.lq_subscription.proofs.UpdateLemmas.{updates-add, updates-same, updates-none}
 use Rattle.lq_subscription.proofs.PutLemmas.{some_mark, not_moved}

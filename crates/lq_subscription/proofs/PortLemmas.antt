@@ -1,5 +1,5 @@
 -- Parcels under their rule.
-use Rattle.std.proofs.Common.{◌≡◌, ℕ, zero, suc, ◌+◌, ◌<◌, ◌≤◌, List, [], ◌∷◌, ◌++◌, length, Option, Some, None, refl, sym, ap, ◌∙◌, subst, arith, append_assoc, append-nil}
+use Rattle.std.proofs.Common.{◌≡◌, List, [], ◌∷◌, ◌++◌, length, Option, None, refl, sym, ap, ◌∙◌, subst, append_assoc, append-nil}
 use Rattle.std.specs.Prelude.{IfSome}
 use mathlib.Core.List.{IsPrefix}
 use Rattle.lq_volume.specs.Book.{Book, Extends}
@@ -13,7 +13,7 @@ use Rattle.lq_subscription.specs.declared.delivery.Opening.{Opening}
 use Rattle.lq_subscription.specs.Rule.{book_of, floor_of, query_of, message_of, mark_or, messages_in, mark_in, last_book, whole, IsMark, Tells, MayFollow}
 use Rattle.lq_subscription.specs.LegalList.{known_by, LegalList}
 use Rattle.lq_subscription.proofs.Books.{extends_self, extends_trans}
-use Rattle.lq_subscription.proofs.UpdateLemmas.{updates-front, updates-none}
+use Rattle.lq_subscription.proofs.UpdateLemmas.{updates-front}
 
 pub prefix_self : {A : Type 0} (xs : List A) → IsPrefix xs xs
 prefix_self xs = ([], append-nil xs)

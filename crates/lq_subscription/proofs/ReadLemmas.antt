@@ -1,13 +1,12 @@
 -- The steps of a read.
-use Rattle.std.proofs.Common.{◌≡◌, ◌↔◌, ℕ, zero, suc, ◌+◌, ◌-◌, ◌<◌, ◌≤◌, Bool, true, false, true≢false, List, [], ◌∷◌, ◌++◌, length, take, map, Option, Some, None, refl, sym, ap, ◌∙◌, subst, arith, append_assoc, append-nil, length-append}
+use Rattle.std.proofs.Common.{◌≡◌, ◌↔◌, ℕ, ◌-◌, Bool, true, false, true≢false, List, [], ◌∷◌, ◌++◌, length, take, map, Option, Some, None, refl, sym, ap, ◌∙◌, subst, arith, append_assoc, append-nil, length-append}
 use Rattle.std.specs.Prelude.{IfSome, IsSome, is_some, option_to_list, Result, Ok, Err, OnErr, OnOk, IfOk}
 use Rattle.std.proofs.lemmas.List.{take_all, take-append-le}
 use mathlib.Core.List.{IsPrefix}
 use Rattle.lq_value.specs.Refusal.{first_refusal}
 use Rattle.lq_value.specs.declared.entry.Entry.{Entry}
 use Rattle.lq_volume.specs.State.{State}
-use Rattle.lq_volume.specs.declared.change.Change.{Change}
-use Rattle.lq_volume.specs.Book.{Book, Extends, grown, state_of, state_at, after_all}
+use Rattle.lq_volume.specs.Book.{Book, Extends, state_of, state_at, after_all}
 use Rattle.lq_volume.specs.Result.{result_of}
 use Rattle.lq_board.specs.Book.{IsFullBook}
 use Rattle.lq_update.specs.declared.message.Message.{Message}
@@ -17,17 +16,16 @@ use Rattle.lq_update.specs.declared.parcel.Parcel.TheVariants.{Update as told_up
 use Rattle.lq_update.specs.Fold.{Folding, folded, last_change, settled_after, fold_refusals, folding_after, folding_after_all, opened_at}
 use Rattle.lq_update.specs.Laws.{RebuildsTakeAll, FoldsGiveResults, FoldingsFollow, SettledIsTested, WholeFoldsGiveResults}
 use Rattle.lq_update.specs.Updates.{IsSettled, IsPrefixOf, updates_of}
-use Rattle.lq_desk.specs.declared.event.Read.{Read}
 use Rattle.lq_desk.specs.declared.event.Read.TheVariants.{Update, Fin, Empty, Ended}
-use Rattle.lq_port.specs.End.{End, all_put, IsSamePort, IsFront, Loses}
+use Rattle.lq_port.specs.End.{End, IsSamePort, IsFront, Loses}
 use Rattle.lq_subscription.specs.declared.delivery.Delivery.{Delivery}
 use Rattle.lq_subscription.specs.declared.delivery.Opening.{Opening}
 use Rattle.lq_subscription.specs.Updates.{updates}
-use Rattle.lq_subscription.specs.Rule.{book_of, floor_of, query_of, message_of, mark_or, messages_in, mark_in, last_book, whole, IsMark, MayFollow}
+use Rattle.lq_subscription.specs.Rule.{book_of, floor_of, query_of, message_of, mark_or, messages_in, mark_in, whole, IsMark, MayFollow}
 use Rattle.lq_subscription.specs.LegalList.{known_by, LegalList}
 use Rattle.lq_subscription.specs.Reading.{ReadingHold, Reads, opening_of, known, received, ready, mark_read, what_of, Gives, Fails, IsTold}
-use Rattle.lq_subscription.proofs.Books.{extends_trans, extends_length}
-use Rattle.lq_subscription.proofs.PortLemmas.{prefix_self, prefix_trans, messages_in-snoc, mark_in-append, last_book-snoc, legal_list-none, legal_list-step}
+use Rattle.lq_subscription.proofs.Books.{extends_length}
+use Rattle.lq_subscription.proofs.PortLemmas.{prefix_trans, messages_in-snoc, mark_in-append, last_book-snoc, legal_list-none, legal_list-step}
 
 abbrev pub hold : End Delivery Opening → Option Message → Folding → ReadingHold
 hold e hand result = record { port = e; hand = hand; result = result }

@@ -1,5 +1,5 @@
 -- What is known of the parcels of a port, from their rule.
-use Rattle.std.specs.Prelude.{◌≡◌, ℕ, List, [], ◌∷◌, ◌++◌, length, IfSome}
+use Rattle.std.specs.Prelude.{◌≡◌, List, length, IfSome}
 use mathlib.Core.List.{IsPrefix}
 use Rattle.lq_volume.specs.Book.{Book, Extends}
 use Rattle.lq_board.specs.Book.{IsFullBook}

@@ -1,5 +1,5 @@
 -- What a notice and a close leave.
-use Rattle.std.specs.Prelude.{◌≡◌, ℕ, Bool, true, false, Option, IsSomeAnd}
+use Rattle.std.specs.Prelude.{ℕ, Bool, true, false, Option, IsSomeAnd}
 use Rattle.lq_subscription.specs.declared.identity.Shut.{Shut}
 use Rattle.lq_subscription.specs.declared.identity.Shut.TheVariants.{Never, At, Late}
 use Rattle.lq_update.specs.declared.mark.Mark.{Mark}

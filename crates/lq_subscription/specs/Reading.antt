@@ -1,6 +1,5 @@
 -- What a reader has received, and what a read does.
-use Rattle.std.specs.Prelude.{◌≡◌, ℕ, ◌-◌, Bool, true, List, [], ◌∷◌, ◌++◌, length, take, map, Option, Some, None, IsSome, is_some, option_to_list}
-use mathlib.Core.List.{IsPrefix}
+use Rattle.std.specs.Prelude.{◌≡◌, ◌-◌, Bool, true, List, [], ◌∷◌, ◌++◌, length, take, map, Option, Some, None, IsSome, is_some, option_to_list}
 use Rattle.lq_volume.specs.Book.{Book, state_of}
 use Rattle.lq_volume.specs.Result.{result_of}
 use Rattle.lq_update.specs.declared.message.Message.{Message}
@@ -10,7 +9,7 @@ use Rattle.lq_update.specs.declared.parcel.Parcel.TheVariants.{Update as told_up
 use Rattle.lq_update.specs.Fold.{Folding, folding_after_all, opened_at}
 use Rattle.lq_desk.specs.declared.event.Read.{Read}
 use Rattle.lq_desk.specs.declared.event.Read.TheVariants.{Update, Fin, Empty, Ended}
-use Rattle.lq_port.specs.End.{End, IsSamePort, IsFront}
+use Rattle.lq_port.specs.End.{End, IsFront}
 use Rattle.lq_subscription.specs.declared.delivery.Delivery.{Delivery}
 use Rattle.lq_subscription.specs.declared.delivery.Opening.{Opening}
 use Rattle.lq_subscription.specs.Rule.{floor_of, query_of, messages_in, mark_in, IsMark}

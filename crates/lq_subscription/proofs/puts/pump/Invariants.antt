@@ -1,4 +1,3 @@
-use Rattle.std.proofs.Common.{◌≡◌}
 use Rattle.lq_subscription.specs.Standing.{StandsAt, SameButPuts, left}
 use Rattle.lq_subscription.proofs.puts.pump.Given as goal
 

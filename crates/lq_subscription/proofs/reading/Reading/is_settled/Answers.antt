@@ -1,4 +1,4 @@
-use Rattle.std.proofs.Common.{◌≡◌, true, sym, ◌∙◌, subst}
+use Rattle.std.proofs.Common.{◌≡◌, sym, ◌∙◌, subst}
 use Rattle.lq_volume.specs.Book.{state_at}
 use Rattle.lq_volume.specs.Result.{result_of}
 use Rattle.lq_subscription.specs.Rule.{query_of}

@@ -1,8 +1,6 @@
-use Rattle.std.proofs.Common.{◌≡◌, ◌++◌, [], ◌∷◌, Some, None, Bool, false, true, List, Option, sym, subst}
-use mathlib.Core.List.{IsPrefix}
+use Rattle.std.proofs.Common.{◌≡◌, Some, None, true, Option, sym, subst}
 use Rattle.lq_volume.specs.Book.{Extends}
 use Rattle.lq_update.specs.declared.message.Message.{Message}
-use Rattle.lq_subscription.specs.Rule.{whole}
 use Rattle.lq_subscription.specs.LegalList.{known_by}
 use Rattle.lq_subscription.specs.Reading.{ReadingHold, Reads, Gives, Fails, known}
 use Rattle.lq_desk.specs.declared.event.Read.TheVariants.{Update, Fin}

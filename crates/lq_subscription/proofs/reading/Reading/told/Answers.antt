@@ -1,5 +1,5 @@
 use Rattle.std.proofs.Common.{subst}
-use Rattle.lq_subscription.specs.Reading.{ReadingHold, IsTold}
+use Rattle.lq_subscription.specs.Reading.{IsTold}
 use Rattle.lq_subscription.proofs.ReadLemmas.{told_now}
 use Rattle.lq_subscription.proofs.reading.Reading.told.Goals as goal
 
