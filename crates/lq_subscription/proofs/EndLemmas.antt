@@ -29,14 +29,19 @@ use Rattle.lq_subscription.proofs.Books.{extends_self, extends_trans, extends_le
 use Rattle.lq_subscription.proofs.UpdateLemmas.{updates-add, updates-same, updates-none}
 use Rattle.lq_subscription.proofs.PutLemmas.{some_mark, not_moved}
 
+-- the two sides of a test that holds
 both_true : (a b : Bool) → (a && b) ≡ true → (a ≡ true) × (b ≡ true)
 both_true true b e = (refl, e)
 both_true false b e = absurd (cc)
 
+-- the test of less
 lt_true : (m n : ℕ) → nat_lt m n ≡ true → m < n
 lt_true m n h = grind (arith, nat_tests)
 
-over_longer : (q : Query) (mv : Bool) (o places backlog : ℕ) (book book' : Book) (e : ℕ) → IsFullBook book → Extends book' book → o ≤ e → IsOverrun q mv o places backlog book e → IsOverrun q mv o places backlog book' e
+-- an overrun stays one over each longer book
+over_longer : (q : Query) (mv : Bool) (o places backlog : ℕ) (book book' : Book) (e : ℕ)
+    → IsFullBook book → Extends book' book → o ≤ e → IsOverrun q mv o places backlog book e
+    → IsOverrun q mv o places backlog book' e
 over_longer q mv o places backlog book book' e full p le over =
     let at = over.within in
     let one = updates-same q mv book book' o e full.first p le (omega arith) in
@@ -44,24 +49,34 @@ over_longer q mv o places backlog book book' e full p le over =
     let long = extends_length book book' p in
     record {
       within = omega arith;
-      some = subst (λ (z : List Message × List Message). length z.0 < length z.1) (λ i. (sym one i, sym two i)) over.some;
+      some = subst (λ (z : List Message × List Message). length z.0 < length z.1)
+          (λ i. (sym one i, sym two i)) over.some;
       many = subst (λ (z : List Message). backlog < length z) (sym two) over.many;
-      more = subst (λ (z : List Message × List Message). length z.1 ≤ length z.0 + backlog → places + backlog < length z.1) (λ i. (sym one i, sym two i)) over.more;
+      more = subst
+          (λ (z : List Message × List Message). length z.1 ≤ length z.0 + backlog
+          → places + backlog < length z.1) (λ i. (sym one i, sym two i)) over.more;
     }
 
+-- a mark that no close set fits before the first close
 never : (u : Shut) (k : Mark) → NotClosed k.cause → ShutFits u None → ShutFits u (Some k)
 never Never k h f = h
 never (At n) k h f = absurd f
 never Late k h f = absurd f
 
-module _ (h : Held) (e : End Delivery Opening) (places : ℕ) (shut : Shut) (book : Book) (s : Stands h e places shut book) where
+module _ (h : Held) (e : End Delivery Opening) (places : ℕ) (shut : Shut) (book : Book)
+    (s : Stands h e places shut book) where
   -- an ended one stands over each longer book
-  pub longer_marked : (book' : Book) (k : Mark) → Extends book' book → IsFullBook book' → h.mark ≡ Some k → Stands h e places shut book'
+  pub longer_marked : (book' : Book) (k : Mark) → Extends book' book → IsFullBook book'
+      → h.mark ≡ Some k → Stands h e places shut book'
   longer_marked book' k p full mark =
-      let fits = some_mark h.mark k (λ k. (k.seq ≡ h.sent + 1) × (k.change ≤ length book.changes)) mark s.mark in
+      let fits =
+      some_mark h.mark k (λ k. (k.seq ≡ h.sent + 1) × (k.change ≤ length book.changes)) mark
+      s.mark in
       let within : k.change ≤ length book.changes = fits.1 in
-      let e1 : upto h.mark (length book.changes) ≡ k.change = ap (λ o. upto o (length book.changes)) mark in
-      let e2 : upto h.mark (length book'.changes) ≡ k.change = ap (λ o. upto o (length book'.changes)) mark in
+      let e1 : upto h.mark (length book.changes) ≡ k.change =
+      ap (λ o. upto o (length book.changes)) mark in
+      let e2 : upto h.mark (length book'.changes) ≡ k.change =
+      ap (λ o. upto o (length book'.changes)) mark in
       let le : h.opened ≤ k.change = subst (λ n. h.opened ≤ n) e1 s.opened in
       let long = extends_length book book' p in
       record {
@@ -71,20 +86,31 @@ module _ (h : Held) (e : End Delivery Opening) (places : ℕ) (shut : Shut) (boo
         port = s.port;
         full = full;
         later = extends_trans (known_by e.floor (all_put e)) book book' s.later p;
-        list = s.list ∙ ap (updates h.query h.moved book h.opened) e1 ∙ sym (updates-same h.query h.moved book book' h.opened k.change s.full.first p le within) ∙ ap (updates h.query h.moved book' h.opened) (sym e2);
+        list = s.list ∙ ap (updates h.query h.moved book h.opened) e1
+            ∙ sym (updates-same h.query h.moved book book' h.opened k.change s.full.first p le
+            within) ∙ ap (updates h.query h.moved book' h.opened) (sym e2);
         sent = s.sent;
         few = omega (arith, s.few);
         opened = subst (λ n. h.opened ≤ n) (e1 ∙ sym e2) s.opened;
-        mark = subst (λ o. IfSome o (λ k. (k.seq ≡ h.sent + 1) × (k.change ≤ length book'.changes))) (sym mark) (fits.0, omega arith);
+        mark = subst (λ o. IfSome o (λ k. (k.seq ≡ h.sent + 1) × (k.change ≤ length book'.changes)))
+            (sym mark) (fits.0, omega arith);
         out = s.out;
         done = s.done;
         shut = s.shut;
-        overrun = subst (λ o. IfSome o (λ k. k.cause ≡ Overrun → IsOverrun h.query h.moved h.opened places h.backlog book' k.change)) (sym mark)
-            (λ c. over_longer h.query h.moved h.opened places h.backlog book book' k.change s.full p le (some_mark h.mark k (λ k. k.cause ≡ Overrun → IsOverrun h.query h.moved h.opened places h.backlog book k.change) mark s.overrun c));
+        overrun =
+            subst (λ o. IfSome o
+            (λ k. k.cause ≡ Overrun
+            → IsOverrun h.query h.moved h.opened places h.backlog book' k.change)) (sym mark)
+            (λ c. over_longer h.query h.moved h.opened places h.backlog book book' k.change s.full p
+            le (some_mark h.mark k
+            (λ k. k.cause ≡ Overrun
+            → IsOverrun h.query h.moved h.opened places h.backlog book k.change) mark s.overrun
+            c));
       }
 
   none_out : h.mark ≡ None → h.mark_out ≡ true → ⊥
-  none_out live f = let z : IsSome {T = Mark} None = subst IsSome live (s.done f).1 in true≢false (sym z)
+  none_out live f = let z : IsSome {T = Mark} None =
+      subst IsSome live (s.done f).1 in true≢false (sym z)
 
   module _ (live : h.mark ≡ None) where
     now_is : upto h.mark (length book.changes) ≡ length book.changes
@@ -97,8 +123,12 @@ module _ (h : Held) (e : End Delivery Opening) (places : ℕ) (shut : Shut) (boo
     opened_is = subst (λ n. h.opened ≤ n) now_is s.opened
 
     -- it ends at this book, or one that goes on from it
-    ends : (book' : Book) (cause : Cause) (shut' : Shut) → Extends book' book → IsFullBook book' → ShutFits shut' (Some (record { seq = h.sent + 1; change = length book.changes; cause = cause }))
-        → (cause ≡ Overrun → IsOverrun h.query h.moved h.opened places h.backlog book' (length book.changes)) → Stands (ended_by h cause (length book.changes)) e places shut' book'
+    ends : (book' : Book) (cause : Cause) (shut' : Shut) → Extends book' book → IsFullBook book'
+        → ShutFits shut'
+        (Some (record { seq = h.sent + 1; change = length book.changes; cause = cause }))
+        → (cause ≡ Overrun
+        → IsOverrun h.query h.moved h.opened places h.backlog book' (length book.changes))
+        → Stands (ended_by h cause (length book.changes)) e places shut' book'
     ends book' cause shut' p full fits over =
         let long = extends_length book book' p in
         record {
@@ -108,24 +138,36 @@ module _ (h : Held) (e : End Delivery Opening) (places : ℕ) (shut : Shut) (boo
           port = s.port;
           full = full;
           later = extends_trans (known_by e.floor (all_put e)) book book' s.later p;
-          list = old_is ∙ sym (updates-same h.query h.moved book book' h.opened (length book.changes) s.full.first p opened_is (omega arith));
+          list = old_is
+              ∙ sym (updates-same h.query h.moved book book' h.opened (length book.changes)
+              s.full.first p opened_is (omega arith));
           sent = s.sent;
           few = omega (arith, s.few);
           opened = opened_is;
           mark = (refl, omega arith);
-          out = s.out ∙ not_moved h.mark_out h.mark (none_out live) ∙ sym (not_moved h.mark_out (Some (record { seq = h.sent + 1; change = length book.changes; cause = cause })) (none_out live));
+          out = s.out ∙ not_moved h.mark_out h.mark (none_out live)
+              ∙ sym (not_moved h.mark_out
+              (Some (record { seq = h.sent + 1; change = length book.changes; cause = cause }))
+              (none_out live));
           done = λ f. absurd (none_out live f);
           shut = fits;
           overrun = over;
         }
 
     pub ends_hung : Stands (ended_by h HungUp (length book.changes)) e places shut book
-    ends_hung = ends book HungUp shut (extends_self book) s.full (never shut (record { seq = h.sent + 1; change = length book.changes; cause = HungUp }) tt (subst (ShutFits shut) live s.shut)) (λ c. absurd (cc))
+    ends_hung =
+        ends book HungUp shut (extends_self book) s.full
+        (never shut (record { seq = h.sent + 1; change = length book.changes; cause = HungUp }) tt
+        (subst (ShutFits shut) live s.shut)) (λ c. absurd (cc))
 
-    pub ends_closed : Stands (ended_by h Closed (length book.changes)) e places (At (length book.changes)) book
-    ends_closed = ends book Closed (At (length book.changes)) (extends_self book) s.full (refl, refl) (λ c. absurd (cc))
+    pub ends_closed : Stands (ended_by h Closed (length book.changes)) e places
+        (At (length book.changes)) book
+    ends_closed =
+        ends book Closed (At (length book.changes)) (extends_self book) s.full (refl, refl)
+        (λ c. absurd (cc))
 
-    module _ (c : Change) (full' : IsFullBook (grown book (c ∷ []))) (three : length (step_of h.query h.moved (state_of book) c (h.sent + 1)) ≤ 3) where
+    module _ (c : Change) (full' : IsFullBook (grown book (c ∷ [])))
+        (three : length (step_of h.query h.moved (state_of book) c (h.sent + 1)) ≤ 3) where
       abbrev more : List Message
       more = step_of h.query h.moved (state_of book) c (h.sent + 1)
 
@@ -137,13 +179,17 @@ module _ (h : Held) (e : End Delivery Opening) (places : ℕ) (shut : Shut) (boo
 
       now : updates h.query h.moved book' h.opened (length book.changes + 1) ≡ given h e ++ more
       now =
-          let count : length (updates h.query h.moved book h.opened (length book.changes)) + 1 ≡ h.sent + 1 = ap (λ n. n + 1) (sym (s.sent ∙ ap (length {A = Message}) old_is)) in
-          updates-add h.query h.moved book c h.opened s.full.first opened_is ∙ (λ i. sym old_is i ++ step_of h.query h.moved (state_of book) c (count i))
+          let count : length (updates h.query h.moved book h.opened (length book.changes)) + 1
+          ≡ h.sent + 1 = ap (λ n. n + 1) (sym (s.sent ∙ ap (length {A = Message}) old_is)) in
+          updates-add h.query h.moved book c h.opened s.full.first opened_is
+          ∙ (λ i. sym old_is i ++ step_of h.query h.moved (state_of book) c (count i))
 
       goes_on : Stands (with_messages h more) e places shut book'
       goes_on =
-          let e2 : upto h.mark (length book'.changes) ≡ length book.changes + 1 = ap (λ o. upto o (length book'.changes)) live ∙ long in
-          let all : given (with_messages h more) e ≡ given h e ++ more = sym (append_assoc (messages_in (all_put e)) h.messages more) in
+          let e2 : upto h.mark (length book'.changes) ≡ length book.changes + 1 =
+          ap (λ o. upto o (length book'.changes)) live ∙ long in
+          let all : given (with_messages h more) e ≡ given h e ++ more =
+          sym (append_assoc (messages_in (all_put e)) h.messages more) in
           record {
             query = s.query;
             moves = s.moves;
@@ -152,47 +198,70 @@ module _ (h : Held) (e : End Delivery Opening) (places : ℕ) (shut : Shut) (boo
             full = full';
             later = extends_trans (known_by e.floor (all_put e)) book book' s.later (c ∷ [], refl);
             list = all ∙ sym now ∙ ap (updates h.query h.moved book' h.opened) (sym e2);
-            sent = ap (λ n. n + length more) s.sent ∙ sym (length-append (given h e) more) ∙ ap (length {A = Message}) (sym all);
+            sent = ap (λ n. n + length more) s.sent ∙ sym (length-append (given h e) more)
+                ∙ ap (length {A = Message}) (sym all);
             few = omega (arith, s.few, three, long);
             opened = subst (λ n. h.opened ≤ n) (sym e2) (omega (arith, opened_is));
-            mark = subst (λ o. IfSome o (λ k. (k.seq ≡ h.sent + length more + 1) × (k.change ≤ length book'.changes))) (sym live) tt;
+            mark = subst
+                (λ o. IfSome o
+                (λ k. (k.seq ≡ h.sent + length more + 1) × (k.change ≤ length book'.changes)))
+                (sym live) tt;
             out = s.out;
             done = λ f. absurd (none_out live f);
             shut = s.shut;
-            overrun = subst (λ o. IfSome o (λ k. k.cause ≡ Overrun → IsOverrun h.query h.moved h.opened places h.backlog book' k.change)) (sym live) tt;
+            overrun =
+                subst (λ o. IfSome o
+                (λ k. k.cause ≡ Overrun
+                → IsOverrun h.query h.moved h.opened places h.backlog book' k.change)) (sym live)
+                tt;
           }
 
       module _ (filled : 0 < length h.messages → places ≤ length (messages_in (all_put e))) where
-        over_is : 0 < length more → h.backlog < length h.messages + length more → IsOverrun h.query h.moved h.opened places h.backlog book' (length book.changes)
+        over_is : 0 < length more → h.backlog < length h.messages + length more
+            → IsOverrun h.query h.moved h.opened places h.backlog book' (length book.changes)
         over_is some many =
             let front : updates h.query h.moved book' h.opened (length book.changes) ≡ given h e =
-            updates-same h.query h.moved book book' h.opened (length book.changes) s.full.first (c ∷ [], refl) opened_is (omega arith) ∙ sym old_is in
-            let a : length (updates h.query h.moved book' h.opened (length book.changes)) ≡ length (messages_in (all_put e)) + length h.messages =
+            updates-same h.query h.moved book book' h.opened (length book.changes) s.full.first
+            (c ∷ [], refl) opened_is (omega arith) ∙ sym old_is in
+            let a : length (updates h.query h.moved book' h.opened (length book.changes))
+            ≡ length (messages_in (all_put e)) + length h.messages =
             ap (length {A = Message}) front ∙ length-append (messages_in (all_put e)) h.messages in
-            let b : length (updates h.query h.moved book' h.opened (length book.changes + 1)) ≡ length (messages_in (all_put e)) + length h.messages + length more =
-            ap (length {A = Message}) now ∙ length-append (given h e) more ∙ ap (λ n. n + length more) (length-append (messages_in (all_put e)) h.messages) in
+            let b : length (updates h.query h.moved book' h.opened (length book.changes + 1))
+            ≡ length (messages_in (all_put e)) + length h.messages + length more =
+            ap (length {A = Message}) now ∙ length-append (given h e) more
+            ∙ ap (λ n. n + length more) (length-append (messages_in (all_put e)) h.messages) in
             record {
               within = omega (arith, long);
               some = omega arith;
               many = omega arith;
-              more = λ le. let room : places ≤ length (messages_in (all_put e)) = filled (omega arith) in omega arith;
+              more = λ le. let room : places ≤ length (messages_in (all_put e)) =
+                  filled (omega arith) in omega arith;
             }
 
-        by_test : (b : Bool) → overruns h more ≡ b → Stands (told_if h more (length book.changes) b) e places shut book'
+        by_test : (b : Bool) → overruns h more ≡ b
+            → Stands (told_if h more (length book.changes) b) e places shut book'
         by_test true test =
             let t = both_true _ _ test in
-            ends book' Overrun shut (c ∷ [], refl) full' (never shut (record { seq = h.sent + 1; change = length book.changes; cause = Overrun }) tt (subst (ShutFits shut) live s.shut)) (λ _. over_is (lt_true _ _ t.0) (lt_true _ _ t.1))
+            ends book' Overrun shut (c ∷ [], refl) full'
+            (never shut
+            (record { seq = h.sent + 1; change = length book.changes; cause = Overrun }) tt
+            (subst (ShutFits shut) live s.shut))
+            (λ _. over_is (lt_true _ _ t.0) (lt_true _ _ t.1))
         by_test false test = goes_on
 
         pub told_stands : Stands (told h more (length book.changes)) e places shut book'
         told_stands = by_test (overruns h more) refl
 
 -- a new one
-pub stands_new : (q : Query) (mv : Bool) (backlog : ℕ) (e : End Delivery Opening) (places : ℕ) (book : Book) → e.taken ≡ [] → e.ahead ≡ [] → floor_of e.floor ≡ book → query_of e.floor ≡ q → e.floor.moved ≡ mv
-    → e.floor.opened ≡ length book.changes → e.places ≡ places → IsFullBook book → Stands (opened_with q mv (length book.changes) backlog) e places Never book
+pub stands_new : (q : Query) (mv : Bool) (backlog : ℕ) (e : End Delivery Opening) (places : ℕ)
+    (book : Book) → e.taken ≡ [] → e.ahead ≡ [] → floor_of e.floor ≡ book → query_of e.floor ≡ q
+    → e.floor.moved ≡ mv
+    → e.floor.opened ≡ length book.changes → e.places ≡ places → IsFullBook book
+    → Stands (opened_with q mv (length book.changes) backlog) e places Never book
 stands_new q mv backlog e places book taken ahead floor query moves opening port full =
     let put : all_put e ≡ [] = λ i. taken i ++ ahead i in
-    let none : given (opened_with q mv (length book.changes) backlog) e ≡ [] = λ i. messages_in (put i) ++ [] in
+    let none : given (opened_with q mv (length book.changes) backlog) e ≡ [] =
+    λ i. messages_in (put i) ++ [] in
     record {
       query = query;
       moves = moves;
@@ -211,15 +280,19 @@ stands_new q mv backlog e places book taken ahead floor query moves opening port
       overrun = tt;
     }
 
+-- there is a mark, where the test says so
 pub some_there : (o : Option Mark) → is_none o ≡ false → (k : Mark) × (o ≡ Some k)
 some_there (Some k) e = (k, refl)
 some_there None e = absurd (cc)
 
+-- and none, where it says that
 pub none_there : (o : Option Mark) → is_none o ≡ true → o ≡ None
 none_there (Some k) e = absurd (cc)
 none_there None e = refl
 
-pub first_answer : (u : Shut) (o : Option Mark) (n : ℕ) → o ≡ None → ShutFits u o → At n ≡ first_close u true n
+-- the answer of the first close, where it ended the subscription
+pub first_answer : (u : Shut) (o : Option Mark) (n : ℕ) → o ≡ None → ShutFits u o
+    → At n ≡ first_close u true n
 first_answer u o n e f = at u (subst (ShutFits u) e f)
   where
     at : (u : Shut) → ShutFits u None → At n ≡ first_close u true n
@@ -227,20 +300,30 @@ first_answer u o n e f = at u (subst (ShutFits u) e f)
     at (At m) f = absurd f
     at Late f = absurd f
 
+-- the messages of a change are made
 pub ready_of : (s : State) (c : Change) (p q : Prepared) → q ≡ prepared s c p → IsReady q s c
 ready_of s c p q e = subst (λ (z : Prepared). IsReady z s c) (sym e) (λ _. (refl, refl))
 
+-- a fact of an Ok gives another
 pub on_ok : {A E : Type 0} (r : Result A E) (P Q : Type 0) → OnOk r P → (P → Q) → OnOk r Q
 on_ok (Ok a) P Q h f = f h
 on_ok (Err e) P Q h f = tt
 
 -- a commit makes it stand over the book with the change
-pub committed_stands : (p q : Prepared) (e : End Delivery Opening) (places : ℕ) (shut : Shut) (book : Book) (c : Change) → p.held.mark ≡ None → q ≡ committed p → StepsAreFew
-    → (0 < length p.held.messages → places ≤ length (messages_in (all_put e))) → Stands p.held e places shut book → IsReady p (state_of book) c → IsLawful (state_of book) c → IsFullBook (grown book (c ∷ []))
+pub committed_stands : (p q : Prepared) (e : End Delivery Opening) (places : ℕ) (shut : Shut)
+    (book : Book) (c : Change) → p.held.mark ≡ None → q ≡ committed p → StepsAreFew
+    → (0 < length p.held.messages → places ≤ length (messages_in (all_put e)))
+    → Stands p.held e places shut book → IsReady p (state_of book) c
+    → IsLawful (state_of book) c → IsFullBook (grown book (c ∷ []))
     → Stands q.held e places shut (grown book (c ∷ []))
 committed_stands p q e places shut book c live is few filled s ready lawful full =
     let r = ready live in
-    let three = few p.held.query p.held.moved (state_of book) c (p.held.sent + 1) s.full.state lawful in
-    let t : Stands (told p.held (step_of p.held.query p.held.moved (state_of book) c (p.held.sent + 1)) (length book.changes)) e places shut (grown book (c ∷ [])) =
+    let three =
+    few p.held.query p.held.moved (state_of book) c (p.held.sent + 1) s.full.state lawful in
+    let t : Stands
+    (told p.held (step_of p.held.query p.held.moved (state_of book) c (p.held.sent + 1))
+    (length book.changes)) e places shut (grown book (c ∷ [])) =
     told_stands p.held e places shut book s live c full three filled in
-    subst (λ (h : Held). Stands h e places shut (grown book (c ∷ []))) (sym (ap (λ (z : Prepared). z.held) is ∙ (λ i. told p.held (r.0 i) ((r.1 ∙ s.full.number) i)))) t
+    subst (λ (h : Held). Stands h e places shut (grown book (c ∷ [])))
+    (sym (ap (λ (z : Prepared). z.held) is
+    ∙ (λ i. told p.held (r.0 i) ((r.1 ∙ s.full.number) i)))) t

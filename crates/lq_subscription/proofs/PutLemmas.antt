@@ -29,48 +29,73 @@ abbrev NextIs : List Message → Option Mark → Bool → Parcel → Type 0
 NextIs ms mark out (Update m) = ms ≡ m ∷ drop 1 ms
 NextIs ms mark out (Fin k) = (ms ≡ []) × (mark ≡ Some k) × (out ≡ false)
 
+-- what is in two equal options is equal
 some_same : {A : Type 0} (x y : A) → Some x ≡ Some y → x ≡ y
 some_same x y e = cc
 
-next_is : (ms : List Message) (mark : Option Mark) (out : Bool) (p : Parcel) → next_of ms mark out ≡ Some p → NextIs ms mark out p
+-- the next parcel, by what is held
+next_is : (ms : List Message) (mark : Option Mark) (out : Bool) (p : Parcel)
+    → next_of ms mark out ≡ Some p → NextIs ms mark out p
 next_is (m ∷ ms) mark out p e = subst (NextIs (m ∷ ms) mark out) (some_same (Update m) p e) refl
 next_is [] None out p e = absurd (cc)
 next_is [] (Some k) true p e = absurd (cc)
-next_is [] (Some k) false p e = subst (NextIs [] (Some k) false) (some_same (Fin k) p e) (refl, refl, refl)
+next_is [] (Some k) false p e =
+    subst (NextIs [] (Some k) false) (some_same (Fin k) p e) (refl, refl, refl)
 
+-- a fact of the mark, where it is known
 pub some_mark : (o : Option Mark) (k : Mark) (P : Mark → Type 0) → o ≡ Some k → IfSome o P → P k
 some_mark o k P e h = subst (λ z. IfSome z P) e h
 
-upto_within : (o : Option Mark) (n : ℕ) (P : Mark → Type 0) → IfSome o (λ k. P k × (k.change ≤ n)) → upto o n ≤ n
+-- a mark's change is within the book
+upto_within : (o : Option Mark) (n : ℕ) (P : Mark → Type 0) → IfSome o (λ k. P k × (k.change ≤ n))
+    → upto o n ≤ n
 upto_within None n P h = omega arith
 upto_within (Some k) n P h = h.1
 
+-- where the mark isn't out, none was put
 pub not_moved : (b : Bool) (o : Option Mark) → (b ≡ true → ⊥) → moved_mark b o ≡ None
 not_moved true o h = absurd (h refl)
 not_moved false o h = refl
 
+-- a list with a message isn't empty
 cons_some : (m : Message) (ms : List Message) → m ∷ ms ≡ [] → ⊥
 cons_some m ms e = absurd (cc)
 
-module _ (h : Held) (d : End Delivery Opening) (places : ℕ) (shut : Shut) (book : Book) (s : Stands h d places shut book) where
+module _ (h : Held) (d : End Delivery Opening) (places : ℕ) (shut : Shut) (book : Book)
+    (s : Stands h d places shut book) where
   -- with a message held, the mark isn't out
   open_with : (m : Message) (rest : List Message) → h.messages ≡ m ∷ rest → h.mark_out ≡ true → ⊥
   open_with m rest held e = cons_some m rest (sym held ∙ (s.done e).0)
 
-  tells_update : (m : Message) → h.messages ≡ m ∷ drop 1 h.messages → Tells d.floor (messages_in (all_put d)) book (Update m)
+  tells_update : (m : Message) → h.messages ≡ m ∷ drop 1 h.messages
+      → Tells d.floor (messages_in (all_put d)) book (Update m)
   tells_update m held =
       let rest : List Message = drop 1 h.messages in
-      let here : messages_in (all_put d) ++ m ∷ [] ++ rest ≡ updates h.query h.moved book h.opened (upto h.mark (length book.changes)) =
-      append_assoc (messages_in (all_put d)) (m ∷ []) rest ∙ ap (λ l. messages_in (all_put d) ++ l) (sym held) ∙ s.list in
-      let front : IsPrefix (messages_in (all_put d) ++ m ∷ []) (updates h.query h.moved book h.opened (length book.changes)) =
-      prefix_trans _ _ _ (rest, here) (updates-front h.query h.moved book h.opened (upto h.mark (length book.changes)) (length book.changes) (upto_within h.mark (length book.changes) (λ k. k.seq ≡ h.sent + 1) s.mark)) in
-      subst (λ (t : Query × Bool × ℕ). IsPrefix (messages_in (all_put d) ++ m ∷ []) (updates t.0 t.1 book t.2 (length book.changes))) (λ i. (sym s.query i, sym s.moves i, sym s.opening i)) front
+      let here : messages_in (all_put d) ++ m ∷ [] ++ rest
+      ≡ updates h.query h.moved book h.opened (upto h.mark (length book.changes)) =
+      append_assoc (messages_in (all_put d)) (m ∷ []) rest
+      ∙ ap (λ l. messages_in (all_put d) ++ l) (sym held) ∙ s.list in
+      let front : IsPrefix (messages_in (all_put d) ++ m ∷ [])
+      (updates h.query h.moved book h.opened (length book.changes)) =
+      prefix_trans _ _ _ (rest, here)
+      (updates-front h.query h.moved book h.opened (upto h.mark (length book.changes))
+      (length book.changes)
+      (upto_within h.mark (length book.changes) (λ k. k.seq ≡ h.sent + 1) s.mark)) in
+      subst (λ (t : Query × Bool × ℕ). IsPrefix (messages_in (all_put d) ++ m ∷ [])
+      (updates t.0 t.1 book t.2 (length book.changes)))
+      (λ i. (sym s.query i, sym s.moves i, sym s.opening i)) front
 
-  tells_mark : (k : Mark) → (h.messages ≡ []) × (h.mark ≡ Some k) × (h.mark_out ≡ false) → IsMark d.floor (messages_in (all_put d)) book k
+  tells_mark : (k : Mark) → (h.messages ≡ []) × (h.mark ≡ Some k) × (h.mark_out ≡ false)
+      → IsMark d.floor (messages_in (all_put d)) book k
   tells_mark k n =
-      let fits = some_mark h.mark k (λ k. (k.seq ≡ h.sent + 1) × (k.change ≤ length book.changes)) n.1 s.mark in
-      let same : given h d ≡ messages_in (all_put d) = ap (λ l. messages_in (all_put d) ++ l) n.0 ∙ append-nil (messages_in (all_put d)) in
-      let all : messages_in (all_put d) ≡ updates h.query h.moved book h.opened k.change = sym same ∙ s.list ∙ ap (λ o. updates h.query h.moved book h.opened (upto o (length book.changes))) n.1 in
+      let fits =
+      some_mark h.mark k (λ k. (k.seq ≡ h.sent + 1) × (k.change ≤ length book.changes)) n.1
+      s.mark in
+      let same : given h d ≡ messages_in (all_put d) =
+      ap (λ l. messages_in (all_put d) ++ l) n.0 ∙ append-nil (messages_in (all_put d)) in
+      let all : messages_in (all_put d) ≡ updates h.query h.moved book h.opened k.change =
+      sym same ∙ s.list
+      ∙ ap (λ o. updates h.query h.moved book h.opened (upto o (length book.changes))) n.1 in
       record {
         all = all ∙ (λ i. updates (sym s.query i) (sym s.moves i) book (sym s.opening i) k.change);
         seq = fits.0 ∙ ap (λ n. n + 1) (s.sent ∙ ap (length {A = Message}) same);
@@ -83,55 +108,71 @@ module _ (h : Held) (d : End Delivery Opening) (places : ℕ) (shut : Shut) (boo
   unput (Update m) n = s.out ∙ not_moved h.mark_out h.mark (open_with m (drop 1 h.messages) n)
   unput (Fin k) n = s.out ∙ ap (λ b. moved_mark b h.mark) n.2
 
-  tells : (p : Parcel) → NextIs h.messages h.mark h.mark_out p → Tells d.floor (messages_in (all_put d)) book p
+  tells : (p : Parcel) → NextIs h.messages h.mark h.mark_out p
+      → Tells d.floor (messages_in (all_put d)) book p
   tells (Update m) n = tells_update m n
   tells (Fin k) n = tells_mark k n
 
   -- the next parcel may be put
-  pub may_put : (p : Parcel) (x : Delivery) → next_parcel h ≡ Some p → x.what ≡ p → book_of x ≡ book → MayFollow (all_put d) d.floor x
+  pub may_put : (p : Parcel) (x : Delivery) → next_parcel h ≡ Some p → x.what ≡ p → book_of x ≡ book
+      → MayFollow (all_put d) d.floor x
   may_put p x next is at =
       let n = next_is h.messages h.mark h.mark_out p next in
       record {
         later = subst (λ (b : Book). Extends b (known_by d.floor (all_put d))) (sym at) s.later;
         full = subst IsFullBook (sym at) s.full;
         open_yet = unput p n;
-        tells = subst (λ (t : Book × Parcel). Tells d.floor (messages_in (all_put d)) t.0 t.1) (λ i. (sym at i, sym is i)) (tells p n);
+        tells = subst (λ (t : Book × Parcel). Tells d.floor (messages_in (all_put d)) t.0 t.1)
+            (λ i. (sym at i, sym is i)) (tells p n);
       }
 
   same_held : (p : Parcel) → SameHeld h (without h (Some p))
-  same_held (Update m) = record { query = refl; moved = refl; opened = refl; backlog = refl; sent = refl; mark = refl }
-  same_held (Fin k) = record { query = refl; moved = refl; opened = refl; backlog = refl; sent = refl; mark = refl }
+  same_held (Update m) =
+      record { query = refl; moved = refl; opened = refl; backlog = refl; sent = refl; mark = refl }
+  same_held (Fin k) =
+      record { query = refl; moved = refl; opened = refl; backlog = refl; sent = refl; mark = refl }
 
-  messages_then : (p : Parcel) → NextIs h.messages h.mark h.mark_out p → message_of p ++ (without h (Some p)).messages ≡ h.messages
+  messages_then : (p : Parcel) → NextIs h.messages h.mark h.mark_out p
+      → message_of p ++ (without h (Some p)).messages ≡ h.messages
   messages_then (Update m) n = sym n
   messages_then (Fin k) n = refl
 
-  out_then : (p : Parcel) → NextIs h.messages h.mark h.mark_out p → mark_or p None ≡ moved_mark (without h (Some p)).mark_out (without h (Some p)).mark
+  out_then : (p : Parcel) → NextIs h.messages h.mark h.mark_out p
+      → mark_or p None ≡ moved_mark (without h (Some p)).mark_out (without h (Some p)).mark
   out_then (Update m) n = sym (not_moved h.mark_out h.mark (open_with m (drop 1 h.messages) n))
   out_then (Fin k) n = sym n.1
 
-  done_then : (p : Parcel) → NextIs h.messages h.mark h.mark_out p → (without h (Some p)).mark_out ≡ true → ((without h (Some p)).messages ≡ []) × IsSome (without h (Some p)).mark
+  done_then : (p : Parcel) → NextIs h.messages h.mark h.mark_out p
+      → (without h (Some p)).mark_out ≡ true → ((without h (Some p)).messages ≡ [])
+      × IsSome (without h (Some p)).mark
   done_then (Update m) n e = absurd (open_with m (drop 1 h.messages) n e)
   done_then (Fin k) n e = (n.0, subst IsSome (sym n.1) refl)
 
-  left_then : (p : Parcel) → NextIs h.messages h.mark h.mark_out p → left_of (without h (Some p)) < left_of h
-  left_then (Update m) n = let long : length h.messages ≡ suc (length (drop 1 h.messages)) = ap (length {A = Message}) n in omega arith
+  left_then : (p : Parcel) → NextIs h.messages h.mark h.mark_out p
+      → left_of (without h (Some p)) < left_of h
+  left_then (Update m) n = let long : length h.messages ≡ suc (length (drop 1 h.messages)) =
+      ap (length {A = Message}) n in omega arith
   left_then (Fin k) n =
       let now : mark_left h.mark_out ≡ 1 = ap mark_left n.2 in
       let none : length h.messages ≡ 0 = ap (length {A = Message}) n.0 in
       omega arith
 
-  module _ (e : End Delivery Opening) (p : Parcel) (x : Delivery) (next : next_parcel h ≡ Some p) (is : x.what ≡ p) (at : book_of x ≡ book) (port : IsSamePort d e) (gains : Gains d x e) where
+  module _ (e : End Delivery Opening) (p : Parcel) (x : Delivery) (next : next_parcel h ≡ Some p)
+      (is : x.what ≡ p) (at : book_of x ≡ book) (port : IsSamePort d e) (gains : Gains d x e) where
     all_then : all_put e ≡ all_put d ++ x ∷ []
     all_then = (λ i. gains.0 i ++ gains.1 i) ∙ sym (append_assoc d.taken d.ahead (x ∷ []))
 
     put_messages : messages_in (all_put e) ≡ messages_in (all_put d) ++ message_of p
-    put_messages = ap messages_in all_then ∙ messages_in-snoc (all_put d) x ∙ ap (λ z. messages_in (all_put d) ++ message_of z) is
+    put_messages =
+        ap messages_in all_then ∙ messages_in-snoc (all_put d) x
+        ∙ ap (λ z. messages_in (all_put d) ++ message_of z) is
 
     pub given_then : given (without h (Some p)) e ≡ given h d
     given_then =
-        ap (λ l. l ++ (without h (Some p)).messages) put_messages ∙ append_assoc (messages_in (all_put d)) (message_of p) (without h (Some p)).messages
-        ∙ ap (λ l. messages_in (all_put d) ++ l) (messages_then p (next_is h.messages h.mark h.mark_out p next))
+        ap (λ l. l ++ (without h (Some p)).messages) put_messages
+        ∙ append_assoc (messages_in (all_put d)) (message_of p) (without h (Some p)).messages
+        ∙ ap (λ l. messages_in (all_put d) ++ l)
+        (messages_then p (next_is h.messages h.mark h.mark_out p next))
 
     -- a parcel was put, and the list of what is put and held stays
     pub put_stands : Stands (without h (Some p)) e places shut book
@@ -144,16 +185,30 @@ module _ (h : Held) (d : End Delivery Opening) (places : ℕ) (shut : Shut) (boo
           opening = ap (λ (f : Opening). f.opened) port.2 ∙ s.opening ∙ sym r.opened;
           port = port.1 ∙ s.port;
           full = s.full;
-          later = subst (Extends book) (sym (ap (known_by e.floor) all_then ∙ last_book-snoc (floor_of e.floor) (all_put d) x ∙ at)) (extends_self book);
-          list = given_then ∙ s.list ∙ (λ i. updates (sym r.query i) (sym r.moved i) book (sym r.opened i) (upto (sym r.mark i) (length book.changes)));
+          later = subst (Extends book)
+              (sym (ap (known_by e.floor) all_then ∙ last_book-snoc (floor_of e.floor) (all_put d) x
+              ∙ at)) (extends_self book);
+          list = given_then ∙ s.list
+              ∙ (λ i. updates (sym r.query i) (sym r.moved i) book (sym r.opened i)
+              (upto (sym r.mark i) (length book.changes)));
           sent = r.sent ∙ s.sent ∙ sym (ap (length {A = Message}) given_then);
           few = subst (λ n. n ≤ 3 * length book.changes) (sym r.sent) s.few;
-          opened = subst (λ (z : ℕ × Option Mark). z.0 ≤ upto z.1 (length book.changes)) (λ i. (sym r.opened i, sym r.mark i)) s.opened;
-          mark = subst (λ (z : ℕ × Option Mark). IfSome z.1 (λ k. (k.seq ≡ z.0 + 1) × (k.change ≤ length book.changes))) (λ i. (sym r.sent i, sym r.mark i)) s.mark;
-          out = ap mark_in all_then ∙ mark_in-append (all_put d) (x ∷ []) (unput p n) ∙ ap (λ z. mark_or z None) is ∙ out_then p n;
+          opened = subst (λ (z : ℕ × Option Mark). z.0 ≤ upto z.1 (length book.changes))
+              (λ i. (sym r.opened i, sym r.mark i)) s.opened;
+          mark = subst
+              (λ (z : ℕ × Option Mark). IfSome z.1
+              (λ k. (k.seq ≡ z.0 + 1) × (k.change ≤ length book.changes)))
+              (λ i. (sym r.sent i, sym r.mark i)) s.mark;
+          out = ap mark_in all_then ∙ mark_in-append (all_put d) (x ∷ []) (unput p n)
+              ∙ ap (λ z. mark_or z None) is ∙ out_then p n;
           done = done_then p n;
-          shut = subst (λ o. Rattle.lq_subscription.specs.Standing.ShutFits shut o) (sym r.mark) s.shut;
-          overrun = subst (λ (z : Query × Bool × ℕ × ℕ × Option Mark). IfSome z.4 (λ k. k.cause ≡ Overrun → IsOverrun z.0 z.1 z.2 places z.3 book k.change)) (λ i. (sym r.query i, sym r.moved i, sym r.opened i, sym r.backlog i, sym r.mark i)) s.overrun;
+          shut = subst (λ o. Rattle.lq_subscription.specs.Standing.ShutFits shut o) (sym r.mark)
+              s.shut;
+          overrun =
+              subst (λ (z : Query × Bool × ℕ × ℕ × Option Mark). IfSome z.4
+              (λ k. k.cause ≡ Overrun → IsOverrun z.0 z.1 z.2 places z.3 book k.change))
+              (λ i. (sym r.query i, sym r.moved i, sym r.opened i, sym r.backlog i, sym r.mark i))
+              s.overrun;
         }
 
     pub put_same : SameHeld h (without h (Some p))
@@ -166,23 +221,28 @@ module _ (h : Held) (d : End Delivery Opening) (places : ℕ) (shut : Shut) (boo
 pub none_next : (h : Held) → next_parcel h ≡ None → IsOut h
 none_next h e = at h.messages h.mark h.mark_out e
   where
-    at : (ms : List Message) (mark : Option Mark) (out : Bool) → next_of ms mark out ≡ None → (ms ≡ []) × ((mark ≡ None) ⊎ (out ≡ true))
+    at : (ms : List Message) (mark : Option Mark) (out : Bool) → next_of ms mark out ≡ None
+        → (ms ≡ []) × ((mark ≡ None) ⊎ (out ≡ true))
     at (m ∷ ms) mark out e = absurd (cc)
     at [] None out e = (refl, inl refl)
     at [] (Some k) true e = (refl, inr refl)
     at [] (Some k) false e = absurd (cc)
 
 -- only what is known to be taken differs
-pub same_put : (h : Held) (d e : End Delivery Opening) (places : ℕ) (shut : Shut) (book : Book) → IsSamePort d e → all_put e ≡ all_put d → Stands h d places shut book → Stands h e places shut book
+pub same_put : (h : Held) (d e : End Delivery Opening) (places : ℕ) (shut : Shut) (book : Book)
+    → IsSamePort d e → all_put e ≡ all_put d → Stands h d places shut book
+    → Stands h e places shut book
 same_put h d e places shut book port put s =
-    let same : given h e ≡ given h d = ap (λ (ps : List Delivery). messages_in ps ++ h.messages) put in
+    let same : given h e ≡ given h d =
+    ap (λ (ps : List Delivery). messages_in ps ++ h.messages) put in
     record {
       query = ap query_of port.2 ∙ s.query;
       moves = ap (λ (f : Opening). f.moved) port.2 ∙ s.moves;
       opening = ap (λ (f : Opening). f.opened) port.2 ∙ s.opening;
       port = port.1 ∙ s.port;
       full = s.full;
-      later = subst (λ (z : Opening × List Delivery). Extends book (known_by z.0 z.1)) (λ i. (sym port.2 i, sym put i)) s.later;
+      later = subst (λ (z : Opening × List Delivery). Extends book (known_by z.0 z.1))
+          (λ i. (sym port.2 i, sym put i)) s.later;
       list = same ∙ s.list;
       sent = s.sent ∙ sym (ap (length {A = Message}) same);
       few = s.few;
@@ -194,9 +254,12 @@ same_put h d e places shut book port put s =
       overrun = s.overrun;
     }
 
+-- a subscription is as itself
 pub held_self : (h : Held) → SameHeld h h
-held_self h = record { query = refl; moved = refl; opened = refl; backlog = refl; sent = refl; mark = refl }
+held_self h =
+    record { query = refl; moved = refl; opened = refl; backlog = refl; sent = refl; mark = refl }
 
+-- two puts one after the other
 pub alike_trans : (s t u : Subscription) → SameButPuts s t → SameButPuts t u → SameButPuts s u
 alike_trans s t u a b = record {
   port = (b.port.0 ∙ a.port.0, b.port.1 ∙ a.port.1, b.port.2 ∙ a.port.2);
@@ -219,4 +282,5 @@ pub held_unmarked : (h : Held) (e : End Delivery Opening) (places : ℕ) (answer
     → Stands h e places answer book → 0 < length h.messages → mark_in (all_put e) ≡ None
 held_unmarked h e places answer book stands some =
     stands.out ∙ not_moved h.mark_out h.mark
-    (λ out. let none : length h.messages ≡ 0 = ap (length {A = Message}) (stands.done out).0 in absurd (omega arith))
+    (λ out. let none : length h.messages ≡ 0 =
+    ap (length {A = Message}) (stands.done out).0 in absurd (omega arith))

@@ -10,6 +10,7 @@ use Rattle.lq_subscription.specs.declared.identity.Identity.{Identity}
 use Rattle.lq_subscription.specs.declared.subscription.Subscription.{Subscription}
 use Rattle.lq_subscription.specs.contracts.delivery.Delivery as delivery
 
+-- the code of a port's name
 abbrev pub name_coded : Coded (PortName Delivery)
 name_coded = coded× table_id_coded (badge.the_row (key.the_row delivery.the_row)).coded
 
@@ -31,6 +32,7 @@ identity_of s =
       port = port_id s.input.port;
     }
 
+-- each port has a value of its own
 pub port_id_inj : (m n : PortName Delivery) → port_id m ≡ port_id n → m ≡ n
 unfolding port_id
 port_id_inj m n e = name_coded.inj m n e

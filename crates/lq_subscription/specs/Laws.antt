@@ -17,7 +17,8 @@ use Rattle.lq_subscription.specs.Standing.{Stands}
 -- the updates of a port's rule are the update list
 abbrev pub UpdatesAreUpdateLists : Type 0
 UpdatesAreUpdateLists =
-    (q : Query) (moved : Bool) (b : Book) (m n : ℕ) → updates q moved b m n ≡ updates_of q moved b m n
+    (q : Query) (moved : Bool) (b : Book) (m n : ℕ)
+    → updates q moved b m n ≡ updates_of q moved b m n
 
 -- a book extends itself
 abbrev pub BooksExtendThemselves : Type 0
@@ -29,7 +30,8 @@ BooksExtendOn = (b c d : Book) → Extends c b → Extends d c → Extends d b
 
 -- the messages of two lists of parcels one after the other
 abbrev pub MessagesAreJoined : Type 0
-MessagesAreJoined = (ps qs : List Delivery) → messages_in (ps ++ qs) ≡ messages_in ps ++ messages_in qs
+MessagesAreJoined =
+    (ps qs : List Delivery) → messages_in (ps ++ qs) ≡ messages_in ps ++ messages_in qs
 
 -- the mark of two lists of parcels, where the first has none
 abbrev pub MarksComeLast : Type 0
@@ -37,7 +39,8 @@ MarksComeLast = (ps qs : List Delivery) → mark_in ps ≡ None → mark_in (ps 
 
 -- the book known by parcels is that of the last
 abbrev pub LastBooksAreKnown : Type 0
-LastBooksAreKnown = (b : Book) (ps : List Delivery) (x : Delivery) → last_book b (ps ++ x ∷ []) ≡ book_of x
+LastBooksAreKnown =
+    (b : Book) (ps : List Delivery) (x : Delivery) → last_book b (ps ++ x ∷ []) ≡ book_of x
 
 -- while a message is held, no mark was put
 abbrev pub MessagesComeBeforeMarks : Type 0

@@ -11,6 +11,7 @@ use Rattle.lq_subscription.specs.Rule.{floor_of, messages_in, mark_in, last_book
 abbrev pub known_by : Opening → List Delivery → Book
 known_by f ps = last_book (floor_of f) ps
 
+-- the last book extends the floor, the messages are a front of its updates, and a mark is last
 pub record LegalList (f : Opening) (ps : List Delivery) : Type 0 where
   pub opening : f.opened ≡ length (floor_of f).changes
   pub later : Extends (known_by f ps) (floor_of f)

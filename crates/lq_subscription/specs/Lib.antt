@@ -1,3 +1,4 @@
+-- Begin with Rule, then LegalList, Standing and Reading.
 pub mod Updates
 pub mod Rule
 pub mod LegalList

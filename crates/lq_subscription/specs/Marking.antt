@@ -6,6 +6,7 @@ use Rattle.lq_update.specs.declared.mark.Mark.{Mark}
 use Rattle.lq_update.specs.declared.mark.Cause.{Cause}
 use Rattle.lq_update.specs.declared.mark.Cause.TheVariants.{Closed, HungUp, Overrun}
 
+-- the cause that a reader's asking gives
 abbrev pub IsHung : Cause → Type 0
 IsHung Closed = ⊥
 IsHung HungUp = Unit {0}

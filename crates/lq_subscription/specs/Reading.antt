@@ -25,8 +25,10 @@ pub record ReadingHold : Type 0 where
 abbrev pub opening_of : Opening → Folding
 opening_of f = opened_at f.opened (result_of (query_of f) (state_of (floor_of f)))
 
--- what was received is what the port told, but for the message in hand; it is folded
-pub record Reads (e : End Delivery Opening) (result : Folding) (hand : Option Message) (ended : Bool) : Type 0 where
+-- what was received is what the port gave, but for the message in hand; it is folded
+pub record Reads
+    (e : End Delivery Opening) (result : Folding) (hand : Option Message) (ended : Bool)
+    : Type 0 where
   pub got : List Message
   pub legal_list : LegalList e.floor e.taken
   pub all : messages_in e.taken ≡ got ++ option_to_list hand
@@ -38,10 +40,13 @@ pub record Reads (e : End Delivery Opening) (result : Folding) (hand : Option Me
 abbrev pub known : ReadingHold → Book
 known r = known_by r.port.floor r.port.taken
 
--- what it received
+-- what it received: what was taken, but for the message in hand
 abbrev pub received : ReadingHold → List Message
-received r = take (length (messages_in r.port.taken) - length (option_to_list r.hand)) (messages_in r.port.taken)
+received r =
+    take (length (messages_in r.port.taken) - length (option_to_list r.hand))
+    (messages_in r.port.taken)
 
+-- the message or the mark that was put
 abbrev pub what_of : Delivery → Parcel
 what_of p = p.what
 
@@ -49,23 +54,42 @@ what_of p = p.what
 abbrev pub ready : ReadingHold → List Parcel
 ready r = map (λ m. told_update m) (option_to_list r.hand) ++ map what_of r.port.ahead
 
+-- the mark, where it was read
 abbrev pub mark_read : ReadingHold → Option Mark
 mark_read r = mark_in r.port.taken
 
+-- whether the mark was read
 abbrev pub is_marked : ReadingHold → Bool
 is_marked r = is_some (mark_read r)
 
+-- What a read leaves: a message is received, and where something was known to wait it was the
+-- front of that; the mark comes after all messages; else nothing changes.
 abbrev pub Gives : ReadingHold → ReadingHold → Read → Type 0
-Gives old new (Update m) = (received new ≡ received old ++ m ∷ []) × IsFront (ready old) (told_update m) (ready new) × (mark_read new ≡ mark_read old)
-Gives old new (Fin k) = (received new ≡ received old) × IsFront (ready old) (told_fin k) (ready new) × (mark_read old ≡ None) × (mark_read new ≡ Some k) × IsMark new.port.floor (received new) (known new) k
+Gives old new (Update m) =
+    (received new ≡ received old ++ m ∷ [])
+    × IsFront (ready old) (told_update m) (ready new)
+    × (mark_read new ≡ mark_read old)
+Gives old new (Fin k) =
+    (received new ≡ received old)
+    × IsFront (ready old) (told_fin k) (ready new)
+    × (mark_read old ≡ None)
+    × (mark_read new ≡ Some k)
+    × IsMark new.port.floor (received new) (known new) k
 Gives old new Empty = (new ≡ old) × (ready old ≡ []) × (mark_read old ≡ None)
-Gives old new Ended = (new ≡ old) × (ready old ≡ map what_of old.port.ahead) × IsSome (mark_read old)
+Gives old new Ended =
+    (new ≡ old) × (ready old ≡ map what_of old.port.ahead) × IsSome (mark_read old)
 
 -- no memory: a message is in hand, and what is known to wait begins with it
 abbrev pub Fails : ReadingHold → ReadingHold → Type 0
-Fails old new = (m : Message) × (rest : List Parcel) × (received new ≡ received old) × (ready new ≡ told_update m ∷ rest) × IsFront (ready old) (told_update m) rest × (mark_read new ≡ mark_read old)
+Fails old new =
+    (m : Message)
+    × (rest : List Parcel)
+    × (received new ≡ received old)
+    × (ready new ≡ told_update m ∷ rest)
+    × IsFront (ready old) (told_update m) rest
+    × (mark_read new ≡ mark_read old)
 
--- what is so of each reading
+-- what is so of each reading, in what contracts see of it
 pub record IsTold (r : ReadingHold) : Type 0 where
   pub legal_list : LegalList r.port.floor r.port.taken
   pub all : messages_in r.port.taken ≡ received r ++ option_to_list r.hand

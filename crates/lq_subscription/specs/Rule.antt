@@ -20,22 +20,31 @@ no_opening =
       query = record { marker = record {}; value = And no_more };
       moved = false;
       opened = 0;
-      book = record { marker = record {}; value = record { board = no_board; book = no_book; slots = [] } };
+      book =
+          record {
+            marker = record {};
+            value = record { board = no_board; book = no_book; slots = [] };
+          };
     }
 
+-- the book that goes with a parcel
 abbrev pub book_of : Delivery → Book
 book_of p = p.book.value.book
 
+-- the book at the opening
 abbrev pub floor_of : Opening → Book
 floor_of f = f.book.value.book
 
+-- the query
 abbrev pub query_of : Opening → Query
 query_of f = f.query.value
 
+-- the message of a parcel, where it is one
 abbrev pub message_of : Parcel → List Message
 message_of (Update m) = m ∷ []
 message_of (Fin k) = []
 
+-- the mark of a parcel, or else another
 abbrev pub mark_or : Parcel → Option Mark → Option Mark
 mark_or (Update m) o = o
 mark_or (Fin k) o = Some k
@@ -70,11 +79,13 @@ pub record IsMark (f : Opening) (messages : List Message) (book : Book) (k : Mar
   pub opened : f.opened ≤ k.change
   pub within : k.change ≤ length book.changes
 
+-- after these messages and over this book the next may be this: the next update, or the mark
 abbrev pub Tells : Opening → List Message → Book → Parcel → Type 0
 Tells f messages book (Update m) = IsPrefix (messages ++ m ∷ []) (whole f book)
 Tells f messages book (Fin k) = IsMark f messages book k
 
--- x may come after these parcels
+-- x may come after these parcels: its book extends theirs, and it is the next of the updates over
+-- that book, or the mark
 pub record MayFollow (before : List Delivery) (f : Opening) (x : Delivery) : Type 0 where
   pub later : Extends (book_of x) (last_book (floor_of f) before)
   pub full : IsFullBook (book_of x)

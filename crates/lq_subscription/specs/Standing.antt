@@ -30,14 +30,17 @@ use Rattle.lq_subscription.specs.LegalList.{known_by}
 abbrev pub given : Held → End Delivery Opening → List Message
 given h e = messages_in (all_put e) ++ h.messages
 
+-- the change up to which the subscription is told, of n
 abbrev pub upto : Option Mark → ℕ → ℕ
 upto None n = n
 upto (Some k) n = k.change
 
+-- the mark, where it was put
 abbrev pub moved_mark : Bool → Option Mark → Option Mark
 moved_mark true o = o
 moved_mark false o = None
 
+-- a cause other than a close
 abbrev pub NotClosed : Cause → Type 0
 NotClosed Closed = ⊥
 NotClosed HungUp = Unit {0}
@@ -49,15 +52,25 @@ ShutFits Never o = IfSome o (λ k. NotClosed k.cause)
 ShutFits (At n) o = IsSomeAnd o (λ k. (k.cause ≡ Closed) × (k.change ≡ n))
 ShutFits Late o = IsSomeAnd o (λ k. NotClosed k.cause)
 
--- the messages of change e + 1 were too many
-pub record IsOverrun (query : Query) (moved : Bool) (opened places backlog : ℕ) (book : Book) (e : ℕ) : Type 0 where
+-- Change e + 1 was too much: it has messages, and those up to it are more than the backlog; where
+-- it has no more than the backlog itself, they are more than port and backlog together.
+pub record IsOverrun
+    (query : Query) (moved : Bool) (opened places backlog : ℕ) (book : Book) (e : ℕ)
+    : Type 0 where
   pub within : e < length book.changes
-  pub some : length (updates query moved book opened e) < length (updates query moved book opened (e + 1))
+  pub some :
+      length (updates query moved book opened e) < length (updates query moved book opened (e + 1))
   pub many : backlog < length (updates query moved book opened (e + 1))
-  pub more : length (updates query moved book opened (e + 1)) ≤ length (updates query moved book opened e) + backlog → places + backlog < length (updates query moved book opened (e + 1))
+  pub more :
+      length (updates query moved book opened (e + 1))
+      ≤ length (updates query moved book opened e) + backlog
+      → places + backlog < length (updates query moved book opened (e + 1))
 
--- a subscription, the end of its port for puts, the port's places and the answer of its first close, over a book
-pub record Stands (h : Held) (e : End Delivery Opening) (places : ℕ) (answer : Shut) (book : Book) : Type 0 where
+-- A subscription stands over a book: what was put and then what is held are its updates over that
+-- book, up to its mark or the end; and a mark is put last and has its cause.
+pub record Stands
+    (h : Held) (e : End Delivery Opening) (places : ℕ) (answer : Shut) (book : Book)
+    : Type 0 where
   pub query : query_of e.floor ≡ h.query
   pub moves : e.floor.moved ≡ h.moved
   pub opening : e.floor.opened ≡ h.opened
@@ -72,8 +85,12 @@ pub record Stands (h : Held) (e : End Delivery Opening) (places : ℕ) (answer :
   pub out : mark_in (all_put e) ≡ moved_mark h.mark_out h.mark
   pub done : h.mark_out ≡ true → (h.messages ≡ []) × IsSome h.mark
   pub shut : ShutFits answer h.mark
-  pub overrun : IfSome h.mark (λ k. k.cause ≡ Overrun → IsOverrun h.query h.moved h.opened places h.backlog book k.change)
+  pub overrun :
+      IfSome h.mark
+      (λ k. k.cause ≡ Overrun
+      → IsOverrun h.query h.moved h.opened places h.backlog book k.change)
 
+-- and in the words of a lock's value
 abbrev pub StandsAt : Subscription → Book → Type 0
 StandsAt s book = Stands s.sub.held s.input s.places s.shut book
 
@@ -99,31 +116,37 @@ pub record SameButPuts (s t : Subscription) : Type 0 where
   pub shut : t.shut ≡ s.shut
   pub given_same : given t.sub.held t.input ≡ given s.sub.held s.input
 
--- what is left to move, at most
+-- whether the mark is left to put, as a count
 abbrev pub mark_left : Bool → ℕ
 mark_left true = 0
 mark_left false = 1
 
+-- how many parcels are left to put, at most
 abbrev pub left_of : Held → ℕ
 left_of h = length h.messages + mark_left h.mark_out
 
+-- and of a lock's value
 abbrev pub left : Subscription → ℕ
 left s = left_of s.sub.held
 
--- nothing is left to move
+-- nothing is left to put
 abbrev pub IsOut : Held → Type 0
 IsOut h = (h.messages ≡ []) × ((h.mark ≡ None) ⊎ (h.mark_out ≡ true))
 
--- nothing is left to move, or the port was full
+-- nothing is left to put, or the port was full
 abbrev pub IsStuck : Subscription → Type 0
 IsStuck s = IsOut s.sub.held ⊎ (s.places ≤ length s.input.ahead)
 
 -- a parcel with this and the keeper's book was put
-abbrev pub Offered : Parcel → KeeperToken Identity → End Delivery Opening → End Delivery Opening → Type 0
-Offered what keeper d e = (x : Delivery) × (x.what ≡ what) × (x.book.value ≡ keeper) × Gains d x e
+abbrev pub Offered :
+    Parcel → KeeperToken Identity → End Delivery Opening → End Delivery Opening → Type 0
+Offered what keeper d e =
+    (x : Delivery) × (x.what ≡ what) × (x.book.value ≡ keeper) × Gains d x e
 
 -- both ends of the port were seen side by side, and what could be was put
-pub record SideBySide (s t : Subscription) (d e : End Delivery Opening) (book : Book) (waiting : ℕ) : Type 0 where
+pub record SideBySide
+    (s t : Subscription) (d e : End Delivery Opening) (book : Book) (waiting : ℕ)
+    : Type 0 where
   pub stands : StandsAt t book
   pub alike : SameButPuts s t
   pub port : IsSamePort d e
@@ -135,13 +158,16 @@ pub record SideBySide (s t : Subscription) (d e : End Delivery Opening) (book : 
   pub value : waiting ≡ length e.ahead
   pub legal : IsLegal MayFollow e.floor (all_put e)
 
--- nothing is left to move, or the port is full
+-- nothing is left to put, or the port is full
 abbrev pub IsDrained : Subscription → ℕ → Type 0
 IsDrained s waiting = IsOut s.sub.held ⊎ (s.places ≤ waiting)
 
 -- the messages of a change are made, where it is live
 abbrev pub IsReady : Prepared → State → Change → Type 0
-IsReady p s c = p.held.mark ≡ None → (p.ready ≡ step_of p.held.query p.held.moved s c (p.held.sent + 1)) × (p.before ≡ s.number)
+IsReady p s c =
+    p.held.mark ≡ None
+    → (p.ready ≡ step_of p.held.query p.held.moved s c (p.held.sent + 1))
+    × (p.before ≡ s.number)
 
 -- all but the messages, their count, the mark and the answer of close
 pub record SameButHeld (s t : Subscription) : Type 0 where

@@ -6,19 +6,26 @@ use lq_predicate::Predicate;
 use lq_update::Parcel;
 use lq_witness::Witness;
 
-/// A parcel, and the book of the keeper when it was put.
+/// What goes through a port: a message or the mark, and the keeper's book when it was put, which
+/// contracts alone read.
 #[derive(Drop)]
 pub struct Delivery {
+    /// The message or the mark.
     pub what: Parcel,
+    /// The keeper when it was put.
     pub book: Witness<Keeper<Identity>>,
 }
 
-/// What a port begins with: the query, and the book at the opening.
+/// What the rule of a port goes by, fixed at the opening: the floor of the port.
 #[derive(Drop)]
 pub struct Opening {
+    /// The query.
     pub query: Witness<Predicate>,
+    /// Whether one message tells of a node that changed its place within the result.
     pub moved: bool,
+    /// The number of changes at the opening.
     pub opened: u64,
+    /// The keeper at the opening.
     pub book: Witness<Keeper<Identity>>,
 }
 

@@ -1,8 +1,8 @@
-//! The name of a subscription. No value of it is made.
+//! What names a subscription, for contracts alone.
 use lq_predicate::Predicate;
 use std::marker::Model;
 
-/// Which port it is, as contracts see it.
+/// Which port it is, as a contract sees it. No value of it is made.
 pub struct PortId {
     none: u8,
 }
@@ -18,25 +18,34 @@ impl Model for PortId {
     ghost view = { λ _. gnil };
 }
 
-/// What the first close answered.
+/// What the first close of a subscription answered.
 #[derive(Clone, Copy, Debug, PartialEq, Eq)]
 pub enum Shut {
-    /// There was none.
+    /// There was no close yet.
     Never,
-    /// It ended the subscription at this change.
+    /// It ended the subscription, after this many changes.
     At(u64),
-    /// The subscription had ended before.
+    /// The subscription had ended before it.
     Late,
 }
 
-/// A subscription's query, opening, port, backlog, its slot's asks at the opening, and its close.
+/// The name that goes with a slot's seat: which subscription it is, and how its close was
+/// answered. No value of it is made.
 pub struct Identity {
+    /// The query.
     pub query: Predicate,
+    /// Whether one message tells of a node that changed its place within the result.
     pub moved: bool,
+    /// The number of changes at the opening.
     pub opened: u64,
+    /// The places of the port.
     pub places: u64,
+    /// The most messages that are held before the port.
     pub backlog: u64,
+    /// How often the slot's seat had asked at the opening.
     pub asks: u64,
+    /// What the first close answered.
     pub shut: Shut,
+    /// The port.
     pub port: PortId,
 }

@@ -1,4 +1,4 @@
-//! What a lock puts into a subscription's port.
+//! Puts: what is held moves into the port.
 ghost use Rattle.std.specs.Prelude.{◌≡◌, ◌<◌, ◌≤◌, MatchBool, IfErr, OnOk, OnErr, Some, length};
 ghost use Rattle.lq_port.specs.End.{all_put, IsSamePort, IsFull};
 ghost use Rattle.lq_desk.specs.Held.{next_parcel};
@@ -17,7 +17,31 @@ use lq_update::Parcel;
 use lq_witness::Witness;
 use std::sync::Wait;
 
-// Puts a parcel, with the keeper's book.
+/// Puts the first held message, or the mark after the last, and tells whether it did.
+///
+/// `false` only where nothing is left to put or the port was full at a moment of the call; it is
+/// then as it was. It may wait for a step of the other end, and takes no memory.
+pub fn put_one<R: Wait>(rt: &R, keeper: &Keeper<Identity>, slot: &mut Subscription) -> bool
+    requires { StandsAt slot.old keeper.now.book }
+    ensures stands { StandsAt slot.new keeper.now.book }
+    ensures alike { SameButPuts slot.old slot.new }
+    ensures moved { MatchBool result (left slot.new < left slot.old)
+        ((slot.new.input ≡ slot.old.input) × IsStuck slot.new) }
+{
+    putting_back_undoes();
+    let Some(parcel) = slot.sub.next() else {
+        return false;
+    };
+    match offer(rt, keeper, &mut slot.input, parcel) {
+        Ok(()) => true,
+        Err(back) => {
+            slot.sub.put_back(back);
+            false
+        }
+    }
+}
+
+// Puts a parcel with the keeper's book, or hands it back where the port was full.
 fn offer<R: Wait>(
     rt: &R,
     keeper: &Keeper<Identity>,
@@ -41,28 +65,9 @@ fn offer<R: Wait>(
     }
 }
 
-/// Puts the next parcel, where the port has room, and tells whether it did.
-pub fn put_one<R: Wait>(rt: &R, keeper: &Keeper<Identity>, slot: &mut Subscription) -> bool
-    requires { StandsAt slot.old keeper.now.book }
-    ensures stands { StandsAt slot.new keeper.now.book }
-    ensures alike { SameButPuts slot.old slot.new }
-    ensures moved { MatchBool result (left slot.new < left slot.old)
-        ((slot.new.input ≡ slot.old.input) × IsStuck slot.new) }
-{
-    putting_back_undoes();
-    let Some(parcel) = slot.sub.next() else {
-        return false;
-    };
-    match offer(rt, keeper, &mut slot.input, parcel) {
-        Ok(()) => true,
-        Err(back) => {
-            slot.sub.put_back(back);
-            false
-        }
-    }
-}
-
-/// Puts until nothing moves.
+/// Puts until nothing is left to put or the port was full at a moment of the call.
+///
+/// It may wait for a step of the other end, and takes no memory.
 pub fn pump<R: Wait>(rt: &R, keeper: &Keeper<Identity>, slot: &mut Subscription)
     requires { StandsAt slot.old keeper.now.book }
     ensures stands { StandsAt slot.new keeper.now.book }
@@ -72,21 +77,11 @@ pub fn pump<R: Wait>(rt: &R, keeper: &Keeper<Identity>, slot: &mut Subscription)
     while put_one(rt, keeper, slot) {}
 }
 
-// Both ends side by side: how many parcels wait.
-fn beside(keeper: &Keeper<Identity>, slot: &mut Subscription, reading: &mut Reading) -> u64
-    requires port { reading.old.port.port ≡ slot.old.input.port }
-    requires stands { StandsAt slot.old keeper.now.book }
-    ensures between { SideBySide slot.old slot.new reading.old.port reading.new.port
-        keeper.now.book result }
-    ensures left { left slot.new ≡ left slot.old }
-    ensures hand { reading.new.hand ≡ reading.old.hand }
-    ensures result { reading.new.result ≡ reading.old.result }
-{
-    let _ = keeper;
-    reading.beside(&mut slot.input)
-}
-
-/// Puts while the port is seen to have room, and answers how many parcels wait.
+/// Puts until nothing is left to put or the port is full, and answers how many parcels wait in
+/// it.
+///
+/// The port's other end stands beside it, so no take comes between, and full is what it is when
+/// the call returns. It may wait for a step of the port, and takes no memory.
 pub fn drain<R: Wait>(
     rt: &R,
     keeper: &Keeper<Identity>,
@@ -109,4 +104,18 @@ pub fn drain<R: Wait>(
         waiting = beside(keeper, slot, reading);
     }
     waiting
+}
+
+// How many parcels wait, where the two ends stand side by side.
+fn beside(keeper: &Keeper<Identity>, slot: &mut Subscription, reading: &mut Reading) -> u64
+    requires port { reading.old.port.port ≡ slot.old.input.port }
+    requires stands { StandsAt slot.old keeper.now.book }
+    ensures between { SideBySide slot.old slot.new reading.old.port reading.new.port
+        keeper.now.book result }
+    ensures left { left slot.new ≡ left slot.old }
+    ensures hand { reading.new.hand ≡ reading.old.hand }
+    ensures result { reading.new.result ≡ reading.old.result }
+{
+    let _ = keeper;
+    reading.beside(&mut slot.input)
 }

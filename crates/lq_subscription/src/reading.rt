@@ -1,4 +1,4 @@
-//! The end of a subscription that reads.
+//! Reading: the end of a subscription that takes its parcels and folds them.
 ghost use Rattle.std.specs.Prelude.{◌≡◌, [], length, IfOk, IfSome, IfNone, OnOk, OnErr, Ok, Some, None, is_some, IsSome, IsTrue, true, ◌↔◌};
 ghost use mathlib.Core.List.{IsPrefix};
 ghost use Rattle.lq_value.specs.Refusal.{IsRefusedBy, first_refusal};
@@ -23,7 +23,10 @@ use lq_value::{Entry, Refusal};
 use std::marker::Model;
 use std::sync::Wait;
 
-/// The end of a port for takes, the result so far, and a message that couldn't be folded.
+/// The end of a port for takes, with the result of what was received.
+///
+/// A contract sees it as a `ReadingHold`: the port, the result so far, and a message in hand,
+/// which was taken and for want of memory not folded yet.
 #[derive(Drop)]
 pub struct Reading {
     output: PortOut<Delivery>,
@@ -44,7 +47,10 @@ impl Model for Reading {
 
     ghost Value = { ReadingHold };
 
-    ghost coded = { Prim.hlevel (codes, (port_out.the_row delivery.the_row opening_at.the_row ghosts).coded) };
+    ghost coded = { Prim.hlevel (
+      codes,
+      (port_out.the_row delivery.the_row opening_at.the_row ghosts).coded,
+    ) };
 
     ghost view = { λ r. record { port = r.output; hand = r.hand; result = r.rebuild } };
 
@@ -52,32 +58,9 @@ impl Model for Reading {
         × (r.opened ≡ r.output.floor.opened) };
 }
 
-// Folds a message. Without memory it stays in hand.
-fn keep(
-    rebuild: &mut Rebuild,
-    hand: &mut Option<Message>,
-    message: Message,
-) -> Result<Read, Refusal>
-    requires { first_refusal (fold_refusals rebuild.old message) ≡ None }
-    ensures refused { IsRefusedBy result None }
-    ensures ok { OnOk result ((rebuild.new ≡ folding_after rebuild.old message) × (hand.new ≡ None)) }
-    ensures err { OnErr result ((rebuild.new ≡ rebuild.old) × (hand.new ≡ Some message)) }
-    ensures read { IfOk result (λ r. r ≡ Read.Update message) }
-{
-    match rebuild.apply(&message) {
-        Ok(()) => {
-            *hand = None;
-            Ok(Read::Update(message))
-        }
-        Err(refusal) => {
-            *hand = Some(message);
-            Err(refusal)
-        }
-    }
-}
-
 impl Reading {
-    /// A reading that was told nothing yet.
+    /// A reading that received nothing yet, from a port of which nothing was taken and the query's
+    /// result at the opening. It takes no memory.
     pub fn new(output: PortOut<Delivery>, rebuild: Rebuild) -> Reading
         requires taken { output.taken ≡ [] }
         requires opening { output.floor.opened ≡ length (floor_of output.floor).changes }
@@ -96,34 +79,88 @@ impl Reading {
         }
     }
 
-    /// The number of changes at the opening.
+    /// The number of changes at the opening. It takes no memory.
     pub fn opened(&self) -> u64
         ensures { result ≡ self.now.port.floor.opened }
     {
         self.opened
     }
 
-    /// Whether its mark was read.
+    /// Whether the mark was read. It takes no memory.
     pub fn is_ended(&self) -> bool
         ensures { result ≡ is_marked self.now }
     {
         self.ended
     }
 
-    /// Whether a message is in hand.
+    /// Whether a message is in hand, which the next read begins with. It takes no memory.
     pub fn has_hand(&self) -> bool
         ensures { result ≡ is_some self.now.hand }
     {
         self.hand.is_some()
     }
 
-    /// The next of what was told. Without memory the message stays in hand, and the next read
-    /// gives it.
+    /// The result after what was received, by rising node: the opening's, with each message
+    /// received folded in. After the mark it is the query's result after the mark's change. It
+    /// takes no memory.
+    pub fn result(&self) -> &[Entry]
+        ensures entries { result.now ≡ self.now.result.entries }
+        ensures rise { EntriesRise result.now }
+        ensures folded { result.now ≡ folded (opening_of self.now.port.floor).entries
+            (received self.now) }
+        ensures marked { IfSome (mark_read self.now) (λ k. result.now
+            ≡ result_of (query_of self.now.port.floor) (state_at (known self.now) k.change)) }
+    {
+        whole_folds_give_results();
+        foldings_follow();
+        self.rebuild.result()
+    }
+
+    /// Whether what was received is settled: nothing, or with the last message of a change at its
+    /// end. The result is then the query's after that change, or at the opening. It takes no
+    /// memory.
+    pub fn is_settled(&self) -> bool
+        ensures settled { result ≡ self.now.result.settled }
+        ensures received { (result ≡ true) ↔ IsSettled (received self.now) }
+        ensures whole { IsTrue result → self.now.result.entries
+            ≡ result_of (query_of self.now.port.floor)
+            (state_at (known self.now) self.now.result.change) }
+    {
+        folds_give_results();
+        foldings_follow();
+        settled_is_tested();
+        self.rebuild.is_settled()
+    }
+
+    /// The change of the latest message received, or `opened` before the first. It takes no
+    /// memory.
+    pub fn last_change(&self) -> u64
+        ensures change { result ≡ self.now.result.change }
+        ensures received { result ≡ last_change self.now.port.floor.opened (received self.now) }
+    {
+        foldings_follow();
+        self.rebuild.last_change()
+    }
+
+    /// What is so of each reading: its parcels were legal, and what was received is folded.
+    pub fn told(&self)
+        ensures { IsTold self.now }
+    {
+        let _ = &self.rebuild;
+    }
+
+    /// Takes the next parcel, and folds it where it is a message.
+    ///
+    /// `Empty` only where the port was empty at a moment of the call, so never while something is
+    /// known to wait; `Ended` after the mark and only then. Refused: `NoMemory`; the message then
+    /// stays in hand, and is what the next read begins with. It may wait for a step of the other
+    /// end, but not for a parcel.
     pub fn read<R: Wait>(&mut self, rt: &R) -> Result<Read, Refusal>
         ensures refused { IsRefusedBy result None }
         ensures same { IsSamePort self.old.port self.new.port }
         ensures known { Extends (known self.new) (known self.old) }
-        ensures received { IsPrefix (received self.new) (whole self.new.port.floor (known self.new)) }
+        ensures received { IsPrefix (received self.new)
+            (whole self.new.port.floor (known self.new)) }
         ensures gives { IfOk result (Gives self.old self.new) }
         ensures fails { OnErr result (Fails self.old self.new) }
         ensures hand { OnErr result (IsSome self.new.hand) }
@@ -132,12 +169,15 @@ impl Reading {
         self.read_by(rt, false)
     }
 
-    /// As `read`, but it waits for the next of what is told.
+    /// As `read`, but where no parcel is there it waits for one.
+    ///
+    /// `Empty` then says besides that the other end is gone, which no clause says.
     pub fn read_waiting<R: Wait>(&mut self, rt: &R) -> Result<Read, Refusal>
         ensures refused { IsRefusedBy result None }
         ensures same { IsSamePort self.old.port self.new.port }
         ensures known { Extends (known self.new) (known self.old) }
-        ensures received { IsPrefix (received self.new) (whole self.new.port.floor (known self.new)) }
+        ensures received { IsPrefix (received self.new)
+            (whole self.new.port.floor (known self.new)) }
         ensures gives { IfOk result (Gives self.old self.new) }
         ensures fails { OnErr result (Fails self.old self.new) }
         ensures hand { OnErr result (IsSome self.new.hand) }
@@ -146,11 +186,13 @@ impl Reading {
         self.read_by(rt, true)
     }
 
+    // Gives what is in hand, or else what comes next.
     fn read_by<R: Wait>(&mut self, rt: &R, waits: bool) -> Result<Read, Refusal>
         ensures refused { IsRefusedBy result None }
         ensures same { IsSamePort self.old.port self.new.port }
         ensures known { Extends (known self.new) (known self.old) }
-        ensures received { IsPrefix (received self.new) (whole self.new.port.floor (known self.new)) }
+        ensures received { IsPrefix (received self.new)
+            (whole self.new.port.floor (known self.new)) }
         ensures gives { IfOk result (Gives self.old self.new) }
         ensures fails { OnErr result (Fails self.old self.new) }
         ensures hand { OnErr result (IsSome self.new.hand) }
@@ -176,7 +218,10 @@ impl Reading {
         }
     }
 
-    /// Both ends side by side: how many parcels wait in the port.
+    /// How many parcels wait, where the two ends stand side by side.
+    ///
+    /// Each end then knows all that was put and all that was taken. It neither waits nor takes
+    /// memory.
     pub fn beside(&mut self, input: &mut PortIn<Delivery>) -> u64
         requires port { self.old.port.port ≡ input.old.port }
         ensures value { result ≡ length self.new.port.ahead }
@@ -193,54 +238,34 @@ impl Reading {
     {
         self.output.beside(input)
     }
+}
 
-    /// The result after what was received, by rising node: the opening's, with each message
-    /// received folded in. After the mark it is the query's result after the mark's change.
-    pub fn result(&self) -> &[Entry]
-        ensures entries { result.now ≡ self.now.result.entries }
-        ensures rise { EntriesRise result.now }
-        ensures folded { result.now ≡ folded (opening_of self.now.port.floor).entries
-            (received self.now) }
-        ensures marked { IfSome (mark_read self.now) (λ k. result.now
-            ≡ result_of (query_of self.now.port.floor) (state_at (known self.now) k.change)) }
-    {
-        whole_folds_give_results();
-        foldings_follow();
-        self.rebuild.result()
-    }
-
-    /// Whether the latest update was the last of its change. The result is then the query's after
-    /// that change, or at the opening.
-    pub fn is_settled(&self) -> bool
-        ensures settled { result ≡ self.now.result.settled }
-        ensures received { (result ≡ true) ↔ IsSettled (received self.now) }
-        ensures whole { IsTrue result → self.now.result.entries
-            ≡ result_of (query_of self.now.port.floor) (state_at (known self.now) self.now.result.change) }
-    {
-        folds_give_results();
-        foldings_follow();
-        settled_is_tested();
-        self.rebuild.is_settled()
-    }
-
-    /// The change of the latest message received, or the number at the opening before the first.
-    pub fn last_change(&self) -> u64
-        ensures change { result ≡ self.now.result.change }
-        ensures received { result ≡ last_change self.now.port.floor.opened (received self.now) }
-    {
-        foldings_follow();
-        self.rebuild.last_change()
-    }
-
-    /// What is so of each reading.
-    pub fn told(&self)
-        ensures { IsTold self.now }
-    {
-        let _ = &self.rebuild;
+// Folds a message, or keeps it in hand where there is no memory.
+fn keep(
+    rebuild: &mut Rebuild,
+    hand: &mut Option<Message>,
+    message: Message,
+) -> Result<Read, Refusal>
+    requires { first_refusal (fold_refusals rebuild.old message) ≡ None }
+    ensures refused { IsRefusedBy result None }
+    ensures ok { OnOk result
+        ((rebuild.new ≡ folding_after rebuild.old message) × (hand.new ≡ None)) }
+    ensures err { OnErr result ((rebuild.new ≡ rebuild.old) × (hand.new ≡ Some message)) }
+    ensures read { IfOk result (λ r. r ≡ Read.Update message) }
+{
+    match rebuild.apply(&message) {
+        Ok(()) => {
+            *hand = None;
+            Ok(Read::Update(message))
+        }
+        Err(refusal) => {
+            *hand = Some(message);
+            Err(refusal)
+        }
     }
 }
 
-// The next item, with or without waiting for it.
+// The next parcel, with or without waiting for it.
 fn take_one<R: Wait>(output: &mut PortOut<Delivery>, rt: &R, waits: bool) -> Option<Delivery>
     ensures some { IfSome result (λ item. Loses output.old item output.new) }
     ensures follows { IfSome result (λ item. MayFollow output.old.taken output.old.floor item) }

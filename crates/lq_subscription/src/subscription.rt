@@ -1,4 +1,4 @@
-//! What a lock has of a subscription, and how it ends and grows.
+//! A subscription under a lock: how it takes a change, and how it ends.
 ghost use Rattle.std.specs.Prelude.{◌≡◌, ◌+◌, ◌<◌, ◌^◌, ◌⊎◌, [], ◌∷◌, length, None, true, is_none, IsSome, OnOk};
 ghost use Rattle.lq_value.specs.Refusal.{IsRefusedBy};
 ghost use Rattle.lq_volume.specs.Book.{Book, grown, state_of};
@@ -15,17 +15,24 @@ use lq_update::{Cause, steps_are_few};
 use lq_value::Refusal;
 use lq_volume::{Change, Volume};
 
-/// A subscription, the end of its port for puts, and how often its slot had been asked.
+/// A subscription with the end of its port for puts, as a lock has it.
 #[derive(Drop)]
 pub struct Subscription {
+    /// The query, what is held, and the mark.
     pub sub: Sub,
+    /// The end of its port for puts.
     pub input: PortIn<Delivery>,
+    /// The places of its port.
     pub places: u64,
+    /// How often its slot's seat had asked at the opening.
     pub asks: u64,
+    /// What its first close answered.
     pub shut: Shut,
 }
 
-/// Makes the messages of a change, where it is live.
+/// Makes the messages of a lawful change that isn't made yet, where the subscription is live.
+///
+/// What it holds stays, and so does its mark. Refused: `NoMemory`.
 pub fn ready(slot: &mut Subscription, volume: &Volume, change: &Change) -> Result<(), Refusal>
     requires lawful { IsLawful volume.now change.now }
     requires few { slot.old.sub.held.sent < 2 ^ 63 }
@@ -41,7 +48,11 @@ pub fn ready(slot: &mut Subscription, volume: &Volume, change: &Change) -> Resul
     slot.sub.ready(volume, change)
 }
 
-/// Holds the messages that were made for a change, or ends with an overrun.
+/// Holds the messages that `ready` made for this change, or ends with an overrun where they are
+/// too many.
+///
+/// It then stands over the book with the change, where it stood over the book before. One that
+/// has ended stays as it is. It takes no memory.
 pub fn commit(slot: &mut Subscription, change: &Change)
     requires few { slot.old.sub.held.sent < 2 ^ 63 }
     requires filled { IsFilled slot.old }
@@ -62,7 +73,10 @@ pub fn commit(slot: &mut Subscription, change: &Change)
     slot.sub.commit();
 }
 
-/// Ends it, where it is live and its end was asked for.
+/// Ends it as `HungUp`, where it is live and its reader asked.
+///
+/// `number` is how many changes there are, and `asked` whether the reader asked. Without that it
+/// stays as it is, and so does one that has ended. It takes no memory.
 pub fn notice(slot: &mut Subscription, asked: bool, number: u64)
     requires few { slot.old.sub.held.sent < 2 ^ 63 }
     ensures stands { (book : Book) → StandsAt slot.old book → number ≡ length book.changes
@@ -85,7 +99,10 @@ pub fn notice(slot: &mut Subscription, asked: bool, number: u64)
     slot.sub.finish_with(Cause::HungUp, number);
 }
 
-/// Closes it, unless it has ended, and tells whether it did.
+/// Ends it as `Closed`, where it is live, and tells whether it did.
+///
+/// `number` is how many changes there are. One that has ended keeps its mark. The answer of the
+/// first close is kept in `shut`. It takes no memory.
 pub fn close(slot: &mut Subscription, number: u64) -> bool
     requires fits { ShutFits slot.old.shut slot.old.sub.held.mark }
     requires few { slot.old.sub.held.sent < 2 ^ 63 }

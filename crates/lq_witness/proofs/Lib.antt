@@ -1,0 +1,1 @@
+-- No lemmas: the three proofs are those of `Send`, `Sync` and `of`.

@@ -1,0 +1,1 @@
+-- No definitions: a witness shows the value itself.

@@ -1,13 +1,14 @@
-//! A value of the past that only contracts read.
+//! The witness of a value.
 ghost use Rattle.std.specs.Prelude.{◌≡◌};
 ghost use Rattle.std.specs.Borrow.{ftrue};
 
 use std::marker::{Model, PhantomData};
 
-/// A value as a contract sees it, at the time of `of`. It has no bytes and owns nothing.
+/// What a contract saw of a value at the time of `of`. It has no bytes and owns nothing.
 #[derive(Drop)]
 pub struct Witness<T> {
     marker: PhantomData<T>,
+    /// What was seen.
     pub ghost value: { T },
 }
 
@@ -15,13 +16,13 @@ impl<T> Model for Witness<T> {
     ghost also_owns = { λ _. ftrue };
 }
 
-// It owns nothing.
+// It owns nothing, so it may go to any thread, and any thread may share it.
 unsafe impl<T> Send for Witness<T> {}
 
 unsafe impl<T> Sync for Witness<T> {}
 
 impl<T> Witness<T> {
-    /// What the reference shows now.
+    /// A witness of what the reference shows now. It takes no memory.
     pub fn of(x: &T) -> Witness<T>
         ensures { result.value ≡ x.now }
     {

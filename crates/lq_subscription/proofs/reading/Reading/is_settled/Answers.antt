@@ -9,5 +9,9 @@ use Rattle.lq_subscription.proofs.reading.Reading.is_settled.Goals as goal
 pub returns-clause-whole : goal.returns-clause-whole
 returns-clause-whole c = λ yes.
     let i = c.self.inside in
-    subst (λ (r : ReadingHold). r.result.entries ≡ result_of (query_of r.port.floor) (state_at (known r) r.result.change)) c.self.view_is
-    (settled_result c.folds_give_results.ensures c.foldings_follow.ensures c.settled_is_tested.ensures (hold i.output i.hand i.rebuild) (told_now i.output i.hand i.rebuild i.ended c.self.invariant.0) (sym c.is_settled.ensures ∙ yes))
+    subst (λ (r : ReadingHold). r.result.entries
+    ≡ result_of (query_of r.port.floor) (state_at (known r) r.result.change)) c.self.view_is
+    (settled_result c.folds_give_results.ensures c.foldings_follow.ensures
+    c.settled_is_tested.ensures (hold i.output i.hand i.rebuild)
+    (told_now i.output i.hand i.rebuild i.ended c.self.invariant.0)
+    (sym c.is_settled.ensures ∙ yes))

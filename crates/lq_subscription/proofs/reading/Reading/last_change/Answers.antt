@@ -8,5 +8,7 @@ pub returns-clause-received : goal.returns-clause-received
 returns-clause-received c =
     let i = c.self.inside in
     let told = told_now i.output i.hand i.rebuild i.ended c.self.invariant.0 in
-    subst (λ (r : ReadingHold). c.last_change.result ≡ last_change r.port.floor.opened (received r)) c.self.view_is
-    (c.last_change.ensures ∙ change_received c.foldings_follow.ensures (hold i.output i.hand i.rebuild) told)
+    subst (λ (r : ReadingHold). c.last_change.result ≡ last_change r.port.floor.opened (received r))
+    c.self.view_is
+    (c.last_change.ensures
+    ∙ change_received c.foldings_follow.ensures (hold i.output i.hand i.rebuild) told)
