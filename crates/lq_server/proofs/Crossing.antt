@@ -9,6 +9,7 @@ use Rattle.std.specs.contracts.alloc.Global as global
 use Rattle.std.specs.contracts.option.Option as option
 use Rattle.std.specs.contracts.sync.Mutex as mutex
 use Rattle.std.specs.contracts.marker.PhantomData as phantom
+use Rattle.std.below.core.specs.contracts.marker.ClosureMark as mark
 use Rattle.std.specs.contracts.impls.GlobalAllocator.TheImpl.{ghosts as heap_ghosts}
 use Rattle.lq_value.proofs.attr_name.AttrName.TheSendSync as found_attr
 use Rattle.lq_value.proofs.literal.Literal.TheSendSync as found_literal
@@ -76,6 +77,13 @@ server_sync N g = view_sync (in_server.the_row N g) _ _ _ _ (declared_sync (in_s
 
 pub seat_send : IsSend (seat.the_row identity.the_row)
 seat_send = search (sendable, crosses, found_seat.the_send) depth 20
+
+-- the mark of a closure over type parameters
+pub mark_send : (M : RattleType) → IsSend (mark.the_row M)
+mark_send M = search (sendable, crosses) depth 20
+
+pub mark_sync : (M : RattleType) → IsSync (mark.the_row M)
+mark_sync M = search (sendable, crosses) depth 20
 
 -- what an answer at a `join` over a server lists
 pub ruleset server_crosses = (sendable, server_sync, seat_send, found_change.the_sync)

@@ -4,3 +4,4 @@ pub mod Opened
 pub mod Syncing
 pub mod Retired
 pub mod Lending
+pub mod Works

@@ -1,0 +1,76 @@
+//! Threads over one server.
+ghost use Rattle.std.specs.Prelude.{◌≡◌, All, IfOk, None};
+ghost use Rattle.lq_value.specs.Refusal.{IsRefusedBy};
+ghost use Rattle.lq_server.specs.Works.{AllGive};
+
+use crate::server::Server;
+use lq_slots::Named;
+use lq_value::Refusal;
+use std::sync::Wait;
+use std::thread::{Threads, join, map_vec};
+
+/// What a thread does with a server that it shares with others.
+///
+/// `can` is what it needs of the server's board, and `gives` what it then says of its answer.
+pub trait Work {
+    ghost use Rattle.atomic_table.specs.Seated.{TableId};
+
+    type Given;
+
+    ghost can: { Self → TableId → Type 0 };
+
+    ghost gives: { Self → TableId → Self.Given → Type 0 };
+
+    /// Does it over this server.
+    fn work<N: Named, R: Wait>(self, rt: &R, server: &Server<N>) -> Self::Given
+        requires { can self N.board }
+        ensures { gives self N.board result };
+}
+
+/// What two works over one server give, the first in a thread of its own, or last where none can
+/// be made, and the second in this one.
+///
+/// Both are done when it answers. It takes no memory.
+pub fn join_over<
+    N: Named + Send + Sync,
+    R: Threads + Wait + Sync,
+    F: Work<Given: Send> + Send + Drop,
+    G: Work + Drop,
+>(
+    rt: &R,
+    server: &Server<N>,
+    first: F,
+    second: G,
+) -> (F::Given, G::Given)
+    requires first { F.can first N.board }
+    requires second { G.can second N.board }
+    ensures first { F.gives first N.board result.0 }
+    ensures second { G.gives second N.board result.1 }
+{
+    join(
+        rt,
+        || first.work(rt, server),
+        || second.work(rt, server),
+    )
+}
+
+/// What the works of a list over one server give, in order, each in a thread of its own where one
+/// can be made.
+///
+/// Refused: `NoMemory`; some works may then have been dropped undone, and the results are dropped.
+pub fn map_over<
+    N: Named + Send + Sync,
+    R: Threads + Wait + Sync,
+    W: Work<Given: Send + Drop> + Send + Drop,
+>(
+    rt: &R,
+    server: &Server<N>,
+    works: Vec<W>,
+) -> Result<Vec<W::Given>, Refusal>
+    requires { All (λ w. W.can w N.board) works.items }
+    ensures each { IfOk result (λ v.
+        AllGive (λ w x. W.gives w N.board x) works.items v.items) }
+    ensures refused { IsRefusedBy result None }
+{
+    Ok(map_vec(rt, works, &|work: W| work.work(rt, server))?)
+}
