@@ -18,7 +18,7 @@ use crate::server::Server;
 use lq_board::Seat;
 use lq_desk::Read;
 use lq_slots::{Named, Opened};
-use lq_subscription::{Identity, Reading};
+use lq_subscription::{Identity, Reading, books_extend_themselves};
 use lq_value::{Entry, Refusal};
 use std::marker::Model;
 use std::sync::Wait;
@@ -101,6 +101,7 @@ impl Reader {
         ensures reading { self.new.reading ≡ self.old.reading }
         ensures slot { self.new.slot ≡ self.old.slot }
         ensures seat { self.new.seat ≡ record self.old.seat { asks = self.new.seat.asks } }
+        ensures again { self.old.asked ≡ true → self.new ≡ self.old }
     {
         if !self.asked {
             server.board.ask(&mut self.seat);
@@ -149,12 +150,21 @@ impl Reader {
         requires own { IsOwn self.old }
         ensures own { IsOwn self.new }
         ensures seat { self.new.seat ≡ record self.old.seat { book = self.new.seat.book } }
+        ensures later { Extends self.new.seat.book self.old.seat.book }
+        ensures rest { self.new ≡ record self.old {
+          reading = self.new.reading;
+          seat = self.new.seat;
+        } }
+        ensures port { IsSamePort self.old.reading.port self.new.reading.port }
+        ensures known { Extends (known self.new.reading) (known self.old.reading) }
         ensures refused { IsRefusedBy result None }
         ensures received { IsPrefix (received self.new.reading)
             (whole self.new.reading.port.floor (known self.new.reading)) }
         ensures gives { IfOk result (IsRead self.old self.new) }
         ensures fails { OnErr result (IsUnread self.old self.new) }
+        ensures over { IsSome (mark_read self.old.reading) → result ≡ Ok Read.Ended }
     {
+        books_extend_themselves();
         self.reading.told();
         if self.reading.is_ended() {
             return Ok(Read::Ended);
