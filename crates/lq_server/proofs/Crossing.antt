@@ -9,6 +9,7 @@ use Rattle.std.specs.contracts.alloc.Global as global
 use Rattle.std.specs.contracts.option.Option as option
 use Rattle.std.specs.contracts.sync.Mutex as mutex
 use Rattle.std.specs.contracts.marker.PhantomData as phantom
+use Rattle.std.below.core.specs.contracts.marker.ClosureMark as mark
 use Rattle.std.specs.contracts.impls.GlobalAllocator.TheImpl.{ghosts as heap_ghosts}
 use Rattle.lq_value.proofs.attr_name.AttrName.TheSendSync as found_attr
 use Rattle.lq_value.proofs.literal.Literal.TheSendSync as found_literal
@@ -53,6 +54,7 @@ in_send = found_in.the_send delivery.the_row opening_at.the_row ghosts found_del
 pub slot_send : IsSend slot.the_row
 slot_send = search (sendable, crosses, sub_send, in_send) depth 20
 
+
 slots_send : IsSend slots.the_row
 slots_send = search (sendable, crosses, slot_send, found_keeper.the_send) depth 20
 
@@ -74,6 +76,13 @@ server_sync N g = view_sync (in_server.the_row N g) _ _ _ _ (declared_sync (in_s
 
 pub seat_send : IsSend (seat.the_row identity.the_row)
 seat_send = search (sendable, crosses, found_seat.the_send) depth 20
+
+-- the mark of a closure over type parameters
+pub mark_send : (M : RattleType) → IsSend (mark.the_row M)
+mark_send M = search (sendable, crosses) depth 20
+
+pub mark_sync : (M : RattleType) → IsSync (mark.the_row M)
+mark_sync M = search (sendable, crosses) depth 20
 
 -- what an answer at a `join` over a server lists
 pub ruleset server_crosses = (sendable, server_sync, seat_send, found_change.the_sync)

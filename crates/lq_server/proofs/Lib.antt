@@ -1,2 +1,4 @@
-pub mod TellLemmas
+-- Read ParcelLemmas, then SyncLemmas; Crossing stands alone.
+pub mod ParcelLemmas
+pub mod SyncLemmas
 pub mod Crossing

@@ -12,12 +12,13 @@ use Rattle.lq_subscription.specs.Rule.{query_of}
 use Rattle.lq_subscription.specs.Marking.{hung_mark}
 use Rattle.lq_desk.specs.declared.event.Read.{Read}
 use Rattle.lq_desk.specs.declared.event.Read.TheVariants.{Ended}
-use Rattle.lq_subscription.specs.Reading.{known, received, ready, mark_read, Gives, Fails}
+use Rattle.lq_subscription.specs.Reading.{known, received, ready, mark_read, is_marked, Gives, Fails}
 use Rattle.lq_subscription.specs.Standing.{upto, ShutFits, IsOverrun}
 use Rattle.lq_server.specs.Own.{IsOwn}
 use Rattle.lq_server.specs.Hold.{ReaderHold}
 use Rattle.lq_server.specs.declared.server.Synced.{Synced}
 
+-- a mark as a parcel
 abbrev pub fin_list : Option Mark → List Parcel
 fin_list None = []
 fin_list (Some k) = Fin k ∷ []
@@ -26,11 +27,15 @@ fin_list (Some k) = Fin k ∷ []
 pub record IsListed (r : ReaderHold) (x : Synced) (w h : List Message) : Type 0 where
   pub wait : length w ≡ x.waiting
   pub hold : length h ≡ x.held
-  pub all : received r.reading ++ w ++ h ≡ updates (query_of r.reading.port.floor) r.reading.port.floor.moved r.seat.book r.reading.port.floor.opened (upto x.mark x.change)
+  pub all : received r.reading ++ w ++ h
+      ≡ updates (query_of r.reading.port.floor) r.reading.port.floor.moved r.seat.book
+      r.reading.port.floor.opened (upto x.mark x.change)
   pub rest : List Parcel
   pub front : ready r.reading ≡ map (λ m. Update m) w ++ rest
-  pub closes : mark_read r.reading ≡ None → x.held ≡ 0 → x.waiting < r.reading.port.places → rest ≡ fin_list x.mark
+  pub closes : mark_read r.reading ≡ None → x.held ≡ 0 → x.waiting < r.reading.port.places
+      → rest ≡ fin_list x.mark
 
+-- old and new are the reader before and after a sync that answers x
 pub record IsSynced (old new : ReaderHold) (x : Synced) : Type 0 where
   pub own : IsOwn new
   pub slot : new.slot ≡ old.slot
@@ -39,6 +44,8 @@ pub record IsSynced (old new : ReaderHold) (x : Synced) : Type 0 where
   pub taken : new.reading.port.taken ≡ old.reading.port.taken
   pub hand : new.reading.hand ≡ old.reading.hand
   pub result : new.reading.result ≡ old.reading.result
+  pub known_stays : known new.reading ≡ known old.reading
+  pub received_stays : received new.reading ≡ received old.reading
   pub seat : new.seat ≡ record old.seat { book = new.seat.book }
   pub later : Extends new.seat.book old.seat.book
   pub knows : Extends new.seat.book (known old.reading)
@@ -51,7 +58,9 @@ pub record IsSynced (old new : ReaderHold) (x : Synced) : Type 0 where
   pub hung : hung_mark x.mark → old.asked ≡ true
   pub read : IsSome (mark_read old.reading) → x.mark ≡ mark_read old.reading
   pub shut : IsSomeAnd old.seat.name (λ t. ShutFits t.shut x.mark)
-  pub overrun : IsSomeAnd old.seat.name (λ t. IfSome x.mark (λ k. k.cause ≡ Overrun → IsOverrun t.query t.moved t.opened t.places t.backlog new.seat.book k.change))
+  pub overrun : IsSomeAnd old.seat.name (λ t. IfSome x.mark (λ k.
+      k.cause ≡ Overrun
+      → IsOverrun t.query t.moved t.opened t.places t.backlog new.seat.book k.change))
 
 -- one for a mark, or for a message in hand
 abbrev pub bit : Bool → ℕ
@@ -64,11 +73,17 @@ in_port true false = true
 in_port true true = false
 in_port false b = false
 
--- a read behind the pump of its slot, or after the mark
+-- a read after the pump of its slot, or after the mark
 abbrev pub IsRead : ReaderHold → ReaderHold → Read → Type 0
 IsRead old new r =
     ((new ≡ old) × IsSome (mark_read old.reading) × (r ≡ Ended))
-    ⊎ ((mid : ReaderHold) × (x : Synced) × IsSynced old mid x × Gives mid.reading new.reading r)
+    ⊎ ((is_marked old.reading ≡ false)
+    × ((mid : ReaderHold) × (x : Synced) × IsSynced old mid x × Gives mid.reading new.reading r
+    × (new ≡ record mid { reading = new.reading })))
 
+-- a read after the pump of its slot that found no memory
 abbrev pub IsUnread : ReaderHold → ReaderHold → Type 0
-IsUnread old new = (mid : ReaderHold) × (x : Synced) × IsSynced old mid x × Fails mid.reading new.reading
+IsUnread old new =
+    (is_marked old.reading ≡ false)
+    × ((mid : ReaderHold) × (x : Synced) × IsSynced old mid x × Fails mid.reading new.reading
+    × (new ≡ record mid { reading = new.reading }))

@@ -1,12 +1,15 @@
 //! The reader of a subscription.
-ghost use Rattle.std.specs.Prelude.{◌≡◌, length, IfOk, OnErr, None, true, false};
+ghost use Rattle.std.specs.Prelude.{◌≡◌, ◌↔◌, length, IfOk, IfSome, IsSome, OnErr, Ok, None, IsTrue, true, false};
 ghost use mathlib.Core.List.{IsPrefix};
 ghost use Rattle.std.specs.Borrow.{sem};
 ghost use Rattle.lq_value.specs.Refusal.{IsRefusedBy};
-ghost use Rattle.lq_volume.specs.Book.{Extends};
+ghost use Rattle.lq_volume.specs.Book.{Extends, state_at};
+ghost use Rattle.lq_volume.specs.Result.{result_of};
+ghost use Rattle.lq_update.specs.Fold.{EntriesRise, folded, last_change};
+ghost use Rattle.lq_update.specs.Updates.{IsSettled};
 ghost use Rattle.lq_port.specs.End.{IsSamePort};
-ghost use Rattle.lq_subscription.specs.Rule.{whole};
-ghost use Rattle.lq_subscription.specs.Reading.{Gives, Fails, known, received};
+ghost use Rattle.lq_subscription.specs.Rule.{query_of, whole};
+ghost use Rattle.lq_subscription.specs.Reading.{Gives, Fails, known, received, mark_read, opening_of};
 ghost use Rattle.lq_server.specs.Own.{IsOwn};
 ghost use Rattle.lq_server.specs.Lending.{LendsSeat};
 ghost use Rattle.lq_server.specs.Syncing.{IsRead, IsUnread};
@@ -15,7 +18,7 @@ use crate::server::Server;
 use lq_board::Seat;
 use lq_desk::Read;
 use lq_slots::{Named, Opened};
-use lq_subscription::{Identity, Reading};
+use lq_subscription::{Identity, Reading, books_extend_themselves};
 use lq_value::{Entry, Refusal};
 use std::marker::Model;
 use std::sync::Wait;
@@ -68,6 +71,13 @@ impl Reader {
         self.slot
     }
 
+    /// The number of changes at its opening. It takes no lock.
+    pub fn opened(&self) -> u64
+        ensures { result ≡ self.now.reading.port.floor.opened }
+    {
+        self.reading.opened()
+    }
+
     /// The number of changes so far, whose book its seat then knows. It takes no lock.
     pub fn latest<N: Named>(&mut self, server: &Server<N>) -> u64
         requires board { self.old.seat.board ≡ N.board }
@@ -91,6 +101,7 @@ impl Reader {
         ensures reading { self.new.reading ≡ self.old.reading }
         ensures slot { self.new.slot ≡ self.old.slot }
         ensures seat { self.new.seat ≡ record self.old.seat { asks = self.new.seat.asks } }
+        ensures again { self.old.asked ≡ true → self.new ≡ self.old }
     {
         if !self.asked {
             server.board.ask(&mut self.seat);
@@ -98,7 +109,9 @@ impl Reader {
         }
     }
 
-    /// The seat of its slot.
+    /// The seat of its slot, as the board gave it.
+    ///
+    /// A caller who puts another in its place can call no more with this reader.
     pub fn seat(&mut self) -> &mut Seat<Identity>
         ensures* lends { sem 𝓛 (LendsSeat self.entry result) }
         ensures now { result.now ≡ self.old.seat }
@@ -106,7 +119,10 @@ impl Reader {
         &mut self.seat
     }
 
-    /// The next of what was told. It takes no lock.
+    /// The next of what was told, as far as it waits in the port. It takes no lock.
+    ///
+    /// `Empty` where none waited; `Ended` after the mark. Refused: `NoMemory`; the message is then
+    /// in hand, and the next read gives it.
     pub fn read<R: Wait>(&mut self, rt: &R) -> Result<Read, Refusal>
         ensures refused { IsRefusedBy result None }
         ensures port { IsSamePort self.old.reading.port self.new.reading.port }
@@ -115,6 +131,7 @@ impl Reader {
             (whole self.new.reading.port.floor (known self.new.reading)) }
         ensures gives { IfOk result (Gives self.old.reading self.new.reading) }
         ensures fails { OnErr result (Fails self.old.reading self.new.reading) }
+        ensures over { IsSome (mark_read self.old.reading) → result ≡ Ok Read.Ended }
         ensures rest { self.new ≡ record self.old { reading = self.new.reading } }
         ensures own { IsOwn self.old → IsOwn self.new }
     {
@@ -122,6 +139,8 @@ impl Reader {
     }
 
     /// As `read`, but it fills its port first, and waits for the next of what is told.
+    ///
+    /// `Ended` at once after the mark; `Empty` only where no more can be told.
     pub fn read_waiting<N: Named, R: Wait>(
         &mut self,
         rt: &R,
@@ -131,12 +150,21 @@ impl Reader {
         requires own { IsOwn self.old }
         ensures own { IsOwn self.new }
         ensures seat { self.new.seat ≡ record self.old.seat { book = self.new.seat.book } }
+        ensures later { Extends self.new.seat.book self.old.seat.book }
+        ensures rest { self.new ≡ record self.old {
+          reading = self.new.reading;
+          seat = self.new.seat;
+        } }
+        ensures port { IsSamePort self.old.reading.port self.new.reading.port }
+        ensures known { Extends (known self.new.reading) (known self.old.reading) }
         ensures refused { IsRefusedBy result None }
         ensures received { IsPrefix (received self.new.reading)
             (whole self.new.reading.port.floor (known self.new.reading)) }
         ensures gives { IfOk result (IsRead self.old self.new) }
         ensures fails { OnErr result (IsUnread self.old self.new) }
+        ensures over { IsSome (mark_read self.old.reading) → result ≡ Ok Read.Ended }
     {
+        books_extend_themselves();
         self.reading.told();
         if self.reading.is_ended() {
             return Ok(Read::Ended);
@@ -145,10 +173,38 @@ impl Reader {
         self.reading.read_waiting(rt)
     }
 
-    /// The result after what was received, by rising node. It takes no lock.
+    /// The result after what was received, by rising node: the opening's, with each message
+    /// received folded in. After the mark it is the query's result after the mark's change.
     pub fn result(&self) -> &[Entry]
-        ensures { result.now ≡ self.now.reading.result.entries }
+        ensures entries { result.now ≡ self.now.reading.result.entries }
+        ensures rise { EntriesRise result.now }
+        ensures folded { result.now ≡ folded (opening_of self.now.reading.port.floor).entries
+            (received self.now.reading) }
+        ensures marked { IfSome (mark_read self.now.reading) (λ k. result.now
+            ≡ result_of (query_of self.now.reading.port.floor)
+            (state_at (known self.now.reading) k.change)) }
     {
         self.reading.result()
+    }
+
+    /// Whether no update was received or the latest was the last of its change. The result is
+    /// then the query's after `last_change`. It takes no lock.
+    pub fn is_settled(&self) -> bool
+        ensures settled { result ≡ self.now.reading.result.settled }
+        ensures received { (result ≡ true) ↔ IsSettled (received self.now.reading) }
+        ensures whole { IsTrue result → self.now.reading.result.entries
+            ≡ result_of (query_of self.now.reading.port.floor)
+            (state_at (known self.now.reading) self.now.reading.result.change) }
+    {
+        self.reading.is_settled()
+    }
+
+    /// The change of the latest update received, or `opened` before the first. It takes no lock.
+    pub fn last_change(&self) -> u64
+        ensures change { result ≡ self.now.reading.result.change }
+        ensures received { result ≡ last_change self.now.reading.port.floor.opened
+            (received self.now.reading) }
+    {
+        self.reading.last_change()
     }
 }

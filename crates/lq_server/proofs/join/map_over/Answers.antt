@@ -1,21 +1,37 @@
 -- The closure that does each work may be shared by threads.
-use mathlib.Core.List.{[], ◌∷◌}
+use mathlib.Core.List.{List, [], ◌∷◌}
 use mir.Syntax.{Sym}
 use denote.RattleType.{RattleType}
 use denote.Ref.{NamedLft}
 use denote.Struct.Field.{shr_ref_field}
-use denote.Struct.Tuple.{TupleAt}
+use denote.Struct.Tuple.{TupleAt, Tuple, type_at}
+use denote.Exit.{no}
 use denote.Param.{param}
-use denote.Param.Send.{IsSync, param_sync, arg_sync}
+use denote.Param.Send.{IsSync, param_sync, arg_sync, shr_sync}
+use denote.Param.SendFields.{declared_sync}
+use Rattle.std.below.core.specs.contracts.marker.ClosureMark as mark
 use Rattle.lq_slots.specs.declared.named.Named.{Ghosts}
 use Rattle.lq_server.specs.contracts.server.Server as server
-use Rattle.lq_server.proofs.Crossing.{server_crosses}
+use Rattle.lq_server.proofs.Crossing.{server_sync, mark_sync}
 use Rattle.lq_server.proofs.join.map_over.Goals as goal
 
--- what it takes: the runtime, the server
-taken : (ν : Sym) (ℓ ℓ' : NamedLft) (N R : RattleType) (g : Ghosts N.Denot) → IsSync (param 1 R)
-    → IsSync (TupleAt ν ((shr_ref_field ℓ (param 1 R) tt).row ∷ (shr_ref_field ℓ' (server.the_row (param 0 N) g) tt).row ∷ []))
-taken ν ℓ ℓ' N R g y = search server_crosses depth 20
+-- what it takes: the runtime, the server, and the mark of what it answers
+abbrev parts : NamedLft → NamedLft → (N R M : RattleType) → Ghosts N.Denot → List RattleType
+parts ℓ ℓ' N R M g =
+    (shr_ref_field ℓ (param 1 R) tt).row
+    ∷ (shr_ref_field ℓ' (server.the_row (param 0 N) g) tt).row
+    ∷ mark.the_row M
+    ∷ []
+
+taken : (ν : Sym) (ℓ ℓ' : NamedLft) (N R M : RattleType) (g : Ghosts N.Denot) → IsSync (param 1 R)
+    → IsSync (TupleAt ν (parts ℓ ℓ' N R M g))
+taken ν ℓ ℓ' N R M g y =
+    declared_sync (type_at ν (parts ℓ ℓ' N R M g))
+    (shr_sync _ _ _ y, (shr_sync _ _ _ (server_sync (param 0 N) g), (mark_sync M, tt)))
 
 pub map_vec-requires-sync-F : goal.map_vec-requires-sync-F
-map_vec-requires-sync-F g c κs within = record { shared = λ x b o κ. ? }
+map_vec-requires-sync-F g c κs within =
+    param_sync 4 _
+    (arg_sync _ no _
+      (taken _ _ _ g.row.N g.row.R (Tuple (param 3 g.row.W-Given ∷ [])) g.N.Named
+        c.type_bounds.sync-R))
