@@ -54,7 +54,6 @@ in_send = found_in.the_send delivery.the_row opening_at.the_row ghosts found_del
 pub slot_send : IsSend slot.the_row
 slot_send = search (sendable, crosses, sub_send, in_send) depth 20
 
-
 slots_send : IsSend slots.the_row
 slots_send = search (sendable, crosses, slot_send, found_keeper.the_send) depth 20
 

@@ -61,7 +61,7 @@ module _ (f : Opening) where
       → x.what ≡ w
       → map what_of qs ≡ map (λ m. Update m) (messages_in qs) ++ fin_list (mark_in qs)
       → w ∷ map what_of qs
-          ≡ map (λ m. Update m) (message_of w ++ messages_in qs) ++ fin_list (mark_or w (mark_in qs))
+      ≡ map (λ m. Update m) (message_of w ++ messages_in qs) ++ fin_list (mark_or w (mark_in qs))
   one_waits ps qs x (Update m) legal is rest = ap (λ l. Update m ∷ l) rest
   one_waits ps qs x (Fin k) legal is rest =
       let legal' : IsLegal MayFollow f ((ps ++ x ∷ []) ++ qs) =
@@ -71,7 +71,7 @@ module _ (f : Opening) where
       let none : qs ≡ [] = mark_ends (ps ++ x ∷ []) qs k legal' mark in
       subst
       (λ (l : List Delivery).
-        Fin k ∷ map what_of l ≡ map (λ m. Update m) (messages_in l) ++ Fin k ∷ [])
+      Fin k ∷ map what_of l ≡ map (λ m. Update m) (messages_in l) ++ Fin k ∷ [])
       (sym none) refl
 
   -- what waits is its messages, and then its mark
@@ -81,7 +81,7 @@ module _ (f : Opening) where
   all_wait ps (x ∷ qs) legal =
       one_waits ps qs x x.what legal refl
       (all_wait (ps ++ x ∷ []) qs
-        (subst (IsLegal MayFollow f) (sym (append_assoc ps (x ∷ []) qs)) legal))
+      (subst (IsLegal MayFollow f) (sym (append_assoc ps (x ∷ []) qs)) legal))
 
 -- a mark counts as one parcel
 fin_list-length : (o : Option Mark) → length (fin_list o) ≡ bit (is_some o)
@@ -139,8 +139,8 @@ module _ (s : Subscription) (old new : ReaderHold) (l : Progress)
   mine =
       subst
       (λ o. IsSomeAnd o (λ t.
-        IdentityFits t d × (old.seat.asks ≡ asks_after t.asks old.asked)
-        × (t.asks < 1000000000000)))
+      IdentityFits t d × (old.seat.asks ≡ asks_after t.asks old.asked)
+      × (t.asks < 1000000000000)))
       name_is own.name
 
   -- the seat asked as often as the reader
@@ -193,7 +193,7 @@ module _ (s : Subscription) (old new : ReaderHold) (l : Progress)
       let most = lv.stands.full.state.numbered.number in
       let limit = lv.stands.full.state.numbered.limit in
       let count : length (given s.sub.held s.input)
-          ≡ length (received new.reading) + length w + length s.sub.held.messages =
+      ≡ length (received new.reading) + length w + length s.sub.held.messages =
       ap (length {A = Message}) (sym given_is)
       ∙ length-append (received new.reading ++ w) s.sub.held.messages
       ∙ ap (λ n. n + length s.sub.held.messages) (length-append (received new.reading) w) in
@@ -234,18 +234,22 @@ module _ (s : Subscription) (old new : ReaderHold) (l : Progress)
       sym (map-length what_of e.ahead) ∙ ap (length {A = Parcel}) here
       ∙ length-append (map (λ m. Update m) (messages_in e.ahead)) (fin_list (mark_in e.ahead))
       ∙ (λ i.
-        map-length {A = Message} {B = Parcel} (λ m. Update m) (messages_in e.ahead) i
-        + fin_list-length (mark_in e.ahead) i) in
+      map-length {A = Message} {B = Parcel} (λ m. Update m) (messages_in e.ahead) i
+      + fin_list-length (mark_in e.ahead) i) in
       let mark : bit (is_some (mark_in e.ahead))
-          ≡ bit (in_port s.sub.held.mark_out (is_some (mark_in e.taken))) =
+      ≡ bit (in_port s.sub.held.mark_out (is_some (mark_in e.taken))) =
       ap bit (in_port_is (mark_in e.taken) refl) in
       let hand = hand-length new.reading.hand in
       omega (arith, length-append (option_to_list new.reading.hand) (messages_in e.ahead))
 
   pub ahead_few : length e.ahead < 2 ^ 63
   ahead_few =
-      omega (arith, few_waiting, waiting_is,
-        bit-few (in_port s.sub.held.mark_out (is_some (mark_read new.reading))))
+      omega (
+        arith,
+        few_waiting,
+        waiting_is,
+        bit-few (in_port s.sub.held.mark_out (is_some (mark_read new.reading))),
+      )
 
   pub marks_few : bit (in_port s.sub.held.mark_out (is_some (mark_read new.reading)))
       ≤ length e.ahead + bit (is_some new.reading.hand)
@@ -254,15 +258,18 @@ module _ (s : Subscription) (old new : ReaderHold) (l : Progress)
   -- what is so counted is the number of updates that wait
   pub w_is : (n : ℕ)
       → n + bit (in_port s.sub.held.mark_out (is_some (mark_read new.reading)))
-          ≡ length e.ahead + bit (is_some new.reading.hand)
+      ≡ length e.ahead + bit (is_some new.reading.hand)
       → n ≡ length w
   w_is n is = omega (arith, waiting_is)
 
   -- with no mark in the port no fewer updates than parcels wait
   short : mark_in e.ahead ≡ None → length e.ahead ≤ length w
   short none =
-      omega (arith, messages_in-length e.ahead none,
-        length-append (option_to_list new.reading.hand) (messages_in e.ahead))
+      omega (
+        arith,
+        messages_in-length e.ahead none,
+        length-append (option_to_list new.reading.hand) (messages_in e.ahead),
+      )
 
   places_is : e.places ≡ s.places
   places_is = lv.port.1 ∙ sym mine.0.places
@@ -281,9 +288,9 @@ module _ (s : Subscription) (old new : ReaderHold) (l : Progress)
       drained_at empty room bare same =
           ⊎_elim
           (λ (n : IsOut s.sub.held).
-            ⊎_elim (λ m. sym m) (λ m. same ∙ ap (λ b. moved_mark b s.sub.held.mark) m) n.1)
+          ⊎_elim (λ m. sym m) (λ m. same ∙ ap (λ b. moved_mark b s.sub.held.mark) m) n.1)
           (λ (le : s.places ≤ length e.ahead).
-            let long = short bare in absurd (omega (arith, places_is)))
+          let long = short bare in absurd (omega (arith, places_is)))
           lv.drained
 
       at : (o : Option Mark) → mark_in e.ahead ≡ o
@@ -311,7 +318,7 @@ module _ (s : Subscription) (old new : ReaderHold) (l : Progress)
       ap (λ m. map (λ m. Update m) (option_to_list new.reading.hand) ++ m)
       (all_wait e.floor e.taken e.ahead lv.legal)
       ∙ sym (append_assoc (map (λ m. Update m) (option_to_list new.reading.hand))
-        (map (λ m. Update m) (messages_in e.ahead)) (fin_list (mark_in e.ahead)))
+      (map (λ m. Update m) (messages_in e.ahead)) (fin_list (mark_in e.ahead)))
       ∙ ap (λ m. m ++ fin_list (mark_in e.ahead))
       (sym (map-append (λ m. Update m) (option_to_list new.reading.hand) (messages_in e.ahead))) in
       record {
@@ -321,16 +328,19 @@ module _ (s : Subscription) (old new : ReaderHold) (l : Progress)
           slot = ap (λ (m : SeatToken Identity). m.slot) lv.seat ∙ own.slot ∙ sym same.0;
           name = subst
               (λ o. IsSomeAnd o (λ t.
-                IdentityFits t e × (new.seat.asks ≡ asks_after t.asks new.asked)
-                × (t.asks < 1000000000000)))
-              (sym lv.identity)
-              (record {
-                query = query;
-                moved = moved;
-                opened = opened;
-                places = sym places_is;
-                port = mine.0.port ∙ ap port_id (sym lv.port.0);
-              }, asks_is ∙ ap (asks_after s.asks) (sym same.1), mine.2);
+              IdentityFits t e × (new.seat.asks ≡ asks_after t.asks new.asked)
+              × (t.asks < 1000000000000)))
+              (sym lv.identity) (
+                record {
+                  query = query;
+                  moved = moved;
+                  opened = opened;
+                  places = sym places_is;
+                  port = mine.0.port ∙ ap port_id (sym lv.port.0);
+                },
+                asks_is ∙ ap (asks_after s.asks) (sym same.1),
+                mine.2,
+              );
         };
         slot = same.0;
         asked = same.1;
@@ -346,11 +356,11 @@ module _ (s : Subscription) (old new : ReaderHold) (l : Progress)
             extends_trans (known_by d.floor d.taken) (known_by s.input.floor (all_put s.input))
             new.seat.book
             (subst (λ (b : Book). Extends b (known_by d.floor d.taken)) known_put
-              (subst
-                (λ (z : Opening × List Delivery).
-                  Extends (known_by e.floor (e.taken ++ e.ahead)) (known_by z.0 z.1))
-                (λ i. (lv.port.2 i, lv.taken i))
-                (known_later e.floor e.taken e.ahead lv.legal)))
+            (subst
+            (λ (z : Opening × List Delivery).
+            Extends (known_by e.floor (e.taken ++ e.ahead)) (known_by z.0 z.1))
+            (λ i. (lv.port.2 i, lv.taken i))
+            (known_later e.floor e.taken e.ahead lv.legal)))
             lv.stands.later;
         number = number;
         w = w;
@@ -361,8 +371,8 @@ module _ (s : Subscription) (old new : ReaderHold) (l : Progress)
           all =
               given_is ∙ lv.stands.list
               ∙ (λ i.
-                updates (query i) (moved i) new.seat.book (opened i)
-                (upto (sym mk i) (sym number i)));
+              updates (query i) (moved i) new.seat.book (opened i)
+              (upto (sym mk i) (sym number i)));
           rest = fin_list (mark_in e.ahead);
           front = ready_now;
           closes = λ none empty room.
@@ -380,15 +390,15 @@ module _ (s : Subscription) (old new : ReaderHold) (l : Progress)
         overrun =
             subst
             (λ o. IsSomeAnd o (λ t. IfSome x.mark (λ k.
-              k.cause ≡ Overrun
-              → IsOverrun t.query t.moved t.opened t.places t.backlog new.seat.book k.change)))
+            k.cause ≡ Overrun
+            → IsOverrun t.query t.moved t.opened t.places t.backlog new.seat.book k.change)))
             (sym name_is)
             (subst
-              (λ o. IfSome o (λ k.
-                k.cause ≡ Overrun
-                → IsOverrun s.sub.held.query s.sub.held.moved s.sub.held.opened s.places
-                s.sub.held.backlog new.seat.book k.change))
-              (sym mk) lv.stands.overrun);
+            (λ o. IfSome o (λ k.
+            k.cause ≡ Overrun
+            → IsOverrun s.sub.held.query s.sub.held.moved s.sub.held.opened s.places
+            s.sub.held.backlog new.seat.book k.change))
+            (sym mk) lv.stands.overrun);
       }
     where
       known_put : known_by e.floor (e.taken ++ e.ahead) ≡ known_by s.input.floor (all_put s.input)
@@ -398,13 +408,13 @@ module _ (s : Subscription) (old new : ReaderHold) (l : Progress)
       full_at some wait =
           ⊎_elim
           (λ (n : IsOut s.sub.held).
-            let none : length s.sub.held.messages ≡ 0 = ap (length {A = Message}) n.0 in
-            absurd (omega arith))
+          let none : length s.sub.held.messages ≡ 0 = ap (length {A = Message}) n.0 in
+          absurd (omega arith))
           (λ (le : s.places ≤ length e.ahead).
-            let long =
-            short (mark_in-second e.taken e.ahead
-              (ap mark_in (sym put_is) ∙ held_unmoved s new.seat.book lv.stands some)) in
-            omega (arith, places_is))
+          let long =
+          short (mark_in-second e.taken e.ahead
+          (ap mark_in (sym put_is) ∙ held_unmoved s new.seat.book lv.stands some)) in
+          omega (arith, places_is))
           lv.drained
 
       read_mark : (o : Option Mark) → mark_in d.taken ≡ o → IsSome (mark_in d.taken)

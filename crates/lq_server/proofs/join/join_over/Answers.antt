@@ -36,5 +36,5 @@ pub join-requires-send-F : goal.join-requires-send-F
 join-requires-send-F g c κs within =
     param_send 1 _
     (arg_send _ no _
-      (taken _ _ _ g.row.N g.row.R g.row.F (Tuple (param 4 g.row.F-Given ∷ [])) g.N.Named
-        c.type_bounds.send-F c.type_bounds.sync-R))
+    (taken _ _ _ g.row.N g.row.R g.row.F (Tuple (param 4 g.row.F-Given ∷ [])) g.N.Named
+    c.type_bounds.send-F c.type_bounds.sync-R))
