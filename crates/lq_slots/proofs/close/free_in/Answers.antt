@@ -1,4 +1,4 @@
-use Rattle.std.proofs.Common.{◌≡◌, ◌≤◌, ◌∙◌, Option, None, sym, subst, slice_set, arith}
+use Rattle.std.proofs.Common.{◌≤◌, ◌∙◌, Option, None, sym, subst, slice_set, arith}
 use Rattle.std.proofs.lemmas.List.{get_or_read}
 use Rattle.lq_board.specs.Slot.{slot_at}
 use Rattle.lq_subscription.specs.declared.subscription.Subscription.{Subscription}
