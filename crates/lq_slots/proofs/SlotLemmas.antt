@@ -1,16 +1,14 @@
 -- The slots under the lock, one or all.
-use Rattle.std.proofs.Common.{◌≡◌, ◌≢◌, ℕ, zero, suc, ◌+◌, ◌-◌, ◌*◌, ◌<◌, ◌≤◌, ◌^◌, ◌⊎◌, ⊎_elim, Bool, true, false, true≢false, List, [], ◌∷◌, ◌++◌, length, take, Option, Some, None, refl, sym, ap, ◌∙◌, subst, arith, append_assoc, length-append, length-set, get_or-set_same, get_or-set_other, slice_set}
-use Rattle.std.specs.Prelude.{IfSome, IsSome, IsSomeAnd, replicate}
+use Rattle.std.proofs.Common.{◌≡◌, ◌≢◌, ℕ, zero, suc, ◌+◌, ◌-◌, ◌<◌, ◌≤◌, ◌^◌, ◌⊎◌, ⊎_elim, Bool, true, false, List, [], ◌∷◌, ◌++◌, length, take, Option, Some, None, refl, sym, ap, ◌∙◌, subst, arith, length-append, length-set, get_or-set_same, get_or-set_other, slice_set}
 use Rattle.std.proofs.lemmas.List.{get_or-replicate, length-replicate, take-append-le, take_all}
 use mathlib.Core.Logic.{dite}
 use native.Mathlib.Decide.{ℕ_discrete}
-use Rattle.lq_volume.specs.State.{State}
 use Rattle.lq_volume.specs.declared.change.Change.{Change}
 use Rattle.lq_volume.specs.Change.{IsLawful}
 use Rattle.lq_volume.specs.Book.{Book, grown, state_of}
 use Rattle.lq_board.specs.declared.views.Slot.{Slot as Known}
 use Rattle.lq_board.specs.Book.{IsFullBook}
-use Rattle.lq_board.specs.Slot.{slot_at, unused, unused_slots, counted, gone_out, come_back}
+use Rattle.lq_board.specs.Slot.{slot_at, unused, unused_slots, counted}
 use Rattle.lq_board.specs.Token.{KeeperToken}
 use Rattle.lq_update.specs.declared.message.Message.{Message}
 use Rattle.lq_update.specs.declared.mark.Mark.{Mark}
@@ -24,7 +22,7 @@ use Rattle.lq_subscription.specs.declared.subscription.Subscription.{Subscriptio
 use Rattle.lq_subscription.specs.Rule.{message_of, mark_or, messages_in, mark_in}
 use Rattle.lq_subscription.specs.Marking.{hung_mark}
 use Rattle.lq_subscription.specs.Identity.{identity_of, port_id}
-use Rattle.lq_subscription.specs.Standing.{StandsAt, IsFilled, IsStuck, IsOut, IsDrained, SameButPuts, SameButHeld, moved_mark}
+use Rattle.lq_subscription.specs.Standing.{StandsAt, IsFilled, IsStuck, IsOut, SameButPuts, SameButHeld, moved_mark}
 use Rattle.lq_slots.specs.Slots.{IsTaken, SlotStands, asks_of, slot_in, AllStand, OnlyAt, before_of, IsGrown}
 
 -- ---- one slot

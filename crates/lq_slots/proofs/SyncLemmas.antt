@@ -1,11 +1,11 @@
 -- What a reader does under the lock.
-use Rattle.std.proofs.Common.{◌≡◌, ◌≢◌, ℕ, zero, suc, ◌+◌, ◌<◌, ◌≤◌, Bool, true, false, true≢false, List, [], ◌∷◌, ◌++◌, length, Option, Some, None, refl, sym, ap, ◌∙◌, subst, arith, length-set, get_or-set_same, get_or-set_other, slice_set, append_assoc}
-use Rattle.std.specs.Prelude.{IfSome, IsSome, IsSomeAnd, is_none}
+use Rattle.std.proofs.Common.{◌≡◌, ℕ, zero, suc, ◌+◌, ◌<◌, ◌≤◌, Bool, true, false, true≢false, List, ◌++◌, length, Option, Some, None, refl, sym, ap, ◌∙◌, subst, arith, length-set, get_or-set_same, get_or-set_other, slice_set, append_assoc}
+use Rattle.std.specs.Prelude.{IsSome, IsSomeAnd}
 use Rattle.lq_volume.specs.declared.change.Change.{Change}
 use Rattle.lq_volume.specs.Book.{Book, Extends, grown}
 use Rattle.lq_board.specs.declared.views.Slot.{Slot as Known}
 use Rattle.lq_board.specs.Slot.{slot_at, unused, gone_out, come_back}
-use Rattle.lq_board.specs.Token.{KeeperToken, SeatToken}
+use Rattle.lq_board.specs.Token.{SeatToken}
 use Rattle.lq_update.specs.declared.message.Message.{Message}
 use Rattle.lq_update.specs.declared.mark.Mark.{Mark}
 use Rattle.lq_port.specs.End.{End, all_put}
@@ -16,15 +16,15 @@ use Rattle.lq_subscription.specs.declared.identity.Shut.{Shut}
 use Rattle.lq_subscription.specs.declared.identity.Shut.TheVariants.{Never, At, Late}
 use Rattle.lq_subscription.specs.declared.subscription.Subscription.{Subscription}
 use Rattle.lq_subscription.specs.Rule.{messages_in}
-use Rattle.lq_subscription.specs.Marking.{hung_mark, first_close}
+use Rattle.lq_subscription.specs.Marking.{hung_mark}
 use Rattle.lq_subscription.specs.Identity.{identity_of, port_id, port_id_inj}
 use Rattle.lq_subscription.specs.Reading.{ReadingHold}
-use Rattle.lq_subscription.specs.Standing.{StandsAt, IsFilled, IsStuck, IsDrained, SameButPuts, SameButHeld, ShutFits}
+use Rattle.lq_subscription.specs.Standing.{StandsAt, IsDrained, SameButPuts, SameButHeld, ShutFits}
 use Rattle.lq_slots.specs.Slots.{IsTaken, SlotStands, asks_of, OnlyAt}
 use Rattle.lq_slots.specs.Opening.{IdentityFits, asks_after, name_or}
 use Rattle.lq_slots.specs.Progress.{ShowsProgress}
 use Rattle.lq_slots.specs.declared.sync.Progress.{Progress}
-use Rattle.lq_slots.proofs.SlotLemmas.{taken_then, identity_alike, identity_others, stuck_filled}
+use Rattle.lq_slots.proofs.SlotLemmas.{taken_then, identity_alike}
 
 -- a book that extends one that extends a third extends the third
 extends_twice : (b c d : Book) → Extends c b → Extends d c → Extends d b

@@ -1,5 +1,5 @@
 -- The list of the taken places.
-use Rattle.std.proofs.Common.{◌≡◌, ◌≢◌, ◌⊎◌, ⊎_elim, inl, inr, ℕ, zero, suc, ◌+◌, ◌-◌, ◌<◌, ◌≤◌, Bool, true, false, true≢false, List, [], ◌∷◌, ◌++◌, length, Option, Some, None, refl, sym, ap, ◌∙◌, subst, arith, length-append, slice_set}
+use Rattle.std.proofs.Common.{◌≡◌, ◌≢◌, ◌⊎◌, ⊎_elim, inl, inr, ℕ, zero, suc, ◌+◌, ◌-◌, ◌<◌, ◌≤◌, true, false, true≢false, List, [], ◌∷◌, ◌++◌, length, Option, Some, None, refl, sym, ap, ◌∙◌, subst, arith, length-append, slice_set}
 use Rattle.std.specs.Prelude.{IsSome, is_some, slice_index_or}
 use Rattle.std.specs.List.{remove}
 use Rattle.std.proofs.lemmas.Bool.{cases_lt}
@@ -14,7 +14,7 @@ use Rattle.lq_board.specs.declared.views.Slot.{Slot as Known}
 use Rattle.lq_volume.specs.Book.{Book}
 use Rattle.lq_subscription.specs.declared.identity.Identity.{Identity}
 use Rattle.lq_subscription.specs.declared.subscription.Subscription.{Subscription}
-use Rattle.lq_slots.specs.Slots.{SlotStands, slot_in, place_at, IsPlaceIn, IsListed, IsDropped, IsReadyAt, AllReady, all_taken, is_full}
+use Rattle.lq_slots.specs.Slots.{SlotStands, slot_in, place_at, IsListed, IsDropped, IsReadyAt, AllReady, all_taken, is_full}
 use Rattle.lq_slots.proofs.SlotLemmas.{in_here, in_else}
 
 -- a slot is free or taken

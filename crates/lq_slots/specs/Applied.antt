@@ -1,8 +1,7 @@
 -- What a change leaves in a seat's book.
-use Rattle.std.specs.Prelude.{◌≡◌, ℕ, ◌<◌, [], ◌∷◌, length}
+use Rattle.std.specs.Prelude.{◌≡◌, ◌<◌, [], ◌∷◌, length}
 use Rattle.lq_volume.specs.declared.change.Change.{Change}
 use Rattle.lq_volume.specs.declared.change.Applied.{Applied}
-use Rattle.lq_volume.specs.State.{State}
 use Rattle.lq_volume.specs.Change.{node_of}
 use Rattle.lq_volume.specs.Book.{Book, Extends, grown, state_of}
 use Rattle.lq_slots.specs.Slots.{before_of}

@@ -1,5 +1,5 @@
 -- What the lock shows of a subscription.
-use Rattle.std.specs.Prelude.{◌≡◌, ℕ, ◌<◌, length, Option, Some, IsSome}
+use Rattle.std.specs.Prelude.{◌≡◌, ◌<◌, length, Some, IsSome}
 use mathlib.Core.List.{IsPrefix}
 use Rattle.lq_volume.specs.Book.{Extends}
 use Rattle.lq_board.specs.Token.{SeatToken}

@@ -187,6 +187,7 @@ pub(crate) fn free_in(
     ensures book { slots.new.keeper.book ≡ slots.old.keeper.book }
     ensures openings { slots.new.openings ≡ slots.old.openings }
     ensures holding { SlotsStand slots.new slots.new.keeper.book }
+    ensures freed { slot_in slots.new.subscriptions.items place ≡ None }
     ensures later { Extends slots.old.keeper.book seat.book }
 {
     let keeper = &mut slots.keeper;

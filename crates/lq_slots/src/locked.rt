@@ -106,6 +106,7 @@ impl<N: Named> Locked<N> {
     pub fn give_back(&mut self, board: &Board<Identity>, seat: Seat<Identity>)
         requires { (board.now ≡ N.board) × (seat.board ≡ N.board) × (seat.slot ≡ 0) }
         ensures same { self.new ≡ self.old }
+        ensures later { Extends self.old seat.book }
     {
         board.join(&mut self.slots.keeper, seat);
         self.seats = self.seats.saturating_sub(1);
@@ -334,6 +335,7 @@ impl<N: Named> Locked<N> {
         requires seat { (seat.slot ≡ place)
             × IsSomeAnd seat.name (λ t. seat.asks ≡ asks_after t.asks asked) }
         ensures same { self.new ≡ self.old }
+        ensures later { Extends self.old seat.book }
     {
         free_in(board, &mut self.slots, place as usize, seat, asked);
     }

@@ -1,9 +1,9 @@
-use Rattle.std.proofs.Common.{◌≡◌, ◌≤◌, Option, None, sym, subst, slice_set, arith}
+use Rattle.std.proofs.Common.{◌≤◌, ◌∙◌, Option, None, sym, subst, slice_set, arith}
 use Rattle.std.proofs.lemmas.List.{get_or_read}
 use Rattle.lq_board.specs.Slot.{slot_at}
 use Rattle.lq_subscription.specs.declared.subscription.Subscription.{Subscription}
 use Rattle.lq_slots.specs.Slots.{SlotStands, IsListed, asks_of, slot_in}
-use Rattle.lq_slots.proofs.SlotLemmas.{all_stand-step}
+use Rattle.lq_slots.proofs.SlotLemmas.{all_stand-step, in_here}
 use Rattle.lq_slots.proofs.TakenLemmas.{listed-drop}
 use Rattle.lq_slots.proofs.close.free_in.Goals as goal
 
@@ -32,3 +32,10 @@ returns-clause-holding c =
           (listed-drop was.taken.items c.take_out.new.taken.items items place c.requires.holding.1
           wide c.take_out.ensures),
     )
+
+pub returns-clause-freed : goal.returns-clause-freed
+returns-clause-freed c =
+    let wide = c.requires.holding.0.wide in
+    let within = c.requires.place.1 in
+    in_here c.args.slots.now.subscriptions.items c.args.place c.free_at.new.slot (omega arith)
+    ∙ c.free_at.ensures.free

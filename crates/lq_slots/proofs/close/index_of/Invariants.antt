@@ -1,4 +1,4 @@
-use Rattle.std.proofs.Common.{◌≡◌, ◌≢◌, ℕ, ◌<◌}
+use Rattle.std.proofs.Common.{◌≢◌, ℕ, ◌<◌}
 use Rattle.lq_slots.specs.Slots.{place_at}
 use Rattle.lq_slots.proofs.close.index_of.Given as goal
 

@@ -1,15 +1,12 @@
-use Rattle.std.proofs.Common.{◌≡◌, ℕ, List, length, refl, sym, ap, ◌∙◌}
+use Rattle.std.proofs.Common.{◌≡◌, List, length, refl, ap, ◌∙◌}
 use Rattle.lq_volume.specs.State.{State}
 use Rattle.lq_volume.specs.Book.{state_of}
 use Rattle.lq_volume.specs.Result.{result_of}
 use Rattle.lq_value.specs.declared.entry.Entry.{Entry}
 use Rattle.lq_board.specs.Token.{KeeperToken}
-use Rattle.lq_update.specs.Fold.{Folding, opened_at}
+use Rattle.lq_update.specs.Fold.{opened_at}
 use Rattle.lq_desk.specs.Held.{Prepared}
-use Rattle.lq_port.specs.End.{End}
 use Rattle.lq_subscription.specs.Reading.{ReadingHold}
-use Rattle.lq_subscription.specs.declared.delivery.Delivery.{Delivery}
-use Rattle.lq_subscription.specs.declared.delivery.Opening.{Opening}
 use Rattle.lq_subscription.specs.declared.identity.Identity.{Identity}
 use Rattle.lq_slots.proofs.OpenLemmas.{begun_new}
 use Rattle.lq_slots.proofs.open.begin.Goals as goal

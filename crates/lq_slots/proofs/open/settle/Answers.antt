@@ -1,4 +1,4 @@
-use Rattle.std.proofs.Common.{◌≡◌, ◌+◌, ◌++◌, ◌∷◌, [], List, ℕ, refl, sym, ap, ◌∙◌, subst, slice_set, Some}
+use Rattle.std.proofs.Common.{◌≡◌, ◌+◌, List, ℕ, refl, sym, ap, ◌∙◌, subst, slice_set, Some}
 use Rattle.lq_volume.specs.Book.{Book}
 use Rattle.lq_board.specs.Token.{KeeperToken}
 use Rattle.lq_subscription.specs.declared.identity.Identity.{Identity}

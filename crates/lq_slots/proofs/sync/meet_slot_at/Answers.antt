@@ -1,4 +1,4 @@
-use Rattle.std.proofs.Common.{◌≡◌, true, None, sym, subst, ◌∙◌}
+use Rattle.std.proofs.Common.{sym, subst}
 use Rattle.lq_board.specs.Slot.{slot_at}
 use Rattle.lq_slots.specs.Slots.{SlotStands}
 use Rattle.lq_slots.proofs.SyncLemmas.{fits_met, asks_met}

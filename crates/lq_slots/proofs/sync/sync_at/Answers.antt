@@ -1,8 +1,5 @@
 use Rattle.std.proofs.Common.{sym, subst, ◌∙◌}
 use Rattle.lq_board.specs.Slot.{slot_at}
-use Rattle.lq_port.specs.End.{End}
-use Rattle.lq_subscription.specs.declared.delivery.Delivery.{Delivery}
-use Rattle.lq_subscription.specs.declared.delivery.Opening.{Opening}
 use Rattle.lq_slots.specs.Slots.{SlotStands}
 use Rattle.lq_slots.proofs.SyncLemmas.{same_port}
 use Rattle.lq_slots.proofs.sync.sync_at.Goals as goal

@@ -1,5 +1,5 @@
-use Rattle.std.proofs.Common.{◌≡◌, refl, sym, ap, ◌∙◌, subst}
-use Rattle.lq_volume.specs.Book.{Book, state_of}
+use Rattle.std.proofs.Common.{refl, sym, ap}
+use Rattle.lq_volume.specs.Book.{state_of}
 use Rattle.lq_slots.proofs.SlotLemmas.{all_stand-none}
 use Rattle.lq_slots.proofs.TakenLemmas.{listed-none}
 use Rattle.lq_slots.proofs.named.Base.new.Goals as goal
