@@ -61,7 +61,8 @@ module _ (f : Opening) where
       → x.what ≡ w
       → map what_of qs ≡ map (λ m. Update m) (messages_in qs) ++ fin_list (mark_in qs)
       → w ∷ map what_of qs
-          ≡ map (λ m. Update m) (message_of w ++ messages_in qs) ++ fin_list (mark_or w (mark_in qs))
+          ≡ map (λ m. Update m) (message_of w ++ messages_in qs)
+          ++ fin_list (mark_or w (mark_in qs))
   one_waits ps qs x (Update m) legal is rest = ap (λ l. Update m ∷ l) rest
   one_waits ps qs x (Fin k) legal is rest =
       let legal' : IsLegal MayFollow f ((ps ++ x ∷ []) ++ qs) =
@@ -122,7 +123,8 @@ moved_mark-is_some false o f = refl
 -- s is what the lock shows of the subscription of a reader, before and after a sync
 module _ (s : Subscription) (old new : ReaderHold) (l : Progress)
     (lv : ShowsProgress s old.seat new.seat old.reading new.reading l)
-    (same : (new.slot ≡ old.slot) × (new.asked ≡ old.asked)) (r : IsTold old.reading) (own : IsOwn old) where
+    (same : (new.slot ≡ old.slot) × (new.asked ≡ old.asked)) (r : IsTold old.reading)
+    (own : IsOwn old) where
   abbrev d : End Delivery Opening
   d = old.reading.port
 
@@ -179,7 +181,8 @@ module _ (s : Subscription) (old new : ReaderHold) (l : Progress)
   given_is : received new.reading ++ w ++ s.sub.held.messages ≡ given s.sub.held s.input
   given_is =
       ap (λ m. m ++ s.sub.held.messages)
-      (sym (append_assoc (received new.reading) (option_to_list new.reading.hand) (messages_in e.ahead))
+      (sym (append_assoc (received new.reading) (option_to_list new.reading.hand)
+        (messages_in e.ahead))
       ∙ ap (λ m. m ++ messages_in e.ahead) (sym all_taken)
       ∙ sym (messages_in-append e.taken e.ahead)
       ∙ ap messages_in (sym put_is))

@@ -9,4 +9,6 @@ pub record IsOwn (r : ReaderHold) : Type 0 where
   pub low : 0 < r.slot
   pub high : r.slot < 65
   pub slot : r.seat.slot ≡ r.slot
-  pub name : IsSomeAnd r.seat.name (λ t. IdentityFits t r.reading.port × (r.seat.asks ≡ asks_after t.asks r.asked) × (t.asks < 1000000000000))
+  pub name : IsSomeAnd r.seat.name (λ t.
+      IdentityFits t r.reading.port × (r.seat.asks ≡ asks_after t.asks r.asked)
+      × (t.asks < 1000000000000))
