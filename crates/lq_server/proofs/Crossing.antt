@@ -5,7 +5,6 @@ use denote.RattleType.{RattleType}
 use denote.Param.Send.{IsSend, IsSync, sendable, view_send, view_sync}
 use denote.Param.SendFields.{declared_send, declared_sync}
 use Rattle.std.proofs.Crossing.{crosses}
-use Rattle.std.proofs.Crossing as heap
 use Rattle.std.specs.contracts.vec.Vec as vec
 use Rattle.std.specs.contracts.alloc.Global as global
 use Rattle.std.specs.contracts.option.Option as option
@@ -66,13 +65,13 @@ slots_send = search (sendable, crosses, slot_send) depth 20
 phantom_send : (N : RattleType) → IsSend (phantom.the_row N)
 phantom_send N = search (sendable, crosses) depth 20
 
--- what the lock has, field by field
+-- what the lock has
 locked_send : (N : RattleType) (g : Ghosts N.Denot) → IsSend (locked.the_row N g)
 locked_send N g =
     view_send (in_locked.the_row N g) _ _ _ _
     (declared_send (in_locked.the_type N g)
-      (keeper_send, (slots_send, (found_volume.the_send, (search sendable, (search sendable,
-        (heap.send, (phantom_send N, tt))))))))
+      (search (sendable, crosses, keeper_send, slots_send, found_volume.the_send, phantom_send N)
+        depth 40))
 
 mutex_sync : (N : RattleType) (g : Ghosts N.Denot) → IsSync (mutex.the_row (locked.the_row N g))
 mutex_sync N g = search (sendable, crosses, locked_send N g) depth 20

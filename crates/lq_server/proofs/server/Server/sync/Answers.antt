@@ -7,7 +7,7 @@ use Rattle.lq_server.specs.Own.{IsOwn}
 use Rattle.lq_server.specs.Syncing.{IsSynced, bit, in_port}
 use Rattle.lq_server.specs.declared.server.Synced.{Synced}
 use Rattle.lq_server.proofs.SyncLemmas.{ahead_few, marks_few, w_is, synced}
-use Rattle.lq_server.proofs.subscriptions.Server.sync.Goals as goal
+use Rattle.lq_server.proofs.server.Server.sync.Goals as goal
 
 pub waiting-waiting-requires-clause-few : goal.waiting-waiting-requires-clause-few
 waiting-waiting-requires-clause-few g c =
