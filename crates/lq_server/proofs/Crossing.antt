@@ -42,13 +42,25 @@ use Rattle.lq_server.specs.contracts.server.Server.TheInside as in_server
 -- what is under the lock, from the inside out
 predicate_send : IsSend predicate.the_row
 predicate_send =
-    search (sendable, crosses, tree_crosses, found_attr.the_send, found_literal.the_send,
-      found_op.the_send) depth 20
+    search (
+      sendable,
+      crosses,
+      tree_crosses,
+      found_attr.the_send,
+      found_literal.the_send,
+      found_op.the_send,
+    ) depth 20
 
 sub_send : IsSend sub.the_row
 sub_send =
-    search (sendable, crosses, predicate_send, found_attr.the_send, found_message.the_send,
-      found_mark.the_send) depth 20
+    search (
+      sendable,
+      crosses,
+      predicate_send,
+      found_attr.the_send,
+      found_message.the_send,
+      found_mark.the_send,
+    ) depth 20
 
 in_send : IsSend (port_in.the_row delivery.the_row opening_at.the_row ghosts)
 in_send = found_in.the_send delivery.the_row opening_at.the_row ghosts found_delivery.the_send
@@ -70,8 +82,8 @@ locked_send : (N : RattleType) (g : Ghosts N.Denot) → IsSend (locked.the_row N
 locked_send N g =
     view_send (in_locked.the_row N g) _ _ _ _
     (declared_send (in_locked.the_type N g)
-      (search (sendable, crosses, keeper_send, slots_send, found_volume.the_send, phantom_send N)
-        depth 40))
+    (search (sendable, crosses, keeper_send, slots_send, found_volume.the_send, phantom_send N)
+    depth 40))
 
 mutex_sync : (N : RattleType) (g : Ghosts N.Denot) → IsSync (mutex.the_row (locked.the_row N g))
 mutex_sync N g = search (sendable, crosses, locked_send N g) depth 20

@@ -1,8 +1,7 @@
 -- What the lock shows is what a sync tells.
-use Rattle.std.proofs.Common.{◌≡◌, ℕ, suc, ◌+◌, ◌-◌, ◌*◌, ◌<◌, ◌≤◌, ◌^◌, Bool, true, false, true≢false, List, [], ◌∷◌, ◌++◌, length, map, Option, Some, None, refl, sym, ap, ◌∙◌, subst, arith, append_assoc, append-nil, length-append, ⊎_elim}
+use Rattle.std.proofs.Common.{◌≡◌, ℕ, suc, ◌+◌, ◌<◌, ◌≤◌, ◌^◌, Bool, true, false, true≢false, List, [], ◌∷◌, ◌++◌, length, map, Option, Some, None, refl, sym, ap, ◌∙◌, subst, arith, append_assoc, append-nil, length-append, ⊎_elim}
 use Rattle.std.specs.Prelude.{IfSome, IsSome, IsSomeAnd, is_some, option_to_list}
 use Rattle.std.proofs.lemmas.List.{map-append}
-use Rattle.lq_formula.specs.Query.{Query}
 use Rattle.lq_volume.specs.Book.{Book, Extends}
 use Rattle.lq_board.specs.Token.{SeatToken}
 use Rattle.lq_update.specs.declared.message.Message.{Message}
@@ -10,7 +9,7 @@ use Rattle.lq_update.specs.declared.mark.Mark.{Mark}
 use Rattle.lq_update.specs.declared.mark.Cause.TheVariants.{Overrun}
 use Rattle.lq_update.specs.declared.parcel.Parcel.{Parcel}
 use Rattle.lq_update.specs.declared.parcel.Parcel.TheVariants.{Update, Fin}
-use Rattle.lq_port.specs.End.{End, all_put, IsSamePort}
+use Rattle.lq_port.specs.End.{End, all_put}
 use Rattle.lq_port.specs.Port.{IsLegal}
 use Rattle.lq_subscription.specs.declared.delivery.Delivery.{Delivery}
 use Rattle.lq_subscription.specs.declared.delivery.Opening.{Opening}
@@ -21,13 +20,13 @@ use Rattle.lq_subscription.specs.Rule.{floor_of, query_of, message_of, mark_or, 
 use Rattle.lq_subscription.specs.LegalList.{known_by}
 use Rattle.lq_subscription.specs.Marking.{hung_mark}
 use Rattle.lq_subscription.specs.Identity.{identity_of, port_id}
-use Rattle.lq_subscription.specs.Reading.{ReadingHold, known, received, ready, mark_read, what_of, IsTold}
+use Rattle.lq_subscription.specs.Reading.{received, ready, mark_read, what_of, IsTold}
 use Rattle.lq_subscription.specs.Standing.{given, upto, moved_mark, IsOut, ShutFits, IsOverrun}
 use Rattle.lq_server.specs.Own.{IsOwn}
 use Rattle.lq_slots.specs.Opening.{IdentityFits, asks_after}
 use Rattle.lq_slots.specs.Progress.{ShowsProgress}
 use Rattle.lq_slots.specs.declared.sync.Progress.{Progress}
-use Rattle.lq_server.specs.Syncing.{bit, in_port, fin_list, IsListed, IsSynced}
+use Rattle.lq_server.specs.Syncing.{bit, in_port, fin_list, IsSynced}
 use Rattle.lq_server.specs.Hold.{ReaderHold}
 use Rattle.lq_server.specs.declared.server.Synced.{Synced}
 use Rattle.lq_server.proofs.ParcelLemmas.{extends_self, extends_trans, messages_in-append, mark_in-append, mark_in-second, mark_in-first, last_book-snoc, messages_in-length, moved_mark-some, held_unmoved}
@@ -61,8 +60,8 @@ module _ (f : Opening) where
       → x.what ≡ w
       → map what_of qs ≡ map (λ m. Update m) (messages_in qs) ++ fin_list (mark_in qs)
       → w ∷ map what_of qs
-          ≡ map (λ m. Update m) (message_of w ++ messages_in qs)
-          ++ fin_list (mark_or w (mark_in qs))
+      ≡ map (λ m. Update m) (message_of w ++ messages_in qs)
+      ++ fin_list (mark_or w (mark_in qs))
   one_waits ps qs x (Update m) legal is rest = ap (λ l. Update m ∷ l) rest
   one_waits ps qs x (Fin k) legal is rest =
       let legal' : IsLegal MayFollow f ((ps ++ x ∷ []) ++ qs) =
@@ -72,7 +71,7 @@ module _ (f : Opening) where
       let none : qs ≡ [] = mark_ends (ps ++ x ∷ []) qs k legal' mark in
       subst
       (λ (l : List Delivery).
-        Fin k ∷ map what_of l ≡ map (λ m. Update m) (messages_in l) ++ Fin k ∷ [])
+      Fin k ∷ map what_of l ≡ map (λ m. Update m) (messages_in l) ++ Fin k ∷ [])
       (sym none) refl
 
   -- what waits is its messages, and then its mark
@@ -82,7 +81,7 @@ module _ (f : Opening) where
   all_wait ps (x ∷ qs) legal =
       one_waits ps qs x x.what legal refl
       (all_wait (ps ++ x ∷ []) qs
-        (subst (IsLegal MayFollow f) (sym (append_assoc ps (x ∷ []) qs)) legal))
+      (subst (IsLegal MayFollow f) (sym (append_assoc ps (x ∷ []) qs)) legal))
 
 -- a mark counts as one parcel
 fin_list-length : (o : Option Mark) → length (fin_list o) ≡ bit (is_some o)
@@ -141,8 +140,8 @@ module _ (s : Subscription) (old new : ReaderHold) (l : Progress)
   mine =
       subst
       (λ o. IsSomeAnd o (λ t.
-        IdentityFits t d × (old.seat.asks ≡ asks_after t.asks old.asked)
-        × (t.asks < 1000000000000)))
+      IdentityFits t d × (old.seat.asks ≡ asks_after t.asks old.asked)
+      × (t.asks < 1000000000000)))
       name_is own.name
 
   -- the seat asked as often as the reader
@@ -182,7 +181,7 @@ module _ (s : Subscription) (old new : ReaderHold) (l : Progress)
   given_is =
       ap (λ m. m ++ s.sub.held.messages)
       (sym (append_assoc (received new.reading) (option_to_list new.reading.hand)
-        (messages_in e.ahead))
+      (messages_in e.ahead))
       ∙ ap (λ m. m ++ messages_in e.ahead) (sym all_taken)
       ∙ sym (messages_in-append e.taken e.ahead)
       ∙ ap messages_in (sym put_is))
@@ -196,7 +195,7 @@ module _ (s : Subscription) (old new : ReaderHold) (l : Progress)
       let most = lv.stands.full.state.numbered.number in
       let limit = lv.stands.full.state.numbered.limit in
       let count : length (given s.sub.held s.input)
-          ≡ length (received new.reading) + length w + length s.sub.held.messages =
+      ≡ length (received new.reading) + length w + length s.sub.held.messages =
       ap (length {A = Message}) (sym given_is)
       ∙ length-append (received new.reading ++ w) s.sub.held.messages
       ∙ ap (λ n. n + length s.sub.held.messages) (length-append (received new.reading) w) in
@@ -237,18 +236,22 @@ module _ (s : Subscription) (old new : ReaderHold) (l : Progress)
       sym (map-length what_of e.ahead) ∙ ap (length {A = Parcel}) here
       ∙ length-append (map (λ m. Update m) (messages_in e.ahead)) (fin_list (mark_in e.ahead))
       ∙ (λ i.
-        map-length {A = Message} {B = Parcel} (λ m. Update m) (messages_in e.ahead) i
-        + fin_list-length (mark_in e.ahead) i) in
+      map-length {A = Message} {B = Parcel} (λ m. Update m) (messages_in e.ahead) i
+      + fin_list-length (mark_in e.ahead) i) in
       let mark : bit (is_some (mark_in e.ahead))
-          ≡ bit (in_port s.sub.held.mark_out (is_some (mark_in e.taken))) =
+      ≡ bit (in_port s.sub.held.mark_out (is_some (mark_in e.taken))) =
       ap bit (in_port_is (mark_in e.taken) refl) in
       let hand = hand-length new.reading.hand in
       omega (arith, length-append (option_to_list new.reading.hand) (messages_in e.ahead))
 
   pub ahead_few : length e.ahead < 2 ^ 63
   ahead_few =
-      omega (arith, few_waiting, waiting_is,
-        bit-few (in_port s.sub.held.mark_out (is_some (mark_read new.reading))))
+      omega (
+        arith,
+        few_waiting,
+        waiting_is,
+        bit-few (in_port s.sub.held.mark_out (is_some (mark_read new.reading))),
+      )
 
   pub marks_few : bit (in_port s.sub.held.mark_out (is_some (mark_read new.reading)))
       ≤ length e.ahead + bit (is_some new.reading.hand)
@@ -257,15 +260,18 @@ module _ (s : Subscription) (old new : ReaderHold) (l : Progress)
   -- what is so counted is the number of updates that wait
   pub w_is : (n : ℕ)
       → n + bit (in_port s.sub.held.mark_out (is_some (mark_read new.reading)))
-          ≡ length e.ahead + bit (is_some new.reading.hand)
+      ≡ length e.ahead + bit (is_some new.reading.hand)
       → n ≡ length w
   w_is n is = omega (arith, waiting_is)
 
   -- with no mark in the port no fewer updates than parcels wait
   short : mark_in e.ahead ≡ None → length e.ahead ≤ length w
   short none =
-      omega (arith, messages_in-length e.ahead none,
-        length-append (option_to_list new.reading.hand) (messages_in e.ahead))
+      omega (
+        arith,
+        messages_in-length e.ahead none,
+        length-append (option_to_list new.reading.hand) (messages_in e.ahead),
+      )
 
   places_is : e.places ≡ s.places
   places_is = lv.port.1 ∙ sym mine.0.places
@@ -284,9 +290,9 @@ module _ (s : Subscription) (old new : ReaderHold) (l : Progress)
       drained_at empty room bare same =
           ⊎_elim
           (λ (n : IsOut s.sub.held).
-            ⊎_elim (λ m. sym m) (λ m. same ∙ ap (λ b. moved_mark b s.sub.held.mark) m) n.1)
+          ⊎_elim (λ m. sym m) (λ m. same ∙ ap (λ b. moved_mark b s.sub.held.mark) m) n.1)
           (λ (le : s.places ≤ length e.ahead).
-            let long = short bare in absurd (omega (arith, places_is)))
+          let long = short bare in absurd (omega (arith, places_is)))
           lv.drained
 
       at : (o : Option Mark) → mark_in e.ahead ≡ o
@@ -314,7 +320,7 @@ module _ (s : Subscription) (old new : ReaderHold) (l : Progress)
       ap (λ m. map (λ m. Update m) (option_to_list new.reading.hand) ++ m)
       (all_wait e.floor e.taken e.ahead lv.legal)
       ∙ sym (append_assoc (map (λ m. Update m) (option_to_list new.reading.hand))
-        (map (λ m. Update m) (messages_in e.ahead)) (fin_list (mark_in e.ahead)))
+      (map (λ m. Update m) (messages_in e.ahead)) (fin_list (mark_in e.ahead)))
       ∙ ap (λ m. m ++ fin_list (mark_in e.ahead))
       (sym (map-append (λ m. Update m) (option_to_list new.reading.hand) (messages_in e.ahead))) in
       record {
@@ -324,16 +330,19 @@ module _ (s : Subscription) (old new : ReaderHold) (l : Progress)
           slot = ap (λ (m : SeatToken Identity). m.slot) lv.seat ∙ own.slot ∙ sym same.0;
           name = subst
               (λ o. IsSomeAnd o (λ t.
-                IdentityFits t e × (new.seat.asks ≡ asks_after t.asks new.asked)
-                × (t.asks < 1000000000000)))
-              (sym lv.identity)
-              (record {
-                query = query;
-                moved = moved;
-                opened = opened;
-                places = sym places_is;
-                port = mine.0.port ∙ ap port_id (sym lv.port.0);
-              }, asks_is ∙ ap (asks_after s.asks) (sym same.1), mine.2);
+              IdentityFits t e × (new.seat.asks ≡ asks_after t.asks new.asked)
+              × (t.asks < 1000000000000)))
+              (sym lv.identity) (
+                record {
+                  query = query;
+                  moved = moved;
+                  opened = opened;
+                  places = sym places_is;
+                  port = mine.0.port ∙ ap port_id (sym lv.port.0);
+                },
+                asks_is ∙ ap (asks_after s.asks) (sym same.1),
+                mine.2,
+              );
         };
         slot = same.0;
         asked = same.1;
@@ -349,11 +358,11 @@ module _ (s : Subscription) (old new : ReaderHold) (l : Progress)
             extends_trans (known_by d.floor d.taken) (known_by s.input.floor (all_put s.input))
             new.seat.book
             (subst (λ (b : Book). Extends b (known_by d.floor d.taken)) known_put
-              (subst
-                (λ (z : Opening × List Delivery).
-                  Extends (known_by e.floor (e.taken ++ e.ahead)) (known_by z.0 z.1))
-                (λ i. (lv.port.2 i, lv.taken i))
-                (known_later e.floor e.taken e.ahead lv.legal)))
+            (subst
+            (λ (z : Opening × List Delivery).
+            Extends (known_by e.floor (e.taken ++ e.ahead)) (known_by z.0 z.1))
+            (λ i. (lv.port.2 i, lv.taken i))
+            (known_later e.floor e.taken e.ahead lv.legal)))
             lv.stands.later;
         number = number;
         w = w;
@@ -364,8 +373,8 @@ module _ (s : Subscription) (old new : ReaderHold) (l : Progress)
           all =
               given_is ∙ lv.stands.list
               ∙ (λ i.
-                updates (query i) (moved i) new.seat.book (opened i)
-                (upto (sym mk i) (sym number i)));
+              updates (query i) (moved i) new.seat.book (opened i)
+              (upto (sym mk i) (sym number i)));
           rest = fin_list (mark_in e.ahead);
           front = ready_now;
           closes = λ none empty room.
@@ -383,15 +392,15 @@ module _ (s : Subscription) (old new : ReaderHold) (l : Progress)
         overrun =
             subst
             (λ o. IsSomeAnd o (λ t. IfSome x.mark (λ k.
-              k.cause ≡ Overrun
-              → IsOverrun t.query t.moved t.opened t.places t.backlog new.seat.book k.change)))
+            k.cause ≡ Overrun
+            → IsOverrun t.query t.moved t.opened t.places t.backlog new.seat.book k.change)))
             (sym name_is)
             (subst
-              (λ o. IfSome o (λ k.
-                k.cause ≡ Overrun
-                → IsOverrun s.sub.held.query s.sub.held.moved s.sub.held.opened s.places
-                s.sub.held.backlog new.seat.book k.change))
-              (sym mk) lv.stands.overrun);
+            (λ o. IfSome o (λ k.
+            k.cause ≡ Overrun
+            → IsOverrun s.sub.held.query s.sub.held.moved s.sub.held.opened s.places
+            s.sub.held.backlog new.seat.book k.change))
+            (sym mk) lv.stands.overrun);
       }
     where
       known_put : known_by e.floor (e.taken ++ e.ahead) ≡ known_by s.input.floor (all_put s.input)
@@ -401,13 +410,13 @@ module _ (s : Subscription) (old new : ReaderHold) (l : Progress)
       full_at some wait =
           ⊎_elim
           (λ (n : IsOut s.sub.held).
-            let none : length s.sub.held.messages ≡ 0 = ap (length {A = Message}) n.0 in
-            absurd (omega arith))
+          let none : length s.sub.held.messages ≡ 0 = ap (length {A = Message}) n.0 in
+          absurd (omega arith))
           (λ (le : s.places ≤ length e.ahead).
-            let long =
-            short (mark_in-second e.taken e.ahead
-              (ap mark_in (sym put_is) ∙ held_unmoved s new.seat.book lv.stands some)) in
-            omega (arith, places_is))
+          let long =
+          short (mark_in-second e.taken e.ahead
+          (ap mark_in (sym put_is) ∙ held_unmoved s new.seat.book lv.stands some)) in
+          omega (arith, places_is))
           lv.drained
 
       read_mark : (o : Option Mark) → mark_in d.taken ≡ o → IsSome (mark_in d.taken)

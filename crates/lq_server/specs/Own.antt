@@ -1,6 +1,5 @@
 -- A reader whose seat is its own.
-use Rattle.std.specs.Prelude.{◌≡◌, ℕ, ◌<◌, IsSomeAnd}
-use Rattle.lq_subscription.specs.declared.identity.Identity.{Identity}
+use Rattle.std.specs.Prelude.{◌≡◌, ◌<◌, IsSomeAnd}
 use Rattle.lq_slots.specs.Opening.{IdentityFits, asks_after}
 use Rattle.lq_server.specs.Hold.{ReaderHold}
 

@@ -36,22 +36,13 @@ pub fn join_over<
     R: Threads + Wait + Sync,
     F: Work<Given: Send> + Send + Drop,
     G: Work + Drop,
->(
-    rt: &R,
-    server: &Server<N>,
-    first: F,
-    second: G,
-) -> (F::Given, G::Given)
+>(rt: &R, server: &Server<N>, first: F, second: G) -> (F::Given, G::Given)
     requires first { F.can first N.board }
     requires second { G.can second N.board }
     ensures first { F.gives first N.board result.0 }
     ensures second { G.gives second N.board result.1 }
 {
-    join(
-        rt,
-        || first.work(rt, server),
-        || second.work(rt, server),
-    )
+    join(rt, || first.work(rt, server), || second.work(rt, server))
 }
 
 /// What the works of a list over one server give, in order, each in a thread of its own where one
@@ -62,11 +53,7 @@ pub fn map_over<
     N: Named + Send + Sync,
     R: Threads + Wait + Sync,
     W: Work<Given: Send + Drop> + Send + Drop,
->(
-    rt: &R,
-    server: &Server<N>,
-    works: Vec<W>,
-) -> Result<Vec<W::Given>, Refusal>
+>(rt: &R, server: &Server<N>, works: Vec<W>) -> Result<Vec<W::Given>, Refusal>
     requires { All (λ w. W.can w N.board) works.items }
     ensures each { IfOk result (λ v.
         AllGive (λ w x. W.gives w N.board x) works.items v.items) }

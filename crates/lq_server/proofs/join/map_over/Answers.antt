@@ -33,5 +33,5 @@ pub map_vec-requires-sync-F : goal.map_vec-requires-sync-F
 map_vec-requires-sync-F g c κs within =
     param_sync 4 _
     (arg_sync _ no _
-      (taken _ _ _ g.row.N g.row.R (Tuple (param 3 g.row.W-Given ∷ [])) g.N.Named
-        c.type_bounds.sync-R))
+    (taken _ _ _ g.row.N g.row.R (Tuple (param 3 g.row.W-Given ∷ [])) g.N.Named
+    c.type_bounds.sync-R))

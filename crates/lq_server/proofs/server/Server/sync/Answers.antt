@@ -1,5 +1,5 @@
 -- The numbers that a sync answers, and what it tells.
-use Rattle.std.proofs.Common.{◌≡◌, ◌+◌, ◌<◌, ◌≤◌, ◌^◌, ℕ, Bool, length, refl, sym, ap, ◌∙◌, subst}
+use Rattle.std.proofs.Common.{◌≡◌, ◌+◌, ◌<◌, ◌≤◌, ◌^◌, ℕ, Bool, length, refl, sym, subst}
 use Rattle.std.specs.Prelude.{is_some}
 use Rattle.lq_subscription.specs.Reading.{mark_read}
 use Rattle.lq_server.specs.Hold.{ReaderHold}
@@ -36,7 +36,7 @@ waiting-waiting-requires-clause-marks g c =
     let own : IsOwn old = subst IsOwn (sym c.reader.view_is) c.requires.own in
     subst
     (λ (z : Bool × ℕ).
-      bit (in_port z.0 (is_some (mark_read new.reading))) ≤ z.1 + bit (is_some new.reading.hand))
+    bit (in_port z.0 (is_some (mark_read new.reading))) ≤ z.1 + bit (is_some new.reading.hand))
     (λ i. (sym v.1.out i, sym v.1.waiting i))
     (marks_few v.0 old new c.sync-progress.result v.1 (refl, refl) c.told.ensures own)
 
@@ -58,13 +58,13 @@ returns g c =
       mark = c.sync-progress.result.mark;
     } in
     let waits : x.waiting + bit (in_port v.0.sub.held.mark_out (is_some (mark_read new.reading)))
-        ≡ length new.reading.port.ahead + bit (is_some new.reading.hand) =
+    ≡ length new.reading.port.ahead + bit (is_some new.reading.hand) =
     subst
     (λ (z : Bool × ℕ).
-      x.waiting + bit (in_port z.0 (is_some (mark_read new.reading)))
-      ≡ z.1 + bit (is_some new.reading.hand))
+    x.waiting + bit (in_port z.0 (is_some (mark_read new.reading)))
+    ≡ z.1 + bit (is_some new.reading.hand))
     (λ i. (v.1.out i, v.1.waiting i)) c.waiting-waiting.ensures in
     subst (λ (z : ReaderHold). IsSynced z new x) c.reader.view_is
     (synced v.0 old new c.sync-progress.result v.1 (refl, refl) c.told.ensures own x refl
-      (w_is v.0 old new c.sync-progress.result v.1 (refl, refl) c.told.ensures own x.waiting waits)
-      refl refl)
+    (w_is v.0 old new c.sync-progress.result v.1 (refl, refl) c.told.ensures own x.waiting waits)
+    refl refl)
