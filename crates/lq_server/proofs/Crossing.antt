@@ -1,9 +1,10 @@
--- A server may be shared by threads. Rattle finds this for no struct that holds a predicate, since a predicate's tree holds itself: each step is given here.
+-- A server may be shared by threads.
+-- The check finds this for no struct that holds a predicate, since a predicate's tree holds itself:
+-- each step is given here.
 use denote.RattleType.{RattleType}
 use denote.Param.Send.{IsSend, IsSync, sendable, view_send, view_sync}
 use denote.Param.SendFields.{declared_send, declared_sync}
 use Rattle.std.proofs.Crossing.{crosses}
-use Rattle.std.proofs.Crossing as heap
 use Rattle.std.specs.contracts.vec.Vec as vec
 use Rattle.std.specs.contracts.alloc.Global as global
 use Rattle.std.specs.contracts.option.Option as option
@@ -19,13 +20,10 @@ use Rattle.lq_predicate.specs.contracts.predicate.Predicate as predicate
 use Rattle.lq_update.proofs.message.Message.TheSendSync as found_message
 use Rattle.lq_update.proofs.mark.Mark.TheSendSync as found_mark
 use Rattle.lq_volume.proofs.volume.Volume.TheSendSync as found_volume
-use Rattle.lq_volume.proofs.change.Change.TheSendSync as found_change
 use Rattle.lq_board.specs.contracts.tokens.Keeper as keeper
 use Rattle.lq_board.specs.contracts.board.Board as board
-use Rattle.lq_board.specs.contracts.tokens.Seat as seat
 use Rattle.lq_board.proofs.tokens.Keeper.TheSendSync as found_keeper
 use Rattle.lq_board.proofs.board.Board.TheSendSync as found_board
-use Rattle.lq_board.proofs.tokens.Seat.TheSendSync as found_seat
 use Rattle.lq_desk.specs.contracts.sub.Sub as sub
 use Rattle.lq_port.specs.contracts.ends.PortIn as port_in
 use Rattle.lq_port.proofs.ends.PortIn.TheSendSync as found_in
@@ -42,16 +40,33 @@ use Rattle.lq_slots.specs.contracts.locked.Locked.TheInside as in_locked
 use Rattle.lq_server.specs.contracts.server.Server as server
 use Rattle.lq_server.specs.contracts.server.Server.TheInside as in_server
 
-pub predicate_send : IsSend predicate.the_row
-predicate_send = search (sendable, crosses, tree_crosses, found_attr.the_send, found_literal.the_send, found_op.the_send) depth 20
+-- what is under the lock, from the inside out
+predicate_send : IsSend predicate.the_row
+predicate_send =
+    search (
+      sendable,
+      crosses,
+      tree_crosses,
+      found_attr.the_send,
+      found_literal.the_send,
+      found_op.the_send,
+    ) depth 20
 
-pub sub_send : IsSend sub.the_row
-sub_send = search (sendable, crosses, predicate_send, found_attr.the_send, found_message.the_send, found_mark.the_send) depth 20
+sub_send : IsSend sub.the_row
+sub_send =
+    search (
+      sendable,
+      crosses,
+      predicate_send,
+      found_attr.the_send,
+      found_message.the_send,
+      found_mark.the_send,
+    ) depth 20
 
-pub in_send : IsSend (port_in.the_row delivery.the_row opening_at.the_row ghosts)
+in_send : IsSend (port_in.the_row delivery.the_row opening_at.the_row ghosts)
 in_send = found_in.the_send delivery.the_row opening_at.the_row ghosts found_delivery.the_send
 
-pub slot_send : IsSend slot.the_row
+slot_send : IsSend slot.the_row
 slot_send = search (sendable, crosses, sub_send, in_send) depth 20
 
 slots_send : IsSend slots.the_row
@@ -60,21 +75,25 @@ slots_send = search (sendable, crosses, slot_send, found_keeper.the_send) depth 
 phantom_send : (N : RattleType) → IsSend (phantom.the_row N)
 phantom_send N = search (sendable, crosses) depth 20
 
-board_sync : IsSync (board.the_row identity.the_row)
-board_sync = search (sendable, crosses, found_board.the_sync) depth 20
-
-pub locked_send : (N : RattleType) (g : Ghosts N.Denot) → IsSend (locked.the_row N g)
-locked_send N g = view_send (in_locked.the_row N g) _ _ _ _
-    (declared_send (in_locked.the_type N g) (slots_send, (found_volume.the_send, (search sendable, (heap.send, (phantom_send N, tt))))))
+-- what the lock has
+locked_send : (N : RattleType) (g : Ghosts N.Denot) → IsSend (locked.the_row N g)
+locked_send N g =
+    view_send (in_locked.the_row N g) _ _ _ _
+    (declared_send (in_locked.the_type N g)
+    (search (sendable, crosses, slots_send, found_volume.the_send, phantom_send N)
+    depth 40))
 
 mutex_sync : (N : RattleType) (g : Ghosts N.Denot) → IsSync (mutex.the_row (locked.the_row N g))
 mutex_sync N g = search (sendable, crosses, locked_send N g) depth 20
 
-pub server_sync : (N : RattleType) (g : Ghosts N.Denot) → IsSync (server.the_row N g)
-server_sync N g = view_sync (in_server.the_row N g) _ _ _ _ (declared_sync (in_server.the_type N g) (mutex_sync N g, (board_sync, tt)))
+board_sync : IsSync (board.the_row identity.the_row)
+board_sync = search (sendable, crosses, found_board.the_sync) depth 20
 
-pub seat_send : IsSend (seat.the_row identity.the_row)
-seat_send = search (sendable, crosses, found_seat.the_send) depth 20
+-- a server is a lock and a board
+pub server_sync : (N : RattleType) (g : Ghosts N.Denot) → IsSync (server.the_row N g)
+server_sync N g =
+    view_sync (in_server.the_row N g) _ _ _ _
+    (declared_sync (in_server.the_type N g) (mutex_sync N g, (board_sync, tt)))
 
 -- the mark of a closure over type parameters
 pub mark_send : (M : RattleType) → IsSend (mark.the_row M)
@@ -82,6 +101,3 @@ mark_send M = search (sendable, crosses) depth 20
 
 pub mark_sync : (M : RattleType) → IsSync (mark.the_row M)
 mark_sync M = search (sendable, crosses) depth 20
-
--- what an answer at a `join` over a server lists
-pub ruleset server_crosses = (sendable, server_sync, seat_send, found_change.the_sync)

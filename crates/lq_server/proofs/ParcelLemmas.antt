@@ -1,5 +1,5 @@
 -- Books that go on from others, and what is among parcels.
-use Rattle.std.proofs.Common.{◌≡◌, suc, ◌+◌, ◌<◌, Bool, true, false, List, [], ◌∷◌, ◌++◌, length, Option, Some, None, ℕ, refl, sym, ap, ◌∙◌, arith, append_assoc, append-nil}
+use Rattle.std.proofs.Common.{◌≡◌, suc, ◌<◌, Bool, true, false, List, [], ◌∷◌, ◌++◌, length, Option, Some, None, ℕ, refl, sym, ap, ◌∙◌, arith, append_assoc, append-nil}
 use Rattle.lq_volume.specs.declared.change.Change.{Change}
 use Rattle.lq_volume.specs.Book.{Book, Extends, grown}
 use Rattle.lq_update.specs.declared.message.Message.{Message}

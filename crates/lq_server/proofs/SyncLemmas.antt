@@ -1,8 +1,7 @@
 -- What the lock shows is what a sync tells.
-use Rattle.std.proofs.Common.{◌≡◌, ℕ, suc, ◌+◌, ◌-◌, ◌*◌, ◌<◌, ◌≤◌, ◌^◌, Bool, true, false, true≢false, List, [], ◌∷◌, ◌++◌, length, map, Option, Some, None, refl, sym, ap, ◌∙◌, subst, arith, append_assoc, append-nil, length-append, ⊎_elim}
+use Rattle.std.proofs.Common.{◌≡◌, ℕ, suc, ◌+◌, ◌<◌, ◌≤◌, ◌^◌, Bool, true, false, true≢false, List, [], ◌∷◌, ◌++◌, length, map, Option, Some, None, refl, sym, ap, ◌∙◌, subst, arith, append_assoc, append-nil, length-append, ⊎_elim}
 use Rattle.std.specs.Prelude.{IfSome, IsSome, IsSomeAnd, is_some, option_to_list}
 use Rattle.std.proofs.lemmas.List.{map-append}
-use Rattle.lq_formula.specs.Query.{Query}
 use Rattle.lq_volume.specs.Book.{Book, Extends}
 use Rattle.lq_board.specs.Token.{SeatToken}
 use Rattle.lq_update.specs.declared.message.Message.{Message}
@@ -10,7 +9,7 @@ use Rattle.lq_update.specs.declared.mark.Mark.{Mark}
 use Rattle.lq_update.specs.declared.mark.Cause.TheVariants.{Overrun}
 use Rattle.lq_update.specs.declared.parcel.Parcel.{Parcel}
 use Rattle.lq_update.specs.declared.parcel.Parcel.TheVariants.{Update, Fin}
-use Rattle.lq_port.specs.End.{End, all_put, IsSamePort}
+use Rattle.lq_port.specs.End.{End, all_put}
 use Rattle.lq_port.specs.Port.{IsLegal}
 use Rattle.lq_subscription.specs.declared.delivery.Delivery.{Delivery}
 use Rattle.lq_subscription.specs.declared.delivery.Opening.{Opening}
@@ -21,13 +20,13 @@ use Rattle.lq_subscription.specs.Rule.{floor_of, query_of, message_of, mark_or, 
 use Rattle.lq_subscription.specs.LegalList.{known_by}
 use Rattle.lq_subscription.specs.Marking.{hung_mark}
 use Rattle.lq_subscription.specs.Identity.{identity_of, port_id}
-use Rattle.lq_subscription.specs.Reading.{ReadingHold, known, received, ready, mark_read, what_of, IsTold}
+use Rattle.lq_subscription.specs.Reading.{received, ready, mark_read, what_of, IsTold}
 use Rattle.lq_subscription.specs.Standing.{given, upto, moved_mark, IsOut, ShutFits, IsOverrun}
 use Rattle.lq_server.specs.Own.{IsOwn}
 use Rattle.lq_slots.specs.Opening.{IdentityFits, asks_after}
 use Rattle.lq_slots.specs.Progress.{ShowsProgress}
 use Rattle.lq_slots.specs.declared.sync.Progress.{Progress}
-use Rattle.lq_server.specs.Syncing.{bit, in_port, fin_list, IsListed, IsSynced}
+use Rattle.lq_server.specs.Syncing.{bit, in_port, fin_list, IsSynced}
 use Rattle.lq_server.specs.Hold.{ReaderHold}
 use Rattle.lq_server.specs.declared.server.Synced.{Synced}
 use Rattle.lq_server.proofs.ParcelLemmas.{extends_self, extends_trans, messages_in-append, mark_in-append, mark_in-second, mark_in-first, last_book-snoc, messages_in-length, moved_mark-some, held_unmoved}
@@ -61,7 +60,8 @@ module _ (f : Opening) where
       → x.what ≡ w
       → map what_of qs ≡ map (λ m. Update m) (messages_in qs) ++ fin_list (mark_in qs)
       → w ∷ map what_of qs
-      ≡ map (λ m. Update m) (message_of w ++ messages_in qs) ++ fin_list (mark_or w (mark_in qs))
+      ≡ map (λ m. Update m) (message_of w ++ messages_in qs)
+      ++ fin_list (mark_or w (mark_in qs))
   one_waits ps qs x (Update m) legal is rest = ap (λ l. Update m ∷ l) rest
   one_waits ps qs x (Fin k) legal is rest =
       let legal' : IsLegal MayFollow f ((ps ++ x ∷ []) ++ qs) =
@@ -122,7 +122,8 @@ moved_mark-is_some false o f = refl
 -- s is what the lock shows of the subscription of a reader, before and after a sync
 module _ (s : Subscription) (old new : ReaderHold) (l : Progress)
     (lv : ShowsProgress s old.seat new.seat old.reading new.reading l)
-    (same : (new.slot ≡ old.slot) × (new.asked ≡ old.asked)) (r : IsTold old.reading) (own : IsOwn old) where
+    (same : (new.slot ≡ old.slot) × (new.asked ≡ old.asked)) (r : IsTold old.reading)
+    (own : IsOwn old) where
   abbrev d : End Delivery Opening
   d = old.reading.port
 
@@ -179,7 +180,8 @@ module _ (s : Subscription) (old new : ReaderHold) (l : Progress)
   given_is : received new.reading ++ w ++ s.sub.held.messages ≡ given s.sub.held s.input
   given_is =
       ap (λ m. m ++ s.sub.held.messages)
-      (sym (append_assoc (received new.reading) (option_to_list new.reading.hand) (messages_in e.ahead))
+      (sym (append_assoc (received new.reading) (option_to_list new.reading.hand)
+      (messages_in e.ahead))
       ∙ ap (λ m. m ++ messages_in e.ahead) (sym all_taken)
       ∙ sym (messages_in-append e.taken e.ahead)
       ∙ ap messages_in (sym put_is))

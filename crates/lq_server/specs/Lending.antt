@@ -7,9 +7,10 @@ use Rattle.lq_subscription.specs.contracts.identity.Identity as identity
 use Rattle.lq_server.specs.Hold.{ReaderHold}
 use Rattle.lq_server.specs.contracts.reader.Reader as reader
 
+-- the reader with another seat
 abbrev pub with_seat : ReaderHold → SeatToken Identity → ReaderHold
 with_seat r s = record { reading = r.reading; seat = s; slot = r.slot; asked = r.asked }
 
--- the reader ends with the last seat behind s
+-- the reader ends with the last seat that s has
 abbrev pub LendsSeat : MutBor ReaderHold → MutBor (SeatToken Identity) → Fml
 LendsSeat r s = Lends reader.the_row (seat.the_row identity.the_row) r s (with_seat r.now)

@@ -1,6 +1,5 @@
 -- A reader whose seat is its own.
-use Rattle.std.specs.Prelude.{◌≡◌, ℕ, ◌<◌, IsSomeAnd}
-use Rattle.lq_subscription.specs.declared.identity.Identity.{Identity}
+use Rattle.std.specs.Prelude.{◌≡◌, ◌<◌, IsSomeAnd}
 use Rattle.lq_slots.specs.Opening.{IdentityFits, asks_after}
 use Rattle.lq_server.specs.Hold.{ReaderHold}
 
@@ -9,4 +8,6 @@ pub record IsOwn (r : ReaderHold) : Type 0 where
   pub low : 0 < r.slot
   pub high : r.slot < 65
   pub slot : r.seat.slot ≡ r.slot
-  pub name : IsSomeAnd r.seat.name (λ t. IdentityFits t r.reading.port × (r.seat.asks ≡ asks_after t.asks r.asked) × (t.asks < 1000000000000))
+  pub name : IsSomeAnd r.seat.name (λ t.
+      IdentityFits t r.reading.port × (r.seat.asks ≡ asks_after t.asks r.asked)
+      × (t.asks < 1000000000000))

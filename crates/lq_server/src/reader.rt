@@ -41,9 +41,15 @@ impl Model for Reader {
 
     ghost Value = { ReaderHold };
 
-    ghost coded = { Prim.hlevel (codes, a_reading.the_row.coded, (a_seat.the_row an_identity.the_row).coded) };
+    ghost coded = { Prim.hlevel
+        (codes, a_reading.the_row.coded, (a_seat.the_row an_identity.the_row).coded) };
 
-    ghost view = { λ r. record { reading = r.reading; seat = r.seat; slot = r.slot; asked = r.asked } };
+    ghost view = { λ r. record {
+      reading = r.reading;
+      seat = r.seat;
+      slot = r.slot;
+      asked = r.asked;
+    } };
 }
 
 impl Reader {

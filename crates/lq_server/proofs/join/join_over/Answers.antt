@@ -29,8 +29,10 @@ taken : (ν : Sym) (ℓ ℓ' : NamedLft) (N R F M : RattleType) (g : Ghosts N.De
     → IsSync (param 1 R)
     → IsSend (TupleAt ν (parts ℓ ℓ' N R F M g))
 taken ν ℓ ℓ' N R F M g s y =
-    declared_send (type_at ν (parts ℓ ℓ' N R F M g))
-    (as_row_send (row_field (param 2 F)) s, (shr_send _ _ _ y, (shr_send _ _ _ (server_sync (param 0 N) g), (mark_send M, tt))))
+    declared_send (type_at ν (parts ℓ ℓ' N R F M g)) (
+      as_row_send (row_field (param 2 F)) s,
+      (shr_send _ _ _ y, (shr_send _ _ _ (server_sync (param 0 N) g), (mark_send M, tt))),
+    )
 
 pub join-requires-send-F : goal.join-requires-send-F
 join-requires-send-F g c κs within =

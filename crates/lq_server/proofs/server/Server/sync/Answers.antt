@@ -1,4 +1,5 @@
-use Rattle.std.proofs.Common.{◌≡◌, ◌+◌, ◌<◌, ◌≤◌, ◌^◌, ℕ, Bool, length, refl, sym, ap, ◌∙◌, subst}
+-- The numbers that a sync answers, and what it tells.
+use Rattle.std.proofs.Common.{◌≡◌, ◌+◌, ◌<◌, ◌≤◌, ◌^◌, ℕ, Bool, length, refl, sym, subst}
 use Rattle.std.specs.Prelude.{is_some}
 use Rattle.lq_subscription.specs.Reading.{mark_read}
 use Rattle.lq_server.specs.Hold.{ReaderHold}
@@ -12,31 +13,58 @@ pub waiting-waiting-requires-clause-few : goal.waiting-waiting-requires-clause-f
 waiting-waiting-requires-clause-few g c =
     let v = c.sync-progress.ensures.progress in
     let i = c.reader.inside in
-    let old : ReaderHold = record { reading = i.reading; seat = i.seat; slot = i.slot; asked = i.asked } in
-    let new : ReaderHold = record { reading = c.sync-progress.new.reading; seat = c.sync-progress.new.seat; slot = i.slot; asked = i.asked } in
+    let old : ReaderHold =
+    record { reading = i.reading; seat = i.seat; slot = i.slot; asked = i.asked } in
+    let new : ReaderHold = record old {
+      reading = c.sync-progress.new.reading;
+      seat = c.sync-progress.new.seat;
+    } in
     let own : IsOwn old = subst IsOwn (sym c.reader.view_is) c.requires.own in
-    subst (λ (n : ℕ). n < 2 ^ 63) (sym v.1.waiting) (ahead_few v.0 old new c.sync-progress.result v.1 (refl, refl) c.told.ensures own)
+    subst (λ (n : ℕ). n < 2 ^ 63) (sym v.1.waiting)
+    (ahead_few v.0 old new c.sync-progress.result v.1 (refl, refl) c.told.ensures own)
 
 pub waiting-waiting-requires-clause-marks : goal.waiting-waiting-requires-clause-marks
 waiting-waiting-requires-clause-marks g c =
     let v = c.sync-progress.ensures.progress in
     let i = c.reader.inside in
-    let old : ReaderHold = record { reading = i.reading; seat = i.seat; slot = i.slot; asked = i.asked } in
-    let new : ReaderHold = record { reading = c.sync-progress.new.reading; seat = c.sync-progress.new.seat; slot = i.slot; asked = i.asked } in
+    let old : ReaderHold =
+    record { reading = i.reading; seat = i.seat; slot = i.slot; asked = i.asked } in
+    let new : ReaderHold = record old {
+      reading = c.sync-progress.new.reading;
+      seat = c.sync-progress.new.seat;
+    } in
     let own : IsOwn old = subst IsOwn (sym c.reader.view_is) c.requires.own in
-    subst (λ (z : Bool × ℕ). bit (in_port z.0 (is_some (mark_read c.sync-progress.new.reading))) ≤ z.1 + bit (is_some c.sync-progress.new.reading.hand)) (λ i. (sym v.1.out i, sym v.1.waiting i))
+    subst
+    (λ (z : Bool × ℕ).
+    bit (in_port z.0 (is_some (mark_read new.reading))) ≤ z.1 + bit (is_some new.reading.hand))
+    (λ i. (sym v.1.out i, sym v.1.waiting i))
     (marks_few v.0 old new c.sync-progress.result v.1 (refl, refl) c.told.ensures own)
 
 pub returns : goal.returns
 returns g c =
     let v = c.sync-progress.ensures.progress in
     let i = c.reader.inside in
-    let old : ReaderHold = record { reading = i.reading; seat = i.seat; slot = i.slot; asked = i.asked } in
-    let new : ReaderHold = record { reading = c.sync-progress.new.reading; seat = c.sync-progress.new.seat; slot = i.slot; asked = i.asked } in
+    let old : ReaderHold =
+    record { reading = i.reading; seat = i.seat; slot = i.slot; asked = i.asked } in
+    let new : ReaderHold = record old {
+      reading = c.sync-progress.new.reading;
+      seat = c.sync-progress.new.seat;
+    } in
     let own : IsOwn old = subst IsOwn (sym c.reader.view_is) c.requires.own in
-    let x : Synced = record { change = c.sync-progress.result.change; waiting = c.waiting-waiting.result; held = c.sync-progress.result.held; mark = c.sync-progress.result.mark } in
+    let x : Synced = record {
+      change = c.sync-progress.result.change;
+      waiting = c.waiting-waiting.result;
+      held = c.sync-progress.result.held;
+      mark = c.sync-progress.result.mark;
+    } in
+    let waits : x.waiting + bit (in_port v.0.sub.held.mark_out (is_some (mark_read new.reading)))
+    ≡ length new.reading.port.ahead + bit (is_some new.reading.hand) =
+    subst
+    (λ (z : Bool × ℕ).
+    x.waiting + bit (in_port z.0 (is_some (mark_read new.reading)))
+    ≡ z.1 + bit (is_some new.reading.hand))
+    (λ i. (v.1.out i, v.1.waiting i)) c.waiting-waiting.ensures in
     subst (λ (z : ReaderHold). IsSynced z new x) c.reader.view_is
     (synced v.0 old new c.sync-progress.result v.1 (refl, refl) c.told.ensures own x refl
-    (w_is v.0 old new c.sync-progress.result v.1 (refl, refl) c.told.ensures own c.waiting-waiting.result
-    (subst (λ (z : Bool × ℕ). c.waiting-waiting.result + bit (in_port z.0 (is_some (mark_read c.sync-progress.new.reading))) ≡ z.1 + bit (is_some c.sync-progress.new.reading.hand)) (λ i. (v.1.out i, v.1.waiting i)) c.waiting-waiting.ensures))
+    (w_is v.0 old new c.sync-progress.result v.1 (refl, refl) c.told.ensures own x.waiting waits)
     refl refl)

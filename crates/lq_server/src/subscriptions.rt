@@ -1,0 +1,163 @@
+//! Calls of a server on its subscriptions.
+ghost use Rattle.std.specs.Prelude.{◌≡◌, ◌+◌, ◌<◌, ◌≤◌, ◌^◌, length, IfOk, IfErr, IfSome, IfNone, OnOk, is_some, is_ok, Some, Err, true, false};
+ghost use Rattle.lq_value.specs.declared.refusal.Refusal.TheVariants.{NotOpen, StillOpen};
+ghost use Rattle.lq_volume.specs.Book.{Extends};
+ghost use Rattle.lq_subscription.specs.declared.identity.Shut.TheVariants.{Never};
+ghost use Rattle.lq_subscription.specs.Marking.{first_close};
+ghost use Rattle.lq_subscription.specs.Reading.{is_marked};
+ghost use Rattle.lq_slots.specs.Opening.{IsOpeningRefused, name_or, opening_refusal};
+ghost use Rattle.lq_server.specs.declared.server.Synced.{Synced as SyncedOf};
+ghost use Rattle.lq_server.specs.Opened.{IsNewReader};
+ghost use Rattle.lq_server.specs.Own.{IsOwn};
+ghost use Rattle.lq_server.specs.Syncing.{IsSynced, bit, in_port};
+
+use crate::reader::Reader;
+use crate::server::{Server, Synced};
+use lq_board::Seat;
+use lq_predicate::Predicate;
+use lq_slots::Named;
+use lq_subscription::{Identity, Reading};
+use lq_value::Refusal;
+use std::sync::Wait;
+
+impl<N: Named> Server<N> {
+    /// Opens a live query in the lowest free slot.
+    ///
+    /// `port` is the number of parcels that its port holds, 1 to 1,024, and `backlog` the number
+    /// of messages that are held before it, up to 65,536. With `moved` an entry that matches
+    /// before and after a move is told as moved. The seat then knows the book that the reader
+    /// begins with. Refused, the first that fits: `BadPort`, `BadBacklog`, `NoSlot` where 64 are
+    /// taken, `Exhausted` where as many openings were made as the volume takes changes, `NoMemory`.
+    pub fn open<R: Wait>(
+        &self,
+        rt: &R,
+        seat: &mut Seat<Identity>,
+        predicate: &Predicate,
+        port: u64,
+        backlog: u64,
+        moved: bool,
+    ) -> Result<Reader, Refusal>
+        requires { (seat.old.board ≡ N.board) × (seat.old.slot ≡ 0) }
+        ensures seat { (seat.new.board ≡ N.board) × (seat.new.slot ≡ 0) }
+        ensures later { Extends seat.new.book seat.old.book }
+        ensures opened { IfOk result (λ r.
+            IsNewReader r N.board seat.new.book predicate.now moved port backlog) }
+
+        // Its numbers refuse it first, and just by their bounds.
+        ensures refused { IfSome (opening_refusal port backlog) (λ e. result ≡ Err e) }
+        ensures others { IfNone (opening_refusal port backlog) (IfErr result IsOpeningRefused) }
+    {
+        let opened = self
+            .state
+            .lock(rt)
+            .open(&self.board, seat, predicate, port, backlog, moved)?;
+        Ok(Reader::new(opened))
+    }
+
+    /// How far the reader's subscription is, over the book that the reader's seat then knows.
+    ///
+    /// First it ends where its reader asked for that, and its port is filled. What the reader has
+    /// received and knows stays. It takes no memory.
+    pub fn sync<R: Wait>(&self, rt: &R, reader: &mut Reader) -> Synced
+        requires board { reader.old.seat.board ≡ N.board }
+        requires own { IsOwn reader.old }
+        ensures { IsSynced reader.old reader.new result }
+    {
+        reader.reading.told();
+        let progress = self.state.lock(rt).sync(
+            rt,
+            &self.board,
+            reader.slot,
+            &mut reader.seat,
+            &mut reader.reading,
+        );
+        let waiting = waiting(&reader.reading, progress.waiting, progress.out);
+        Synced {
+            change: progress.change,
+            waiting,
+            held: progress.held,
+            mark: progress.mark,
+        }
+    }
+
+    /// As `sync`, without its answer.
+    pub fn pump<R: Wait>(&self, rt: &R, reader: &mut Reader)
+        requires board { reader.old.seat.board ≡ N.board }
+        requires own { IsOwn reader.old }
+        ensures { (x : SyncedOf) × IsSynced reader.old reader.new x }
+    {
+        self.sync(rt, reader);
+    }
+
+    /// Ends the reader's subscription as closed, after as many changes as is answered, and fills
+    /// its port.
+    ///
+    /// Refused: `NotOpen` where it has ended. What the reader has received and knows stays. It
+    /// takes no memory.
+    pub fn close<R: Wait>(&self, rt: &R, reader: &mut Reader) -> Result<u64, Refusal>
+        requires board { reader.old.seat.board ≡ N.board }
+        requires own { IsOwn reader.old }
+        ensures own { IsOwn reader.new }
+        ensures number { IfOk result (λ n. n ≡ length reader.new.seat.book.changes) }
+        ensures first { IfOk result (λ _. (name_or reader.old.seat.name).shut ≡ Never) }
+        ensures refused { IfErr result (λ e. e ≡ NotOpen) }
+        ensures later { Extends reader.new.seat.book reader.old.seat.book }
+        ensures seat { reader.new.seat ≡ record reader.old.seat {
+          book = reader.new.seat.book;
+          name = reader.new.seat.name;
+        } }
+        ensures shut { reader.new.seat.name ≡ Some (record (name_or reader.old.seat.name) {
+          shut = first_close (name_or reader.old.seat.name).shut (is_ok result)
+              (length reader.new.seat.book.changes);
+        }) }
+        ensures rest { reader.new ≡ record reader.old { seat = reader.new.seat } }
+    {
+        let closed = self
+            .state
+            .lock(rt)
+            .close(rt, &self.board, reader.slot, &mut reader.seat);
+        closed.ok_or(Refusal::NotOpen)
+    }
+
+    /// Frees the reader's slot. Refused: `StillOpen` just where its mark wasn't read; the reader
+    /// then comes back as it was. It takes no memory.
+    pub fn finish<R: Wait>(&self, rt: &R, reader: Reader) -> Result<(), (Reader, Refusal)>
+        requires board { reader.seat.board ≡ N.board }
+        requires own { IsOwn reader }
+        ensures ok { OnOk result (is_marked reader.reading ≡ true) }
+        ensures err { IfErr result (λ e. (e.0 ≡ reader) × (e.1 ≡ StillOpen)
+            × (is_marked reader.reading ≡ false)) }
+    {
+        if !reader.reading.is_ended() {
+            return Err((reader, Refusal::StillOpen));
+        }
+        let Reader {
+            reading: _,
+            seat,
+            slot,
+            asked,
+        } = reader;
+        self.state.lock(rt).free(&self.board, slot, seat, asked);
+        Ok(())
+    }
+}
+
+// How many updates wait in a port of so many parcels, or in hand.
+fn waiting(reading: &Reading, parcels: u64, out: bool) -> u64
+    requires marks { bit (in_port out (is_marked reading.now))
+        ≤ parcels + bit (is_some reading.now.hand) }
+    requires few { parcels < 2 ^ 63 }
+    ensures { result + bit (in_port out (is_marked reading.now))
+        ≡ parcels + bit (is_some reading.now.hand) }
+{
+    let all = if reading.has_hand() {
+        parcels + 1
+    } else {
+        parcels
+    };
+    if out {
+        if reading.is_ended() { all } else { all - 1 }
+    } else {
+        all
+    }
+}

@@ -1,0 +1,116 @@
+//! Calls of a server on its volume.
+ghost use Rattle.std.specs.Prelude.{◌≡◌, length, IfOk, IfErr, OnOk, None, Some, unwrap_or};
+ghost use Rattle.lq_value.specs.declared.refusal.Refusal.TheVariants.{NoMemory};
+ghost use Rattle.lq_value.specs.Refusal.{IsRefusedBy, first_refusal};
+ghost use Rattle.lq_volume.specs.Book.{Extends, state_of};
+ghost use Rattle.lq_volume.specs.Change.{refused};
+ghost use Rattle.lq_volume.specs.Result.{result_of};
+ghost use Rattle.lq_volume.specs.State.{record_at, node_in};
+ghost use Rattle.lq_volume.specs.Lookup.{find_refusals, entry_refusals, listed};
+ghost use Rattle.lq_slots.specs.Applied.{IsAdded};
+
+use crate::server::{Accepted, Server};
+use lq_board::Seat;
+use lq_predicate::Predicate;
+use lq_slots::{Found, Named};
+use lq_subscription::Identity;
+use lq_value::{Name, Refusal};
+use lq_volume::{Change, Listing};
+use std::sync::Wait;
+
+impl<N: Named> Server<N> {
+    /// Makes a change, tells the subscriptions that it concerns, and fills their ports.
+    ///
+    /// The seat then knows a book that ends with this change, under the number that is answered.
+    /// Refused as `Volume::apply` is after the book that the seat then knows, or `NoMemory`; then
+    /// the volume is as it was. Each subscription whose reader hung up before ends in any case.
+    pub fn apply<R: Wait>(
+        &self,
+        rt: &R,
+        seat: &mut Seat<Identity>,
+        change: &Change,
+    ) -> Result<Accepted, Refusal>
+        requires { (seat.old.board ≡ N.board) × (seat.old.slot ≡ 0) }
+        ensures seat { (seat.new.board ≡ N.board) × (seat.new.slot ≡ 0) }
+        ensures later { Extends seat.new.book seat.old.book }
+        ensures ok { IfOk result (λ a. IsAdded seat.old.book seat.new.book
+            (record { change = a.change; node = a.node }) change.now) }
+
+        // The first refusal that fits, and no other but for want of memory.
+        ensures err { IfErr result (λ e.
+            e ≡ unwrap_or (refused (state_of seat.new.book) change.now) NoMemory) }
+    {
+        let applied = self.state.lock(rt).apply(rt, &self.board, seat, change)?;
+        Ok(Accepted {
+            change: applied.change,
+            node: applied.node,
+        })
+    }
+
+    /// The entries that a predicate holds of, by rising node, and the number of changes then.
+    ///
+    /// They are those after the book that the seat then knows. Refused: `NoMemory`.
+    pub fn fetch<R: Wait>(
+        &self,
+        rt: &R,
+        seat: &mut Seat<Identity>,
+        predicate: &Predicate,
+    ) -> Result<Found, Refusal>
+        requires { (seat.old.board ≡ N.board) × (seat.old.slot ≡ 0) }
+        ensures seat { (seat.new.board ≡ N.board) × (seat.new.slot ≡ 0) }
+        ensures later { Extends seat.new.book seat.old.book }
+        ensures at { IfOk result (λ found. found.at ≡ length seat.new.book.changes) }
+        ensures entries { IfOk result (λ found.
+            found.entries.items ≡ result_of predicate.now (state_of seat.new.book)) }
+
+        // Only memory can be wanting.
+        ensures refused { IsRefusedBy result None }
+    {
+        self.state.lock(rt).fetch(&self.board, seat, predicate)
+    }
+
+    /// The node that has a place, after the book that the seat then knows.
+    ///
+    /// Refused, the first that fits: `NoNode` where there is no node `dir`, `NotFolder` where it
+    /// is a file, `NoEntry` where it has no entry of that name. It takes no memory.
+    pub fn find<R: Wait>(
+        &self,
+        rt: &R,
+        seat: &mut Seat<Identity>,
+        dir: u64,
+        name: &Name,
+    ) -> Result<u64, Refusal>
+        requires { (seat.old.board ≡ N.board) × (seat.old.slot ≡ 0) }
+        ensures seat { (seat.new.board ≡ N.board) × (seat.new.slot ≡ 0) }
+        ensures later { Extends seat.new.book seat.old.book }
+        ensures value { IfOk result (λ node.
+            node_in (state_of seat.new.book).records dir name.now ≡ Some node) }
+        ensures ok { OnOk result
+            (first_refusal (find_refusals (state_of seat.new.book) dir name.now) ≡ None) }
+        ensures err { IfErr result (λ e.
+            first_refusal (find_refusals (state_of seat.new.book) dir name.now) ≡ Some e) }
+    {
+        self.state.lock(rt).find(&self.board, seat, dir, name)
+    }
+
+    /// All of the entry of a node, copied, after the book that the seat then knows.
+    ///
+    /// Refused, the first that fits: `NoNode` where there is no such node, `NoEntry` for the
+    /// root, `NoMemory`.
+    pub fn listing<R: Wait>(
+        &self,
+        rt: &R,
+        seat: &mut Seat<Identity>,
+        node: u64,
+    ) -> Result<Listing, Refusal>
+        requires { (seat.old.board ≡ N.board) × (seat.old.slot ≡ 0) }
+        ensures seat { (seat.new.board ≡ N.board) × (seat.new.slot ≡ 0) }
+        ensures later { Extends seat.new.book seat.old.book }
+        ensures value { IfOk result (λ listing.
+            record_at (state_of seat.new.book) node ≡ Some (listed listing)) }
+        ensures refused { IsRefusedBy result
+            (first_refusal (entry_refusals (state_of seat.new.book) node)) }
+    {
+        self.state.lock(rt).listing(&self.board, seat, node)
+    }
+}
