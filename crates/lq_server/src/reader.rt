@@ -151,4 +151,19 @@ impl Reader {
     {
         self.reading.result()
     }
+
+    /// Whether no update was read yet or the latest was the last of its change. It takes no lock.
+    pub fn is_settled(&self) -> bool
+        ensures { result ≡ self.now.reading.result.settled }
+    {
+        self.reading.is_settled()
+    }
+
+    /// The change of the latest update read, or the number at the opening before the first. It
+    /// takes no lock.
+    pub fn last_change(&self) -> u64
+        ensures { result ≡ self.now.reading.result.change }
+    {
+        self.reading.last_change()
+    }
 }

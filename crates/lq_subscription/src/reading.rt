@@ -196,6 +196,13 @@ impl Reading {
         self.rebuild.is_settled()
     }
 
+    /// The change of the latest message received, or the number at the opening before the first.
+    pub fn last_change(&self) -> u64
+        ensures change { result ≡ self.now.result.change }
+    {
+        self.rebuild.last_change()
+    }
+
     /// What is so of each reading.
     pub fn told(&self)
         ensures { IsTold self.now }
