@@ -20,10 +20,7 @@ const MAX_READS: usize = 1_024;
 
 const LF: u8 = 10;
 
-/// Takes the lines that `Echo` passes on, each with its LF, and writes the reply to each.
-///
-/// What it is given at once are the lines of a piece that was read: it carries all of them out
-/// and writes their replies before it answers. It fails at the first fault, which it keeps.
+/// Carries out the lines that `Lines` gives, and writes the reply to each.
 #[derive(Drop)]
 pub struct Carrier<'a, N: Named, R, G, W> {
     alloc: Global,
@@ -31,7 +28,6 @@ pub struct Carrier<'a, N: Named, R, G, W> {
     writer: &'a mut W,
     slots: Vec<u64>,
     replies: Vec<u8>,
-    fault: Option<RunFault>,
 }
 
 impl<'a, N: Named + Send + Sync, R: Threads + Wait + Sync, G: Gate + Sync, W: Sink> Carrier<'a, N, R, G, W> {
@@ -47,26 +43,13 @@ impl<'a, N: Named + Send + Sync, R: Threads + Wait + Sync, G: Gate + Sync, W: Si
             writer,
             slots: Vec::new(alloc),
             replies: Vec::new(alloc),
-            fault: None,
         }
     }
 
-    /// The fault at which it failed. After one that isn't the writer's it writes the replies that
-    /// wait and flushes once, and a fault of that write goes before.
-    pub fn fault(&mut self) -> RunFault {
-        let fault = self.fault.unwrap_or(RunFault::Write);
-        if fault == RunFault::Write {
-            return fault;
-        }
-        if let Err(of_write) = self.write_replies() {
-            return of_write;
-        }
-        match self.writer.flush() {
-            Ok(()) | Err(Failed) => fault,
-        }
-    }
-
-    fn carry_out(&mut self, lines: &[u8]) -> Result<(), RunFault> {
+    /// Carries out these lines, each with its LF, and writes all their replies.
+    ///
+    /// Refused: `Write` where the writer failed or took none of the bytes given, `Memory`.
+    pub fn carry_out(&mut self, lines: &[u8]) -> Result<(), RunFault> {
         let mut rest = lines;
         while let Some(count) = memchr(LF, rest) {
             self.take_line(&rest[..count])?;
@@ -74,6 +57,28 @@ impl<'a, N: Named + Send + Sync, R: Threads + Wait + Sync, G: Gate + Sync, W: Si
         }
         self.end_batch()?;
         self.write_replies()
+    }
+
+    /// Flushes the writer. Refused: `Write`.
+    pub fn flush(&mut self) -> Result<(), RunFault> {
+        match self.writer.flush() {
+            Ok(()) => Ok(()),
+            Err(Failed) => Err(RunFault::Write),
+        }
+    }
+
+    /// What a run that met a fault answers: after one that isn't the writer's the replies that wait
+    /// are written, a fault of which goes before, and the writer is flushed once.
+    pub fn close(&mut self, fault: RunFault) -> RunFault {
+        if fault == RunFault::Write {
+            return fault;
+        }
+        if let Err(of_write) = self.write_replies() {
+            return of_write;
+        }
+        match self.flush() {
+            Ok(()) | Err(_) => fault,
+        }
     }
 
     // A read joins the batch; any other line ends it, and is carried out.
@@ -144,40 +149,6 @@ impl<'a, N: Named + Send + Sync, R: Threads + Wait + Sync, G: Gate + Sync, W: Si
         match written {
             Ok(()) => Ok(()),
             Err(Failed) => Err(RunFault::Write),
-        }
-    }
-}
-
-impl<'a, N: Named + Send + Sync, R: Threads + Wait + Sync, G: Gate + Sync, W: Sink> Sink
-for Carrier<'a, N, R, G, W>
-{
-    ghost use Rattle.std.specs.Prelude.{None, false, true, is_some};
-
-    ghost written = { λ _. None };
-
-    ghost failed = { λ c. is_some c.fault };
-
-    ghost stalled = { λ _. false };
-
-    ghost flushed = { λ _. true };
-
-    fn write(&mut self, bytes: &[u8]) -> Result<usize, Failed> {
-        match self.carry_out(bytes) {
-            Ok(()) => Ok(bytes.len()),
-            Err(fault) => {
-                self.fault = Some(fault);
-                Err(Failed)
-            }
-        }
-    }
-
-    fn flush(&mut self) -> Result<(), Failed> {
-        match self.writer.flush() {
-            Ok(()) => Ok(()),
-            Err(Failed) => {
-                self.fault = Some(RunFault::Write);
-                Err(Failed)
-            }
         }
     }
 }

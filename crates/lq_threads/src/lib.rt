@@ -1,16 +1,15 @@
 //! Scripts by a server and threads: the reads of several slots go side by side.
 //!
-//! Lines are cut and counted by lq_lines, which passes them on (`echo`); each is carried out by the
-//! public calls of a server, runs of `read` lines as a batch, in a thread for each slot. The output
-//! is that of one thread, as tests show; contracts say that each call is safe. Calls may wait.
-//! Begin with `threads`, then `carrier`, then `session`, then `batch`.
+//! Each line is carried out by the public calls of a server, a run of `read` lines as a batch, with
+//! a thread for each slot. The output is that of one thread, as tests show; contracts say that each
+//! call is safe. Calls may wait. Begin with `threads`, then `carrier`, `session` and `batch`.
 #![tactic(auto)]
 
 mod batch;
 mod carrier;
-mod echo;
 mod gate;
 mod held;
+mod lines;
 mod places;
 mod session;
 #[cfg(test)]

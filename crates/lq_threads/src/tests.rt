@@ -59,7 +59,8 @@ const MIXED: &str = r#"{"do":"open","query":"name=*","port":1,"backlog":2,"moved
 {"do":"entry","node":2}
 {"do":"read","slot":1}"#;
 
-/// A reader that waits at this gate for the other.
+/// A gate where the first reads of slots 1 and 2 look for each other.
+#[derive(Drop)]
 struct Meeting {
     is_here: [AtomicBool; 2],
     has_seen: [AtomicBool; 2],
@@ -194,7 +195,7 @@ impl Sink for Taken {
     }
 }
 
-fn given(pace: Pace) -> Given<'static>
+fn reader_of(pace: Pace) -> Given<'static>
     ensures { result.failed ≡ false }
 {
     Given {
@@ -204,7 +205,7 @@ fn given(pace: Pace) -> Given<'static>
     }
 }
 
-fn taken(alloc: Global, pace: Pace) -> Taken
+fn writer_of(alloc: Global, pace: Pace) -> Taken
     ensures failed { result.failed ≡ false }
     ensures stalled { result.stalled ≡ false }
 {
@@ -222,10 +223,10 @@ fn agrees<R: Threads + Wait + Sync>(
     alloc: Global,
     pace: Pace,
 ) -> (bool, Result<(), RunFault>) {
-    let mut one = taken(alloc, pace);
-    let mut many = taken(alloc, pace);
-    let by_one = run(alloc, &mut given(pace), &mut one);
-    let by_many = run_threads(rt, alloc, &mut given(pace), &mut many, &OpenGate);
+    let mut one = writer_of(alloc, pace);
+    let mut many = writer_of(alloc, pace);
+    let by_one = run(alloc, &mut reader_of(pace), &mut one);
+    let by_many = run_threads(rt, alloc, &mut reader_of(pace), &mut many, &OpenGate);
     (by_one == by_many && one.text == many.text, by_many)
 }
 
@@ -247,7 +248,7 @@ fn each_read_and_write_may_fail(rt: HostRuntime) -> Result<(), Fail> {
             assert!(rt; agrees(&rt, alloc, pace) == (true, Err(RunFault::Read)), "{pace:?}");
         }
         for stalls in [false, true] {
-            for room in 0..200 {
+            for room in 0..180 {
                 let pace = Pace {
                     room: room * 7,
                     stalls,

@@ -2,10 +2,10 @@
 ghost use Rattle.std.specs.Prelude.{◌≡◌, false};
 
 use crate::carrier::Carrier;
-use crate::echo::Echo;
 use crate::gate::Gate;
+use crate::lines::Lines;
 use crate::session::Session;
-use lq_lines::{Failed, RunFault, Sink, Source, run_lines};
+use lq_lines::{Failed, RunFault, Sink, Source};
 use lq_server::{Base, Named, Server};
 use lq_volume::Volume;
 use std::alloc::Global;
@@ -50,10 +50,19 @@ fn serve<N: Named + Send + Sync, T: Threads + Wait + Sync, R: Source, W: Sink, G
         return Err(out_of_memory(writer));
     };
     let mut carrier = Carrier::new(alloc, session, writer);
-    match run_lines(alloc, reader, &mut carrier, &mut Echo) {
-        Err(RunFault::Write) => Err(carrier.fault()),
-        ran => ran,
+    let mut lines = Lines::new(alloc);
+    for _ in rt.forever() {
+        let read = lines.read(reader);
+        if let Err(fault) = carrier.carry_out(lines.given()) {
+            return Err(carrier.close(fault));
+        }
+        match read {
+            Ok(true) => {}
+            Ok(false) => return carrier.flush(),
+            Err(fault) => return Err(carrier.close(fault)),
+        }
     }
+    unreachable!()
 }
 
 // The fault of a run that can't begin: the writer is flushed once, as after any other.
