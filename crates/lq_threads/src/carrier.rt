@@ -30,7 +30,13 @@ pub struct Carrier<'a, N: Named, R, G, W> {
     replies: Vec<u8>,
 }
 
-impl<'a, N: Named + Send + Sync, R: Threads + Wait + Sync, G: Gate + Sync, W: Sink> Carrier<'a, N, R, G, W> {
+impl<'a, N: Named + Send + Sync, R: Threads + Wait + Sync, G: Gate + Sync, W: Sink> Carrier<
+    'a,
+    N,
+    R,
+    G,
+    W,
+> {
     /// A carrier of a session's lines, which was given none.
     pub fn new(
         alloc: Global,

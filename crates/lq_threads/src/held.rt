@@ -142,11 +142,7 @@ impl<N: Named> Held<N> {
     }
 
     /// Frees its slot. Refused as `Server::finish` is; it then comes back.
-    pub fn finish<R: Wait>(
-        self,
-        rt: &R,
-        server: &Server<N>,
-    ) -> Result<(), (Held<N>, Refusal)> {
+    pub fn finish<R: Wait>(self, rt: &R, server: &Server<N>) -> Result<(), (Held<N>, Refusal)> {
         let Held { reader, of } = self;
         match server.finish(rt, reader) {
             Ok(()) => Ok(()),

@@ -45,6 +45,8 @@ impl<N: Named> Places<N> {
         if slot == 0 || slot > SLOTS as u64 {
             return Err(Refusal::NotOpen);
         }
-        self.readers.get_mut((slot - 1) as usize).ok_or(Refusal::NotOpen)
+        self.readers
+            .get_mut((slot - 1) as usize)
+            .ok_or(Refusal::NotOpen)
     }
 }

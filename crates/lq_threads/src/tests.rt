@@ -245,7 +245,10 @@ fn each_read_and_write_may_fail(rt: HostRuntime) -> Result<(), Fail> {
         assert!(rt; agrees(&rt, alloc, free) == (true, Ok(())), "{free:?}");
         for calls in 0..=MIXED.len() / step {
             let pace = Pace { calls, ..free };
-            assert!(rt; agrees(&rt, alloc, pace) == (true, Err(RunFault::Read)), "{pace:?}");
+            assert!(rt;
+                agrees(&rt, alloc, pace) == (true, Err(RunFault::Read)),
+                "{pace:?}"
+            );
         }
         for stalls in [false, true] {
             for room in 0..180 {
@@ -254,7 +257,10 @@ fn each_read_and_write_may_fail(rt: HostRuntime) -> Result<(), Fail> {
                     stalls,
                     ..free
                 };
-                assert!(rt; agrees(&rt, alloc, pace) == (true, Err(RunFault::Write)), "{pace:?}");
+                assert!(rt;
+                    agrees(&rt, alloc, pace) == (true, Err(RunFault::Write)),
+                    "{pace:?}"
+                );
             }
         }
     }
