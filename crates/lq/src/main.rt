@@ -1,7 +1,7 @@
-//! The program `lq`: the script library at the standard streams.
+//! The program `lq`: its words at the standard streams.
 #![tactic(auto)]
 
-use lq_script::{Host, Sink, program};
+use lq_threads::{Host, Sink, program};
 use std::alloc::{AllocError, Global};
 use std::process::ExitCode;
 use std::{env, io};
@@ -30,7 +30,14 @@ fn main(rt: HostRuntime) -> ExitCode {
     };
     let mut reader = Host::new(rt.stdin());
     let mut writer = Host::new(rt.stdout());
-    ExitCode::from(program(rt.alloc(), &words, &mut reader, &mut writer, &mut faults))
+    ExitCode::from(program(
+        &rt,
+        rt.alloc(),
+        &words,
+        &mut reader,
+        &mut writer,
+        &mut faults,
+    ))
 }
 
 // The words after the program's name. `InvalidData` where one is not UTF-8.

@@ -1,0 +1,23 @@
+//! Scripts by a server and threads: the reads of several slots go side by side.
+//!
+//! Each line is carried out by the public calls of a server, a run of `read` lines as a batch, with
+//! a thread for each slot. The output is that of one thread, as tests show; contracts say that each
+//! call is safe. Calls may wait. Begin with `threads`, then `carrier`, `session` and `batch`.
+#![tactic(auto)]
+
+mod batch;
+mod carrier;
+mod gate;
+mod held;
+mod lines;
+mod places;
+mod session;
+#[cfg(test)]
+mod tests;
+mod threads;
+mod words;
+
+pub use gate::{Gate, OpenGate};
+pub use lq_lines::{Failed, Host, RunFault, Sink, Source};
+pub use threads::run_threads;
+pub use words::program;
