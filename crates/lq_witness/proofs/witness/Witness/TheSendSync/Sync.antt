@@ -1,6 +1,6 @@
 -- It owns nothing, so any thread may share it.
 use denote.RattleType.{RattleType}
-use denote.Param.Send.{IsSend, IsSync, part_keyless}
+use denote.Param.Send.{IsSync, part_keyless}
 use Rattle.lq_witness.specs.contracts.witness.Witness.{the_row}
 use Rattle.lq_witness.proofs.witness.Witness.TheSendSync.Send.{send}
 
