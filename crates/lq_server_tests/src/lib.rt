@@ -1,0 +1,17 @@
+//! Tests of the threaded server.
+#![tactic(auto)]
+
+#[cfg(test)]
+mod acts;
+#[cfg(test)]
+mod again;
+#[cfg(test)]
+mod calls;
+#[cfg(test)]
+mod held;
+#[cfg(test)]
+mod scenarios;
+#[cfg(test)]
+mod stage;
+#[cfg(test)]
+mod writers;
