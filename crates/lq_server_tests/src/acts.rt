@@ -288,12 +288,9 @@ fn told_synced(synced: Synced) -> Told {
 /// Returns whether these are just the entries of the rows, in order.
 pub fn are_entries(entries: &[Entry], rows: &[Row]) -> bool {
     entries.len() == rows.len()
-        && entries
-            .iter()
-            .zip(rows)
-            .all(|(entry, (name, node))| {
-                entry.dir == 1 && entry.name.as_str() == *name && entry.node == *node
-            })
+        && entries.iter().zip(rows).all(|(entry, (name, node))| {
+            entry.dir == 1 && entry.name.as_str() == *name && entry.node == *node
+        })
 }
 
 /// The change that an act asks for.

@@ -175,11 +175,7 @@ impl<N: Named> ReaderOf<N> {
         server.meet(rt, self.reader.seat(), &mut other.seat)
     }
 
-    pub fn finish<R: Wait>(
-        self,
-        rt: &R,
-        server: &Server<N>,
-    ) -> Result<(), (ReaderOf<N>, Refusal)> {
+    pub fn finish<R: Wait>(self, rt: &R, server: &Server<N>) -> Result<(), (ReaderOf<N>, Refusal)> {
         let ReaderOf { reader, of: _ } = self;
         match server.finish(rt, reader) {
             Ok(()) => Ok(()),

@@ -1,4 +1,4 @@
-//! Tests of the threaded server.
+//! Tests of the threaded server, and a model of how a program uses it.
 #![tactic(auto)]
 
 #[cfg(test)]
@@ -8,10 +8,21 @@ mod again;
 #[cfg(test)]
 mod calls;
 #[cfg(test)]
+mod drawn;
+#[cfg(test)]
+mod draws;
+#[cfg(test)]
+mod followed;
+#[cfg(test)]
 mod held;
+mod model;
+#[cfg(test)]
+mod reference;
 #[cfg(test)]
 mod scenarios;
 #[cfg(test)]
 mod stage;
 #[cfg(test)]
 mod writers;
+
+pub use model::{Followed, follow};

@@ -41,7 +41,7 @@ pub const WINDOW: Scenario = Scenario {
 #[test]
 fn scenario_threaded_window(rt: HostRuntime) -> Result<(), Fail> {
     let base = base(rt.alloc(), 100)?;
-    let retired = stage::<Brand, _>(&rt, rt.alloc(), base, Tries::One, WINDOW)?;
+    let retired = stage::<Brand, _>(&rt, rt.alloc(), base, Tries::One, &WINDOW)?;
     assert!(rt; retired.changes == 6);
     Ok(())
 }
@@ -66,10 +66,7 @@ const DROPS: [(Act, Told); 13] = [
 const OPENINGS: [(Act, Told); 3] = [
     (Act::Open("name=*", 1, 1), Told::Number(1)),
     (Act::Open("name=*", 1, 1), Told::Number(2)),
-    (
-        Act::Open("name=*", 1, 1),
-        Told::Refused(Refusal::Exhausted),
-    ),
+    (Act::Open("name=*", 1, 1), Told::Refused(Refusal::Exhausted)),
 ];
 
 /// The first slot is used again after a reader that hung up.

@@ -1,5 +1,5 @@
 //! Two parties at one server: tables that are played before, side by side, and after.
-ghost use Rattle.std.specs.Prelude.{◌≡◌};
+ghost use Rattle.std.specs.Prelude.{◌≡◌, ◌≤◌};
 
 use crate::acts::{Act, Odd, Party, Told, Tries};
 use lq_server::{Base, Named, Retired, Server};
@@ -31,7 +31,9 @@ pub enum Stop {
 }
 
 /// A base of a server, over a volume that takes so many changes.
-pub fn base(alloc: Global, limit: u64) -> Result<Base, Refusal> {
+pub fn base(alloc: Global, limit: u64) -> Result<Base, Refusal>
+    requires { (1 ≤ limit) × (limit ≤ 1000000000000) }
+{
     match Base::new(alloc, Volume::new(alloc, limit)) {
         Err(Refusal::NoMemory) => Base::new(alloc, Volume::new(alloc, limit)),
         made => made,
@@ -62,7 +64,7 @@ pub fn stage<N: Named + Send + Sync, R: Threads + Wait + Sync>(
     alloc: Global,
     base: Base,
     tries: Tries,
-    scenario: Scenario,
+    scenario: &Scenario,
 ) -> Result<Retired, Stop>
     requires { base ≡ N.board }
 {
@@ -71,7 +73,7 @@ pub fn stage<N: Named + Send + Sync, R: Threads + Wait + Sync>(
     let mut two = Party::new(rt, &server).map_err(Stop::Refused)?;
     two.play(rt, alloc, &server, tries, scenario.before)
         .map_err(Stop::Before)?;
-    side_by_side(rt, alloc, &server, tries, &mut one, &mut two, scenario)?;
+    side_by_side(rt, alloc, &server, &mut one, &mut two, tries, scenario)?;
     two.play(rt, alloc, &server, tries, scenario.after)
         .map_err(Stop::After)?;
     let Party { seat, reader: _ } = one;
@@ -84,16 +86,42 @@ fn side_by_side<N: Named + Send + Sync, R: Threads + Wait + Sync>(
     rt: &R,
     alloc: Global,
     server: &Server<N>,
-    tries: Tries,
     one: &mut Party<N>,
     two: &mut Party<N>,
-    scenario: Scenario,
+    tries: Tries,
+    scenario: &Scenario,
 ) -> Result<(), Stop> {
     let (second, first) = join(
         rt,
-        || two.play(rt, alloc, server, tries, scenario.second),
-        || one.play(rt, alloc, server, tries, scenario.first),
+        || play_second(rt, alloc, server, two, tries, scenario),
+        || play_first(rt, alloc, server, one, tries, scenario),
     );
-    first.map_err(Stop::First)?;
-    second.map_err(Stop::Second)
+    first?;
+    second
+}
+
+fn play_first<N: Named, R: Wait>(
+    rt: &R,
+    alloc: Global,
+    server: &Server<N>,
+    party: &mut Party<N>,
+    tries: Tries,
+    scenario: &Scenario,
+) -> Result<(), Stop> {
+    party
+        .play(rt, alloc, server, tries, scenario.first)
+        .map_err(Stop::First)
+}
+
+fn play_second<N: Named, R: Wait>(
+    rt: &R,
+    alloc: Global,
+    server: &Server<N>,
+    party: &mut Party<N>,
+    tries: Tries,
+    scenario: &Scenario,
+) -> Result<(), Stop> {
+    party
+        .play(rt, alloc, server, tries, scenario.second)
+        .map_err(Stop::Second)
 }
