@@ -15,7 +15,8 @@ __attribute__((constructor)) static void begin(void) {
 }
 
 static int is_refused(void) {
-    if (left == 0 || --left > 0) return 0;
+    // several threads may grow at once
+    if (__atomic_sub_fetch(&left, 1, __ATOMIC_RELAXED) != 0) return 0;
     const char *met = getenv("MET");
     if (met) close(open(met, O_CREAT | O_WRONLY, 0600));
     return 1;

@@ -111,8 +111,8 @@ fn openings_are_refused_in_order(rt: HostRuntime) -> Result<(), Fail> {
     Ok(())
 }
 
-/// Whether a call of `seat` gave one: the first 16, the next, one after a seat was given back, and one
-/// after a seat was dropped.
+/// Whether a call of `seat` gave one: the first 16, the next, one after a seat was given back, and
+/// one after that was dropped.
 #[derive(Debug, PartialEq, Eq, Drop)]
 struct Seated {
     first: usize,

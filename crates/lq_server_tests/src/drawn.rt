@@ -1,10 +1,10 @@
-//! Four threads at one server by drawn acts: two apply, one reads and hangs up, one opens and closes.
-//! What each reader was told is compared afterwards (`reference`).
+//! Four threads at one server by drawn acts: two apply, one reads and hangs up, one opens and
+//! closes. What each reader was told is compared afterwards (`reference`).
 ghost use Rattle.std.specs.Prelude.{◌≡◌};
 
 use crate::draws::Draws;
 use crate::held::{ReaderOf, SeatOf};
-use crate::reference::{Log, Taken, copy_of, replayed, results};
+use crate::reference::{LIMIT, Log, Taken, copy_of, replayed, results};
 use crate::stage::base;
 use lq_desk::Read;
 use lq_predicate::read;
@@ -17,8 +17,11 @@ use std::sync::Wait;
 use std::test::Fail;
 use std::thread::{Threads, join};
 
-/// How many changes each of two threads has accepted.
-const CHANGES: usize = 500;
+/// How many changes each of two threads asks for; some 500 are accepted.
+const CHANGES: usize = 1300;
+
+/// How many subscriptions each of the two others has.
+const ROUNDS: usize = 80;
 
 /// The queries that are opened.
 const QUERIES: [&str; 3] = ["name='a*'", "size>0", "x=1&&size<2"];
@@ -38,7 +41,7 @@ struct Done {
     retired: Retired,
 }
 
-/// Applies drawn changes until so many were accepted.
+/// Applies drawn changes; those that were accepted.
 fn apply_drawn<N: Named, R: Wait>(
     rt: &R,
     alloc: Global,
@@ -51,10 +54,7 @@ fn apply_drawn<N: Named, R: Wait>(
         newest: 1,
     };
     let mut taken = Vec::new(alloc);
-    for _ in 0..20_000 {
-        if taken.len() == CHANGES {
-            break;
-        }
+    for _ in 0..CHANGES {
         let change = draws.change(alloc)?;
         match seat.apply(rt, server, &change) {
             Ok(accepted) => {
@@ -82,11 +82,8 @@ fn subscribe_drawn<N: Named, R: Wait>(
         newest: 1,
     };
     let mut logs = Vec::new(alloc);
-    for _ in 0..100 {
+    for _ in 0..ROUNDS {
         logs.push(follow(rt, alloc, server, seat, ending, &mut draws)?)?;
-        if seat.latest(server) == 2 * CHANGES as u64 {
-            break;
-        }
     }
     Ok(logs)
 }
@@ -103,7 +100,7 @@ fn follow<N: Named, R: Wait>(
     let query = draws.below(3) as usize;
     let moved = draws.below(2) == 1;
     let port = draws.below(9) + 1;
-    let backlog = draws.below(60);
+    let backlog = draws.below(20);
     let text = QUERIES.get(query).copied().unwrap_or("");
     let predicate = read(alloc, text)?;
     let from = seat.latest(server);
@@ -242,9 +239,6 @@ fn all_four<N: Named + Send + Sync, R: Threads + Wait + Sync>(
     })
 }
 
-/// The number of changes that the volume takes.
-const LIMIT: u64 = 100_000;
-
 #[test]
 fn drawn_schedules_tell_what_the_reference_tells(rt: HostRuntime) -> Result<(), Fail> {
     let alloc = rt.alloc();
@@ -256,12 +250,13 @@ fn drawn_schedules_tell_what_the_reference_tells(rt: HostRuntime) -> Result<(), 
             retired,
         } = all_four::<Brand, _>(&rt, alloc, base, seed)?;
         taken.sort_by_key(|taken| taken.accepted.change)?;
-        assert_eq!(rt; taken.len(), 2 * CHANGES, "seed {seed}");
-        let volume = replayed(alloc, &taken, LIMIT)?.ok_or("another answer")?;
+        assert_eq!(rt; logs.len(), 2 * ROUNDS, "seed {seed}");
+        assert_eq!(rt; retired.changes, taken.len() as u64, "seed {seed}");
+        let volume = replayed(alloc, &taken)?.ok_or("another answer")?;
         let left = format!(in alloc; "{:?}", retired.volume)?;
         assert!(rt; left == format!(in alloc; "{volume:?}")?, "seed {seed}");
         for (place, query) in QUERIES.iter().enumerate() {
-            let results = results(alloc, query, &taken, LIMIT)?;
+            let results = results(alloc, query, &taken)?;
             for (row, log) in logs.iter().enumerate() {
                 assert!(rt;
                     log.query != place || log.is_told(alloc, &results)?,

@@ -29,7 +29,7 @@ impl Draws {
     pub fn change(&mut self, alloc: Global) -> Result<Change, Refusal> {
         let node = self.node();
         let dir = self.dir();
-        let name = Name::read(alloc, self.name())?;
+        let name = self.name(alloc)?;
         let size = self.below(3);
         Ok(match self.below(12) {
             0..=3 => Change::Create {
@@ -47,13 +47,13 @@ impl Draws {
                 time: 2,
             },
             5 => Change::Remove { node },
-            6 | 7 => Change::Move {
+            6..=8 => Change::Move {
                 node,
                 dir,
                 name,
                 clobber: size == 0,
             },
-            8 | 9 => Change::Write {
+            9 => Change::Write {
                 node,
                 size,
                 time: 3,
@@ -94,14 +94,13 @@ impl Draws {
         if self.below(2) == 0 { 1 } else { self.node() }
     }
 
-    fn name(&mut self) -> &'static str {
-        match self.below(6) {
-            0 => "a1",
-            1 => "a2",
-            2 => "a3",
-            3 => "b1",
-            4 => "b2",
-            _ => "b3",
-        }
+    fn name(&mut self, alloc: Global) -> Result<Name, Refusal> {
+        let number = self.below(60);
+        let text = if self.below(2) == 0 {
+            format!(in alloc; "a{number}")?
+        } else {
+            format!(in alloc; "b{number}")?
+        };
+        Name::read(alloc, &text)
     }
 }

@@ -23,9 +23,10 @@ pub struct Followed {
 
 /// Makes changes at a new server in one thread, and reads what they tell a query in another.
 ///
-/// There is one book of changes over which what the reader has received is a prefix of the query's
-/// update list, and the volume that is left is the state after that book or one that goes on from it.
-/// The reader reads so many times, hangs up, and goes on to its mark. Refused as `Server::seat`,
+/// There is one book of changes: what the reader has received is a prefix of the query's update
+/// list over it, and the volume that is left is the state after it, or after one that goes on from
+/// it.
+/// The reader reads that many times, hangs up, and goes on to its mark. Refused as `Server::seat`,
 /// `open` and `apply` are, or `NoMemory`.
 pub fn follow<N: Named + Send + Sync, R: Threads + Wait + Sync>(
     rt: &R,
@@ -78,7 +79,7 @@ fn apply_all<N: Named, R: Wait>(
     Ok(seat)
 }
 
-// After so many reads it hangs up, so that its mark comes, and reads up to that.
+// After that many reads it hangs up, so that its mark comes, and goes on to that.
 fn read_out<N: Named, R: Wait>(
     rt: &R,
     server: &Server<N>,

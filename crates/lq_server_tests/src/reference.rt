@@ -6,6 +6,9 @@ use lq_value::{Entry, Refusal};
 use lq_volume::{Change, Volume};
 use std::alloc::Global;
 
+/// The number of changes that the volume takes.
+pub const LIMIT: u64 = 100_000;
+
 /// A change that a server accepted, and what it answered.
 #[derive(Drop)]
 pub struct Taken {
@@ -39,8 +42,8 @@ struct Line<'a> {
 }
 
 /// The volume after all changes. `None` where one is answered otherwise than by the server.
-pub fn replayed(alloc: Global, taken: &[Taken], limit: u64) -> Result<Option<Volume>, Refusal> {
-    let mut volume = Volume::new(alloc, limit);
+pub fn replayed(alloc: Global, taken: &[Taken]) -> Result<Option<Volume>, Refusal> {
+    let mut volume = Volume::new(alloc, LIMIT);
     for Taken { accepted, change } in taken {
         let applied = volume.apply(change)?;
         if applied.change != accepted.change || applied.node != accepted.node {
@@ -51,14 +54,9 @@ pub fn replayed(alloc: Global, taken: &[Taken], limit: u64) -> Result<Option<Vol
 }
 
 /// What a query finds after each of the changes.
-pub fn results(
-    alloc: Global,
-    query: &str,
-    taken: &[Taken],
-    limit: u64,
-) -> Result<Results, Refusal> {
+pub fn results(alloc: Global, query: &str, taken: &[Taken]) -> Result<Results, Refusal> {
     let predicate = read(alloc, query)?;
-    let mut volume = Volume::new(alloc, limit);
+    let mut volume = Volume::new(alloc, LIMIT);
     let mut results = Vec::new(alloc);
     results.push(volume.fetch(&predicate)?)?;
     for Taken { change, .. } in taken {
@@ -167,8 +165,8 @@ fn is_at(message: &Message, entry: &Entry) -> bool {
 }
 
 impl Log {
-    /// Returns whether the subscription was told what it had to be, from some opening on between those
-    /// numbers up to its mark.
+    /// Returns whether the subscription was told what it had to be up to its mark, from an opening
+    /// on between those numbers.
     pub fn is_told(&self, alloc: Global, results: &[Vec<Entry>]) -> Result<bool, Refusal> {
         let Some(mark) = self.mark else {
             return Ok(false);
@@ -203,8 +201,8 @@ impl Log {
         Ok(self.messages.len() == told && mark.seq == (told as u64).saturating_add(1))
     }
 
-    /// How many messages there were with the change after this one, where these are those that it had
-    /// to be told.
+    /// How many messages there were with the change after this one, where these are those that it
+    /// had to be told.
     fn count(
         &self,
         alloc: Global,

@@ -46,7 +46,7 @@ fn scenario_threaded_window(rt: HostRuntime) -> Result<(), Fail> {
     Ok(())
 }
 
-/// A reader that was dropped leaves its slot taken; another is closed once; a live one isn't finished.
+/// A dropped reader leaves its slot taken, another is closed once, a live one isn't finished.
 const DROPS: [(Act, Told); 13] = [
     (Act::Open("name=*", 1, 1), Told::Number(1)),
     (Act::Create("a"), Told::Changed(1, 2)),

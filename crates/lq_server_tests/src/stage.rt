@@ -80,8 +80,8 @@ pub fn stage<N: Named + Send + Sync, R: Threads + Wait + Sync>(
     Ok(seat.retire(rt, server))
 }
 
-// The second party is the one that may wait for the first, so it has the thread that is made: if none
-// can be made it plays last.
+// The second party may wait for the first, so it has the thread that is made: if none can be made
+// it plays last.
 fn side_by_side<N: Named + Send + Sync, R: Threads + Wait + Sync>(
     rt: &R,
     alloc: Global,

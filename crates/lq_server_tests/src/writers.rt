@@ -136,7 +136,7 @@ fn scenario_two_writers(rt: HostRuntime) -> Result<(), Fail> {
     Ok(())
 }
 
-/// What a reader was told whose end was asked for while a thread wrote: how many updates, and the mark.
+/// What a reader was told that hung up while a thread wrote: the number of updates, and the mark.
 #[derive(Clone, Copy)]
 struct Raced {
     updates: u64,
