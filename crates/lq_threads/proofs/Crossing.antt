@@ -1,15 +1,15 @@
 -- What is read of one slot may go to a thread, with its server and its gate.
 use denote.RattleType.{RattleType}
 use denote.Ref.{NamedLft}
-use denote.Param.Send.{IsSend, IsSync}
+use denote.Param.Send.{IsSend, IsSync, sendable}
 use Rattle.std.proofs.Crossing.{crosses}
 use Rattle.lq_slots.specs.declared.named.Named.{Ghosts}
 use Rattle.lq_reply.proofs.response.Response.TheSendSync as found_response
-use Rattle.lq_server.proofs.Crossing.{server_crosses}
+use Rattle.lq_server.proofs.Crossing.{server_sync}
 use Rattle.lq_threads.specs.contracts.batch.Turn as turn
 use Rattle.lq_threads.proofs.held.Held.TheSendSync as found_held
 
 pub turn_send : (ℓ : NamedLft) (N G : RattleType) (g : Ghosts N.Denot) → IsSync G
     → IsSend (turn.the_row ℓ N G g)
 turn_send ℓ N G g gate =
-    search (server_crosses, crosses, found_held.the_send, found_response.the_send) depth 20
+    search (sendable, crosses, server_sync, found_held.the_send, found_response.the_send) depth 20
