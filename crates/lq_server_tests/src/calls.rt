@@ -1,0 +1,159 @@
+//! Each call of a server and of a reader, and why an opening or a seat is refused.
+ghost use Rattle.std.specs.Prelude.{◌≡◌};
+
+use crate::acts::{Act, Party, Told, Tries};
+use crate::held::SeatOf;
+use crate::stage::{Stop, base, play};
+use lq_server::{Base, Named, Server};
+use lq_update::Cause;
+use lq_value::Refusal;
+use std::alloc::Global;
+use std::marker::Brand;
+use std::sync::Wait;
+use std::test::Fail;
+
+/// Each call with memory; each of the six changes; a query with moved messages and one without.
+const EACH: [(Act, Told); 37] = [
+    (Act::Latest, Told::Number(0)),
+    (Act::Create("a"), Told::Changed(1, 2)),
+    (Act::Open("name=*", 4, 16), Told::Number(1)),
+    (Act::Slot, Told::Number(1)),
+    (Act::Result(&[("a", 2)]), Told::Is(true)),
+    (Act::SetAttr(2, 7), Told::Changed(2, 2)),
+    (Act::Fetch("x=7", &[("a", 2)]), Told::Found(2, true)),
+    (Act::RemoveAttr(2), Told::Changed(3, 2)),
+    (Act::Write(2, 9), Told::Changed(4, 2)),
+    (Act::Fetch("size=9", &[("a", 2)]), Told::Found(4, true)),
+    (Act::Find("a"), Told::Number(2)),
+    (Act::Listing(2, "a"), Told::Is(true)),
+    (Act::Read, Told::Empty),
+    (Act::Move(2, "b"), Told::Changed(5, 2)),
+    (Act::Read, Told::Update(1, 5, 2)),
+    (Act::Read, Told::Update(2, 5, 2)),
+    (Act::Result(&[("b", 2)]), Told::Is(true)),
+    (Act::Remove(2), Told::Changed(6, 2)),
+    (Act::Pump, Told::Done),
+    (Act::ReadWaiting, Told::Update(3, 6, 2)),
+    (Act::Sync, Told::Live(6, 0, 0)),
+    (Act::Latest, Told::Number(6)),
+    (Act::ReaderLatest, Told::Number(6)),
+    (Act::Meet, Told::Number(6)),
+    (Act::Close, Told::Number(6)),
+    (Act::Read, Told::End(4, 6, Cause::Closed)),
+    (Act::ReadWaiting, Told::Ended),
+    (Act::Finish, Told::Done),
+    (Act::OpenMoved("name=*", 4, 16), Told::Number(1)),
+    (Act::Create("c"), Told::Changed(7, 3)),
+    (Act::Move(3, "d"), Told::Changed(8, 3)),
+    (Act::Read, Told::Update(1, 7, 3)),
+    (Act::Read, Told::Update(2, 8, 3)),
+    (Act::HangUp, Told::Done),
+    (Act::ReadWaiting, Told::End(3, 8, Cause::HungUp)),
+    (Act::Result(&[("d", 3)]), Told::Is(true)),
+    (Act::Finish, Told::Done),
+];
+
+#[test]
+fn each_call_answers(rt: HostRuntime) -> Result<(), Fail> {
+    let base = base(rt.alloc(), 100)?;
+    let retired = play::<Brand, _>(&rt, rt.alloc(), base, &EACH)?;
+    assert!(rt; retired.changes == 8 && retired.volume.changes() == 8);
+    Ok(())
+}
+
+/// Where each number refuses an opening, the first that fits.
+const NUMBERS: [(Act, Told); 4] = [
+    (Act::Open("size>0", 0, 1), Told::Refused(Refusal::BadPort)),
+    (
+        Act::Open("size>0", 1025, 65537),
+        Told::Refused(Refusal::BadPort),
+    ),
+    (
+        Act::Open("size>0", 1, 65537),
+        Told::Refused(Refusal::BadBacklog),
+    ),
+    (
+        Act::Open("size>0", 0, 65537),
+        Told::Refused(Refusal::BadPort),
+    ),
+];
+
+/// All slots are taken, and as many openings were made as the volume takes changes.
+const FULL: [(Act, Told); 1] = [(Act::Open("size>0", 1, 1), Told::Refused(Refusal::NoSlot))];
+
+/// Opens in each slot between the refusals.
+fn fill<N: Named, R: Wait>(rt: &R, alloc: Global, base: Base) -> Result<(), Stop>
+    requires { base ≡ N.board }
+{
+    let server: Server<N> = Server::new(base);
+    let mut party = Party::new(rt, &server).map_err(Stop::Refused)?;
+    party
+        .play(rt, alloc, &server, Tries::One, &NUMBERS)
+        .map_err(Stop::Before)?;
+    for slot in 1..=64 {
+        let opening = [(Act::Open("size>0", 1024, 65536), Told::Number(slot))];
+        party
+            .play(rt, alloc, &server, Tries::One, &opening)
+            .map_err(Stop::First)?;
+    }
+    party
+        .play(rt, alloc, &server, Tries::One, &FULL)
+        .map_err(Stop::Second)?;
+    party
+        .play(rt, alloc, &server, Tries::One, &NUMBERS)
+        .map_err(Stop::After)
+}
+
+#[test]
+fn openings_are_refused_in_order(rt: HostRuntime) -> Result<(), Fail> {
+    let base = base(rt.alloc(), 64)?;
+    fill::<Brand, _>(&rt, rt.alloc(), base)?;
+    Ok(())
+}
+
+/// Whether a call of `seat` gave one: the first 16, the next, one after a seat was given back, and
+/// one after that was dropped.
+#[derive(Debug, PartialEq, Eq, Drop)]
+struct Seated {
+    first: usize,
+    next: Option<Refusal>,
+    given_back: bool,
+    dropped: Option<Refusal>,
+}
+
+fn seats<N: Named, R: Wait>(rt: &R, alloc: Global, base: Base) -> Result<Seated, Refusal>
+    requires { base ≡ N.board }
+{
+    let server: Server<N> = Server::new(base);
+    let mut seats: Vec<SeatOf<N>> = Vec::new(alloc);
+    for _ in 0..16 {
+        seats.push(SeatOf::new(rt, &server)?)?;
+    }
+    let first = seats.len();
+    let next = SeatOf::new(rt, &server).err();
+    if let Some(seat) = seats.pop() {
+        seat.give_back(rt, &server);
+    }
+    let given_back = SeatOf::new(rt, &server).is_ok();
+    let dropped = SeatOf::new(rt, &server).err();
+    Ok(Seated {
+        first,
+        next,
+        given_back,
+        dropped,
+    })
+}
+
+#[test]
+fn seats_run_out(rt: HostRuntime) -> Result<(), Fail> {
+    let base = base(rt.alloc(), 9)?;
+    let seated = seats::<Brand, _>(&rt, rt.alloc(), base)?;
+    let wanted = Seated {
+        first: 16,
+        next: Some(Refusal::NoSeat),
+        given_back: true,
+        dropped: Some(Refusal::NoSeat),
+    };
+    assert!(rt; seated == wanted, "{seated:?}");
+    Ok(())
+}

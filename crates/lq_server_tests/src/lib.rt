@@ -1,0 +1,28 @@
+//! Tests of the threaded server, and a model of how a program uses it.
+#![tactic(auto)]
+
+#[cfg(test)]
+mod acts;
+#[cfg(test)]
+mod again;
+#[cfg(test)]
+mod calls;
+#[cfg(test)]
+mod drawn;
+#[cfg(test)]
+mod draws;
+#[cfg(test)]
+mod followed;
+#[cfg(test)]
+mod held;
+mod model;
+#[cfg(test)]
+mod reference;
+#[cfg(test)]
+mod scenarios;
+#[cfg(test)]
+mod stage;
+#[cfg(test)]
+mod writers;
+
+pub use model::{Followed, follow};
