@@ -6,7 +6,7 @@ use denote.Struct.Field.{shr_ref_field, u64-field}
 use denote.Struct.Tuple.{TupleAt}
 use denote.Exit.{no}
 use denote.Param.{param}
-use denote.Param.Send.{IsSend, IsSync, param_send, arg_send}
+use denote.Param.Send.{IsSend, IsSync, sendable, param_send, arg_send}
 use Rattle.std.proofs.Common.{subst}
 use Rattle.std.proofs.Crossing.{crosses}
 use Rattle.std.specs.Prelude.{IfOk}
@@ -17,7 +17,8 @@ use Rattle.lq_slots.specs.declared.named.Named.{Ghosts}
 use Rattle.lq_server.specs.contracts.server.Server as server
 use Rattle.lq_server.specs.contracts.reader.Reader as reader
 use Rattle.lq_server.proofs.reader.Reader.TheSendSync as found_reader
-use Rattle.lq_server.proofs.Crossing.{server_crosses}
+use Rattle.lq_server.proofs.Crossing.{server_sync}
+use Rattle.lq_volume.proofs.change.Change.TheSendSync as found_change
 use Rattle.lq_server_tests.specs.Followed.{GoesOn}
 use Rattle.lq_server_tests.proofs.FollowLemmas.{followed}
 use Rattle.lq_server_tests.proofs.model.follow.Goals as goal
@@ -25,7 +26,7 @@ use Rattle.lq_server_tests.proofs.model.follow.Goals as goal
 -- what the first closure takes: the runtime, the server, a reader, how often it reads
 taken : (ν : Sym) (ℓ ℓ₁ ℓ₂ : NamedLft) (N R : RattleType) (g : Ghosts N.Denot) → IsSync (param 1 R)
     → IsSend (TupleAt ν ((shr_ref_field ℓ (param 1 R) tt).row ∷ (shr_ref_field ℓ₁ (server.the_row (param 0 N) g) tt).row ∷ reader.the_row ∷ (shr_ref_field ℓ₂ u64-field.row tt).row ∷ []))
-taken ν ℓ ℓ₁ ℓ₂ N R g y = search (crosses, server_crosses, found_reader.the_send) depth 20
+taken ν ℓ ℓ₁ ℓ₂ N R g y = search (sendable, crosses, server_sync, found_change.the_sync, found_reader.the_send) depth 20
 
 pub join-reader-requires-send-F : goal.join-reader-requires-send-F
 join-reader-requires-send-F g c κs within = param_send 1 _ (arg_send _ no _ (taken _ _ _ _ g.row.N g.row.R g.N.Named c.type_bounds.sync-R))
