@@ -1,0 +1,11 @@
+use Rattle.std.proofs.Common.{◌≡◌}
+use Rattle.lq_model.specs.Followed.{GoesOn}
+use Rattle.lq_model.proofs.model.read_out.Given as goal
+
+abbrev pub invariant-loop : goal.invariant-loop
+invariant-loop g l = GoesOn l.fn.reader l.reader × (l.reader.seat.board ≡ g.N.Named.board)
+
+abbrev pub invariant-loop-2 : goal.invariant-loop-2
+invariant-loop-2 g l =
+    (goal.iterator-loop-2 g).can_next l.iterator' × (goal.iterator-loop-2 g).is_finite l.iterator'
+    × GoesOn l.fn.reader l.reader × (l.reader.seat.board ≡ g.N.Named.board)

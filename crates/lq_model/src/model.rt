@@ -1,0 +1,102 @@
+//! A server from its beginning to its end: one thread makes changes, another reads what they tell.
+ghost use Rattle.std.specs.Prelude.{◌≡◌, IfOk};
+ghost use Rattle.lq_server.specs.Own.{IsOwn};
+ghost use Rattle.lq_model.specs.Followed.{GoesOn, IsFollowed};
+
+use lq_board::Seat;
+use lq_desk::Read;
+use lq_predicate::Predicate;
+use lq_server::{Base, Named, Reader, Retired, Server, Synced};
+use lq_subscription::Identity;
+use lq_value::Refusal;
+use lq_volume::Change;
+use std::sync::Wait;
+use std::thread::{Threads, join};
+
+/// What is left where a query was followed: its reader, how far it is, and the volume.
+#[derive(Drop)]
+pub struct Followed {
+    pub reader: Reader,
+    pub synced: Synced,
+    pub retired: Retired,
+}
+
+/// Makes changes at a new server in one thread, and reads what they tell a query in another.
+///
+/// There is one book of changes: what the reader has received is a prefix of the query's update
+/// list over it, and the volume that is left is the state after it, or after one that goes on from
+/// it.
+/// The reader reads that many times, hangs up, and goes on to its mark. Refused as `Server::seat`,
+/// `open` and `apply` are, or `NoMemory`.
+pub fn follow<N: Named + Send + Sync, R: Threads + Wait + Sync>(
+    rt: &R,
+    base: Base,
+    predicate: &Predicate,
+    changes: &[Change],
+    reads: u64,
+) -> Result<Followed, Refusal>
+    requires { base ≡ N.board }
+    ensures { IfOk result (IsFollowed predicate.now) }
+{
+    let server: Server<N> = Server::new(base);
+    let mut seat = server.seat(rt)?;
+    let reader = server.open(rt, &mut seat, predicate, 16, 1024, false)?;
+    let (reader, seat) = join(
+        rt,
+        || -> Result<Reader, Refusal>
+            requires { (reader.seat.board ≡ N.board) × IsOwn reader }
+            ensures { IfOk result (GoesOn reader) }
+        { read_out(rt, &server, reader, reads) },
+        || -> Result<Seat<Identity>, Refusal>
+            requires { (seat.board ≡ N.board) × (seat.slot ≡ 0) }
+            ensures { IfOk result (λ seat. (seat.board ≡ N.board) × (seat.slot ≡ 0)) }
+        { apply_all(rt, &server, seat, changes) },
+    );
+    let mut reader = reader?;
+    let mut seat = seat?;
+    let synced = server.sync(rt, &mut reader);
+    server.meet(rt, reader.seat(), &mut seat);
+    let retired = server.retire(rt, seat);
+    Ok(Followed {
+        reader,
+        synced,
+        retired,
+    })
+}
+
+fn apply_all<N: Named, R: Wait>(
+    rt: &R,
+    server: &Server<N>,
+    mut seat: Seat<Identity>,
+    changes: &[Change],
+) -> Result<Seat<Identity>, Refusal>
+    requires { (seat.board ≡ N.board) × (seat.slot ≡ 0) }
+    ensures { IfOk result (λ seat. (seat.board ≡ N.board) × (seat.slot ≡ 0)) }
+{
+    for change in changes {
+        server.apply(rt, &mut seat, change)?;
+    }
+    Ok(seat)
+}
+
+// After that many reads it hangs up, so that its mark comes, and goes on to that.
+fn read_out<N: Named, R: Wait>(
+    rt: &R,
+    server: &Server<N>,
+    mut reader: Reader,
+    reads: u64,
+) -> Result<Reader, Refusal>
+    requires { (reader.seat.board ≡ N.board) × IsOwn reader }
+    ensures { IfOk result (GoesOn reader) }
+{
+    for _ in 0..reads {
+        reader.read(rt)?;
+    }
+    reader.hang_up(server);
+    for _ in rt.forever() {
+        if let Read::Fin(_) | Read::Ended = reader.read_waiting(rt, server)? {
+            return Ok(reader);
+        }
+    }
+    unreachable!()
+}

@@ -1,8 +1,0 @@
-use Rattle.std.proofs.Common.{◌≡◌, map, take}
-use Rattle.serde_json.specs.View.{view}
-use Rattle.lq_reply.specs.Reply.{entry_data}
-use Rattle.lq_reply.proofs.plain.entries_value.Given as goal
-
--- the entries so far
-abbrev pub invariant-loop-entry : goal.invariant-loop-entry
-invariant-loop-entry l = map view l.items.items ≡ map entry_data (take l.entry-index l.entries)

@@ -1,0 +1,92 @@
+//! Of lq_predicate: predicates from pushes, their texts and names, with memory.
+use lq_predicate::{Stack, StackOp, names, write};
+use lq_value::Refusal;
+use std::alloc::Global;
+use std::test::Fail;
+
+// How long a text is that `a` is less than, and how the comparison is refused: six bytes stand
+// beside the text in the canonical text.
+const LENGTHS: [(usize, Option<Refusal>); 2] = [
+    (4090, None),
+    (4091, Some(Refusal::BadQuery { place: 2 })),
+];
+
+// The scenario with a pattern that is found and two comparisons joined.
+fn size_and_name(alloc: Global) -> Result<Stack, Refusal> {
+    let mut stack = Stack::new(alloc);
+    stack.push_attr("size")?;
+    stack.push_int32(10)?;
+    stack.push_op(StackOp::Gt)?;
+    stack.push_attr("name")?;
+    stack.push_text("oo")?;
+    stack.push_op(StackOp::Contains)?;
+    stack.push_op(StackOp::And)?;
+    Ok(stack)
+}
+
+fn finished_text(alloc: Global, stack: &mut Stack) -> Result<String, Refusal> {
+    let predicate = stack.finish()?;
+    let copy = predicate.copy(alloc)?;
+    write(alloc, &copy)
+}
+
+#[test]
+fn scenario_postfix_stack(rt: HostRuntime) -> Result<(), Fail> {
+    let mut stack = size_and_name(rt.alloc())?;
+    let text = finished_text(rt.alloc(), &mut stack)?;
+    assert_eq!(rt; text.as_str(), "((size>\"10\")&&(name==\"*oo*\"))");
+    Ok(())
+}
+
+#[test]
+fn scenario_postfix_stack_names(rt: HostRuntime) -> Result<(), Fail> {
+    let mut stack = size_and_name(rt.alloc())?;
+    let predicate = stack.finish()?;
+    let found = names(rt.alloc(), &predicate)?;
+    assert_eq!(rt; found.len(), 2);
+    assert_eq!(rt; found[0].as_str(), "size");
+    assert_eq!(rt; found[1].as_str(), "name");
+    Ok(())
+}
+
+#[test]
+fn scenario_postfix_stack_refusals(rt: HostRuntime) -> Result<(), Fail> {
+    let mut stack = Stack::new(rt.alloc());
+    assert_eq!(rt; stack.finish().err(), Some(Refusal::BadQuery { place: 0 }));
+    stack.push_attr("a")?;
+    stack.push_int64(-5)?;
+    let refused = stack.push_op(StackOp::And);
+    assert_eq!(rt; refused, Err(Refusal::BadQuery { place: 2 }));
+    stack.push_op(StackOp::Lt)?;
+    let text = finished_text(rt.alloc(), &mut stack)?;
+    assert_eq!(rt; text.as_str(), "(a<\"-5\")");
+    Ok(())
+}
+
+#[test]
+fn scenario_moved_pushes(rt: HostRuntime) -> Result<(), Fail> {
+    let mut stack = Stack::new(rt.alloc());
+    stack.push_attr("a")?;
+    stack.push_uint64(18446744073709551615)?;
+    stack.push_op(StackOp::Le)?;
+    let text = finished_text(rt.alloc(), &mut stack)?;
+    assert_eq!(rt; text.as_str(), "(a<=\"18446744073709551615\")");
+    stack.push_attr("a")?;
+    stack.push_uint32(7)?;
+    stack.push_op(StackOp::Le)?;
+    let text = finished_text(rt.alloc(), &mut stack)?;
+    assert_eq!(rt; text.as_str(), "(a<=\"7\")");
+    Ok(())
+}
+
+#[test]
+fn a_canonical_text_has_4096_bytes_at_most(rt: HostRuntime) -> Result<(), Fail> {
+    for (length, refused) in LENGTHS {
+        let text = "x".repeat(rt.alloc(), length)?;
+        let mut stack = Stack::new(rt.alloc());
+        stack.push_attr("a")?;
+        stack.push_text(text.as_str())?;
+        assert_eq!(rt; stack.push_op(StackOp::Lt).err(), refused);
+    }
+    Ok(())
+}

@@ -1,0 +1,268 @@
+//! Reads side by side, and devices that fail in mid-stream, beside the run by one thread.
+ghost use Rattle.std.specs.Prelude.{◌≡◌, ◌<◌, false, true, None};
+
+use lq_script::run;
+use lq_threads::{Failed, Gate, Host, OpenGate, RunFault, Sink, Source, run_threads};
+use std::alloc::Global;
+use std::sync::Wait;
+use std::sync::atomic::{AtomicBool, Ordering};
+use std::test::Fail;
+use std::thread::Threads;
+
+const TWO_READERS: &str = r#"{"do":"open","query":"name=*","port":4,"backlog":16}
+{"do":"open","query":"size>0","port":4,"backlog":16}
+{"do":"create","name":"a","size":1}
+{"do":"read","slot":1}
+{"do":"read","slot":2}
+{"do":"read","slot":1}
+{"do":"read","slot":2}
+"#;
+
+const TWO_READ: &str = r#"{"at":0,"result":[],"slot":1}
+{"at":0,"result":[],"slot":2}
+{"change":1,"node":2}
+{"change":1,"dir":1,"last":true,"name":"a","node":2,"op":"B_ENTRY_CREATED","seq":1,"what":"B_QUERY_UPDATE"}
+{"change":1,"dir":1,"last":true,"name":"a","node":2,"op":"B_ENTRY_CREATED","seq":1,"what":"B_QUERY_UPDATE"}
+{"what":"EMPTY"}
+{"what":"EMPTY"}
+"#;
+
+// Each kind of line, with reads of several slots, one that is free, and an empty line among them.
+const MIXED: &str = r#"{"do":"open","query":"name=*","port":1,"backlog":2,"moved":true}
+{"do":"open","query":"size>0","port":1,"backlog":1}
+{"do":"create","name":"a","size":1}
+{"do":"create","name":"b","size":2}
+{"do":"read","slot":2}
+{"do":"read","slot":1}
+
+{"do":"read","slot":3}
+{"do":"read","slot":2}
+{"do":"move","node":2,"name":"c"}
+{"do":"set","node":2,"attr":"x","type":"CSTR","value":"z"}
+{"do":"unset","node":2,"attr":"x"}
+{"do":"write","node":3,"size":0}
+{"do":"read","slot":1}
+{"do":"read","slot":2}
+{"do":"read","slot":2}
+{"do":"result","slot":1}
+{"do":"fly"}
+{"do":"hang_up","slot":1}
+{"do":"close","slot":2}
+{"do":"finish","slot":2}
+{"do":"remove","node":3}
+{"do":"read","slot":1}
+{"do":"read","slot":1}
+{"do":"read","slot":2}
+{"do":"finish","slot":1}
+{"do":"fetch","query":"name=*"}
+{"do":"find","name":"c"}
+{"do":"entry","node":2}
+{"do":"read","slot":1}"#;
+
+/// A gate where the first reads of slots 1 and 2 look for each other.
+#[derive(Drop)]
+struct Meeting {
+    is_here: [AtomicBool; 2],
+    has_seen: [AtomicBool; 2],
+}
+
+// The tries to see the other.
+const TURNS: u32 = 1_000_000_000;
+
+impl Meeting {
+    fn new() -> Meeting {
+        Meeting {
+            is_here: [AtomicBool::new(false), AtomicBool::new(false)],
+            has_seen: [AtomicBool::new(false), AtomicBool::new(false)],
+        }
+    }
+
+    // Each place sets its own flag, once, and looks for the other's.
+    fn meet(&self, own: usize, other: usize)
+        requires own { own < 2 }
+        requires other { other < 2 }
+    {
+        if self.is_here[own].swap(true, Ordering::SeqCst) {
+            return;
+        }
+        for _ in 0..TURNS {
+            if self.is_here[other].load(Ordering::SeqCst) {
+                self.has_seen[own].store(true, Ordering::SeqCst);
+                return;
+            }
+        }
+    }
+
+    fn was_held(&self) -> bool {
+        let one = self.has_seen[0].load(Ordering::SeqCst);
+        let two = self.has_seen[1].load(Ordering::SeqCst);
+        one && two
+    }
+}
+
+impl Gate for Meeting {
+    fn pass<R: Wait>(&self, rt: &R, slot: u64) {
+        let _ = rt;
+        match slot {
+            1 => self.meet(0, 1),
+            2 => self.meet(1, 0),
+            _ => {}
+        }
+    }
+}
+
+#[test]
+fn two_readers_read_side_by_side(rt: HostRuntime) -> Result<(), Fail> {
+    let alloc = rt.alloc();
+    let meeting = Meeting::new();
+    let mut reader = Host::new(TWO_READERS.as_bytes());
+    let mut writer = Host::new(Vec::new(alloc));
+    let ran = run_threads(&rt, alloc, &mut reader, &mut writer, &meeting);
+    assert!(rt; ran == Ok(()));
+    assert_eq!(rt; writer.into_device().as_slice(), TWO_READ.as_bytes());
+    assert!(rt; meeting.was_held());
+    Ok(())
+}
+
+/// How devices move at most `step` bytes a call: the reader fails after so many calls, and the
+/// writer after `room` bytes, or it takes nothing then.
+#[derive(Clone, Copy, Debug)]
+struct Pace {
+    step: usize,
+    calls: usize,
+    room: usize,
+    stalls: bool,
+}
+
+#[derive(Drop)]
+struct Given<'a> {
+    left: &'a [u8],
+    pace: Pace,
+    failed: bool,
+}
+
+impl<'a> Source for Given<'a> {
+    ghost left = { λ _. None };
+
+    ghost failed = { λ g. g.failed };
+
+    fn read(&mut self, buf: &mut [u8]) -> Result<usize, Failed> {
+        if self.pace.calls == 0 {
+            self.failed = true;
+            return Err(Failed);
+        }
+        self.pace.calls -= 1;
+        let count = self.pace.step.min(self.left.len()).min(buf.len());
+        buf[..count].copy_from_slice(&self.left[..count]);
+        self.left = &self.left[count..];
+        Ok(count)
+    }
+}
+
+#[derive(Drop)]
+struct Taken {
+    text: Vec<u8>,
+    pace: Pace,
+    failed: bool,
+    stalled: bool,
+}
+
+impl Sink for Taken {
+    ghost written = { λ _. None };
+
+    ghost failed = { λ t. t.failed };
+
+    ghost stalled = { λ t. t.stalled };
+
+    ghost flushed = { λ _. true };
+
+    fn write(&mut self, bytes: &[u8]) -> Result<usize, Failed> {
+        let count = self.pace.step.min(bytes.len()).min(self.pace.room);
+        if count == 0 && self.pace.stalls {
+            self.stalled = true;
+            return Ok(0);
+        }
+        if count == 0 || self.text.extend_from_slice(&bytes[..count]).is_err() {
+            self.failed = true;
+            return Err(Failed);
+        }
+        self.pace.room -= count;
+        Ok(count)
+    }
+
+    fn flush(&mut self) -> Result<(), Failed> {
+        Ok(())
+    }
+}
+
+fn reader_of(pace: Pace) -> Given<'static>
+    ensures { result.failed ≡ false }
+{
+    Given {
+        left: MIXED.as_bytes(),
+        pace,
+        failed: false,
+    }
+}
+
+fn writer_of(alloc: Global, pace: Pace) -> Taken
+    ensures failed { result.failed ≡ false }
+    ensures stalled { result.stalled ≡ false }
+{
+    Taken {
+        text: Vec::new(alloc),
+        pace,
+        failed: false,
+        stalled: false,
+    }
+}
+
+// Whether a run by threads answers and writes as one by one thread; and what it answers.
+fn agrees<R: Threads + Wait + Sync>(
+    rt: &R,
+    alloc: Global,
+    pace: Pace,
+) -> (bool, Result<(), RunFault>) {
+    let mut one = writer_of(alloc, pace);
+    let mut many = writer_of(alloc, pace);
+    let by_one = run(alloc, &mut reader_of(pace), &mut one);
+    let by_many = run_threads(rt, alloc, &mut reader_of(pace), &mut many, &OpenGate);
+    (by_one == by_many && one.text == many.text, by_many)
+}
+
+const FREE: usize = 10_000;
+
+#[test]
+fn each_read_and_write_may_fail(rt: HostRuntime) -> Result<(), Fail> {
+    let alloc = rt.alloc();
+    for step in [7, 100, FREE] {
+        let free = Pace {
+            step,
+            calls: FREE,
+            room: FREE,
+            stalls: false,
+        };
+        assert!(rt; agrees(&rt, alloc, free) == (true, Ok(())), "{free:?}");
+        for calls in 0..=MIXED.len() / step {
+            let pace = Pace { calls, ..free };
+            assert!(rt;
+                agrees(&rt, alloc, pace) == (true, Err(RunFault::Read)),
+                "{pace:?}"
+            );
+        }
+        for stalls in [false, true] {
+            for room in 0..180 {
+                let pace = Pace {
+                    room: room * 7,
+                    stalls,
+                    ..free
+                };
+                assert!(rt;
+                    agrees(&rt, alloc, pace) == (true, Err(RunFault::Write)),
+                    "{pace:?}"
+                );
+            }
+        }
+    }
+    Ok(())
+}
