@@ -19,18 +19,22 @@ use Rattle.lq_value.specs.Number.{number_of}
 abbrev pub IsRest : List ℕ → List ℕ → Type 0
 IsRest text rest = (front : List ℕ) × (text ≡ front ++ rest)
 
+-- if an 'or' of two tests is true, one of them is
 or_cases : (a b : Bool) → (a || b) ≡ true → (a ≡ true) ⊎ (b ≡ true)
 or_cases true b e = inl refl
 or_cases false b e = inr e
 
+-- an 'or' is true if its second test is
 or_right : (a b : Bool) → b ≡ true → (a || b) ≡ true
 or_right true b e = refl
 or_right false b e = e
 
+-- if an 'and' of two tests is true, both are
 and_both : (a b : Bool) → (a && b) ≡ true → (a ≡ true) × (b ≡ true)
 and_both true b e = (refl, e)
 and_both false b e = absurd (let no : false ≡ true = e in cc)
 
+-- a test that some rest passes has that rest
 pub some_found : (p : List ℕ → Bool) (cs : List ℕ) → some_rest p cs ≡ true
     → (rest : List ℕ) × IsRest cs rest × (p rest ≡ true)
 some_found p [] e = ([], ([], refl), e)
@@ -39,16 +43,19 @@ some_found p (c ∷ cs) e = elim (or_cases (p (c ∷ cs)) (some_rest p cs) e) [
   | inr h ↦ let r = some_found p cs h in (r.0, (c ∷ r.1.0, ap (λ l. c ∷ l) r.1.1), r.2)
 ]
 
+-- a text that passes a test is itself a rest that does
 pub some_here : (p : List ℕ → Bool) (cs : List ℕ) → p cs ≡ true → some_rest p cs ≡ true
 some_here p [] e = e
 some_here p (c ∷ cs) e = rw e refl
 
+-- a rest that passes, after any front, passes
 pub some_behind : (p : List ℕ → Bool) (front rest : List ℕ) → some_rest p rest ≡ true
     → some_rest p (front ++ rest) ≡ true
 some_behind p [] rest e = e
 some_behind p (c ∷ front) rest e =
     or_right (p (c ∷ (front ++ rest))) (some_rest p (front ++ rest)) (some_behind p front rest e)
 
+-- a test of the first character and the rest has them
 pub head_found : (t : ℕ → Bool) (p : List ℕ → Bool) (cs : List ℕ) → head_then t p cs ≡ true
     → (c : ℕ) × (rest : List ℕ) × (cs ≡ c ∷ rest) × (t c ≡ true) × (p rest ≡ true)
 head_found t p [] e = absurd (let no : false ≡ true = e in cc)
@@ -61,6 +68,7 @@ set-takes true false e = refl
 set-takes false true e = refl
 set-takes false false e = e
 
+-- a set takes a character that it has, or that it lacks if it is negated
 takes-set : (n h : Bool) → h ≡ not n → (if n then not h else h) ≡ true
 takes-set true true e = sym e
 takes-set true false e = refl
@@ -84,6 +92,7 @@ fits-sound (Set n is ∷ es) cs e =
     let h = head_found (takes (Set n is)) (fits es) cs e in
     (h.0 ∷ [], h.1, h.2, (h.0, refl, set-takes n (set_has is h.0) h.3), fits-sound es h.1 h.4)
 
+-- each text that a pattern fits passes its test
 pub fits-complete : (es : List Element) (cs : List ℕ) → Fits es cs → fits es cs ≡ true
 fits-complete [] cs h = rw h refl
 fits-complete (Star ∷ es) cs h =
@@ -93,6 +102,7 @@ fits-complete (Plain d ∷ es) cs h = rw (h.2, h.3, eq-eqb d d refl) (fits-compl
 fits-complete (Set n is ∷ es) cs h =
     rw (h.2, h.3.1, takes-set n (set_has is h.3.0) h.3.2) (fits-complete es h.1 h.4)
 
+-- an answer that is the test says whether the pattern fits
 pub fits-tells : (b : Bool) (es : List Element) (cs : List ℕ) → b ≡ fits es cs
     → IsTrue b ↔ Fits es cs
 fits-tells b es cs e = (λ h. fits-sound es cs (sym e ∙ h), λ h. e ∙ fits-complete es cs h)
@@ -128,17 +138,20 @@ pub plain_chars-plain : (cs : List ℕ) → plain_chars (plain_elements cs) ≡ 
 plain_chars-plain [] = refl
 plain_chars-plain (c ∷ cs) = ap (option_map (λ ds. c ∷ ds)) (plain_chars-plain cs)
 
+-- a pattern of plain characters has the number of their text
 pub number-plain : (bs : List ℕ) → IsUtf8 bs
     → pattern_number (plain_elements (chars bs)) ≡ number_of bs
 number-plain bs u = rw (plain_chars-plain (chars bs)) (ap number_of (encodes-chars bs u))
 
 -- ---- the text of plain elements, character by character
 
+-- plain elements, and one character more
 plain_elements-push : (cs : List ℕ) (c : ℕ)
     → plain_elements (cs ++ c ∷ []) ≡ plain_elements cs ++ Plain c ∷ []
 plain_elements-push [] c = refl
 plain_elements-push (d ∷ cs) c = ap (λ es. Plain d ∷ es) (plain_elements-push cs c)
 
+-- the characters of a text to which one more is added
 chars-push : (a b : List ℕ) (c : ℕ) → IsUtf8 a → IsUtf8 b → b ≡ a ++ encode_utf8 c
     → chars b ≡ chars a ++ c ∷ []
 chars-push a b c u v e =
@@ -156,6 +169,7 @@ text_more es i x c a b h is plain u v e so_far =
     ∙ ap (λ l. l ++ Plain c ∷ []) so_far
     ∙ ap (λ y. take i es ++ y ∷ []) (sym plain ∙ is) ∙ sym (take_more es i x h)
 
+-- an element that is no plain character has no plain text
 not_plain : (cs : List ℕ) (x : Element) (rest : List Element) → ((c : ℕ) → x ≡ Plain c → ⊥)
     → plain_chars (plain_elements cs ++ x ∷ rest) ≡ None
 not_plain [] Star rest h = refl

@@ -8,6 +8,7 @@ abbrev pub Shrinks : (A : Type 0) → (List Sign → First A) → Type 0
 Shrinks A first =
     (ss : List Sign) (x : A) (rest : List Sign) → first ss ≡ has x rest → length rest < length ss
 
+-- what goes on in the same way after the first piece gives the same pieces
 after_same : (A : Type 0) (ss : List Sign) (r : First A) (f g : List Sign → Pieces A)
     → ((x : A) (rest : List Sign) → r ≡ has x rest → f rest ≡ g rest)
     → after_first ss r f ≡ after_first ss r g
@@ -40,16 +41,19 @@ abbrev pub begins : {A : Type 0} → List A → Pieces A → Pieces A
 begins [] p = p
 begins (x ∷ xs) p = begin x (begins xs p)
 
+-- a piece after those that have begun begins what is left
 begins-push : (A : Type 0) (xs : List A) (x : A) (p : Pieces A)
     → begins (xs ++ x ∷ []) p ≡ begins xs (begin x p)
 begins-push A [] x p = refl
 begins-push A (y ∷ xs) x p = ap (begin y) (begins-push A xs x p)
 
+-- pieces before an end are whole
 pub begins-whole : (A : Type 0) (xs : List A) (rest : List Sign)
     → begins xs (whole [] rest) ≡ whole xs rest
 begins-whole A [] rest = refl
 begins-whole A (x ∷ xs) rest = ap (begin x) (begins-whole A xs rest)
 
+-- pieces before a fault are stuck at it
 pub begins-stuck : (A : Type 0) (xs : List A) (rest : List Sign)
     → begins xs (stuck rest) ≡ stuck rest
 begins-stuck A [] rest = refl
@@ -59,6 +63,7 @@ begins-stuck A (x ∷ xs) rest = ap (begin x) (begins-stuck A xs rest)
 abbrev pub SoFar : (A : Type 0) → (List Sign → First A) → List Sign → List A → List Sign → Type 0
 SoFar A first start xs left = pieces_of first start ≡ begins xs (pieces_of first left)
 
+-- one piece more is read
 pub so_far_more : (A : Type 0) (first : List Sign → First A) → Shrinks A first → (start : List Sign)
     (xs : List A) (left : List Sign) (x : A) (rest : List Sign) → SoFar A first start xs left
     → first left ≡ has x rest → SoFar A first start (xs ++ x ∷ []) rest
@@ -67,6 +72,7 @@ so_far_more A first s start xs left x rest h e =
     (pieces_of-step A first s left ∙ ap (λ r. after_first left r (pieces_of first)) e)
     ∙ sym (begins-push A xs x (pieces_of first rest))
 
+-- what has been read is whole where the source ends
 pub so_far_end : (A : Type 0) (first : List Sign → First A)
     → Shrinks A first → (start : List Sign) (xs : List A) (left rest : List Sign)
     → SoFar A first start xs left → first left ≡ ends rest → pieces_of first start ≡ whole xs rest
@@ -75,6 +81,7 @@ so_far_end A first s start xs left rest h e =
     (pieces_of-step A first s left ∙ ap (λ r. after_first left r (pieces_of first)) e)
     ∙ begins-whole A xs rest
 
+-- what has been read is stuck where the source is bad
 pub so_far_stuck : (A : Type 0) (first : List Sign → First A)
     → Shrinks A first → (start : List Sign) (xs : List A) (left : List Sign)
     → SoFar A first start xs left → first left ≡ faulty → pieces_of first start ≡ stuck left
@@ -99,8 +106,9 @@ pieces_shorter A first s t zero ss xs rest e = absurd (let no : ⊥ = cc in no)
 pieces_shorter A first s t (suc n) ss xs rest e =
     by (λ more ys. pieces_shorter A first s t n more ys rest) (first ss) refl e
   where
-    by : ((more : List Sign) (ys : List A) → pieces_within first n more ≡ whole ys rest
-        → length rest < length more) → (r : First A) → first ss ≡ r
+    by : ((more : List Sign) (ys : List A)
+        → pieces_within first n more ≡ whole ys rest → length rest < length more)
+        → (r : First A) → first ss ≡ r
         → after_first ss r (pieces_within first n) ≡ whole xs rest → length rest < length ss
     by shorter (ends rest') is h = let same : rest' ≡ rest = cc in t ss rest (is ∙ ap ends same)
     by shorter (has x rest') is h =

@@ -17,10 +17,12 @@ use Rattle.lq_value.proofs.SourceLemmas.{element_shrinks, signs-text, signs-spli
 
 -- ---- elements that are read are written
 
+-- an element that was read before what writes others writes itself and them
 element_on : (e : Element) (es : List Element) (ss rest : List Sign)
     → IsFirstElement ss (has e rest) → Writes rest es → Writes ss (e ∷ es)
 element_on e es ss rest h w = (h.0, rest, h.1, h.2, w)
 
+-- elements that are read to the end are written by the source
 elements_read : (n : ℕ) (ss : List Sign) (es : List Element) (rest : List Sign)
     → pieces_within element_at n ss ≡ whole es rest → Writes ss es
 unfolding pieces_within
@@ -28,8 +30,9 @@ elements_read zero ss es rest e = absurd (let no : ⊥ = cc in no)
 elements_read (suc n) ss es rest e =
     by (λ more ys. elements_read n more ys rest) (element_at ss) (element_read ss) e
   where
-    by : ((more : List Sign) (ys : List Element) → pieces_within element_at n more ≡ whole ys rest
-        → Writes more ys) → (r : First Element) → IsFirstElement ss r
+    by : ((more : List Sign) (ys : List Element)
+        → pieces_within element_at n more ≡ whole ys rest → Writes more ys)
+        → (r : First Element) → IsFirstElement ss r
         → after_first ss r (pieces_within element_at n) ≡ whole es rest → Writes ss es
     by reads (ends rest') h k = let none : es ≡ [] = cc in rw none h
     by reads (has x rest') h k =
@@ -42,6 +45,7 @@ abbrev pub StopsAt : List Sign → List Sign → Type 0
 StopsAt ss left = (es : List Element) × (front : List Sign) × (ss ≡ front ++ left) × Writes front es
     × (element_at left ≡ faulty)
 
+-- an element that was read before a stop leads to the same stop
 stops_on : (x : Element) (ss rest left : List Sign)
     → IsFirstElement ss (has x rest) → StopsAt rest left → StopsAt ss left
 stops_on x ss rest left h s = (
@@ -52,11 +56,13 @@ stops_on x ss rest left h s = (
   s.4,
 )
 
+-- an element before pieces that are stuck leaves them stuck there
 begin-stuck : (x : Element) (p : Pieces Element) (left : List Sign) → begin x p ≡ stuck left
     → p ≡ stuck left
 begin-stuck x (whole ys r) left e = absurd (let no : ⊥ = cc in no)
 begin-stuck x (stuck r) left e = e
 
+-- elements that are read up to a fault stop at it
 elements_stop : (n : ℕ) (ss left : List Sign)
     → length ss < n → pieces_within element_at n ss ≡ stuck left → StopsAt ss left
 unfolding pieces_within
@@ -64,8 +70,9 @@ elements_stop zero ss left l e = absurd (omega arith)
 elements_stop (suc n) ss left l e =
     by (λ more. elements_stop n more left) (element_at ss) refl (element_read ss) e
   where
-    by : ((more : List Sign) → length more < n → pieces_within element_at n more ≡ stuck left
-        → StopsAt more left) → (r : First Element) → element_at ss ≡ r → IsFirstElement ss r
+    by : ((more : List Sign) → length more < n
+        → pieces_within element_at n more ≡ stuck left → StopsAt more left)
+        → (r : First Element) → element_at ss ≡ r → IsFirstElement ss r
         → after_first ss r (pieces_within element_at n) ≡ stuck left → StopsAt ss left
     by stops (ends rest) is h k = absurd (let no : ⊥ = cc in no)
     by stops (has x rest) is h k =
@@ -77,6 +84,7 @@ elements_stop (suc n) ss left l e =
 
 -- ---- elements that are written are read
 
+-- what writes elements before more signs is read as them, and then the rest
 elements_written : (es : List Element) (front rest : List Sign) → Writes front es
     → pieces_of element_at (front ++ rest) ≡ begins es (pieces_of element_at rest)
 elements_written [] front rest h = rw h refl
@@ -88,11 +96,13 @@ elements_written (e ∷ es) front rest h =
     ∙ ap (λ r. after_first (front ++ rest) r (pieces_of element_at)) is
     ∙ ap (begin e) (elements_written es h.1 rest h.4)
 
+-- no signs are read as no elements
 no_signs : pieces_of element_at [] ≡ whole [] []
 no_signs = pieces_of-step Element element_at element_shrinks []
 
 -- ---- the laws
 
+-- what is read without a fault is written by the source
 ok_writes : (text : List ℕ) (es : List Element) (p : Pieces Element)
     → pieces_of element_at (signs_of text) ≡ p → elements_or_place text p ≡ Ok es
     → Writes (signs_of text) es
@@ -103,6 +113,7 @@ ok_writes text es (whole xs rest) e h =
     (elements_read (suc (length (signs_of text))) (signs_of text) xs rest e)
 ok_writes text es (stuck rest) e h = absurd (let no : ⊥ = cc in no)
 
+-- what the source writes is read without a fault
 writes_ok : (text : List ℕ) (es : List Element) → Writes (signs_of text) es
     → pattern_of text ≡ Ok es
 writes_ok text es h =
@@ -111,21 +122,25 @@ writes_ok text es h =
     (signs_of text) [] h ∙ ap (begins es) no_signs ∙ begins-whole Element es [] in
     ap (elements_or_place text) all
 
+-- a source is read as some elements just where it writes them
 pub source_written : (text : List ℕ) (es : List Element)
     → (pattern_of text ≡ Ok es) ↔ Writes (signs_of text) es
 source_written text es =
     (λ h. ok_writes text es (pieces_of element_at (signs_of text)) refl h, writes_ok text es)
 
+-- where the reader is stuck, no element is written
 none_begins : (left : List Sign) → element_at left ≡ faulty
     → (e : Element) (part behind : List Sign) → left ≡ part ++ behind → IsElement e part → ⊥
 none_begins left is e part behind h w =
-    let no : has e behind ≡ faulty = sym (element_written e part behind w)
-    ∙ ap element_at (sym h) ∙ is in
+    let no : has e behind ≡ faulty =
+    sym (element_written e part behind w) ∙ ap element_at (sym h) ∙ is in
     cc
 
+-- where the reader is stuck, something is left
 some_left : (left : List Sign) → element_at left ≡ faulty → left ≡ [] → ⊥
 some_left left is h = let no : ends [] ≡ faulty = ap element_at (sym h) ∙ is in cc
 
+-- a source that is read up to a place has its fault there
 err_fault : (text : List ℕ) (place : ℕ) → IsUtf8 text → (p : Pieces Element)
     → pieces_of element_at (signs_of text) ≡ p → elements_or_place text p ≡ Err place
     → HasFaultAt text place
@@ -145,6 +160,7 @@ err_fault text place u (stuck left) e h =
       bytes = omega (arith, signs-text text u, ap signs_len s.2, signs-split s.1 left);
     }
 
+-- where no element is written and something is left, the reader is stuck
 faulty_there : (ss : List Sign) (r : First Element) → IsFirstElement ss r → (ss ≡ [] → ⊥)
     → ((e : Element) (part behind : List Sign) → ss ≡ part ++ behind → IsElement e part → ⊥)
     → r ≡ faulty
@@ -152,6 +168,7 @@ faulty_there ss (ends rest) h some none = absurd (some h)
 faulty_there ss (has e rest) h some none = absurd (none e h.0 rest h.1 h.2)
 faulty_there ss faulty h some none = refl
 
+-- a source with a fault at a place is read up to it
 fault_err : (text : List ℕ) (place : ℕ) → IsUtf8 text → HasFaultAt text place
     → pattern_of text ≡ Err place
 fault_err text place u f =
@@ -166,6 +183,7 @@ fault_err text place u f =
     omega (arith, signs-text text u, ap signs_len f.split, signs-split f.front f.rest, f.bytes) in
     ap (elements_or_place text) all ∙ ap Err bytes
 
+-- a source is read up to a place just where its fault is there
 pub source_faulty : (text : List ℕ) (place : ℕ) → IsUtf8 text
     → (pattern_of text ≡ Err place) ↔ HasFaultAt text place
 source_faulty text place u = (
@@ -175,16 +193,19 @@ source_faulty text place u = (
 
 -- ---- the same of a call's answer
 
+-- an answer that is as the source is read is written by it
 pub answer_written : (text : List ℕ) (r : Result (List Element) Refusal)
     → IfOk r (λ es. pattern_of text ≡ Ok es) → IfOk r (λ es. Writes (signs_of text) es)
 answer_written text (Ok es) h = (source_written text es).0 h
 answer_written text (Err e) h = tt
 
+-- a refusal with a place is that of a source with its fault there
 refused_fault : (text : List ℕ) (place : ℕ) (p : Result (List Element) ℕ)
     → BadQuery place ≡ unwrap_or (fault_refusal p) NoMemory → p ≡ Err place
 refused_fault text place (Ok es) h = absurd (let no : ⊥ = cc in no)
 refused_fault text place (Err place') h = let same : place' ≡ place = cc in ap Err same
 
+-- an answer that refuses with a place names the place of the fault
 pub answer_fault : (text : List ℕ) (r : Result (List Element) Refusal)
     → IsUtf8 text → IsRefusedBy r (source_refusal text)
     → IfErr r (λ e. (place : ℕ) → e ≡ BadQuery place → HasFaultAt text place)

@@ -24,15 +24,18 @@ use Rattle.lq_value.proofs.WrittenLemmas.{IsFirstElement, element_read}
 
 -- ---- the bytes of signs
 
+-- a `\` before a sign has one byte
 abbrev behind_len : Bool → ℕ
 behind_len false = 0
 behind_len true = 1
 
+-- a text's bytes are those of its first character and of the others
 whole_len : (c : ℕ) (cs : List ℕ)
     → length (encode_utf8 c ++ encode_utf8_all cs) ≡ len_utf8 c + length (encode_utf8_all cs)
 whole_len c cs = length-append (encode_utf8 c) (encode_utf8_all cs)
     ∙ ap (λ n. n + length (encode_utf8_all cs)) (length-encode c)
 
+-- the signs of a text have as many bytes as the text
 signs-len : (b : Bool) (cs : List ℕ)
     → signs_len (signs b cs) ≡ behind_len b + length (encode_utf8_all cs)
 signs-len false [] = refl
@@ -49,9 +52,11 @@ signs-len false (c ∷ cs) = by (signs-len true cs) (signs-len false cs) (c == 9
     by h k false e = omega (arith, k, whole_len c cs)
 signs-len true (c ∷ cs) = omega (arith, signs-len false cs, whole_len c cs)
 
+-- the signs of a text of UTF-8 have as many bytes as the text
 pub signs-text : (text : List ℕ) → IsUtf8 text → signs_len (signs_of text) ≡ length text
 signs-text text u = omega (arith, signs-len false (chars text), ap length (encodes-chars text u))
 
+-- signs and then others have the bytes of both
 pub signs-split : (front rest : List Sign)
     → signs_len (front ++ rest) ≡ signs_len front + signs_len rest
 signs-split [] rest = omega arith
@@ -59,6 +64,7 @@ signs-split (s ∷ front) rest = omega (arith, signs-split front rest)
 
 -- ---- each element has a sign at least
 
+-- an element is written by a sign at least
 part_some : (e : Element) (part : List Sign) → IsElement e part → 0 < length part
 part_some Star part h = rw h (omega arith)
 part_some Any part h = rw h (omega arith)
@@ -73,6 +79,7 @@ element_split ss e rest is =
     let P : First Element → Type 0 = λ r. IsFirstElement ss r in
     subst P is (element_read ss)
 
+-- each element that is read has a sign at least
 pub element_shrinks : Shrinks Element element_at
 element_shrinks ss e rest is =
     let p = element_split ss e rest is in
@@ -80,6 +87,7 @@ element_shrinks ss e rest is =
 
 -- ---- what is known of a source's elements at each step
 
+-- the elements of a source that were read so far, and what was found of them
 pub record ElementsSoFar (start : List Sign) (gathered : Result (Vec Element) Refusal)
     (left : List Sign) : Type 0 where
   pub elements : List Element
@@ -88,10 +96,12 @@ pub record ElementsSoFar (start : List Sign) (gathered : Result (Vec Element) Re
   pub split : start ≡ front ++ left
   pub are : AreFound elements gathered
 
+-- before the first element nothing is found
 pub elements_none : (start : List Sign) (v : Vec Element) → v.items ≡ []
     → ElementsSoFar start (Ok v) start
 elements_none start v e = record { elements = []; front = []; pieces = refl; split = refl; are = e }
 
+-- one element more is found, unless memory runs out
 found_more : (es : List Element) (e : Element) (g : Result (Vec Element) Refusal)
     (x : Result Element Refusal) (g' : Result (Vec Element) Refusal)
     → AreFound es g → IsFound e x → IsWithElement g x g' → AreFound (es ++ e ∷ []) g'
@@ -103,6 +113,7 @@ found_more es e (Ok v) (Err r) (Err r') a f w = w ∙ f
 found_more es e (Err r) x (Ok more) a f w = absurd w
 found_more es e (Err r) x (Err r') a f w = w ∙ a
 
+-- one element more is read, and found unless memory runs out
 pub elements_more : (start left rest : List Sign) (e : Element) (g : Result (Vec Element) Refusal)
     (x : Result Element Refusal) (g' : Result (Vec Element) Refusal)
     → ElementsSoFar start g left → element_at left ≡ has e rest → IsFound e x → IsWithElement g x g'
@@ -118,16 +129,19 @@ elements_more start left rest e g x g' s is f w =
       are = found_more s.elements e g x g' s.are f w;
     }
 
+-- what was found refuses nothing but for want of memory
 refused_none : (es : List Element) (g : Result (Vec Element) Refusal) → AreFound es g
     → IsRefusedBy g None
 refused_none es (Ok v) a = (refl, tt)
 refused_none es (Err e) a = (tt, a)
 
+-- what was found is what the source is read as
 value_found : (es : List Element) (g : Result (Vec Element) Refusal) (p : Result (List Element) ℕ)
     → AreFound es g → p ≡ Ok es → IfOk g (λ v. p ≡ Ok v.items)
 value_found es (Ok v) p a e = e ∙ ap Ok (sym a)
 value_found es (Err r) p a e = tt
 
+-- a source that ends here is read as what was found
 elements_end : (text : List ℕ) (left : List Sign) (g : Result (Vec Element) Refusal)
     (s : ElementsSoFar (signs_of text) g left) → element_at left ≡ ends []
     → pattern_of text ≡ Ok s.elements
@@ -135,17 +149,20 @@ elements_end text left g s e =
     ap (elements_or_place text)
     (so_far_end Element element_at element_shrinks (signs_of text) s.elements left [] s.pieces e)
 
+-- a source that ends here is refused for want of memory alone
 pub end_refused : (text : List ℕ) (left : List Sign) (g : Result (Vec Element) Refusal)
     → ElementsSoFar (signs_of text) g left → element_at left ≡ ends []
     → IsRefusedBy g (source_refusal text)
 end_refused text left g s e = rw (elements_end text left g s e) (refused_none s.elements g s.are)
 
+-- a source that ends here is read as the answer
 pub end_value : (text : List ℕ) (left : List Sign) (g : Result (Vec Element) Refusal)
     → ElementsSoFar (signs_of text) g left → element_at left ≡ ends []
     → IfOk g (λ v. pattern_of text ≡ Ok v.items)
 end_value text left g s e =
     value_found s.elements g (pattern_of text) s.are (elements_end text left g s e)
 
+-- what is left of a source is no longer than the source
 pub left_within : (text left : List ℕ) (g : Result (Vec Element) Refusal) → IsUtf8 text
     → IsUtf8 left → ElementsSoFar (signs_of text) g (signs_of left) → length left ≤ length text
 left_within text left g u v s = omega (
@@ -156,6 +173,7 @@ left_within text left g u v s = omega (
   signs-split s.front (signs_of left),
 )
 
+-- a source that is bad here is refused with the place where this is
 pub stuck_refused : (text left : List ℕ) (g : Result (Vec Element) Refusal) → IsUtf8 left
     → ElementsSoFar (signs_of text) g (signs_of left) → element_at (signs_of left) ≡ faulty
     → BadQuery (length text - length left) ≡ unwrap_or (source_refusal text) NoMemory

@@ -9,11 +9,15 @@ use Rattle.std.specs.Str.Parse.{digits_value}
 
 -- the number that digits alone write, where there are 1 to 20 of them
 abbrev pub digits_number : List ℕ → Option ℕ
-digits_number cs = if nat_le 1 (length cs) && nat_le (length cs) 20 && list_all is_ascii_digit cs
-    then Some (digits_value 10 cs) else None
+digits_number cs =
+    if nat_le 1 (length cs) && nat_le (length cs) 20 && list_all is_ascii_digit cs
+    then Some (digits_value 10 cs)
+    else None
 
 -- the number with an optional `-`; leading zeros are allowed, and `-0` is 0
 abbrev pub number_of : List ℕ → Option ℤ
 number_of [] = None
-number_of (c ∷ cs) = if c == 45 then option_map (λ n. neg_ℤ (pos n)) (digits_number cs)
+number_of (c ∷ cs) =
+    if c == 45
+    then option_map (λ n. neg_ℤ (pos n)) (digits_number cs)
     else option_map pos (digits_number (c ∷ cs))

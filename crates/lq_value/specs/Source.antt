@@ -82,7 +82,9 @@ set_with negated (stuck rest) = faulty
 -- the set whose `[` stands before these signs; a `^` that is first negates it
 abbrev pub set_at : List Sign → First Element
 set_at [] = set_with false (pieces_of item_at [])
-set_at (s ∷ ss) = if is_bare 94 s then set_with true (pieces_of item_at ss)
+set_at (s ∷ ss) =
+    if is_bare 94 s
+    then set_with true (pieces_of item_at ss)
     else set_with false (pieces_of item_at (s ∷ ss))
 
 -- the first element of a source, which ends where no sign is left
