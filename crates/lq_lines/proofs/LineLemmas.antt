@@ -36,6 +36,7 @@ last_reply rules state [] u = refl
 last_reply rules state (a ∷ bytes) u = ap (replies_to rules state) (lines_one a bytes u)
     ∙ append-nil (reply_to rules state (line_of (a ∷ bytes)))
 
+-- bytes without an LF and others without one have none together
 unbroken_append : (bytes more : List ℕ) → IsUnbroken bytes → IsUnbroken more
     → IsUnbroken (bytes ++ more)
 unbroken_append [] more u v = v
@@ -46,6 +47,7 @@ not_true : (b : Bool) → (b ≡ true → ⊥) → b ≡ false
 not_true true h = absurd (h refl)
 not_true false h = refl
 
+-- before a place that no LF stands before, the bytes have none
 unbroken_before : (xs : List ℕ) (n j : ℕ) → Nowhere (Passes (is_byte 10) xs) 0 j → n ≤ j
     → IsUnbroken (take n xs)
 unbroken_before [] zero j none le = tt
@@ -57,6 +59,7 @@ unbroken_before (x ∷ xs) (suc n) (suc j) none le = (
   unbroken_before xs n j (λ k low high. none (suc k) (omega arith) (omega arith)) (omega arith),
 )
 
+-- the bytes up to the first LF have none
 pub unbroken_first : (xs : List ℕ) (r : Option ℕ) (n : ℕ)
     → IsFirstByte (is_byte 10) xs r → n ≤ unwrap_or r (length xs) → IsUnbroken (take n xs)
 unbroken_first xs None n none le = unbroken_before xs n (length xs) none le
@@ -139,11 +142,13 @@ output_cut rules state given lines bytes c =
     (lines_of bytes) ∙ ap (λ l. replies_to rules state lines ++ l)
     (last_reply rules (state_after_all rules state lines) bytes c.unbroken)
 
+-- a byte before the lines leaves the lines that have ended
 front_stays : (b : ℕ) (xs ys rest : List (List ℕ)) → ys ≡ xs ++ rest
     → (rest' : List (List ℕ)) × (with_front b ys ≡ before_ended b xs ++ rest')
 front_stays b [] ys rest h = (with_front b ys, refl)
 front_stays b (x ∷ xs) ys rest h = (rest, ap (with_front b) h)
 
+-- one byte more in front leaves the lines that have ended, whatever follows them
 byte_stays : (b : ℕ) (bs more : List ℕ) (c : Bool)
     → (b == 10) ≡ c → (rest : List (List ℕ)) × (lines_of (bs ++ more) ≡ ended_lines bs ++ rest)
     → (rest : List (List ℕ)) × (lines_of (b ∷ (bs ++ more)) ≡ ended_lines (b ∷ bs) ++ rest)

@@ -36,9 +36,9 @@ pub stands_run : {State : Type 0} (rules : Rules State) (began : Began State) (g
     (w : Option (List ℕ)) (state : State) (intake intake' : Intake) (out more : List ℕ)
     → Stands rules began given w state intake out → IsUnbroken more
     → ((bytes : List ℕ) → IsKept bytes intake.long intake.line.items
-    → IsKept (bytes ++ more) intake'.long intake'.line.items) → intake'.lines ≡ intake.lines
-    → intake'.bytes ≡ intake.bytes + length more → intake.lines < 10000000
-    → intake.bytes + length more ≤ 1073741824
+    → IsKept (bytes ++ more) intake'.long intake'.line.items)
+    → intake'.lines ≡ intake.lines → intake'.bytes ≡ intake.bytes + length more
+    → intake.lines < 10000000 → intake.bytes + length more ≤ 1073741824
     → Stands rules began (given ++ more) w state intake' out
 stands_run rules began given w state intake intake' out more s u keeps lines bytes below_lines
     below_bytes = record {
@@ -62,8 +62,9 @@ pub stands_line : {State : Type 0} (rules : Rules State) (began : Began State) (
     (w : Option (List ℕ)) (state state' : State) (intake intake' : Intake) (out out' : List ℕ)
     (b : ℕ) → Stands rules began given w state intake out → (b == 10) ≡ true
     → ((bytes : List ℕ) → IsKept bytes intake.long intake.line.items
-    → out' ≡ out ++ reply_to rules state (line_of bytes)) → ((bytes : List ℕ)
-    → IsKept bytes intake.long intake.line.items → state' ≡ state_after rules state (line_of bytes))
+    → out' ≡ out ++ reply_to rules state (line_of bytes))
+    → ((bytes : List ℕ) → IsKept bytes intake.long intake.line.items
+    → state' ≡ state_after rules state (line_of bytes))
     → intake'.long ≡ false → intake'.line.items ≡ [] → intake'.lines ≡ intake.lines + 1
     → intake'.bytes ≡ intake.bytes + 1 → intake.lines < 10000000 → intake.bytes < 1073741824
     → Stands rules began (given ++ b ∷ []) w state' intake' out'
@@ -136,8 +137,8 @@ pub stands_output : {State : Type 0} (rules : Rules State) (began : Began State)
     (w w' : Option (List ℕ)) (state : State) (intake : Intake) (out out' : List ℕ)
     → Stands rules began given w state intake out
     → ((bytes : List ℕ) → IsKept bytes intake.long intake.line.items
-    → out' ≡ out ++ reply_to rules state (line_of bytes)) → Appends w w' out'
-    → Appends began.written w' (output_of rules began.state given)
+    → out' ≡ out ++ reply_to rules state (line_of bytes))
+    → Appends w w' out' → Appends began.written w' (output_of rules began.state given)
 stands_output rules began given w w' state intake out out' s replies a =
     subst (Appends began.written w')
     (ap (λ l. s.text ++ l) (replies s.bytes s.kept) ∙ sym (append_assoc s.text out _)
@@ -151,7 +152,8 @@ pub stands_last : {State : Type 0} (rules : Rules State) (began : Began State) (
     (w : Option (List ℕ)) (state : State) (intake : Intake) (out out' : List ℕ)
     → Stands rules began given w state intake out
     → ((bytes : List ℕ) → IsKept bytes intake.long intake.line.items
-    → out' ≡ out ++ reply_to rules state (line_of bytes)) → Fronts rules began given w out'
+    → out' ≡ out ++ reply_to rules state (line_of bytes))
+    → Fronts rules began given w out'
 stands_last rules began given w state intake out out' s replies = record {
   text = s.text;
   appended = s.appended;
@@ -175,6 +177,7 @@ stands_ended rules began given w state intake s =
     ∙ ap (replies_to rules began.state) (sym (cut_ended given s.lines s.bytes s.cut)))
     s.appended
 
+-- lines that have ended, and the one in progress, are within the limit together
 lines_below : (lines : List (List ℕ)) (bytes : List ℕ) (n : ℕ) → n ≡ length lines → IsUnbroken bytes
     → n ≤ 10000000 → (n ≡ 10000000 → bytes ≡ []) → length (lines ++ lines_of bytes) ≤ 10000000
 lines_below lines [] n e u h full = omega (arith, e, h, length-append lines [])
@@ -216,6 +219,7 @@ given_next given xs i b h e =
 pub no_bytes : (xs : List ℕ) → (length xs == 0) ≡ true → xs ≡ []
 no_bytes xs h = nil_from_length xs (grind (arith, nat_tests))
 
+-- a front of the empty list is empty
 take_none : (n : ℕ) → take {A = ℕ} n [] ≡ []
 take_none zero = refl
 take_none (suc n) = refl
