@@ -115,7 +115,7 @@ star_takes piece es run cs u s same isrest e =
 
 -- ---- a place behind which what is left decides
 
--- before a star, a pattern fits some rest just where the star's does
+-- a pattern that passes up to a star fits some rest just where the star's part fits
 found_star : (es : List Element) (cs : List ℕ) (es' : List Element) (cs' : List ℕ)
     → Passes es cs (Star ∷ es') cs' → some_rest (fits es) cs ≡ fits (Star ∷ es') cs'
 found_star es cs es' cs' p = bool_same _ _
