@@ -549,7 +549,7 @@ never_bad front o w k s s' e g h =
     never_bad_at y.place y.below y.top y.room o w k s s'
     (sym (steps_push front (op o) (start nesting) y d.1) ∙ e) g h
 
--- where a name is awaited and few words stand, the most comparisons do not
+-- where a name is awaited and a word more is allowed, there are not the most comparisons
 never_full : (p : Place) (below : List Frame) (f : Frame) (n : ℕ) (w : List ℕ) (s : State)
     (ts : List Token) → steps (start nesting) ts ≡ Some (at p below f n)
     → step (at p below f n) (word w) ≡ Some s → operators ts ≡ most_comparisons

@@ -164,12 +164,12 @@ pub comparison_reads : (n : ℕ) (a : List ℕ) (o : Op) (l name : List ℕ) (li
 comparison_reads zero a o l name literal h k = (a, o, l, name, literal, refl, h, k, refl)
 comparison_reads (suc n) a o l name literal h k = inl (a, o, l, name, literal, refl, h, k, refl)
 
--- room that no `!` gives back is none
+-- where no `!` waits, no room is given back
 plain : (below : List Frame) (os xs : List Query) (n : ℕ) (q : Query) (ts : List Token)
     → After below os xs (n + 0) q ts → After below os xs n q ts
 plain below os xs n q ts h = subst (λ m. After below os xs m q ts) (add-zero n) h
 
--- a name before the end of a comparison is an operand's beginning
+-- a name before an operator and a literal begins an operand
 awaits_comparison : (below : List Frame) (f : Frame) (n : ℕ) (q : Query) (raw attr : List ℕ)
     (ts : List Token) → name_of raw ≡ Some attr → AwaitsOp below f n attr q ts
     → Awaits below f n q (word raw ∷ ts)

@@ -210,7 +210,7 @@ cases false false false c p q r u v w m n o h k = (
   ),
 )
 
--- the bytes of a character that is no `\` and no `"` are none
+-- no byte of a character that is no `\` and no `"` is one
 encode-clear : (c : ℕ) → (c ≡ 92 → ⊥) → (c ≡ 34 → ⊥) → AreClear (encode c)
 unfolding encode
 encode-clear c = cases (ltb c 128) (ltb c 2048) (ltb c 65536) c (c / 64) (c % 64) (c / 4096)
