@@ -20,7 +20,8 @@ use Rattle.lq_board.proofs.PlayLemmas.{viewed}
 module _ {M : Type 0} where
   -- the view of the seat that comes back, where the keeper's changed already
   theirs : (words : List ℕ) (views : List (View M)) (k : Kept words views) (id other : ℕ)
-      (x : View M) (w : Sitting M) → other ≢ id → get_elem? (slice_set views id x) other ≡ some (Seat w)
+      (x : View M) (w : Sitting M)
+      → other ≢ id → get_elem? (slice_set views id x) other ≡ some (Seat w)
       → Fits k.id k.book k.slots k.owner words other (Seat w)
   theirs words views k id other x w apart there =
       ⊎_elim
@@ -58,7 +59,8 @@ module _ {M : Type 0} where
       let t = seat.1 pos in
       let same : p ≡ slot_at kept.slots w.slot =
       ap (λ (l : List (Slot M)). slot_at l w.slot) mine.2 in
-      let word : slice_index s.words (suc k) ≡ w.asks = ap (slice_index s.words) (sym is) ∙ t.word in
+      let word : slice_index s.words (suc k) ≡ w.asks =
+      ap (slice_index s.words) (sym is) ∙ t.word in
       let old : (slot_at kept.slots w.slot).asks ≤ slice_index s.words w.slot =
       kept.agrees.known w.slot pos t.within in
       let after = Fits kept.id kept.book (slice_set kept.slots (suc k) q) kept.owner s.words in
@@ -69,7 +71,8 @@ module _ {M : Type 0} where
         owner = kept.owner;
         number = kept.number;
         full = kept.full;
-        agrees = agrees_slot s.words kept.slots (suc k) q (omega (arith, word)) (λ _. word) kept.agrees;
+        agrees =
+            agrees_slot s.words kept.slots (suc k) q (omega (arith, word)) (λ _. word) kept.agrees;
         fits = fits_set after (slice_set s.views id x) other Spent
             (λ by u away e. fits_set (λ by' u'. by' ≢ other → after by' u') s.views id x
             (λ by' u' apart' e' away'.

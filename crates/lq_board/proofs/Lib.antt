@@ -1,3 +1,5 @@
+-- Read in this order: BookLemmas (the book), SlotLemmas (the words), ViewLemmas (who sees what);
+-- PlayLemmas, SplitLemmas and JoinLemmas (each step keeps the rule); TokenLemmas (what calls cite).
 pub mod BookLemmas
 pub mod SlotLemmas
 pub mod ViewLemmas

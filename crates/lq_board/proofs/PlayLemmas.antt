@@ -270,7 +270,8 @@ module _ {M : Type 0} where
               kept.agrees;
           fits = fits_set (Fits kept.id kept.book kept.slots kept.owner (slice_set s.words k n))
               s.views id (Seat now)
-              (λ by u apart e. fits_asked kept.id kept.book kept.slots kept.owner s.words k n id by u
+              (λ by u apart e.
+              fits_asked kept.id kept.book kept.slots kept.owner s.words k n id by u
               t.only apart (kept.fits by u e)) (
                 mine.0,
                 λ _. record {

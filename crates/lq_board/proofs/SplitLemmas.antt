@@ -72,7 +72,8 @@ module _ {M : Type 0} where
         owner = owner;
         number = kept.number;
         full = kept.full;
-        agrees = agrees_slot s.words kept.slots k q most (λ out. absurd (true≢false out)) kept.agrees;
+        agrees =
+            agrees_slot s.words kept.slots k q most (λ out. absurd (true≢false out)) kept.agrees;
         fits = λ by u e. ⊎_elim
             (λ was. fits_set
             (Fits kept.id kept.book (slice_set kept.slots k q) owner s.words) s.views id w

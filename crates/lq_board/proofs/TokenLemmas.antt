@@ -24,12 +24,15 @@ module _ {M : Type 0} where
   abbrev Keeps : Me ℕ (View M) → Type 0
   Keeps me = me ≡ (keeper (keeping_of me.0).book (keeping_of me.0).slots, [])
 
+  -- a seat between its steps
   abbrev SitsAt : Me ℕ (View M) → Type 0
   SitsAt me = me ≡ (Seat (sitting_of me.0), [])
 
+  -- what a keeper knows between its steps
   abbrev at_rest : Me ℕ (View M) → Keeping M
   at_rest me = keeping (keeping_of me.0).book (keeping_of me.0).slots
 
+  -- the keeper may add one to the word of the changes, as a lawful change is accepted
   pub adds_as : (slots id : ℕ) (me : Me ℕ (View M)) (x : Change) (said : Option Change)
       → ChangesKeepTrees → said ≡ Some x → Keeps me → IsLawful (state_of (keeping_of me.0).book) x
       → Allows IsKept slots id me 0 (λ n. (n + 1) % 2 ^ 64) (Adds said (step slots 0 1 0 none) me)
@@ -44,6 +47,7 @@ module _ {M : Type 0} where
       (Adds (Some x) (step slots 0 1 0 none) m))
       (sym is) (adds slots id (at_rest me) x keeps lawful))
 
+  -- a seat may read the word of the changes
   pub sees_as : (slots id : ℕ) (me : Me ℕ (View M)) → SitsAt me
       → Allows IsKept slots id me 0 (λ n. n) (Sees (step slots 0 0 0 none) me)
   sees_as slots id me is =
@@ -66,6 +70,7 @@ module _ {M : Type 0} where
       Allows IsKept slots id m 0 (λ n. n) (Checks (step slots 0 0 0 none) m))
       (sym at) (checks slots id (keeping_of (taken me.0 you.0)))
 
+  -- the keeper may read a slot's word
   pub counts_as : (slots id k : ℕ) (me : Me ℕ (View M)) → Keeps me → 0 < k → k < 65
       → Allows IsKept slots id me k (λ n. n) (Counts (step slots k 0 0 none) me)
   counts_as slots id k me is pos within =
@@ -74,6 +79,7 @@ module _ {M : Type 0} where
       Allows IsKept slots id m k (λ n. n) (Counts (step slots k 0 0 none) m))
       (sym is) (counts slots id k (at_rest me) pos within)
 
+  -- a seat may add one to its own slot's word, as a hang-up is asked
   pub asks_as : (slots id k : ℕ) (me : Me ℕ (View M)) → SitsAt me → k ≡ (sitting_of me.0).slot
       → 0 < (sitting_of me.0).slot → (sitting_of me.0).asks < 1000000000000
       → Allows IsKept slots id me k (λ n. (n + 1) % 2 ^ 64) (Asks (step slots k 1 0 none) me)
@@ -88,12 +94,14 @@ module _ {M : Type 0} where
       (Asks (step slots (sitting_of me.0).slot 1 0 none) m))
       (sym is) (asks slots id (sitting_of me.0) pos room))
 
+  -- the keeper may give out a copy of the book
   pub copies_as : (id : ℕ) (me : Me ℕ (View M)) → Keeps me
       → Splits IsKept id me.0 me.0 (copy_of me.0)
   copies_as id me is =
       subst (λ (v : View M). Splits IsKept id v v (copy_of v)) (sym (ap (λ m. m.0) is))
       (copies id (at_rest me))
 
+  -- the keeper may give out the seat of a slot whose seat is not out
   pub sits_down_as : (id k : ℕ) (name : Option M) (me : Me ℕ (View M)) → Keeps me
       → 0 < k → k < 65 → (slot_at (keeping_of me.0).slots k).out ≡ false
       → Splits IsKept id me.0 (opened k name me.0) (seated k name me.0)
@@ -101,6 +109,7 @@ module _ {M : Type 0} where
       subst (λ (v : View M). Splits IsKept id v (opened k name v) (seated k name v))
       (sym (ap (λ m. m.0) is)) (sits_down id k name (at_rest me) pos within free)
 
+  -- the keeper may take a seat back
   pub backs_as : (id : ℕ) (me : Me ℕ (View M)) (other : ℕ) (you : Me ℕ (View M)) → Keeps me
       → SitsAt you → Joins IsKept id me.0 other you.0 (taken me.0 you.0) Spent
   backs_as id me other you is are =
@@ -123,6 +132,7 @@ module _ {M : Type 0} where
       ap (λ (l : List ℕ). slice_index l 0) (sym f.2) ∙ kept.number
       ∙ ap (λ (b : Book). length b.changes) (sym mine.1)
 
+-- the word that was got at place 0 is the first
 pub first_of : (words : List ℕ) (n : ℕ) → get_elem? words 0 ≡ some n → n ≡ slice_index words 0
 first_of [] n e = absurd (some-ne-none n (sym e))
 first_of (x ∷ xs) n e = sym (some-injective x n e)

@@ -26,9 +26,11 @@ at_end (x ∷ xs) a b (suc j) e = ⊎_elim inl (λ t. inr (t.0, ap suc t.1)) (at
 abbrev pub owner_set : (ℕ → ℕ) → ℕ → ℕ → ℕ → ℕ
 owner_set owner k n j = cond (eqb j k) n (owner j)
 
+-- a slot whose owner is set has that owner
 pub owner_here : (owner : ℕ → ℕ) (k n j : ℕ) → j ≡ k → owner_set owner k n j ≡ n
 owner_here owner k n j e = ap (λ b. cond b n (owner j)) (eq-eqb j k e)
 
+-- another slot keeps its owner
 pub owner_else : (owner : ℕ → ℕ) (k n j : ℕ) → j ≢ k → owner_set owner k n j ≡ owner j
 owner_else owner k n j e = ap (λ b. cond b n (owner j)) (ne_eqb j k e)
 
@@ -39,7 +41,8 @@ module _ {M : Type 0} where
       → (by : ℕ) (v : View M) → get_elem? (slice_set views id w) by ≡ some v → P by v
   fits_set P views id w others mine by v e =
       ⊎_elim
-      (λ (x : (by ≡ id) × (w ≡ v)). subst (λ (y : ℕ × View M). P y.0 y.1) (λ i. (sym x.0 i, x.1 i)) mine)
+      (λ (x : (by ≡ id) × (w ≡ v)).
+      subst (λ (y : ℕ × View M). P y.0 y.1) (λ i. (sym x.0 i, x.1 i)) mine)
       (λ (x : (by ≢ id) × (get_elem? views by ≡ some v)). others by v x.0 x.1)
       (at_set views id by w v e)
 
@@ -84,7 +87,8 @@ module _ {M : Type 0} where
       → ((slot asks : ℕ) (name : Option M) → 0 < slot → Sits slots owner words by slot asks name
       → Sits slots' owner' words' by slot asks name)
       → by ≢ id → Fits id book slots owner words by v → Fits id book' slots' owner' words' by v
-  fits_other id book book' slots slots' owner owner' words words' by (Keeper v) longer sits apart f =
+  fits_other id book book' slots slots' owner owner' words words' by
+      (Keeper v) longer sits apart f =
       absurd (apart f.0)
   fits_other id book book' slots slots' owner owner' words words' by (Seat w) longer sits apart f =
       (longer w.book f.0, λ pos. sits w.slot w.asks w.name pos (f.1 pos))

@@ -1,3 +1,9 @@
+-- Read in this order. The tokens of a text: CountLemmas, CutLemmas, TokenLemmas. Grammar and
+-- machine read the same: CompleteLemmas, SoundLemmas, RoomLemmas, WordLemmas, ReadingLemmas,
+-- ProperLemmas. Faults: StopLemmas, DepthLemmas, OutlineLemmas, FaultLemmas, StoppedLemmas,
+-- ExactLemmas. What is written reads back: QuotingLemmas, EncodedLemmas, PatternTextLemmas,
+-- CanonicalLemmas, RoundLemmas, GoodLemmas. What the writers and counters do, a piece at a time:
+-- RawLemmas, WritingLemmas, SizeLemmas, SourceSizeLemmas.
 pub mod CountLemmas
 pub mod CutLemmas
 pub mod TokenLemmas

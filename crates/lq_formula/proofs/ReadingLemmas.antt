@@ -22,40 +22,59 @@ pub record IsSmall (q : Query) : Type 0 where
 -- what it takes that the reading from a state on is a query
 pub record RunsWithin (s : State) (count : ℕ) (ts : List Placed) (q : Query) : Type 0 where
   pub runs : run s (bare ts) ≡ Some q
-  pub few : count ≤ most_comparisons + most_comparisons → count + words (bare ts) ≤ most_comparisons + most_comparisons
+  pub few : count ≤ most_comparisons + most_comparisons
+      → count + words (bare ts) ≤ most_comparisons + most_comparisons
   pub small : IsSmall q
 
+-- nothing is both Err and Ok
 err_ok : {X : Type 0} (p : ℕ) (q : Query) (r : Result Query ℕ) → r ≡ Err p → r ≡ Ok q → X
 err_ok p q r f e = cc
 
-finished_by : (a b : Bool) (end : ℕ) (q r : Query) → (nat_le (depth q) most_depth ≡ a) → (nat_le (length (canonical q)) most_bytes ≡ b) → (if a && b then Ok q else Err end) ≡ Ok r → (Some q ≡ Some r) × IsSmall r
+-- what passes the tests of the end is the query, and small
+finished_by : (a b : Bool) (end : ℕ) (q r : Query) → (nat_le (depth q) most_depth ≡ a)
+    → (nat_le (length (canonical q)) most_bytes ≡ b) → (if a && b then Ok q else Err end) ≡ Ok r
+    → (Some q ≡ Some r) × IsSmall r
 finished_by true true end q r e f g =
     let same : q ≡ r = cc in
     (ap Some same, subst IsSmall same (record { shallow = leb-true _ _ e; brief = leb-true _ _ f }))
 finished_by true false end q r e f g = err_ok end r (Err end) refl g
 finished_by false b end q r e f g = err_ok end r (Err end) refl g
 
-finished_ok : (end : ℕ) (o : Option Query) (q : Query) → finished end o ≡ Ok q → (o ≡ Some q) × IsSmall q
+-- a reading that ends with a query had that query whole, and it is small
+finished_ok : (end : ℕ) (o : Option Query) (q : Query) → finished end o ≡ Ok q
+    → (o ≡ Some q) × IsSmall q
 finished_ok end None q e = err_ok end q (Err end) refl e
-finished_ok end (Some r) q e = finished_by (nat_le (depth r) most_depth) (nat_le (length (canonical r)) most_bytes) end r q refl refl e
+finished_ok end (Some r) q e = finished_by (nat_le (depth r) most_depth)
+    (nat_le (length (canonical r)) most_bytes) end r q refl refl e
 
-after_by : (fault count : ℕ) (t : Placed) (s : State) (others : State → Result Query ℕ) (q : Query) (b : Bool) → (nat_le count (most_comparisons + most_comparisons) ≡ b) → (if b then others s else Err t.place) ≡ Ok q → (count ≤ most_comparisons + most_comparisons) × (others s ≡ Ok q)
+-- a reading that goes on past a word has not too many words
+after_by : (fault count : ℕ) (t : Placed) (s : State) (others : State → Result Query ℕ) (q : Query)
+    (b : Bool) → (nat_le count (most_comparisons + most_comparisons) ≡ b)
+    → (if b then others s else Err t.place) ≡ Ok q
+    → (count ≤ most_comparisons + most_comparisons) × (others s ≡ Ok q)
 after_by fault count t s others q true e f = (leb-true _ _ e, f)
 after_by fault count t s others q false e f = err_ok t.place q (Err t.place) refl f
 
 -- a token that was taken
-after_ok : (fault count : ℕ) (t : Placed) (o : Option State) (others : State → Result Query ℕ) (q : Query) → after_token fault t o count others ≡ Ok q
+after_ok : (fault count : ℕ) (t : Placed) (o : Option State) (others : State → Result Query ℕ)
+    (q : Query) → after_token fault t o count others ≡ Ok q
     → (s : State) × (o ≡ Some s) × (count ≤ most_comparisons + most_comparisons) × (others s ≡ Ok q)
 after_ok fault count t None others q e = err_ok fault q (Err fault) refl e
 after_ok fault count t (Some s) others q e =
-    let h = after_by fault count t s others q (nat_le count (most_comparisons + most_comparisons)) refl e in (s, refl, h.0, h.1)
+    let h =
+    after_by fault count t s others q (nat_le count (most_comparisons + most_comparisons)) refl e in
+    (s, refl, h.0, h.1)
 
-pub read_runs : (end : ℕ) (ts : List Placed) (s : State) (count : ℕ) (q : Query) → read_tokens end s count ts ≡ Ok q → RunsWithin s count ts q
+-- where the tokens are read as a query, the machine runs to it within the limits
+pub read_runs : (end : ℕ) (ts : List Placed) (s : State) (count : ℕ) (q : Query)
+    → read_tokens end s count ts ≡ Ok q → RunsWithin s count ts q
 unfolding read_tokens
 read_runs end [] s count q e =
-    let h = finished_ok end (whole s) q e in record { runs = h.0; few = λ k. omega arith; small = h.1 }
+    let h = finished_ok end (whole s) q e in
+    record { runs = h.0; few = λ k. omega arith; small = h.1 }
 read_runs end (t ∷ ts) s count q e =
-    let h = after_ok (fault_place end s.place t) (count + word_count t.token) t (step s t.token) (λ s'. read_tokens end s' (count + word_count t.token) ts) q e in
+    let h = after_ok (fault_place end s.place t) (count + word_count t.token) t (step s t.token)
+    (λ s'. read_tokens end s' (count + word_count t.token) ts) q e in
     let r = read_runs end ts h.0 (count + word_count t.token) q h.3 in
     let few = r.few h.2 in
     record {
@@ -64,22 +83,34 @@ read_runs end (t ∷ ts) s count q e =
       small = r.small;
     }
 
+-- a bound that holds passes its test
 pub test_true : (m n : ℕ) → m ≤ n → nat_le m n ≡ true
 test_true m n h = le-leb m n h
 
-finished_small : (end : ℕ) (o : Option Query) (q : Query) → o ≡ Some q → IsSmall q → finished end o ≡ Ok q
+-- a whole query that is small passes the end
+finished_small : (end : ℕ) (o : Option Query) (q : Query) → o ≡ Some q → IsSmall q
+    → finished end o ≡ Ok q
 finished_small end o q e h =
-    ap (finished end) e ∙ ap (λ a. if a && nat_le (length (canonical q)) most_bytes then Ok q else Err end) (test_true _ _ h.shallow)
+    ap (finished end) e
+    ∙ ap (λ a. if a && nat_le (length (canonical q)) most_bytes then Ok q else Err end)
+    (test_true _ _ h.shallow)
     ∙ ap (λ b. if b then Ok q else Err end) (test_true _ _ h.brief)
 
+-- nothing is both None and Some
 none_some : {A : Type 0} (x : A) → None ≡ Some x → ⊥
 none_some x e = cc
 
-taken_run : (o : Option State) (ts : List Token) (q : Query) → option_and_then (λ s'. run s' ts) o ≡ Some q → (s : State) × (o ≡ Some s) × (run s ts ≡ Some q)
+-- where a step and the rest run to a query, the step leads to a state
+taken_run : (o : Option State) (ts : List Token) (q : Query)
+    → option_and_then (λ s'. run s' ts) o ≡ Some q
+    → (s : State) × (o ≡ Some s) × (run s ts ≡ Some q)
 taken_run None ts q e = absurd (none_some q e)
 taken_run (Some s) ts q e = (s, refl, e)
 
-pub run_is_read : (end : ℕ) (ts : List Placed) (s : State) (count : ℕ) (q : Query) → run s (bare ts) ≡ Some q → count + words (bare ts) ≤ most_comparisons + most_comparisons → IsSmall q → read_tokens end s count ts ≡ Ok q
+-- where the machine runs to a small query with not too many words, it is read
+pub run_is_read : (end : ℕ) (ts : List Placed) (s : State) (count : ℕ) (q : Query)
+    → run s (bare ts) ≡ Some q → count + words (bare ts) ≤ most_comparisons + most_comparisons
+    → IsSmall q → read_tokens end s count ts ≡ Ok q
 unfolding read_tokens
 run_is_read end [] s count q e few small = finished_small end (whole s) q e small
 run_is_read end (t ∷ ts) s count q e few small =
@@ -92,13 +123,18 @@ run_is_read end (t ∷ ts) s count q e few small =
     ∙ ap (λ b. if b then others h.0 else Err t.place) (test_true _ _ k)
     ∙ run_is_read end ts h.0 more q h.2 rest small
 
-short_by : (text : List ℕ) (q : Query) (b : Bool) (r : Result Query ℕ) → nat_le (length text) most_bytes ≡ b → (if b then r else Err most_bytes) ≡ Ok q → (length text ≤ most_bytes) × (r ≡ Ok q)
+-- a text that is read is not too long, and its tokens are read
+short_by : (text : List ℕ) (q : Query) (b : Bool) (r : Result Query ℕ)
+    → nat_le (length text) most_bytes ≡ b → (if b then r else Err most_bytes) ≡ Ok q
+    → (length text ≤ most_bytes) × (r ≡ Ok q)
 short_by text q true r e f = (leb-true _ _ e, f)
 short_by text q false r e f = err_ok most_bytes q (Err most_bytes) refl f
 
+-- a query that the reading gives is one that the text reads as
 pub reading_reads : (text : List ℕ) (q : Query) → reading_of text ≡ Ok q → Reads text q
 reading_reads text q e =
-    let h = short_by text q (nat_le (length text) most_bytes) (read_tokens (length text) (start nesting) 0 (tokens_of text)) refl e in
+    let h = short_by text q (nat_le (length text) most_bytes)
+    (read_tokens (length text) (start nesting) 0 (tokens_of text)) refl e in
     let r = read_runs (length text) (tokens_of text) (start nesting) 0 q h.1 in
     let formula = run_reads nesting (bare (tokens_of text)) q r.runs in
     let few = r.few (omega arith) in
@@ -113,12 +149,19 @@ reading_reads text q e =
       brief = r.small.brief;
     }
 
+-- a query that the text reads as is the one that the reading gives
 pub reads_reading : (text : List ℕ) (q : Query) → Reads text q → reading_of text ≡ Ok q
 reads_reading text q h =
-    let same : h.tokens ≡ tokens_of text = tokens_same h.tokens (tokens_of text) 0 text h.has (has_tokens 0 text) in
-    let formula : IsFormula nesting (bare (tokens_of text)) q = subst (λ ts. IsFormula nesting (bare ts) q) same h.formula in
+    let same : h.tokens ≡ tokens_of text =
+    tokens_same h.tokens (tokens_of text) 0 text h.has (has_tokens 0 text) in
+    let formula : IsFormula nesting (bare (tokens_of text)) q =
+    subst (λ ts. IsFormula nesting (bare ts) q) same h.formula in
     let counted = formula_words nesting (bare (tokens_of text)) q formula in
     let few : comparisons q ≤ most_comparisons = h.few in
-    let all : 0 + words (bare (tokens_of text)) ≤ most_comparisons + most_comparisons = omega arith in
-    ap (λ b. if b then read_tokens (length text) (start nesting) 0 (tokens_of text) else Err most_bytes) (test_true _ _ h.short)
-    ∙ run_is_read (length text) (tokens_of text) (start nesting) 0 q (formula_runs nesting (bare (tokens_of text)) q formula) all (record { shallow = h.shallow; brief = h.brief })
+    let all : 0 + words (bare (tokens_of text)) ≤ most_comparisons + most_comparisons =
+    omega arith in
+    ap (λ b. if b then read_tokens (length text) (start nesting) 0 (tokens_of text)
+    else Err most_bytes) (test_true _ _ h.short)
+    ∙ run_is_read (length text) (tokens_of text) (start nesting) 0 q
+    (formula_runs nesting (bare (tokens_of text)) q formula) all
+    (record { shallow = h.shallow; brief = h.brief })

@@ -42,7 +42,8 @@ kind_of (word raw) = word []
 kind_of lone = lone
 kind_of cut = cut
 
--- By the grammar alone, whatever the words say and however deep it nests, some formula begins with such tokens.
+-- By the grammar alone, whatever the words say and however
+-- deep it nests, some formula begins with such tokens.
 pub record CanStand (ts : List Token) : Type 0 where
   pub words : List Token
   pub alike : map kind_of words ≡ map kind_of ts
@@ -57,7 +58,9 @@ AwaitsAttr before = CanStand (before ++ word [] ∷ op Eq ∷ [])
 
 -- Some formula that may nest deeper begins with these tokens, and none within the limit does.
 abbrev pub IsTooDeep : List Token → Type 0
-IsTooDeep ts = ((more : ℕ) × (rest : List Token) × (q : Query) × IsFormula (nesting + more) (ts ++ rest) q) × (IsBegun ts → ⊥)
+IsTooDeep ts =
+    ((more : ℕ) × (rest : List Token) × (q : Query) × IsFormula (nesting + more) (ts ++ rest) q)
+    × (IsBegun ts → ⊥)
 
 -- how many operators there are: each comparison has one
 abbrev pub op_count : Token → ℕ
@@ -80,35 +83,45 @@ operators (t ∷ ts) = op_count t + operators ts
 -- The token behind these is at fault, and this is the place.
 pub data IsFaultOf (end : ℕ) (before : List Token) (here : Placed) (place : ℕ) : Type 0 where
   -- a token that can't stand here
-  stray : (CanStand (before ++ here.token ∷ []) → ⊥) → (here.token ≡ cut → ⊥) → place ≡ here.place → IsFaultOf end before here place
+  stray : (CanStand (before ++ here.token ∷ []) → ⊥) → (here.token ≡ cut → ⊥) → place ≡ here.place
+      → IsFaultOf end before here place
   -- the text ends within a quoted text, or with `\`
   cut_off : here.token ≡ cut → place ≡ end → IsFaultOf end before here place
   -- `&` or `|` alone
   alone : here.token ≡ lone → place ≡ here.place → IsFaultOf end before here place
   -- a `(` or `!` that would be nested 65 deep
-  too_deep : (here.token ≡ opens) ⊎ (here.token ≡ bang) → IsTooDeep (before ++ here.token ∷ []) → place ≡ here.place → IsFaultOf end before here place
+  too_deep : (here.token ≡ opens) ⊎ (here.token ≡ bang)
+      → IsTooDeep (before ++ here.token ∷ []) → place ≡ here.place → IsFaultOf end before here place
   -- the name of an attribute that is empty, has over 255 bytes or has NUL
-  bad_name : (raw : List ℕ) → here.token ≡ word raw → AwaitsAttr before → name_of raw ≡ None → place ≡ here.place → IsFaultOf end before here place
+  bad_name : (raw : List ℕ) → here.token ≡ word raw → AwaitsAttr before → name_of raw ≡ None
+      → place ≡ here.place → IsFaultOf end before here place
   -- the attribute of a comparison behind 256 others
-  one_more : (raw : List ℕ) → here.token ≡ word raw → AwaitsAttr before → operators before ≡ most_comparisons → place ≡ here.place → IsFaultOf end before here place
+  one_more : (raw : List ℕ) → here.token ≡ word raw → AwaitsAttr before
+      → operators before ≡ most_comparisons → place ≡ here.place → IsFaultOf end before here place
   -- a fault of the pattern behind its operator
-  bad_pattern : (front : List Token) (o : Op) (raw : List ℕ) (k : ℕ) → before ≡ front ++ op o ∷ [] → here.token ≡ word raw → literal_fault o raw ≡ Some k
-      → place ≡ here.raw_place + k → IsFaultOf end before here place
+  bad_pattern : (front : List Token) (o : Op) (raw : List ℕ) (k : ℕ) → before ≡ front ++ op o ∷ []
+      → here.token ≡ word raw → literal_fault o raw ≡ Some k → place ≡ here.raw_place + k
+      → IsFaultOf end before here place
 
 -- None of the tokens is at fault.
 abbrev pub AreFine : ℕ → List Placed → Type 0
-AreFine end ts = (before : List Placed) (here : Placed) (after : List Placed) (place : ℕ) → ts ≡ before ++ here ∷ after → IsFaultOf end (bare before) here place → ⊥
+AreFine end ts = (before : List Placed) (here : Placed) (after : List Placed) (place : ℕ)
+    → ts ≡ before ++ here ∷ after → IsFaultOf end (bare before) here place → ⊥
 
 -- The leftmost fault of the text is at this place.
 pub data IsFaulty (text : List ℕ) (place : ℕ) : Type 0 where
   -- the text has more than 4,096 bytes
   too_long : most_bytes < length text → place ≡ most_bytes → IsFaulty text place
   -- a token is at fault, and none before it
-  at_token : length text ≤ most_bytes → (before : List Placed) (here : Placed) (after : List Placed) → HasTokens 0 text (before ++ here ∷ after)
-      → AreFine (length text) before → IsFaultOf (length text) (bare before) here place → IsFaulty text place
+  at_token : length text ≤ most_bytes → (before : List Placed) (here : Placed) (after : List Placed)
+      → HasTokens 0 text (before ++ here ∷ after) → AreFine (length text) before
+      → IsFaultOf (length text) (bare before) here place → IsFaulty text place
   -- the formula ends too early
-  ends_early : length text ≤ most_bytes → (all : List Placed) → HasTokens 0 text all → AreFine (length text) all
-      → ((q : Query) → IsFormula nesting (bare all) q → ⊥) → place ≡ length text → IsFaulty text place
+  ends_early : length text ≤ most_bytes → (all : List Placed) → HasTokens 0 text all
+      → AreFine (length text) all → ((q : Query) → IsFormula nesting (bare all) q → ⊥)
+      → place ≡ length text → IsFaulty text place
   -- the query is too deep, or its canonical text too long
-  too_much : length text ≤ most_bytes → (all : List Placed) → HasTokens 0 text all → AreFine (length text) all
-      → (q : Query) → IsFormula nesting (bare all) q → (most_depth < depth q) ⊎ (most_bytes < length (canonical q)) → place ≡ length text → IsFaulty text place
+  too_much : length text ≤ most_bytes → (all : List Placed) → HasTokens 0 text all
+      → AreFine (length text) all → (q : Query) → IsFormula nesting (bare all) q
+      → (most_depth < depth q) ⊎ (most_bytes < length (canonical q)) → place ≡ length text
+      → IsFaulty text place

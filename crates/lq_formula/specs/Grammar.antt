@@ -13,21 +13,25 @@ Reading = List Token → Query → Type 0
 -- Each of the queries stands behind a separator, in turn.
 abbrev pub Follows : Reading → Token → List Token → List Query → Type 0
 Follows P sep ts [] = ts ≡ []
-Follows P sep ts (q ∷ qs) = (a : List Token) × (b : List Token) × (ts ≡ sep ∷ (a ++ b)) × P a q × Follows P sep b qs
+Follows P sep ts (q ∷ qs) =
+    (a : List Token) × (b : List Token) × (ts ≡ sep ∷ (a ++ b)) × P a q × Follows P sep b qs
 
 -- one or more parts, with a separator between them
 abbrev pub Parts : Reading → Token → List Token → Query → List Query → Type 0
-Parts P sep ts q qs = (a : List Token) × (b : List Token) × (ts ≡ a ++ b) × P a q × Follows P sep b qs
+Parts P sep ts q qs =
+    (a : List Token) × (b : List Token) × (ts ≡ a ++ b) × P a q × Follows P sep b qs
 
 abbrev pub IsAnd : Reading → Reading
 IsAnd P ts r = (q : Query) × (qs : List Query) × (r ≡ both_of (q ∷ qs)) × Parts P ands ts q qs
 
 abbrev pub IsOr : Reading → Reading
-IsOr P ts r = (q : Query) × (qs : List Query) × (r ≡ either_of (q ∷ qs)) × Parts (IsAnd P) ors ts q qs
+IsOr P ts r =
+    (q : Query) × (qs : List Query) × (r ≡ either_of (q ∷ qs)) × Parts (IsAnd P) ors ts q qs
 
 abbrev pub IsComparison : Reading
 IsComparison ts r = (a : List ℕ) × (o : Op) × (l : List ℕ) × (name : List ℕ) × (literal : Literal)
-    × (ts ≡ word a ∷ op o ∷ word l ∷ []) × (name_of a ≡ Some name) × (literal_of o l ≡ Some literal) × (r ≡ Compare name o literal)
+    × (ts ≡ word a ∷ op o ∷ word l ∷ []) × (name_of a ≡ Some name) × (literal_of o l ≡ Some literal)
+    × (r ≡ Compare name o literal)
 
 -- a comparison, a formula in parentheses, or `!` and what may follow it
 abbrev pub IsNot : ℕ → Reading

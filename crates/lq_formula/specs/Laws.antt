@@ -23,14 +23,18 @@ FaultsAreFound = (text : List ℕ) (place : ℕ) → (reading_of text ≡ Err pl
 abbrev pub CanonicalIsRead : Type 0
 CanonicalIsRead = (q : Query) → IsWithinLimits q → Reads (canonical q) q
 
--- a query that is read has names for attributes, literals that suit and are read, and lists of two or more
+-- a query that is read has names for attributes, literals
+-- that suit and are read, and lists of two or more
 abbrev pub ReadIsProper : Type 0
 ReadIsProper = (text : List ℕ) (q : Query) → Reads text q → IsProperBy IsReadBehind q
 
 -- a query that is read from words of UTF-8 is one whose canonical text can be read
 abbrev pub ReadIsGood : Type 0
-ReadIsGood = (text : List ℕ) (q : Query) → Reads text q → WordsAre IsUtf8 (bare (tokens_of text)) → IsProper q
+ReadIsGood = (text : List ℕ) (q : Query) → Reads text q
+    → WordsAre IsUtf8 (bare (tokens_of text)) → IsProper q
 
--- a pattern that is read from a text of UTF-8 is of characters, its sets have items, and no range falls
+-- a pattern that is read from a text of UTF-8 is of
+-- characters, its sets have items, and no range falls
 abbrev pub PatternsAreGood : Type 0
-PatternsAreGood = (text : List ℕ) (es : List Element) → IsUtf8 text → pattern_of text ≡ Ok es → IsGoodPattern es
+PatternsAreGood =
+    (text : List ℕ) (es : List Element) → IsUtf8 text → pattern_of text ≡ Ok es → IsGoodPattern es

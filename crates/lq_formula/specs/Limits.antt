@@ -45,7 +45,8 @@ HasTwo no_more = ⊥
 HasTwo (and_then q no_more) = ⊥
 HasTwo (and_then q (and_then r qs)) = Unit {0}
 
--- each attribute has a name, each literal is one of P for its operator, and an And or an Or has two parts or more
+-- each attribute has a name, each literal is one of P for its
+-- operator, and an And or an Or has two parts or more
 abbrev mutual
   pub IsProperBy : (Op → Literal → Type 0) → Query → Type 0
   IsProperBy P (Compare attr op literal) = (is_attr_name attr ≡ true) × P op literal
@@ -53,13 +54,15 @@ abbrev mutual
   IsProperBy P (And qs) = HasTwo qs × AreProperBy P qs
   IsProperBy P (Or qs) = HasTwo qs × AreProperBy P qs
 
+  -- the same of each of some queries
   pub AreProperBy : (Op → Literal → Type 0) → Queries → Type 0
   AreProperBy P no_more = Unit {0}
   AreProperBy P (and_then q qs) = IsProperBy P q × AreProperBy P qs
 
 -- the literal suits the operator, and some raw text is read as it behind the operator
 abbrev pub IsReadBehind : Op → Literal → Type 0
-IsReadBehind op literal = (suits literal op ≡ true) × ((raw : List ℕ) × (literal_of op raw ≡ Some literal))
+IsReadBehind op literal =
+    (suits literal op ≡ true) × ((raw : List ℕ) × (literal_of op raw ≡ Some literal))
 
 -- the literal suits the operator, and has a source
 abbrev pub IsGoodBehind : Op → Literal → Type 0

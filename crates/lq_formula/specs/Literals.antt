@@ -12,8 +12,8 @@ use Rattle.lq_value.specs.declared.literal.Literal.TheVariants.{Pattern, Plain}
 use Rattle.lq_value.specs.Name.{is_attr_name}
 use Rattle.lq_value.specs.Source.{pattern_of}
 
--- The text without the `\` before each escaped byte, behind a `\` if the test is true. What follows an
--- escaped first byte of a character are its other bytes, which are no `\`.
+-- The text without the `\` before each escaped byte, behind a `\` if the test is true. What
+-- follows an escaped first byte of a character are its other bytes, which are no `\`.
 abbrev pub unescaped : Bool → List ℕ → List ℕ
 unescaped false [] = []
 unescaped true [] = []
@@ -46,7 +46,8 @@ pattern_literal (Err place) = None
 
 -- the literal that a raw text is behind an operator
 abbrev pub literal_of : Op → List ℕ → Option Literal
-literal_of o raw = if takes_pattern o then pattern_literal (pattern_of raw) else Some (Plain (unescaped false raw))
+literal_of o raw =
+    if takes_pattern o then pattern_literal (pattern_of raw) else Some (Plain (unescaped false raw))
 
 abbrev pub bad_place : Result (List Element) ℕ → Option ℕ
 bad_place (Ok elements) = None

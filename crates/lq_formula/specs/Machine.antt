@@ -5,7 +5,8 @@ use Rattle.lq_formula.specs.Tokens.{Token, opens, closes, bang, ands, ors, op, w
 use Rattle.lq_formula.specs.Literals.{name_of, literal_of}
 use Rattle.lq_formula.specs.Query.{Query, Compare, Not, both_of, either_of}
 
--- a formula that is begun: the parts of its or that are done, those of its last and, and the `!` that wait
+-- a formula that is begun: the parts of its or that are
+-- done, those of its last and, and the `!` that wait
 pub record Frame : Type 0 where
   pub or_parts : List Query
   pub and_parts : List Query
@@ -35,10 +36,12 @@ negate (suc n) q = negate n (Not q)
 
 -- the operand that was awaited is done
 abbrev pub frame_with : Query → Frame → Frame
-frame_with q f = record { or_parts = f.or_parts; and_parts = f.and_parts ++ negate f.bangs q ∷ []; bangs = 0 }
+frame_with q f =
+    record { or_parts = f.or_parts; and_parts = f.and_parts ++ negate f.bangs q ∷ []; bangs = 0 }
 
 abbrev pub completed : Query → List Frame → Frame → ℕ → State
-completed q below f room = record { below = below; top = frame_with q f; place = after_operand; room = room + f.bangs }
+completed q below f room =
+    record { below = below; top = frame_with q f; place = after_operand; room = room + f.bangs }
 
 -- what a frame says, once it is whole
 abbrev pub said_by : Frame → Query
@@ -54,9 +57,16 @@ close [] f room = None
 close (g ∷ gs) f room = Some (completed (said_by f) gs g (suc room))
 
 abbrev pub at_operand : State → Token → Option State
-at_operand s opens = deeper s.room (λ n. record { below = s.top ∷ s.below; top = empty_frame; place = operand; room = n })
-at_operand s bang = deeper s.room (λ n. record { below = s.below; top = record { or_parts = s.top.or_parts; and_parts = s.top.and_parts; bangs = suc s.top.bangs }; place = operand; room = n })
-at_operand s (word a) = option_map (λ name. record { below = s.below; top = s.top; place = after_attr name; room = s.room }) (name_of a)
+at_operand s opens = deeper s.room
+    (λ n. record { below = s.top ∷ s.below; top = empty_frame; place = operand; room = n })
+at_operand s bang = deeper s.room (λ n. record {
+  below = s.below;
+  top = record { or_parts = s.top.or_parts; and_parts = s.top.and_parts; bangs = suc s.top.bangs };
+  place = operand;
+  room = n;
+})
+at_operand s (word a) = option_map (λ name.
+    record { below = s.below; top = s.top; place = after_attr name; room = s.room }) (name_of a)
 at_operand s closes = None
 at_operand s ands = None
 at_operand s ors = None
@@ -65,7 +75,8 @@ at_operand s lone = None
 at_operand s cut = None
 
 abbrev pub at_attr : State → List ℕ → Token → Option State
-at_attr s a (op o) = Some (record { below = s.below; top = s.top; place = after_op a o; room = s.room })
+at_attr s a (op o) =
+    Some (record { below = s.below; top = s.top; place = after_op a o; room = s.room })
 at_attr s a opens = None
 at_attr s a closes = None
 at_attr s a bang = None
@@ -76,7 +87,8 @@ at_attr s a lone = None
 at_attr s a cut = None
 
 abbrev pub at_op : State → List ℕ → Op → Token → Option State
-at_op s a o (word l) = option_map (λ literal. completed (Compare a o literal) s.below s.top s.room) (literal_of o l)
+at_op s a o (word l) =
+    option_map (λ literal. completed (Compare a o literal) s.below s.top s.room) (literal_of o l)
 at_op s a o opens = None
 at_op s a o closes = None
 at_op s a o bang = None
@@ -87,8 +99,22 @@ at_op s a o lone = None
 at_op s a o cut = None
 
 abbrev pub at_end : State → Token → Option State
-at_end s ands = Some (record { below = s.below; top = record { or_parts = s.top.or_parts; and_parts = s.top.and_parts; bangs = 0 }; place = operand; room = s.room })
-at_end s ors = Some (record { below = s.below; top = record { or_parts = s.top.or_parts ++ both_of s.top.and_parts ∷ []; and_parts = []; bangs = 0 }; place = operand; room = s.room })
+at_end s ands = Some (record {
+  below = s.below;
+  top = record { or_parts = s.top.or_parts; and_parts = s.top.and_parts; bangs = 0 };
+  place = operand;
+  room = s.room;
+})
+at_end s ors = Some (record {
+  below = s.below;
+  top = record {
+    or_parts = s.top.or_parts ++ both_of s.top.and_parts ∷ [];
+    and_parts = [];
+    bangs = 0;
+  };
+  place = operand;
+  room = s.room;
+})
 at_end s closes = close s.below s.top s.room
 at_end s opens = None
 at_end s bang = None

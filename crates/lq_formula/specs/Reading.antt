@@ -1,5 +1,5 @@
--- The reading of a text: its query, or the place of its leftmost fault. The tokens are read from the left
--- by the machine.
+-- The reading of a text: its query, or the place of its leftmost
+-- fault. The tokens are read from the left by the machine.
 use Rattle.std.specs.Prelude.{ℕ, ◌+◌, ◌&&◌, nat_le, if◌then◌else◌, List, [], ◌∷◌, length, Option, None, Some, Result, Ok, Err}
 use Rattle.lq_formula.specs.Tokens.{Token, opens, closes, bang, ands, ors, op, word, lone, cut, Placed, tokens_of}
 use Rattle.lq_formula.specs.Query.{Query}
@@ -54,17 +54,26 @@ word_count cut = 0
 -- the state behind a token, so many words with it, and what is read on from there
 abbrev pub after_token : ℕ → Placed → Option State → ℕ → (State → Result Query ℕ) → Result Query ℕ
 after_token fault t None count others = Err fault
-after_token fault t (Some s) count others = if nat_le count (most_comparisons + most_comparisons) then others s else Err t.place
+after_token fault t (Some s) count others =
+    if nat_le count (most_comparisons + most_comparisons) then others s else Err t.place
 
 -- the query, where the formula is whole and within the limits
 abbrev pub finished : ℕ → Option Query → Result Query ℕ
 finished end None = Err end
-finished end (Some q) = if nat_le (depth q) most_depth && nat_le (length (canonical q)) most_bytes then Ok q else Err end
+finished end (Some q) =
+    if nat_le (depth q) most_depth && nat_le (length (canonical q)) most_bytes
+    then Ok q
+    else Err end
 
--- the reading of the tokens from a state on, with so many words before them, where the text ends at `end`
+-- the reading of the tokens from a state on, with so many
+-- words before them, where the text ends at `end`
 unfoldable pub read_tokens : ℕ → State → ℕ → List Placed → Result Query ℕ
 read_tokens end s count [] = finished end (whole s)
-read_tokens end s count (t ∷ ts) = after_token (fault_place end s.place t) t (step s t.token) (count + word_count t.token) (λ s'. read_tokens end s' (count + word_count t.token) ts)
+read_tokens end s count (t ∷ ts) = after_token (fault_place end s.place t) t (step s t.token)
+    (count + word_count t.token) (λ s'. read_tokens end s' (count + word_count t.token) ts)
 
 abbrev pub reading_of : List ℕ → Result Query ℕ
-reading_of text = if nat_le (length text) most_bytes then read_tokens (length text) (start nesting) 0 (tokens_of text) else Err most_bytes
+reading_of text =
+    if nat_le (length text) most_bytes
+    then read_tokens (length text) (start nesting) 0 (tokens_of text)
+    else Err most_bytes

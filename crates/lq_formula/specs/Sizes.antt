@@ -1,4 +1,5 @@
--- How many bytes names, literals and patterns have as canonical text, where they are read without memory.
+-- How many bytes names, literals and patterns have as
+-- canonical text, where they are read without memory.
 use Rattle.std.specs.Prelude.{◌≡◌, ◌+◌, ℕ, List, [], length, Option, None, Some, Result, Ok, Err}
 use Rattle.std.specs.Str.{IsUtf8, encode_utf8_all}
 use Rattle.lq_value.specs.declared.element.Element.{Element}

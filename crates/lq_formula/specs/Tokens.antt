@@ -40,7 +40,10 @@ quoted_front bs None = fixed cut (suc (length bs))
 quoted_front bs (Some n) = record { token = word (take n bs); size = suc (suc n); inside = 1 }
 
 abbrev pub word_front : List ℕ → ℕ → Front
-word_front bs n = if n == 0 then fixed cut (length bs) else record { token = word (take n bs); size = n; inside = 0 }
+word_front bs n =
+    if n == 0
+    then fixed cut (length bs)
+    else record { token = word (take n bs); size = n; inside = 0 }
 
 -- one of ( ) ! = < > & |
 abbrev pub is_symbol : ℕ → Bool
@@ -82,34 +85,39 @@ front_at (b ∷ bs) = front b bs
 
 -- The text begins with the token, without white space, and the rest follows it.
 abbrev pub Begins : ℕ → List ℕ → Placed → ℕ → List ℕ → Type 0
-Begins at bs t next rest = (0 < length bs) × (t ≡ placed_at at (front_at bs)) × (next ≡ at + (front_at bs).size) × (rest ≡ drop (front_at bs).size bs)
+Begins at bs t next rest = (0 < length bs) × (t ≡ placed_at at (front_at bs))
+    × (next ≡ at + (front_at bs).size) × (rest ≡ drop (front_at bs).size bs)
 
 -- the text behind its white space
 abbrev pub trimmed : List ℕ → List ℕ
 trimmed bs = drop (spaces bs) bs
 
--- The text from a place on begins with the token behind white space; the rest stands at the next place.
+-- The text from a place on begins with the token behind
+-- white space; the rest stands at the next place.
 abbrev pub Yields : ℕ → List ℕ → Placed → ℕ → List ℕ → Type 0
 Yields at bs t next rest = Begins (at + spaces bs) (trimmed bs) t next rest
 
 -- The text from a place on has these tokens.
 abbrev pub HasTokens : ℕ → List ℕ → List Placed → Type 0
 HasTokens at bs [] = trimmed bs ≡ []
-HasTokens at bs (t ∷ ts) = (next : ℕ) × (rest : List ℕ) × Yields at bs t next rest × HasTokens next rest ts
+HasTokens at bs (t ∷ ts) =
+    (next : ℕ) × (rest : List ℕ) × Yields at bs t next rest × HasTokens next rest ts
 
 -- ---- the tokens as a list
 
 -- the token that trimmed bytes begin with, and those behind it
 abbrev pub first_and : ℕ → List ℕ → (ℕ → List ℕ → List Placed) → List Placed
 first_and at [] others = []
-first_and at (b ∷ bs) others = placed_at at (front b bs) ∷ others (at + (front b bs).size) (drop (front b bs).size (b ∷ bs))
+first_and at (b ∷ bs) others =
+    placed_at at (front b bs) ∷ others (at + (front b bs).size) (drop (front b bs).size (b ∷ bs))
 
 -- the tokens of so many bytes at most
 unfoldable pub tokens_within : ℕ → ℕ → List ℕ → List Placed
 tokens_within zero at bs = []
 tokens_within (suc most) at bs = first_and (at + spaces bs) (trimmed bs) (tokens_within most)
 
--- the tokens of the text from a place on: each has a byte at least, so that there are no more than bytes
+-- the tokens of the text from a place on: each has a byte
+-- at least, so that there are no more than bytes
 unfoldable pub tokens_from : ℕ → List ℕ → List Placed
 tokens_from at bs = tokens_within (length bs) at bs
 

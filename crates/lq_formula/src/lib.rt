@@ -3,8 +3,8 @@
 //!
 //! A contract sees a text as its bytes, its tokens as a list (`specs/Tokens`) and what they say
 //! as a `Query` (`specs/Query`, `specs/Grammar`); `specs/Reading` reads it, `specs/Faults` has the
-//! faults and `specs/Canonical` writes it. Nothing here waits. Begin with `token`, then `laws`, then
-//! `writing`.
+//! faults and `specs/Canonical` writes it. Nothing here waits. Begin with `token`, then `laws`,
+//! then `writing`.
 #![tactic(auto)]
 
 mod count;

@@ -129,8 +129,8 @@ fn put_elements(elements: Elements<'_>, out: &mut String) -> Result<(), Refusal>
 // The pattern whose elements are the characters of a text.
 fn put_plain_text(text: &str, out: &mut String) -> Result<(), Refusal>
     ensures refused { IsRefusedBy result None }
-    ensures value { IfOk result (λ _. string_bytes out.new
-        ≡ string_bytes out.old ++ encode_utf8_all (pattern_text (plain_elements (chars text.now)))) }
+    ensures value { IfOk result (λ _. string_bytes out.new ≡ string_bytes out.old
+        ++ encode_utf8_all (pattern_text (plain_elements (chars text.now)))) }
 {
     for c in text.chars() {
         put_plain(c, out)?;

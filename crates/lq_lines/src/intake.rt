@@ -81,7 +81,8 @@ impl Intake {
     /// Takes bytes among which is no LF to the line in progress.
     pub fn keep(&mut self, bytes: &[u8]) -> Result<(), RunFault>
         requires { self.old.bytes + length bytes.now ≤ MAX_BYTES }
-        ensures ok { OnOk result ((before : List ℕ) → IsKept before self.old.long self.old.line.items
+        ensures ok { OnOk result ((before : List ℕ)
+            → IsKept before self.old.long self.old.line.items
             → IsKept (before ++ bytes.now) self.new.long self.new.line.items) }
         ensures memory { IfErr result (λ e. e ≡ RunFault.Memory) }
 

@@ -1,3 +1,4 @@
+-- Read ListLemmas, then PortLemmas, then EndLemmas; Crossing stands alone.
 pub mod ListLemmas
 pub mod PortLemmas
 pub mod EndLemmas

@@ -10,23 +10,29 @@ use Rattle.lq_predicate.specs.declared.extent.Parts.{Parts}
 use Rattle.lq_predicate.specs.declared.extent.Parts.TheVariants.{One, More}
 use Rattle.lq_predicate.proofs.SizeLemmas.{parts_size, and_size, or_size, and_two_size}
 
+-- an extent by its depth and its size
 abbrev extent : ℕ → ℕ → Extent
 extent d b = record { depth = d; bytes = b }
 
+-- equal depths and equal sizes are equal extents
 pub extent_is : (d d' b b' : ℕ) → d ≡ d' → b ≡ b' → extent d b ≡ extent d' b'
 extent_is d d' b b' e f = ap (λ n. extent n b) e ∙ ap (extent d') f
 
 -- ---- `!`
 
+-- each `!` adds one to the depth
 depth-negate : (n : ℕ) (q : Query) → depth (negate n q) ≡ n + depth q
 depth-negate zero q = omega arith
 depth-negate (suc n) q = let h = depth-negate n (Not q) in omega (arith, h)
 
+-- each `!` adds one byte
 size-negate : (n : ℕ) (q : Query) → length (canonical (negate n q)) ≡ n + length (canonical q)
 size-negate zero q = omega arith
 size-negate (suc n) q = let h = size-negate n (Not q) in omega (arith, h)
 
-pub negated_extent : (n : ℕ) (e : Extent) (d b : ℕ) (q : Query) → e ≡ extent_of q → d ≡ capped (e.depth + n) → b ≡ capped (e.bytes + n) → extent d b ≡ extent_of (negate n q)
+-- the extent of a query after some `!` is greater by that many in both
+pub negated_extent : (n : ℕ) (e : Extent) (d b : ℕ) (q : Query) → e ≡ extent_of q
+    → d ≡ capped (e.depth + n) → b ≡ capped (e.bytes + n) → extent d b ≡ extent_of (negate n q)
 negated_extent n e d b q is deep size =
     let h = depth-negate n q in
     let k = size-negate n q in
@@ -36,6 +42,7 @@ negated_extent n e d b q is deep size =
 
 -- ---- an Or is as great as an And
 
+-- an and and an or of the same parts have the same extent
 pub either_alike : (qs : List Query) → extent_of (both_of qs) ≡ extent_of (either_of qs)
 either_alike [] = refl
 either_alike (q ∷ []) = refl
@@ -44,18 +51,25 @@ either_alike (q ∷ r ∷ qs) =
     let o = or_size (q ∷ r ∷ qs) (omega arith) in
     extent_is _ _ _ _ refl (ap capped (a ∙ sym o))
 
-pub parts_either : (parts : Parts) (e : Extent) → (parts ≡ One e) ⊎ (parts ≡ More e) → (qs : List Query) → parts ≡ parts_of qs → e ≡ extent_of (either_of qs)
+-- parts that are one or more have the extent of their or
+pub parts_either : (parts : Parts) (e : Extent) → (parts ≡ One e) ⊎ (parts ≡ More e)
+    → (qs : List Query) → parts ≡ parts_of qs → e ≡ extent_of (either_of qs)
 parts_either parts e (inl is) [] h = absurd (let no : ⊥ = cc in no)
 parts_either parts e (inr is) [] h = absurd (let no : ⊥ = cc in no)
 parts_either parts e (inl is) (q ∷ []) h = cc
 parts_either parts e (inr is) (q ∷ []) h = absurd (let no : ⊥ = cc in no)
 parts_either parts e (inl is) (q ∷ r ∷ qs) h = absurd (let no : ⊥ = cc in no)
-parts_either parts e (inr is) (q ∷ r ∷ qs) h = let same : e ≡ extent_of (both_of (q ∷ r ∷ qs)) = cc in same ∙ either_alike (q ∷ r ∷ qs)
+parts_either parts e (inr is) (q ∷ r ∷ qs) h =
+    let same : e ≡ extent_of (both_of (q ∷ r ∷ qs)) = cc in
+    same ∙ either_alike (q ∷ r ∷ qs)
 
 -- ---- one part more
 
-pub two_parts : (parts : Parts) (only part : Extent) (d b : ℕ) (qs : List Query) (q : Query) → parts ≡ One only → parts ≡ parts_of qs → part ≡ extent_of q
-    → d ≡ capped (max only.depth part.depth + 1) → b ≡ capped (capped (only.bytes + part.bytes) + 4) → More (extent d b) ≡ parts_of (qs ++ q ∷ [])
+-- two parts have the extent that is counted from both
+pub two_parts : (parts : Parts) (only part : Extent) (d b : ℕ) (qs : List Query) (q : Query)
+    → parts ≡ One only → parts ≡ parts_of qs → part ≡ extent_of q
+    → d ≡ capped (max only.depth part.depth + 1) → b ≡ capped (capped (only.bytes + part.bytes) + 4)
+    → More (extent d b) ≡ parts_of (qs ++ q ∷ [])
 two_parts parts only part d b [] q is h new deep size = absurd (let no : ⊥ = cc in no)
 two_parts parts only part d b (p ∷ []) q is h new deep size =
     let same : only ≡ extent_of p = cc in
@@ -67,16 +81,24 @@ two_parts parts only part d b (p ∷ []) q is h new deep size =
     ap More (extent_is d _ b _ (omega (arith, d1, d2, deep)) (omega (arith, b1, b2, two, size)))
 two_parts parts only part d b (p ∷ r ∷ qs) q is h new deep size = absurd (let no : ⊥ = cc in no)
 
-deepest-push : (qs : List Query) (q : Query) → deepest (queries (qs ++ q ∷ [])) ≡ max (deepest (queries qs)) (depth q)
+-- one part more: the deepest is the deeper of it and the others
+deepest-push : (qs : List Query) (q : Query)
+    → deepest (queries (qs ++ q ∷ [])) ≡ max (deepest (queries qs)) (depth q)
 deepest-push [] q = omega arith
 deepest-push (p ∷ qs) q = let h = deepest-push qs q in omega (arith, h)
 
-size-push : (qs : List Query) (q : Query) → parts_size (queries (qs ++ q ∷ [])) ≡ parts_size (queries qs) + (length (canonical q) + 2)
+-- one part more adds its bytes and two for the separator
+size-push : (qs : List Query) (q : Query)
+    → parts_size (queries (qs ++ q ∷ [])) ≡ parts_size (queries qs) + (length (canonical q) + 2)
 size-push [] q = omega arith
 size-push (p ∷ qs) q = let h = size-push qs q in omega (arith, h)
 
-more_by : (qs : List Query) (all : List Query) (q : Query) (whole part : Extent) (d b : ℕ) → 0 < length qs → all ≡ qs ++ q ∷ [] → whole ≡ extent_of (And (queries qs)) → part ≡ extent_of q
-    → d ≡ max whole.depth (capped (part.depth + 1)) → b ≡ capped (capped (whole.bytes + part.bytes) + 2) → extent d b ≡ extent_of (And (queries all))
+-- one part more adds to an and's extent, capped
+more_by : (qs : List Query) (all : List Query) (q : Query) (whole part : Extent) (d b : ℕ)
+    → 0 < length qs → all ≡ qs ++ q ∷ [] → whole ≡ extent_of (And (queries qs)) → part ≡ extent_of q
+    → d ≡ max whole.depth (capped (part.depth + 1))
+    → b ≡ capped (capped (whole.bytes + part.bytes) + 2)
+    → extent d b ≡ extent_of (And (queries all))
 more_by qs all q whole part d b some is was new deep size =
     let d1 : whole.depth ≡ capped (depth (And (queries qs))) = ap (λ x. x.depth) was in
     let b1 : whole.bytes ≡ capped (length (canonical (And (queries qs)))) = ap (λ x. x.bytes) was in
@@ -87,12 +109,18 @@ more_by qs all q whole part d b some is was new deep size =
     let before = and_size qs some in
     let long : length all ≡ length (qs ++ q ∷ []) = ap length is in
     let more = and_size all (omega (arith, long, length-append qs (q ∷ []))) in
-    extent_is d _ b _ (omega (arith, d1, d2, push_deep, deep)) (omega (arith, b1, b2, push_size, before, more, size))
+    extent_is d _ b _ (omega (arith, d1, d2, push_deep, deep))
+    (omega (arith, b1, b2, push_size, before, more, size))
 
-pub more_parts : (parts : Parts) (whole part : Extent) (d b : ℕ) (qs : List Query) (q : Query) → parts ≡ More whole → parts ≡ parts_of qs → part ≡ extent_of q
-    → d ≡ max whole.depth (capped (part.depth + 1)) → b ≡ capped (capped (whole.bytes + part.bytes) + 2) → More (extent d b) ≡ parts_of (qs ++ q ∷ [])
+-- one part more adds to the extent of two or more
+pub more_parts : (parts : Parts) (whole part : Extent) (d b : ℕ) (qs : List Query) (q : Query)
+    → parts ≡ More whole → parts ≡ parts_of qs → part ≡ extent_of q
+    → d ≡ max whole.depth (capped (part.depth + 1))
+    → b ≡ capped (capped (whole.bytes + part.bytes) + 2)
+    → More (extent d b) ≡ parts_of (qs ++ q ∷ [])
 more_parts parts whole part d b [] q is h new deep size = absurd (let no : ⊥ = cc in no)
 more_parts parts whole part d b (p ∷ []) q is h new deep size = absurd (let no : ⊥ = cc in no)
 more_parts parts whole part d b (p ∷ r ∷ qs) q is h new deep size =
     let same : whole ≡ extent_of (And (queries (p ∷ r ∷ qs))) = cc in
-    ap More (more_by (p ∷ r ∷ qs) (p ∷ r ∷ (qs ++ q ∷ [])) q whole part d b (omega arith) refl same new deep size)
+    ap More (more_by (p ∷ r ∷ qs) (p ∷ r ∷ (qs ++ q ∷ [])) q whole part d b
+    (omega arith) refl same new deep size)

@@ -19,13 +19,19 @@ use Rattle.lq_predicate.specs.declared.gauge.Awaited.{Awaited}
 use Rattle.lq_predicate.specs.declared.gauge.Awaited.TheVariants as awaits
 use Rattle.lq_predicate.specs.declared.gauge.Gauge.{Gauge}
 
+-- a gauge by its parts
 abbrev pub gauge : ArrayVec Outline → Outline → Awaited → ℕ → Gauge
 gauge below top awaited room = record { below = below; top = top; awaited = awaited; room = room }
 
 -- ---- where an operand is awaited
 
-name_by : (g : Gauge) (s : State) (n : ℕ) (o : Option (List ℕ)) → Shows g s → Some n ≡ option_map name_bytes o
-    → (s' : State) × (option_map (λ name. record { below = s.below; top = s.top; place = after_attr name; room = s.room }) o ≡ Some s') × Shows (gauge g.below g.top (awaits.AfterAttr n) g.room) s'
+-- a name whose size the gauge has leads to a state that the gauge shows
+name_by : (g : Gauge) (s : State) (n : ℕ) (o : Option (List ℕ))
+    → Shows g s → Some n ≡ option_map name_bytes o
+    → (s' : State)
+    × (option_map (λ name. record
+    { below = s.below; top = s.top; place = after_attr name; room = s.room }) o ≡ Some s')
+    × Shows (gauge g.below g.top (awaits.AfterAttr n) g.room) s'
 name_by g s n None h e = absurd (let no : ⊥ = cc in no)
 name_by g s n (Some name) h e = (
   record { below = s.below; top = s.top; place = after_attr name; room = s.room },
@@ -38,42 +44,61 @@ name_by g s n (Some name) h e = (
   },
 )
 
-pub name_read : (g : Gauge) (s : State) (raw : List ℕ) (n : ℕ) → Shows g s → Some n ≡ option_map name_bytes (name_of raw) → IsStepAt operand s (word raw) (Ok (gauge g.below g.top (awaits.AfterAttr n) g.room))
+-- where an operand is awaited, a name leads the gauge as it leads the machine
+pub name_read : (g : Gauge) (s : State) (raw : List ℕ) (n : ℕ)
+    → Shows g s → Some n ≡ option_map name_bytes (name_of raw)
+    → IsStepAt operand s (word raw) (Ok (gauge g.below g.top (awaits.AfterAttr n) g.room))
 name_read g s raw n h e = let r = name_by g s n (name_of raw) h e in (r.0, r.1, refl, r.2)
 
-no_name_by : (f : List ℕ → State) (o : Option (List ℕ)) → None ≡ option_map name_bytes o → option_map f o ≡ None
+-- where there is no name, there is no state
+no_name_by : (f : List ℕ → State) (o : Option (List ℕ)) → None ≡ option_map name_bytes o
+    → option_map f o ≡ None
 no_name_by f None e = refl
 no_name_by f (Some name) e = absurd (let no : ⊥ = cc in no)
 
-pub no_name : (s : State) (raw : List ℕ) → None ≡ option_map name_bytes (name_of raw) → IsStepAt operand s (word raw) (Err None)
-no_name s raw e = (no_name_by (λ name. record { below = s.below; top = s.top; place = after_attr name; room = s.room }) (name_of raw) e, refl)
+-- where an operand is awaited, a word that is no name is refused
+pub no_name : (s : State) (raw : List ℕ) → None ≡ option_map name_bytes (name_of raw)
+    → IsStepAt operand s (word raw) (Err None)
+no_name s raw e = (
+  no_name_by
+      (λ name. record { below = s.below; top = s.top; place = after_attr name; room = s.room })
+      (name_of raw) e,
+  refl,
+)
 
+-- where there is room, one level more leaves one less
 deeper_some : (r m : ℕ) (k : ℕ → State) → r ≡ suc m → deeper r k ≡ Some (k m)
 deeper_some r m k e = ap (λ n. deeper n k) e
 
+-- a gauge with room shows a state with room
 left_room : (g : Gauge) (s : State) → Shows g s → (g.room ≡ 0 → ⊥) → s.room ≡ suc (g.room - 1)
 left_room g s h some = let e = h.room in omega (arith, e, some)
 
-pub opened : (g : Gauge) (s : State) (below : ArrayVec Outline) (top : Outline) → Shows g s → (g.room ≡ 0 → ⊥) → below.items ≡ g.below.items ++ g.top ∷ [] → top ≡ outline_of empty_frame
+-- `(` leads the gauge as it leads the machine
+pub opened : (g : Gauge) (s : State) (below : ArrayVec Outline) (top : Outline) → Shows g s
+    → (g.room ≡ 0 → ⊥) → below.items ≡ g.below.items ++ g.top ∷ [] → top ≡ outline_of empty_frame
     → IsStepAt operand s opens (Ok (gauge below top awaits.Operand (g.room - 1)))
 opened g s below top h some push new = (
   record { below = s.top ∷ s.below; top = empty_frame; place = operand; room = g.room - 1 },
   deeper_some s.room (g.room - 1) _ (left_room g s h some),
   refl,
   record {
-    below = ap reverse push ∙ reverse-append g.below.items (g.top ∷ []) ∙ ap (λ t. t ∷ reverse g.below.items) h.top ∙ ap (λ ts. outline_of s.top ∷ ts) h.below;
+    below = ap reverse push ∙ reverse-append g.below.items (g.top ∷ [])
+        ∙ ap (λ t. t ∷ reverse g.below.items) h.top ∙ ap (λ ts. outline_of s.top ∷ ts) h.below;
     top = new;
     awaited = refl;
     room = refl;
   },
 )
 
+-- each open frame weighs one at least
 open_long : (fs : List Frame) → length fs ≤ open_weight fs
 open_long [] = omega arith
 open_long (f ∷ fs) = let h = open_long fs in omega (arith, h)
 
 -- there is a place for each frame that has room
-pub never_full : (g : Gauge) (s : State) → Shows g s → weight s ≤ 64 → (g.room ≡ 0 → ⊥) → array_vec_len g.below ≡ 64 → ⊥
+pub never_full : (g : Gauge) (s : State)
+    → Shows g s → weight s ≤ 64 → (g.room ≡ 0 → ⊥) → array_vec_len g.below ≡ 64 → ⊥
 never_full g s h light some full =
     let long = open_long s.below in
     let same = ap length h.below in
@@ -82,10 +107,20 @@ never_full g s h light some full =
     let room = h.room in
     omega (arith, light, some, full, long, same, back, seen, room)
 
-pub banged : (g : Gauge) (s : State) (n : ℕ) → Shows g s → weight s ≤ 64 → (g.room ≡ 0 → ⊥) → n ≡ capped (g.top.bangs + 1)
-    → IsStepAt operand s bang (Ok (gauge g.below (record { or_parts = g.top.or_parts; and_parts = g.top.and_parts; bangs = n }) awaits.Operand (g.room - 1)))
+-- `!` leads the gauge as it leads the machine
+pub banged : (g : Gauge) (s : State) (n : ℕ) → Shows g s → weight s ≤ 64 → (g.room ≡ 0 → ⊥)
+    → n ≡ capped (g.top.bangs + 1)
+    → IsStepAt operand s bang (Ok (gauge g.below
+    (record { or_parts = g.top.or_parts; and_parts = g.top.and_parts; bangs = n })
+    awaits.Operand (g.room - 1)))
 banged g s n h light some new = (
-  record { below = s.below; top = record { or_parts = s.top.or_parts; and_parts = s.top.and_parts; bangs = suc s.top.bangs }; place = operand; room = g.room - 1 },
+  record {
+    below = s.below;
+    top =
+        record { or_parts = s.top.or_parts; and_parts = s.top.and_parts; bangs = suc s.top.bangs };
+    place = operand;
+    room = g.room - 1;
+  },
   deeper_some s.room (g.room - 1) _ (left_room g s h some),
   refl,
   record {
@@ -93,7 +128,12 @@ banged g s n h light some new = (
     top =
         let was : g.top.bangs ≡ s.top.bangs = ap (λ t. t.bangs) h.top in
         let more : n ≡ suc s.top.bangs = omega (arith, was, new, light) in
-        ap (λ t. record { or_parts = t.or_parts; and_parts = t.and_parts; bangs = n }) h.top ∙ ap (λ k. record { or_parts = (outline_of s.top).or_parts; and_parts = (outline_of s.top).and_parts; bangs = k }) more;
+        ap (λ t. record { or_parts = t.or_parts; and_parts = t.and_parts; bangs = n }) h.top
+        ∙ ap (λ k. record {
+          or_parts = (outline_of s.top).or_parts;
+          and_parts = (outline_of s.top).and_parts;
+          bangs = k;
+        }) more;
     awaited = refl;
     room = refl;
   },
@@ -101,7 +141,9 @@ banged g s n h light some new = (
 
 -- ---- behind an attribute
 
-pub op_read : (g : Gauge) (s : State) (a : List ℕ) (n : ℕ) (o : Op) → Shows g s → n ≡ name_bytes a → IsStepAt (after_attr a) s (op o) (Ok (gauge g.below g.top (awaits.AfterOp n o) g.room))
+-- an operator leads the gauge as it leads the machine
+pub op_read : (g : Gauge) (s : State) (a : List ℕ) (n : ℕ) (o : Op) → Shows g s → n ≡ name_bytes a
+    → IsStepAt (after_attr a) s (op o) (Ok (gauge g.below g.top (awaits.AfterOp n o) g.room))
 op_read g s a n o h e = (
   record { below = s.below; top = s.top; place = after_op a o; room = s.room },
   refl,
@@ -116,41 +158,80 @@ op_read g s a n o h e = (
 
 -- ---- behind an operator
 
+-- a gauge shows the state in which an operand of this extent is completed
 abbrev Completes : Gauge → Extent → ArrayVec Outline → Outline → ℕ → Type 0
 Completes g part below top room =
-    (q : Query) (frames : List Frame) (f : Frame) → part ≡ extent_of q → reverse below.items ≡ map outline_of frames → top ≡ outline_of f → room + f.bangs ≤ 64 → Shows g (completed q frames f room)
+    (q : Query) (frames : List Frame) (f : Frame) → part ≡ extent_of q
+    → reverse below.items ≡ map outline_of frames → top ≡ outline_of f → room + f.bangs ≤ 64
+    → Shows g (completed q frames f room)
 
-literal_by : (g : Gauge) (s : State) (a : List ℕ) (o : Op) (n b : ℕ) (g' : Gauge) (l : Option Literal) → Shows g s → weight s ≤ 64 → option_map literal_bytes l ≡ Some n
-    → ((literal : Literal) → n ≡ literal_bytes literal → b ≡ capped (length (canonical (Compare a o literal)))) → Completes g' (record { depth = 1; bytes = b }) g.below g.top g.room
-    → (s' : State) × (option_map (λ literal. completed (Compare a o literal) s.below s.top s.room) l ≡ Some s') × Shows g' s'
+-- a literal whose size the gauge has completes a comparison that the gauge shows
+literal_by : (g : Gauge) (s : State) (a : List ℕ) (o : Op) (n b : ℕ) (g' : Gauge)
+    (l : Option Literal) → Shows g s → weight s ≤ 64 → option_map literal_bytes l ≡ Some n
+    → ((literal : Literal) → n ≡ literal_bytes literal
+    → b ≡ capped (length (canonical (Compare a o literal))))
+    → Completes g' (record { depth = 1; bytes = b }) g.below g.top g.room
+    → (s' : State)
+    × (option_map (λ literal. completed (Compare a o literal) s.below s.top s.room) l ≡ Some s')
+    × Shows g' s'
 literal_by g s a o n b g' None h light e size done = absurd (let no : ⊥ = cc in no)
 literal_by g s a o n b g' (Some literal) h light e size done =
     let same : n ≡ literal_bytes literal = cc in
     let is = size literal same in
-    let shown = done (Compare a o literal) s.below s.top (ap (λ k. record { depth = 1; bytes = k }) is) h.below h.top (let room = h.room in omega (arith, room, light)) in
-    (completed (Compare a o literal) s.below s.top s.room, refl, subst (λ r. Shows g' (completed (Compare a o literal) s.below s.top r)) h.room shown)
+    let shown = done (Compare a o literal) s.below s.top
+    (ap (λ k. record { depth = 1; bytes = k }) is) h.below h.top
+    (let room = h.room in omega (arith, room, light)) in (
+      completed (Compare a o literal) s.below s.top s.room,
+      refl,
+      subst (λ r. Shows g' (completed (Compare a o literal) s.below s.top r)) h.room shown,
+    )
 
-pub literal_read : (g : Gauge) (s : State) (a : List ℕ) (o : Op) (raw : List ℕ) (n b : ℕ) (g' : Gauge) → Shows g s → weight s ≤ 64 → option_map literal_bytes (literal_of o raw) ≡ Some n → literal_fault o raw ≡ None
-    → ((literal : Literal) → n ≡ literal_bytes literal → b ≡ capped (length (canonical (Compare a o literal)))) → Completes g' (record { depth = 1; bytes = b }) g.below g.top g.room
+-- after an operator, a literal leads the gauge as it leads the machine
+pub literal_read : (g : Gauge) (s : State) (a : List ℕ) (o : Op) (raw : List ℕ) (n b : ℕ)
+    (g' : Gauge) → Shows g s → weight s ≤ 64 → option_map literal_bytes (literal_of o raw) ≡ Some n
+    → literal_fault o raw ≡ None
+    → ((literal : Literal) → n ≡ literal_bytes literal
+    → b ≡ capped (length (canonical (Compare a o literal))))
+    → Completes g' (record { depth = 1; bytes = b }) g.below g.top g.room
     → IsStepAt (after_op a o) s (word raw) (Ok g')
 literal_read g s a o raw n b g' h light e fine size done =
     let r = literal_by g s a o n b g' (literal_of o raw) h light e size done in
     (r.0, r.1, fine, r.2)
 
-pub bad_literal : (s : State) (a : List ℕ) (o : Op) (raw : List ℕ) (k : ℕ) → literal_of o raw ≡ None → literal_fault o raw ≡ Some k → IsStepAt (after_op a o) s (word raw) (Err (Some k))
-bad_literal s a o raw k none fault = (ap (option_map (λ literal. completed (Compare a o literal) s.below s.top s.room)) none, fault)
+-- after an operator, a word that is no literal is refused at its fault
+pub bad_literal : (s : State) (a : List ℕ) (o : Op) (raw : List ℕ) (k : ℕ) → literal_of o raw ≡ None
+    → literal_fault o raw ≡ Some k → IsStepAt (after_op a o) s (word raw) (Err (Some k))
+bad_literal s a o raw k none fault =
+    (ap (option_map (λ literal. completed (Compare a o literal) s.below s.top s.room)) none, fault)
 
 -- ---- behind an operand
 
-pub ands_read : (g : Gauge) (s : State) → Shows g s → IsStepAt after_operand s ands (Ok (gauge g.below (record { or_parts = g.top.or_parts; and_parts = g.top.and_parts; bangs = 0 }) awaits.Operand g.room))
+-- `&&` leads the gauge as it leads the machine
+pub ands_read : (g : Gauge) (s : State) → Shows g s
+    → IsStepAt after_operand s ands (Ok (gauge g.below
+    (record { or_parts = g.top.or_parts; and_parts = g.top.and_parts; bangs = 0 })
+    awaits.Operand g.room))
 ands_read g s h = (
-  record { below = s.below; top = record { or_parts = s.top.or_parts; and_parts = s.top.and_parts; bangs = 0 }; place = operand; room = s.room },
+  record {
+    below = s.below;
+    top = record { or_parts = s.top.or_parts; and_parts = s.top.and_parts; bangs = 0 };
+    place = operand;
+    room = s.room;
+  },
   refl,
   refl,
-  record { below = h.below; top = ap (λ t. record { or_parts = t.or_parts; and_parts = t.and_parts; bangs = 0 }) h.top; awaited = refl; room = h.room },
+  record {
+    below = h.below;
+    top = ap (λ t. record { or_parts = t.or_parts; and_parts = t.and_parts; bangs = 0 }) h.top;
+    awaited = refl;
+    room = h.room;
+  },
 )
 
-pub ors_read : (g : Gauge) (s : State) (top : Outline) → Shows g s → top ≡ outline_of (behind_or s.top) → IsStepAt after_operand s ors (Ok (gauge g.below top awaits.Operand g.room))
+-- `||` leads the gauge as it leads the machine
+pub ors_read : (g : Gauge) (s : State) (top : Outline)
+    → Shows g s → top ≡ outline_of (behind_or s.top)
+    → IsStepAt after_operand s ors (Ok (gauge g.below top awaits.Operand g.room))
 ors_read g s top h new = (
   record { below = s.below; top = behind_or s.top; place = operand; room = s.room },
   refl,
@@ -158,18 +239,29 @@ ors_read g s top h new = (
   record { below = h.below; top = new; awaited = refl; room = h.room },
 )
 
-closed_by : (s : State) (b : ArrayVec Outline) (o : Outline) (part : Extent) (room : ℕ) (g g' : Gauge) (fs : List Frame) → o ∷ reverse b.items ≡ map outline_of fs → s.room + open_weight fs ≤ 64 → part ≡ extent_of (said_by s.top)
-    → room ≡ suc s.room → Completes g' part b o room → (s' : State) × (close fs s.top s.room ≡ Some s') × Shows g' s'
+-- closing the frame on top completes an operand in the one below it
+closed_by : (s : State) (b : ArrayVec Outline) (o : Outline) (part : Extent) (room : ℕ)
+    (g g' : Gauge) (fs : List Frame) → o ∷ reverse b.items ≡ map outline_of fs
+    → s.room + open_weight fs ≤ 64 → part ≡ extent_of (said_by s.top) → room ≡ suc s.room
+    → Completes g' part b o room → (s' : State) × (close fs s.top s.room ≡ Some s') × Shows g' s'
 closed_by s b o part room g g' [] is light e same done = absurd (let no : ⊥ = cc in no)
 closed_by s b o part room g g' (f ∷ fs) is light e same done =
     let first : o ≡ outline_of f = cc in
-    let others : reverse b.items ≡ map outline_of fs = cc in
-    (completed (said_by s.top) fs f (suc s.room), refl, subst (λ r. Shows g' (completed (said_by s.top) fs f r)) same (done (said_by s.top) fs f e others first (omega (arith, same, light))))
+    let others : reverse b.items ≡ map outline_of fs = cc in (
+      completed (said_by s.top) fs f (suc s.room),
+      refl,
+      subst (λ r. Shows g' (completed (said_by s.top) fs f r)) same
+          (done (said_by s.top) fs f e others first (omega (arith, same, light))),
+    )
 
-pub closed : (g : Gauge) (s : State) (b : ArrayVec Outline) (o : Outline) (part : Extent) (room : ℕ) (g' : Gauge) → Shows g s → weight s ≤ 64 → g.below.items ≡ b.items ++ o ∷ [] → part ≡ extent_of (said_by s.top)
-    → room ≡ capped (g.room + 1) → Completes g' part b o room → IsStepAt after_operand s closes (Ok g')
+-- `)` leads the gauge as it leads the machine
+pub closed : (g : Gauge) (s : State) (b : ArrayVec Outline) (o : Outline) (part : Extent) (room : ℕ)
+    (g' : Gauge) → Shows g s → weight s ≤ 64 → g.below.items ≡ b.items ++ o ∷ []
+    → part ≡ extent_of (said_by s.top) → room ≡ capped (g.room + 1) → Completes g' part b o room
+    → IsStepAt after_operand s closes (Ok g')
 closed g s b o part room g' h light pop e new done =
     let is = sym (reverse-append b.items (o ∷ [])) ∙ sym (ap reverse pop) ∙ h.below in
     let was = h.room in
-    let r = closed_by s b o part room g g' s.below is (omega (arith, light)) e (omega (arith, was, new, light)) done in
+    let r = closed_by s b o part room g g' s.below is (omega (arith, light)) e
+    (omega (arith, was, new, light)) done in
     (r.0, r.1, refl, r.2)

@@ -1,3 +1,7 @@
+-- Read in this order. Canonical texts, a piece at a time: PartLemmas, CanonicalLemmas, SizeLemmas,
+-- ExtentLemmas, FitLemmas, DepthLemmas, StarredLemmas. Names and truth: NameLemmas, TruthLemmas.
+-- The stack: StackLemmas. Reading: WeightLemmas, GaugeLemmas, PlaceLemmas, SoFarLemmas,
+-- LimitLemmas, ReadLemmas.
 pub mod PartLemmas
 pub mod NameLemmas
 pub mod TruthLemmas

@@ -16,33 +16,48 @@ use Rattle.lq_predicate.proofs.CanonicalLemmas.{written-append}
 
 -- ---- a pattern with stars
 
-plain_then-append : (b : Bool) (c : ℕ) (xs rest : List ℕ) → (if b then 92 ∷ c ∷ (xs ++ rest) else c ∷ (xs ++ rest)) ≡ (if b then 92 ∷ c ∷ xs else c ∷ xs) ++ rest
+-- what follows a character, escaped or not, may be added after it
+plain_then-append : (b : Bool) (c : ℕ) (xs rest : List ℕ)
+    → (if b then 92 ∷ c ∷ (xs ++ rest) else c ∷ (xs ++ rest))
+    ≡ (if b then 92 ∷ c ∷ xs else c ∷ xs) ++ rest
 plain_then-append true c xs rest = refl
 plain_then-append false c xs rest = refl
 
 -- the characters of a text, and then other elements
-plain_text-append : (cs : List ℕ) (es : List Element) → pattern_text (plain_elements cs ++ es) ≡ pattern_text (plain_elements cs) ++ pattern_text es
+plain_text-append : (cs : List ℕ) (es : List Element)
+    → pattern_text (plain_elements cs ++ es) ≡ pattern_text (plain_elements cs) ++ pattern_text es
 plain_text-append [] es = refl
 plain_text-append (c ∷ cs) es =
     ap (plain_then c) (plain_text-append cs es)
-    ∙ plain_then-append (c == 42 || c == 63 || c == 91 || c == 92 || c == 34) c (pattern_text (plain_elements cs)) (pattern_text es)
+    ∙ plain_then-append (c == 42 || c == 63 || c == 91 || c == 92 || c == 34) c
+    (pattern_text (plain_elements cs)) (pattern_text es)
 
+-- the text of a star has one byte, and that of no star none
 length-star : (b : Bool) → length (encode_utf8_all (pattern_text (star_if b))) ≡ star_count b
 length-star true = ap (λ t. length (t ++ [])) (encode_ascii 42 (lit< tt))
 length-star false = refl
 
-star_first : (b : Bool) (es : List Element) → length (encode_utf8_all (pattern_text (star_if b ++ es))) ≡ star_count b + length (encode_utf8_all (pattern_text es))
-star_first true es = let e = ap (λ t. length (t ++ encode_utf8_all (pattern_text es))) (encode_ascii 42 (lit< tt)) in omega (arith, e)
+-- a star before elements adds its byte to their text
+star_first : (b : Bool) (es : List Element)
+    → length (encode_utf8_all (pattern_text (star_if b ++ es)))
+    ≡ star_count b + length (encode_utf8_all (pattern_text es))
+star_first true es =
+    let e = ap (λ t. length (t ++ encode_utf8_all (pattern_text es))) (encode_ascii 42 (lit< tt)) in
+    omega (arith, e)
 star_first false es = omega arith
 
 -- the characters of a text, and stars beside them
 pub starred_length : (before : Bool) (text : List ℕ) (behind : Bool)
-    → length (encode_utf8_all (pattern_text (starred before text behind))) ≡ (length (encode_utf8_all (pattern_text (plain_elements (chars text)))) + star_count before) + star_count behind
+    → length (encode_utf8_all (pattern_text (starred before text behind)))
+    ≡ (length (encode_utf8_all (pattern_text (plain_elements (chars text)))) + star_count before)
+    + star_count behind
 starred_length before text behind =
     let plain = pattern_text (plain_elements (chars text)) in
     let star = pattern_text (star_if behind) in
     let first = star_first before (plain_elements (chars text) ++ star_if behind) in
-    let parts = ap (λ t. length (encode_utf8_all t)) (plain_text-append (chars text) (star_if behind)) ∙ ap length (encodes-append plain star) ∙ length-append (encode_utf8_all plain) (encode_utf8_all star) in
+    let parts = ap (λ t. length (encode_utf8_all t))
+    (plain_text-append (chars text) (star_if behind)) ∙ ap length (encodes-append plain star)
+    ∙ length-append (encode_utf8_all plain) (encode_utf8_all star) in
     omega (arith, first, parts, length-star behind)
 
 -- ---- lists of parts
@@ -52,10 +67,15 @@ abbrev pub parts_size : Queries → ℕ
 parts_size no_more = 0
 parts_size (and_then q qs) = (length (canonical q) + 2) + parts_size qs
 
-before_others : (q : Query) (others : List ℕ) → length (written q others) ≡ length (canonical q) + length others
-before_others q others = ap length (written-append q [] others) ∙ length-append (written q []) others
+-- a query's text before other bytes is as long as both
+before_others : (q : Query) (others : List ℕ)
+    → length (written q others) ≡ length (canonical q) + length others
+before_others q others =
+    ap length (written-append q [] others) ∙ length-append (written q []) others
 
-others_size : (separator : List ℕ) (qs : Queries) → length separator ≡ 2 → length (others_written separator qs (41 ∷ [])) ≡ 1 + parts_size qs
+-- the parts after the first, and the `)`, are as long as the parts' size says
+others_size : (separator : List ℕ) (qs : Queries) → length separator ≡ 2
+    → length (others_written separator qs (41 ∷ [])) ≡ 1 + parts_size qs
 others_size separator no_more two = refl
 others_size separator (and_then q qs) two =
     let rest = others_written separator qs (41 ∷ []) in
@@ -64,35 +84,56 @@ others_size separator (and_then q qs) two =
     let whole = length-append separator (written q rest) in
     omega (arith, two, others, here, whole)
 
-parts_by : (separator : List ℕ) (qs : List Query) → length separator ≡ 2 → 0 < length qs → length (40 ∷ parts_written separator (queries qs) (41 ∷ [])) ≡ parts_size (queries qs)
+-- the parts between parentheses are as long as their size says
+parts_by : (separator : List ℕ) (qs : List Query) → length separator ≡ 2 → 0 < length qs
+    → length (40 ∷ parts_written separator (queries qs) (41 ∷ [])) ≡ parts_size (queries qs)
 parts_by separator [] two some = absurd (let no : ⊥ = omega (arith, some) in no)
 parts_by separator (q ∷ qs) two some =
     let others = others_size separator (queries qs) two in
     let here = before_others q (others_written separator (queries qs) (41 ∷ [])) in
     omega (arith, others, here)
 
-pub and_size : (qs : List Query) → 0 < length qs → length (canonical (And (queries qs))) ≡ parts_size (queries qs)
+-- the text of an And is as long as its parts' size
+pub and_size : (qs : List Query) → 0 < length qs
+    → length (canonical (And (queries qs))) ≡ parts_size (queries qs)
 and_size qs some = parts_by (codes "&&") qs refl some
 
-pub or_size : (qs : List Query) → 0 < length qs → length (canonical (Or (queries qs))) ≡ parts_size (queries qs)
+-- the text of an Or is as long as its parts' size
+pub or_size : (qs : List Query) → 0 < length qs
+    → length (canonical (Or (queries qs))) ≡ parts_size (queries qs)
 or_size qs some = parts_by (codes "||") qs refl some
 
-pub parts_on : (n n' n'' p : ℕ) (qs : List Query) (i : ℕ) (q : Query) (whole : ℕ) → i < length qs → q ≡ get_or qs i q
-    → capped (n + parts_size (queries (drop i qs))) ≡ capped whole → p ≡ capped (length (canonical q)) → n' ≡ capped (n + p) → n'' ≡ capped (n' + 2)
+-- one part more is counted, and the whole size stays what it was
+pub parts_on : (n n' n'' p : ℕ) (qs : List Query) (i : ℕ) (q : Query) (whole : ℕ) → i < length qs
+    → q ≡ get_or qs i q → capped (n + parts_size (queries (drop i qs))) ≡ capped whole
+    → p ≡ capped (length (canonical q)) → n' ≡ capped (n + p) → n'' ≡ capped (n' + 2)
     → capped (n'' + parts_size (queries (drop (i + 1) qs))) ≡ capped whole
 parts_on n n' n'' p qs i q whole below is so_far piece new next =
     let here = parts_here parts_size qs i q below is in
     omega (arith, so_far, piece, new, next, here)
 
-pub begun_and : (qs : List Query) (q : Query) → And (queries qs) ≡ q → 0 < length qs → capped (0 + parts_size (queries qs)) ≡ capped (length (canonical q))
-begun_and qs q is some = let e = and_size qs some in let k = ap (λ r. length (canonical r)) is in omega (arith, e, k)
+-- before the first part of an And, the whole size is left to count
+pub begun_and : (qs : List Query) (q : Query) → And (queries qs) ≡ q → 0 < length qs
+    → capped (0 + parts_size (queries qs)) ≡ capped (length (canonical q))
+begun_and qs q is some =
+    let e = and_size qs some in
+    let k = ap (λ r. length (canonical r)) is in
+    omega (arith, e, k)
 
-pub begun_or : (qs : List Query) (q : Query) → Or (queries qs) ≡ q → 0 < length qs → capped (0 + parts_size (queries qs)) ≡ capped (length (canonical q))
-begun_or qs q is some = let e = or_size qs some in let k = ap (λ r. length (canonical r)) is in omega (arith, e, k)
+-- before the first part of an Or, the whole size is left to count
+pub begun_or : (qs : List Query) (q : Query) → Or (queries qs) ≡ q → 0 < length qs
+    → capped (0 + parts_size (queries qs)) ≡ capped (length (canonical q))
+begun_or qs q is some =
+    let e = or_size qs some in
+    let k = ap (λ r. length (canonical r)) is in
+    omega (arith, e, k)
 
 -- two predicates joined have four bytes beside their own
-pub and_two_size : (lower upper : Query) → length (canonical (And (queries (lower ∷ upper ∷ [])))) ≡ (length (canonical lower) + length (canonical upper)) + 4
+pub and_two_size : (lower upper : Query) → length (canonical (And (queries (lower ∷ upper ∷ []))))
+    ≡ (length (canonical lower) + length (canonical upper)) + 4
 and_two_size lower upper = let e = and_size (lower ∷ upper ∷ []) (omega arith) in omega (arith, e)
 
-pub or_two_size : (lower upper : Query) → length (canonical (Or (queries (lower ∷ upper ∷ [])))) ≡ (length (canonical lower) + length (canonical upper)) + 4
+-- an Or of two parts has four bytes beside them
+pub or_two_size : (lower upper : Query) → length (canonical (Or (queries (lower ∷ upper ∷ []))))
+    ≡ (length (canonical lower) + length (canonical upper)) + 4
 or_two_size lower upper = let e = or_size (lower ∷ upper ∷ []) (omega arith) in omega (arith, e)

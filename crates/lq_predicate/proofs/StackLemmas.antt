@@ -12,33 +12,43 @@ use Rattle.lq_predicate.specs.Stacked.{Stacked}
 use Rattle.lq_predicate.specs.Stack.{pushed, after_op, after_comparison, refusal_at}
 
 -- one item in place of the last ones, seen from the top
-pub replaced : (xs ys : List Item) (count : ℕ) (item : Item) → count ≤ length xs → ys ≡ take (length xs - count) xs ++ item ∷ []
-    → reverse ys ≡ item ∷ drop count (reverse xs)
+pub replaced : (xs ys : List Item) (count : ℕ) (item : Item) → count ≤ length xs
+    → ys ≡ take (length xs - count) xs ++ item ∷ [] → reverse ys ≡ item ∷ drop count (reverse xs)
 replaced xs ys count item there is =
     let kept = length xs - count in
     let parts : xs ≡ take kept xs ++ drop kept xs = sym (take-append-drop kept xs) in
-    let turned : reverse xs ≡ reverse (drop kept xs) ++ reverse (take kept xs) = ap reverse parts ∙ reverse-append (take kept xs) (drop kept xs) in
-    let few : length (reverse (drop kept xs)) ≡ count = length-reverse (drop kept xs) ∙ dropped xs count there in
-    let rest : drop count (reverse xs) ≡ reverse (take kept xs) = ap (drop count) turned ∙ drop_at (reverse (drop kept xs)) (reverse (take kept xs)) count few in
+    let turned : reverse xs ≡ reverse (drop kept xs) ++ reverse (take kept xs) =
+    ap reverse parts ∙ reverse-append (take kept xs) (drop kept xs) in
+    let few : length (reverse (drop kept xs)) ≡ count =
+    length-reverse (drop kept xs) ∙ dropped xs count there in
+    let rest : drop count (reverse xs) ≡ reverse (take kept xs) =
+    ap (drop count) turned ∙ drop_at (reverse (drop kept xs)) (reverse (take kept xs)) count few in
     ap reverse is ∙ reverse-append (take kept xs) (item ∷ []) ∙ ap (λ r. item ∷ r) (sym rest)
   where
-    dropped : (xs : List Item) (count : ℕ) → count ≤ length xs → length (drop (length xs - count) xs) ≡ count
+    dropped : (xs : List Item) (count : ℕ) → count ≤ length xs
+        → length (drop (length xs - count) xs) ≡ count
     dropped xs count there = omega (arith, there, length-drop (length xs - count) xs)
 
 -- the stack after one item is put in place of the last ones
 abbrev IsReplaced : List Item → ℕ → ℕ → Item → Stacked → Type 0
 IsReplaced new place count item s =
-    s.pushes + 1 < 2 ^ 64 → count ≤ length s.items → pushed s (item ∷ drop count s.items) ≡ Some (record { items = reverse new; pushes = place + 1 })
+    s.pushes + 1 < 2 ^ 64 → count ≤ length s.items → pushed s (item ∷ drop count s.items)
+    ≡ Some (record { items = reverse new; pushes = place + 1 })
 
+-- a push that can be counted gives the items and one push more
 counted : (place : ℕ) (items items' : List Item) → items ≡ items' → place + 1 < 2 ^ 64
-    → pushed (record { items = []; pushes = place }) items ≡ Some (record { items = items'; pushes = place + 1 })
+    → pushed (record { items = []; pushes = place }) items
+    ≡ Some (record { items = items'; pushes = place + 1 })
 counted place items items' is room = rw is (grind (arith, nat_tests))
 
+-- an item that takes the place of some on top is one push
 pub replaced_view : (stack : Stacked) (inside new : List Item) (place count : ℕ) (item : Item)
-    → record { items = reverse inside; pushes = place } ≡ stack → stack.pushes + 1 < 2 ^ 64 → count ≤ length stack.items
-    → new ≡ take (length inside - count) inside ++ item ∷ []
-    → pushed stack (item ∷ drop count stack.items) ≡ Some (record { items = reverse new; pushes = place + 1 })
-replaced_view stack inside new place count item is room there made = subst (IsReplaced new place count item) is here room there
+    → record { items = reverse inside; pushes = place } ≡ stack → stack.pushes + 1 < 2 ^ 64
+    → count ≤ length stack.items → new ≡ take (length inside - count) inside ++ item ∷ []
+    → pushed stack (item ∷ drop count stack.items)
+    ≡ Some (record { items = reverse new; pushes = place + 1 })
+replaced_view stack inside new place count item is room there made =
+    subst (IsReplaced new place count item) is here room there
   where
     here : IsReplaced new place count item (record { items = reverse inside; pushes = place })
     here room there =
@@ -46,16 +56,19 @@ replaced_view stack inside new place count item is room there made = subst (IsRe
         counted place (item ∷ drop count (reverse inside)) (reverse new) (sym e) room
 
 -- the characters of two lists as plain ones
-pub plain_elements-push : (cs : List ℕ) (c : ℕ) → plain_elements (cs ++ c ∷ []) ≡ plain_elements cs ++ Plain c ∷ []
+pub plain_elements-push : (cs : List ℕ) (c : ℕ)
+    → plain_elements (cs ++ c ∷ []) ≡ plain_elements cs ++ Plain c ∷ []
 plain_elements-push [] c = refl
 plain_elements-push (d ∷ cs) c = ap (λ es. Plain d ∷ es) (plain_elements-push cs c)
 
+-- a list whose members stay is the same list
 pub map-same : (cs : List ℕ) → map (λ c. c) cs ≡ cs
 map-same [] = refl
 map-same (c ∷ cs) = ap (λ ds. c ∷ ds) (map-same cs)
 
 -- every other operator compares
-pub after_op-comparison : (op : StackOp) (items : List Item) → op ≢ And → op ≢ Or → op ≢ Not → after_op op items ≡ after_comparison op items
+pub after_op-comparison : (op : StackOp) (items : List Item) → op ≢ And → op ≢ Or → op ≢ Not
+    → after_op op items ≡ after_comparison op items
 after_op-comparison Eq items a o n = refl
 after_op-comparison Ne items a o n = refl
 after_op-comparison Gt items a o n = refl
@@ -70,7 +83,8 @@ after_op-comparison Or items a o n = absurd (o refl)
 after_op-comparison Not items a o n = absurd (n refl)
 
 -- where the push can be counted, it is refused just where there is nothing to push
-pub refusal-pushed : (stack : Stacked) (place : ℕ) (o : Option (List Item)) → stack.pushes + 1 < 2 ^ 64
+pub refusal-pushed : (stack : Stacked) (place : ℕ) (o : Option (List Item))
+    → stack.pushes + 1 < 2 ^ 64
     → refusal_at place (option_and_then (pushed stack) o) ≡ refusal_at place o
 refusal-pushed stack place None room = refl
 refusal-pushed stack place (Some items) room = grind (arith, nat_tests)

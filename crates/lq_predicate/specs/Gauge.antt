@@ -25,11 +25,13 @@ parts_of (q ∷ []) = One (extent_of q)
 parts_of (q ∷ r ∷ qs) = More (extent_of (And (queries (q ∷ r ∷ qs))))
 
 abbrev pub outline_of : Frame → Outline
-outline_of f = record { or_parts = parts_of f.or_parts; and_parts = parts_of f.and_parts; bangs = f.bangs }
+outline_of f =
+    record { or_parts = parts_of f.or_parts; and_parts = parts_of f.and_parts; bangs = f.bangs }
 
 -- the frame behind `||`
 abbrev pub behind_or : Frame → Frame
-behind_or f = record { or_parts = f.or_parts ++ both_of f.and_parts ∷ []; and_parts = []; bangs = 0 }
+behind_or f =
+    record { or_parts = f.or_parts ++ both_of f.and_parts ∷ []; and_parts = []; bangs = 0 }
 
 abbrev pub awaited_of : Place → Awaited
 awaited_of operand = awaits.Operand
@@ -46,7 +48,8 @@ pub record Shows (g : Gauge) (s : State) : Type 0 where
 
 -- the gauge shows the state behind the token; or none is behind it, and this is its pattern's fault
 abbrev pub IsStepAt : Place → State → Token → Result Gauge (Option ℕ) → Type 0
-IsStepAt p s t (Ok g) = (s' : State) × (step_at p s t ≡ Some s') × (pattern_fault p t ≡ None) × Shows g s'
+IsStepAt p s t (Ok g) =
+    (s' : State) × (step_at p s t ≡ Some s') × (pattern_fault p t ≡ None) × Shows g s'
 IsStepAt p s t (Err k) = (step_at p s t ≡ None) × (pattern_fault p t ≡ k)
 
 abbrev pub IsStepOf : State → Token → Result Gauge (Option ℕ) → Type 0

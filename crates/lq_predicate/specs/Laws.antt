@@ -8,7 +8,9 @@ use Rattle.lq_predicate.specs.Truth.{Look, truth}
 
 -- the truth of a predicate goes by what a row shows under these names alone
 abbrev pub GoesBy : List (List ℕ) → Query → Type 0
-GoesBy names q = (look other : Look) → ((name : List ℕ) → list_any (bytes_eq name) names ≡ true → look name ≡ other name) → truth q look ≡ truth q other
+GoesBy names q = (look other : Look)
+    → ((name : List ℕ) → list_any (bytes_eq name) names ≡ true → look name ≡ other name)
+    → truth q look ≡ truth q other
 
 -- and it goes by the names of its attributes
 abbrev pub TruthGoesByNames : Type 0

@@ -1,4 +1,5 @@
--- Which queries a predicate may be: its literals suit its operators, its lists have two parts or more, and it is within the limits.
+-- Which queries a predicate may be: its literals suit its operators, its
+-- lists have two parts or more, and it is within the limits.
 use Rattle.std.specs.Prelude.{ℕ, suc, Bool, true, ◌&&◌, length, nat_le}
 use Rattle.lq_value.specs.Compare.{suits}
 use Rattle.lq_formula.specs.Canonical.{canonical, depth, comparisons}
@@ -16,13 +17,16 @@ abbrev mutual
   is_formed (And qs) = nat_le 2 (part_count qs) && are_formed qs
   is_formed (Or qs) = nat_le 2 (part_count qs) && are_formed qs
 
+  -- the same of each of some queries
   pub are_formed : Queries → Bool
   are_formed no_more = true
   are_formed (and_then q qs) = is_formed q && are_formed qs
 
--- a predicate has depth 64 at most, 256 comparisons at most, and a canonical text of 4,096 bytes at most
+-- a predicate has depth 64 at most, 256 comparisons at
+-- most, and a canonical text of 4,096 bytes at most
 abbrev pub is_within : Query → Bool
-is_within q = nat_le (depth q) 64 && nat_le (comparisons q) 256 && nat_le (length (canonical q)) 4096
+is_within q =
+    nat_le (depth q) 64 && nat_le (comparisons q) 256 && nat_le (length (canonical q)) 4096
 
 abbrev pub is_predicate : Query → Bool
 is_predicate q = is_formed q && is_within q

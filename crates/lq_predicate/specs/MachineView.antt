@@ -23,7 +23,12 @@ place_of (spots.AfterOp a o) = after_op a o
 place_of spots.AfterOperand = after_operand
 
 abbrev pub state_of : Machine → State
-state_of m = record { below = below_of m.below; top = frame_of m.top; place = place_of m.spot; room = m.room }
+state_of m = record {
+  below = below_of m.below;
+  top = frame_of m.top;
+  place = place_of m.spot;
+  room = m.room;
+}
 
 -- the place in a token where its pattern has a fault, if it is a literal that is read as a pattern
 abbrev pub pattern_fault : Place → Token → Option ℕ

@@ -12,6 +12,7 @@ abbrev mutual
   attributes (And qs) = all_attributes qs
   attributes (Or qs) = all_attributes qs
 
+  -- the same of each of some queries
   pub all_attributes : Queries → List (List ℕ)
   all_attributes no_more = []
   all_attributes (and_then q qs) = attributes q ++ all_attributes qs

@@ -1,4 +1,5 @@
--- The place of a token's fault, where it has no pattern with a fault: a cut text has it at the end of all.
+-- The place of a token's fault, where it has no pattern with
+-- a fault: a cut text has it at the end of all.
 use Rattle.std.specs.Prelude.{ℕ}
 use Rattle.lq_formula.specs.Tokens.{Token, opens, closes, bang, ands, ors, op, word, lone, cut, Placed}
 

@@ -22,7 +22,10 @@ use Rattle.lq_predicate.specs.declared.stack_op.StackOp.TheVariants as stack_op
 
 -- the stack with these items, by one push more that is accepted; the count is one of 64 bits
 abbrev pub pushed : Stacked → List Item → Option Stacked
-pushed stack items = if nat_lt (stack.pushes + 1) (2 ^ 64) then Some (record { items = items; pushes = stack.pushes + 1 }) else None
+pushed stack items =
+    if nat_lt (stack.pushes + 1) (2 ^ 64)
+    then Some (record { items = items; pushes = stack.pushes + 1 })
+    else None
 
 -- an attribute's name
 abbrev pub attr_pushed : List ℕ → Stacked → Option Stacked
@@ -30,13 +33,15 @@ attr_pushed name stack = if is_attr_name name then pushed stack (Attr name ∷ s
 
 -- a text
 abbrev pub text_pushed : List ℕ → Stacked → Option Stacked
-text_pushed text stack = if nat_le (length text) 4096 then pushed stack (Value text ∷ stack.items) else None
+text_pushed text stack =
+    if nat_le (length text) 4096 then pushed stack (Value text ∷ stack.items) else None
 
 -- ---- operators
 
 -- a comparison with a pattern, where there is one
 abbrev pub compared_if : Op → List ℕ → Option (List Element) → Option Query
-compared_if op attr pattern = option_map (λ elements. Compare attr op (literal.Pattern elements)) pattern
+compared_if op attr pattern =
+    option_map (λ elements. Compare attr op (literal.Pattern elements)) pattern
 
 -- the characters of a text as plain ones, with a star before them, behind them or both
 abbrev pub star_if : Bool → List Element
@@ -81,7 +86,8 @@ after_comparison op items = None
 
 -- two predicates, the lower one first
 abbrev pub after_join : (Queries → Query) → List Item → Option (List Item)
-after_join join (Part upper ∷ Part lower ∷ rest) = in_place (Some (join (queries (lower ∷ upper ∷ [])))) rest
+after_join join (Part upper ∷ Part lower ∷ rest) =
+    in_place (Some (join (queries (lower ∷ upper ∷ [])))) rest
 after_join join items = None
 
 abbrev pub after_not : List Item → Option (List Item)

@@ -14,4 +14,5 @@ new_stack = record { items = []; pushes = 0 }
 -- how the logic stores it
 abbrev pub coded_stacked : Coded Stacked
 coded_stacked =
-    code_by (List Item × ℕ) (coded× (coded_list item.the_row.coded) coded_ℕ) (λ s. (s.items, s.pushes)) (λ p. record { items = p.0; pushes = p.1 }) (λ _. refl)
+    code_by (List Item × ℕ) (coded× (coded_list item.the_row.coded) coded_ℕ)
+    (λ s. (s.items, s.pushes)) (λ p. record { items = p.0; pushes = p.1 }) (λ _. refl)

@@ -22,10 +22,12 @@ abbrev mutual
   truth (And qs) look = all_true qs look
   truth (Or qs) look = some_true qs look
 
+  -- whether each of some queries holds
   pub all_true : Queries → Look → Bool
   all_true no_more look = true
   all_true (and_then q qs) look = truth q look && all_true qs look
 
+  -- whether one of some queries holds
   pub some_true : Queries → Look → Bool
   some_true no_more look = false
   some_true (and_then q qs) look = truth q look || some_true qs look

@@ -209,7 +209,8 @@ pub(crate) fn read_token(
     token: &Token,
 ) -> Result<Machine, StepFault>
     requires { weight (state_of machine) ≤ 64 }
-    ensures ok { IfOk result (λ m. step (state_of machine) (token_of token.now) ≡ Some (state_of m)) }
+    ensures ok { IfOk result
+        (λ m. step (state_of machine) (token_of token.now) ≡ Some (state_of m)) }
     ensures fine { OnOk result (pattern_fault (place_of machine.spot) (token_of token.now) ≡ None) }
     ensures err { IfErr result (λ e. e ≡ Refused
         → (step (state_of machine) (token_of token.now) ≡ None)

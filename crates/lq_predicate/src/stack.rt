@@ -152,8 +152,8 @@ impl Stack {
     /// The predicate that an operator makes of the items on top, in their place.
     ///
     /// A comparison takes a value on top and an attribute below it, `And` and `Or` two predicates,
-    /// `Not` one. Refused, the first that fits: `BadQuery` where these are not there, the text is no
-    /// pattern for `Eq` and `Ne`, the predicate would pass a limit, or no further push can be
+    /// `Not` one. Refused, the first that fits: `BadQuery` where these are not there, the text is
+    /// no pattern for `Eq` and `Ne`, the predicate would pass a limit, or no further push can be
     /// counted, with its place as in `push_attr`; `NoMemory`. A refused call changes nothing.
     pub fn push_op(&mut self, op: StackOp) -> Result<(), Refusal>
         ensures ok { OnOk result (op_pushed op self.old ≡ Some self.new) }

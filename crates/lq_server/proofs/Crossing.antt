@@ -52,6 +52,7 @@ predicate_send =
       found_op.the_send,
     ) depth 20
 
+-- a subscription may go to another thread
 sub_send : IsSend sub.the_row
 sub_send =
     search (
@@ -63,15 +64,19 @@ sub_send =
       found_mark.the_send,
     ) depth 20
 
+-- the end of a port that puts may go to another thread
 in_send : IsSend (port_in.the_row delivery.the_row opening_at.the_row ghosts)
 in_send = found_in.the_send delivery.the_row opening_at.the_row ghosts found_delivery.the_send
 
+-- a slot may go to another thread
 slot_send : IsSend slot.the_row
 slot_send = search (sendable, crosses, sub_send, in_send) depth 20
 
+-- the slots and the keeper of the board may go to another thread
 slots_send : IsSend slots.the_row
 slots_send = search (sendable, crosses, slot_send, found_keeper.the_send) depth 20
 
+-- a marker without a value may go to another thread
 phantom_send : (N : RattleType) → IsSend (phantom.the_row N)
 phantom_send N = search (sendable, crosses) depth 20
 
@@ -83,9 +88,11 @@ locked_send N g =
     (search (sendable, crosses, slots_send, found_volume.the_send, phantom_send N)
     depth 40))
 
+-- a lock may be shared by threads, whatever its name
 mutex_sync : (N : RattleType) (g : Ghosts N.Denot) → IsSync (mutex.the_row (locked.the_row N g))
 mutex_sync N g = search (sendable, crosses, locked_send N g) depth 20
 
+-- the board may be shared by threads
 board_sync : IsSync (board.the_row identity.the_row)
 board_sync = search (sendable, crosses, found_board.the_sync) depth 20
 
@@ -99,5 +106,6 @@ server_sync N g =
 pub mark_send : (M : RattleType) → IsSend (mark.the_row M)
 mark_send M = search (sendable, crosses) depth 20
 
+-- the mark of a server may be shared by threads, whatever its name
 pub mark_sync : (M : RattleType) → IsSync (mark.the_row M)
 mark_sync M = search (sendable, crosses) depth 20

@@ -124,9 +124,11 @@ module _ (s : Subscription) (old new : ReaderHold) (l : Progress)
     (lv : ShowsProgress s old.seat new.seat old.reading new.reading l)
     (same : (new.slot ≡ old.slot) × (new.asked ≡ old.asked)) (r : IsTold old.reading)
     (own : IsOwn old) where
+  -- the reader's end of the port before the sync
   abbrev d : End Delivery Opening
   d = old.reading.port
 
+  -- the reader's end of the port after it
   abbrev e : End Delivery Opening
   e = new.reading.port
 
@@ -169,6 +171,7 @@ module _ (s : Subscription) (old new : ReaderHold) (l : Progress)
       ap messages_in lv.taken ∙ r.all
       ∙ (λ i. sym received_same i ++ option_to_list (sym lv.hand i))
 
+  -- what was put is what was taken and what is in the port
   put_is : all_put s.input ≡ e.taken ++ e.ahead
   put_is = sym lv.all
 
@@ -244,6 +247,7 @@ module _ (s : Subscription) (old new : ReaderHold) (l : Progress)
       let hand = hand-length new.reading.hand in
       omega (arith, length-append (option_to_list new.reading.hand) (messages_in e.ahead))
 
+  -- the parcels in the port can be counted in a word
   pub ahead_few : length e.ahead < 2 ^ 63
   ahead_few =
       omega (
@@ -253,6 +257,7 @@ module _ (s : Subscription) (old new : ReaderHold) (l : Progress)
         bit-few (in_port s.sub.held.mark_out (is_some (mark_read new.reading))),
       )
 
+  -- a mark that waits is one of the parcels in the port, or one is in hand
   pub marks_few : bit (in_port s.sub.held.mark_out (is_some (mark_read new.reading)))
       ≤ length e.ahead + bit (is_some new.reading.hand)
   marks_few = omega (arith, waiting_is)
@@ -273,6 +278,7 @@ module _ (s : Subscription) (old new : ReaderHold) (l : Progress)
         length-append (option_to_list new.reading.hand) (messages_in e.ahead),
       )
 
+  -- the port's two ends know the same number of places
   places_is : e.places ≡ s.places
   places_is = lv.port.1 ∙ sym mine.0.places
 

@@ -36,7 +36,8 @@ updates-none : (q : Query) (mv : Bool) (b : Book) (m : ℕ) → updates q mv b m
 unfolding updates
 updates-none q mv b m =
     let none : m - m ≡ 0 = omega arith in
-    ap (λ (n : ℕ). updates_from q mv (state_at b m) (take n (drop (m - b.start.number) b.changes)) 1) none
+    ap (λ (n : ℕ).
+    updates_from q mv (state_at b m) (take n (drop (m - b.start.number) b.changes)) 1) none
 
 -- a book extends itself
 extends_self : (b : Book) → Extends b b

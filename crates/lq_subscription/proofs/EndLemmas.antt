@@ -108,17 +108,21 @@ module _ (h : Held) (e : End Delivery Opening) (places : ℕ) (shut : Shut) (boo
             c));
       }
 
+  -- while there is no mark, none is out
   none_out : h.mark ≡ None → h.mark_out ≡ true → ⊥
   none_out live f = let z : IsSome {T = Mark} None =
       subst IsSome live (s.done f).1 in true≢false (sym z)
 
   module _ (live : h.mark ≡ None) where
+    -- a live subscription covers the whole book
     now_is : upto h.mark (length book.changes) ≡ length book.changes
     now_is = ap (λ o. upto o (length book.changes)) live
 
+    -- what was given is all updates of the book so far
     old_is : given h e ≡ updates h.query h.moved book h.opened (length book.changes)
     old_is = s.list ∙ ap (updates h.query h.moved book h.opened) now_is
 
+    -- the opening is within the book
     opened_is : h.opened ≤ length book.changes
     opened_is = subst (λ n. h.opened ≤ n) now_is s.opened
 
@@ -154,12 +158,14 @@ module _ (h : Held) (e : End Delivery Opening) (places : ℕ) (shut : Shut) (boo
           overrun = over;
         }
 
+    -- a live subscription that ends by a hang-up stands
     pub ends_hung : Stands (ended_by h HungUp (length book.changes)) e places shut book
     ends_hung =
         ends book HungUp shut (extends_self book) s.full
         (never shut (record { seq = h.sent + 1; change = length book.changes; cause = HungUp }) tt
         (subst (ShutFits shut) live s.shut)) (λ c. absurd (cc))
 
+    -- a live subscription that is closed stands, closed at this change
     pub ends_closed : Stands (ended_by h Closed (length book.changes)) e places
         (At (length book.changes)) book
     ends_closed =
@@ -168,15 +174,19 @@ module _ (h : Held) (e : End Delivery Opening) (places : ℕ) (shut : Shut) (boo
 
     module _ (c : Change) (full' : IsFullBook (grown book (c ∷ [])))
         (three : length (step_of h.query h.moved (state_of book) c (h.sent + 1)) ≤ 3) where
+      -- the updates of the change
       abbrev more : List Message
       more = step_of h.query h.moved (state_of book) c (h.sent + 1)
 
+      -- the book with the change
       abbrev book' : Book
       book' = grown book (c ∷ [])
 
+      -- the book is longer by the change
       long : length book'.changes ≡ length book.changes + 1
       long = length-append book.changes (c ∷ [])
 
+      -- the updates of the longer book are what was given and those of the change
       now : updates h.query h.moved book' h.opened (length book.changes + 1) ≡ given h e ++ more
       now =
           let count : length (updates h.query h.moved book h.opened (length book.changes)) + 1
@@ -184,6 +194,7 @@ module _ (h : Held) (e : End Delivery Opening) (places : ℕ) (shut : Shut) (boo
           updates-add h.query h.moved book c h.opened s.full.first opened_is
           ∙ (λ i. sym old_is i ++ step_of h.query h.moved (state_of book) c (count i))
 
+      -- with the change's updates held, the subscription stands over the longer book
       goes_on : Stands (with_messages h more) e places shut book'
       goes_on =
           let e2 : upto h.mark (length book'.changes) ≡ length book.changes + 1 =
@@ -217,6 +228,7 @@ module _ (h : Held) (e : End Delivery Opening) (places : ℕ) (shut : Shut) (boo
           }
 
       module _ (filled : 0 < length h.messages → places ≤ length (messages_in (all_put e))) where
+        -- more updates than the backlog takes are an overrun
         over_is : 0 < length more → h.backlog < length h.messages + length more
             → IsOverrun h.query h.moved h.opened places h.backlog book' (length book.changes)
         over_is some many =
@@ -238,6 +250,7 @@ module _ (h : Held) (e : End Delivery Opening) (places : ℕ) (shut : Shut) (boo
                   filled (omega arith) in omega arith;
             }
 
+        -- the subscription stands after the change, by whether it overruns
         by_test : (b : Bool) → overruns h more ≡ b
             → Stands (told_if h more (length book.changes) b) e places shut book'
         by_test true test =
@@ -249,6 +262,7 @@ module _ (h : Held) (e : End Delivery Opening) (places : ℕ) (shut : Shut) (boo
             (λ _. over_is (lt_true _ _ t.0) (lt_true _ _ t.1))
         by_test false test = goes_on
 
+        -- after each change, the subscription stands over the longer book
         pub told_stands : Stands (told h more (length book.changes)) e places shut book'
         told_stands = by_test (overruns h more) refl
 

@@ -67,6 +67,7 @@ module _ (h : Held) (d : End Delivery Opening) (places : ℕ) (shut : Shut) (boo
   open_with : (m : Message) (rest : List Message) → h.messages ≡ m ∷ rest → h.mark_out ≡ true → ⊥
   open_with m rest held e = cons_some m rest (sym held ∙ (s.done e).0)
 
+  -- the first message held is the next update of the book
   tells_update : (m : Message) → h.messages ≡ m ∷ drop 1 h.messages
       → Tells d.floor (messages_in (all_put d)) book (Update m)
   tells_update m held =
@@ -85,6 +86,7 @@ module _ (h : Held) (d : End Delivery Opening) (places : ℕ) (shut : Shut) (boo
       (updates t.0 t.1 book t.2 (length book.changes)))
       (λ i. (sym s.query i, sym s.moves i, sym s.opening i)) front
 
+  -- a mark that is held, with no message before it, is the mark of what was put
   tells_mark : (k : Mark) → (h.messages ≡ []) × (h.mark ≡ Some k) × (h.mark_out ≡ false)
       → IsMark d.floor (messages_in (all_put d)) book k
   tells_mark k n =
@@ -104,10 +106,12 @@ module _ (h : Held) (d : End Delivery Opening) (places : ℕ) (shut : Shut) (boo
         within = fits.1;
       }
 
+  -- while a parcel is next, no mark was put
   unput : (p : Parcel) → NextIs h.messages h.mark h.mark_out p → mark_in (all_put d) ≡ None
   unput (Update m) n = s.out ∙ not_moved h.mark_out h.mark (open_with m (drop 1 h.messages) n)
   unput (Fin k) n = s.out ∙ ap (λ b. moved_mark b h.mark) n.2
 
+  -- the next parcel is the one that the book tells
   tells : (p : Parcel) → NextIs h.messages h.mark h.mark_out p
       → Tells d.floor (messages_in (all_put d)) book p
   tells (Update m) n = tells_update m n
@@ -126,28 +130,33 @@ module _ (h : Held) (d : End Delivery Opening) (places : ℕ) (shut : Shut) (boo
             (λ i. (sym at i, sym is i)) (tells p n);
       }
 
+  -- a parcel that leaves what is held changes nothing else of it
   same_held : (p : Parcel) → SameHeld h (without h (Some p))
   same_held (Update m) =
       record { query = refl; moved = refl; opened = refl; backlog = refl; sent = refl; mark = refl }
   same_held (Fin k) =
       record { query = refl; moved = refl; opened = refl; backlog = refl; sent = refl; mark = refl }
 
+  -- the parcel's message and those still held are the messages that were held
   messages_then : (p : Parcel) → NextIs h.messages h.mark h.mark_out p
       → message_of p ++ (without h (Some p)).messages ≡ h.messages
   messages_then (Update m) n = sym n
   messages_then (Fin k) n = refl
 
+  -- the mark is out just where the parcel is the mark
   out_then : (p : Parcel) → NextIs h.messages h.mark h.mark_out p
       → mark_or p None ≡ moved_mark (without h (Some p)).mark_out (without h (Some p)).mark
   out_then (Update m) n = sym (not_moved h.mark_out h.mark (open_with m (drop 1 h.messages) n))
   out_then (Fin k) n = sym n.1
 
+  -- where the mark is out, no message is held, and there is a mark
   done_then : (p : Parcel) → NextIs h.messages h.mark h.mark_out p
       → (without h (Some p)).mark_out ≡ true → ((without h (Some p)).messages ≡ [])
       × IsSome (without h (Some p)).mark
   done_then (Update m) n e = absurd (open_with m (drop 1 h.messages) n e)
   done_then (Fin k) n e = (n.0, subst IsSome (sym n.1) refl)
 
+  -- one parcel less is left to put
   left_then : (p : Parcel) → NextIs h.messages h.mark h.mark_out p
       → left_of (without h (Some p)) < left_of h
   left_then (Update m) n = let long : length h.messages ≡ suc (length (drop 1 h.messages)) =
@@ -159,14 +168,17 @@ module _ (h : Held) (d : End Delivery Opening) (places : ℕ) (shut : Shut) (boo
 
   module _ (e : End Delivery Opening) (p : Parcel) (x : Delivery) (next : next_parcel h ≡ Some p)
       (is : x.what ≡ p) (at : book_of x ≡ book) (port : IsSamePort d e) (gains : Gains d x e) where
+    -- the parcel is the last of all that was put
     all_then : all_put e ≡ all_put d ++ x ∷ []
     all_then = (λ i. gains.0 i ++ gains.1 i) ∙ sym (append_assoc d.taken d.ahead (x ∷ []))
 
+    -- the parcel's message is the last of all that were put
     put_messages : messages_in (all_put e) ≡ messages_in (all_put d) ++ message_of p
     put_messages =
         ap messages_in all_then ∙ messages_in-snoc (all_put d) x
         ∙ ap (λ z. messages_in (all_put d) ++ message_of z) is
 
+    -- what was given stays: one parcel more is put, one less is held
     pub given_then : given (without h (Some p)) e ≡ given h d
     given_then =
         ap (λ l. l ++ (without h (Some p)).messages) put_messages
@@ -211,9 +223,11 @@ module _ (h : Held) (d : End Delivery Opening) (places : ℕ) (shut : Shut) (boo
               s.overrun;
         }
 
+    -- the put changes nothing but what is held
     pub put_same : SameHeld h (without h (Some p))
     put_same = same_held p
 
+    -- after the put, one parcel less is left
     pub put_left : left_of (without h (Some p)) < left_of h
     put_left = left_then p (next_is h.messages h.mark h.mark_out p next)
 

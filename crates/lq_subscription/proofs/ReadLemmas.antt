@@ -96,6 +96,7 @@ front_of (p ∷ ps) x rest e = (ap what_of e.0, ap (map what_of) e.1)
 -- the message in hand is folded, or stays
 module _ (law : RebuildsTakeAll) (e : End Delivery Opening) (result : Folding) (m : Message)
     (ended : Bool) (r : Reads e result (Some m) ended) where
+  -- the message in hand is not refused by the fold
   pub hand_fits : first_refusal (fold_refusals result m) ≡ None
   hand_fits =
       subst (λ (g : Folding). first_refusal (fold_refusals g m) ≡ None) (sym r.folds)
@@ -104,6 +105,7 @@ module _ (law : RebuildsTakeAll) (e : End Delivery Opening) (result : Folding) (
       (subst (λ (l : List Message). IsPrefix l (whole e.floor (known_by e.floor e.taken))) r.all
       r.legal_list.front))
 
+  -- when the message in hand is folded, the reader has read it
   pub kept_hand : (result' : Folding) (hand' : Option Message) → (result' ≡ folding_after result m)
       × (hand' ≡ None) → Reads e result' hand' ended
   kept_hand result' hand' is =
@@ -118,12 +120,14 @@ module _ (law : RebuildsTakeAll) (e : End Delivery Opening) (result : Folding) (
         no_hand = λ _. is.1;
       }
 
+  -- when the message stays in hand, the reader has read what it had
   pub stays_hand : (result' : Folding) (hand' : Option Message) → (result' ≡ result)
       × (hand' ≡ Some m) → Reads e result' hand' ended
   stays_hand result' hand' is =
       subst (λ (z : Folding × Option Message). Reads e z.0 z.1 ended)
       (λ i. (sym is.0 i, sym is.1 i)) r
 
+  -- when the message in hand is folded, the read gives its update
   pub gives_hand : (result' : Folding) (hand' : Option Message) → (result' ≡ folding_after result m)
       × (hand' ≡ None) → Gives (hold e (Some m) result) (hold e hand' result') (Update m)
   unfolding kept_hand
@@ -141,6 +145,7 @@ module _ (law : RebuildsTakeAll) (e : End Delivery Opening) (result : Folding) (
         refl,
       )
 
+  -- when the message stays in hand, the read fails and nothing else has changed
   pub fails_hand : (result' : Folding) (hand' : Option Message) → (result' ≡ result)
       × (hand' ≡ Some m) → Fails (hold e (Some m) result) (hold e hand' result')
   fails_hand result' hand' is = (
@@ -156,23 +161,28 @@ module _ (law : RebuildsTakeAll) (e : End Delivery Opening) (result : Folding) (
 -- the end after a parcel was taken
 module _ (d e : End Delivery Opening) (x : Delivery) (same : IsSamePort d e) (loses : Loses d x e)
     (comes : MayFollow d.taken d.floor x) where
+  -- the book that the reader knows grows with the parcel
   pub later : Extends (known_by e.floor e.taken) (known_by d.floor d.taken)
   later =
       let at : known_by e.floor e.taken ≡ book_of x =
       ap (known_by e.floor) loses.0 ∙ last_book-snoc (floor_of e.floor) d.taken x in
       subst (λ (b : Book). Extends b (known_by d.floor d.taken)) (sym at) comes.later
 
+  -- with the parcel, what was taken is still a list that the port allows
   legal_list_then : LegalList d.floor d.taken → LegalList e.floor e.taken
   legal_list_then f =
       subst (λ (z : Opening × List Delivery). LegalList z.0 z.1)
       (λ i. (sym same.2 i, sym loses.0 i)) (legal_list-step d.floor d.taken x f comes)
 
+  -- the parcel's message is the last that was taken
   messages_then : messages_in e.taken ≡ messages_in d.taken ++ message_of x.what
   messages_then = ap messages_in loses.0 ∙ messages_in-snoc d.taken x
 
+  -- the mark that was taken is the parcel's, if it is one
   mark_then : mark_in e.taken ≡ mark_or x.what None
   mark_then = ap mark_in loses.0 ∙ mark_in-append d.taken (x ∷ []) comes.open_yet
 
+  -- the parcel stood in front of those that wait
   ready_then : (hand : Option Message) (w : Parcel) → x.what ≡ w
       → IsFront (map what_of d.ahead) w (map what_of e.ahead)
   ready_then hand w is =
@@ -181,21 +191,26 @@ module _ (d e : End Delivery Opening) (x : Delivery) (same : IsSamePort d e) (lo
 
   module _ (result : Folding) (hand : Option Message) (ended : Bool) (none : hand ≡ None)
       (live : ended ≡ false) (r : Reads d result hand ended) where
+    -- with nothing in hand, the messages that were taken are those that were read
     bare : messages_in d.taken ≡ r.got
     bare = r.all ∙ ap (λ (o : Option Message). r.got ++ option_to_list o) none ∙ append-nil r.got
 
+    -- the messages that the reader has received are those that were read
     got_is : received (hold d hand result) ≡ r.got
     got_is = received_is d hand result r.got r.all
 
+    -- with nothing in hand, the parcels that are ready are those in the port
     old_ready : ready (hold d hand result) ≡ map what_of d.ahead
     old_ready =
         ap (λ (o : Option Message). map (λ m. told_update m) (option_to_list o) ++ map what_of
         d.ahead) none
 
     module _ (m : Message) (is : x.what ≡ told_update m) where
+      -- the message is the last that was taken
       told_then : messages_in e.taken ≡ r.got ++ m ∷ []
       told_then = messages_then ∙ (λ i. bare i ++ message_of (is i))
 
+      -- the message is not refused by the fold
       pub update_fits : RebuildsTakeAll → first_refusal (fold_refusals result m) ≡ None
       update_fits law =
           let f = legal_list_then r.legal_list in
@@ -206,6 +221,7 @@ module _ (d e : End Delivery Opening) (x : Delivery) (same : IsSamePort d e) (lo
           (subst (λ (l : List Message). IsPrefix l (whole e.floor (known_by e.floor e.taken)))
           told_then f.front))
 
+      -- when the message is folded, the reader has read it
       pub took : (result' : Folding) (hand' : Option Message) → (result' ≡ folding_after result m)
           × (hand' ≡ None) → Reads e result' hand' ended
       took result' hand' at =
@@ -222,6 +238,7 @@ module _ (d e : End Delivery Opening) (x : Delivery) (same : IsSamePort d e) (lo
             no_hand = λ _. at.1;
           }
 
+      -- when the message stays in hand, the reader has taken it and not read it
       pub took_in_hand : (result' : Folding) (hand' : Option Message) → (result' ≡ result)
           × (hand' ≡ Some m) → Reads e result' hand' ended
       took_in_hand result' hand' at =
@@ -235,6 +252,7 @@ module _ (d e : End Delivery Opening) (x : Delivery) (same : IsSamePort d e) (lo
             no_hand = λ f. absurd (true≢false (sym f ∙ live));
           }
 
+      -- when the message is folded, the read gives its update
       pub took_gives : (result' : Folding) (hand' : Option Message)
           → (result' ≡ folding_after result m) × (hand' ≡ None)
           → Gives (hold d hand result) (hold e hand' result') (Update m)
@@ -251,6 +269,7 @@ module _ (d e : End Delivery Opening) (x : Delivery) (same : IsSamePort d e) (lo
             mark_then ∙ ap (λ w. mark_or w None) is ∙ sym comes.open_yet,
           )
 
+      -- when the message stays in hand, the read fails and nothing is lost
       pub took_fails : (result' : Folding) (hand' : Option Message) → (result' ≡ result)
           × (hand' ≡ Some m) → Fails (hold d hand result) (hold e hand' result')
       unfolding took_in_hand
@@ -267,12 +286,15 @@ module _ (d e : End Delivery Opening) (x : Delivery) (same : IsSamePort d e) (lo
           )
 
     module _ (k : Mark) (is : x.what ≡ told_fin k) where
+      -- the mark was taken
       marked : mark_in e.taken ≡ Some k
       marked = mark_then ∙ ap (λ w. mark_or w None) is
 
+      -- with the mark, no message more was taken
       fin_then : messages_in e.taken ≡ r.got
       fin_then = messages_then ∙ (λ i. bare i ++ message_of (is i)) ∙ append-nil r.got
 
+      -- when the mark is taken, the reader has ended
       pub took_mark : (hand' : Option Message) → hand' ≡ None → Reads e result hand' true
       took_mark hand' bare' =
           record {
@@ -286,6 +308,7 @@ module _ (d e : End Delivery Opening) (x : Delivery) (same : IsSamePort d e) (lo
             no_hand = λ _. bare';
           }
 
+      -- when the mark is taken, the read gives it
       pub gives_mark : (hand' : Option Message) → hand' ≡ None
           → Gives (hold d hand result) (hold e hand' result) (Fin k)
       unfolding took_mark
@@ -460,15 +483,18 @@ marked_result law follow r told shown now (Some k) is =
 
 -- a result's cases
 module _ {A E : Type 0} where
+  -- what follows from what holds of an error holds of it
   pub on_err : (r : Result A E) (P Q : Type 0) → OnErr r P → (P → Q) → OnErr r Q
   on_err (Ok a) P Q h f = tt
   on_err (Err e) P Q h f = f h
 
+  -- what follows from what holds of an answer, which is known, holds of it
   pub ok_with : (r : Result A E) (P : Type 0) (x : A) (Q : A → Type 0) → OnOk r P
       → IfOk r (λ a. a ≡ x) → (P → Q x) → IfOk r Q
   ok_with (Ok a) P x Q h is f = subst Q (sym is) (f h)
   ok_with (Err e) P x Q h is f = tt
 
+  -- what follows from what holds of an answer, and of an error, holds
   pub either : (r : Result A E) (P P' Q : Type 0) → OnOk r P → OnErr r P' → (P → Q) → (P' → Q) → Q
   either (Ok a) P P' Q h h' f f' = f h
   either (Err e) P P' Q h h' f f' = f' h'

@@ -1,3 +1,5 @@
+-- Read in this order. Matching: PatternLemmas, MatchingLemmas. Reading a source: PieceLemmas,
+-- ReadingLemmas, WrittenLemmas, SourceLemmas, SourceLaws.
 pub mod PatternLemmas
 pub mod MatchingLemmas
 pub mod PieceLemmas

@@ -27,7 +27,8 @@ IsAtStar (Plain d ∷ es) = ⊥
 IsAtStar (Set negated items ∷ es) = ⊥
 
 -- the first element takes the first character, and these are left
-pub record TakesOne (es : List Element) (cs : List ℕ) (es' : List Element) (cs' : List ℕ) : Type 0 where
+pub record TakesOne (es : List Element) (cs : List ℕ) (es' : List Element)
+    (cs' : List ℕ) : Type 0 where
   pub e : Element
   pub c : ℕ
   pub elements : es ≡ e ∷ es'
@@ -40,7 +41,8 @@ IsTaken AtStar es cs = IsAtStar es
 IsTaken Never es cs = fits es cs ≡ false
 
 -- single elements took a character each, and these elements and characters are left
-pub record Passes (es : List Element) (cs : List ℕ) (es' : List Element) (cs' : List ℕ) : Type 0 where
+pub record Passes (es : List Element) (cs : List ℕ) (es' : List Element)
+    (cs' : List ℕ) : Type 0 where
   pub piece : List Element
   pub run : List ℕ
   pub elements : es ≡ piece ++ es'
@@ -50,12 +52,14 @@ pub record Passes (es : List Element) (cs : List ℕ) (es' : List Element) (cs' 
   pub fit : fits es cs ≡ fits es' cs'
 
 -- the same up to the next star
-pub record PassesToStar (es : List Element) (cs : List ℕ) (es' : List Element) (cs' : List ℕ) : Type 0 where
+pub record PassesToStar (es : List Element) (cs : List ℕ) (es' : List Element)
+    (cs' : List ℕ) : Type 0 where
   pub passes : Passes es cs es' cs'
   pub star : IsAtStar es'
 
 -- the elements up to the next star fit at some place behind which what is left decides
-pub record Finds (es : List Element) (cs : List ℕ) (es' : List Element) (cs' : List ℕ) : Type 0 where
+pub record Finds (es : List Element) (cs : List ℕ) (es' : List Element)
+    (cs' : List ℕ) : Type 0 where
   pub same : some_rest (fits es) cs ≡ fits es' cs'
   pub star : IsAtStar es'
   pub shorter : length es' ≤ length es

@@ -10,9 +10,11 @@ is_name_byte b = not (b == 47) && not (b == 0)
 -- 1 to 255 bytes without `/` and NUL, and neither `.` nor `..`
 abbrev pub is_name : List ℕ → Bool
 is_name bytes =
-    not (length bytes == 0) && nat_le (length bytes) 255 && not (bytes_eq bytes (codes ".")) && not (bytes_eq bytes (codes ".."))
+    not (length bytes == 0) && nat_le (length bytes) 255 && not (bytes_eq bytes (codes "."))
+    && not (bytes_eq bytes (codes ".."))
     && list_all is_name_byte bytes
 
 -- 1 to 255 bytes without NUL
 abbrev pub is_attr_name : List ℕ → Bool
-is_attr_name bytes = not (length bytes == 0) && nat_le (length bytes) 255 && list_all (λ b. not (b == 0)) bytes
+is_attr_name bytes =
+    not (length bytes == 0) && nat_le (length bytes) 255 && list_all (λ b. not (b == 0)) bytes

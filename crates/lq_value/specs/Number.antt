@@ -1,5 +1,6 @@
--- The whole number that a text writes: an optional `-` and 1 to 20 decimal digits, and nothing else.
--- A text is seen as the codes of its characters, or as its bytes: what writes a number has the same.
+-- The whole number that a text writes: an optional `-` and 1 to 20 decimal digits, and nothing
+-- else. A text is seen as the codes of its characters, or as its bytes: what writes a number has
+-- the same.
 use Rattle.std.specs.Prelude.{ℕ, ℤ, pos, neg_ℤ, List, [], ◌∷◌, length, ◌&&◌, ◌==◌, nat_le, Option, Some, None, if◌then◌else◌}
 use Rattle.std.specs.Option.{option_map}
 use Rattle.std.specs.List.{list_all}
@@ -8,9 +9,15 @@ use Rattle.std.specs.Str.Parse.{digits_value}
 
 -- the number that digits alone write, where there are 1 to 20 of them
 abbrev pub digits_number : List ℕ → Option ℕ
-digits_number cs = if nat_le 1 (length cs) && nat_le (length cs) 20 && list_all is_ascii_digit cs then Some (digits_value 10 cs) else None
+digits_number cs =
+    if nat_le 1 (length cs) && nat_le (length cs) 20 && list_all is_ascii_digit cs
+    then Some (digits_value 10 cs)
+    else None
 
 -- the number with an optional `-`; leading zeros are allowed, and `-0` is 0
 abbrev pub number_of : List ℕ → Option ℤ
 number_of [] = None
-number_of (c ∷ cs) = if c == 45 then option_map (λ n. neg_ℤ (pos n)) (digits_number cs) else option_map pos (digits_number (c ∷ cs))
+number_of (c ∷ cs) =
+    if c == 45
+    then option_map (λ n. neg_ℤ (pos n)) (digits_number cs)
+    else option_map pos (digits_number (c ∷ cs))

@@ -1,5 +1,5 @@
--- When a pattern fits a text: some split of the text into one part for each element, in order, has each
--- part fit its element. A text is seen as its characters.
+-- When a pattern fits a text: some split of the text into one part for each element,
+-- in order, has each part fit its element. A text is seen as its characters.
 use Rattle.std.specs.Prelude.{◌≡◌, ℕ, ℤ, List, [], ◌∷◌, ◌++◌, Bool, true, false, not, ◌&&◌, ◌||◌, Option, Some, None, option_and_then}
 use Rattle.std.specs.Option.{option_map}
 use Rattle.std.specs.Str.{chars, encode_utf8_all}
@@ -20,7 +20,8 @@ IsPart (Set negated items) part = (c : ℕ) × (part ≡ c ∷ []) × (set_has i
 
 abbrev pub Fits : List Element → List ℕ → Type 0
 Fits [] text = text ≡ []
-Fits (e ∷ es) text = (part : List ℕ) × (rest : List ℕ) × (text ≡ part ++ rest) × IsPart e part × Fits es rest
+Fits (e ∷ es) text =
+    (part : List ℕ) × (rest : List ℕ) × (text ≡ part ++ rest) × IsPart e part × Fits es rest
 
 -- ---- the same as a test
 
@@ -71,5 +72,6 @@ elements_of (Elements elements) = elements.items
 
 -- a form is a text just where all elements are plain, and has the number that it writes
 abbrev pub IsTextIfPlain : Form → Type 0
-IsTextIfPlain (PlainText text number) = number ≡ pattern_number (plain_elements (chars (string_bytes text)))
+IsTextIfPlain (PlainText text number) =
+    number ≡ pattern_number (plain_elements (chars (string_bytes text)))
 IsTextIfPlain (Elements elements) = plain_chars elements.items ≡ None

@@ -42,7 +42,8 @@ AreGathered items (Ok gathered) = gathered ≡ items
 AreGathered items (Err e) = (e ≡ NoMemory) × (items ≡ [] → ⊥)
 
 -- the items of the set, with what stands behind it
-pub record ReadsItems (ss : List Sign) (gathered : Result (List Item) Refusal) (rest : List Sign) : Type 0 where
+pub record ReadsItems (ss : List Sign) (gathered : Result (List Item) Refusal)
+    (rest : List Sign) : Type 0 where
   pub items : List Item
   pub pieces : pieces_of item_at ss ≡ whole items rest
   pub are : AreGathered items gathered
@@ -53,7 +54,8 @@ IsFound element (Ok found) = found ≡ element
 IsFound element (Err e) = e ≡ NoMemory
 
 -- the element that is first, with what stands behind it
-pub record HasElement (first : First Element) (found : Result Element Refusal) (rest : List ℕ) : Type 0 where
+pub record HasElement (first : First Element) (found : Result Element Refusal)
+    (rest : List ℕ) : Type 0 where
   pub element : Element
   pub is : first ≡ has element (signs_of rest)
   pub kept : IsFound element found
@@ -65,7 +67,8 @@ IsFirst first (first_element.Has found rest) = HasElement first found rest.now
 IsFirst first first_element.Faulty = first ≡ faulty
 
 -- one element more, or no memory, for these or before
-abbrev pub IsWithElement : Result (Vec Element) Refusal → Result Element Refusal → Result (Vec Element) Refusal → Type 0
+abbrev pub IsWithElement : Result (Vec Element) Refusal
+    → Result Element Refusal → Result (Vec Element) Refusal → Type 0
 IsWithElement (Ok elements) (Ok element) (Ok more) = more.items ≡ elements.items ++ element ∷ []
 IsWithElement (Ok elements) (Ok element) (Err e) = e ≡ NoMemory
 IsWithElement (Ok elements) (Err e) (Ok more) = ⊥

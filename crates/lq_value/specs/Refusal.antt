@@ -66,6 +66,8 @@ abbrev pub first_refusal : List (Bool × Refusal) → Option Refusal
 first_refusal [] = None
 first_refusal (row ∷ rows) = if row.0 then Some row.1 else first_refusal rows
 
--- The call is refused just where `refusal` is one, and with that one. Else it is done, or memory ran out.
+-- The call is refused just where `refusal` is one, and with
+-- that one. Else it is done, or memory ran out.
 abbrev pub IsRefusedBy : {T : Type 0} → Result T Refusal → Option Refusal → Type 0
-IsRefusedBy result refusal = OnOk result (refusal ≡ None) × IfErr result (λ e. e ≡ unwrap_or refusal NoMemory)
+IsRefusedBy result refusal =
+    OnOk result (refusal ≡ None) × IfErr result (λ e. e ≡ unwrap_or refusal NoMemory)

@@ -1,5 +1,5 @@
--- The pattern of a source text, or the byte place of its leftmost fault. A source is read from the left,
--- an element at a time, and the items of a set likewise.
+-- The pattern of a source text, or the byte place of its leftmost fault. A source is
+-- read from the left, an element at a time, and the items of a set likewise.
 use Rattle.std.specs.Prelude.{ℕ, zero, suc, ◌-◌, ◌==◌, nat_le, if◌then◌else◌, Bool, true, false, List, [], ◌∷◌, length, Option, Some, None, Result, Ok, Err}
 use Rattle.lq_value.specs.declared.element.Item.{Item}
 use Rattle.lq_value.specs.declared.element.Item.TheVariants.{One, Range}
@@ -82,7 +82,10 @@ set_with negated (stuck rest) = faulty
 -- the set whose `[` stands before these signs; a `^` that is first negates it
 abbrev pub set_at : List Sign → First Element
 set_at [] = set_with false (pieces_of item_at [])
-set_at (s ∷ ss) = if is_bare 94 s then set_with true (pieces_of item_at ss) else set_with false (pieces_of item_at (s ∷ ss))
+set_at (s ∷ ss) =
+    if is_bare 94 s
+    then set_with true (pieces_of item_at ss)
+    else set_with false (pieces_of item_at (s ∷ ss))
 
 -- the first element of a source, which ends where no sign is left
 abbrev pub element_at : List Sign → First Element

@@ -1,5 +1,5 @@
--- What a source writes: some split of its signs into one part for each element, in order, has each part
--- write its element. At a fault the elements before it end, and no element is written there.
+-- What a source writes: some split of its signs into one part for each element, in order, has each
+-- part write its element. At a fault the elements before it end, and no element is written there.
 use Rattle.std.specs.Prelude.{◌≡◌, ◌≤◌, ◌==◌, ◌||◌, ℕ, List, [], ◌∷◌, ◌++◌, Bool, true, false}
 use Rattle.lq_value.specs.declared.element.Item.{Item}
 use Rattle.lq_value.specs.declared.element.Item.TheVariants.{One, Range}
@@ -32,12 +32,14 @@ BeginsNoRange text = (s : Sign) (behind : List Sign) → text ≡ Bare 45 ∷ s 
 -- the part writes the item, where the rest of the set stands behind it
 abbrev pub IsItem : Item → List Sign → List Sign → Type 0
 IsItem (One c) part rest = (s : Sign) × (part ≡ s ∷ []) × StandsInSet s c × BeginsNoRange rest
-IsItem (Range c d) part rest = (s : Sign) × (t : Sign) × (part ≡ s ∷ Bare 45 ∷ t ∷ []) × StandsInSet s c × StandsInSet t d × (c ≤ d)
+IsItem (Range c d) part rest = (s : Sign) × (t : Sign) × (part ≡ s ∷ Bare 45 ∷ t ∷ [])
+    × StandsInSet s c × StandsInSet t d × (c ≤ d)
 
 -- the items, and then the `]` of their set
 abbrev pub AreItems : List Item → List Sign → Type 0
 AreItems [] text = text ≡ Bare 93 ∷ []
-AreItems (i ∷ is) text = (part : List Sign) × (rest : List Sign) × (text ≡ part ++ rest) × IsItem i part rest × AreItems is rest
+AreItems (i ∷ is) text = (part : List Sign) × (rest : List Sign) × (text ≡ part ++ rest)
+    × IsItem i part rest × AreItems is rest
 
 -- the items of a set, one at least
 abbrev pub AreSome : List Item → List Sign → Type 0
@@ -48,7 +50,8 @@ abbrev pub IsElement : Element → List Sign → Type 0
 IsElement Star part = part ≡ Bare 42 ∷ []
 IsElement Any part = part ≡ Bare 63 ∷ []
 IsElement (Plain c) part = (s : Sign) × (part ≡ s ∷ []) × StandsFor s c
-IsElement (Set true items) part = (inside : List Sign) × (part ≡ Bare 91 ∷ Bare 94 ∷ inside) × AreSome items inside
+IsElement (Set true items) part =
+    (inside : List Sign) × (part ≡ Bare 91 ∷ Bare 94 ∷ inside) × AreSome items inside
 IsElement (Set false items) part =
     (inside : List Sign) × (part ≡ Bare 91 ∷ inside) × AreSome items inside
     × ((behind : List Sign) → inside ≡ Bare 94 ∷ behind → ⊥)
@@ -56,7 +59,8 @@ IsElement (Set false items) part =
 -- the signs write the elements
 abbrev pub Writes : List Sign → List Element → Type 0
 Writes text [] = text ≡ []
-Writes text (e ∷ es) = (part : List Sign) × (rest : List Sign) × (text ≡ part ++ rest) × IsElement e part × Writes rest es
+Writes text (e ∷ es) = (part : List Sign) × (rest : List Sign) × (text ≡ part ++ rest)
+    × IsElement e part × Writes rest es
 
 -- the leftmost fault of a source has this byte place
 pub record HasFaultAt (text : List ℕ) (place : ℕ) : Type 0 where

@@ -13,15 +13,22 @@ use Rattle.lq_world.specs.Laws.{RunsMakeBooks}
 use Rattle.lq_world.proofs.WorldLemmas.{after_all-append}
 use Rattle.lq_world.proofs.ReadLemmas.{accepted_by-refused, step-book, run-book}
 
-are-lawful-append : (s : State) (cs ds : List Change_) → AreLawful s cs → AreLawful (after_all s cs) ds → AreLawful s (cs ++ ds)
+-- lawful changes and then others, lawful from where those lead, are lawful together
+are-lawful-append : (s : State) (cs ds : List Change_)
+    → AreLawful s cs → AreLawful (after_all s cs) ds → AreLawful s (cs ++ ds)
 are-lawful-append s [] ds h g = g
 are-lawful-append s (c ∷ cs) ds h g = (h.0, are-lawful-append (after s c) cs ds h.1 g)
 
-changing-lawful : (w : World) (c : Change_) (r : Option Refusal) → refused_by (state_of w.book) c ≡ r → AreLawful (state_of w.book) (accepted_by (Changing c) (changing w c r).0)
+-- a change that is accepted is lawful in the state that it meets
+changing-lawful : (w : World) (c : Change_) (r : Option Refusal)
+    → refused_by (state_of w.book) c ≡ r
+    → AreLawful (state_of w.book) (accepted_by (Changing c) (changing w c r).0)
 changing-lawful w c (Some e) is = tt
 changing-lawful w c None is = (is, tt)
 
-outcome-lawful : (w : World) (e : Happening) → AreLawful (state_of w.book) (accepted_by e (outcome w e).0)
+-- what an event adds to the book is lawful in the state that it meets
+outcome-lawful : (w : World) (e : Happening)
+    → AreLawful (state_of w.book) (accepted_by e (outcome w e).0)
 outcome-lawful w (Changing c) = changing-lawful w c (refused_by (state_of w.book) c) refl
 outcome-lawful w (Opening q port backlog moved) = tt
 outcome-lawful w (Putting k) = tt
@@ -31,19 +38,31 @@ outcome-lawful w (Noticing k) = tt
 outcome-lawful w (Closing k) = tt
 outcome-lawful w (Finishing k) = tt
 
-step-lawful : (w : World) (e : Happening) (a : Answer) (v : World) → Step w e a v → AreLawful (state_of w.book) (accepted_by e a)
-step-lawful w e a v (inl done) = subst (λ (b : Answer). AreLawful (state_of w.book) (accepted_by e b)) (sym done.0) (outcome-lawful w e)
-step-lawful w e a v (inr ran) = subst (λ (cs : List Change_). AreLawful (state_of w.book) cs) (sym (ap (accepted_by e) ran.1 ∙ accepted_by-refused e _)) tt
+-- what a step adds to the book is lawful in the state that it meets
+step-lawful : (w : World) (e : Happening) (a : Answer) (v : World) → Step w e a v
+    → AreLawful (state_of w.book) (accepted_by e a)
+step-lawful w e a v (inl done) =
+    subst (λ (b : Answer). AreLawful (state_of w.book) (accepted_by e b)) (sym done.0)
+    (outcome-lawful w e)
+step-lawful w e a v (inr ran) = subst (λ (cs : List Change_). AreLawful (state_of w.book) cs)
+    (sym (ap (accepted_by e) ran.1 ∙ accepted_by-refused e _)) tt
 
-pub run-lawful : (w end : World) (events : List Happening) (answers : List Answer) → Run w events answers end → AreLawful (state_of w.book) (accepted events answers)
+-- what a run adds to the book is lawful from the state that it meets
+pub run-lawful : (w end : World) (events : List Happening) (answers : List Answer)
+    → Run w events answers end → AreLawful (state_of w.book) (accepted events answers)
 run-lawful w end [] [] run = tt
 run-lawful w end [] (a ∷ answers) run = absurd run
 run-lawful w end (e ∷ events) [] run = absurd run
 run-lawful w end (e ∷ events) (a ∷ answers) run =
     let there : state_of run.0.book ≡ after_all (state_of w.book) (accepted_by e a) =
-    ap state_of (step-book w e a run.0 run.1) ∙ after_all-append w.book.start w.book.changes (accepted_by e a) in
-    are-lawful-append (state_of w.book) (accepted_by e a) (accepted events answers) (step-lawful w e a run.0 run.1)
-    (subst (λ (s : State). AreLawful s (accepted events answers)) there (run-lawful run.0 end events answers run.2))
+    ap state_of (step-book w e a run.0 run.1)
+    ∙ after_all-append w.book.start w.book.changes (accepted_by e a) in
+    are-lawful-append (state_of w.book) (accepted_by e a) (accepted events answers)
+    (step-lawful w e a run.0 run.1)
+    (subst (λ (s : State). AreLawful s (accepted events answers)) there
+    (run-lawful run.0 end events answers run.2))
 
+-- the accepted changes of a run are a book
 pub runs-make : RunsMakeBooks
-runs-make w end events answers run = (run-lawful w end events answers run, run-book w events answers end run)
+runs-make w end events answers run =
+    (run-lawful w end events answers run, run-book w events answers end run)

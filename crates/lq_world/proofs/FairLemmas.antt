@@ -22,47 +22,68 @@ use Rattle.lq_world.specs.World.{is_over}
 use Rattle.lq_world.proofs.ListLemmas.{all-get, all-set, all-map, both-true, length-map}
 use Rattle.lq_world.proofs.SubLemmas.{Leaves, keeps-change, putting-leaves, taking-leaves, hanging_up-leaves, noticing-leaves, closing-leaves}
 
+-- slots that are all free are fair
 free_slots : (b : Book) (n : ℕ) → AllByRecursion (IsFairSlot b) (replicate n None)
 free_slots b zero = tt
 free_slots b (suc n) = (tt, free_slots b n)
 
+-- the world that a run begins with is fair
 pub first-fair : FirstWorldsAreFair
 first-fair b = free_slots b 64
 
 -- a subscription that is opened
 nothing_told : (q : Query) (moved : Bool) (b : Book) (n : ℕ) → updates_of q moved b n n ≡ []
-nothing_told q moved b n = ap (λ k. updates_from q moved (state_at b n) (take k (drop (n - b.start.number) b.changes)) 1) (let e : n - n ≡ 0 = omega arith in e)
+nothing_told q moved b n =
+    ap (λ k. updates_from q moved (state_at b n) (take k (drop (n - b.start.number) b.changes)) 1)
+    (let e : n - n ≡ 0 = omega arith in e)
 
 -- what is so where no row of the table of an opening holds
-no_row : (a b c d : Bool) → first_refusal ((a, BadPort) ∷ (b, BadBacklog) ∷ (c, NoSlot) ∷ (d, Exhausted) ∷ []) ≡ None → (a ≡ false) × (b ≡ false) × (c ≡ false)
+no_row : (a b c d : Bool)
+    → first_refusal ((a, BadPort) ∷ (b, BadBacklog) ∷ (c, NoSlot) ∷ (d, Exhausted) ∷ []) ≡ None
+    → (a ≡ false) × (b ≡ false) × (c ≡ false)
 no_row true b c d h = absurd (let no : ⊥ = cc in no)
 no_row false true c d h = absurd (let no : ⊥ = cc in no)
 no_row false false true d h = absurd (let no : ⊥ = cc in no)
 no_row false false false d h = (refl, refl, refl)
 
+-- what is not false is true
 not-false : (a : Bool) → not a ≡ false → a ≡ true
 not-false true h = refl
 not-false false h = absurd (let no : ⊥ = cc in no)
 
+-- a test of ≤ that answers true says so
 le-true : (m n : ℕ) → nat_le m n ≡ true → m ≤ n
 le-true m n h = grind (arith, nat_tests)
 
+-- a test of ≤ that answers false says that the first is larger
 le-false : (m n : ℕ) → nat_le m n ≡ false → n < m
 le-false m n h = grind (arith, nat_tests)
 
+-- what an opening asks of a world, a port and a backlog
 pub record MayOpen (w : World) (port backlog : ℕ) : Type 0 where
   pub places : 1 ≤ port
   pub most : port ≤ 1024
   pub within : backlog ≤ 65536
   pub free : taken_before_free w.slots < length w.slots
 
-pub may_open : (w : World) (port backlog : ℕ) → open_refusal w port backlog ≡ None → MayOpen w port backlog
+-- what is not refused may open: a port and a backlog within their bounds, and a free slot
+pub may_open : (w : World) (port backlog : ℕ) → open_refusal w port backlog ≡ None
+    → MayOpen w port backlog
 may_open w port backlog none =
-    let rows = no_row (not (nat_le 1 port && nat_le port 1024)) (not (nat_le backlog 65536)) (nat_le (length w.slots) (taken_before_free w.slots)) (nat_le (state_of w.book).limit w.openings) none in
+    let rows = no_row (not (nat_le 1 port && nat_le port 1024)) (not (nat_le backlog 65536))
+    (nat_le (length w.slots) (taken_before_free w.slots))
+    (nat_le (state_of w.book).limit w.openings) none in
     let ports = both-true (nat_le 1 port) (nat_le port 1024) (not-false _ rows.0) in
-    record { places = le-true 1 port ports.0; most = le-true port 1024 ports.1; within = le-true backlog 65536 (not-false _ rows.1); free = le-false _ _ rows.2 }
+    record {
+      places = le-true 1 port ports.0;
+      most = le-true port 1024 ports.1;
+      within = le-true backlog 65536 (not-false _ rows.1);
+      free = le-false _ _ rows.2;
+    }
 
-pub opened-fair : (w : World) (q : Query) (port backlog : ℕ) (moved : Bool) → MayOpen w port backlog → IsFair w.book (opened_now w q port backlog moved)
+-- a subscription that has just opened is fair
+pub opened-fair : (w : World) (q : Query) (port backlog : ℕ) (moved : Bool) → MayOpen w port backlog
+    → IsFair w.book (opened_now w q port backlog moved)
 opened-fair w q port backlog moved may = record {
   begun = omega arith;
   places = may.places;
@@ -77,22 +98,31 @@ opened-fair w q port backlog moved may = record {
 }
 
 -- what is in a slot is at its place
-pub slot-found : (w : World) (slot : ℕ) (s : Sub) → slot_at w slot ≡ Some s → slice_get w.slots (slot - 1) ≡ Some (Some s)
+pub slot-found : (w : World) (slot : ℕ) (s : Sub) → slot_at w slot ≡ Some s
+    → slice_get w.slots (slot - 1) ≡ Some (Some s)
 slot-found w slot s is = by (slot == 0) (slice_get w.slots (slot - 1)) is
   where
-    by : (x : Bool) (o : Option (Option Sub)) → (if x then None else option_flatten o) ≡ Some s → o ≡ Some (Some s)
+    by : (x : Bool) (o : Option (Option Sub)) → (if x then None else option_flatten o) ≡ Some s
+        → o ≡ Some (Some s)
     by true o is = absurd (let no : ⊥ = cc in no)
     by false None is = absurd (let no : ⊥ = cc in no)
     by false (Some None) is = absurd (let no : ⊥ = cc in no)
     by false (Some (Some t)) is = cc
 
-left-fair : (b : Book) (s : Sub) (reads : List Answer) (o : Option Sub) → Leaves b s reads o → IsFairSlot b o
+-- what an event leaves of a subscription is fair
+left-fair : (b : Book) (s : Sub) (reads : List Answer) (o : Option Sub) → Leaves b s reads o
+    → IsFairSlot b o
 left-fair b s reads o l = subst (λ (p : Option Sub). IsFairSlot b p) (sym l.is) l.does.keeps.fair
 
-at_slot-fair : (w : World) (slot : ℕ) (event : Sub → Answer × Option Sub) → ((s : Sub) → IsFair w.book s → IsFairSlot w.book (event s).1) → IsFairWorld w → (o : Option Sub) → slot_at w slot ≡ o → IsFairWorld (at_slot w slot o event).1
+-- an event in one slot leaves a fair world fair, if it leaves that slot fair
+at_slot-fair : (w : World) (slot : ℕ) (event : Sub → Answer × Option Sub)
+    → ((s : Sub) → IsFair w.book s → IsFairSlot w.book (event s).1) → IsFairWorld w
+    → (o : Option Sub) → slot_at w slot ≡ o → IsFairWorld (at_slot w slot o event).1
 at_slot-fair w slot event keeps h None is = h
-at_slot-fair w slot event keeps h (Some s) is = all-set (IsFairSlot w.book) w.slots (slot - 1) _ h (keeps s (all-get (IsFairSlot w.book) w.slots (slot - 1) (Some s) h (slot-found w slot s is)))
+at_slot-fair w slot event keeps h (Some s) is = all-set (IsFairSlot w.book) w.slots (slot - 1) _ h
+    (keeps s (all-get (IsFairSlot w.book) w.slots (slot - 1) (Some s) h (slot-found w slot s is)))
 
+-- a subscription that finishes leaves its slot free, one that is refused as it was
 finishing-fair : (b : Book) (s : Sub) → IsFair b s → IsFairSlot b (finishing b s).1
 finishing-fair b s h = by (is_over b s)
   where
@@ -101,26 +131,37 @@ finishing-fair b s h = by (is_over b s)
     by false = h
 
 -- ---- as many slots
-length-slice_set : {A : Type 0} (xs : List A) (i : ℕ) (x : A) → length (slice_set xs i x) ≡ length xs
+
+-- a list in which one place is set has the same length
+length-slice_set : {A : Type 0} (xs : List A) (i : ℕ) (x : A)
+    → length (slice_set xs i x) ≡ length xs
 length-slice_set [] i x = refl
 length-slice_set (y ∷ xs) zero x = refl
 length-slice_set (y ∷ xs) (suc i) x = ap suc (length-slice_set xs i x)
 
-changing-slots : (w : World) (c : Change_) (r : Option Refusal) → length (changing w c r).1.slots ≡ length w.slots
+-- a change leaves the number of slots
+changing-slots : (w : World) (c : Change_) (r : Option Refusal)
+    → length (changing w c r).1.slots ≡ length w.slots
 changing-slots w c (Some e) = refl
 changing-slots w c None = length-map (option_map (after_change w.book c)) w.slots
 
-opening-slots : (w : World) (s : Sub) (r : Option Refusal) → length (opening w s r).1.slots ≡ length w.slots
+-- an opening leaves the number of slots
+opening-slots : (w : World) (s : Sub) (r : Option Refusal)
+    → length (opening w s r).1.slots ≡ length w.slots
 opening-slots w s (Some e) = refl
 opening-slots w s None = length-slice_set w.slots (taken_before_free w.slots) (Some s)
 
-at_slot-slots : (w : World) (slot : ℕ) (o : Option Sub) (event : Sub → Answer × Option Sub) → length (at_slot w slot o event).1.slots ≡ length w.slots
+-- an event in one slot leaves the number of slots
+at_slot-slots : (w : World) (slot : ℕ) (o : Option Sub) (event : Sub → Answer × Option Sub)
+    → length (at_slot w slot o event).1.slots ≡ length w.slots
 at_slot-slots w slot None event = refl
 at_slot-slots w slot (Some s) event = length-slice_set w.slots (slot - 1) (event s).1
 
+-- each event leaves the number of slots
 outcome-slots : (w : World) (e : Happening) → length (outcome w e).1.slots ≡ length w.slots
 outcome-slots w (Changing c) = changing-slots w c (refused_by (state_of w.book) c)
-outcome-slots w (Opening q port backlog moved) = opening-slots w (opened_now w q port backlog moved) (open_refusal w port backlog)
+outcome-slots w (Opening q port backlog moved) =
+    opening-slots w (opened_now w q port backlog moved) (open_refusal w port backlog)
 outcome-slots w (Putting k) = at_slot-slots w k (slot_at w k) (putting w.book)
 outcome-slots w (Taking k) = at_slot-slots w k (slot_at w k) (taking w.book)
 outcome-slots w (HangingUp k) = at_slot-slots w k (slot_at w k) hanging_up
@@ -128,45 +169,70 @@ outcome-slots w (Noticing k) = at_slot-slots w k (slot_at w k) (noticing w.book)
 outcome-slots w (Closing k) = at_slot-slots w k (slot_at w k) (closing w.book)
 outcome-slots w (Finishing k) = at_slot-slots w k (slot_at w k) (finishing w.book)
 
-step-slots : (w : World) (e : Happening) (a : Answer) (v : World) → Step w e a v → length v.slots ≡ length w.slots
+-- each step leaves the number of slots
+step-slots : (w : World) (e : Happening) (a : Answer) (v : World) → Step w e a v
+    → length v.slots ≡ length w.slots
 step-slots w e a v (inl done) = ap (λ (u : World). length u.slots) done.1 ∙ outcome-slots w e
 step-slots w e a v (inr ran) = ap (λ (u : World). length u.slots) ran.2
 
+-- a run leaves the number of slots
 pub run-slots : RunsKeepSlots
 run-slots w end [] [] run = ap (λ (u : World). length u.slots) run
 run-slots w end [] (a ∷ answers) run = absurd run
 run-slots w end (e ∷ events) [] run = absurd run
-run-slots w end (e ∷ events) (a ∷ answers) run = run-slots run.0 end events answers run.2 ∙ step-slots w e a run.0 run.1
+run-slots w end (e ∷ events) (a ∷ answers) run =
+    run-slots run.0 end events answers run.2 ∙ step-slots w e a run.0 run.1
 
 module _ (join : UpdatesJoin) where
-  changed-fair : (b : Book) (c : Change_) (o : Option Sub) → IsFairSlot b o → IsFairSlot (grown b (c ∷ [])) (option_map (after_change b c) o)
+  -- a change leaves each slot fair
+  changed-fair : (b : Book) (c : Change_) (o : Option Sub) → IsFairSlot b o
+      → IsFairSlot (grown b (c ∷ [])) (option_map (after_change b c) o)
   changed-fair b c None h = tt
   changed-fair b c (Some s) h = (keeps-change join b c s h).fair
 
-  changing-fair : (w : World) (c : Change_) (r : Option Refusal) → IsFairWorld w → IsFairWorld (changing w c r).1
+  -- a change, accepted or refused, leaves a fair world fair
+  changing-fair : (w : World) (c : Change_) (r : Option Refusal) → IsFairWorld w
+      → IsFairWorld (changing w c r).1
   changing-fair w c (Some e) h = h
-  changing-fair w c None h = all-map (IsFairSlot w.book) (IsFairSlot (grown w.book (c ∷ []))) (option_map (after_change w.book c)) w.slots (changed-fair w.book c) h
+  changing-fair w c None h = all-map (IsFairSlot w.book) (IsFairSlot (grown w.book (c ∷ [])))
+      (option_map (after_change w.book c)) w.slots (changed-fair w.book c) h
 
-  opening-fair : (w : World) (s : Sub) (r : Option Refusal) → (r ≡ None → IsFair w.book s) → IsFairWorld w → IsFairWorld (opening w s r).1
+  -- an opening, accepted or refused, leaves a fair world fair
+  opening-fair : (w : World) (s : Sub) (r : Option Refusal)
+      → (r ≡ None → IsFair w.book s) → IsFairWorld w → IsFairWorld (opening w s r).1
   opening-fair w s (Some e) fair h = h
   opening-fair w s None fair h = all-set (IsFairSlot w.book) w.slots _ (Some s) h (fair refl)
 
+  -- each event leaves a fair world fair
   pub outcome-fair : (w : World) (e : Happening) → IsFairWorld w → IsFairWorld (outcome w e).1
   outcome-fair w (Changing c) h = changing-fair w c (refused_by (state_of w.book) c) h
-  outcome-fair w (Opening q port backlog moved) h = opening-fair w (opened_now w q port backlog moved) (open_refusal w port backlog) (λ none. opened-fair w q port backlog moved (may_open w port backlog none)) h
-  outcome-fair w (Putting k) h = at_slot-fair w k (putting w.book) (λ s f. left-fair w.book s _ _ (putting-leaves w.book s f)) h (slot_at w k) refl
-  outcome-fair w (Taking k) h = at_slot-fair w k (taking w.book) (λ s f. left-fair w.book s _ _ (taking-leaves w.book s f)) h (slot_at w k) refl
-  outcome-fair w (HangingUp k) h = at_slot-fair w k hanging_up (λ s f. left-fair w.book s _ _ (hanging_up-leaves w.book s f)) h (slot_at w k) refl
-  outcome-fair w (Noticing k) h = at_slot-fair w k (noticing w.book) (λ s f. left-fair w.book s _ _ (noticing-leaves w.book s f)) h (slot_at w k) refl
-  outcome-fair w (Closing k) h = at_slot-fair w k (closing w.book) (λ s f. left-fair w.book s _ _ (closing-leaves w.book s f)) h (slot_at w k) refl
-  outcome-fair w (Finishing k) h = at_slot-fair w k (finishing w.book) (finishing-fair w.book) h (slot_at w k) refl
+  outcome-fair w (Opening q port backlog moved) h =
+      opening-fair w (opened_now w q port backlog moved) (open_refusal w port backlog)
+      (λ none. opened-fair w q port backlog moved (may_open w port backlog none)) h
+  outcome-fair w (Putting k) h = at_slot-fair w k (putting w.book)
+      (λ s f. left-fair w.book s _ _ (putting-leaves w.book s f)) h (slot_at w k) refl
+  outcome-fair w (Taking k) h = at_slot-fair w k (taking w.book)
+      (λ s f. left-fair w.book s _ _ (taking-leaves w.book s f)) h (slot_at w k) refl
+  outcome-fair w (HangingUp k) h = at_slot-fair w k hanging_up
+      (λ s f. left-fair w.book s _ _ (hanging_up-leaves w.book s f)) h (slot_at w k) refl
+  outcome-fair w (Noticing k) h = at_slot-fair w k (noticing w.book)
+      (λ s f. left-fair w.book s _ _ (noticing-leaves w.book s f)) h (slot_at w k) refl
+  outcome-fair w (Closing k) h = at_slot-fair w k (closing w.book)
+      (λ s f. left-fair w.book s _ _ (closing-leaves w.book s f)) h (slot_at w k) refl
+  outcome-fair w (Finishing k) h =
+      at_slot-fair w k (finishing w.book) (finishing-fair w.book) h (slot_at w k) refl
 
-  step-fair : (w : World) (e : Happening) (a : Answer) (v : World) → IsFairWorld w → Step w e a v → IsFairWorld v
-  step-fair w e a v h (inl done) = subst (λ (u : World). IsFairWorld u) (sym done.1) (outcome-fair w e h)
+  -- each step leaves a fair world fair
+  step-fair : (w : World) (e : Happening) (a : Answer) (v : World) → IsFairWorld w → Step w e a v
+      → IsFairWorld v
+  step-fair w e a v h (inl done) =
+      subst (λ (u : World). IsFairWorld u) (sym done.1) (outcome-fair w e h)
   step-fair w e a v h (inr ran) = subst (λ (u : World). IsFairWorld u) (sym ran.2) h
 
+  -- a run leaves a fair world fair
   pub run-fair : RunsKeepWorldsFair
   run-fair w end [] [] h run = subst (λ (u : World). IsFairWorld u) (sym run) h
   run-fair w end [] (a ∷ answers) h run = absurd run
   run-fair w end (e ∷ events) [] h run = absurd run
-  run-fair w end (e ∷ events) (a ∷ answers) h run = run-fair run.0 end events answers (step-fair w e a run.0 h run.1) run.2
+  run-fair w end (e ∷ events) (a ∷ answers) h run =
+      run-fair run.0 end events answers (step-fair w e a run.0 h run.1) run.2

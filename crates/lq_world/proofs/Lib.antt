@@ -1,3 +1,6 @@
+-- Read in this order: ListLemmas; WorldLemmas (updates), SubLemmas (one event, one subscription),
+-- FairLemmas (what each event keeps); FillLemmas (turns), PassingLemmas (lists, ports, refusals);
+-- ReadLemmas, BookLemmas, RunLemmas and HeadlineLemmas (whole runs). Example has scenarios.
 pub mod ListLemmas
 pub mod WorldLemmas
 pub mod SubLemmas

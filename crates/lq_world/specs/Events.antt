@@ -42,11 +42,18 @@ pub data Answer : Type 0 where
 -- ---- a change
 
 abbrev pub with_change : World → Change_ → World
-with_change w c = record { book = grown w.book (c ∷ []); openings = w.openings; slots = map (option_map (after_change w.book c)) w.slots }
+with_change w c = record {
+  book = grown w.book (c ∷ []);
+  openings = w.openings;
+  slots = map (option_map (after_change w.book c)) w.slots;
+}
 
 abbrev pub changing : World → Change_ → Option Refusal → Answer × World
 changing w c (Some e) = (Refused e, w)
-changing w c None = (Changed (record { change = number_of w.book + 1; node = node_of (state_of w.book) c }), with_change w c)
+changing w c None = (
+  Changed (record { change = number_of w.book + 1; node = node_of (state_of w.book) c }),
+  with_change w c,
+)
 
 -- ---- an opening
 
@@ -63,8 +70,8 @@ opened_now w q port backlog moved = record {
   end = None;
 }
 
--- the tests of an opening in their order: its port and backlog, then a free slot, and as many openings as the
--- volume takes changes
+-- the tests of an opening in their order: its port and backlog, then a
+-- free slot, and as many openings as the volume takes changes
 abbrev pub opening_refusals : World → ℕ → ℕ → List (Bool × Refusal)
 opening_refusals w port backlog =
     (not (nat_le 1 port && nat_le port 1024), BadPort)
@@ -78,13 +85,18 @@ open_refusal w port backlog = first_refusal (opening_refusals w port backlog)
 
 -- with a subscription in the lowest free slot
 abbrev pub with_sub : World → Sub → World
-with_sub w s = with_slot (record w { openings = w.openings + 1 }) (taken_before_free w.slots) (Some s)
+with_sub w s =
+    with_slot (record w { openings = w.openings + 1 }) (taken_before_free w.slots) (Some s)
 
 abbrev pub opening : World → Sub → Option Refusal → Answer × World
 opening w s (Some e) = (Refused e, w)
-opening w s None = (Opened (taken_before_free w.slots + 1) (number_of w.book) (result_of s.query (state_of w.book)), with_sub w s)
+opening w s None = (
+  Opened (taken_before_free w.slots + 1) (number_of w.book) (result_of s.query (state_of w.book)),
+  with_sub w s,
+)
 
--- ---- the events of one slot: over a book and its subscription, the answer and what is in the slot then
+-- ---- the events of one slot: over a book and its
+-- subscription, the answer and what is in the slot then
 
 -- the next parcel moves into the port
 abbrev pub putting_if : Sub → Bool → Answer × Option Sub
@@ -140,7 +152,8 @@ at_slot w slot (Some s) event = ((event s).0, with_slot w (slot - 1) (event s).1
 -- what an event is answered, and the world after it
 abbrev pub outcome : World → Happening → Answer × World
 outcome w (Changing c) = changing w c (refused (state_of w.book) c)
-outcome w (Opening q port backlog moved) = opening w (opened_now w q port backlog moved) (open_refusal w port backlog)
+outcome w (Opening q port backlog moved) =
+    opening w (opened_now w q port backlog moved) (open_refusal w port backlog)
 outcome w (Putting slot) = at_slot w slot (slot_at w slot) (putting w.book)
 outcome w (Taking slot) = at_slot w slot (slot_at w slot) (taking w.book)
 outcome w (HangingUp slot) = at_slot w slot (slot_at w slot) hanging_up

@@ -5,7 +5,8 @@ use Rattle.lq_volume.specs.Book.{Book, number_of}
 use Rattle.lq_world.specs.World.{World, Sub, covered, whole, held, is_live}
 
 pub record IsFair (b : Book) (s : Sub) : Type 0 where
-  -- the book's start, its opening, the last change that it covers, and the book's last change stand in this order
+  -- the book's start, its opening, the last change that it
+  -- covers, and the book's last change stand in this order
   pub begun : b.start.number ≤ s.opened
   pub opened : s.opened ≤ covered b s
   pub covered : covered b s ≤ number_of b

@@ -28,7 +28,8 @@ frees slot e a = false
 abbrev pub reads_of : ℕ → List Happening → List Answer → List Answer
 reads_of slot [] answers = []
 reads_of slot (e ∷ events) [] = []
-reads_of slot (e ∷ events) (a ∷ answers) = if frees slot e a then [] else read_by slot e a ++ reads_of slot events answers
+reads_of slot (e ∷ events) (a ∷ answers) =
+    if frees slot e a then [] else read_by slot e a ++ reads_of slot events answers
 
 -- the parcels, and the updates, that such answers gave
 abbrev pub parcel_in : Answer → List Parcel
@@ -63,17 +64,19 @@ book_of s events answers = record { start = s; changes = accepted events answers
 
 -- the mark is among them
 abbrev pub HasMark : List Answer → Type 0
-HasMark reads = (m : Mark) × (front : List Answer) × (rest : List Answer) × (reads ≡ front ++ Took (Fin m) ∷ rest)
+HasMark reads = (m : Mark) × (front : List Answer) × (rest : List Answer)
+    × (reads ≡ front ++ Took (Fin m) ∷ rest)
 
--- What an opening may be answered, over the book of the changes before it: their number, and the query's result
--- after them.
+-- What an opening may be answered, over the book of the changes
+-- before it: their number, and the query's result after them.
 pub record IsOpening (b : Book) (q : Query) (at : ℕ) (first : List Entry) : Type 0 where
   pub number : at ≡ number_of b
   pub entries : first ≡ result_of q (state_of b)
 
--- What the takes of a subscription may be answered, over a book: its query, the number of changes at its opening,
--- and the result then.
-pub record AreReads (b : Book) (q : Query) (moved : Bool) (at : ℕ) (first : List Entry) (reads : List Answer) : Type 0 where
+-- What the takes of a subscription may be answered, over a book: its
+-- query, the number of changes at its opening, and the result then.
+pub record AreReads (b : Book) (q : Query) (moved : Bool) (at : ℕ) (first : List Entry)
+    (reads : List Answer) : Type 0 where
   -- each message once and in order: they are a prefix of its update list
   pub prefix : IsPrefixOf (updates_in reads) (updates_of q moved b at (number_of b))
   -- the mark comes after the whole list up to the change that it names, and only `Ended` after it
@@ -84,17 +87,24 @@ pub record AreReads (b : Book) (q : Query) (moved : Bool) (at : ℕ) (first : Li
       × AllByRecursion (λ a. a ≡ Ended) rest
   -- and `Ended` only after the mark
   pub ended : (front rest : List Answer) → reads ≡ front ++ Ended ∷ rest → HasMark front
-  -- wherever a change's last message is in, folding over the opening's result gives the result after that change
-  pub folding : IsVolume b.start → (front rest : List Answer) → reads ≡ front ++ rest → IsSettled (updates_in front) →
-      folded first (updates_in front) ≡ result_of q (state_at b (last_change at (updates_in front)))
+  -- wherever a change's last message is in, folding over the
+  -- opening's result gives the result after that change
+  pub folding : IsVolume b.start → (front rest : List Answer) → reads ≡ front ++ rest
+      → IsSettled (updates_in front) → folded first (updates_in front)
+      ≡ result_of q (state_at b (last_change at (updates_in front)))
   -- and so it does before the mark, for the change that this names
-  pub closing : IsVolume b.start → (front rest : List Answer) (m : Mark) → reads ≡ front ++ Took (Fin m) ∷ rest →
-      folded first (updates_in front) ≡ result_of q (state_at b m.change)
+  pub closing : IsVolume b.start
+      → (front rest : List Answer) (m : Mark) → reads ≡ front ++ Took (Fin m) ∷ rest
+      → folded first (updates_in front) ≡ result_of q (state_at b m.change)
 
--- Whatever came before an opening and comes after it: it is answered over the changes that the run accepted before
--- it, and the takes of the subscription that it opened are such reads, over those that the whole run accepted.
+-- Whatever came before an opening and comes after it: it is answered over the changes that the run
+-- accepted before it, and the takes of the subscription that it opened are such reads, over those
+-- that the whole run accepted.
 abbrev pub ReadersAreTold : State → List Happening → List Answer → Type 0
 ReadersAreTold s events answers =
-    (before after : List Happening) (befores afters : List Answer) (q : Query) (port backlog : ℕ) (moved : Bool) (slot at : ℕ) (first : List Entry)
-    → events ≡ before ++ Opening q port backlog moved ∷ after → answers ≡ befores ++ Opened slot at first ∷ afters → length before ≡ length befores
-    → IsOpening (book_of s before befores) q at first × AreReads (book_of s events answers) q moved at first (reads_of slot after afters)
+    (before after : List Happening) (befores afters : List Answer) (q : Query) (port backlog : ℕ)
+    (moved : Bool) (slot at : ℕ) (first : List Entry)
+    → events ≡ before ++ Opening q port backlog moved ∷ after
+    → answers ≡ befores ++ Opened slot at first ∷ afters → length before ≡ length befores
+    → IsOpening (book_of s before befores) q at first
+    × AreReads (book_of s events answers) q moved at first (reads_of slot after afters)

@@ -19,7 +19,8 @@ MayRunOut w (Finishing slot) = ⊥
 
 -- one event: its outcome, or a want of memory that leaves the world
 abbrev pub Step : World → Happening → Answer → World → Type 0
-Step w e a v = ((a ≡ answer w e) × (v ≡ next w e)) ⊎ (MayRunOut w e × (a ≡ Refused NoMemory) × (v ≡ w))
+Step w e a v =
+    ((a ≡ answer w e) × (v ≡ next w e)) ⊎ (MayRunOut w e × (a ≡ Refused NoMemory) × (v ≡ w))
 
 -- one answer for each event, one step after another
 abbrev pub Run : World → List Happening → List Answer → World → Type 0

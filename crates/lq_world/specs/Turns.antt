@@ -15,7 +15,8 @@ places_in (Some port) = port
 
 -- the places of a slot's port, none where it is free
 abbrev pub places_at : List (Option ℕ) → ℕ → ℕ
-places_at ports slot = if slot == 0 then 0 else places_in (option_flatten (slice_get ports (slot - 1)))
+places_at ports slot =
+    if slot == 0 then 0 else places_in (option_flatten (slice_get ports (slot - 1)))
 
 -- ---- lists of events
 
@@ -31,7 +32,8 @@ at_each events n (port ∷ ports) = at_slot_of events n port ++ at_each events (
 abbrev pub one_notice : ℕ → ℕ → List Happening
 one_notice slot port = Noticing slot ∷ []
 
--- As many puts as the port has places: nothing moves after them (`Laws`), and a put that moves nothing changes nothing.
+-- As many puts as the port has places: nothing moves after them
+-- (`Laws`), and a put that moves nothing changes nothing.
 abbrev pub puts : ℕ → ℕ → List Happening
 puts slot port = replicate port (Putting slot)
 
@@ -49,13 +51,24 @@ pub record Turn : Type 0 where
   pub event : Happening
   pub after : List Happening
 
--- A change comes after all notices, and every port is filled behind it. A take and a close come after the notice
--- of their slot, whose port is filled before the take and behind the close. Any other event comes alone.
+-- A change comes after all notices, and every port is filled behind it. A take and a close come
+-- after the notice of their slot, whose port is filled before the take and behind the close. Any
+-- other event comes alone.
 abbrev pub turn_of : List (Option ℕ) → Happening → Turn
-turn_of ports (Changing c) = record { before = notices ports; event = Changing c; after = all_puts ports }
-turn_of ports (Taking slot) = record { before = Noticing slot ∷ puts slot (places_at ports slot); event = Taking slot; after = [] }
-turn_of ports (Closing slot) = record { before = Noticing slot ∷ []; event = Closing slot; after = puts slot (places_at ports slot) }
-turn_of ports (Opening q port backlog moved) = record { before = []; event = Opening q port backlog moved; after = [] }
+turn_of ports (Changing c) =
+    record { before = notices ports; event = Changing c; after = all_puts ports }
+turn_of ports (Taking slot) = record {
+  before = Noticing slot ∷ puts slot (places_at ports slot);
+  event = Taking slot;
+  after = [];
+}
+turn_of ports (Closing slot) = record {
+  before = Noticing slot ∷ [];
+  event = Closing slot;
+  after = puts slot (places_at ports slot);
+}
+turn_of ports (Opening q port backlog moved) =
+    record { before = []; event = Opening q port backlog moved; after = [] }
 turn_of ports (Putting slot) = record { before = []; event = Putting slot; after = [] }
 turn_of ports (HangingUp slot) = record { before = []; event = HangingUp slot; after = [] }
 turn_of ports (Noticing slot) = record { before = []; event = Noticing slot; after = [] }
@@ -67,14 +80,18 @@ events_in t = t.before ++ t.event ∷ t.after
 -- ---- what becomes of them, of whatever answers events
 
 -- after events, one after another
-abbrev pub after_all : {Core : Type 0} → (Core → Happening → Answer × Core) → Core → List Happening → Core
+abbrev pub after_all : {Core : Type 0}
+    → (Core → Happening → Answer × Core) → Core → List Happening → Core
 after_all step s [] = s
 after_all step s (e ∷ events) = after_all step (step s e).1 events
 
 -- the answer to the event of a turn, and what stands after the turn
-abbrev pub carried_out : {Core : Type 0} → (Core → Happening → Answer × Core) → Core → Turn → Answer × Core
-carried_out step s t =
-    ((step (after_all step s t.before) t.event).0, after_all step (step (after_all step s t.before) t.event).1 t.after)
+abbrev pub carried_out : {Core : Type 0} → (Core → Happening → Answer × Core) → Core → Turn
+    → Answer × Core
+carried_out step s t = (
+  (step (after_all step s t.before) t.event).0,
+  after_all step (step (after_all step s t.before) t.event).1 t.after,
+)
 
 abbrev pub turn_outcome : World → Happening → Answer × World
 turn_outcome w e = carried_out outcome w (turn_of (ports_of w) e)

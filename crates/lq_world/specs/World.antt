@@ -1,4 +1,5 @@
--- What stands after a list of events: a book, the number of openings, and a subscription or nothing in each slot.
+-- What stands after a list of events: a book, the number of
+-- openings, and a subscription or nothing in each slot.
 use Rattle.std.specs.Prelude.{ℕ, ◌+◌, ◌-◌, List, [], ◌∷◌, ◌++◌, length, map, take, drop, replicate, Bool, ◌&&◌, ◌==◌, nat_lt, Option, Some, None, is_none, slice_get, slice_set, if◌then◌else◌, true, false}
 use Rattle.std.specs.Option.{option_flatten}
 use Rattle.lq_formula.specs.Query.{Query}
@@ -16,8 +17,9 @@ pub record End : Type 0 where
   pub cause : Cause
   pub change : ℕ
 
--- A subscription: its query, the number of changes at its opening, its port and backlog, whether its end was
--- asked for, how many parcels were put into the port and how many taken from it, and its end, if it has one.
+-- A subscription: its query, the number of changes at its opening, its port and backlog, whether
+-- its end was asked for, how many parcels were put into the port and how many taken from it, and
+-- its end, if it has one.
 pub record Sub : Type 0 where
   pub query : Query
   pub moved : Bool
@@ -75,7 +77,8 @@ held b s = length (waiting b s)
 
 -- what is still to be put: those, and then the mark, if it has ended and the mark isn't put
 abbrev pub to_come : Book → Sub → List Parcel
-to_come b s = map (λ m. Update m) (waiting b s) ++ drop (s.put - length (told b s)) (mark_behind (length (told b s)) s.end)
+to_come b s = map (λ m. Update m) (waiting b s)
+    ++ drop (s.put - length (told b s)) (mark_behind (length (told b s)) s.end)
 
 abbrev pub is_live : Sub → Bool
 is_live s = is_none s.end

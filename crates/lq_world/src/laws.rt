@@ -58,8 +58,8 @@ pub fn ports_are_queues()
     ensures { PortsAreQueues }
 {}
 
-/// A turn puts until nothing moves: behind a change no port takes one more parcel, and behind a close
-/// and before a take that of its slot takes none.
+/// A turn puts until nothing moves: behind a change no port takes one more parcel, and behind a
+/// close and before a take that of its slot takes none.
 pub fn turns_fill_ports()
     ensures { TurnsFillPorts }
 {

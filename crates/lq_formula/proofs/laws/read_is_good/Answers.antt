@@ -9,4 +9,5 @@ use Rattle.lq_formula.proofs.laws.read_is_good.Goals as goal
 pub returns : goal.returns
 returns c = λ text q h texts.
     let same = tokens_same (tokens_of text) h.tokens 0 text (has_tokens 0 text) h.has in
-    formula_good c.sources_are_read.ensures nesting (bare h.tokens) q (subst (λ ts. WordsAre IsUtf8 (bare ts)) same texts) h.formula
+    formula_good c.sources_are_read.ensures nesting (bare h.tokens) q
+    (subst (λ ts. WordsAre IsUtf8 (bare ts)) same texts) h.formula

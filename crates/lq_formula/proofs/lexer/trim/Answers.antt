@@ -7,4 +7,5 @@ split_at-requires c =
     let same = c.as_bytes.ensures.value in
     boundary_behind c.args.rest.now c.count_spaces-n.result c.utf8.rest
     (omega (arith, ap length same, c.count_spaces-n.ensures.bound))
-    (λ h. subst (λ bs. get_or bs (pred c.count_spaces-n.result) 0 < 128) same (c.count_spaces-n.ensures.last h))
+    (λ h. subst (λ bs. get_or bs (pred c.count_spaces-n.result) 0 < 128) same
+    (c.count_spaces-n.ensures.last h))

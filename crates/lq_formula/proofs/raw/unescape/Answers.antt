@@ -8,12 +8,19 @@ pub loop-c-preserved-then-escaped : goal.loop-c-preserved-then-escaped
 loop-c-preserved-then-escaped c =
     let rest = c.loop-c.c-iterator.rest.now in
     let left = c.next.new.self.rest.now in
-    one_more (string_bytes c.loop-c.text) (string_bytes c.push.new.self) (unescaped false c.args.raw.now) c.in-Some.c (unescaped c.loop-c.escaped rest) (unescaped false left) c.loop-c.invariant c.in_ok-push.ensures.bytes
-    (ap (λ b. unescaped b rest) c.if-escaped.true ∙ ap (unescaped true) c.in-Some.ensures.steps.0 ∙ escaped_char c.in-Some.c left)
+    one_more (string_bytes c.loop-c.text) (string_bytes c.push.new.self)
+    (unescaped false c.args.raw.now) c.in-Some.c (unescaped c.loop-c.escaped rest)
+    (unescaped false left) c.loop-c.invariant c.in_ok-push.ensures.bytes
+    (ap (λ b. unescaped b rest) c.if-escaped.true ∙ ap (unescaped true) c.in-Some.ensures.steps.0
+    ∙ escaped_char c.in-Some.c left)
 
 pub loop-c-preserved : goal.loop-c-preserved
 loop-c-preserved c =
     let rest = c.loop-c.c-iterator.rest.now in
     let left = c.next.new.self.rest.now in
-    one_more (string_bytes c.loop-c.text) (string_bytes c.push-else-c-eq92.new.self) (unescaped false c.args.raw.now) c.in-Some.c (unescaped c.loop-c.escaped rest) (unescaped c.loop-c.escaped left) c.loop-c.invariant c.in_ok-push-2.ensures.bytes
-    (ap (λ b. unescaped b rest) c.if-escaped.false ∙ ap (unescaped false) c.in-Some.ensures.steps.0 ∙ plain_char c.in-Some.c left c.if-c-eq92.false ∙ ap (λ b. encode c.in-Some.c ++ unescaped b left) (sym c.if-escaped.false))
+    one_more (string_bytes c.loop-c.text) (string_bytes c.push-else-c-eq92.new.self)
+    (unescaped false c.args.raw.now) c.in-Some.c (unescaped c.loop-c.escaped rest)
+    (unescaped c.loop-c.escaped left) c.loop-c.invariant c.in_ok-push-2.ensures.bytes
+    (ap (λ b. unescaped b rest) c.if-escaped.false ∙ ap (unescaped false) c.in-Some.ensures.steps.0
+    ∙ plain_char c.in-Some.c left c.if-c-eq92.false
+    ∙ ap (λ b. encode c.in-Some.c ++ unescaped b left) (sym c.if-escaped.false))

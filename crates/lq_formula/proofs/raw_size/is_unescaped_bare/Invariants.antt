@@ -6,7 +6,8 @@ use Rattle.lq_formula.proofs.raw_size.is_unescaped_bare.Given as goal
 
 abbrev pub invariant-loop-byte : goal.invariant-loop-byte
 invariant-loop-byte l =
-    (l.at ≤ length l.bytes) × (list_all is_bare_byte (unescaped false (drop l.at l.bytes)) ≡ list_all is_bare_byte (unescaped false l.bytes))
+    (l.at ≤ length l.bytes) × (list_all is_bare_byte (unescaped false (drop l.at l.bytes))
+    ≡ list_all is_bare_byte (unescaped false l.bytes))
 
 abbrev pub decreases-loop-byte : goal.decreases-loop-byte
 decreases-loop-byte l = length l.bytes - l.at

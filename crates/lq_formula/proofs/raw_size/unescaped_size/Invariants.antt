@@ -8,7 +8,8 @@ abbrev pub invariant-loop-byte : goal.invariant-loop-byte
 invariant-loop-byte l = record {
   within : l.at ≤ length l.bytes;
   small : l.size ≤ 2 ^ 64 - 1;
-  so_far : capped (l.size + length (quoted (unescaped false (drop l.at l.bytes)))) ≡ capped (length (quoted (unescaped false l.bytes)));
+  so_far : capped (l.size + length (quoted (unescaped false (drop l.at l.bytes))))
+      ≡ capped (length (quoted (unescaped false l.bytes)));
 }
 
 abbrev pub decreases-loop-byte : goal.decreases-loop-byte

@@ -10,9 +10,13 @@ use Rattle.lq_formula.proofs.WritingLemmas.{map-same}
 use Rattle.lq_formula.proofs.size.characters_size.Goals as goal
 
 pub loop-c-preserved : goal.loop-c-preserved
-loop-c-preserved c = plain_on _ _ _ c.loop-c.yielded c.in-Some.c c.loop-c.invariant c.character_size.ensures c.saturating_add-size.ensures
+loop-c-preserved c = plain_on _ _ _ c.loop-c.yielded c.in-Some.c c.loop-c.invariant
+    c.character_size.ensures c.saturating_add-size.ensures
 
 pub returns : goal.returns
 returns c =
-    let t = YieldsList-end (YieldsList-from_chars c.args.text.now c.utf8.text cc) c.loop-c.yielded _ c.loop-c.yielded_by _ _ c.in-None.is c.next.ensures.steps in
-    c.loop-c.invariant ∙ ap (λ cs. capped (length (encode_utf8_all (pattern_text (plain_elements cs))))) (sym (map-same c.loop-c.yielded) ∙ t.0)
+    let t = YieldsList-end (YieldsList-from_chars c.args.text.now c.utf8.text cc) c.loop-c.yielded _
+    c.loop-c.yielded_by _ _ c.in-None.is c.next.ensures.steps in
+    c.loop-c.invariant
+    ∙ ap (λ cs. capped (length (encode_utf8_all (pattern_text (plain_elements cs)))))
+    (sym (map-same c.loop-c.yielded) ∙ t.0)

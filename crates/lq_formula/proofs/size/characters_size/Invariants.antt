@@ -6,4 +6,5 @@ use Rattle.lq_formula.specs.Capped.{capped}
 use Rattle.lq_formula.proofs.size.characters_size.Given as goal
 
 abbrev pub invariant-loop-c : goal.invariant-loop-c
-invariant-loop-c l = l.size ≡ capped (length (encode_utf8_all (pattern_text (plain_elements l.yielded))))
+invariant-loop-c l =
+    l.size ≡ capped (length (encode_utf8_all (pattern_text (plain_elements l.yielded))))

@@ -6,4 +6,5 @@ use Rattle.lq_formula.proofs.size.items_size.Given as goal
 
 abbrev pub invariant-loop-item : goal.invariant-loop-item
 invariant-loop-item l =
-    (capped (l.size + length (encode_utf8_all (items_then (drop l.item-index l.items) []))) ≡ capped (length (encode_utf8_all (items_then l.items [])))) × (l.size ≤ 2 ^ 64 - 1)
+    (capped (l.size + length (encode_utf8_all (items_then (drop l.item-index l.items) [])))
+    ≡ capped (length (encode_utf8_all (items_then l.items [])))) × (l.size ≤ 2 ^ 64 - 1)

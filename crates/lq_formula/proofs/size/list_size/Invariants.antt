@@ -6,4 +6,5 @@ use Rattle.lq_formula.proofs.size.list_size.Given as goal
 
 abbrev pub invariant-loop-element : goal.invariant-loop-element
 invariant-loop-element l =
-    (capped (l.size + length (encode_utf8_all (pattern_text (drop l.element-index l.elements)))) ≡ capped (length (encode_utf8_all (pattern_text l.elements)))) × (l.size ≤ 2 ^ 64 - 1)
+    (capped (l.size + length (encode_utf8_all (pattern_text (drop l.element-index l.elements))))
+    ≡ capped (length (encode_utf8_all (pattern_text l.elements)))) × (l.size ≤ 2 ^ 64 - 1)

@@ -5,4 +5,5 @@ use Rattle.lq_formula.proofs.size.quoted_size.Given as goal
 
 abbrev pub invariant-loop-byte : goal.invariant-loop-byte
 invariant-loop-byte l =
-    (capped (l.size + length (quoted (drop l.byte-index l.bytes))) ≡ capped (length (quoted l.bytes))) × (l.size ≤ 2 ^ 64 - 1)
+    (capped (l.size + length (quoted (drop l.byte-index l.bytes)))
+    ≡ capped (length (quoted l.bytes))) × (l.size ≤ 2 ^ 64 - 1)

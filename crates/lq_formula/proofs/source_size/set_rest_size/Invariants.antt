@@ -7,7 +7,8 @@ use Rattle.lq_formula.proofs.source_size.set_rest_size.Given as goal
 abbrev pub invariant-loop-rest : goal.invariant-loop-rest
 invariant-loop-rest l = record {
   text : IsUtf8 l.left;
-  so_far : items_sized l.size (pieces_of item_at (signs_of l.left)) ≡ items_sized 0 (pieces_of item_at (signs_of l.fn.text));
+  so_far : items_sized l.size (pieces_of item_at (signs_of l.left))
+      ≡ items_sized 0 (pieces_of item_at (signs_of l.fn.text));
 }
 
 abbrev pub decreases-loop-rest : goal.decreases-loop-rest

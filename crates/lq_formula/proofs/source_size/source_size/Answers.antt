@@ -4,10 +4,12 @@ use Rattle.lq_formula.proofs.SizeLemmas.{capped_bound}
 use Rattle.lq_formula.proofs.source_size.source_size.Goals as goal
 
 pub returns-in-End : goal.returns-in-End
-returns-in-End c = elements_end c.sources_are_walked.ensures _ _ _ _ c.loop-element.invariant.so_far c.in-End.ensures c.loop-element.invariant.small
+returns-in-End c = elements_end c.sources_are_walked.ensures _ _ _ _ c.loop-element.invariant.so_far
+    c.in-End.ensures c.loop-element.invariant.small
 
 pub loop-element-init : goal.loop-element-init
-loop-element-init c = record { text = c.utf8.source; small = omega arith; so_far = none_measured c.args.source.now }
+loop-element-init c =
+    record { text = c.utf8.source; small = omega arith; so_far = none_measured c.args.source.now }
 
 pub loop-element-smaller : goal.loop-element-smaller
 loop-element-smaller c = c.sources_are_walked.ensures.elements.fewer _ _ _ c.in-Has.ensures.is
@@ -16,8 +18,11 @@ pub loop-element-preserved : goal.loop-element-preserved
 loop-element-preserved c = record {
   text = c.in-Has.ensures.text;
   small = capped_bound _ _ _ c.saturating_add-size.ensures;
-  so_far = elements_on c.sources_are_walked.ensures _ _ _ _ _ _ _ c.loop-element.invariant.so_far c.in-Has.ensures c.saturating_add-size.ensures;
+  so_far = elements_on c.sources_are_walked.ensures _ _ _ _ _ _ _ c.loop-element.invariant.so_far
+      c.in-Has.ensures c.saturating_add-size.ensures;
 }
 
 pub returns-in-Faulty : goal.returns-in-Faulty
-returns-in-Faulty c = elements_stuck c.sources_are_walked.ensures _ _ _ _ _ c.loop-element.invariant.text c.loop-element.invariant.so_far c.in-Faulty.ensures c.saturating_sub.ensures
+returns-in-Faulty c =
+    elements_stuck c.sources_are_walked.ensures _ _ _ _ _ c.loop-element.invariant.text
+    c.loop-element.invariant.so_far c.in-Faulty.ensures c.saturating_sub.ensures

@@ -9,7 +9,8 @@ abbrev pub invariant-loop-element : goal.invariant-loop-element
 invariant-loop-element l = record {
   text : IsUtf8 l.left;
   small : l.size ≤ 2 ^ 64 - 1;
-  so_far : measured l.fn.source l.size (pieces_of element_at (signs_of l.left)) ≡ pattern_sized (pattern_of l.fn.source);
+  so_far : measured l.fn.source l.size (pieces_of element_at (signs_of l.left))
+      ≡ pattern_sized (pattern_of l.fn.source);
 }
 
 abbrev pub decreases-loop-element : goal.decreases-loop-element

@@ -6,4 +6,5 @@ use Rattle.lq_formula.proofs.writing.put_items.Given as goal
 
 abbrev pub invariant-loop-item : goal.invariant-loop-item
 invariant-loop-item l =
-    string_bytes l.out ++ encode_utf8_all (items_then (drop l.item-index l.items) []) ≡ string_bytes l.fn.out ++ encode_utf8_all (items_then l.items [])
+    string_bytes l.out ++ encode_utf8_all (items_then (drop l.item-index l.items) [])
+    ≡ string_bytes l.fn.out ++ encode_utf8_all (items_then l.items [])

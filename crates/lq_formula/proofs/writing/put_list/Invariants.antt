@@ -6,4 +6,5 @@ use Rattle.lq_formula.proofs.writing.put_list.Given as goal
 
 abbrev pub invariant-loop-element : goal.invariant-loop-element
 invariant-loop-element l =
-    string_bytes l.out ++ encode_utf8_all (pattern_text (drop l.element-index l.elements)) ≡ string_bytes l.fn.out ++ encode_utf8_all (pattern_text l.elements)
+    string_bytes l.out ++ encode_utf8_all (pattern_text (drop l.element-index l.elements))
+    ≡ string_bytes l.fn.out ++ encode_utf8_all (pattern_text l.elements)

@@ -10,9 +10,13 @@ use Rattle.lq_formula.proofs.WritingLemmas.{plain_step_on}
 use Rattle.lq_formula.proofs.writing.put_plain_text.Goals as goal
 
 pub loop-c-preserved : goal.loop-c-preserved
-loop-c-preserved c = plain_step_on _ _ _ c.loop-c.yielded c.in-Some.c c.loop-c.invariant c.in_ok-put_plain.ensures.value
+loop-c-preserved c = plain_step_on _ _ _ c.loop-c.yielded c.in-Some.c c.loop-c.invariant
+    c.in_ok-put_plain.ensures.value
 
 pub returns-clause-value : goal.returns-clause-value
 returns-clause-value c =
-    let t = YieldsList-end (YieldsList-from_chars c.args.text.now c.utf8.text cc) c.loop-c.yielded _ c.loop-c.yielded_by _ _ c.in-None.is c.next.ensures.steps in
-    c.loop-c.invariant ∙ ap (λ cs. string_bytes c.args.out.now ++ encode_utf8_all (pattern_text (plain_elements cs))) (sym (map-same c.loop-c.yielded) ∙ t.0)
+    let t = YieldsList-end (YieldsList-from_chars c.args.text.now c.utf8.text cc) c.loop-c.yielded _
+    c.loop-c.yielded_by _ _ c.in-None.is c.next.ensures.steps in
+    c.loop-c.invariant
+    ∙ ap (λ cs. string_bytes c.args.out.now ++ encode_utf8_all (pattern_text (plain_elements cs)))
+    (sym (map-same c.loop-c.yielded) ∙ t.0)

@@ -6,4 +6,5 @@ use Rattle.lq_formula.specs.Canonical.{pattern_text}
 use Rattle.lq_formula.proofs.writing.put_plain_text.Given as goal
 
 abbrev pub invariant-loop-c : goal.invariant-loop-c
-invariant-loop-c l = string_bytes l.out ≡ string_bytes l.fn.out ++ encode_utf8_all (pattern_text (plain_elements l.yielded))
+invariant-loop-c l = string_bytes l.out
+    ≡ string_bytes l.fn.out ++ encode_utf8_all (pattern_text (plain_elements l.yielded))

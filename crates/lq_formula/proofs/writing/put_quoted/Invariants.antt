@@ -5,4 +5,5 @@ use Rattle.lq_formula.specs.Canonical.{quoted}
 use Rattle.lq_formula.proofs.writing.put_quoted.Given as goal
 
 abbrev pub invariant-loop-c : goal.invariant-loop-c
-invariant-loop-c l = string_bytes l.out ≡ string_bytes l.fn.out ++ quoted (encode_utf8_all l.yielded)
+invariant-loop-c l =
+    string_bytes l.out ≡ string_bytes l.fn.out ++ quoted (encode_utf8_all l.yielded)

@@ -12,7 +12,8 @@ returns-in_err-close-in-Err g c =
       works = search rules;
       err = on_err_any c.from_residual.result (λ began given s.
           let part = c.in_err-close-in-Err.ensures.err in
-          rw c.close.ensures.empty (fronts_handed g.S.Responder.rules began (given ++ c.args.piece.now) _ _ _ part.0 (c.in-Err.ensures.err began given s) part.1));
+          rw c.close.ensures.empty (fronts_handed g.S.Responder.rules began
+          (given ++ c.args.piece.now) _ _ _ part.0 (c.in-Err.ensures.err began given s) part.1));
       limit = λ h. absurd (let no : Err Write ≡ Err Limit = sym is ∙ h in cc);
       flushed = on_err_any c.from_residual.result (inl is);
       not_read = λ h. let no : Err Write ≡ Err Read = sym is ∙ h in cc;
@@ -26,9 +27,11 @@ returns-in_ok-close-in-Err g c = record {
   bytes = tt;
   works = tt;
   err = λ began given s.
-      rw c.close.ensures.empty (fronts_all g.S.Responder.rules began (given ++ c.args.piece.now) _ _ _ (c.in-Err.ensures.err began given s) c.in_ok-close-in-Err.ensures.ok);
+      rw c.close.ensures.empty (fronts_all g.S.Responder.rules began (given ++ c.args.piece.now) _ _
+      _ (c.in-Err.ensures.err began given s) c.in_ok-close-in-Err.ensures.ok);
   limit = λ is began given s.
-      meets_handed g.S.Responder.rules began given c.args.piece.now _ _ _ _ _ (c.in-Err.ensures.limit is began given s) c.in_ok-close-in-Err.ensures.ok;
+      meets_handed g.S.Responder.rules began given c.args.piece.now _ _ _ _ _
+      (c.in-Err.ensures.limit is began given s) c.in_ok-close-in-Err.ensures.ok;
   flushed = inr c.in_ok-close-in-Err.ensures.flushed;
   not_read = c.in-Err.ensures.not_read;
   not_thread = c.in-Err.ensures.not_thread;

@@ -6,36 +6,49 @@ use Rattle.lq_lines.proofs.pieces.take_piece.Goals.{then-intake-ge-MAX_LINES-via
 
 pub returns-then-intake-ge-MAX_LINES-clause-err : goal.returns-then-intake-ge-MAX_LINES-clause-err
 returns-then-intake-ge-MAX_LINES-clause-err g c = λ began given s.
-    stopped_at g.S.Responder.rules began given c.args.piece.now c.loop-at.at _ _ _ _ (c.loop-at.invariant.stands began given s)
+    stopped_at g.S.Responder.rules began given c.args.piece.now c.loop-at.at _ _ _ _
+    (c.loop-at.invariant.stands began given s)
 
-pub returns-then-intake-ge-MAX_LINES-clause-limit : goal.returns-then-intake-ge-MAX_LINES-clause-limit
+pub returns-then-intake-ge-MAX_LINES-clause-limit :
+    goal.returns-then-intake-ge-MAX_LINES-clause-limit
 returns-then-intake-ge-MAX_LINES-clause-limit g c = λ _ began given s.
     let stood = c.loop-at.invariant.stands began given s in record {
       count = c.loop-at.at;
       follows = c.loop-at-test.true;
       stands = stood;
       at_limit = elim c.then-intake-ge-MAX_LINES.branch [
-        | then-intake-ge-MAX_LINES-via-then-intake-ge-MAX_LINES w ↦ inl (omega (arith, stood.lines_within, w.if-intake-ge-MAX_LINES.true))
-        | then-intake-ge-MAX_LINES-via-else-intake-ge-MAX_LINES+then-intake-ge-MAX_BYTES w ↦ inr (omega (arith, stood.bytes_within, w.if-intake-ge-MAX_BYTES.true))
+        | then-intake-ge-MAX_LINES-via-then-intake-ge-MAX_LINES w ↦
+            inl (omega (arith, stood.lines_within, w.if-intake-ge-MAX_LINES.true))
+        | then-intake-ge-MAX_LINES-via-else-intake-ge-MAX_LINES+then-intake-ge-MAX_BYTES w ↦
+            inr (omega (arith, stood.bytes_within, w.if-intake-ge-MAX_BYTES.true))
       ];
     }
 
 pub returns-in_err-keep-clause-err : goal.returns-in_err-keep-clause-err
 returns-in_err-keep-clause-err g c = on_err_any c.from_residual-in_err-keep.result (λ began given s.
-    stopped_at g.S.Responder.rules began given c.args.piece.now c.loop-at.at _ _ _ _ (c.loop-at.invariant.stands began given s))
+    stopped_at g.S.Responder.rules began given c.args.piece.now c.loop-at.at _ _ _ _
+    (c.loop-at.invariant.stands began given s))
 
 pub returns-in_err-end_line-clause-err : goal.returns-in_err-end_line-clause-err
 returns-in_err-end_line-clause-err g c = on_err_any c.from_residual.result (λ began given s.
-    stopped_in g.S.Responder.rules began given c.args.piece.now c.loop-at.at 10 _ _ c.loop-at-test.true (c.run_at-run.ensures.stops (no_bytes c.run_at-run.result.now (sym c.if-is_empty.ensures)))
-    (c.in_err-end_line.ensures.err (drop (c.loop-at.at + 1) c.args.piece.now) began _ (c.loop-at.invariant.stands began given s)))
+    stopped_in g.S.Responder.rules began given c.args.piece.now c.loop-at.at
+    10 _ _ c.loop-at-test.true
+    (c.run_at-run.ensures.stops (no_bytes c.run_at-run.result.now (sym c.if-is_empty.ensures)))
+    (c.in_err-end_line.ensures.err (drop (c.loop-at.at + 1) c.args.piece.now) began _
+    (c.loop-at.invariant.stands began given s)))
 
 pub loop-at-preserved : goal.loop-at-preserved
 loop-at-preserved g c = record {
   within = c.run_at-run.ensures.bound;
   stands = λ began given s.
-      stands_ahead g.S.Responder.rules began given c.args.piece.now c.loop-at.at (length c.run_at-run.result.now) _ _ _ _
-      (rw (sym c.run_at-run.ensures.run) (stands_run g.S.Responder.rules began _ _ _ c.loop-at.intake c.keep.new.self _ c.run_at-run.result.now (c.loop-at.invariant.stands began given s) c.run_at-run.ensures.unbroken
-      c.in_ok-keep.ensures.ok c.in_ok-keep.ensures.lines c.in_ok-keep.ensures.bytes (omega (arith, c.if-intake-ge-MAX_LINES.false)) (omega (arith, c.run_at-run.ensures.most, c.if-intake-ge-MAX_BYTES.false))));
+      stands_ahead g.S.Responder.rules began given c.args.piece.now c.loop-at.at
+      (length c.run_at-run.result.now) _ _ _ _
+      (rw (sym c.run_at-run.ensures.run) (stands_run g.S.Responder.rules began _ _ _
+      c.loop-at.intake c.keep.new.self _ c.run_at-run.result.now
+      (c.loop-at.invariant.stands began given s) c.run_at-run.ensures.unbroken
+      c.in_ok-keep.ensures.ok c.in_ok-keep.ensures.lines c.in_ok-keep.ensures.bytes
+      (omega (arith, c.if-intake-ge-MAX_LINES.false))
+      (omega (arith, c.run_at-run.ensures.most, c.if-intake-ge-MAX_BYTES.false))));
   works = c.loop-at.invariant.works;
   bytes = omega (arith, c.in_ok-keep.ensures.bytes, c.loop-at.invariant.bytes);
 }

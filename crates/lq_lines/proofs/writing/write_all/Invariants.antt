@@ -5,7 +5,8 @@ use Rattle.lq_lines.proofs.writing.write_all.Given as goal
 abbrev pub invariant-loop-at : goal.invariant-loop-at
 invariant-loop-at g l = record {
   in_range : l.at ≤ length l.bytes;
-  taken : Appends (g.W.Sink.written l.initial.writer) (g.W.Sink.written l.writer) (take l.at l.bytes);
+  taken :
+      Appends (g.W.Sink.written l.initial.writer) (g.W.Sink.written l.writer) (take l.at l.bytes);
   works : g.W.Sink.failed l.writer ≡ g.W.Sink.failed l.initial.writer;
   moves : g.W.Sink.stalled l.writer ≡ g.W.Sink.stalled l.initial.writer;
 }

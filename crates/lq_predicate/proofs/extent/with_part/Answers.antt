@@ -13,4 +13,5 @@ pub returns-in-More : goal.returns-in-More
 returns-in-More c = λ qs q h new.
     more_parts c.args.parts c.in-More.whole c.args.part _ _ qs q c.in-More.is h new
     (c.max-in-More.ensures ∙ ap (max c.in-More.whole.depth) c.saturating_add-in-More.ensures)
-    (c.saturating_add-in-More-3.ensures ∙ ap (λ n. capped (n + 2)) c.saturating_add-in-More-2.ensures)
+    (c.saturating_add-in-More-3.ensures
+    ∙ ap (λ n. capped (n + 2)) c.saturating_add-in-More-2.ensures)

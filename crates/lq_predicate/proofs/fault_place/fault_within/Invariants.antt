@@ -6,7 +6,8 @@ use Rattle.lq_predicate.proofs.fault_place.fault_within.Given as goal
 
 -- some state is shown that the machine has come to
 abbrev pub invariant-loop-placed : goal.invariant-loop-placed
-invariant-loop-placed l = (s : State) × Shows l.gauge s × SoFar l.text l.left.place l.left.rest.now s l.words
+invariant-loop-placed l =
+    (s : State) × Shows l.gauge s × SoFar l.text l.left.place l.left.rest.now s l.words
 
 abbrev pub decreases-loop-placed : goal.decreases-loop-placed
 decreases-loop-placed l = length l.left.rest.now

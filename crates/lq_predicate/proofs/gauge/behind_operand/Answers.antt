@@ -5,7 +5,10 @@ pub returns-in-Ands : goal.returns-in-Ands
 returns-in-Ands c = λ s h light. rw c.in-Ands.is (ands_read c.args.gauge s h)
 
 pub returns-in-Ors : goal.returns-in-Ors
-returns-in-Ors c = λ s h light. rw c.in-Ors.is (ors_read c.args.gauge s _ h (c.with_or-gauge.ensures s.top h.top))
+returns-in-Ors c =
+    λ s h light. rw c.in-Ors.is (ors_read c.args.gauge s _ h (c.with_or-gauge.ensures s.top h.top))
 
 pub returns-in-Some : goal.returns-in-Some
-returns-in-Some c = λ s h light. rw c.in-Closes.is (closed c.args.gauge s c.pop.new.self c.in-Some.outline c.said-part.result _ _ h light c.in-Some.ensures.items (c.said-part.ensures s.top h.top) c.saturating_add-room.ensures c.complete.ensures)
+returns-in-Some c = λ s h light. rw c.in-Closes.is (closed c.args.gauge s c.pop.new.self
+    c.in-Some.outline c.said-part.result _ _ h light c.in-Some.ensures.items
+    (c.said-part.ensures s.top h.top) c.saturating_add-room.ensures c.complete.ensures)

@@ -13,5 +13,7 @@ loop-c-preserved c =
 
 pub returns-clause-value : goal.returns-clause-value
 returns-clause-value c =
-    let t = YieldsList-end (YieldsList-from_chars c.args.text.now c.utf8.text cc) c.loop-c.yielded _ c.loop-c.yielded_by _ _ c.in-None.is c.next.ensures.steps in
-    c.loop-c.invariant ∙ ap (λ cs. c.args.elements.now.items ++ plain_elements cs) (sym (map-same c.loop-c.yielded) ∙ t.0)
+    let t = YieldsList-end (YieldsList-from_chars c.args.text.now c.utf8.text cc) c.loop-c.yielded _
+    c.loop-c.yielded_by _ _ c.in-None.is c.next.ensures.steps in
+    c.loop-c.invariant ∙ ap (λ cs. c.args.elements.now.items ++ plain_elements cs)
+    (sym (map-same c.loop-c.yielded) ∙ t.0)

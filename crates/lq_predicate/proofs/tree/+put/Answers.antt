@@ -8,16 +8,19 @@ use Rattle.lq_predicate.proofs.tree.+put.Goals as goal
 pub put_parts-loop-part-init : goal.put_parts-loop-part-init
 put_parts-loop-part-init t c =
     let split : c.args.parts.now ≡ c.in-Some.first.now ∷ c.in-Some.others.now = search rules in
-    parts_begun _ _ _ c.args.separator.now c.in-Some.first.now c.in-Some.others.now c.args.parts.now split c.in_ok-push_str.ensures.bytes c.in_ok-put.ensures.value
+    parts_begun _ _ _ c.args.separator.now c.in-Some.first.now c.in-Some.others.now c.args.parts.now
+    split c.in_ok-push_str.ensures.bytes c.in_ok-put.ensures.value
 
 pub put_parts-put-requires-in-loop-part : goal.put_parts-put-requires-in-loop-part
 put_parts-put-requires-in-loop-part t c =
     let split : c.args.parts.now ≡ c.in-Some.first.now ∷ c.in-Some.others.now = search rules in
     let deep = ap (λ ps. deepest (queries ps)) split in
-    let falls = depth_le-deepest c.in-Some.others.now c.loop-part.part-index c.part-item.result c.loop-part-test.true c.part-item.is in
+    let falls = depth_le-deepest c.in-Some.others.now c.loop-part.part-index c.part-item.result
+    c.loop-part-test.true c.part-item.is in
     (omega (arith, falls, deep), tt)
 
 pub put_parts-loop-part-preserved : goal.put_parts-loop-part-preserved
 put_parts-loop-part-preserved t c =
-    parts_on _ _ _ _ c.args.separator.now c.in-Some.others.now c.loop-part.part-index c.part-item.result c.loop-part-test.true c.part-item.is c.loop-part.invariant
+    parts_on _ _ _ _ c.args.separator.now c.in-Some.others.now c.loop-part.part-index
+    c.part-item.result c.loop-part-test.true c.part-item.is c.loop-part.invariant
     c.in_ok-push_str-2.ensures.bytes c.in_ok-put-2.ensures.value

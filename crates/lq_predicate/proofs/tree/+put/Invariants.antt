@@ -13,5 +13,6 @@ decreases-put_parts l = 2 * deepest (queries l.parts.now) + 2
 
 abbrev pub invariant-put_parts-loop-part : goal.invariant-put_parts-loop-part
 invariant-put_parts-loop-part l =
-    string_bytes l.out ++ others_written l.separator (queries (drop l.part-index l.others)) (41 ∷ [])
+    string_bytes l.out
+    ++ others_written l.separator (queries (drop l.part-index l.others)) (41 ∷ [])
     ≡ string_bytes l.fn.out ++ 40 ∷ parts_written l.separator (queries l.parts) (41 ∷ [])

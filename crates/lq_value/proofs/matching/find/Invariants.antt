@@ -7,7 +7,8 @@ use Rattle.lq_value.proofs.matching.find.Given as goal
 abbrev pub invariant-loop-found : goal.invariant-loop-found
 invariant-loop-found l = record {
   elements : l.here.elements.now ≡ l.fn.start.elements.now;
-  later : some_rest (fits l.fn.start.elements.now) (chars l.fn.start.text.now) ≡ some_rest (fits l.fn.start.elements.now) (chars l.here.text.now);
+  later : some_rest (fits l.fn.start.elements.now) (chars l.fn.start.text.now)
+      ≡ some_rest (fits l.fn.start.elements.now) (chars l.here.text.now);
 }
 
 abbrev pub decreases-loop-found : goal.decreases-loop-found

@@ -8,7 +8,8 @@ use Rattle.lq_value.proofs.matching.fits_stars.Given as goal
 abbrev pub invariant-loop-after : goal.invariant-loop-after
 invariant-loop-after l = record {
   star : IsAtStar l.left.elements.now;
-  same : fits l.left.elements.now (chars l.left.text.now) ≡ fits l.fn.start.elements.now (chars l.fn.start.text.now);
+  same : fits l.left.elements.now (chars l.left.text.now)
+      ≡ fits l.fn.start.elements.now (chars l.fn.start.text.now);
 }
 
 abbrev pub decreases-loop-after : goal.decreases-loop-after

@@ -11,10 +11,13 @@ loop-element-init c = ap plain_elements (ap chars c.new-text.ensures.bytes ∙ c
 
 pub loop-element-preserved : goal.loop-element-preserved
 loop-element-preserved c =
-    text_more c.args.elements.now c.loop-element.element-index c.element-item.result c.in-Plain.c _ _ c.loop-element-test.true c.element-item.is
-    c.in-Plain.is (IsUtf8-string_bytes c.loop-element.text) (IsUtf8-string_bytes c.push.new.self) c.in_ok-push.ensures.bytes c.loop-element.invariant
+    text_more c.args.elements.now c.loop-element.element-index c.element-item.result c.in-Plain.c _
+    _ c.loop-element-test.true c.element-item.is
+    c.in-Plain.is (IsUtf8-string_bytes c.loop-element.text)
+    (IsUtf8-string_bytes c.push.new.self) c.in_ok-push.ensures.bytes c.loop-element.invariant
 
 pub returns-in_default-clause-value : goal.returns-in_default-clause-value
 returns-in_default-clause-value c =
-    text_none c.args.elements.now c.loop-element.element-index c.element-item.result (chars (string_bytes c.loop-element.text))
+    text_none c.args.elements.now c.loop-element.element-index c.element-item.result
+    (chars (string_bytes c.loop-element.text))
     c.loop-element-test.true c.element-item.is c.in_default.not-Plain c.loop-element.invariant

@@ -6,4 +6,5 @@ use Rattle.lq_value.proofs.pattern.plain_text.Given as goal
 
 -- the text of the elements so far
 abbrev pub invariant-loop-element : goal.invariant-loop-element
-invariant-loop-element l = plain_elements (chars (string_bytes l.text)) ≡ take l.element-index l.elements
+invariant-loop-element l =
+    plain_elements (chars (string_bytes l.text)) ≡ take l.element-index l.elements

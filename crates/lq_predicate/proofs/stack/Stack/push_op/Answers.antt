@@ -7,13 +7,18 @@ use Rattle.lq_predicate.proofs.stack.Stack.push_op.Goals as goal
 pub returns-in_err-predicate-in_default : goal.returns-in_err-predicate-in_default
 returns-in_err-predicate-in_default c =
     let stack = c.args.self.now in
-    let same = after_op-comparison c.args.op stack.items c.in_default.not-And c.in_default.not-Or c.in_default.not-Not in
+    let same = after_op-comparison c.args.op stack.items c.in_default.not-And c.in_default.not-Or
+    c.in_default.not-Not in
     let room : stack.pushes + 1 < 2 ^ 64 = search rules in
-    let refused : IsRefusedBy c.from_residual-in_err-predicate-in_default.result (refusal_at stack.pushes (after_comparison c.args.op stack.items)) = search rules in
-    let e : refusal_at stack.pushes (op_pushed c.args.op stack) ≡ refusal_at stack.pushes (after_comparison c.args.op stack.items) =
-    refusal-pushed stack stack.pushes (after_op c.args.op stack.items) room ∙ ap (refusal_at stack.pushes) same in
+    let refused : IsRefusedBy c.from_residual-in_err-predicate-in_default.result
+    (refusal_at stack.pushes (after_comparison c.args.op stack.items)) = search rules in
+    let e : refusal_at stack.pushes (op_pushed c.args.op stack)
+    ≡ refusal_at stack.pushes (after_comparison c.args.op stack.items) =
+    refusal-pushed stack stack.pushes (after_op c.args.op stack.items) room
+    ∙ ap (refusal_at stack.pushes) same in
     record {
       ok = search rules;
-      refused = subst (IsRefusedBy c.from_residual-in_err-predicate-in_default.result) (sym e) refused;
+      refused =
+          subst (IsRefusedBy c.from_residual-in_err-predicate-in_default.result) (sym e) refused;
       err = search rules;
     }

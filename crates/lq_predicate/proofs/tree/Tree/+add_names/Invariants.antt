@@ -5,4 +5,5 @@ use Rattle.lq_predicate.proofs.tree.Tree.+add_names.Given as goal
 
 abbrev pub invariant-loop-part : goal.invariant-loop-part
 invariant-loop-part l =
-    each_once l.names.items (all_attributes (queries (drop l.part-index l.part-items))) ≡ each_once l.fn.names.items (attributes l.self)
+    each_once l.names.items (all_attributes (queries (drop l.part-index l.part-items)))
+    ≡ each_once l.fn.names.items (attributes l.self)

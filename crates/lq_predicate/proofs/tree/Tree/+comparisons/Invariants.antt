@@ -4,4 +4,5 @@ use Rattle.lq_formula.specs.Canonical.{comparisons, all_comparisons}
 use Rattle.lq_predicate.proofs.tree.Tree.+comparisons.Given as goal
 
 abbrev pub invariant-loop-part : goal.invariant-loop-part
-invariant-loop-part l = l.count + all_comparisons (queries (drop l.part-index l.part-items)) ≡ comparisons l.self
+invariant-loop-part l =
+    l.count + all_comparisons (queries (drop l.part-index l.part-items)) ≡ comparisons l.self

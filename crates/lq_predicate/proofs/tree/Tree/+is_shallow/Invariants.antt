@@ -4,4 +4,5 @@ use Rattle.lq_formula.specs.Canonical.{depth, deepest}
 use Rattle.lq_predicate.proofs.tree.Tree.+is_shallow.Given as goal
 
 abbrev pub invariant-loop-part : goal.invariant-loop-part
-invariant-loop-part l = nat_le (deepest (queries (drop l.part-index l.part-items))) (l.most - 1) ≡ nat_le (depth l.self) l.most
+invariant-loop-part l = nat_le (deepest (queries (drop l.part-index l.part-items))) (l.most - 1)
+    ≡ nat_le (depth l.self) l.most

@@ -10,7 +10,8 @@ is_true_of-requires-in-loop-part g t c =
     let is : And (queries c.deref-part-items.result.now) ≡ c.args.self.now = search rules in
     let deep = ap depth is in
     let falls = depth_le-deepest _ _ _ c.loop-part-test.true c.part-item.is in
-    let formed = part_formed _ _ _ c.loop-part-test.true c.part-item.is (and_formed_parts _ _ is c.requires) in
+    let formed =
+    part_formed _ _ _ c.loop-part-test.true c.part-item.is (and_formed_parts _ _ is c.requires) in
     λ κs within. (omega (arith, deep, falls, c.decreases), (search rules, formed))
 
 pub is_true_of-requires-in-loop-part-2 : goal.is_true_of-requires-in-loop-part-2
@@ -18,5 +19,6 @@ is_true_of-requires-in-loop-part-2 g t c =
     let is : Or (queries c.deref-part-items-in-Or.result.now) ≡ c.args.self.now = search rules in
     let deep = ap depth is in
     let falls = depth_le-deepest _ _ _ c.loop-part-2-test.true c.part-item-in-loop-part-2.is in
-    let formed = part_formed _ _ _ c.loop-part-2-test.true c.part-item-in-loop-part-2.is (or_formed_parts _ _ is c.requires) in
+    let formed = part_formed _ _ _ c.loop-part-2-test.true c.part-item-in-loop-part-2.is
+    (or_formed_parts _ _ is c.requires) in
     λ κs within. (omega (arith, deep, falls, c.decreases), (search rules, formed))

@@ -6,7 +6,9 @@ use Rattle.lq_predicate.proofs.SizeLemmas.{parts_size}
 use Rattle.lq_predicate.proofs.tree.Tree.+size.Given as goal
 
 abbrev pub invariant-loop-part : goal.invariant-loop-part
-invariant-loop-part l = (capped (l.size + parts_size (queries (drop l.part-index l.part-items))) ≡ capped (length (canonical l.self))) × (l.size ≤ 2 ^ 64 - 1)
+invariant-loop-part l = (capped (l.size + parts_size (queries (drop l.part-index l.part-items)))
+    ≡ capped (length (canonical l.self))) × (l.size ≤ 2 ^ 64 - 1)
 
 abbrev pub invariant-loop-part-2 : goal.invariant-loop-part-2
-invariant-loop-part-2 l = (capped (l.size + parts_size (queries (drop l.part-index l.part-items))) ≡ capped (length (canonical l.self))) × (l.size ≤ 2 ^ 64 - 1)
+invariant-loop-part-2 l = (capped (l.size + parts_size (queries (drop l.part-index l.part-items)))
+    ≡ capped (length (canonical l.self))) × (l.size ≤ 2 ^ 64 - 1)
