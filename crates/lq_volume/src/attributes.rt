@@ -1,71 +1,21 @@
 //! The attributes of an entry.
-ghost use Rattle.std.specs.Prelude.{◌≡◌, [], nat_eq, length, slice_get, Some, None, IfOk, OnOk, OnErr};
-ghost use Rattle.std.specs.Cmp.{partial_equiv_from_equiv};
-ghost use Rattle.std.specs.Cmp.Lexicographic.{pointwise, bytes_decides, nat_list_eq_equiv};
-ghost use Rattle.std.specs.Cmp.Rules.{hashing};
-ghost use Rattle.std.specs.Hash as fed;
+ghost use Rattle.std.specs.Prelude.{◌≡◌, ◌<◌, ◌++◌, ◌∷◌, [], length, slice_get, Some, None, IfOk, IfSome, IfNone, IsSome, OnOk, OnErr};
+ghost use Rattle.std.specs.BTreeMap.{is_at};
+ghost use Rattle.std.specs.List.{AllByRecursion};
+ghost use Rattle.std.specs.Map.{lookup, remove_entry, set_value};
 ghost use Rattle.std.specs.Map.Iter.{deref_pair};
 ghost use Rattle.std.specs.Option.{option_copied, option_map};
-ghost use Rattle.std.specs.Str.{bytes_eq};
-ghost use Rattle.std.proofs.Common.{ap, rules};
+ghost use Rattle.std.specs.Ordering.{nat_cmp};
 ghost use Rattle.lq_value.specs.Refusal.{IsRefusedBy};
-ghost use Rattle.lq_volume.specs.Attributes.{without_attr};
+ghost use Rattle.lq_volume.specs.Attributes.{HasOwnNames, value_of, with_attr, without_attr};
 
-use indexmap::{Equivalent, IndexMap};
 use lq_value::{AttrName, Refusal, Value};
 use std::alloc::Global;
-use std::hash::{Hash, Hasher};
+use std::collections::BTreeMap;
 use std::marker::Model;
 
-/// The name of an attribute, as a key that is hashed by its text.
-#[derive(Debug, Drop)]
-struct Key {
-    name: AttrName,
-}
-
-impl Model for Key {
-    ghost use Rattle.std.specs.Prelude.{ℕ, List};
-
-    ghost Value = { List ℕ };
-
-    ghost view = { λ k. k.name };
-}
-
-impl PartialEq for Key {
-    ghost eq = { pointwise nat_eq };
-
-    ghost laws = { partial_equiv_from_equiv nat_list_eq_equiv };
-
-    fn eq(&self, other: &Key) -> bool {
-        self.name.as_str() == other.name.as_str()
-    }
-}
-
-impl Eq for Key {
-    ghost laws = { nat_list_eq_equiv };
-}
-
-impl Hash for Key {
-    ghost hash_input = { fed.str };
-
-    ghost respects_eq = { Prim.search (hashing, rules) };
-
-    fn hash<H: Hasher>(&self, state: &mut H) {
-        self.name.as_str().hash(state);
-    }
-}
-
-impl Equivalent<Key> for &str {
-    ghost equivalent = { λ q k. bytes_eq q.now k };
-
-    ghost respects_hash = { λ q k h. ap fed.str ((bytes_decides q.now k).0 h) };
-
-    ghost respects_eq = { λ q x y. nat_list_eq_equiv.congr q.now x y };
-
-    fn equivalent(&self, key: &Key) -> bool {
-        *self == key.name.as_str()
-    }
-}
+/// A list with so many attributes becomes maps before the next is set.
+const FEW: usize = 16;
 
 /// The attributes of an entry, in the order in which they were first set.
 ///
@@ -73,17 +23,20 @@ impl Equivalent<Key> for &str {
 #[derive(Debug, Drop)]
 pub struct Attributes {
     alloc: Global,
-    // Most entries have none: they keep no map.
-    map: Option<Box<IndexMap<Key, Value>>>,
+    // A list that is searched; it is empty where there are many.
+    few: Vec<(AttrName, Value)>,
+    many: Option<Box<Many>>,
 }
 
 impl Model for Attributes {
-    ghost use Rattle.std.specs.Option.{option_map};
-    ghost use Rattle.lq_volume.specs.Attributes.{Attributes as List, attributes_in};
+    ghost use Rattle.std.specs.Option.{option_map_or};
+    ghost use Rattle.lq_volume.specs.Attributes.{Attributes as List, HasOwnNames};
 
     ghost Value = { List };
 
-    ghost view = { λ a. attributes_in (option_map (λ m. m.value.entries) a.map) };
+    ghost view = { λ a. option_map_or (λ m. m.value) a.many a.few.items };
+
+    ghost invariant = { λ a. HasOwnNames (option_map_or (λ m. m.value) a.many a.few.items) };
 }
 
 impl Attributes {
@@ -93,15 +46,19 @@ impl Attributes {
     pub fn new(alloc: Global) -> Attributes
         ensures { result ≡ [] }
     {
-        Attributes { alloc, map: None }
+        Attributes {
+            alloc,
+            few: Vec::new(alloc),
+            many: None,
+        }
     }
 
     pub fn len(&self) -> usize
         ensures { result ≡ length self.now }
     {
-        match &self.map {
-            None => 0,
-            Some(map) => map.len(),
+        match &self.many {
+            None => self.few.len(),
+            Some(many) => many.len(),
         }
     }
 
@@ -109,22 +66,22 @@ impl Attributes {
     pub fn get(&self, attr: &AttrName) -> Option<&Value>
         ensures { option_copied result ≡ value_of self.now attr.now }
     {
-        match &self.map {
-            None => None,
-            Some(map) => map.get(attr.as_str()),
+        match &self.many {
+            None => find(&self.few, attr),
+            Some(many) => many.get(attr),
         }
     }
 
-    /// The name and value at a place, counted from 0.
+    /// The name and value at a place, counted from 0. Of many it passes over those before it.
     pub fn at(&self, place: usize) -> Option<(&AttrName, &Value)>
         ensures { option_map deref_pair result ≡ slice_get self.now place }
     {
-        match &self.map {
-            None => None,
-            Some(map) => match map.get_index(place) {
+        match &self.many {
+            None => match self.few.get(place) {
                 None => None,
-                Some((key, value)) => Some((&key.name, value)),
+                Some(pair) => Some((&pair.0, &pair.1)),
             },
+            Some(many) => many.at(place),
         }
     }
 
@@ -134,16 +91,23 @@ impl Attributes {
         ensures ok { OnOk result (self.new ≡ with_attr self.old attr value) }
         ensures err { OnErr result (self.new ≡ self.old) }
     {
-        let key = Key { name: attr };
-        match &mut self.map {
-            Some(map) => {
-                map.insert(key, value)?;
-            }
-            None => {
-                let mut map = IndexMap::new(self.alloc);
-                map.insert(key, value)?;
-                self.map = Some(Box::new(self.alloc, map)?);
-            }
+        self.spread()?;
+        match &mut self.many {
+            None => put(&mut self.few, attr, value)?,
+            Some(many) => many.set(attr, value)?,
+        }
+        Ok(())
+    }
+
+    // Turns a list that is no longer short into maps. Refused: `NoMemory`.
+    fn spread(&mut self) -> Result<(), Refusal>
+        ensures refused { IsRefusedBy result None }
+        ensures same { self.new ≡ self.old }
+    {
+        if self.many.is_none() && self.few.len() >= FEW {
+            let many = Many::of(self.alloc, copied(self.alloc, &self.few)?)?;
+            self.many = Some(Box::new(self.alloc, many)?);
+            self.few = Vec::new(self.alloc);
         }
         Ok(())
     }
@@ -152,8 +116,9 @@ impl Attributes {
     pub fn unset(&mut self, attr: &AttrName)
         ensures { self.new ≡ without_attr self.old attr.now }
     {
-        if let Some(map) = &mut self.map {
-            take_out(map, attr);
+        match &mut self.many {
+            None => take_out(&mut self.few, attr),
+            Some(many) => many.unset(attr),
         }
     }
 
@@ -162,9 +127,20 @@ impl Attributes {
         ensures refused { IsRefusedBy result None }
         ensures value { IfOk result (λ copy. copy ≡ self.now) }
     {
-        match &self.map {
-            None => Ok(Attributes::new(alloc)),
-            Some(map) => Ok(copied(alloc, map)?),
+        match &self.many {
+            None => Ok(Attributes {
+                alloc,
+                few: copied(alloc, &self.few)?,
+                many: None,
+            }),
+            Some(many) => {
+                let copy = Many::of(alloc, many.list(alloc)?)?;
+                Ok(Attributes {
+                    alloc,
+                    few: Vec::new(alloc),
+                    many: Some(Box::new(alloc, copy)?),
+                })
+            }
         }
     }
 
@@ -173,38 +149,263 @@ impl Attributes {
         ensures refused { IsRefusedBy result None }
         ensures value { IfOk result (λ list. list.items ≡ self.now) }
     {
-        match &self.map {
-            None => Ok(Vec::new(alloc)),
-            Some(map) => Ok(listed(alloc, map)?),
+        match &self.many {
+            None => copied(alloc, &self.few),
+            Some(many) => many.list(alloc),
         }
     }
 }
 
-fn take_out(map: &mut IndexMap<Key, Value>, attr: &AttrName)
-    ensures { map.new.entries ≡ without_attr map.old.entries attr.now }
+// The value of an attribute of a list.
+fn find<'a>(list: &'a [(AttrName, Value)], attr: &AttrName) -> Option<&'a Value>
+    ensures { option_copied result ≡ value_of list.now attr.now }
 {
-    let _ = map.len();
-    map.shift_remove(attr.as_str());
+    for pair in list {
+        if attr.as_str() == pair.0.as_str() {
+            return Some(&pair.1);
+        }
+    }
+    None
 }
 
-fn copied(alloc: Global, map: &IndexMap<Key, Value>) -> Result<Attributes, Refusal>
-    ensures refused { IsRefusedBy result None }
-    ensures value { IfOk result (λ copy. copy ≡ map.now.entries) }
+// The place of an attribute in a list, counted from 0.
+fn place_of(list: &[(AttrName, Value)], attr: &AttrName) -> Option<usize>
+    ensures found { IfSome result (λ place.
+        option_map (λ a. a.0) (slice_get list.now place) ≡ Some attr.now) }
+    ensures none { IfNone result (value_of list.now attr.now ≡ None) }
 {
-    let mut copy = Attributes::new(alloc);
-    for (key, value) in map {
-        copy.set(key.name.copy(alloc)?, value.copy(alloc)?)?;
+    let mut place = 0;
+    for pair in list {
+        if attr.as_str() == pair.0.as_str() {
+            return Some(place);
+        }
+        place += 1;
+    }
+    None
+}
+
+// Sets an attribute in a list. Refused: `NoMemory`, and then nothing changes.
+fn put(list: &mut Vec<(AttrName, Value)>, attr: AttrName, value: Value) -> Result<(), Refusal>
+    requires { HasOwnNames list.old.items }
+    ensures refused { IsRefusedBy result None }
+    ensures ok { OnOk result (list.new.items ≡ with_attr list.old.items attr value) }
+    ensures err { OnErr result (list.new.items ≡ list.old.items) }
+{
+    match place_of(list, &attr) {
+        None => {
+            list.reserve_exact(1)?;
+            list.push((attr, value))?;
+        }
+        Some(place) => list[place] = (attr, value),
+    }
+    Ok(())
+}
+
+// Takes an attribute out of a list.
+fn take_out(list: &mut Vec<(AttrName, Value)>, attr: &AttrName)
+    requires { HasOwnNames list.old.items }
+    ensures { list.new.items ≡ without_attr list.old.items attr.now }
+{
+    if let Some(place) = place_of(list, attr) {
+        list.remove(place);
+    }
+}
+
+fn copied(alloc: Global, list: &[(AttrName, Value)]) -> Result<Vec<(AttrName, Value)>, Refusal>
+    ensures refused { IsRefusedBy result None }
+    ensures value { IfOk result (λ copy. copy.items ≡ list.now) }
+{
+    let mut copy = Vec::with_capacity(alloc, list.len())?;
+    for pair in list {
+        copy.push((pair.0.copy(alloc)?, pair.1.copy(alloc)?))?;
     }
     Ok(copy)
 }
 
-fn listed(alloc: Global, map: &IndexMap<Key, Value>) -> Result<Vec<(AttrName, Value)>, Refusal>
-    ensures refused { IsRefusedBy result None }
-    ensures value { IfOk result (λ list. list.items ≡ map.now.entries) }
-{
-    let mut list = Vec::new(alloc);
-    for (key, value) in map {
-        list.push((key.name.copy(alloc)?, value.copy(alloc)?))?;
+/// Many attributes, under numbers that rise in the order of `Attributes`, and the number under
+/// each name.
+#[derive(Debug, Drop)]
+struct Many {
+    alloc: Global,
+    // Above all numbers.
+    next: u64,
+    list: BTreeMap<u64, (AttrName, Value)>,
+    numbers: BTreeMap<String, u64>,
+}
+
+impl Model for Many {
+    ghost use Rattle.std.specs.BTreeMap.{get_by_text};
+    ghost use Rattle.std.specs.Map.{values_of};
+    ghost use Rattle.lq_volume.specs.Attributes.{Attributes as List, AreNumbered};
+
+    ghost Value = { List };
+
+    ghost view = { λ m. values_of m.list.entries };
+
+    ghost invariant = { λ m. AreNumbered m.next (get_by_text m.numbers) m.list.entries };
+}
+
+impl Many {
+    ghost use Rattle.lq_volume.specs.Attributes.{HasOwnNames, value_of, with_attr, without_attr};
+
+    fn new(alloc: Global) -> Many
+        ensures { result ≡ [] }
+    {
+        Many {
+            alloc,
+            next: 0,
+            list: BTreeMap::new(alloc),
+            numbers: BTreeMap::new(alloc),
+        }
     }
-    Ok(list)
+
+    // The attributes of a list. Refused: `NoMemory`.
+    fn of(alloc: Global, list: Vec<(AttrName, Value)>) -> Result<Many, Refusal>
+        requires { HasOwnNames list.items }
+        ensures refused { IsRefusedBy result None }
+        ensures value { IfOk result (λ many. many ≡ list.items) }
+    {
+        let mut many = Many::new(alloc);
+        for (attr, value) in list {
+            many.set(attr, value)?;
+        }
+        Ok(many)
+    }
+
+    fn len(&self) -> usize
+        ensures { result ≡ length self.now }
+    {
+        self.list.len()
+    }
+
+    fn get(&self, attr: &AttrName) -> Option<&Value>
+        ensures { option_copied result ≡ value_of self.now attr.now }
+    {
+        match self.numbers.get(attr.as_str()) {
+            None => None,
+            Some(number) => match self.list.get(number) {
+                None => None,
+                Some(pair) => Some(&pair.1),
+            },
+        }
+    }
+
+    fn at(&self, place: usize) -> Option<(&AttrName, &Value)>
+        ensures { option_map deref_pair result ≡ slice_get self.now place }
+    {
+        let mut left = place;
+        for pair in self.list.values() {
+            if left == 0 {
+                return Some((&pair.0, &pair.1));
+            }
+            left -= 1;
+        }
+        None
+    }
+
+    // Refused: `NoMemory`, and then nothing changes.
+    fn set(&mut self, attr: AttrName, value: Value) -> Result<(), Refusal>
+        ensures refused { IsRefusedBy result None }
+        ensures ok { OnOk result (self.new ≡ with_attr self.old attr value) }
+        ensures err { OnErr result (self.new ≡ self.old) }
+    {
+        match self.get(&attr) {
+            None => self.add(attr, value),
+            Some(_) => {
+                self.replace(attr, value);
+                Ok(())
+            }
+        }
+    }
+
+    // Gives an attribute another value. It keeps its place.
+    fn replace(&mut self, attr: AttrName, value: Value)
+        requires { IsSome (value_of self.old attr) }
+        ensures { self.new ≡ with_attr self.old attr value }
+    {
+        if let Some(number) = self.numbers.get(attr.as_str()) {
+            write_at(&mut self.list, *number, attr, value);
+        }
+    }
+
+    // Sets an attribute that is new. It goes last.
+    fn add(&mut self, attr: AttrName, value: Value) -> Result<(), Refusal>
+        requires { value_of self.old attr ≡ None }
+        ensures refused { IsRefusedBy result None }
+        ensures ok { OnOk result (self.new ≡ with_attr self.old attr value) }
+        ensures err { OnErr result (self.new ≡ self.old) }
+    {
+        let number = self.next;
+        if number == u64::MAX {
+            return Err(Refusal::NoMemory);
+        }
+        let name = String::from_str(self.alloc, attr.as_str())?;
+        push_at(&mut self.list, number, attr, value)?;
+        match self.numbers.insert(name, number) {
+            Ok(_) => {
+                self.next = number + 1;
+                Ok(())
+            }
+            Err(_) => {
+                remove_at(&mut self.list, number);
+                Err(Refusal::NoMemory)
+            }
+        }
+    }
+
+    fn unset(&mut self, attr: &AttrName)
+        requires { HasOwnNames self.old }
+        ensures { self.new ≡ without_attr self.old attr.now }
+    {
+        if let Some(number) = self.numbers.remove(attr.as_str()) {
+            remove_at(&mut self.list, number);
+        }
+    }
+
+    // The names and values, copied, in order. Refused: `NoMemory`.
+    fn list(&self, alloc: Global) -> Result<Vec<(AttrName, Value)>, Refusal>
+        ensures refused { IsRefusedBy result None }
+        ensures value { IfOk result (λ list. list.items ≡ self.now) }
+    {
+        let mut list = Vec::new(alloc);
+        for pair in self.list.values() {
+            list.push((pair.0.copy(alloc)?, pair.1.copy(alloc)?))?;
+        }
+        Ok(list)
+    }
+}
+
+// Adds an attribute under a number above all others. Refused: `NoMemory`.
+fn push_at(
+    list: &mut BTreeMap<u64, (AttrName, Value)>,
+    number: u64,
+    attr: AttrName,
+    value: Value,
+) -> Result<(), Refusal>
+    requires { AllByRecursion (λ a. a.0 < number) list.old.entries }
+    ensures refused { IsRefusedBy result None }
+    ensures ok { OnOk result
+        (list.new.entries ≡ list.old.entries ++ (number, (attr, value)) ∷ []) }
+    ensures err { OnErr result (list.new.entries ≡ list.old.entries) }
+{
+    list.insert(number, (attr, value))?;
+    Ok(())
+}
+
+// Writes what is under a number.
+fn write_at(list: &mut BTreeMap<u64, (AttrName, Value)>, number: u64, attr: AttrName, value: Value)
+    requires { IsSome (lookup (is_at (nat_cmp number)) list.old.entries) }
+    ensures { list.new.entries
+        ≡ set_value (is_at (nat_cmp number)) list.old.entries (attr, value) }
+{
+    if let Some(pair) = list.get_mut(&number) {
+        *pair = (attr, value);
+    }
+}
+
+// Takes what is under a number out.
+fn remove_at(list: &mut BTreeMap<u64, (AttrName, Value)>, number: u64)
+    ensures { list.new.entries ≡ remove_entry (is_at (nat_cmp number)) list.old.entries }
+{
+    list.remove(&number);
 }

@@ -1,5 +1,11 @@
-use Rattle.lq_volume.proofs.AttributeLemmas.{without_attr-is}
+use Rattle.std.proofs.Common.{◌∙◌, sym}
+use Rattle.lq_volume.proofs.AttributeLemmas.{without_attr-at, without_attr-none}
 use Rattle.lq_volume.proofs.attributes.take_out.Goals as goal
 
-pub returns : goal.returns
-returns c = rw (c.shift_remove.ensures.entries, c.as_str.ensures.value) (without_attr-is _ _ c.len.ensures.unique)
+pub returns-in-Some : goal.returns-in-Some
+returns-in-Some c = c.remove.ensures.items ∙ without_attr-at _ _ _ c.requires (rw
+    (← c.deref.ensures.value) c.in-Some.ensures.found)
+
+pub returns-in_default : goal.returns-in_default
+returns-in_default c = sym (without_attr-none _ _ (rw
+    (← c.deref.ensures.value) c.in_default.ensures.none))

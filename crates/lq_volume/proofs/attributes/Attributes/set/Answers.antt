@@ -1,0 +1,15 @@
+use Rattle.lq_volume.specs.Attributes.{HasOwnNames}
+use Rattle.lq_volume.proofs.AttributeLemmas.{HasOwnNames-with}
+use Rattle.lq_volume.proofs.attributes.Attributes.set.Goals as goal
+
+pub invariant_of-self : goal.invariant_of-self
+invariant_of-self c =
+    let own : HasOwnNames c.self.inside.few.items = rw c.in-None.is at c.self.invariant in
+    let new : HasOwnNames c.put.new.list.items =
+    rw c.in_ok-put-in-None.ensures.ok (HasOwnNames-with _ _ _ own) in
+    rw c.in-None.is new
+
+pub invariant_of-self-in-Continue-branch-3 : goal.invariant_of-self-in-Continue-branch-3
+invariant_of-self-in-Continue-branch-3 c =
+    let own : HasOwnNames c.in-Some.many.value = rw c.in-Some.is at c.self.invariant in
+    rw (c.in_ok-set-in-Some.ensures.ok, c.deref_mut.ensures.value) (HasOwnNames-with _ _ _ own)
