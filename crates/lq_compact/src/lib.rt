@@ -6,8 +6,6 @@
 #![tactic(auto)]
 
 mod pieces;
-#[cfg(test)]
-mod tests;
 mod text;
 
 pub use pieces::{put_bytes, put_signed, put_truth, put_unsigned};

@@ -15,8 +15,6 @@ mod raw;
 mod raw_size;
 mod size;
 mod source_size;
-#[cfg(test)]
-mod tests;
 mod token;
 mod writing;
 

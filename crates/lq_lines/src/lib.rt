@@ -13,8 +13,6 @@ mod over_lines;
 mod pieces;
 mod responder;
 mod run_fault;
-#[cfg(test)]
-mod tests;
 mod writing;
 
 pub use devices::{Failed, Host, Sink, Source};

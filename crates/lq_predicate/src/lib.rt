@@ -23,8 +23,6 @@ mod stack;
 mod stack_comparison;
 mod stack_op;
 mod step_fault;
-#[cfg(test)]
-mod tests;
 mod tree;
 mod truth;
 

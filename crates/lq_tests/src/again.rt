@@ -1,4 +1,5 @@
-//! Calls that are given again where memory ran out: with any one growth refused, all is as without.
+//! With any one growth refused all is as without: calls that are given again where memory ran out,
+//! and the places of faults.
 use crate::act::Act;
 use lq_predicate::{Predicate, read};
 use lq_update::{Message, Rebuild, step};
@@ -29,6 +30,28 @@ const ACTS: [Act; 9] = [
     Act::Move(3, 1, "a4"),
     Act::Remove(4),
 ];
+
+// The place of a formula's fault, or none | the formula; `scenarios/formulas` has the limits too.
+const FORMULAS: &str = r#"0|
+8|size>10 &
+7|name=="[a"
+4|a=1 b
+3|a=1)
+4|(a=1
+2|a=
+4|a="b
+4|a=b\
+0|""=1
+5|a=1&&''=2
+4|!a!=[z-a]
+5|a='é[b'
+7|a<[b &&
+2|a b\
+2|a=[^]
+2|a=[]
+none|a=[\^]
+none|((name=="*[fF]oo*")&&(size>10))
+none|!(a=1||b=2&&!c=3)&&(('a b'>=c\ d))"#;
 
 fn fold(rebuild: &mut Rebuild, messages: &[Message]) -> Result<(), Refusal> {
     for message in messages {
@@ -88,9 +111,31 @@ fn is_kept(alloc: Global, predicate: &Predicate) -> Result<bool, Refusal> {
     Ok(is_result && seq == 10 && volume.changes() == 9)
 }
 
+/// The place of the fault for which a formula is refused.
+fn refused_at(alloc: Global, formula: &str) -> Option<u64> {
+    match read(alloc, formula) {
+        Err(Refusal::BadQuery { place }) => Some(place),
+        _ => None,
+    }
+}
+
 #[test]
 fn a_refused_growth_is_made_good(rt: HostRuntime) -> Result<(), Fail> {
     let predicate = again!(read(rt.alloc(), "name='a*'"))?;
     assert!(rt; is_kept(rt.alloc(), &predicate)?);
+    Ok(())
+}
+
+// Here no call is given again: a fault is answered with its place whatever the memory.
+#[test]
+fn a_fault_has_one_place_with_memory_and_without(rt: HostRuntime) -> Result<(), Fail> {
+    for row in FORMULAS.lines() {
+        let (place, formula) = row.split_once('|').ok_or("a row without a bar")?;
+        assert_eq!(rt;
+            refused_at(rt.alloc(), formula),
+            place.parse().ok(),
+            "{row}"
+        );
+    }
     Ok(())
 }

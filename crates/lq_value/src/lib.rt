@@ -22,8 +22,6 @@ mod refusal;
 mod set;
 mod sign;
 mod source;
-#[cfg(test)]
-mod tests;
 mod text;
 mod value;
 mod value_text;

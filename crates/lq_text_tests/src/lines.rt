@@ -1,8 +1,8 @@
-//! Runs over devices that give and take little at a time, and fail; display texts.
+//! Of lq_lines: runs over devices that give and take little at a time, and fail; display texts.
 ghost use Rattle.std.specs.Prelude.{ℕ, [], ◌∷◌, ◌++◌, get_or, None};
 ghost use Rattle.lq_lines.specs.Lines.{Rules};
 
-use crate::{Failed, Host, Responder, RunFault, Sink, Source, run_lines};
+use lq_lines::{Failed, Host, Responder, RunFault, Sink, Source, run_lines};
 use lq_value::Refusal;
 use std::alloc::{AllocError, Global};
 use std::cell::Cell;

@@ -1,38 +1,8 @@
-//! Predicates from pushes, their texts and names, with memory.
-use crate::{Stack, StackOp, names, write};
+//! Of lq_predicate: predicates from pushes, their texts and names, with memory.
+use lq_predicate::{Stack, StackOp, names, write};
 use lq_value::Refusal;
 use std::alloc::Global;
 use std::test::Fail;
-
-enum Push {
-    Attr(&'static str),
-    Text(&'static str),
-    Int32(i32),
-    Int64(i64),
-    UInt32(u32),
-    UInt64(u64),
-    Op(StackOp),
-}
-
-// The scenario with a pattern that is found and two comparisons joined.
-const SIZE_AND_NAME: [Push; 7] = [
-    Push::Attr("size"),
-    Push::Int32(10),
-    Push::Op(StackOp::Gt),
-    Push::Attr("name"),
-    Push::Text("oo"),
-    Push::Op(StackOp::Contains),
-    Push::Op(StackOp::And),
-];
-
-// A number, the text of `a` at most that number.
-const NUMBERS: [(Push, &str); 2] = [
-    (
-        Push::UInt64(18446744073709551615),
-        "(a<=\"18446744073709551615\")",
-    ),
-    (Push::UInt32(7), "(a<=\"7\")"),
-];
 
 // How long a text is that `a` is less than, and how the comparison is refused: six bytes stand
 // beside the text in the canonical text.
@@ -41,16 +11,17 @@ const LENGTHS: [(usize, Option<Refusal>); 2] = [
     (4091, Some(Refusal::BadQuery { place: 2 })),
 ];
 
-fn apply(stack: &mut Stack, push: &Push) -> Result<(), Refusal> {
-    match push {
-        Push::Attr(name) => stack.push_attr(name),
-        Push::Text(text) => stack.push_text(text),
-        Push::Int32(value) => stack.push_int32(*value),
-        Push::Int64(value) => stack.push_int64(*value),
-        Push::UInt32(value) => stack.push_uint32(*value),
-        Push::UInt64(value) => stack.push_uint64(*value),
-        Push::Op(op) => stack.push_op(*op),
-    }
+// The scenario with a pattern that is found and two comparisons joined.
+fn size_and_name(alloc: Global) -> Result<Stack, Refusal> {
+    let mut stack = Stack::new(alloc);
+    stack.push_attr("size")?;
+    stack.push_int32(10)?;
+    stack.push_op(StackOp::Gt)?;
+    stack.push_attr("name")?;
+    stack.push_text("oo")?;
+    stack.push_op(StackOp::Contains)?;
+    stack.push_op(StackOp::And)?;
+    Ok(stack)
 }
 
 fn finished_text(alloc: Global, stack: &mut Stack) -> Result<String, Refusal> {
@@ -59,20 +30,9 @@ fn finished_text(alloc: Global, stack: &mut Stack) -> Result<String, Refusal> {
     write(alloc, &copy)
 }
 
-fn at_most(alloc: Global, number: &Push) -> Result<String, Refusal> {
-    let mut stack = Stack::new(alloc);
-    stack.push_attr("a")?;
-    apply(&mut stack, number)?;
-    stack.push_op(StackOp::Le)?;
-    finished_text(alloc, &mut stack)
-}
-
 #[test]
 fn scenario_postfix_stack(rt: HostRuntime) -> Result<(), Fail> {
-    let mut stack = Stack::new(rt.alloc());
-    for push in &SIZE_AND_NAME {
-        apply(&mut stack, push)?;
-    }
+    let mut stack = size_and_name(rt.alloc())?;
     let text = finished_text(rt.alloc(), &mut stack)?;
     assert_eq!(rt; text.as_str(), "((size>\"10\")&&(name==\"*oo*\"))");
     Ok(())
@@ -80,10 +40,7 @@ fn scenario_postfix_stack(rt: HostRuntime) -> Result<(), Fail> {
 
 #[test]
 fn scenario_postfix_stack_names(rt: HostRuntime) -> Result<(), Fail> {
-    let mut stack = Stack::new(rt.alloc());
-    for push in &SIZE_AND_NAME {
-        apply(&mut stack, push)?;
-    }
+    let mut stack = size_and_name(rt.alloc())?;
     let predicate = stack.finish()?;
     let found = names(rt.alloc(), &predicate)?;
     assert_eq!(rt; found.len(), 2);
@@ -96,8 +53,8 @@ fn scenario_postfix_stack_names(rt: HostRuntime) -> Result<(), Fail> {
 fn scenario_postfix_stack_refusals(rt: HostRuntime) -> Result<(), Fail> {
     let mut stack = Stack::new(rt.alloc());
     assert_eq!(rt; stack.finish().err(), Some(Refusal::BadQuery { place: 0 }));
-    apply(&mut stack, &Push::Attr("a"))?;
-    apply(&mut stack, &Push::Int64(-5))?;
+    stack.push_attr("a")?;
+    stack.push_int64(-5)?;
     let refused = stack.push_op(StackOp::And);
     assert_eq!(rt; refused, Err(Refusal::BadQuery { place: 2 }));
     stack.push_op(StackOp::Lt)?;
@@ -108,10 +65,17 @@ fn scenario_postfix_stack_refusals(rt: HostRuntime) -> Result<(), Fail> {
 
 #[test]
 fn scenario_moved_pushes(rt: HostRuntime) -> Result<(), Fail> {
-    for (number, text) in &NUMBERS {
-        let found = at_most(rt.alloc(), number)?;
-        assert_eq!(rt; found.as_str(), *text);
-    }
+    let mut stack = Stack::new(rt.alloc());
+    stack.push_attr("a")?;
+    stack.push_uint64(18446744073709551615)?;
+    stack.push_op(StackOp::Le)?;
+    let text = finished_text(rt.alloc(), &mut stack)?;
+    assert_eq!(rt; text.as_str(), "(a<=\"18446744073709551615\")");
+    stack.push_attr("a")?;
+    stack.push_uint32(7)?;
+    stack.push_op(StackOp::Le)?;
+    let text = finished_text(rt.alloc(), &mut stack)?;
+    assert_eq!(rt; text.as_str(), "(a<=\"7\")");
     Ok(())
 }
 

@@ -1,14 +1,17 @@
-//! Names and literals, each call once with memory.
-use crate::{read_literal, read_name};
+//! Of lq_formula: names and literals, each call once with memory.
+use lq_formula::{read_literal, read_name};
 use lq_value::{Op, Refusal};
 use std::test::Fail;
 
-// raw text, the name that it is
-const NAMES: [(&str, &str); 3] = [("size", "size"), ("a\\ b", "a b"), ("\\\\\\é", "\\é")];
+// raw text | the name that it is
+const NAMES: &str = r"size|size
+a\ b|a b
+\\\é|\é";
 
 #[test]
 fn a_raw_text_is_a_name(rt: HostRuntime) -> Result<(), Fail> {
-    for (raw, name) in NAMES {
+    for row in NAMES.lines() {
+        let (raw, name) = row.split_once('|').ok_or("a row without a bar")?;
         let read = read_name(rt.alloc(), raw)?;
         assert_eq!(rt; read.as_str(), name);
     }

@@ -1,0 +1,74 @@
+//! Of lq_compact: texts with escapes, numbers at their limits, and each call once with memory.
+use lq_compact::{put_bytes, put_signed, put_text, put_truth, put_unsigned};
+use std::test::Fail;
+
+// text | what is put for it; a row ends with a semicolon
+const TEXTS: &str = "|\"\";\
+    name|\"name\";\
+    \"|\"\\\"\";\
+    a\\b|\"a\\\\b\";\
+    \\\"|\"\\\\\\\"\";\
+    \u{8}\t\n\u{c}\r|\"\\b\\t\\n\\f\\r\";\
+    \u{0}\u{1}|\"\\u0000\\u0001\";\
+    \u{f}\u{10}\u{1f} |\"\\u000f\\u0010\\u001f \";\
+    \u{7f}/|\"\u{7f}/\";\
+    é€𝄞|\"é€𝄞\";\
+    \n€|\"\\n€\";\
+    €\n|\"€\\n\";";
+
+// the digits of integers
+const INTEGERS: &str = "-9223372036854775808
+-1
+0
+10
+9223372036854775807";
+
+// the digits of counts
+const COUNTS: &str = "0
+100
+18446744073709551615";
+
+#[test]
+fn a_text_is_quoted(rt: HostRuntime) -> Result<(), Fail> {
+    let mut out = Vec::new(rt.alloc());
+    let mut rest = TEXTS;
+    for _ in 0..12 {
+        let (row, others) = rest.split_once(';').ok_or("too few rows")?;
+        let (text, quoted) = row.split_once('|').ok_or("a row without a bar")?;
+        rest = others;
+        out.clear();
+        put_text(&mut out, b",\"name\":", text)?;
+        let wanted = format!(in rt.alloc(); ",\"name\":{quoted}")?;
+        assert_eq!(rt; out.as_slice(), wanted.as_bytes(), "{text}");
+    }
+    assert_eq!(rt; rest, "");
+    Ok(())
+}
+
+#[test]
+fn a_number_has_its_digits(rt: HostRuntime) -> Result<(), Fail> {
+    let mut out = Vec::new(rt.alloc());
+    for digits in INTEGERS.lines() {
+        out.clear();
+        put_signed(&mut out, b"", digits.parse().ok().ok_or("no integer")?)?;
+        assert_eq!(rt; out.as_slice(), digits.as_bytes(), "{digits}");
+    }
+    for digits in COUNTS.lines() {
+        out.clear();
+        put_unsigned(&mut out, b"", digits.parse().ok().ok_or("no count")?)?;
+        assert_eq!(rt; out.as_slice(), digits.as_bytes(), "{digits}");
+    }
+    Ok(())
+}
+
+#[test]
+fn pieces_stand_behind_one_another(rt: HostRuntime) -> Result<(), Fail> {
+    let mut out = Vec::from_slice(rt.alloc(), b"\n")?;
+    put_unsigned(&mut out, b"{\"node\":", 7)?;
+    put_truth(&mut out, b",\"last\":", true)?;
+    put_truth(&mut out, b",\"settled\":", false)?;
+    put_bytes(&mut out, b"}")?;
+    let wanted = "\n{\"node\":7,\"last\":true,\"settled\":false}";
+    assert_eq!(rt; out.as_slice(), wanted.as_bytes());
+    Ok(())
+}
