@@ -8,8 +8,6 @@
 mod board;
 mod moves;
 mod steps;
-#[cfg(test)]
-mod tests;
 mod tokens;
 mod views;
 

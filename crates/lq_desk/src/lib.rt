@@ -12,8 +12,6 @@ mod laws;
 mod slot;
 mod slots;
 mod sub;
-#[cfg(test)]
-mod tests;
 
 pub use desk::Desk;
 pub use event::{Event, Read, Reply};

@@ -10,8 +10,6 @@ mod ends;
 mod follows;
 mod rule;
 mod steps;
-#[cfg(test)]
-mod tests;
 
 pub use ends::{PortIn, PortOut, make};
 pub use follows::Follows;

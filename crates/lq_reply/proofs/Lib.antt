@@ -1,2 +1,1 @@
-pub mod ReplyLemmas
 pub mod PieceLemmas

@@ -7,12 +7,8 @@
 
 mod listing;
 mod message;
-#[cfg(test)]
-mod plain;
 mod reply;
 mod response;
-#[cfg(test)]
-mod tests;
 
 pub use reply::put_reply;
 pub use response::Response;

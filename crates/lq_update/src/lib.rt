@@ -11,8 +11,6 @@ mod mark;
 mod message;
 mod parcel;
 mod rebuild;
-#[cfg(test)]
-mod tests;
 mod touched;
 
 pub use laws::{

@@ -1,5 +1,5 @@
 //! What no clause says: calls with memory succeed.
-use crate::{Message, Opcode, Rebuild};
+use lq_update::{Message, Opcode, Rebuild};
 use lq_value::{Name, Refusal};
 use std::alloc::Global;
 use std::test::Fail;

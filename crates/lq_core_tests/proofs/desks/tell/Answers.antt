@@ -3,7 +3,7 @@ use Rattle.lq_value.specs.declared.kind.Kind.TheVariants.{File}
 use Rattle.lq_volume.specs.declared.change.Change.{Change}
 use Rattle.lq_volume.specs.declared.change.Change.TheVariants.{Create}
 use Rattle.lq_desk.proofs.SlotsLemmas.{few-told}
-use Rattle.lq_desk.proofs.tests.tell.Goals as goal
+use Rattle.lq_core_tests.proofs.desks.tell.Goals as goal
 
 pub returns : goal.returns
 returns c =

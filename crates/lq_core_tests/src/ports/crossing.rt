@@ -1,6 +1,6 @@
 //! An end beside a number, under a lock that two threads share, and the other in a thread.
-use crate::tests::pages::{Page, hear, tell};
-use crate::{PortIn, PortOut, make};
+use crate::ports::pages::{Page, hear, tell};
+use lq_port::{PortIn, PortOut, make};
 use std::alloc::Global;
 use std::sync::{Mutex, Wait};
 use std::test::Fail;

@@ -1,7 +1,7 @@
 //! Each kind of response by pieces, as the plain way writes it, and one by hand.
 use crate::plain::put_plainly;
-use crate::{Response, put_reply};
 use lq_desk::{Read, Reply};
+use lq_reply::{Response, put_reply};
 use lq_update::{Cause, Mark, Message, Opcode};
 use lq_value::{AttrName, Entry, Kind, Name, Refusal, Value, ValueText};
 use lq_volume::{Applied, Listing};

@@ -9,8 +9,8 @@ ghost use Rattle.lq_reply.specs.Answer.{response_of};
 ghost use Rattle.lq_lines.specs.Lines.{Begins};
 ghost use Rattle.lq_reply.specs.Reply.{answer_data, applied_data, attr_data, cause_name, entry_data, fetched_data, found_data, kind_name, listing_data, mark_data, message_data, moved_data, opcode_name, opened_data, place_of, placed_data, rebuilt_data, refusal_data, reply_text, response_data, shut_data, slot_data, type_name, value_data, what_data};
 
-use crate::response::Response;
 use lq_desk::{Read, Reply};
+use lq_reply::Response;
 use lq_update::{Cause, Mark, Message, Opcode};
 use lq_value::{AttrName, Entry, Kind, Name, Refusal};
 use lq_volume::{Applied, Listing};

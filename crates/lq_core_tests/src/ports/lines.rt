@@ -3,7 +3,7 @@ ghost use Rattle.std.specs.Prelude.{◌≡◌, ◌<◌, IfOk, IfErr, IfSome};
 ghost use Rattle.std.specs.String.{string_len};
 ghost use Rattle.lq_port.specs.End.{IsSamePort};
 
-use crate::{Follows, PortIn, PortOut, make};
+use lq_port::{Follows, PortIn, PortOut, make};
 use lq_value::Refusal;
 use std::alloc::Global;
 use std::sync::Wait;

@@ -2,7 +2,7 @@
 ghost use Rattle.std.specs.Prelude.{◌≡◌, ◌≤◌, ◌*◌, IfOk, OnOk, IsTrue};
 ghost use Rattle.lq_desk.specs.Held.{is_live};
 
-use crate::Sub;
+use lq_desk::Sub;
 use lq_predicate::read;
 use lq_update::{Cause, Parcel, steps_are_few};
 use lq_value::{Kind, Name, Refusal};

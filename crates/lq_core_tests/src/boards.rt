@@ -1,5 +1,5 @@
 //! A board at work: the words, a slot's seat under a name, and a seat that others overtake.
-use crate::{Board, Keeper};
+use lq_board::{Board, Keeper};
 use lq_value::{Kind, Name, Refusal};
 use lq_volume::{Change, Volume};
 use std::alloc::Global;

@@ -5,7 +5,7 @@ mod crossing;
 mod lines;
 mod pages;
 
-use crate::{Follows, PortIn, PortOut, make};
+use lq_port::{Follows, PortIn, PortOut, make};
 use lq_value::Refusal;
 use std::alloc::Global;
 use std::sync::Wait;

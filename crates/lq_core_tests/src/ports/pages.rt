@@ -1,7 +1,7 @@
 //! Items with a ghost book.
 ghost use Rattle.std.specs.Prelude.{◌≡◌, vec_len, IfSome};
 
-use crate::{Follows, PortIn, PortOut};
+use lq_port::{Follows, PortIn, PortOut};
 use std::snapshot::Snapshot;
 use std::sync::Wait;
 
