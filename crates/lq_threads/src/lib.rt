@@ -12,8 +12,6 @@ mod held;
 mod lines;
 mod places;
 mod session;
-#[cfg(test)]
-mod tests;
 mod threads;
 mod words;
 

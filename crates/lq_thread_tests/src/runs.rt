@@ -1,8 +1,8 @@
 //! Reads side by side, and devices that fail in mid-stream, beside the run by one thread.
 ghost use Rattle.std.specs.Prelude.{◌≡◌, ◌<◌, false, true, None};
 
-use crate::{Failed, Gate, Host, OpenGate, RunFault, Sink, Source, run_threads};
 use lq_script::run;
+use lq_threads::{Failed, Gate, Host, OpenGate, RunFault, Sink, Source, run_threads};
 use std::alloc::Global;
 use std::sync::Wait;
 use std::sync::atomic::{AtomicBool, Ordering};

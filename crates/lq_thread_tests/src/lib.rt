@@ -1,0 +1,5 @@
+//! Tests of scripts by a server and threads.
+#![tactic(auto)]
+
+#[cfg(test)]
+mod runs;
