@@ -1,7 +1,7 @@
 //! The model at work.
 use crate::acts::{Row, are_entries, file};
-use crate::follow;
 use crate::stage::base;
+use lq_model::follow;
 use lq_predicate::read;
 use lq_update::Cause;
 use std::marker::Brand;

@@ -1,4 +1,4 @@
-//! Tests of the threaded server, and a model of how a program uses it.
+//! Tests of the threaded server.
 #![tactic(auto)]
 
 #[cfg(test)]
@@ -15,7 +15,6 @@ mod draws;
 mod followed;
 #[cfg(test)]
 mod held;
-mod model;
 #[cfg(test)]
 mod reference;
 #[cfg(test)]
@@ -24,5 +23,3 @@ mod scenarios;
 mod stage;
 #[cfg(test)]
 mod writers;
-
-pub use model::{Followed, follow};

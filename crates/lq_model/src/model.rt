@@ -1,7 +1,7 @@
 //! A server from its beginning to its end: one thread makes changes, another reads what they tell.
 ghost use Rattle.std.specs.Prelude.{◌≡◌, IfOk};
 ghost use Rattle.lq_server.specs.Own.{IsOwn};
-ghost use Rattle.lq_server_tests.specs.Followed.{GoesOn, IsFollowed};
+ghost use Rattle.lq_model.specs.Followed.{GoesOn, IsFollowed};
 
 use lq_board::Seat;
 use lq_desk::Read;

@@ -9,7 +9,7 @@ use Rattle.lq_subscription.specs.Standing.{upto}
 use Rattle.lq_server.specs.Hold.{ReaderHold}
 use Rattle.lq_server.specs.Own.{IsOwn}
 use Rattle.lq_server.specs.Retired.{IsRetired}
-use Rattle.lq_server_tests.specs.declared.model.Followed.{Followed}
+use Rattle.lq_model.specs.declared.model.Followed.{Followed}
 
 -- a reader of the same subscription, at the same server
 pub record GoesOn (old new : ReaderHold) : Type 0 where

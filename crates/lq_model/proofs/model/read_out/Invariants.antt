@@ -1,6 +1,6 @@
 use Rattle.std.proofs.Common.{◌≡◌}
-use Rattle.lq_server_tests.specs.Followed.{GoesOn}
-use Rattle.lq_server_tests.proofs.model.read_out.Given as goal
+use Rattle.lq_model.specs.Followed.{GoesOn}
+use Rattle.lq_model.proofs.model.read_out.Given as goal
 
 abbrev pub invariant-loop : goal.invariant-loop
 invariant-loop g l = GoesOn l.fn.reader l.reader × (l.reader.seat.board ≡ g.N.Named.board)

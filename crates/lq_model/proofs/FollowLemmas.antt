@@ -20,7 +20,7 @@ use Rattle.lq_server.specs.Hold.{ReaderHold}
 use Rattle.lq_server.specs.Opened.{IsNewReader}
 use Rattle.lq_server.specs.Syncing.{IsSynced}
 use Rattle.lq_server.specs.Retired.{IsRetired}
-use Rattle.lq_server_tests.specs.Followed.{GoesOn, IsFollowed}
+use Rattle.lq_model.specs.Followed.{GoesOn, IsFollowed}
 
 -- a book that goes on from one that goes on from the first
 extends_trans : (b c d : Book) → Extends c b → Extends d c → Extends d b

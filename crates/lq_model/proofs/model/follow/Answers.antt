@@ -19,9 +19,9 @@ use Rattle.lq_server.specs.contracts.reader.Reader as reader
 use Rattle.lq_server.proofs.reader.Reader.TheSendSync as found_reader
 use Rattle.lq_server.proofs.Crossing.{server_sync}
 use Rattle.lq_volume.proofs.change.Change.TheSendSync as found_change
-use Rattle.lq_server_tests.specs.Followed.{GoesOn}
-use Rattle.lq_server_tests.proofs.FollowLemmas.{followed}
-use Rattle.lq_server_tests.proofs.model.follow.Goals as goal
+use Rattle.lq_model.specs.Followed.{GoesOn}
+use Rattle.lq_model.proofs.FollowLemmas.{followed}
+use Rattle.lq_model.proofs.model.follow.Goals as goal
 
 -- what the first closure takes: the runtime, the server, a reader, how often it reads
 taken : (ν : Sym) (ℓ ℓ₁ ℓ₂ : NamedLft) (N R : RattleType) (g : Ghosts N.Denot) → IsSync (param 1 R)
