@@ -18,18 +18,24 @@ use Rattle.lq_world.specs.Events.{Answer, Changed, Opened, Took, Empty, Ended, A
 use Rattle.lq_reply.specs.Reply.{answer_data, attr_data, data_by, entry_data, fault_data, place_of, response_data, value_data}
 use Rattle.lq_reply.specs.Response.{Response, Answers, Refuses, Found, Listed, Fetched, Rebuilt}
 
+-- a whole number has no float
 integer-no_float : (n : ℤ) → has_float (number (of_integer n)) ≡ false
 integer-no_float (pos n) = refl
 integer-no_float (negsuc n) = refl
 
-entries-no_float : (entries : List Entry) → items_have_float (items_of (map entry_data entries)) ≡ false
+-- a list of entries has no float
+entries-no_float : (entries : List Entry)
+    → items_have_float (items_of (map entry_data entries)) ≡ false
 entries-no_float [] = refl
 entries-no_float (e ∷ entries) = entries-no_float entries
 
-fault-no_float : (code : ℕ) (name : List ℕ) (place : Option ℕ) → has_float (fault_data code name place) ≡ false
+-- a refusal's reply has no float
+fault-no_float : (code : ℕ) (name : List ℕ) (place : Option ℕ)
+    → has_float (fault_data code name place) ≡ false
 fault-no_float code name None = refl
 fault-no_float code name (Some place) = refl
 
+-- an attribute's value has no float
 value-no_float : (v : Value) → has_float (value_data v) ≡ false
 value-no_float (Text text) = refl
 value-no_float (Int32 n) = integer-no_float n
@@ -37,15 +43,19 @@ value-no_float (Int64 n) = integer-no_float n
 value-no_float (UInt32 n) = refl
 value-no_float (UInt64 n) = refl
 
-attrs-no_float : (attrs : List (List ℕ × Value)) → items_have_float (items_of (map attr_data attrs)) ≡ false
+-- a list of attributes has no float
+attrs-no_float : (attrs : List (List ℕ × Value))
+    → items_have_float (items_of (map attr_data attrs)) ≡ false
 attrs-no_float [] = refl
 attrs-no_float (a ∷ attrs) = rw (value-no_float a.1) (attrs-no_float attrs)
 
+-- a message has no float
 told-no_float : (op : Opcode) (m : Message) → has_float (data_by op m) ≡ false
 told-no_float Created m = refl
 told-no_float Removed m = refl
 told-no_float (Moved dir name) m = refl
 
+-- the reply to a take has no float
 answer-no_float : (slot : ℕ) (a : Answer) → has_float (answer_data slot a) ≡ false
 answer-no_float slot (Changed applied) = refl
 answer-no_float slot (Opened opened at result) = rw (entries-no_float result) refl
@@ -60,6 +70,7 @@ answer-no_float slot (Shut change) = refl
 answer-no_float slot Finished = refl
 answer-no_float slot (Refused e) = fault-no_float (code_of e) (name_of e) (place_of e)
 
+-- no reply has a float
 pub response-no_float : (r : Response) → has_float (response_data r) ≡ false
 response-no_float (Answers slot a) = answer-no_float slot a
 response-no_float (Refuses e) = fault-no_float (code_of e) (name_of e) (place_of e)

@@ -33,15 +33,22 @@ abbrev pub word : List ℕ → Data
 word text = string text
 
 abbrev pub applied_data : Applied → Data
-applied_data a = object (member (codes "change") (count a.change) (member (codes "node") (count a.node) no_members))
+applied_data a =
+    object (member (codes "change") (count a.change)
+    (member (codes "node") (count a.node) no_members))
 
 -- an entry of a list
 abbrev pub entry_data : Entry → Data
-entry_data e = object (member (codes "dir") (count e.dir) (member (codes "name") (word e.name) (member (codes "node") (count e.node) no_members)))
+entry_data e =
+    object (member (codes "dir") (count e.dir)
+    (member (codes "name") (word e.name)
+    (member (codes "node") (count e.node) no_members)))
 
 abbrev pub opened_data : ℕ → ℕ → List Entry → Data
 opened_data slot at result =
-    object (member (codes "at") (count at) (member (codes "result") (array (items_of (map entry_data result))) (member (codes "slot") (count slot) no_members)))
+    object (member (codes "at") (count at)
+    (member (codes "result") (array (items_of (map entry_data result)))
+    (member (codes "slot") (count slot) no_members)))
 
 abbrev pub opcode_name : Opcode → List ℕ
 opcode_name Created = codes "B_ENTRY_CREATED"
@@ -51,16 +58,27 @@ opcode_name (Moved dir name) = codes "B_ENTRY_MOVED"
 -- a message that names one place, and one that names the old place too
 abbrev pub placed_data : Message → Data
 placed_data m =
-    object (member (codes "change") (count m.change) (member (codes "dir") (count m.dir) (member (codes "last") (boolean m.last)
-    (member (codes "name") (word m.name) (member (codes "node") (count m.node) (member (codes "op") (word (opcode_name m.op))
-    (member (codes "seq") (count m.seq) (member (codes "what") (word (codes "B_QUERY_UPDATE")) no_members))))))))
+    object (member (codes "change") (count m.change)
+    (member (codes "dir") (count m.dir)
+    (member (codes "last") (boolean m.last)
+    (member (codes "name") (word m.name)
+    (member (codes "node") (count m.node)
+    (member (codes "op") (word (opcode_name m.op))
+    (member (codes "seq") (count m.seq)
+    (member (codes "what") (word (codes "B_QUERY_UPDATE")) no_members))))))))
 
 abbrev pub moved_data : Message → ℕ → List ℕ → Data
 moved_data m dir name =
-    object (member (codes "change") (count m.change) (member (codes "dir") (count m.dir) (member (codes "from_dir") (count dir)
-    (member (codes "from_name") (word name) (member (codes "last") (boolean m.last)
-    (member (codes "name") (word m.name) (member (codes "node") (count m.node) (member (codes "op") (word (opcode_name m.op))
-    (member (codes "seq") (count m.seq) (member (codes "what") (word (codes "B_QUERY_UPDATE")) no_members))))))))))
+    object (member (codes "change") (count m.change)
+    (member (codes "dir") (count m.dir)
+    (member (codes "from_dir") (count dir)
+    (member (codes "from_name") (word name)
+    (member (codes "last") (boolean m.last)
+    (member (codes "name") (word m.name)
+    (member (codes "node") (count m.node)
+    (member (codes "op") (word (opcode_name m.op))
+    (member (codes "seq") (count m.seq)
+    (member (codes "what") (word (codes "B_QUERY_UPDATE")) no_members))))))))))
 
 abbrev pub data_by : Opcode → Message → Data
 data_by Created m = placed_data m
@@ -77,8 +95,10 @@ cause_name Overrun = codes "overrun"
 
 abbrev pub mark_data : Mark → Data
 mark_data m =
-    object (member (codes "cause") (word (cause_name m.cause)) (member (codes "change") (count m.change)
-    (member (codes "seq") (count m.seq) (member (codes "what") (word (codes "END")) no_members))))
+    object (member (codes "cause") (word (cause_name m.cause))
+    (member (codes "change") (count m.change)
+    (member (codes "seq") (count m.seq)
+    (member (codes "what") (word (codes "END")) no_members))))
 
 abbrev pub parcel_data : Parcel → Data
 parcel_data (Update message) = message_data message
@@ -92,7 +112,9 @@ abbrev pub slot_data : ℕ → Data
 slot_data slot = object (member (codes "slot") (count slot) no_members)
 
 abbrev pub shut_data : ℕ → ℕ → Data
-shut_data change slot = object (member (codes "change") (count change) (member (codes "slot") (count slot) no_members))
+shut_data change slot =
+    object (member (codes "change") (count change)
+    (member (codes "slot") (count slot) no_members))
 
 -- the place that a refusal has
 abbrev pub place_of : Refusal → Option ℕ
@@ -101,9 +123,13 @@ place_of e = None
 
 -- a refusal's number and name, and its place if it has one
 abbrev pub fault_data : ℕ → List ℕ → Option ℕ → Data
-fault_data code name None = object (member (codes "code") (count code) (member (codes "error") (word name) no_members))
+fault_data code name None =
+    object (member (codes "code") (count code)
+    (member (codes "error") (word name) no_members))
 fault_data code name (Some place) =
-    object (member (codes "code") (count code) (member (codes "error") (word name) (member (codes "place") (count place) no_members)))
+    object (member (codes "code") (count code)
+    (member (codes "error") (word name)
+    (member (codes "place") (count place) no_members)))
 
 abbrev pub refusal_data : Refusal → Data
 refusal_data e = fault_data (code_of e) (name_of e) (place_of e)
@@ -139,7 +165,9 @@ value_data (UInt64 n) = count n
 
 abbrev pub attr_data : List ℕ × Value → Data
 attr_data a =
-    object (member (codes "name") (word a.0) (member (codes "type") (word (type_name a.1)) (member (codes "value") (value_data a.1) no_members)))
+    object (member (codes "name") (word a.0)
+    (member (codes "type") (word (type_name a.1))
+    (member (codes "value") (value_data a.1) no_members)))
 
 abbrev pub kind_name : Kind → List ℕ
 kind_name File = codes "file"
@@ -148,19 +176,26 @@ kind_name Folder = codes "folder"
 -- all of an entry
 abbrev pub listing_data : ℕ → Record → Data
 listing_data node e =
-    object (member (codes "attrs") (array (items_of (map attr_data e.attrs))) (member (codes "dir") (count e.dir) (member (codes "kind") (word (kind_name e.kind))
-    (member (codes "name") (word e.name) (member (codes "node") (count node) (member (codes "size") (count e.size)
+    object (member (codes "attrs") (array (items_of (map attr_data e.attrs)))
+    (member (codes "dir") (count e.dir)
+    (member (codes "kind") (word (kind_name e.kind))
+    (member (codes "name") (word e.name)
+    (member (codes "node") (count node)
+    (member (codes "size") (count e.size)
     (member (codes "time") (number (of_integer e.time)) no_members)))))))
 
 abbrev pub found_data : ℕ → Data
 found_data node = object (member (codes "node") (count node) no_members)
 
 abbrev pub fetched_data : ℕ → List Entry → Data
-fetched_data at result = object (member (codes "at") (count at) (member (codes "result") (array (items_of (map entry_data result))) no_members))
+fetched_data at result =
+    object (member (codes "at") (count at)
+    (member (codes "result") (array (items_of (map entry_data result))) no_members))
 
 abbrev pub rebuilt_data : ℕ → List Entry → Bool → Data
 rebuilt_data change result settled =
-    object (member (codes "change") (count change) (member (codes "result") (array (items_of (map entry_data result)))
+    object (member (codes "change") (count change)
+    (member (codes "result") (array (items_of (map entry_data result)))
     (member (codes "settled") (boolean settled) no_members)))
 
 abbrev pub response_data : Response → Data

@@ -66,7 +66,8 @@ fn put_message(out: &mut Vec<u8>, message: &Message) -> Result<(), AllocError>
 
 // Of a message that names one place.
 fn put_placed(out: &mut Vec<u8>, message: &Message) -> Result<(), AllocError>
-    ensures ok { OnOk result (out.new.items ≡ out.old.items ++ compact_text (placed_data message.now)) }
+    ensures ok { OnOk result
+        (out.new.items ≡ out.old.items ++ compact_text (placed_data message.now)) }
     ensures front { Extends out.new.items out.old.items }
 {
     put_unsigned(out, b"{\"change\":", message.change)?;

@@ -130,7 +130,8 @@ fn put_opened(out: &mut Vec<u8>, slot: u64, at: u64, entries: &[Entry]) -> Resul
 }
 
 fn put_shut(out: &mut Vec<u8>, change: u64, slot: u64) -> Result<(), AllocError>
-    ensures ok { OnOk result (out.new.items ≡ out.old.items ++ compact_text (shut_data change slot)) }
+    ensures ok { OnOk result
+        (out.new.items ≡ out.old.items ++ compact_text (shut_data change slot)) }
     ensures front { Extends out.new.items out.old.items }
 {
     put_unsigned(out, b"{\"change\":", change)?;
@@ -147,7 +148,8 @@ fn put_slot(out: &mut Vec<u8>, slot: u64) -> Result<(), AllocError>
 }
 
 fn put_refusal(out: &mut Vec<u8>, refusal: Refusal) -> Result<(), AllocError>
-    ensures ok { OnOk result (out.new.items ≡ out.old.items ++ compact_text (refusal_data refusal)) }
+    ensures ok { OnOk result
+        (out.new.items ≡ out.old.items ++ compact_text (refusal_data refusal)) }
     ensures front { Extends out.new.items out.old.items }
 {
     put_unsigned(out, b"{\"code\":", refusal.code())?;
@@ -172,8 +174,8 @@ fn place_of(refusal: Refusal) -> Option<u64>
 
 // With the closing bracket of the list.
 fn put_entries(out: &mut Vec<u8>, before: &[u8], entries: &[Entry]) -> Result<(), AllocError>
-    ensures ok { OnOk result (out.new.items
-        ≡ out.old.items ++ (before.now ++ items_text false (items_of (map entry_data entries.now)))) }
+    ensures ok { OnOk result (out.new.items ≡ out.old.items
+        ++ (before.now ++ items_text false (items_of (map entry_data entries.now)))) }
     ensures front { Extends out.new.items out.old.items }
 {
     put_bytes(out, before)?;

@@ -18,7 +18,8 @@ returns-clause-ok c =
     let name = rw c.as_str.ensures.value at c.in_ok-put_text-2.ensures.ok in
     on_ok_weaker c.put_sized.result
     (λ last. piece c.args.out.now.items (codes "{\"attrs\":[") attrs _ first
-    (piece c.put_attrs.new.out.items (codes ",\"dir\":") (decimal e.dir) _ c.in_ok-put_unsigned.ensures.ok
+    (piece c.put_attrs.new.out.items (codes ",\"dir\":")
+    (decimal e.dir) _ c.in_ok-put_unsigned.ensures.ok
     (piece c.put_unsigned.new.out.items (codes ",\"kind\":") (quoted (kind_name e.kind)) _ kind
     (piece c.put_text.new.out.items (codes ",\"name\":") (quoted e.name) _ name last))))
     c.put_sized.ensures.ok

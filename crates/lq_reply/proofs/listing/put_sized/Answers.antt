@@ -14,7 +14,10 @@ returns-clause-ok c =
     let same : to_z w64 (of_z w64 e.time) ≡ e.time = search rules in
     let signed = rw same at c.in_ok-put_signed.ensures.ok in
     on_ok_weaker c.put_bytes.result
-    (λ last. piece c.args.out.now.items (codes ",\"node\":") (decimal c.args.node) _ c.in_ok-put_unsigned.ensures.ok
-    (piece c.put_unsigned.new.out.items (codes ",\"size\":") (decimal e.size) _ c.in_ok-put_unsigned-2.ensures.ok
-    (piece c.put_unsigned-2.new.out.items (codes ",\"time\":") (compact_text (number (of_integer e.time))) _ signed last)))
+    (λ last. piece c.args.out.now.items (codes ",\"node\":")
+    (decimal c.args.node) _ c.in_ok-put_unsigned.ensures.ok
+    (piece c.put_unsigned.new.out.items (codes ",\"size\":")
+    (decimal e.size) _ c.in_ok-put_unsigned-2.ensures.ok
+    (piece c.put_unsigned-2.new.out.items (codes ",\"time\":")
+    (compact_text (number (of_integer e.time))) _ signed last)))
     c.put_bytes.ensures.ok

@@ -12,6 +12,8 @@ returns-clause-ok c =
     let first = rw c.cause_name.ensures at c.in_ok-put_text.ensures.ok in
     on_ok_weaker c.put_bytes.result
     (λ e. piece c.args.out.now.items (codes "{\"cause\":") (quoted (cause_name m.cause)) _ first
-    (piece c.put_text.new.out.items (codes ",\"change\":") (decimal m.change) _ c.in_ok-put_unsigned.ensures.ok
-    (piece c.put_unsigned.new.out.items (codes ",\"seq\":") (decimal m.seq) _ c.in_ok-put_unsigned-2.ensures.ok e)))
+    (piece c.put_text.new.out.items (codes ",\"change\":")
+    (decimal m.change) _ c.in_ok-put_unsigned.ensures.ok
+    (piece c.put_unsigned.new.out.items (codes ",\"seq\":")
+    (decimal m.seq) _ c.in_ok-put_unsigned-2.ensures.ok e)))
     c.put_bytes.ensures.ok

@@ -10,8 +10,12 @@ returns-clause-ok c =
     let m = c.args.message.now in
     let name = rw c.as_str.ensures.value at c.in_ok-put_text.ensures.ok in
     on_ok_weaker c.put_told.result
-    (λ e. piece c.args.out.now.items (codes "{\"change\":") (decimal m.change) _ c.in_ok-put_unsigned.ensures.ok
-    (piece c.put_unsigned.new.out.items (codes ",\"dir\":") (decimal m.dir) _ c.in_ok-put_unsigned-2.ensures.ok
-    (piece c.put_unsigned-2.new.out.items (codes ",\"from_dir\":") (decimal c.args.from_dir) _ c.in_ok-put_unsigned-3.ensures.ok
-    (piece c.put_unsigned-3.new.out.items (codes ",\"from_name\":") (quoted c.args.from_name.now) _ name e))))
+    (λ e. piece c.args.out.now.items (codes "{\"change\":")
+    (decimal m.change) _ c.in_ok-put_unsigned.ensures.ok
+    (piece c.put_unsigned.new.out.items (codes ",\"dir\":")
+    (decimal m.dir) _ c.in_ok-put_unsigned-2.ensures.ok
+    (piece c.put_unsigned-2.new.out.items (codes ",\"from_dir\":")
+    (decimal c.args.from_dir) _ c.in_ok-put_unsigned-3.ensures.ok
+    (piece c.put_unsigned-3.new.out.items (codes ",\"from_name\":")
+    (quoted c.args.from_name.now) _ name e))))
     c.put_told.ensures.ok

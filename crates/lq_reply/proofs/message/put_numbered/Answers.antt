@@ -9,5 +9,6 @@ pub returns-clause-ok : goal.returns-clause-ok
 unfolding escape_byte
 returns-clause-ok c =
     on_ok_weaker c.put_bytes.result
-    (named_piece c.args.out.now.items (codes ",\"op\":") (quoted (opcode_name c.args.op.now)) (codes ",\"seq\":") (decimal c.args.seq) _ c.before_seq.ensures c.in_ok-put_unsigned.ensures.ok)
+    (named_piece c.args.out.now.items (codes ",\"op\":") (quoted (opcode_name c.args.op.now))
+    (codes ",\"seq\":") (decimal c.args.seq) _ c.before_seq.ensures c.in_ok-put_unsigned.ensures.ok)
     c.put_bytes.ensures.ok

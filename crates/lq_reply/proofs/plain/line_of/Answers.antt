@@ -8,7 +8,9 @@ use Rattle.lq_reply.proofs.plain.line_of.Goals as goal
 pub returns : goal.returns
 returns c =
     let built = c.in_ok-value.ensures in
-    let text = c.in_ok-text.ensures.text (ap has_float built ∙ response-no_float (response_of c.args.response.now)) in
+    let text = c.in_ok-text.ensures.text
+    (ap has_float built ∙ response-no_float (response_of c.args.response.now)) in
     let pushed = c.in_ok-push.ensures in
     let said = text ∙ ap compact_text built in
-    pushed.bytes ∙ (ap (λ end. string_bytes c.in_ok-text.text ++ end) (pushed.ascii (omega arith)) ∙ ap (λ front. front ++ 10 ∷ []) said)
+    pushed.bytes ∙ (ap (λ end. string_bytes c.in_ok-text.text ++ end) (pushed.ascii (omega arith))
+    ∙ ap (λ front. front ++ 10 ∷ []) said)

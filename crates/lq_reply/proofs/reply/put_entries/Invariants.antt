@@ -8,7 +8,8 @@ use Rattle.lq_reply.proofs.reply.put_entries.Given as goal
 -- what is put and the text of the entries left are the whole
 abbrev pub invariant-loop-entry : goal.invariant-loop-entry
 invariant-loop-entry l = record {
-  whole : l.out.items ++ items_text l.later (items_of (map entry_data (drop l.entry-index l.entries)))
+  whole : l.out.items
+      ++ items_text l.later (items_of (map entry_data (drop l.entry-index l.entries)))
       ≡ l.fn.out.items ++ (l.before ++ items_text false (items_of (map entry_data l.entries)));
   front : Extends l.out.items l.fn.out.items;
 }

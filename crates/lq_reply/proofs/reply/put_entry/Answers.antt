@@ -11,7 +11,9 @@ returns-clause-ok c =
     let e = c.args.entry.now in
     let name = rw c.as_str.ensures.value at c.in_ok-put_text.ensures.ok in
     on_ok_weaker c.put_bytes.result
-    (λ last. named_piece c.args.out.now.items [] (comma_if c.args.later) (codes "{\"dir\":") (decimal e.dir) _ c.before_dir.ensures c.in_ok-put_unsigned.ensures.ok
+    (λ last. named_piece c.args.out.now.items [] (comma_if c.args.later) (codes "{\"dir\":")
+    (decimal e.dir) _ c.before_dir.ensures c.in_ok-put_unsigned.ensures.ok
     (piece c.put_unsigned.new.out.items (codes ",\"name\":") (quoted e.name) _ name
-    (piece c.put_text.new.out.items (codes ",\"node\":") (decimal e.node) _ c.in_ok-put_unsigned-2.ensures.ok last)))
+    (piece c.put_text.new.out.items (codes ",\"node\":")
+    (decimal e.node) _ c.in_ok-put_unsigned-2.ensures.ok last)))
     c.put_bytes.ensures.ok

@@ -13,7 +13,10 @@ unfolding escape_byte
 returns-clause-ok c =
     let entries = items_text false (items_of (map entry_data c.args.entries.now)) in
     on_ok_weaker c.put_bytes.result
-    (λ last. piece c.args.out.now.items (codes "{\"at\":") (decimal c.args.at) _ c.in_ok-put_unsigned.ensures.ok
-    (piece c.put_unsigned.new.out.items (codes ",\"result\":[") entries _ c.in_ok-put_entries.ensures.ok
-    (piece c.put_entries.new.out.items (codes ",\"slot\":") (decimal c.args.slot) _ c.in_ok-put_unsigned-2.ensures.ok last)))
+    (λ last. piece c.args.out.now.items (codes "{\"at\":")
+    (decimal c.args.at) _ c.in_ok-put_unsigned.ensures.ok
+    (piece c.put_unsigned.new.out.items
+    (codes ",\"result\":[") entries _ c.in_ok-put_entries.ensures.ok
+    (piece c.put_entries.new.out.items (codes ",\"slot\":")
+    (decimal c.args.slot) _ c.in_ok-put_unsigned-2.ensures.ok last)))
     c.put_bytes.ensures.ok

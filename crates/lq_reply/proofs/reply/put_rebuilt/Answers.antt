@@ -14,12 +14,16 @@ unfolding escape_byte
 returns-clause-ok c =
     let entries = items_text false (items_of (map entry_data c.args.entries.now)) in
     on_ok_weaker c.put_bytes.result
-    (λ last. piece c.args.out.now.items (codes "{\"change\":") (decimal c.args.change) _ c.in_ok-put_unsigned.ensures.ok
-    (piece c.put_unsigned.new.out.items (codes ",\"result\":[") entries _ c.in_ok-put_entries.ensures.ok
-    (piece c.put_entries.new.out.items (codes ",\"settled\":") (compact_text (boolean c.args.settled)) _ c.in_ok-put_truth.ensures.ok last)))
+    (λ last. piece c.args.out.now.items (codes "{\"change\":")
+    (decimal c.args.change) _ c.in_ok-put_unsigned.ensures.ok
+    (piece c.put_unsigned.new.out.items
+    (codes ",\"result\":[") entries _ c.in_ok-put_entries.ensures.ok
+    (piece c.put_entries.new.out.items (codes ",\"settled\":")
+    (compact_text (boolean c.args.settled)) _ c.in_ok-put_truth.ensures.ok last)))
     c.put_bytes.ensures.ok
 
 pub returns-clause-front : goal.returns-clause-front
 returns-clause-front c =
     extends_on _ _ _ c.put_bytes.ensures.front
-    (extends_on _ _ _ c.in_ok-put_truth.ensures.front (extends_on _ _ _ c.in_ok-put_entries.ensures.front c.in_ok-put_unsigned.ensures.front))
+    (extends_on _ _ _ c.in_ok-put_truth.ensures.front
+    (extends_on _ _ _ c.in_ok-put_entries.ensures.front c.in_ok-put_unsigned.ensures.front))

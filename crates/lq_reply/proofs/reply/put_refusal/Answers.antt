@@ -15,5 +15,6 @@ returns-in_ok-put_unsigned-in-Some-clause-ok c =
     (λ last. rw (← c.in-Some.ensures)
     (piece c.args.out.now.items (codes "{\"code\":") (decimal (code_of e)) _ code
     (piece c.put_unsigned.new.out.items (codes ",\"error\":") (quoted (name_of e)) _ name
-    (piece c.put_text.new.out.items (codes ",\"place\":") (decimal c.in-Some.place) _ c.in_ok-put_unsigned-in-Some.ensures.ok last))))
+    (piece c.put_text.new.out.items (codes ",\"place\":")
+    (decimal c.in-Some.place) _ c.in_ok-put_unsigned-in-Some.ensures.ok last))))
     c.put_bytes-in-Some.ensures.ok
