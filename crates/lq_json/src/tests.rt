@@ -1,0 +1,172 @@
+//! Texts at the borders of what serde_json takes, read by it and by this crate.
+use crate::{bool_of, field, i64_of, read, text_of, u64_of};
+use json::{Scratch, Value};
+use lq_value::Refusal;
+use std::alloc::{AllocError, Global};
+use std::test::Fail;
+
+// text, whether it is JSON within the limits
+const TEXTS: [(&str, bool); 40] = [
+    // equal keys, and keys that an escape makes equal
+    (r#"{"a":1,"a":2}"#, true),
+    (r#"{"a":1,"b":2,"a":"x","b":3,"a":true}"#, true),
+    (r#"{"a":1,"\u0061":2}"#, true),
+    (r#"{"\u0061":2,"a":null}"#, true),
+    (r#"{"a":{"a":1},"b":{"b":2}}"#, true),
+    // numbers
+    (r#"{"a":0,"b":-0}"#, true),
+    (r#"{"a":-0.0,"b":0.0}"#, true),
+    (r#"{"a":1.0,"b":1e2}"#, true),
+    (
+        r#"{"a":18446744073709551615,"b":18446744073709551616}"#,
+        true,
+    ),
+    (r#"{"a":9223372036854775807,"b":9223372036854775808}"#, true),
+    (
+        r#"{"a":-9223372036854775808,"b":-9223372036854775809}"#,
+        true,
+    ),
+    (r#"{"a":999999999999999999,"b":1000000000000000000}"#, true),
+    (r#"{"a":1e308,"b":1e-999}"#, true),
+    (r#"{"a":1e999}"#, false),
+    (r#"{"a":-1e999}"#, false),
+    (r#"{"a":1,"b":1e309}"#, false),
+    (r#"{"c":[1,{"d":[1e309]}]}"#, false),
+    (r#"{"a":1e309,"a":1}"#, false),
+    (r#"{"a":01}"#, false),
+    (r#"{"a":+1}"#, false),
+    (r#"{"a":1.}"#, false),
+    (r#"{"a":.5}"#, false),
+    (r#"{"a":-}"#, false),
+    (r#"{"a":1e}"#, false),
+    // strings
+    (r#"{"a":"\"\\\/\b\f\n\r\t","b":"\u00e9\u20AC"}"#, true),
+    (r#"{"a":"\ud834\udd1e","b":"é€𝄞"}"#, true),
+    (r#"{"a":"\u0000"}"#, true),
+    (r#"{"a":"\ud834"}"#, false),
+    (r#"{"a":"\udd1e\ud834"}"#, false),
+    (r#"{"a":"\x"}"#, false),
+    ("{\"a\":\"\n\"}", false),
+    (r#"{"a":"x}"#, false),
+    // layout, other words, and what is no object
+    (" {\t\"a\" :\r1 , \"b\":false }\n", true),
+    (r#"{"a":1,}"#, false),
+    (r#"{"a":1}}"#, false),
+    (r#"{"a":tru}"#, false),
+    (r#"{a:1}"#, false),
+    (r#"[{"a":1}]"#, true),
+    ("null", true),
+    ("", false),
+];
+
+// how deep brackets nest, whether serde_json takes it
+const DEPTHS: [(usize, bool); 4] = [(1, true), (126, true), (127, true), (128, false)];
+
+// whole numbers near which others are drawn; the last two, with e292, are near the greatest double
+const WHOLES: [u64; 9] = [
+    0,
+    100,
+    100_000_000_000_000_000,
+    1_000_000_000_000_000_000,
+    9_223_372_036_854_775_808,
+    10_000_000_000_000_000_000,
+    18_446_744_073_709_551_608,
+    17_976_931_348_623_155,
+    17_976_931_348_623_158,
+];
+
+// what stands before and after a whole number
+const SIGNS: [&str; 2] = ["", "-"];
+
+const ENDS: [&str; 12] = [
+    "", "", "", "0", "7", ".0", ".5", "e0", "E+2", "e291", "e292", "e-340",
+];
+
+// The next of a row of drawn numbers.
+fn next(drawn: u64) -> u64 {
+    drawn
+        .wrapping_mul(6_364_136_223_846_793_005)
+        .wrapping_add(1_442_695_040_888_963_407)
+}
+
+// Whether both have the same field of that key, as far as its kind goes.
+fn has_same(plain: &serde_json::Value, value: &Value<'_>, key: &str) -> bool {
+    match (plain.get(key), field(value, key)) {
+        (None, None) => true,
+        (Some(plain), Some(value)) => plain.as_u64() == u64_of(value)
+            && plain.as_i64() == i64_of(value)
+            && plain.as_str() == text_of(value)
+            && plain.as_bool() == bool_of(value),
+        _ => false,
+    }
+}
+
+// Whether the text is taken; `None` where the two differ.
+fn taken(alloc: Global, scratch: &mut Scratch, text: &str) -> Option<bool> {
+    match (
+        serde_json::Value::from_str(alloc, text),
+        read(alloc, scratch, text),
+    ) {
+        (Ok(plain), Ok(value)) => if has_same(&plain, &value, "a")
+            && has_same(&plain, &value, "b")
+        {
+            Some(true)
+        } else {
+            None
+        },
+        (Err(_), Err(Refusal::NotJson)) => Some(false),
+        _ => None,
+    }
+}
+
+// A value in that many brackets.
+fn nested(alloc: Global, open: &str, close: &str, depth: usize) -> Result<String, AllocError> {
+    let mut text = String::new(alloc);
+    for _ in 0..depth {
+        text.push_str(open)?;
+    }
+    text.push_str("1")?;
+    for _ in 0..depth {
+        text.push_str(close)?;
+    }
+    Ok(text)
+}
+
+#[test]
+fn a_text_is_read_as_serde_json_reads_it(rt: HostRuntime) -> Result<(), Fail> {
+    let mut scratch = Scratch::new(rt.alloc());
+    for (text, is_taken) in TEXTS {
+        assert_eq!(rt;
+            taken(rt.alloc(), &mut scratch, text),
+            Some(is_taken),
+            "{text}"
+        );
+    }
+    for (depth, is_taken) in DEPTHS {
+        for (open, close) in [("[", "]"), ("{\"a\":", "}")] {
+            let text = nested(rt.alloc(), open, close, depth)?;
+            assert_eq!(rt;
+                taken(rt.alloc(), &mut scratch, &text),
+                Some(is_taken),
+                "{open} {depth}"
+            );
+        }
+    }
+    Ok(())
+}
+
+#[test]
+fn a_drawn_number_is_read_as_serde_json_reads_it(rt: HostRuntime) -> Result<(), Fail> {
+    let mut scratch = Scratch::new(rt.alloc());
+    let mut drawn = 1;
+    for _ in 0..4_000 {
+        drawn = next(drawn);
+        let at = drawn >> 33;
+        let whole = WHOLES[(at % 9) as usize].wrapping_add(at / 9 % 8);
+        let sign = SIGNS[(at / 72 % 2) as usize];
+        let end = ENDS[(at / 144 % 12) as usize];
+        let text = format!(in rt.alloc(); "{{\"a\":{sign}{whole}{end},\"b\":[{whole}]}}")?;
+        assert!(rt; taken(rt.alloc(), &mut scratch, &text).is_some(), "{text}");
+    }
+    Ok(())
+}
