@@ -12,5 +12,4 @@ mod reading;
 mod tests;
 
 pub use fields::{bool_of, field, i64_of, text_in, text_of, u64_in, u64_of};
-pub use json::{Scratch, Value};
 pub use reading::read;

@@ -1,6 +1,6 @@
 //! From the bytes of a line to what it asks.
 ghost use Rattle.std.specs.Prelude.{◌≡◌, ◌⊎◌, IfOk, IfErr, Ok, Err};
-ghost use Rattle.serde_json.specs.View.{view};
+ghost use Rattle.lq_json.specs.Data.{view};
 ghost use Rattle.lq_value.specs.declared.refusal.Refusal.TheVariants.{NoMemory};
 ghost use Rattle.lq_world.specs.Events.{Changing};
 ghost use Rattle.lq_request.specs.Asked.{asked, given, question_of};
@@ -8,45 +8,44 @@ ghost use Rattle.lq_request.specs.Request.{Happens, asks_set, value_for, asked_i
 
 use crate::question::Question;
 use crate::request::{Request, request_in};
+use json::{Scratch, Value};
 use lq_desk::Event;
 use lq_predicate::read;
 use lq_value::{AttrName, Name, Refusal, View};
 use lq_volume::Change;
-use serde_json::{Category, Value};
 use std::alloc::Global;
 
 /// What a line asks, the line being without its LF and CR.
 ///
+/// A scratch that is kept from line to line spares its memory, and changes no answer.
 /// Refused: `NoMemory`; else, the first that fits, `NotUtf8`, `NotJson`, `BadLine` (no object, an
 /// unknown `do`, a field missing, of the wrong type or out of its range), then as the values are,
 /// `BadName` or `BadQuery`. The faults and their order are our own.
-pub fn question_in(alloc: Global, line: &[u8]) -> Result<Question, Refusal>
+pub fn question_in(alloc: Global, scratch: &mut Scratch, line: &[u8]) -> Result<Question, Refusal>
     ensures value { IfOk result (λ question. question_in line.now ≡ Ok (question_of question)) }
     ensures refused { IfErr result (λ e. (e ≡ NoMemory) ⊎ (question_in line.now ≡ Err e)) }
 {
-    let value = value_in(alloc, line)?;
+    let value = value_in(alloc, scratch, line)?;
     Ok(question_of(alloc, &value)?)
 }
 
 // The JSON value that a line writes.
-fn value_in(alloc: Global, line: &[u8]) -> Result<Value, Refusal>
+fn value_in<'a>(
+    alloc: Global,
+    scratch: &'a mut Scratch,
+    line: &'a [u8],
+) -> Result<Value<'a>, Refusal>
     ensures value { IfOk result (λ value. asked_in line.now ≡ asked_or (asked_of (view value))) }
     ensures refused { IfErr result (λ e. (e ≡ NoMemory) ⊎ (asked_in line.now ≡ Err e)) }
 {
     let Ok(text) = str::from_utf8(line) else {
         return Err(Refusal::NotUtf8);
     };
-    match Value::from_str(alloc, text) {
-        Ok(value) => Ok(value),
-        Err(error) => match error.classify() {
-            Category::Memory => Err(Refusal::NoMemory),
-            _ => Err(Refusal::NotJson),
-        },
-    }
+    lq_json::read(alloc, scratch, text)
 }
 
 // What a line's JSON value asks.
-fn question_of(alloc: Global, value: &Value) -> Result<Question, Refusal>
+fn question_of(alloc: Global, value: &Value<'_>) -> Result<Question, Refusal>
     ensures value { IfOk result (λ question.
         question_from (asked_or (asked_of (view value.now))) ≡ Ok (question_of question)) }
     ensures refused { IfErr result (λ e. (e ≡ NoMemory)

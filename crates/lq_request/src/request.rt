@@ -3,12 +3,13 @@ ghost use Rattle.std.specs.Prelude.{◌≡◌, pos, false};
 ghost use Rattle.std.specs.Option.{option_map};
 ghost use Rattle.lq_value.specs.declared.value.Value.TheVariants.{Int32, UInt32};
 ghost use Rattle.lq_value.specs.declared.kind.Kind.TheVariants.{File};
-ghost use Rattle.serde_json.specs.View.{view};
+ghost use Rattle.lq_json.specs.Data.{view};
 ghost use Rattle.lq_request.specs.Request.{asked_by, asked_of, create_of, remove_of, move_of, write_of, set_of, unset_of, open_of, read_of, hang_up_of, close_of, finish_of, rebuilt_of, find_of, entry_of, fetch_of, given_by, given_number, within_i32, within_u32, flag_or, needed_text, needed_u64, u64_or, i64_or, kind_named, kind_or};
 ghost use Rattle.lq_request.specs.Asked.{asked, given};
 
+use json::Value;
+use lq_json::{bool_of, field, i64_of, text_in, text_of, u64_in, u64_of};
 use lq_value::{Kind, View};
-use serde_json::Value;
 
 /// What a line asks for, its texts borrowed from the line's JSON value.
 #[derive(Debug, Drop)]
@@ -77,10 +78,10 @@ pub enum Request<'a> {
 }
 
 /// The request of a line's JSON value; `None` where a field is missing or wrong.
-pub fn request_in(value: &Value) -> Option<Request<'_>>
+pub fn request_in<'a>(value: &Value<'a>) -> Option<Request<'a>>
     ensures { option_map asked result ≡ asked_of (view value.now) }
 {
-    match value.get("do").and_then(Value::as_str)? {
+    match text_in(value, "do")? {
         "create" => create_in(value),
         "remove" => remove_in(value),
         "move" => move_in(value),
@@ -100,14 +101,14 @@ pub fn request_in(value: &Value) -> Option<Request<'_>>
     }
 }
 
-fn create_in(value: &Value) -> Option<Request<'_>>
+fn create_in<'a>(value: &Value<'a>) -> Option<Request<'a>>
     ensures { option_map asked result ≡ create_of (view value.now) }
 {
-    let name = value.get("name").and_then(Value::as_str)?;
-    let dir = u64_or(value.get("dir"), 1)?;
-    let kind = kind_or_file(value.get("kind"))?;
-    let size = u64_or(value.get("size"), 0)?;
-    let time = i64_or_zero(value.get("time"))?;
+    let name = text_in(value, "name")?;
+    let dir = u64_or(field(value, "dir"), 1)?;
+    let kind = kind_or_file(field(value, "kind"))?;
+    let size = u64_or(field(value, "size"), 0)?;
+    let time = i64_or_zero(field(value, "time"))?;
     Some(Request::Create {
         dir,
         name,
@@ -117,20 +118,20 @@ fn create_in(value: &Value) -> Option<Request<'_>>
     })
 }
 
-fn remove_in(value: &Value) -> Option<Request<'_>>
+fn remove_in<'a>(value: &Value<'a>) -> Option<Request<'a>>
     ensures { option_map asked result ≡ remove_of (view value.now) }
 {
-    let node = value.get("node").and_then(Value::as_u64)?;
+    let node = u64_in(value, "node")?;
     Some(Request::Remove { node })
 }
 
-fn move_in(value: &Value) -> Option<Request<'_>>
+fn move_in<'a>(value: &Value<'a>) -> Option<Request<'a>>
     ensures { option_map asked result ≡ move_of (view value.now) }
 {
-    let node = value.get("node").and_then(Value::as_u64)?;
-    let name = value.get("name").and_then(Value::as_str)?;
-    let dir = u64_or(value.get("dir"), 1)?;
-    let clobber = bool_or_false(value.get("clobber"))?;
+    let node = u64_in(value, "node")?;
+    let name = text_in(value, "name")?;
+    let dir = u64_or(field(value, "dir"), 1)?;
+    let clobber = bool_or_false(field(value, "clobber"))?;
     Some(Request::Move {
         node,
         dir,
@@ -139,44 +140,44 @@ fn move_in(value: &Value) -> Option<Request<'_>>
     })
 }
 
-fn write_in(value: &Value) -> Option<Request<'_>>
+fn write_in<'a>(value: &Value<'a>) -> Option<Request<'a>>
     ensures { option_map asked result ≡ write_of (view value.now) }
 {
-    let node = value.get("node").and_then(Value::as_u64)?;
-    let size = value.get("size").and_then(Value::as_u64)?;
-    let time = i64_or_zero(value.get("time"))?;
+    let node = u64_in(value, "node")?;
+    let size = u64_in(value, "size")?;
+    let time = i64_or_zero(field(value, "time"))?;
     Some(Request::Write { node, size, time })
 }
 
-fn set_in(value: &Value) -> Option<Request<'_>>
+fn set_in<'a>(value: &Value<'a>) -> Option<Request<'a>>
     ensures { option_map asked result ≡ set_of (view value.now) }
 {
-    let node = value.get("node").and_then(Value::as_u64)?;
-    let attr = value.get("attr").and_then(Value::as_str)?;
-    let kind = value.get("type").and_then(Value::as_str)?;
-    let field = value.get("value")?;
-    let value = typed_in(kind, field)?;
+    let node = u64_in(value, "node")?;
+    let attr = text_in(value, "attr")?;
+    let kind = text_in(value, "type")?;
+    let given = field(value, "value")?;
+    let value = typed_in(kind, given)?;
     Some(Request::Set { node, attr, value })
 }
 
-fn unset_in(value: &Value) -> Option<Request<'_>>
+fn unset_in<'a>(value: &Value<'a>) -> Option<Request<'a>>
     ensures { option_map asked result ≡ unset_of (view value.now) }
 {
-    let node = value.get("node").and_then(Value::as_u64)?;
-    let attr = value.get("attr").and_then(Value::as_str)?;
+    let node = u64_in(value, "node")?;
+    let attr = text_in(value, "attr")?;
     Some(Request::Unset { node, attr })
 }
 
 // A value of one of the five attribute types, by the type's text.
-fn typed_in<'a>(kind: &str, field: &'a Value) -> Option<View<'a>>
-    ensures { option_map given result ≡ given_by kind.now (view field.now) }
+fn typed_in<'a>(kind: &str, value: &Value<'a>) -> Option<View<'a>>
+    ensures { option_map given result ≡ given_by kind.now (view value.now) }
 {
     match kind {
-        "CSTR" => Some(View::Text(field.as_str()?)),
-        "LONG" => Some(View::Int32(narrow_i32(field.as_i64()?)?)),
-        "LLNG" => Some(View::Int64(field.as_i64()?)),
-        "ULNG" => Some(View::UInt32(narrow_u32(field.as_u64()?)?)),
-        "ULLG" => Some(View::UInt64(field.as_u64()?)),
+        "CSTR" => Some(View::Text(text_of(value)?)),
+        "LONG" => Some(View::Int32(narrow_i32(i64_of(value)?)?)),
+        "LLNG" => Some(View::Int64(i64_of(value)?)),
+        "ULNG" => Some(View::UInt32(narrow_u32(u64_of(value)?)?)),
+        "ULLG" => Some(View::UInt64(u64_of(value)?)),
         _ => None,
     }
 }
@@ -199,13 +200,13 @@ fn narrow_u32(number: u64) -> Option<u32>
     Some(number as u32)
 }
 
-fn open_in(value: &Value) -> Option<Request<'_>>
+fn open_in<'a>(value: &Value<'a>) -> Option<Request<'a>>
     ensures { option_map asked result ≡ open_of (view value.now) }
 {
-    let query = value.get("query").and_then(Value::as_str)?;
-    let port = value.get("port").and_then(Value::as_u64)?;
-    let backlog = value.get("backlog").and_then(Value::as_u64)?;
-    let moved = bool_or_false(value.get("moved"))?;
+    let query = text_in(value, "query")?;
+    let port = u64_in(value, "port")?;
+    let backlog = u64_in(value, "backlog")?;
+    let moved = bool_or_false(field(value, "moved"))?;
     Some(Request::Open {
         query,
         port,
@@ -214,100 +215,100 @@ fn open_in(value: &Value) -> Option<Request<'_>>
     })
 }
 
-fn read_in(value: &Value) -> Option<Request<'_>>
+fn read_in<'a>(value: &Value<'a>) -> Option<Request<'a>>
     ensures { option_map asked result ≡ read_of (view value.now) }
 {
-    let slot = value.get("slot").and_then(Value::as_u64)?;
+    let slot = u64_in(value, "slot")?;
     Some(Request::Read { slot })
 }
 
-fn hang_up_in(value: &Value) -> Option<Request<'_>>
+fn hang_up_in<'a>(value: &Value<'a>) -> Option<Request<'a>>
     ensures { option_map asked result ≡ hang_up_of (view value.now) }
 {
-    let slot = value.get("slot").and_then(Value::as_u64)?;
+    let slot = u64_in(value, "slot")?;
     Some(Request::HangUp { slot })
 }
 
-fn close_in(value: &Value) -> Option<Request<'_>>
+fn close_in<'a>(value: &Value<'a>) -> Option<Request<'a>>
     ensures { option_map asked result ≡ close_of (view value.now) }
 {
-    let slot = value.get("slot").and_then(Value::as_u64)?;
+    let slot = u64_in(value, "slot")?;
     Some(Request::Close { slot })
 }
 
-fn finish_in(value: &Value) -> Option<Request<'_>>
+fn finish_in<'a>(value: &Value<'a>) -> Option<Request<'a>>
     ensures { option_map asked result ≡ finish_of (view value.now) }
 {
-    let slot = value.get("slot").and_then(Value::as_u64)?;
+    let slot = u64_in(value, "slot")?;
     Some(Request::Finish { slot })
 }
 
-fn find_in(value: &Value) -> Option<Request<'_>>
+fn find_in<'a>(value: &Value<'a>) -> Option<Request<'a>>
     ensures { option_map asked result ≡ find_of (view value.now) }
 {
-    let name = value.get("name").and_then(Value::as_str)?;
-    let dir = u64_or(value.get("dir"), 1)?;
+    let name = text_in(value, "name")?;
+    let dir = u64_or(field(value, "dir"), 1)?;
     Some(Request::Find { dir, name })
 }
 
-fn entry_in(value: &Value) -> Option<Request<'_>>
+fn entry_in<'a>(value: &Value<'a>) -> Option<Request<'a>>
     ensures { option_map asked result ≡ entry_of (view value.now) }
 {
-    let node = value.get("node").and_then(Value::as_u64)?;
+    let node = u64_in(value, "node")?;
     Some(Request::Entry { node })
 }
 
-fn fetch_in(value: &Value) -> Option<Request<'_>>
+fn fetch_in<'a>(value: &Value<'a>) -> Option<Request<'a>>
     ensures { option_map asked result ≡ fetch_of (view value.now) }
 {
-    let query = value.get("query").and_then(Value::as_str)?;
+    let query = text_in(value, "query")?;
     Some(Request::Fetch { query })
 }
 
-fn rebuilt_in(value: &Value) -> Option<Request<'_>>
+fn rebuilt_in<'a>(value: &Value<'a>) -> Option<Request<'a>>
     ensures { option_map asked result ≡ rebuilt_of (view value.now) }
 {
-    let slot = value.get("slot").and_then(Value::as_u64)?;
+    let slot = u64_in(value, "slot")?;
     Some(Request::Rebuilt { slot })
 }
 
 // A whole number from 0 up, or the default where there is none.
-fn u64_or(field: Option<&Value>, default: u64) -> Option<u64>
+fn u64_or(field: Option<&Value<'_>>, default: u64) -> Option<u64>
     ensures { result ≡ u64_or default (option_map (λ v. view v.now) field.entry) }
 {
     match field {
         None => Some(default),
-        Some(value) => value.as_u64(),
+        Some(value) => u64_of(value),
     }
 }
 
 // A whole number of 64 bits with a sign, or 0 where there is none.
-fn i64_or_zero(field: Option<&Value>) -> Option<i64>
+fn i64_or_zero(field: Option<&Value<'_>>) -> Option<i64>
     ensures { result ≡ i64_or (pos 0) (option_map (λ v. view v.now) field.entry) }
 {
     match field {
         None => Some(0),
-        Some(value) => value.as_i64(),
+        Some(value) => i64_of(value),
     }
 }
 
 // A truth value, or false where there is none.
-fn bool_or_false(field: Option<&Value>) -> Option<bool>
+fn bool_or_false(field: Option<&Value<'_>>) -> Option<bool>
     ensures { result ≡ flag_or false (option_map (λ v. view v.now) field.entry) }
 {
     match field {
         None => Some(false),
-        Some(value) => value.as_bool(),
+        Some(value) => bool_of(value),
     }
 }
 
 // A kind, or a file where there is none.
-fn kind_or_file(field: Option<&Value>) -> Option<Kind>
+fn kind_or_file(field: Option<&Value<'_>>) -> Option<Kind>
     ensures { result ≡ kind_or File (option_map (λ v. view v.now) field.entry) }
 {
     match field {
         None => Some(Kind::File),
-        Some(value) => match value.as_str()? {
+        Some(value) => match text_of(value)? {
             "file" => Some(Kind::File),
             "folder" => Some(Kind::Folder),
             _ => None,

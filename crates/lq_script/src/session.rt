@@ -14,6 +14,7 @@ ghost use Rattle.lq_script.specs.Session.{session_with};
 ghost use Rattle.lq_script.specs.Script.{kept_volume};
 
 use crate::rebuilds::{copied, note, rebuild_at};
+use json::Scratch;
 use lq_desk::{Desk, Event, Reply};
 use lq_lines::Responder;
 use lq_predicate::Predicate;
@@ -25,11 +26,13 @@ use lq_volume::Volume;
 use std::alloc::Global;
 
 /// A desk, and what was rebuilt of each slot, that answer the lines of a script.
-#[derive(Debug, Drop)]
+#[derive(Drop)]
 pub struct Session {
     alloc: Global,
     desk: Desk,
     rebuilds: Vec<Option<Rebuild>>,
+    // What the reading of a line takes, kept from line to line.
+    scratch: Scratch,
 }
 
 impl Session {
@@ -42,6 +45,7 @@ impl Session {
             alloc,
             desk,
             rebuilds,
+            scratch: Scratch::new(alloc),
         }
     }
 
@@ -55,7 +59,7 @@ impl Session {
             (session_with self.old.desk self.old.rebuilds.items) (question_in line.now)).1) }
         ensures memory { IfErr result (λ e. e ≡ NoMemory) }
     {
-        match question_in(self.alloc, line) {
+        match question_in(self.alloc, &mut self.scratch, line) {
             Ok(question) => Ok(self.respond_to(&question)?),
             Err(Refusal::NoMemory) => Err(Refusal::NoMemory),
             Err(refusal) => Ok(Response::Refused(refusal)),

@@ -1,6 +1,7 @@
 //! What lines are given to, and carries them out.
 use crate::gate::Gate;
 use crate::session::Session;
+use json::Scratch;
 use lq_desk::Event;
 use lq_lines::{Failed, RunFault, Sink, write_all};
 use lq_reply::{Response, put_reply};
@@ -26,6 +27,8 @@ pub struct Carrier<'a, N: Named, R, G, W> {
     alloc: Global,
     session: Session<'a, N, R, G>,
     writer: &'a mut W,
+    // What the reading of a line takes, kept from line to line.
+    scratch: Scratch,
     slots: Vec<u64>,
     replies: Vec<u8>,
 }
@@ -47,6 +50,7 @@ impl<'a, N: Named + Send + Sync, R: Threads + Wait + Sync, G: Gate + Sync, W: Si
             alloc,
             session,
             writer,
+            scratch: Scratch::new(alloc),
             slots: Vec::new(alloc),
             replies: Vec::new(alloc),
         }
@@ -92,7 +96,7 @@ impl<'a, N: Named + Send + Sync, R: Threads + Wait + Sync, G: Gate + Sync, W: Si
         let asked = if line.is_empty() {
             Err(Refusal::LongLine)
         } else {
-            question_in(self.alloc, line)
+            question_in(self.alloc, &mut self.scratch, line)
         };
         match asked {
             Ok(Question::Event(Event::Take(slot))) => self.put_read(slot),

@@ -8,7 +8,8 @@ pub returns-then-not-is_in_range-clause-refused :
     goal.returns-then-not-is_in_range-clause-refused
 returns-then-not-is_in_range-clause-refused c =
     let out : in_range (value_view c.in_ok-value.value) ≡ false = search rules in
-    inr (refl, c.in_ok-value.ensures.value ∙ of_json-out_of_range (value_view c.in_ok-value.value) out)
+    let none = of_json-out_of_range (value_view c.in_ok-value.value) out in
+    inr (refl, c.in_ok-value.ensures.value ∙ none)
 
 pub returns-clause-value : goal.returns-clause-value
 returns-clause-value c =

@@ -1,6 +1,7 @@
-use Rattle.std.proofs.Common.{[], subst, refl, ◌∙◌}
+use Rattle.std.proofs.Common.{ℕ, List, [], subst, refl, ◌∙◌}
 use Rattle.std.proofs.KnownBytes.{Appends-nil, Consumes-nil}
-use Rattle.std.specs.Prelude.{Result, Ok, Err, OnOk, OnErr}
+use Rattle.std.specs.Io.KnownBytes.{Appends, Keeps}
+use Rattle.std.specs.Prelude.{Option, Some, None, Result, Ok, Err, OnOk, OnErr}
 use Rattle.lq_volume.specs.State.{State}
 use Rattle.lq_world.specs.World.{first_world}
 use Rattle.lq_desk.specs.Kept.{Shows}
@@ -8,7 +9,6 @@ use Rattle.lq_lines.specs.Output.{output_of}
 use Rattle.lq_script.specs.Session.{session_with}
 use Rattle.lq_script.specs.Script.{script_session, script_world, world_rules}
 use Rattle.lq_script.proofs.ScriptLemmas.{Alike, answered-world, stopped-world, ended-world, passed-world}
-use Rattle.lq_lines.proofs.ProgressLemmas.{appends_kept}
 use Rattle.lq_script.proofs.script.run.Goals as goal
 
 on_ok : {T E P Q : Type 0} (r : Result T E) → (P → Q) → OnOk r P → OnOk r Q
@@ -19,13 +19,19 @@ on_err : {T E P Q : Type 0} (r : Result T E) → (P → Q) → OnErr r P → OnE
 on_err (Ok x) f h = tt
 on_err (Err e) f h = f h
 
+-- what keeps its bytes appends none
+keeps_appends : (b c : Option (List ℕ)) → Keeps b c → Appends b c []
+keeps_appends None c k = tt
+keeps_appends (Some x) None k = absurd k
+keeps_appends (Some x) (Some y) k = k ∙ Appends-nil (Some x)
+
 -- with nothing read and nothing written
 pub returns-in_default-clause-err : goal.returns-in_default-clause-err
 returns-in_default-clause-err g c = record {
   given = [];
   consumed = Consumes-nil _;
   text = [];
-  appended = appends_kept _ _ _ [] (Appends-nil _) c.out_of_memory.ensures.bytes;
+  appended = keeps_appends _ _ c.out_of_memory.ensures.bytes;
   front = (output_of world_rules script_session [], refl);
 }
 
@@ -34,7 +40,7 @@ returns-in_default-no_rebuilds-clause-err g c = record {
   given = [];
   consumed = Consumes-nil _;
   text = [];
-  appended = appends_kept _ _ _ [] (Appends-nil _) c.out_of_memory-in_default-no_rebuilds.ensures.bytes;
+  appended = keeps_appends _ _ c.out_of_memory-in_default-no_rebuilds.ensures.bytes;
   front = (output_of world_rules script_session [], refl);
 }
 
