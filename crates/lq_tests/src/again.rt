@@ -69,8 +69,8 @@ fn tell(
     seq: u32,
     change: &Change,
 ) -> Result<u32, Refusal> {
-    volume.check(change)?;
-    let messages = again!(step(alloc, predicate, volume, change, u64::from(seq), true))?;
+    let planned = volume.plan(change)?;
+    let messages = again!(step(alloc, predicate, &planned, u64::from(seq), true))?;
     fold(rebuild, &messages)?;
     Ok(seq.saturating_add(messages.len() as u32))
 }

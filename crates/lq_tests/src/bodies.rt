@@ -98,8 +98,9 @@ fn compare(
 ) -> Result<(), Refusal>
     requires { IsLawful volume.now change.now }
 {
+    let planned = volume.plan(change)?;
     for moved in [false, true] {
-        let fast = step(alloc, predicate, volume, change, 7, moved)?;
+        let fast = step(alloc, predicate, &planned, 7, moved)?;
         let plain = plain::step(alloc, predicate, volume, change, 7, moved)?;
         tally.messages = tally.messages.saturating_add(plain.len() as u64);
         if !are_same(&fast, &plain) {

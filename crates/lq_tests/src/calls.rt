@@ -43,8 +43,8 @@ fn messages(
     change: &Change,
 ) -> Result<Vec<Message>, Refusal> {
     let query = read(alloc, query)?;
-    volume.check(change)?;
-    step(alloc, &query, volume, change, 1, false)
+    let planned = volume.plan(change)?;
+    step(alloc, &query, &planned, 1, false)
 }
 
 /// Returns whether `size>100` tells a change that creates one entry as one message, and the change is taken.

@@ -301,25 +301,25 @@ module _ (q : Query) (moved : Bool) (s : State) (c : Change) (seq number : ℕ) 
     (v : IsVolume s) (w : IsVolume (after s c))
     (same : (n : ℕ) → AllByRecursion (λ k. n ≢ k) (touched_by s c) → record_at s n ≡ record_at (after s c) n)
     (gone : (n : ℕ) → clobbered s c ≡ Some n → (n ≢ node_of s c) × (record_at (after s c) n ≡ None))
-    (number_is : number ≡ s.number)
+    (number_is : number ≡ s.number + 1)
     (removed_is : removed ≡ told_first moved (left_at q s (after s c) (node_of s c)) (left_at q (after s c) s (node_of s c)))
     (last_is : last ≡ told_last moved (left_at q s (after s c) (node_of s c)) (left_at q (after s c) s (node_of s c))) where
   told : (xs : List Entry) → xs ≡ removed_of q s (told_first moved (left_at q s (after s c) (node_of s c)) (left_at q (after s c) s (node_of s c))) (node_of s c) (clobbered s c)
-      → numbered seq (number + 1) (map (λ e. (Removed, e)) xs ++ option_to_list last) ≡ step_of q moved s c seq
+      → numbered seq number (map (λ e. (Removed, e)) xs ++ option_to_list last) ≡ step_of q moved s c seq
   told xs is = rw (is, last_is, number_is) (step-touched q moved s c seq v w same gone)
 
   pub told-alone : clobbered s c ≡ None
-      → numbered seq (number + 1) (map (λ e. (Removed, e)) (option_to_list removed ++ option_to_list None) ++ option_to_list last) ≡ step_of q moved s c seq
+      → numbered seq number (map (λ e. (Removed, e)) (option_to_list removed ++ option_to_list None) ++ option_to_list last) ≡ step_of q moved s c seq
   told-alone none = told _ (append-nil _ ∙ (ap option_to_list removed_is ∙ sym (ap (removed_of q s _ (node_of s c)) none)))
 
   pub told-low : (x : ℕ) (other : Option Entry) → clobbered s c ≡ Some x → x < node_of s c → other ≡ match_at q s x
-      → numbered seq (number + 1) (map (λ e. (Removed, e)) (option_to_list other ++ option_to_list removed) ++ option_to_list last) ≡ step_of q moved s c seq
+      → numbered seq number (map (λ e. (Removed, e)) (option_to_list other ++ option_to_list removed) ++ option_to_list last) ≡ step_of q moved s c seq
   told-low x other is low other_is =
       let below : nat_lt x (node_of s c) ≡ true = grind (arith, nat_tests) in
       told _ (rw (is, below, removed_is, other_is) refl)
 
   pub told-high : (x : ℕ) (other : Option Entry) → clobbered s c ≡ Some x → (x < node_of s c → ⊥) → other ≡ match_at q s x
-      → numbered seq (number + 1) (map (λ e. (Removed, e)) (option_to_list removed ++ option_to_list other) ++ option_to_list last) ≡ step_of q moved s c seq
+      → numbered seq number (map (λ e. (Removed, e)) (option_to_list removed ++ option_to_list other) ++ option_to_list last) ≡ step_of q moved s c seq
   told-high x other is high other_is =
       let below : nat_lt x (node_of s c) ≡ false = grind (arith, nat_tests) in
       told _ (rw (is, below, removed_is, other_is) refl)

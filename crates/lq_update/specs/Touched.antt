@@ -1,13 +1,17 @@
 -- What one node tells, by what matched there before and after.
 use Rattle.std.specs.Prelude.{ℕ, Option, Some, None, Bool, true, false, if◌then◌else◌}
-use Rattle.std.specs.Option.{option_map_or}
+use Rattle.std.specs.Option.{option_map, option_map_or}
 use Rattle.lq_value.specs.declared.entry.Entry.{Entry}
 use Rattle.lq_formula.specs.Query.{Query}
-use Rattle.lq_volume.specs.State.{State}
-use Rattle.lq_volume.specs.Result.{match_at}
+use Rattle.lq_volume.specs.State.{State, Record}
+use Rattle.lq_volume.specs.Result.{entry_of, match_at}
 use Rattle.lq_update.specs.declared.message.Opcode.{Opcode}
 use Rattle.lq_update.specs.declared.message.Opcode.TheVariants.{Created, Moved}
 use Rattle.lq_update.specs.Diff.{same_entry}
+
+-- the entry of a record at a node
+abbrev pub entry_at : ℕ → Option Record → Option Entry
+entry_at node seen = option_map (λ r. entry_of (node, r)) seen
 
 -- the entry that left, where a node matched and now matches at another place or not at all
 abbrev pub left : Option Entry → Option Entry → Option Entry

@@ -1,18 +1,18 @@
 //! The messages of one change, by the node that it touches.
-ghost use Rattle.std.specs.Prelude.{◌≡◌, ◌+◌, ◌<◌, ◌≤◌, ◌^◌, ◌++◌, None, IfOk, OnOk, map, vec_len};
-ghost use Rattle.std.specs.Option.{option_to_list};
+ghost use Rattle.std.specs.Prelude.{◌≡◌, ℕ, ◌+◌, ◌<◌, ◌≤◌, ◌^◌, ◌++◌, None, IfOk, OnOk, map, option_and_then, vec_len};
+ghost use Rattle.std.specs.Option.{option_copied, option_to_list};
 ghost use Rattle.lq_value.specs.Refusal.{IsRefusedBy};
-ghost use Rattle.lq_volume.specs.Change.{after, node_of, IsLawful};
+ghost use Rattle.lq_volume.specs.Change.{after, node_of};
+ghost use Rattle.lq_volume.specs.Result.{entry_if};
 ghost use Rattle.lq_update.specs.declared.message.Opcode.TheVariants.{Removed, Moved};
 ghost use Rattle.lq_update.specs.Updates.{numbered, step_of};
-ghost use Rattle.lq_update.specs.Diff.{same_entry};
-ghost use Rattle.lq_update.specs.Touched.{left, left_at, told_first, told_last};
+ghost use Rattle.lq_update.specs.Touched.{entry_at, left, left_at, told_first, told_last};
 
 use crate::message::{Message, Opcode};
-use lq_predicate::Predicate;
+use lq_predicate::{Predicate, holds};
 use lq_value::{Entry, Refusal};
 use lq_volume::{
-    Change, Volume, accepted_changes_keep_trees, clobbered_nodes_go, untouched_nodes_stay,
+    Planned, Seen, accepted_changes_keep_trees, clobbered_nodes_go, untouched_nodes_stay,
 };
 use std::alloc::Global;
 
@@ -21,35 +21,33 @@ use std::alloc::Global;
 /// The removed entries by rising node, then the moved ones, then the created ones; with `moved`
 /// one moved message stands in place of a removed and a created one of the same node, without it
 /// there is none. `change` is the number of this change, `seq` counts from `first_seq`, and `last`
-/// is true on the final message. It looks only at the nodes that the change touches, and takes
-/// memory for its messages alone. Refused: `NoMemory`. It changes nothing.
+/// is true on the final message. It looks only at the entries that the plan has, searches for
+/// none, and takes memory for its messages alone. Refused: `NoMemory`. It changes nothing.
 pub fn step(
     alloc: Global,
     predicate: &Predicate,
-    before: &Volume,
-    change: &Change,
+    planned: &Planned<'_>,
     first_seq: u64,
     moved: bool,
 ) -> Result<Vec<Message>, Refusal>
-    requires lawful { IsLawful before.now change.now }
     requires room { first_seq + 2 < 2 ^ 64 }
     ensures refused { IsRefusedBy result None }
-    ensures messages { IfOk result (λ messages.
-        messages.items ≡ step_of predicate.now moved before.now change.now first_seq) }
+    ensures messages { IfOk result (λ messages. messages.items
+        ≡ step_of predicate.now moved planned.now.before planned.now.change first_seq) }
     ensures few { IfOk result (λ messages. vec_len messages ≤ 3) }
 {
     accepted_changes_keep_trees();
     untouched_nodes_stay();
     clobbered_nodes_go();
-    let number = before.changes() + 1;
-    let node = before.node_of(change);
-    let (left, came) = difference(before, predicate, change)?;
+    let made = planned.applied();
+    let number = made.change;
+    let (left, came) = difference(alloc, predicate, planned)?;
     let (removed, last) = join(moved, left, came);
-    let Some(other) = before.clobbered(change) else {
+    let Some((other, seen)) = planned.clobbered() else {
         return Ok(tell(alloc, removed, None, last, number, first_seq)?);
     };
-    let gone = before.matching(predicate, other)?;
-    if other < node {
+    let gone = copied(alloc, matching(predicate, Some(seen)), other)?;
+    if other < made.node {
         Ok(tell(alloc, gone, removed, last, number, first_seq)?)
     } else {
         Ok(tell(alloc, removed, gone, last, number, first_seq)?)
@@ -58,31 +56,58 @@ pub fn step(
 
 // What left the result at the change's own node, and what came into it there.
 fn difference(
-    before: &Volume,
+    alloc: Global,
     predicate: &Predicate,
-    change: &Change,
+    planned: &Planned<'_>,
 ) -> Result<(Option<Entry>, Option<Entry>), Refusal>
-    requires { IsLawful before.now change.now }
     ensures refused { IsRefusedBy result None }
     ensures removed { IfOk result (λ both. both.0 ≡ left_at predicate.now
-        before.now (after before.now change.now) (node_of before.now change.now)) }
+        planned.now.before (after planned.now.before planned.now.change)
+        (node_of planned.now.before planned.now.change)) }
     ensures created { IfOk result (λ both. both.1 ≡ left_at predicate.now
-        (after before.now change.now) before.now (node_of before.now change.now)) }
+        (after planned.now.before planned.now.change) planned.now.before
+        (node_of planned.now.before planned.now.change)) }
 {
-    let node = before.node_of(change);
-    let old = before.matching(predicate, node)?;
-    let new = before.matching_after(predicate, change)?;
-    Ok(split(old, new))
+    let node = planned.applied().node;
+    let old = matching(predicate, planned.seen_before());
+    let new = matching(predicate, planned.seen_after());
+    let (left, came) = split(old, new);
+    let removed = copied(alloc, left, node)?;
+    let created = copied(alloc, came, node)?;
+    Ok((removed, created))
 }
 
-// What left at a node and what came, where these matched there before and after.
-fn split(old: Option<Entry>, new: Option<Entry>) -> (Option<Entry>, Option<Entry>)
-    ensures removed { result.0 ≡ left old new }
-    ensures created { result.1 ≡ left new old }
+// What is seen, where the predicate holds of it.
+fn matching<'s, 'a>(predicate: &Predicate, seen: Option<&'s Seen<'a>>) -> Option<&'s Seen<'a>>
+    ensures { (node : ℕ) → entry_at node (option_copied result)
+        ≡ option_and_then (λ r. entry_if predicate.now (node, r)) (option_copied seen.entry) }
+{
+    match seen {
+        None => None,
+        Some(seen) => {
+            if holds(predicate, seen) {
+                Some(seen)
+            } else {
+                None
+            }
+        }
+    }
+}
+
+// What left at a node and what came, where these matched there before and after: nothing where
+// both did at one place.
+fn split<'s, 'a>(
+    old: Option<&'s Seen<'a>>,
+    new: Option<&'s Seen<'a>>,
+) -> (Option<&'s Seen<'a>>, Option<&'s Seen<'a>>)
+    ensures removed { (node : ℕ) → entry_at node (option_copied result.0)
+        ≡ left (entry_at node (option_copied old.entry)) (entry_at node (option_copied new.entry)) }
+    ensures created { (node : ℕ) → entry_at node (option_copied result.1)
+        ≡ left (entry_at node (option_copied new.entry)) (entry_at node (option_copied old.entry)) }
 {
     match (old, new) {
         (Some(old), Some(new)) => {
-            if is_same(&old, &new) {
+            if old.shares_place(new) {
                 (None, None)
             } else {
                 (Some(old), Some(new))
@@ -92,10 +117,15 @@ fn split(old: Option<Entry>, new: Option<Entry>) -> (Option<Entry>, Option<Entry
     }
 }
 
-fn is_same(a: &Entry, b: &Entry) -> bool
-    ensures { result ≡ same_entry a.now b.now }
+// The entry of what is seen at a node.
+fn copied(alloc: Global, seen: Option<&Seen<'_>>, node: u64) -> Result<Option<Entry>, Refusal>
+    ensures refused { IsRefusedBy result None }
+    ensures value { IfOk result (λ entry. entry ≡ entry_at node (option_copied seen.entry)) }
 {
-    a.dir == b.dir && a.name == b.name && a.node == b.node
+    match seen {
+        None => Ok(None),
+        Some(seen) => Ok(Some(seen.entry(alloc, node)?)),
+    }
 }
 
 // What is told of the node: the removed entry, and what stands behind all that are removed.

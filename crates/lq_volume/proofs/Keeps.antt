@@ -1,13 +1,12 @@
 -- An accepted change keeps the numbers, the nodes and the tree, and alters no record but those it touches.
 use Rattle.std.proofs.Common.{◌≡◌, ◌≢◌, ℕ, ℤ, ◌+◌, ◌<◌, List, [], ◌∷◌, ◌++◌, refl, sym, arith, eqb, ap, ◌∙◌, Bool, true, false, length}
-use Rattle.std.specs.Prelude.{not, filter, nat_eq, Option, Some, None, is_none, is_some, IsSome, ◌&&◌, option_and_then}
+use Rattle.std.specs.Prelude.{not, filter, nat_eq, Option, Some, None, is_none, is_some, IsSome, ◌&&◌}
 use Rattle.std.specs.Option.{option_map, option_map_or, option_to_list}
 use Rattle.std.specs.List.{AllByRecursion}
 use Rattle.std.specs.Map.{lookup}
 use Rattle.std.proofs.lemmas.Bool.Decides.{nat_tests}
 use Rattle.lq_value.specs.declared.kind.Kind.{Kind}
 use Rattle.lq_value.specs.declared.kind.Kind.TheVariants.{File, Folder}
-use Rattle.lq_formula.specs.Query.{Query}
 use Rattle.lq_volume.specs.declared.change.Change.{Change}
 use Rattle.lq_volume.specs.declared.change.Change.TheVariants.{Create, Remove, Move, Write, SetAttr, RemoveAttr}
 use Rattle.lq_volume.specs.Attributes.{Attributes, HasOwnNames, with_attr, without_attr}
@@ -15,8 +14,6 @@ use Rattle.lq_volume.specs.Kind.{is_folder}
 use Rattle.lq_volume.specs.State.{State, Record, root, record_at, kind_at, is_folder_at, dir_of, reaches, node_in, has_entries, IsTree, IsVolume}
 use Rattle.lq_volume.specs.Change.{refused, refusals, after, node_of, record_left, at_place, written, setting, unsetting, with_attrs, changed, altered, without, other_at, other_than, is_other}
 use Rattle.lq_volume.specs.Places.{CanMove}
-use Rattle.lq_volume.specs.Result.{entry_if, match_at, left_by, shown}
-use Rattle.lq_predicate.specs.Truth.{truth}
 use Rattle.lq_volume.specs.Laws.{ChangesKeepTrees, UntouchedStay, ClobberedGo, PlacesAreOwn}
 use Rattle.lq_volume.proofs.RecordLemmas.{Entries, All-push, All-filter, All-without, All-kept, lookup-filter, lookup-push, lookup-altered, node_in-some, node_in-none, is_taken-node_in, length-filter_le}
 use Rattle.lq_volume.proofs.AttributeLemmas.{HasOwnNames-with, HasOwnNames-without}
@@ -238,16 +235,13 @@ clobbered-go s (Move node dir name clobber) n v is =
 pub own-places : PlacesAreOwn
 own-places s n r v is = rw (uniq s.records n r (node_in s.records r.dir r.name) v.numbered.rise v.tree.apart is refl) (let same : eqb n n ≡ true = grind (arith, nat_tests) in rw same refl)
 
--- what is found there
-pub match-left : (q : Query) (s : State) (c : Change) → IsVolume s → match_at q (after s c) (node_of s c) ≡ left_by q s c
-match-left q s c v = ap (option_and_then (λ r. entry_if q (node_of s c, r))) (record-left s c v)
+-- a node that was found at a place has a record
+found-at : (node : ℕ) (o : Option ℕ) (x : ℕ) → other_than node o ≡ Some x → o ≡ Some x
+found-at node None x e = cc
+found-at node (Some y) x e = grind (arith, nat_tests)
 
-pub match-none : (q : Query) (s : State) (c : Change) → IsVolume s → record_left s c ≡ None → match_at q (after s c) (node_of s c) ≡ None
-match-none q s c v is = match-left q s c v ∙ ap (option_and_then (λ r. entry_if q (node_of s c, r))) is
-
-pub match-some : (q : Query) (s : State) (c : Change) (r : Record) → IsVolume s → record_left s c ≡ Some r → match_at q (after s c) (node_of s c) ≡ entry_if q (node_of s c, r)
-match-some q s c r v is = match-left q s c v ∙ ap (option_and_then (λ r. entry_if q (node_of s c, r))) is
-
--- there is an entry where the predicate holds
-pub is_some-entry_if : (q : Query) (n : ℕ) (r : Record) → is_some (entry_if q (n, r)) ≡ truth q (shown r)
-is_some-entry_if q n r = grind arith
+pub other-there : (s : State) (node dir : ℕ) (name : List ℕ) (x : ℕ) → IsVolume s → other_at s node dir name ≡ Some x → record_at s x ≡ None → ⊥
+other-there s node dir name x v is none =
+    let there = node_in-some s.records dir name x v.numbered.rise (found-at node (node_in s.records dir name) x is) in
+    let at = there.1 in
+    cc

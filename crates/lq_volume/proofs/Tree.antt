@@ -1,6 +1,6 @@
 -- An accepted change keeps the tree.
 use Rattle.std.proofs.Common.{◌≡◌, subst, ℕ, suc, ◌<◌, List, [], ◌∷◌, ◌++◌, refl, sym, arith, eqb, ap, ◌∙◌, true, false, length, inl, inr}
-use Rattle.std.specs.Prelude.{not, filter, cond, Option, Some, None, ◌&&◌, ◌==◌}
+use Rattle.std.specs.Prelude.{Bool, not, filter, cond, Option, Some, None, ◌&&◌, ◌==◌}
 use Rattle.std.specs.Option.{option_map, option_map_or}
 use Rattle.std.specs.Str.{bytes_eq}
 use Rattle.std.proofs.lemmas.Bool.Decides.{nat_tests}
@@ -9,7 +9,7 @@ use Rattle.std.proofs.lemmas.Slice.Eq.{bytes_eq-Decides}
 use Rattle.lq_value.specs.declared.kind.Kind.{Kind}
 use Rattle.lq_value.specs.declared.kind.Kind.TheVariants.{Folder}
 use Rattle.lq_volume.specs.Kind.{is_folder}
-use Rattle.lq_volume.specs.State.{State, Record, root, record_at, is_folder_at, dir_of, reaches, has_entries, is_taken, IsNumbered, IsTree, empty_state}
+use Rattle.lq_volume.specs.State.{State, Record, root, record_at, kind_at, is_folder_at, dir_of, reaches, has_entries, is_taken, IsNumbered, IsTree, empty_state}
 use Rattle.lq_volume.specs.Change.{at_place, altered}
 use Rattle.lq_volume.proofs.RecordLemmas.{lookup-filter, lookup-altered, lookup-push, lookup-above, fails-lookup}
 use Rattle.lq_volume.proofs.Climbs.{climbs-sound, climbs-complete, Climb-short, Climb-avoid, Climb-more, Climb-childless, Climb-moved, Climb-within}
@@ -327,3 +327,24 @@ reaches-all s at to t folder = (
       let less = Climb-within (dir_of s.records) root to c.0 w.0 at top c.1 w.1 in
       climbs-complete (length s.records) w.0 (dir_of s.records) to at (omega arith) w.1),
 )
+
+-- no walk comes from a folder to a node that is none, since nothing is in it
+pub reaches-file : (s : State) (node dir : ℕ) → IsTree s → is_folder_at s node ≡ false → is_folder_at s dir ≡ true → reaches s dir node ≡ false
+reaches-file s node dir t file folder = at (reaches s dir node) refl
+  where
+    differs : dir ≡ node → ⊥
+    differs e = let clash : is_folder_at s node ≡ true = rw (← e) folder in cc
+
+    alone : (n : ℕ) → dir_of s.records n ≡ Some node → ⊥
+    alone n is = let r = record-of s n node is in let clash : is_folder_at s node ≡ true = rw (← r.2) (t.folders n r.0 r.1) in cc
+
+    at : (b : Bool) → reaches s dir node ≡ b → reaches s dir node ≡ false
+    at false e = e
+    at true e = let c = climbs-sound (length s.records) (dir_of s.records) node dir e in absurd (Climb-childless (dir_of s.records) node c.0 dir alone differs c.2)
+
+-- a node with a record has its kind
+pub kind_at-record : (s : State) (n : ℕ) (r : Record) → IsTree s → record_at s n ≡ Some r → kind_at s n ≡ Some r.kind
+kind_at-record s n r t is = elim (cases_eq n root) [
+  | inl same ↦ absurd (let a = t.no_root in let b : record_at s root ≡ Some r = rw (← same) is in let no : ⊥ = cc in no)
+  | inr differs ↦ let off : eqb n root ≡ false = grind (arith, nat_tests) in rw (off, is) refl
+]

@@ -3,6 +3,7 @@ pub mod Kind
 pub mod State
 pub mod Walk
 pub mod Change
+pub mod Plan
 pub mod Places
 pub mod Lookup
 pub mod Seen

@@ -6,10 +6,8 @@ use Rattle.lq_formula.specs.Query.{Query}
 use Rattle.lq_value.specs.Compare.{Held, Words, Number}
 use Rattle.lq_predicate.specs.Truth.{truth}
 use Rattle.lq_value.specs.declared.entry.Entry.{Entry}
-use Rattle.lq_volume.specs.declared.change.Change.{Change}
 use Rattle.lq_volume.specs.Attributes.{value_of, held}
 use Rattle.lq_volume.specs.State.{State, Record, record_at}
-use Rattle.lq_volume.specs.Change.{node_of, record_left}
 
 -- what a record shows under each name
 abbrev pub shown : Record → List ℕ → Option Held
@@ -32,7 +30,3 @@ entry_if q e = if truth q (shown e.1) then Some (entry_of e) else None
 -- the entry of the result that has this node
 abbrev pub match_at : Query → State → ℕ → Option Entry
 match_at q s node = option_and_then (λ r. entry_if q (node, r)) (record_at s node)
-
--- the entry that a change leaves at its own node, where the predicate holds of it
-abbrev pub left_by : Query → State → Change → Option Entry
-left_by q s c = option_and_then (λ r. entry_if q (node_of s c, r)) (record_left s c)

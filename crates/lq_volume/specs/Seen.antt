@@ -1,8 +1,10 @@
--- The attributes that a change would leave.
-use Rattle.std.specs.Prelude.{Option, []}
+-- What is seen of an entry: the attributes that a change would leave, and its place.
+use Rattle.std.specs.Prelude.{Bool, ◌&&◌, ◌==◌, Option, []}
 use Rattle.std.specs.Borrow.{Bor}
 use Rattle.std.specs.Option.{option_map_or}
+use Rattle.std.specs.Str.{bytes_eq}
 use Rattle.lq_volume.specs.Attributes.{Attributes, with_attr, without_attr}
+use Rattle.lq_volume.specs.State.{Record}
 use Rattle.lq_volume.specs.declared.seen.Difference.{Difference}
 use Rattle.lq_volume.specs.declared.seen.Difference.TheVariants as difference
 
@@ -15,3 +17,7 @@ abbrev pub attrs_after : Difference → Attributes → Attributes
 attrs_after difference.None attrs = attrs
 attrs_after (difference.Set attr value) attrs = with_attr attrs attr.now value.now
 attrs_after (difference.Unset attr) attrs = without_attr attrs attr.now
+
+-- one folder and one name
+abbrev pub has_same_place : Record → Record → Bool
+has_same_place a b = (a.dir == b.dir) && bytes_eq a.name b.name

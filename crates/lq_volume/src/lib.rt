@@ -12,8 +12,8 @@ mod checks;
 mod entries;
 mod entry_ref;
 mod laws;
-mod matching;
 mod places;
+mod planned;
 mod records;
 mod seen;
 mod stored;
@@ -25,4 +25,6 @@ pub use laws::{
     accepted_changes_keep_trees, changes_are_counted, changes_leave_their_records,
     clobbered_nodes_go, places_are_own, untouched_nodes_stay, walks_are_bounded,
 };
+pub use planned::Planned;
+pub use seen::Seen;
 pub use volume::Volume;

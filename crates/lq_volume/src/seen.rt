@@ -1,5 +1,5 @@
 //! An entry, as a predicate sees it.
-ghost use Rattle.std.specs.Prelude.{◌≡◌, None, IfOk};
+ghost use Rattle.std.specs.Prelude.{◌≡◌, ◌<◌, ◌^◌, [], None, IfOk};
 ghost use Rattle.std.specs.Option.{option_copied};
 ghost use Rattle.lq_value.specs.Refusal.{IsRefusedBy};
 ghost use Rattle.lq_volume.specs.Attributes.{value_of};
@@ -24,16 +24,18 @@ pub enum Difference<'a> {
     },
 }
 
-/// An entry as it is, or as a change would leave it, borrowed. Its size shows as an `i64`.
+/// An entry as it is, or as a change leaves it, borrowed: what a predicate looks at.
+///
+/// A contract sees it as its `Record`. Its size is at most that of an `i64`.
 #[derive(Debug, Drop)]
 pub struct Seen<'a> {
-    pub dir: u64,
-    pub name: &'a Name,
-    pub kind: Kind,
-    pub size: u64,
-    pub time: i64,
-    pub attrs: Option<&'a Attributes>,
-    pub difference: Difference<'a>,
+    pub(crate) dir: u64,
+    pub(crate) name: &'a Name,
+    pub(crate) kind: Kind,
+    pub(crate) size: u64,
+    pub(crate) time: i64,
+    pub(crate) attrs: Option<&'a Attributes>,
+    pub(crate) difference: Difference<'a>,
 }
 
 impl<'a> Model for Seen<'a> {
@@ -58,8 +60,39 @@ impl<'a> Model for Seen<'a> {
 impl<'a> Seen<'a> {
     ghost use Rattle.lq_volume.specs.Attributes.{value_of, held};
     ghost use Rattle.lq_volume.specs.Result.{entry_of};
+    ghost use Rattle.lq_volume.specs.Seen.{has_same_place};
 
-    /// The entry under a node.
+    // An entry without attributes.
+    pub(crate) fn new(dir: u64, name: &'a Name, kind: Kind, size: u64, time: i64) -> Seen<'a>
+        requires { size < 2 ^ 63 }
+        ensures { result ≡ record {
+          dir = dir;
+          name = name.now;
+          kind = kind;
+          size = size;
+          time = time;
+          attrs = [];
+        } }
+    {
+        Seen {
+            dir,
+            name,
+            kind,
+            size,
+            time,
+            attrs: None,
+            difference: Difference::None,
+        }
+    }
+
+    /// Whether another has the same place: the same folder and name. It takes no memory.
+    pub fn shares_place(&self, other: &Seen<'_>) -> bool
+        ensures { result ≡ has_same_place self.now other.now }
+    {
+        self.dir == other.dir && *self.name == *other.name
+    }
+
+    /// Its triple, with its node. Refused: `NoMemory`.
     pub fn entry(&self, alloc: Global, node: u64) -> Result<Entry, Refusal>
         ensures refused { IsRefusedBy result None }
         ensures value { IfOk result (λ entry. entry ≡ entry_of (node, self.now)) }

@@ -39,6 +39,7 @@ impl Model for Stored {
 }
 
 impl Stored {
+    ghost use Rattle.lq_volume.specs.Kind.{is_folder};
     ghost use Rattle.lq_volume.specs.State.{Record};
     ghost use Rattle.lq_volume.specs.Change.{at_place, written, setting, unsetting, with_attrs};
     ghost use Rattle.lq_volume.specs.Seen.{attrs_after};
@@ -81,6 +82,12 @@ impl Stored {
         ensures { result ≡ self.now.kind }
     {
         self.kind
+    }
+
+    pub fn is_folder(&self) -> bool
+        ensures { result ≡ is_folder self.now.kind }
+    {
+        self.kind == Kind::Folder
     }
 
     pub fn size(&self) -> u64

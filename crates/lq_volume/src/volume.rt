@@ -1,16 +1,14 @@
 //! The volume.
 ghost use Rattle.std.specs.Option.{option_copied};
-ghost use Rattle.std.specs.Prelude.{◌≡◌, ◌≤◌, ◌+◌, Some, None, IfOk, IfErr, OnErr, OnOk, nat_le, is_some};
+ghost use Rattle.std.specs.Prelude.{◌≡◌, ◌≤◌, ◌+◌, Some, None, IfOk, IfErr, OnErr, OnOk};
 
 use crate::change::{Applied, Change};
-use crate::checks::{
-    check_create, check_move, check_remove, check_remove_attr, check_set_attr, check_write,
-};
 use crate::entries::Entries;
 use crate::entry_ref::{EntryRef, Listing};
+use crate::planned::Planned;
 use crate::stored::Stored;
 use lq_predicate::Predicate;
-use lq_value::{AttrName, Entry, Kind, Name, Refusal};
+use lq_value::{Entry, Kind, Name, Refusal};
 use std::alloc::Global;
 use std::marker::Model;
 
@@ -52,8 +50,8 @@ impl Model for Volume {
 
 impl Volume {
     ghost use Rattle.lq_value.specs.Refusal.{IsRefusedBy, first_refusal};
-    ghost use Rattle.lq_volume.specs.State.{empty_state, record_at, kind_at, is_folder_at, has_entries, is_taken, node_in, reaches, IsVolume};
-    ghost use Rattle.lq_volume.specs.Change.{refused, after, node_of, clobbered, other_at, attr_of, is_full};
+    ghost use Rattle.lq_volume.specs.State.{empty_state, record_at, kind_at, has_entries, is_taken, node_in, reaches, IsVolume};
+    ghost use Rattle.lq_volume.specs.Change.{refused, after, node_of, other_at, is_full, IsLawful};
     ghost use Rattle.lq_volume.specs.Lookup.{find_refusals, entry_refusals, listed};
     ghost use Rattle.lq_volume.specs.Result.{result_of};
 
@@ -155,29 +153,20 @@ impl Volume {
         ensures value { IfOk result (λ applied.
             applied ≡ record { change = self.now.number + 1; node = node_of self.now change.now }) }
     {
-        match change {
-            Change::Create {
-                dir,
-                name,
-                kind,
-                size,
-                ..
-            } => check_create(self, *dir, name, *kind, *size)?,
-            Change::Remove { node } => check_remove(self, *node)?,
-            Change::Move {
-                node,
-                dir,
-                name,
-                clobber,
-            } => check_move(self, *node, *dir, name, *clobber)?,
-            Change::Write { node, size, .. } => check_write(self, *node, *size)?,
-            Change::SetAttr { node, attr, .. } => check_set_attr(self, *node, attr)?,
-            Change::RemoveAttr { node, attr } => check_remove_attr(self, *node, attr)?,
-        }
-        Ok(Applied {
-            change: self.changes + 1,
-            node: self.node_of(change),
-        })
+        let planned = self.plan(change)?;
+        Ok(planned.applied())
+    }
+
+    /// A change as it may be made, with what it touches. It takes no memory and changes nothing.
+    ///
+    /// Refused just as `check` is.
+    pub fn plan<'a>(&'a self, change: &'a Change) -> Result<Planned<'a>, Refusal>
+        ensures ok { OnOk result (refused self.now change.now ≡ None) }
+        ensures err { IfErr result (λ e. refused self.now change.now ≡ Some e) }
+        ensures value { IfOk result (λ planned.
+            planned ≡ record { before = self.now; change = change.now }) }
+    {
+        Planned::new(self, change)
     }
 
     /// Makes a change, or is refused as `check` is, or with `NoMemory`.
@@ -190,7 +179,25 @@ impl Volume {
         ensures ok { OnOk result (self.new ≡ after self.old change.now) }
         ensures err { OnErr result (self.new ≡ self.old) }
     {
-        let applied = self.check(change)?;
+        self.check(change)?;
+        Ok(self.make(change)?)
+    }
+
+    /// Makes a change that `check` doesn't refuse.
+    ///
+    /// Refused: `NoMemory`, and then the volume is as it was.
+    pub fn make(&mut self, change: &Change) -> Result<Applied, Refusal>
+        requires { IsLawful self.old change.now }
+        ensures refused { IsRefusedBy result None }
+        ensures value { IfOk result (λ applied.
+            applied ≡ record { change = self.old.number + 1; node = node_of self.old change.now }) }
+        ensures ok { OnOk result (self.new ≡ after self.old change.now) }
+        ensures err { OnErr result (self.new ≡ self.old) }
+    {
+        let applied = Applied {
+            change: self.changes + 1,
+            node: self.node_of(change),
+        };
         match change {
             Change::Create {
                 dir,
@@ -271,8 +278,8 @@ impl Volume {
         self.entries.fetch(predicate)
     }
 
-    /// The node that an accepted change creates or names. It takes no memory.
-    pub fn node_of(&self, change: &Change) -> u64
+    /// The node that an accepted change creates or names.
+    pub(crate) fn node_of(&self, change: &Change) -> u64
         ensures { result ≡ node_of self.now change.now }
     {
         match change {
@@ -283,31 +290,6 @@ impl Volume {
             | Change::SetAttr { node, .. }
             | Change::RemoveAttr { node, .. } => *node,
         }
-    }
-
-    /// The other node that an accepted change takes away: that of a move's place.
-    ///
-    /// It takes no memory.
-    pub fn clobbered(&self, change: &Change) -> Option<u64>
-        ensures { result ≡ clobbered self.now change.now }
-    {
-        match change {
-            Change::Move {
-                node,
-                dir,
-                name,
-                ..
-            } => self.other_at(*node, *dir, name),
-            Change::Create { .. }
-            | Change::Remove { .. }
-            | Change::Write { .. }
-            | Change::SetAttr { .. }
-            | Change::RemoveAttr { .. } => None,
-        }
-    }
-
-    pub(crate) fn alloc(&self) -> Global {
-        self.alloc
     }
 
     /// The record of a node.
@@ -326,15 +308,6 @@ impl Volume {
         match self.entries.get(node) {
             Some(record) => Some(record.kind()),
             None => None,
-        }
-    }
-
-    pub(crate) fn is_folder(&self, node: u64) -> bool
-        ensures { result ≡ is_folder_at self.now node }
-    {
-        match self.kind(node) {
-            None => false,
-            Some(kind) => kind == Kind::Folder,
         }
     }
 
@@ -364,15 +337,6 @@ impl Volume {
         ensures { result ≡ reaches self.now from to }
     {
         self.entries.reaches(from, to)
-    }
-
-    pub(crate) fn has_attr(&self, node: u64, attr: &AttrName) -> bool
-        ensures { result ≡ is_some (attr_of self.now node attr.now) }
-    {
-        match self.entries.get(node) {
-            None => false,
-            Some(record) => record.attrs().get(attr).is_some(),
-        }
     }
 
     pub(crate) fn is_full(&self) -> bool
