@@ -176,9 +176,9 @@ impl Desk {
         runs_keep_worlds_fair();
         let _ = self.volume.changes();
         let _ = self.volume.check(change)?;
-        self.slots.ready(&self.volume, change)?;
+        let told = self.slots.ready(&self.volume, change)?;
         let applied = self.volume.apply(change)?;
-        self.slots.commit();
+        self.slots.commit(told);
         Ok(applied)
     }
 

@@ -14,6 +14,7 @@ mod slots;
 mod sub;
 #[cfg(test)]
 mod tests;
+mod word;
 
 pub use desk::Desk;
 pub use event::{Event, Read, Reply};

@@ -1,5 +1,5 @@
 //! One subscription.
-ghost use Rattle.std.specs.Prelude.{◌≡◌, ◌+◌, ◌<◌, ◌≤◌, ◌^◌, [], ◌++◌, length, vec_len, true, false, None, Some, IfOk, OnOk, OnErr, IsTrue, IfSome};
+ghost use Rattle.std.specs.Prelude.{◌≡◌, ◌+◌, ◌<◌, ◌≤◌, ◌^◌, [], ◌++◌, length, vec_len, nat_lt, is_some, true, false, None, Some, IfOk, OnOk, OnErr, IsTrue, IfSome};
 ghost use Rattle.std.specs.VecDeque.{deque_len, deque_capacity};
 ghost use Rattle.lq_value.specs.Refusal.{IsRefusedBy};
 ghost use Rattle.lq_volume.specs.Change.{IsLawful};
@@ -143,6 +143,11 @@ impl Sub {
             first,
             self.moved,
         )?;
+        if step.is_empty() {
+            self.ready = step;
+            self.before = volume.changes();
+            return Ok(());
+        }
         self.messages.reserve(step.len() + 1)?;
         self.ready = step;
         self.before = volume.changes();
@@ -183,6 +188,26 @@ impl Sub {
         }
         self.sent += ready.len() as u64;
         append(&mut self.messages, ready);
+    }
+
+    /// Whether messages of a change are made and not told yet. It takes no memory.
+    pub fn has_ready(&self) -> bool
+        ensures { result ≡ nat_lt 0 (length self.now.ready) }
+    {
+        !self.ready.is_empty()
+    }
+
+    /// Whether `next` has something to give. It takes no memory.
+    pub fn has_next(&self) -> bool
+        ensures { result ≡ is_some (next_parcel self.now.held) }
+    {
+        if !self.messages.is_empty() {
+            return true;
+        }
+        if self.mark_out {
+            return false;
+        }
+        self.mark.is_some()
     }
 
     /// Ends it; the mark covers the changes up to a number. It takes no memory.
