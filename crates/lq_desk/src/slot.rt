@@ -1,7 +1,6 @@
 //! A taken slot: a subscription beside its port.
 ghost use Rattle.std.specs.Prelude.{◌≡◌, ◌<◌, ◌≤◌, ◌^◌, ◌-◌, true, if◌then◌else◌, None, Some, IfOk, OnOk, OnErr};
 ghost use Rattle.lq_value.specs.Refusal.{IsRefusedBy};
-ghost use Rattle.lq_volume.specs.Change.{IsLawful};
 ghost use Rattle.std.specs.Option.{option_map};
 ghost use Rattle.lq_desk.specs.Slot.{slot_of, prepared_slot, committed_slot, can_move, filled, has_ready, is_ending, noticed, passes};
 ghost use Rattle.lq_desk.specs.Kept.{IsFew};
@@ -13,7 +12,7 @@ use crate::sub::Sub;
 use lq_predicate::Predicate;
 use lq_update::{Cause, Parcel};
 use lq_value::Refusal;
-use lq_volume::{Change, Volume};
+use lq_volume::Planned;
 use std::alloc::Global;
 use std::collections::VecDeque;
 use std::marker::Model;
@@ -82,15 +81,15 @@ impl Slot {
     }
 
     /// Makes the messages of a change, where it is live.
-    pub fn ready(&mut self, volume: &Volume, change: &Change) -> Result<(), Refusal>
-        requires lawful { IsLawful volume.now change.now }
+    pub fn ready(&mut self, planned: &Planned<'_>) -> Result<(), Refusal>
         requires few { self.old.sub.held.sent < 2 ^ 63 }
         ensures refused { IsRefusedBy result None }
-        ensures ok { OnOk result (self.new ≡ prepared_slot volume.now change.now self.old) }
+        ensures ok { OnOk result
+            (self.new ≡ prepared_slot planned.now.before planned.now.change self.old) }
         ensures err { OnErr result (slot_of self.new ≡ slot_of self.old) }
     {
         if self.sub.is_live() {
-            self.sub.ready(volume, change)?;
+            self.sub.ready(planned)?;
         }
         Ok(())
     }
@@ -303,18 +302,18 @@ pub fn can_move_at(slot: &Option<Slot>) -> bool
 
 /// Makes the messages of a change for a slot, where a live subscription is there, and tells whether
 /// there are any.
-pub fn ready_at(slot: &mut Option<Slot>, volume: &Volume, change: &Change) -> Result<bool, Refusal>
-    requires lawful { IsLawful volume.now change.now }
+pub fn ready_at(slot: &mut Option<Slot>, planned: &Planned<'_>) -> Result<bool, Refusal>
     requires few { IsFew (2 ^ 63 - 1) (option_map slot_of slot.old) }
     ensures refused { IsRefusedBy result None }
     ensures any { IfOk result (λ any. any ≡ passes has_ready slot.new) }
-    ensures ok { OnOk result (slot.new ≡ option_map (prepared_slot volume.now change.now) slot.old) }
+    ensures ok { OnOk result
+        (slot.new ≡ option_map (prepared_slot planned.now.before planned.now.change) slot.old) }
     ensures err { OnErr result (option_map slot_of slot.new ≡ option_map slot_of slot.old) }
 {
     let Some(there) = slot else {
         return Ok(false);
     };
-    there.ready(volume, change)?;
+    there.ready(planned)?;
     Ok(there.has_ready())
 }
 

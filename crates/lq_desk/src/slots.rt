@@ -4,7 +4,6 @@ ghost use Rattle.std.specs.Vec.{vec_capacity};
 ghost use Rattle.std.specs.List.{AllByRecursion};
 ghost use Rattle.std.specs.Option.{option_map, option_flatten};
 ghost use Rattle.lq_value.specs.Refusal.{IsRefusedBy};
-ghost use Rattle.lq_volume.specs.Change.{IsLawful};
 ghost use Rattle.lq_desk.specs.Slot.{slot_of, prepared_slot, committed_slot, can_move, done_at, filled, has_ready, is_ending, noticed, passes};
 ghost use Rattle.lq_desk.specs.Words.{IsMarked};
 ghost use Rattle.lq_desk.specs.Kept.{IsFew, first_free};
@@ -17,7 +16,7 @@ use crate::slot::{
 };
 use crate::word::{has_bit, with_bit};
 use lq_value::Refusal;
-use lq_volume::{Change, Volume};
+use lq_volume::Planned;
 use std::alloc::Global;
 use std::marker::Model;
 
@@ -92,17 +91,16 @@ impl Slots {
 
     /// Makes the messages of a change for each subscription. The word has a bit for each slot with
     /// messages.
-    pub fn ready(&mut self, volume: &Volume, change: &Change) -> Result<u64, Refusal>
-        requires lawful { IsLawful volume.now change.now }
+    pub fn ready(&mut self, planned: &Planned<'_>) -> Result<u64, Refusal>
         requires few { AllByRecursion (IsFew (2 ^ 63 - 1)) (map (option_map slot_of) self.old) }
         ensures refused { IsRefusedBy result None }
         ensures told { IfOk result (λ told. IsMarked has_ready told self.new) }
         ensures ok { OnOk result (self.new ≡
-            map (option_map (prepared_slot volume.now change.now)) self.old) }
+            map (option_map (prepared_slot planned.now.before planned.now.change)) self.old) }
         ensures err { OnErr result (map (option_map slot_of) self.new ≡
             map (option_map slot_of) self.old) }
     {
-        Ok(ready_all(&mut self.stored, volume, change)?)
+        Ok(ready_all(&mut self.stored, planned)?)
     }
 
     /// Tells each subscription's messages, by a word with a bit for each slot that has some.
@@ -213,18 +211,13 @@ fn fill(slots: &mut Vec<Option<Slot>>, place: usize, slot: Slot)
 
 // Makes the messages of a change for each subscription. The word has a bit for each slot with
 // messages.
-fn ready_all(
-    slots: &mut Vec<Option<Slot>>,
-    volume: &Volume,
-    change: &Change,
-) -> Result<u64, Refusal>
+fn ready_all(slots: &mut Vec<Option<Slot>>, planned: &Planned<'_>) -> Result<u64, Refusal>
     requires within { length slots.old.items ≤ 64 }
-    requires lawful { IsLawful volume.now change.now }
     requires few { AllByRecursion (IsFew (2 ^ 63 - 1)) (map (option_map slot_of) slots.old.items) }
     ensures refused { IsRefusedBy result None }
     ensures told { IfOk result (λ told. IsMarked has_ready told slots.new.items) }
     ensures ok { OnOk result (slots.new.items ≡
-        map (option_map (prepared_slot volume.now change.now)) slots.old.items) }
+        map (option_map (prepared_slot planned.now.before planned.now.change)) slots.old.items) }
     ensures err { OnErr result (map (option_map slot_of) slots.new.items ≡
         map (option_map slot_of) slots.old.items) }
     ensures len { vec_len slots.new ≡ vec_len slots.old }
@@ -233,7 +226,7 @@ fn ready_all(
     let mut told = 0;
     let mut index = 0;
     for slot in slots.iter_mut() {
-        let any = ready_at(slot, volume, change)?;
+        let any = ready_at(slot, planned)?;
         told = with_bit(told, index, any);
         index += 1;
     }

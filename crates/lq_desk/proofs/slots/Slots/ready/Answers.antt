@@ -15,8 +15,8 @@ ready_all-requires-clause-few c =
 pub returns-clause-ok : goal.returns-clause-ok
 returns-clause-ok c =
     ap with_free c.in_ok-ready_all.ensures.ok
-    ∙ (sym (map-free (prepared_slot c.args.volume.now c.args.change.now) c.self.inside.stored.items)
-    ∙ ap (map (option_map (prepared_slot c.args.volume.now c.args.change.now))) c.self.view_is)
+    ∙ (sym (map-free (prepared_slot c.args.planned.now.before c.args.planned.now.change) c.self.inside.stored.items)
+    ∙ ap (map (option_map (prepared_slot c.args.planned.now.before c.args.planned.now.change))) c.self.view_is)
 
 pub returns-clause-told : goal.returns-clause-told
 returns-clause-told c = λ i p at. c.in_ok-ready_all.ensures.told i p (stored-at c.ready_all.new.slots.items i p at)
