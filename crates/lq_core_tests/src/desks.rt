@@ -34,9 +34,9 @@ fn tell(alloc: Global, sub: &mut Sub, volume: &mut Volume, name: &str) -> Result
         time: 0,
     };
     let _ = volume.changes();
-    let _ = volume.check(&change)?;
-    sub.ready(volume, &change)?;
-    let _ = volume.apply(&change)?;
+    let planned = volume.plan(&change)?;
+    sub.ready(&planned)?;
+    let _ = volume.make(&change)?;
     sub.commit();
     Ok(())
 }

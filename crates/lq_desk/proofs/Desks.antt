@@ -13,15 +13,18 @@ use Rattle.lq_volume.specs.Book.{Book}
 use Rattle.lq_volume.specs.Laws.{ChangesCount}
 use Rattle.lq_update.specs.Laws.{StepsAreFew}
 use Rattle.lq_world.specs.World.{first_world}
-use Rattle.lq_world.specs.Events.{Changing, Opening, Answer, next}
+use Rattle.lq_world.specs.Events.{Changing, Happening, Opening, Answer, next, outcome}
+use Rattle.lq_world.specs.Turns.{after_all}
 use Rattle.lq_world.specs.Laws.{FirstWorldsAreFair}
 use Rattle.lq_desk.specs.declared.slot.Act.{Act}
 use Rattle.lq_desk.specs.Slot.{KeptSlot, PreparedSlot, slot_of, fresh_slot}
 use Rattle.lq_desk.specs.Act.{outcome_in, happening_at}
 use Rattle.lq_desk.specs.Kept.{Kept, IsDesk, IsFew, Shows, first_free, opening_refusal, opened, open_if, changed, change_if, kept_outcome, slot_for}
+use Rattle.lq_desk.specs.Turn.{kept_after}
 use Rattle.lq_desk.specs.Laws.{KeptShowsWorlds}
 use Rattle.lq_desk.proofs.ListLemmas.{all-set, length-map, length-set, map-set}
 use Rattle.lq_desk.proofs.SlotsLemmas.{kept_slot, few-after, few-outcome_in}
+use Rattle.lq_desk.proofs.TurnLemmas.{after-shows}
 
 few-free : (m n : ℕ) → AllByRecursion (IsFew m) (map kept_slot (replicate n None))
 few-free m zero = tt
@@ -78,6 +81,16 @@ module _ (alike : KeptShowsWorlds) where
         world = next d.world e;
         shows = subst (λ (p : Answer × Kept). Shows p.1 (next d.world e)) (sym does) (alike k d.world e d.shows).1;
       }
+
+  -- after events that leave the number of slots, and make no message
+  pub IsDesk-after : (k : Kept) (es : List Happening) (ks : List (Option KeptSlot)) → IsDesk k → kept_after k es ≡ record k { slots = ks } → length ks ≡ length k.slots → AllByRecursion (IsFew (3 * k.volume.number)) ks
+      → IsDesk (record k { slots = ks })
+  IsDesk-after k es ks d is long few = record {
+    slots = long ∙ d.slots;
+    few = few;
+    world = after_all outcome d.world es;
+    shows = subst (λ (j : Kept). Shows j (after_all outcome d.world es)) is (after-shows alike k d.world es d.shows);
+  }
 
 -- an opening that passes the tests
 pub opens : (k : Kept) (port backlog : ℕ) → 1 ≤ port → port ≤ 1024 → backlog ≤ 65536 → first_free k.slots < length k.slots → k.openings < k.volume.limit → opening_refusal k port backlog ≡ None

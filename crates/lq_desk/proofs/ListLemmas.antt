@@ -147,3 +147,34 @@ pub length-set : {A : Type 0} (xs : List A) (i : ℕ) (x : A) → length (slice_
 length-set [] i x = refl
 length-set (y ∷ xs) zero x = refl
 length-set (y ∷ xs) (suc i) x = ap suc (length-set xs i x)
+
+pub get-set_here : {A : Type 0} (xs : List A) (i : ℕ) (x y : A) → slice_get xs i ≡ Some x → slice_get (slice_set xs i y) i ≡ Some y
+get-set_here [] i x y h = absurd (let no : ⊥ = cc in no)
+get-set_here (z ∷ xs) zero x y h = refl
+get-set_here (z ∷ xs) (suc i) x y h = get-set_here xs i x y h
+
+pub set-twice : {A : Type 0} (xs : List A) (i : ℕ) (y z : A) → slice_set (slice_set xs i y) i z ≡ slice_set xs i z
+set-twice [] i y z = refl
+set-twice (x ∷ xs) zero y z = refl
+set-twice (x ∷ xs) (suc i) y z = ap (λ ys. x ∷ ys) (set-twice xs i y z)
+
+pub get-set_in : {A : Type 0} (xs : List A) (i : ℕ) (y : A) → i < length xs → slice_get (slice_set xs i y) i ≡ Some y
+get-set_in [] i y lt = absurd (omega arith)
+get-set_in (z ∷ xs) zero y lt = refl
+get-set_in (z ∷ xs) (suc i) y lt = get-set_in xs i y (omega arith)
+
+-- a place of a list with one place written: that one, or one of before
+pub get-set : {A : Type 0} (xs : List A) (i j : ℕ) (y z : A) → slice_get (slice_set xs i y) j ≡ Some z → ((j ≡ i) × (z ≡ y)) ⊎ (slice_get xs j ≡ Some z)
+get-set [] i j y z h = inr h
+get-set (x ∷ xs) zero zero y z h = inl (refl, let same : z ≡ y = cc in same)
+get-set (x ∷ xs) zero (suc j) y z h = inr h
+get-set (x ∷ xs) (suc i) zero y z h = inr h
+get-set (x ∷ xs) (suc i) (suc j) y z h = elim (get-set xs i j y z h) [
+  | inl here ↦ inl (ap suc here.0, here.1)
+  | inr other ↦ inr other
+]
+
+-- one written at the place behind a front
+pub set-seam : {A : Type 0} (xs : List A) (y x : A) (ys : List A) → slice_set (xs ++ y ∷ ys) (length xs) x ≡ (xs ++ x ∷ []) ++ ys
+set-seam [] y x ys = refl
+set-seam (z ∷ xs) y x ys = ap (λ zs. z ∷ zs) (set-seam xs y x ys)

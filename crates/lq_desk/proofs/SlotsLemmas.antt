@@ -1,12 +1,14 @@
 -- The slots of a desk, as contracts see them.
-use Rattle.std.proofs.Common.{◌≡◌, ℕ, zero, suc, ◌+◌, ◌-◌, ◌*◌, ◌≤◌, ◌<◌, List, [], ◌∷◌, ◌++◌, refl, ap, map, take, drop, get_or, length, ◌∙◌, sym, subst, arith, Some, None, Option, Bool, true, false}
-use Rattle.std.specs.Prelude.{slice_get, slice_set, replicate, if◌then◌else◌, ◌≢◌}
+use Rattle.std.proofs.Common.{◌≡◌, ℕ, zero, suc, ◌+◌, ◌-◌, ◌*◌, ◌≤◌, ◌<◌, List, [], ◌∷◌, ◌++◌, refl, ap, map, take, drop, get_or, length, ◌∙◌, sym, subst, append-nil, arith, Some, None, Option, Bool, true, false}
+use Rattle.std.specs.Prelude.{slice_get, slice_set, replicate, if◌then◌else◌, ◌≢◌, ◌&&◌, nat_lt}
 use Rattle.std.specs.Option.{option_map, option_flatten}
 use Rattle.std.specs.List.{AllByRecursion}
 use Rattle.std.proofs.lemmas.Bool.Decides.{nat_tests}
 use Rattle.lq_volume.specs.declared.change.Change.{Change as Change_}
 use Rattle.lq_volume.specs.State.{State, IsVolume}
 use Rattle.lq_volume.specs.Change.{IsLawful}
+use Rattle.lq_update.specs.declared.mark.Cause.TheVariants.{HungUp}
+use Rattle.lq_update.specs.declared.message.Message.{Message}
 use Rattle.lq_update.specs.declared.parcel.Parcel.{Parcel}
 use Rattle.lq_update.specs.declared.parcel.Parcel.TheVariants.{Update, Fin}
 use Rattle.lq_update.specs.Updates.{step_of}
@@ -15,12 +17,13 @@ use Rattle.lq_world.specs.Events.{Answer, Refused}
 use Rattle.lq_value.specs.declared.refusal.Refusal.TheVariants.{NotOpen}
 use Rattle.lq_desk.specs.declared.slot.Act.{Act}
 use Rattle.lq_desk.specs.declared.slot.Act.TheVariants as act
-use Rattle.lq_desk.specs.Held.{Held, is_live, held_after, told_if, overruns}
-use Rattle.lq_desk.specs.Slot.{KeptSlot, PreparedSlot, slot_of, prepared_slot, committed_slot, slot_after, put_if, take_if, notice_if, close_if, finish_if}
+use Rattle.lq_desk.specs.Held.{Held, is_live, held_after, committed, ended_by, told, told_if, overruns}
+use Rattle.lq_desk.specs.Slot.{KeptSlot, PreparedSlot, slot_of, prepared_slot, committed_slot, slot_after, put_if, take_if, notice_if, close_if, finish_if, done_at, filled, has_ready, is_ending, noticed}
 use Rattle.lq_desk.specs.Act.{act_of, outcome_at, outcome_in, happening_at}
 use Rattle.lq_desk.specs.Kept.{Kept, IsFew, kept_at, at_place, at_kept, kept_outcome}
 use Rattle.lq_desk.specs.Kept as kept
-use Rattle.lq_desk.proofs.ListLemmas.{all-set, all-get, map-set, set-same, slice_get-map, lt-get}
+use Rattle.lq_desk.proofs.ListLemmas.{all-set, all-get, both-true, map-set, set-same, slice_get-map, lt-get}
+use Rattle.lq_desk.proofs.PutLemmas.{puts-keep}
 
 abbrev pub kept_slot : Option PreparedSlot → Option KeptSlot
 kept_slot = option_map slot_of
@@ -50,6 +53,16 @@ act_in-same number a xs i x d r lt at is =
     ap (λ ks. (r, ks)) (map-set kept_slot xs i x)
     ∙ (ap (λ (p : Answer × Option KeptSlot). (p.0, slice_set (map kept_slot xs) i p.1)) is
     ∙ ap (λ (o : Option KeptSlot). ((outcome_at number a o).0, slice_set (map kept_slot xs) i (outcome_at number a o).1)) (sym found))
+
+pub kept-get : (xs : List (Option PreparedSlot)) (i : ℕ) (d : Option PreparedSlot) → i < length xs → d ≡ get_or xs i d → option_flatten (slice_get (map kept_slot xs) i) ≡ kept_slot d
+kept-get xs i d lt at = ap option_flatten (slice_get-map kept_slot xs i ∙ ap (option_map kept_slot) (one-get xs i d lt at))
+
+-- what is done at one of them
+pub done_in-same : (f : KeptSlot → KeptSlot) (xs : List (Option PreparedSlot)) (i : ℕ) (x d : Option PreparedSlot) → i < length xs → d ≡ get_or xs i d
+    → kept_slot x ≡ option_map f (kept_slot d) → map kept_slot (slice_set xs i x) ≡ done_at f (map kept_slot xs) i
+done_in-same f xs i x d lt at is =
+    map-set kept_slot xs i x
+    ∙ ap (slice_set (map kept_slot xs) i) (is ∙ ap (option_map f) (sym (kept-get xs i d lt at)))
 
 -- ---- messages that are made, and then told
 
@@ -91,6 +104,49 @@ pub map-kept : (s : State) (c : Change_) (xs ys : List (Option PreparedSlot)) (i
     → kept_slot x ≡ kept_slot z → z ≡ get_or ys i z → map kept_slot (slice_set ys i x) ≡ map kept_slot xs
 map-kept s c xs ys i x z done same at = map-same_here ys i x z same at ∙ (ap (map kept_slot) done ∙ map-front s c i xs)
 
+-- ---- slots with nothing to do
+
+pub noticed-quiet : (n : ℕ) (k : KeptSlot) → is_ending k ≡ false → noticed n k ≡ k
+noticed-quiet n k is = ap (λ x. if x then record k { held = ended_by k.held HungUp n } else k) is
+
+pub noticed-still : (n : ℕ) (k : KeptSlot) → is_ending (noticed n k) ≡ false
+noticed-still n k = by (is_ending k) refl
+  where
+    by : (x : Bool) → is_ending k ≡ x → is_ending (if x then record k { held = ended_by k.held HungUp n } else k) ≡ false
+    by true is = refl
+    by false is = is
+
+held-none : (h : Held) (sent : ℕ) (messages : List Message) → sent ≡ h.sent → messages ≡ h.messages → record h { sent = sent; messages = messages } ≡ h
+held-none h sent messages p q = ap (λ n. record h { sent = n; messages = messages }) p ∙ ap (λ ms. record h { messages = ms }) q
+
+told-none : (h : Held) (ready : List Message) (before : ℕ) → ready ≡ [] → told h ready before ≡ h
+told-none h ready before none = ap (λ ms. told h ms before) none ∙ held-none h (h.sent + 0) (h.messages ++ []) (omega arith) (append-nil h.messages)
+
+committed-none : (p : PreparedSlot) → p.sub.ready ≡ [] → record p { sub = committed p.sub } ≡ p
+committed-none p none = same (told p.sub.held p.sub.ready p.sub.before) [] (told-none p.sub.held p.sub.ready p.sub.before none) (sym none)
+  where
+    same : (h : Held) (ms : List Message) → h ≡ p.sub.held → ms ≡ p.sub.ready → record p { sub = record p.sub { held = h; ready = ms } } ≡ p
+    same h ms a b = ap (λ g. record p { sub = record p.sub { held = g; ready = ms } }) a ∙ ap (λ ns. record p { sub = record p.sub { ready = ns } }) b
+
+no-messages : (ms : List Message) → nat_lt 0 (length ms) ≡ false → ms ≡ []
+no-messages [] none = refl
+no-messages (m ∷ ms) none = absurd (grind (arith, nat_tests, none))
+
+pub committed-quiet : (p : PreparedSlot) → has_ready p ≡ false → committed_slot p ≡ p
+committed-quiet p is = by (is_live p.sub.held) is
+  where
+    by : (x : Bool) → (x && nat_lt 0 (length p.sub.ready)) ≡ false → (if x then record p { sub = committed p.sub } else p) ≡ p
+    by true none = committed-none p (no-messages p.sub.ready none)
+    by false none = refl
+
+-- telling messages makes no slot ending
+pub committed-ends : (p : PreparedSlot) → is_ending (slot_of (committed_slot p)) ≡ true → is_ending (slot_of p) ≡ true
+committed-ends p is = by (is_live p.sub.held) refl is
+  where
+    by : (x : Bool) → is_live p.sub.held ≡ x → is_ending (slot_of (if x then record p { sub = committed p.sub } else p)) ≡ true → is_ending (slot_of p) ≡ true
+    by true live is = ap (λ x. x && p.asked) live ∙ (both-true (is_live (told p.sub.held p.sub.ready p.sub.before)) p.asked is).1
+    by false live is = is
+
 -- ---- how many messages were made
 
 pub few-told : StepsAreFew → (s : State) (c : Change_) (h : Held) (x : Bool) → IsVolume s → IsLawful s c → h.sent ≤ 3 * s.number
@@ -115,6 +171,30 @@ few-one m n (Some k) le h = omega (arith, le, h)
 pub few-more : (m n : ℕ) (ks : List (Option KeptSlot)) → m ≤ n → AllByRecursion (IsFew m) ks → AllByRecursion (IsFew n) ks
 few-more m n [] le h = tt
 few-more m n (k ∷ ks) le h = (few-one m n k le h.0, few-more m n ks le h.1)
+
+few-same : (n : ℕ) (k l : KeptSlot) → l.held.sent ≡ k.held.sent → IsFew n (Some k) → IsFew n (Some l)
+few-same n k l same h = omega (arith, same, h)
+
+few-noticed : (n number : ℕ) (k : KeptSlot) → IsFew n (Some k) → IsFew n (Some (noticed number k))
+few-noticed n number k h = by (is_ending k)
+  where
+    by : (x : Bool) → IsFew n (Some (if x then record k { held = ended_by k.held HungUp number } else k))
+    by true = h
+    by false = h
+
+few-filled : (n : ℕ) (k : KeptSlot) → IsFew n (Some k) → IsFew n (Some (filled k))
+few-filled n k h = few-same n k (filled k) (puts-keep k.port k).sent h
+
+few-map : (n : ℕ) (f : KeptSlot → KeptSlot) → ((k : KeptSlot) → IsFew n (Some k) → IsFew n (Some (f k))) → (ks : List (Option KeptSlot)) → AllByRecursion (IsFew n) ks → AllByRecursion (IsFew n) (map (option_map f) ks)
+few-map n f keeps [] h = tt
+few-map n f keeps (None ∷ ks) h = (tt, few-map n f keeps ks h.1)
+few-map n f keeps (Some k ∷ ks) h = (keeps k h.0, few-map n f keeps ks h.1)
+
+pub few-noticed_all : (n number : ℕ) (ks : List (Option KeptSlot)) → AllByRecursion (IsFew n) ks → AllByRecursion (IsFew n) (map (option_map (noticed number)) ks)
+few-noticed_all n number ks h = few-map n (noticed number) (few-noticed n number) ks h
+
+pub few-filled_all : (n : ℕ) (ks : List (Option KeptSlot)) → AllByRecursion (IsFew n) ks → AllByRecursion (IsFew n) (map (option_map filled) ks)
+few-filled_all n ks h = few-map n filled (few-filled n) ks h
 
 -- an act makes no message
 few-put : (n : ℕ) (k : KeptSlot) (x : Bool) (o : Option Parcel) → IsFew n (Some k) → IsFew n (put_if k x o).1
@@ -159,6 +239,19 @@ few-flat n ks i (Some k) is h = all-get (IsFew n) ks i k h is
 pub few-outcome_in : (n number : ℕ) (a : Act) (ks : List (Option KeptSlot)) (i : ℕ) → AllByRecursion (IsFew n) ks → AllByRecursion (IsFew n) (outcome_in number a ks i).1
 few-outcome_in n number a ks i h =
     all-set (IsFew n) ks i _ h (few-outcome n number a (option_flatten (slice_get ks i)) (few-flat n ks i (slice_get ks i) refl h))
+
+few-done : (n : ℕ) (f : KeptSlot → KeptSlot) → ((k : KeptSlot) → IsFew n (Some k) → IsFew n (Some (f k))) → (ks : List (Option KeptSlot)) (i : ℕ) → AllByRecursion (IsFew n) ks → AllByRecursion (IsFew n) (done_at f ks i)
+few-done n f keeps ks i h = all-set (IsFew n) ks i _ h (by (option_flatten (slice_get ks i)) (few-flat n ks i (slice_get ks i) refl h))
+  where
+    by : (o : Option KeptSlot) → IsFew n o → IsFew n (option_map f o)
+    by None h = tt
+    by (Some k) h = keeps k h
+
+pub few-noticed_at : (n number : ℕ) (ks : List (Option KeptSlot)) (i : ℕ) → AllByRecursion (IsFew n) ks → AllByRecursion (IsFew n) (done_at (noticed number) ks i)
+few-noticed_at n number ks i h = few-done n (noticed number) (few-noticed n number) ks i h
+
+pub few-filled_at : (n : ℕ) (ks : List (Option KeptSlot)) (i : ℕ) → AllByRecursion (IsFew n) ks → AllByRecursion (IsFew n) (done_at filled ks i)
+few-filled_at n ks i h = few-done n filled (few-filled n) ks i h
 
 -- ---- an act is the event that it is
 

@@ -1,24 +1,25 @@
 -- The turns of a desk.
-use Rattle.std.proofs.Common.{◌≡◌, ℕ, zero, suc, ◌+◌, ◌-◌, ◌≤◌, ◌<◌, List, [], ◌∷◌, ◌++◌, refl, ap, map, take, length, ◌∙◌, sym, subst, arith, Some, None, Option, Bool, true, false, inl, inr}
-use Rattle.std.specs.Prelude.{slice_get, slice_set, replicate, if◌then◌else◌, ◌==◌, ◌&&◌, nat_lt}
+use Rattle.std.proofs.Common.{◌≡◌, ℕ, zero, suc, ◌+◌, ◌-◌, ◌≤◌, ◌<◌, List, [], ◌∷◌, ◌++◌, refl, ap, map, length, ◌∙◌, sym, subst, arith, Some, None, Option, Bool, true, false, inl, inr}
+use Rattle.std.specs.Prelude.{slice_get, slice_set, replicate, if◌then◌else◌, ◌==◌, ◌&&◌, ◌≢◌}
 use Rattle.std.specs.Option.{option_map, option_flatten}
 use Rattle.std.proofs.lemmas.Bool.Decides.{nat_tests}
 use Rattle.lq_value.specs.declared.refusal.Refusal.{Refusal}
 use Rattle.lq_volume.specs.declared.change.Change.{Change as Change_}
 use Rattle.lq_volume.specs.State.{State}
-use Rattle.lq_update.specs.declared.parcel.Parcel.{Parcel}
 use Rattle.lq_volume.specs.Book.{Book}
 use Rattle.lq_volume.specs.Change.{refused}
 use Rattle.lq_world.specs.World.{World, Sub}
 use Rattle.lq_world.specs.Events.{Happening, Changing, Opening, Putting, Taking, HangingUp, Noticing, Closing, Finishing, Answer, outcome, next}
 use Rattle.lq_world.specs.Turns.{Turn, turn_of, ports_of, places_at, places_in, at_slot_of, at_each, one_notice, puts, notices, all_puts, after_all, carried_out}
-use Rattle.lq_desk.specs.Held.{is_live, held_after, next_parcel}
-use Rattle.lq_desk.specs.Slot.{KeptSlot, put_if, put_slot, notice_if, notice_slot, close_if, close_slot, slot_after}
-use Rattle.lq_desk.specs.Kept.{Kept, KeptStep, Shows, slot_for, kept_at, at_place, kept_outcome, change_if}
+use Rattle.lq_update.specs.declared.mark.Cause.TheVariants.{HungUp}
+use Rattle.lq_desk.specs.Held.{is_live, held_after, ended_by}
+use Rattle.lq_desk.specs.Slot.{KeptSlot, put_slot, notice_if, notice_slot, close_if, close_slot, slot_after, after_put, after_puts, done_at, filled, noticed}
+use Rattle.lq_desk.specs.Kept.{Kept, KeptStep, Shows, slot_for, kept_at, at_place, at_kept, kept_outcome, change_if}
 use Rattle.lq_desk.specs.Reply.{Moves, Runs}
-use Rattle.lq_desk.specs.Turn.{is_moved, slot_port, kept_ports, kept_turn, kept_after, TurnStep, TurnRuns}
+use Rattle.lq_desk.specs.Turn.{slot_port, kept_ports, kept_turn, kept_after, TurnStep, TurnRuns}
 use Rattle.lq_desk.specs.Laws.{KeptShowsWorlds, KeptTurnsShowWorlds}
-use Rattle.lq_desk.proofs.ListLemmas.{map-set, set-same, slice_get-map, length-map, take-all}
+use Rattle.lq_desk.proofs.ListLemmas.{get-set_here, map-set, set-same, set-seam, set-twice, slice_get-map}
+use Rattle.lq_desk.proofs.PutLemmas.{put-some}
 use Rattle.lq_desk.proofs.RunLemmas.{runs-more}
 
 -- ---- lists of events
@@ -35,37 +36,10 @@ append-join : {A : Type 0} (xs ys zs : List A) → (xs ++ ys) ++ zs ≡ xs ++ (y
 append-join [] ys zs = refl
 append-join (x ∷ xs) ys zs = ap (λ ws. x ∷ ws) (append-join xs ys zs)
 
-at_each-suc : (events : ℕ → ℕ → List Happening) (n : ℕ) (ports : List (Option ℕ)) (i : ℕ) (o : Option ℕ) → slice_get ports i ≡ Some o
-    → at_each events n (take (suc i) ports) ≡ at_each events n (take i ports) ++ at_slot_of events (n + i) o
-at_each-suc events n [] i o is = absurd (let bad : ⊥ = cc in bad)
-at_each-suc events n (p ∷ ports) zero o is =
-    let same : p ≡ o = ap option_flatten is in
-    let e : n ≡ n + 0 = omega arith in
-    append-nil (at_slot_of events n p) ∙ (ap (at_slot_of events n) same ∙ ap (λ m. at_slot_of events m o) e)
-at_each-suc events n (p ∷ ports) (suc i) o is =
-    let more = at_each-suc events (n + 1) ports i o is in
-    let e : n + 1 + i ≡ n + suc i = omega arith in
-    ap (λ xs. at_slot_of events n p ++ xs) (more ∙ ap (λ m. at_each events (n + 1) (take i ports) ++ at_slot_of events m o) e)
-    ∙ sym (append-join (at_slot_of events n p) (at_each events (n + 1) (take i ports)) (at_slot_of events (n + suc i) o))
-
-pub at_each-more : (events : ℕ → ℕ → List Happening) (n : ℕ) (ports : List (Option ℕ)) (i : ℕ) (o : Option ℕ) → slice_get ports i ≡ Some o
-    → at_each events n (take (i + 1) ports) ≡ at_each events n (take i ports) ++ at_slot_of events (n + i) o
-at_each-more events n ports i o is =
-    let e : i + 1 ≡ suc i = omega arith in
-    ap (λ j. at_each events n (take j ports)) e ∙ at_each-suc events n ports i o is
-
 -- ---- what keeps the ports
 
 abbrev Keeps : (KeptSlot → Answer × Option KeptSlot) → Type 0
 Keeps event = (s : KeptSlot) → option_map slot_port (event s).1 ≡ Some s.port
-
-put-keeps : Keeps put_slot
-put-keeps s = by (nat_lt (length s.queue) s.port) (next_parcel s.held)
-  where
-    by : (x : Bool) (o : Option Parcel) → option_map slot_port (put_if s x o).1 ≡ Some s.port
-    by true (Some p) = refl
-    by true None = refl
-    by false o = refl
 
 notice-keeps : (n : ℕ) → Keeps (notice_slot n)
 notice-keeps n s = by (is_live s.held && s.asked)
@@ -82,7 +56,7 @@ close-keeps n s = by (is_live s.held)
     by false = refl
 
 -- what stands in a taken slot
-pub kept-there : (k : Kept) (slot : ℕ) (s : KeptSlot) → kept_at k slot ≡ Some s → slice_get k.slots (slot - 1) ≡ Some (Some s)
+kept-there : (k : Kept) (slot : ℕ) (s : KeptSlot) → kept_at k slot ≡ Some s → slice_get k.slots (slot - 1) ≡ Some (Some s)
 kept-there k slot s is = by (slot == 0) (slice_get k.slots (slot - 1)) refl is
   where
     by : (x : Bool) (o : Option (Option KeptSlot)) → slice_get k.slots (slot - 1) ≡ o → (if x then None else option_flatten o) ≡ Some s → o ≡ Some (Some s)
@@ -98,16 +72,13 @@ at-keeps k slot (Some s) event is keeps =
     ∙ (ap (slice_set (kept_ports k) (slot - 1)) (keeps s)
     ∙ set-same (kept_ports k) (slot - 1) (Some s.port) (slice_get-map (option_map slot_port) k.slots (slot - 1) ∙ ap (option_map (option_map slot_port)) (kept-there k slot s is)))
 
-pub ports-noticed : (k : Kept) (slot : ℕ) → kept_ports (kept_outcome k (Noticing slot)).1 ≡ kept_ports k
+ports-noticed : (k : Kept) (slot : ℕ) → kept_ports (kept_outcome k (Noticing slot)).1 ≡ kept_ports k
 ports-noticed k slot = at-keeps k slot (kept_at k slot) (notice_slot k.volume.number) refl (notice-keeps k.volume.number)
 
-pub ports-put : (k : Kept) (slot : ℕ) → kept_ports (kept_outcome k (Putting slot)).1 ≡ kept_ports k
-ports-put k slot = at-keeps k slot (kept_at k slot) put_slot refl put-keeps
-
-pub ports-closed : (k : Kept) (slot : ℕ) → kept_ports (kept_outcome k (Closing slot)).1 ≡ kept_ports k
+ports-closed : (k : Kept) (slot : ℕ) → kept_ports (kept_outcome k (Closing slot)).1 ≡ kept_ports k
 ports-closed k slot = at-keeps k slot (kept_at k slot) (close_slot k.volume.number) refl (close-keeps k.volume.number)
 
-pub ports-after : (s : State) (c : Change_) (slots : List (Option KeptSlot)) → map (option_map slot_port) (map (option_map (slot_after s c)) slots) ≡ map (option_map slot_port) slots
+ports-after : (s : State) (c : Change_) (slots : List (Option KeptSlot)) → map (option_map slot_port) (map (option_map (slot_after s c)) slots) ≡ map (option_map slot_port) slots
 ports-after s c [] = refl
 ports-after s c (None ∷ slots) = ap (λ ps. None ∷ ps) (ports-after s c slots)
 ports-after s c (Some k ∷ slots) = let here = same (is_live k.held) in let rest = ports-after s c slots in cc
@@ -116,116 +87,7 @@ ports-after s c (Some k ∷ slots) = let here = same (is_live k.held) in let res
     same true = refl
     same false = refl
 
--- ---- puts that move nothing
-
-still-place : (k : Kept) (slot : ℕ) (o : Option KeptSlot) → kept_at k slot ≡ o → is_moved (at_place k (slot - 1) o put_slot).0 ≡ false → (at_place k (slot - 1) o put_slot).1 ≡ k
-still-place k slot None is none = refl
-still-place k slot (Some s) is none = by (nat_lt (length s.queue) s.port) (next_parcel s.held) none
-  where
-    same : slice_set k.slots (slot - 1) (Some s) ≡ k.slots
-    same = set-same k.slots (slot - 1) (Some s) (kept-there k slot s is)
-
-    by : (x : Bool) (o : Option Parcel) → is_moved (put_if s x o).0 ≡ false → record k { slots = slice_set k.slots (slot - 1) (put_if s x o).1 } ≡ k
-    by true (Some p) none = absurd (let bad : ⊥ = cc in bad)
-    by true None none = ap (λ ks. record k { slots = ks }) same
-    by false o none = ap (λ ks. record k { slots = ks }) same
-
-pub still : (k : Kept) (slot : ℕ) → is_moved (kept_outcome k (Putting slot)).0 ≡ false → (kept_outcome k (Putting slot)).1 ≡ k
-still k slot none = still-place k slot (kept_at k slot) refl none
-
-pub stays : (k : Kept) (slot n : ℕ) → (kept_outcome k (Putting slot)).1 ≡ k → kept_after k (replicate n (Putting slot)) ≡ k
-stays k slot zero same = refl
-stays k slot (suc n) same = ap (λ j. kept_after j (replicate n (Putting slot))) same ∙ stays k slot n same
-
-pub replicate-join : (m n : ℕ) (e : Happening) → replicate (m + n) e ≡ replicate m e ++ replicate n e
-replicate-join m n e = by m
-  where
-    by : (m : ℕ) → replicate (m + n) e ≡ replicate m e ++ replicate n e
-    by zero = let z : zero + n ≡ n = omega arith in ap (λ k. replicate k e) z
-    by (suc m) = let z : suc m + n ≡ suc (m + n) = omega arith in ap (λ k. replicate k e) z ∙ ap (λ es. e ∷ es) (by m)
-
--- one put more, and the end of puts where one moves nothing
-pub put-more : (k l m : Kept) (slot i : ℕ) → l ≡ kept_after k (replicate i (Putting slot)) → m ≡ (kept_outcome l (Putting slot)).1 → m ≡ kept_after k (replicate (i + 1) (Putting slot))
-put-more k l m slot i is put =
-    put
-    ∙ (ap (λ j. (kept_outcome j (Putting slot)).1) is
-    ∙ (sym (after-join kept_outcome k (replicate i (Putting slot)) (replicate 1 (Putting slot)))
-    ∙ ap (kept_after k) (sym (replicate-join i 1 (Putting slot)))))
-
-pub put-end : (k l m : Kept) (slot i n : ℕ) → i ≤ n → l ≡ kept_after k (replicate i (Putting slot)) → m ≡ (kept_outcome l (Putting slot)).1 → is_moved (kept_outcome l (Putting slot)).0 ≡ false
-    → m ≡ kept_after k (replicate n (Putting slot))
-put-end k l m slot i n le is put none =
-    let e : i + (n - i) ≡ n = omega (arith, le) in
-    put
-    ∙ (still l slot none
-    ∙ (sym (stays l slot (n - i) (still l slot none))
-    ∙ (ap (λ j. kept_after j (replicate (n - i) (Putting slot))) is
-    ∙ (sym (after-join kept_outcome k (replicate i (Putting slot)) (replicate (n - i) (Putting slot)))
-    ∙ (ap (kept_after k) (sym (replicate-join i (n - i) (Putting slot)))
-    ∙ ap (λ j. kept_after k (replicate j (Putting slot))) e)))))
-
-pub ports-puts : (k : Kept) (slot n : ℕ) → kept_ports (kept_after k (replicate n (Putting slot))) ≡ kept_ports k
-ports-puts k slot zero = refl
-ports-puts k slot (suc n) = ports-puts (kept_outcome k (Putting slot)).1 slot n ∙ ports-put k slot
-
--- ---- the places of a slot's port
-
-pub ports-get : (k : Kept) (i : ℕ) → slice_get (kept_ports k) i ≡ option_map (option_map slot_port) (slice_get k.slots i)
-ports-get k i = slice_get-map (option_map slot_port) k.slots i
-
-pub places-here : (k : Kept) (slot : ℕ) (o : Option KeptSlot) → (slot == 0) ≡ false → slice_get k.slots (slot - 1) ≡ Some o → places_at (kept_ports k) slot ≡ places_in (option_map slot_port o)
-places-here k slot o some is =
-    let there : slice_get (kept_ports k) (slot - 1) ≡ Some (option_map slot_port o) = ports-get k (slot - 1) ∙ ap (option_map (option_map slot_port)) is in
-    rw (some, there) refl
-
--- ---- one slot after another
-
--- notices and puts keep the ports
-abbrev pub IsQuiet : (ℕ → ℕ → List Happening) → Type 0
-IsQuiet events = (k : Kept) (slot port : ℕ) → kept_ports (kept_after k (events slot port)) ≡ kept_ports k
-
-pub notice-quiet : IsQuiet one_notice
-notice-quiet k slot port = ports-noticed k slot
-
-pub puts-quiet : IsQuiet puts
-puts-quiet k slot port = ports-puts k slot port
-
-slot-quiet : (events : ℕ → ℕ → List Happening) → IsQuiet events → (k : Kept) (slot : ℕ) (o : Option ℕ) → kept_ports (kept_after k (at_slot_of events slot o)) ≡ kept_ports k
-slot-quiet events quiet k slot None = refl
-slot-quiet events quiet k slot (Some port) = quiet k slot port
-
-pub each-quiet : (events : ℕ → ℕ → List Happening) → IsQuiet events → (k : Kept) (n : ℕ) (ports : List (Option ℕ)) → kept_ports (kept_after k (at_each events n ports)) ≡ kept_ports k
-each-quiet events quiet k n [] = refl
-each-quiet events quiet k n (o ∷ ports) =
-    ap kept_ports (after-join kept_outcome k (at_slot_of events n o) (at_each events (n + 1) ports))
-    ∙ (each-quiet events quiet (kept_after k (at_slot_of events n o)) (n + 1) ports
-    ∙ slot-quiet events quiet k n o)
-
--- the next slot of the list
-slot-more : (events : ℕ → ℕ → List Happening) (k l m : Kept) (i : ℕ) (o : Option KeptSlot) → IsQuiet events
-    → l ≡ kept_after k (at_each events 1 (take i (kept_ports k))) → slice_get l.slots i ≡ Some o → m ≡ kept_after l (at_slot_of events (i + 1) (option_map slot_port o))
-    → m ≡ kept_after k (at_each events 1 (take (i + 1) (kept_ports k)))
-slot-more events k l m i o quiet is there does =
-    let same : kept_ports l ≡ kept_ports k = ap kept_ports is ∙ each-quiet events quiet k 1 (take i (kept_ports k)) in
-    let get : slice_get (kept_ports k) i ≡ Some (option_map slot_port o) = ap (λ ps. slice_get ps i) (sym same) ∙ (ports-get l i ∙ ap (option_map (option_map slot_port)) there) in
-    let e : 1 + i ≡ i + 1 = omega arith in
-    does
-    ∙ (ap (λ j. kept_after j (at_slot_of events (i + 1) (option_map slot_port o))) is
-    ∙ (sym (after-join kept_outcome k (at_each events 1 (take i (kept_ports k))) (at_slot_of events (i + 1) (option_map slot_port o)))
-    ∙ (ap (λ n. kept_after k (at_each events 1 (take i (kept_ports k)) ++ at_slot_of events n (option_map slot_port o))) (sym e)
-    ∙ ap (kept_after k) (sym (at_each-more events 1 (kept_ports k) i (option_map slot_port o) get)))))
-
-get-some : {A : Type 0} (xs : List A) (i : ℕ) → i < length xs → (x : A) × (slice_get xs i ≡ Some x)
-get-some [] i lt = absurd (omega arith)
-get-some (x ∷ xs) zero lt = (x, refl)
-get-some (x ∷ xs) (suc i) lt = get-some xs i (omega arith)
-
--- what stands at a place that the list has come to
-slot-there : (events : ℕ → ℕ → List Happening) (k l : Kept) (i : ℕ) → IsQuiet events → l ≡ kept_after k (at_each events 1 (take i (kept_ports k))) → i < length k.slots
-    → (o : Option KeptSlot) × (slice_get l.slots i ≡ Some o)
-slot-there events k l i quiet is lt =
-    let same : kept_ports l ≡ kept_ports k = ap kept_ports is ∙ each-quiet events quiet k 1 (take i (kept_ports k)) in
-    get-some l.slots i (omega (arith, lt, ap length same, length-map (option_map slot_port) l.slots, length-map (option_map slot_port) k.slots))
+-- ---- the events of one slot are what is done there
 
 kept-next : (k : Kept) (i : ℕ) (o : Option KeptSlot) → slice_get k.slots i ≡ Some o → kept_at k (i + 1) ≡ o
 kept-next k i o is =
@@ -234,35 +96,174 @@ kept-next k i o is =
     let some : (i + 1 == 0) ≡ false = grind (arith, nat_tests) in
     rw (some, there) refl
 
-noticed-there : (l : Kept) (i : ℕ) (o : Option KeptSlot) → slice_get l.slots i ≡ Some o → (kept_outcome l (Noticing (i + 1))).1 ≡ kept_after l (at_slot_of one_notice (i + 1) (option_map slot_port o))
-noticed-there l i None is = ap (λ (o : Option KeptSlot). (at_place l (i + 1 - 1) o (notice_slot l.volume.number)).1) (kept-next l i None is)
-noticed-there l i (Some s) is = refl
+-- what events of a slot do there, of the slots that stand with the volume of k
+abbrev Does : (ℕ → ℕ → List Happening) → (KeptSlot → KeptSlot) → Kept → Type 0
+Does events f k = (ks : List (Option KeptSlot)) (i : ℕ) (s : KeptSlot) → slice_get ks i ≡ Some (Some s)
+    → kept_after (record k { slots = ks }) (events (i + 1) s.port) ≡ record k { slots = slice_set ks i (Some (f s)) }
 
-put-there : (l : Kept) (i : ℕ) (o : Option KeptSlot) → slice_get l.slots i ≡ Some o → kept_after l (puts (i + 1) (places_at (kept_ports l) (i + 1))) ≡ kept_after l (at_slot_of puts (i + 1) (option_map slot_port o))
-put-there l i o is =
+notice-some : (n : ℕ) (s : KeptSlot) → (notice_slot n s).1 ≡ Some (noticed n s)
+notice-some n s = by (is_live s.held && s.asked)
+  where
+    by : (x : Bool) → (notice_if n s x).1 ≡ Some (if x then record s { held = ended_by s.held HungUp n } else s)
+    by true = refl
+    by false = refl
+
+-- an event that leaves the slot taken
+one-event : (k : Kept) (ks : List (Option KeptSlot)) (i : ℕ) (s t : KeptSlot) (event : KeptSlot → Answer × Option KeptSlot) → slice_get ks i ≡ Some (Some s) → (event s).1 ≡ Some t
+    → (at_kept (record k { slots = ks }) (i + 1) event).1 ≡ record k { slots = slice_set ks i (Some t) }
+one-event k ks i s t event at to =
+    let e : i + 1 - 1 ≡ i = omega arith in
+    ap (λ (o : Option KeptSlot). (at_place (record k { slots = ks }) (i + 1 - 1) o event).1) (kept-next (record k { slots = ks }) i (Some s) at)
+    ∙ (ap (λ j. record k { slots = slice_set ks j (event s).1 }) e
+    ∙ ap (λ o. record k { slots = slice_set ks i o }) to)
+
+notice-does : (k : Kept) → Does one_notice (noticed k.volume.number) k
+notice-does k ks i s at = one-event k ks i s (noticed k.volume.number s) (notice_slot k.volume.number) at (notice-some k.volume.number s)
+
+puts-do : (k : Kept) (i n : ℕ) (ks : List (Option KeptSlot)) (s : KeptSlot) → slice_get ks i ≡ Some (Some s)
+    → kept_after (record k { slots = ks }) (replicate n (Putting (i + 1))) ≡ record k { slots = slice_set ks i (Some (after_puts n s)) }
+puts-do k i zero ks s at = ap (λ js. record k { slots = js }) (sym (set-same ks i (Some s) at))
+puts-do k i (suc n) ks s at =
+    let js = slice_set ks i (Some (after_put s)) in
+    ap (λ j. kept_after j (replicate n (Putting (i + 1)))) (one-event k ks i s (after_put s) put_slot at (put-some s))
+    ∙ (puts-do k i n js (after_put s) (get-set_here ks i (Some s) (Some (after_put s)) at)
+    ∙ ap (λ hs. record k { slots = hs }) (set-twice ks i (Some (after_put s)) (Some (after_puts n (after_put s)))))
+
+fill-does : (k : Kept) → Does puts filled k
+fill-does k ks i s at = puts-do k i s.port ks s at
+
+-- at one slot
+slot-does : (events : ℕ → ℕ → List Happening) (f : KeptSlot → KeptSlot) (k : Kept) (i : ℕ) (o : Option KeptSlot) → Does events f k → slice_get k.slots i ≡ Some o
+    → kept_after k (at_slot_of events (i + 1) (option_map slot_port o)) ≡ record k { slots = slice_set k.slots i (option_map f o) }
+slot-does events f k i None does at = ap (λ ks. record k { slots = ks }) (sym (set-same k.slots i None at))
+slot-does events f k i (Some s) does at = does k.slots i s at
+
+get-some : {A : Type 0} (xs : List A) (i : ℕ) → i < length xs → (x : A) × (slice_get xs i ≡ Some x)
+get-some [] i lt = absurd (omega arith)
+get-some (x ∷ xs) zero lt = (x, refl)
+get-some (x ∷ xs) (suc i) lt = get-some xs i (omega arith)
+
+notice-there : (k : Kept) (i : ℕ) (o : Option KeptSlot) → slice_get k.slots i ≡ Some o → (kept_outcome k (Noticing (i + 1))).1 ≡ kept_after k (at_slot_of one_notice (i + 1) (option_map slot_port o))
+notice-there k i None is = ap (λ (o : Option KeptSlot). (at_place k (i + 1 - 1) o (notice_slot k.volume.number)).1) (kept-next k i None is)
+notice-there k i (Some s) is = refl
+
+places-here : (k : Kept) (i : ℕ) (o : Option KeptSlot) → slice_get k.slots i ≡ Some o → places_at (kept_ports k) (i + 1) ≡ places_in (option_map slot_port o)
+places-here k i o is =
     let e : i + 1 - 1 ≡ i = omega arith in
     let some : (i + 1 == 0) ≡ false = grind (arith, nat_tests) in
-    ap (λ n. kept_after l (puts (i + 1) n)) (places-here l (i + 1) o some (ap (slice_get l.slots) e ∙ is)) ∙ by o
+    let there : slice_get (kept_ports k) (i + 1 - 1) ≡ Some (option_map slot_port o) =
+    slice_get-map (option_map slot_port) k.slots (i + 1 - 1) ∙ ap (option_map (option_map slot_port)) (ap (slice_get k.slots) e ∙ is) in
+    rw (some, there) refl
+
+puts-there : (k : Kept) (i : ℕ) (o : Option KeptSlot) → slice_get k.slots i ≡ Some o → kept_after k (puts (i + 1) (places_at (kept_ports k) (i + 1))) ≡ kept_after k (at_slot_of puts (i + 1) (option_map slot_port o))
+puts-there k i o is = ap (λ n. kept_after k (puts (i + 1) n)) (places-here k i o is) ∙ by o
   where
-    by : (o : Option KeptSlot) → kept_after l (puts (i + 1) (places_in (option_map slot_port o))) ≡ kept_after l (at_slot_of puts (i + 1) (option_map slot_port o))
+    by : (o : Option KeptSlot) → kept_after k (puts (i + 1) (places_in (option_map slot_port o))) ≡ kept_after k (at_slot_of puts (i + 1) (option_map slot_port o))
     by None = refl
     by (Some s) = refl
 
-pub notice-more : (k l m : Kept) (i : ℕ) → l ≡ kept_after k (at_each one_notice 1 (take i (kept_ports k))) → i < length k.slots → m ≡ (kept_outcome l (Noticing (i + 1))).1
-    → m ≡ kept_after k (at_each one_notice 1 (take (i + 1) (kept_ports k)))
-notice-more k l m i is lt does =
-    let t = slot-there one_notice k l i notice-quiet is lt in
-    slot-more one_notice k l m i t.0 notice-quiet is t.1 (does ∙ noticed-there l i t.0 t.1)
+-- what is done at a place, where that is one of the slots
+done-there : (f : KeptSlot → KeptSlot) (k : Kept) (i : ℕ) (o : Option KeptSlot) → slice_get k.slots i ≡ Some o → record k { slots = slice_set k.slots i (option_map f o) } ≡ record k { slots = done_at f k.slots i }
+done-there f k i o at = ap (λ (g : Option (Option KeptSlot)). record k { slots = slice_set k.slots i (option_map f (option_flatten g)) }) (sym at)
 
-pub puts-more : (k l m : Kept) (i : ℕ) → l ≡ kept_after k (at_each puts 1 (take i (kept_ports k))) → i < length k.slots → m ≡ kept_after l (puts (i + 1) (places_at (kept_ports l) (i + 1)))
-    → m ≡ kept_after k (at_each puts 1 (take (i + 1) (kept_ports k)))
-puts-more k l m i is lt does =
-    let t = slot-there puts k l i puts-quiet is lt in
-    slot-more puts k l m i t.0 puts-quiet is t.1 (does ∙ put-there l i t.0 t.1)
+-- the notice of a slot, and the puts of a slot
+pub noticed-one : (k : Kept) (slot : ℕ) → slot ≢ 0 → slot ≤ length k.slots → record k { slots = done_at (noticed k.volume.number) k.slots (slot - 1) } ≡ (kept_outcome k (Noticing slot)).1
+noticed-one k slot some within =
+    let i = slot - 1 in
+    let e : i + 1 ≡ slot = omega (arith, some) in
+    let t = get-some k.slots i (omega (arith, some, within)) in
+    sym (ap (λ n. (kept_outcome k (Noticing n)).1) (sym e)
+    ∙ (notice-there k i t.0 t.1
+    ∙ (slot-does one_notice (noticed k.volume.number) k i t.0 (notice-does k) t.1
+    ∙ done-there (noticed k.volume.number) k i t.0 t.1)))
 
-pub slot-end : (events : ℕ → ℕ → List Happening) (k l : Kept) (i : ℕ) → length k.slots ≤ i → l ≡ kept_after k (at_each events 1 (take i (kept_ports k))) → l ≡ kept_after k (at_each events 1 (kept_ports k))
-slot-end events k l i le is =
-    is ∙ ap (λ ps. kept_after k (at_each events 1 ps)) (take-all i (kept_ports k) (omega (arith, le, length-map (option_map slot_port) k.slots)))
+pub filled-one : (k : Kept) (slot : ℕ) → slot ≢ 0 → slot ≤ length k.slots → record k { slots = done_at filled k.slots (slot - 1) } ≡ kept_after k (puts slot (places_at (kept_ports k) slot))
+filled-one k slot some within =
+    let i = slot - 1 in
+    let e : i + 1 ≡ slot = omega (arith, some) in
+    let t = get-some k.slots i (omega (arith, some, within)) in
+    sym (ap (λ n. kept_after k (puts n (places_at (kept_ports k) n))) (sym e)
+    ∙ (puts-there k i t.0 t.1
+    ∙ (slot-does puts filled k i t.0 (fill-does k) t.1
+    ∙ done-there filled k i t.0 t.1)))
+
+-- where there is no slot, nothing is done
+pub noticed-none : (k : Kept) (slot : ℕ) → kept_at k slot ≡ None → k ≡ (kept_outcome k (Noticing slot)).1
+noticed-none k slot none = sym (ap (λ (o : Option KeptSlot). (at_place k (slot - 1) o (notice_slot k.volume.number)).1) none)
+
+no-places : (x : Bool) (o : Option (Option KeptSlot)) → (if x then None else option_flatten o) ≡ None → (if x then 0 else places_in (option_flatten (option_map (option_map slot_port) o))) ≡ 0
+no-places true o none = refl
+no-places false None none = refl
+no-places false (Some None) none = refl
+no-places false (Some (Some s)) none = absurd (let bad : ⊥ = cc in bad)
+
+pub filled-none : (k : Kept) (slot : ℕ) → kept_at k slot ≡ None → k ≡ kept_after k (puts slot (places_at (kept_ports k) slot))
+filled-none k slot none =
+    let zero_places : places_at (kept_ports k) slot ≡ 0 =
+    ap (λ (o : Option (Option ℕ)). if slot == 0 then 0 else places_in (option_flatten o)) (slice_get-map (option_map slot_port) k.slots (slot - 1))
+    ∙ no-places (slot == 0) (slice_get k.slots (slot - 1)) none in
+    sym (ap (λ n. kept_after k (puts slot n)) zero_places)
+
+-- ---- one slot after another
+
+-- notices keep the ports
+abbrev IsQuiet : (ℕ → ℕ → List Happening) → Type 0
+IsQuiet events = (k : Kept) (slot port : ℕ) → kept_ports (kept_after k (events slot port)) ≡ kept_ports k
+
+notice-quiet : IsQuiet one_notice
+notice-quiet k slot port = ports-noticed k slot
+
+slot-quiet : (events : ℕ → ℕ → List Happening) → IsQuiet events → (k : Kept) (slot : ℕ) (o : Option ℕ) → kept_ports (kept_after k (at_slot_of events slot o)) ≡ kept_ports k
+slot-quiet events quiet k slot None = refl
+slot-quiet events quiet k slot (Some port) = quiet k slot port
+
+each-quiet : (events : ℕ → ℕ → List Happening) → IsQuiet events → (k : Kept) (n : ℕ) (ports : List (Option ℕ)) → kept_ports (kept_after k (at_each events n ports)) ≡ kept_ports k
+each-quiet events quiet k n [] = refl
+each-quiet events quiet k n (o ∷ ports) =
+    ap kept_ports (after-join kept_outcome k (at_slot_of events n o) (at_each events (n + 1) ports))
+    ∙ (each-quiet events quiet (kept_after k (at_slot_of events n o)) (n + 1) ports
+    ∙ slot-quiet events quiet k n o)
+
+length-one : {A : Type 0} (xs : List A) (x : A) → length (xs ++ x ∷ []) ≡ length xs + 1
+length-one [] x = refl
+length-one (y ∷ xs) x = omega (arith, length-one xs x)
+
+get-seam : {A : Type 0} (xs : List A) (y : A) (ys : List A) → slice_get (xs ++ y ∷ ys) (length xs) ≡ Some y
+get-seam [] y ys = refl
+get-seam (x ∷ xs) y ys = get-seam xs y ys
+
+module _ (events : ℕ → ℕ → List Happening) (f : KeptSlot → KeptSlot) (k : Kept) (does : Does events f k) where
+  abbrev at : List (Option KeptSlot) → Kept
+  at ks = record k { slots = ks }
+
+  abbrev rest : ℕ → List (Option KeptSlot) → List Happening
+  rest n post = at_each events n (map (option_map slot_port) post)
+
+  next-slot : (pre post : List (Option KeptSlot)) (x : Option KeptSlot) → kept_after (at ((pre ++ x ∷ []) ++ post)) (rest (length (pre ++ x ∷ []) + 1) post) ≡ at ((pre ++ x ∷ []) ++ map (option_map f) post)
+      → kept_after (at ((pre ++ x ∷ []) ++ post)) (rest (length pre + 1 + 1) post) ≡ at (pre ++ x ∷ map (option_map f) post)
+  next-slot pre post x more =
+      ap (λ n. kept_after (at ((pre ++ x ∷ []) ++ post)) (rest (n + 1) post)) (sym (length-one pre x))
+      ∙ (more ∙ ap at (append-join pre (x ∷ []) (map (option_map f) post)))
+
+  -- the slots before are done, those after are left
+  each-does : (pre post : List (Option KeptSlot)) → kept_after (at (pre ++ post)) (rest (length pre + 1) post) ≡ at (pre ++ map (option_map f) post)
+  each-does pre [] = refl
+  each-does pre (None ∷ post) =
+      ap (λ ks. kept_after (at ks) (rest (length pre + 1 + 1) post)) (sym (append-join pre (None ∷ []) post))
+      ∙ next-slot pre post None (each-does (pre ++ None ∷ []) post)
+  each-does pre (Some s ∷ post) =
+      after-join kept_outcome (at (pre ++ Some s ∷ post)) (events (length pre + 1) s.port) (rest (length pre + 1 + 1) post)
+      ∙ (ap (λ j. kept_after j (rest (length pre + 1 + 1) post)) (does (pre ++ Some s ∷ post) (length pre) s (get-seam pre (Some s) post) ∙ ap at (set-seam pre (Some s) (Some (f s)) post))
+      ∙ next-slot pre post (Some (f s)) (each-does (pre ++ Some (f s) ∷ []) post))
+
+  pub all-does : kept_after k (at_each events 1 (kept_ports k)) ≡ record k { slots = map (option_map f) k.slots }
+  all-does = each-does [] k.slots
+
+pub noticed-all : (k : Kept) → record k { slots = map (option_map (noticed k.volume.number)) k.slots } ≡ kept_after k (notices (kept_ports k))
+noticed-all k = sym (all-does one_notice (noticed k.volume.number) k (notice-does k))
+
+pub filled-all : (k : Kept) → record k { slots = map (option_map filled) k.slots } ≡ kept_after k (all_puts (kept_ports k))
+filled-all k = sym (all-does puts filled k (fill-does k))
 
 -- ---- whole turns
 
@@ -358,7 +359,7 @@ turn-event k (Closing slot) = refl
 turn-event k (Finishing slot) = refl
 
 module _ (alike : KeptShowsWorlds) where
-  after-shows : (k : Kept) (w : World) (es : List Happening) → Shows k w → Shows (kept_after k es) (after_all outcome w es)
+  pub after-shows : (k : Kept) (w : World) (es : List Happening) → Shows k w → Shows (kept_after k es) (after_all outcome w es)
   after-shows k w [] shows = shows
   after-shows k w (e ∷ es) shows = after-shows (kept_outcome k e).1 (next w e) es (alike k w e shows).1
 

@@ -1,5 +1,6 @@
 pub mod Held
 pub mod Slot
+pub mod Words
 pub mod Act
 pub mod Kept
 pub mod Reply

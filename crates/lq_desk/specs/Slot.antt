@@ -1,5 +1,6 @@
 -- What is in a taken slot: a subscription and its port; and what each event does there.
-use Rattle.std.specs.Prelude.{ℕ, ◌-◌, List, [], ◌∷◌, ◌++◌, length, drop, replicate, Bool, true, false, ◌&&◌, ◌==◌, nat_lt, Option, Some, None, slice_get, if◌then◌else◌}
+use Rattle.std.specs.Prelude.{ℕ, zero, suc, ◌-◌, List, [], ◌∷◌, ◌++◌, length, drop, replicate, Bool, true, false, ◌&&◌, ◌==◌, nat_lt, Option, Some, None, is_some, unwrap_or, slice_get, slice_set, if◌then◌else◌}
+use Rattle.std.specs.Option.{option_map, option_flatten}
 use Rattle.lq_value.specs.declared.refusal.Refusal.TheVariants.{NotOpen, StillOpen}
 use Rattle.lq_formula.specs.Query.{Query}
 use Rattle.lq_volume.specs.declared.change.Change.{Change}
@@ -25,10 +26,6 @@ pub record PreparedSlot : Type 0 where
 
 abbrev pub slot_of : PreparedSlot → KeptSlot
 slot_of p = record { held = p.sub.held; port = p.port; queue = p.queue; asked = p.asked }
-
--- how many places its port has
-abbrev pub slot_places : PreparedSlot → ℕ
-slot_places p = p.port
 
 -- slots, and free ones behind them up to 64
 abbrev pub with_free : List (Option PreparedSlot) → List (Option PreparedSlot)
@@ -93,3 +90,41 @@ finish_if k false = (Refused StillOpen, Some k)
 
 abbrev pub finish_slot : KeptSlot → Answer × Option KeptSlot
 finish_slot k = finish_if k (is_read k)
+
+-- ---- which slots have something to do, and what is in them when it is done
+
+-- whether a test holds of what stands in a slot
+abbrev pub passes : {T : Type 0} → (T → Bool) → Option T → Bool
+passes test None = false
+passes test (Some x) = test x
+
+-- a live one whose messages of a change aren't told yet
+abbrev pub has_ready : PreparedSlot → Bool
+has_ready p = is_live p.sub.held && nat_lt 0 (length p.sub.ready)
+
+-- a live one whose end was asked for
+abbrev pub is_ending : KeptSlot → Bool
+is_ending k = is_live k.held && k.asked
+
+abbrev pub noticed : ℕ → KeptSlot → KeptSlot
+noticed number k = if is_ending k then record k { held = ended_by k.held HungUp number } else k
+
+-- whether a put would move a parcel
+abbrev pub can_move : KeptSlot → Bool
+can_move k = nat_lt (length k.queue) k.port && is_some (next_parcel k.held)
+
+-- after a put, and after several
+abbrev pub after_put : KeptSlot → KeptSlot
+after_put k = unwrap_or (put_slot k).1 k
+
+abbrev pub after_puts : ℕ → KeptSlot → KeptSlot
+after_puts zero k = k
+after_puts (suc n) k = after_puts n (after_put k)
+
+-- after as many as its port has places: nothing moves after them
+abbrev pub filled : KeptSlot → KeptSlot
+filled k = after_puts k.port k
+
+-- slots, with that done in the one of a place
+abbrev pub done_at : (KeptSlot → KeptSlot) → List (Option KeptSlot) → ℕ → List (Option KeptSlot)
+done_at f ks place = slice_set ks place (option_map f (option_flatten (slice_get ks place)))

@@ -1,8 +1,8 @@
 -- What a desk does in one turn: an event, and what it does about it of itself.
-use Rattle.std.specs.Prelude.{◌≡◌, ◌++◌, ◌∷◌, ℕ, List, length, map, Bool, false, Option}
+use Rattle.std.specs.Prelude.{◌≡◌, ◌++◌, ◌∷◌, ℕ, List, length, map, Option}
 use Rattle.std.specs.Option.{option_map}
 use Rattle.lq_world.specs.World.{World}
-use Rattle.lq_world.specs.Events.{Happening, Answer, Moved}
+use Rattle.lq_world.specs.Events.{Happening, Answer}
 use Rattle.lq_world.specs.Turns.{Turn, turn_of, events_in, after_all, carried_out}
 use Rattle.lq_desk.specs.Slot.{KeptSlot}
 use Rattle.lq_desk.specs.Kept.{Kept, KeptStep, kept_outcome}
@@ -20,11 +20,6 @@ kept_turn k e = turn_of (kept_ports k) e
 -- what the event is answered, and what is kept after the turn
 abbrev pub turn_outcome : Kept → Happening → Answer × Kept
 turn_outcome k e = carried_out kept_outcome k (kept_turn k e)
-
--- whether a put moved a parcel
-abbrev pub is_moved : Answer → Bool
-is_moved (Moved was) = was
-is_moved a = false
 
 -- what is kept after events that take no memory
 abbrev pub kept_after : Kept → List Happening → Kept

@@ -175,10 +175,10 @@ impl Desk {
         changes_are_counted();
         runs_keep_worlds_fair();
         let _ = self.volume.changes();
-        let _ = self.volume.check(change)?;
-        self.slots.ready(&self.volume, change)?;
-        let applied = self.volume.apply(change)?;
-        self.slots.commit();
+        let planned = self.volume.plan(change)?;
+        let told = self.slots.ready(&planned)?;
+        let applied = self.volume.make(change)?;
+        self.slots.commit(told);
         Ok(applied)
     }
 

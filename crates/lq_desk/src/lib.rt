@@ -12,6 +12,7 @@ mod laws;
 mod slot;
 mod slots;
 mod sub;
+mod word;
 
 pub use desk::Desk;
 pub use event::{Event, Read, Reply};

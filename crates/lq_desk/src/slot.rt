@@ -1,9 +1,8 @@
 //! A taken slot: a subscription beside its port.
 ghost use Rattle.std.specs.Prelude.{◌≡◌, ◌<◌, ◌≤◌, ◌^◌, ◌-◌, true, if◌then◌else◌, None, Some, IfOk, OnOk, OnErr};
 ghost use Rattle.lq_value.specs.Refusal.{IsRefusedBy};
-ghost use Rattle.lq_volume.specs.Change.{IsLawful};
 ghost use Rattle.std.specs.Option.{option_map};
-ghost use Rattle.lq_desk.specs.Slot.{slot_of, prepared_slot, committed_slot};
+ghost use Rattle.lq_desk.specs.Slot.{slot_of, prepared_slot, committed_slot, can_move, filled, has_ready, is_ending, noticed, passes};
 ghost use Rattle.lq_desk.specs.Kept.{IsFew};
 ghost use Rattle.lq_desk.specs.Act.{outcome_at};
 ghost use Rattle.lq_desk.specs.Reply.{answer_of};
@@ -13,7 +12,7 @@ use crate::sub::Sub;
 use lq_predicate::Predicate;
 use lq_update::{Cause, Parcel};
 use lq_value::Refusal;
-use lq_volume::{Change, Volume};
+use lq_volume::Planned;
 use std::alloc::Global;
 use std::collections::VecDeque;
 use std::marker::Model;
@@ -82,15 +81,15 @@ impl Slot {
     }
 
     /// Makes the messages of a change, where it is live.
-    pub fn ready(&mut self, volume: &Volume, change: &Change) -> Result<(), Refusal>
-        requires lawful { IsLawful volume.now change.now }
+    pub fn ready(&mut self, planned: &Planned<'_>) -> Result<(), Refusal>
         requires few { self.old.sub.held.sent < 2 ^ 63 }
         ensures refused { IsRefusedBy result None }
-        ensures ok { OnOk result (self.new ≡ prepared_slot volume.now change.now self.old) }
+        ensures ok { OnOk result
+            (self.new ≡ prepared_slot planned.now.before planned.now.change self.old) }
         ensures err { OnErr result (slot_of self.new ≡ slot_of self.old) }
     {
         if self.sub.is_live() {
-            self.sub.ready(volume, change)?;
+            self.sub.ready(planned)?;
         }
         Ok(())
     }
@@ -103,6 +102,13 @@ impl Slot {
         if self.sub.is_live() {
             self.sub.commit();
         }
+    }
+
+    /// Whether it is live, with messages of a change that aren't told yet.
+    pub fn has_ready(&self) -> bool
+        ensures { result ≡ has_ready self.now }
+    {
+        self.sub.is_live() && self.sub.has_ready()
     }
 
     /// Moves the next parcel into the port, where that has room, and tells whether there was one.
@@ -119,6 +125,24 @@ impl Slot {
                 true
             }
         }
+    }
+
+    /// Moves parcels into the port until nothing moves.
+    pub fn fill(&mut self)
+        ensures { slot_of self.new ≡ filled (slot_of self.old) }
+    {
+        for _ in 0..self.places() {
+            if !self.put() {
+                return;
+            }
+        }
+    }
+
+    /// Whether a parcel could move into the port.
+    pub fn can_move(&self) -> bool
+        ensures { result ≡ can_move (slot_of self.now) }
+    {
+        (self.queue.len() as u64) < self.port && self.sub.has_next()
     }
 
     /// Takes the first parcel in the port.
@@ -145,10 +169,18 @@ impl Slot {
         self.asked = true;
     }
 
+    /// Whether it is live, and its end was asked for.
+    pub fn is_ending(&self) -> bool
+        ensures { result ≡ is_ending (slot_of self.now) }
+    {
+        self.sub.is_live() && self.asked
+    }
+
     /// Ends it where that was asked for, and tells whether it did.
     pub fn notice(&mut self, number: u64) -> bool
         requires { self.old.sub.held.sent < 2 ^ 63 }
-        ensures { (Noticed result, Some (slot_of self.new)) ≡ notice_slot number (slot_of self.old) }
+        ensures does { (Noticed result, Some (slot_of self.new)) ≡ notice_slot number (slot_of self.old) }
+        ensures slot { slot_of self.new ≡ noticed number (slot_of self.old) }
     {
         let ends = self.sub.is_live() && self.asked;
         if ends {
@@ -221,25 +253,79 @@ pub fn act_at(slot: &mut Option<Slot>, act: Act, number: u64) -> Reply
     }
 }
 
-/// Makes the messages of a change for a slot, where a live subscription is there.
-pub fn ready_at(slot: &mut Option<Slot>, volume: &Volume, change: &Change) -> Result<(), Refusal>
-    requires lawful { IsLawful volume.now change.now }
+/// Notices the end of a slot's subscription, where a test says that it may be asked for.
+pub fn notice_at(slot: &mut Option<Slot>, may_end: bool, number: u64)
     requires few { IsFew (2 ^ 63 - 1) (option_map slot_of slot.old) }
-    ensures refused { IsRefusedBy result None }
-    ensures ok { OnOk result (slot.new ≡ option_map (prepared_slot volume.now change.now) slot.old) }
-    ensures err { OnErr result (option_map slot_of slot.new ≡ option_map slot_of slot.old) }
+    requires ends { passes is_ending (option_map slot_of slot.old) ≡ true → may_end ≡ true }
+    ensures { option_map slot_of slot.new ≡ option_map (noticed number) (option_map slot_of slot.old) }
 {
-    if let Some(there) = slot {
-        there.ready(volume, change)?;
+    if !may_end {
+        return;
     }
-    Ok(())
+    if let Some(there) = slot {
+        let _ = there.notice(number);
+    }
 }
 
-/// Tells a slot's messages.
-pub fn commit_at(slot: &mut Option<Slot>)
-    requires { IsFew (2 ^ 63 - 1) (option_map slot_of slot.old) }
+/// Fills a slot's port, where a test says that something may move.
+pub fn fill_at(slot: &mut Option<Slot>, may_move: bool)
+    requires { passes can_move (option_map slot_of slot.old) ≡ true → may_move ≡ true }
+    ensures { option_map slot_of slot.new ≡ option_map filled (option_map slot_of slot.old) }
+{
+    if !may_move {
+        return;
+    }
+    if let Some(there) = slot {
+        there.fill();
+    }
+}
+
+/// Whether a slot has a live subscription whose end was asked for.
+pub fn is_ending_at(slot: &Option<Slot>) -> bool
+    ensures { result ≡ passes is_ending (option_map slot_of slot.now) }
+{
+    match slot {
+        None => false,
+        Some(there) => there.is_ending(),
+    }
+}
+
+/// Whether a parcel could move into a slot's port.
+pub fn can_move_at(slot: &Option<Slot>) -> bool
+    ensures { result ≡ passes can_move (option_map slot_of slot.now) }
+{
+    match slot {
+        None => false,
+        Some(there) => there.can_move(),
+    }
+}
+
+/// Makes the messages of a change for a slot, where a live subscription is there, and tells whether
+/// there are any.
+pub fn ready_at(slot: &mut Option<Slot>, planned: &Planned<'_>) -> Result<bool, Refusal>
+    requires few { IsFew (2 ^ 63 - 1) (option_map slot_of slot.old) }
+    ensures refused { IsRefusedBy result None }
+    ensures any { IfOk result (λ any. any ≡ passes has_ready slot.new) }
+    ensures ok { OnOk result
+        (slot.new ≡ option_map (prepared_slot planned.now.before planned.now.change) slot.old) }
+    ensures err { OnErr result (option_map slot_of slot.new ≡ option_map slot_of slot.old) }
+{
+    let Some(there) = slot else {
+        return Ok(false);
+    };
+    there.ready(planned)?;
+    Ok(there.has_ready())
+}
+
+/// Tells a slot's messages, where a test says that there may be some.
+pub fn commit_at(slot: &mut Option<Slot>, may_tell: bool)
+    requires few { IsFew (2 ^ 63 - 1) (option_map slot_of slot.old) }
+    requires tells { passes has_ready slot.old ≡ true → may_tell ≡ true }
     ensures { slot.new ≡ option_map committed_slot slot.old }
 {
+    if !may_tell {
+        return;
+    }
     if let Some(there) = slot {
         there.commit();
     }

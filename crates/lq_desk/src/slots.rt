@@ -1,20 +1,22 @@
 //! The slots of a desk, all or one.
-ghost use Rattle.std.specs.Prelude.{◌≡◌, ◌<◌, ◌≤◌, ◌^◌, ◌-◌, None, Some, IfOk, OnOk, OnErr, drop, map, length, replicate, slice_set, vec_len};
+ghost use Rattle.std.specs.Prelude.{◌≡◌, ◌<◌, ◌≤◌, ◌^◌, ◌-◌, None, Some, true, IfOk, OnOk, OnErr, map, length, replicate, slice_get, slice_set, vec_len};
 ghost use Rattle.std.specs.Vec.{vec_capacity};
 ghost use Rattle.std.specs.List.{AllByRecursion};
-ghost use Rattle.std.specs.Option.{option_map};
+ghost use Rattle.std.specs.Option.{option_map, option_flatten};
 ghost use Rattle.lq_value.specs.Refusal.{IsRefusedBy};
-ghost use Rattle.lq_volume.specs.Change.{IsLawful};
-ghost use Rattle.lq_world.specs.Turns.{places_at};
-ghost use Rattle.lq_desk.specs.Slot.{slot_of, slot_places, prepared_slot, committed_slot};
+ghost use Rattle.lq_desk.specs.Slot.{slot_of, prepared_slot, committed_slot, can_move, done_at, filled, has_ready, is_ending, noticed, passes};
+ghost use Rattle.lq_desk.specs.Words.{IsMarked};
 ghost use Rattle.lq_desk.specs.Kept.{IsFew, first_free};
 ghost use Rattle.lq_desk.specs.Act.{outcome_in};
 ghost use Rattle.lq_desk.specs.Reply.{answer_of};
 
 use crate::event::Reply;
-use crate::slot::{Act, Slot, act_at, commit_at, ready_at};
+use crate::slot::{
+    Act, Slot, act_at, can_move_at, commit_at, fill_at, is_ending_at, notice_at, ready_at,
+};
+use crate::word::{has_bit, with_bit};
 use lq_value::Refusal;
-use lq_volume::{Change, Volume};
+use lq_volume::Planned;
 use std::alloc::Global;
 use std::marker::Model;
 
@@ -22,15 +24,22 @@ use std::marker::Model;
 pub const SLOTS: usize = 64;
 
 /// The slots of a desk. Those behind the last one that was ever taken are free, and not stored.
+///
+/// A word has a bit for each slot that may be ending, and one for each whose port may take a
+/// parcel: a slot whose bit is clear isn't looked at.
 #[derive(Debug, Drop)]
 pub struct Slots {
     stored: Vec<Option<Slot>>,
+    ending: u64,
+    movable: u64,
 }
 
 impl Model for Slots {
-    ghost use Rattle.std.specs.Prelude.{◌≤◌, List, Option, vec_len};
+    ghost use Rattle.std.specs.Prelude.{◌≤◌, List, Option, map, vec_len};
+    ghost use Rattle.std.specs.Option.{option_map};
     ghost use Rattle.std.specs.Vec.{vec_capacity};
-    ghost use Rattle.lq_desk.specs.Slot.{PreparedSlot, with_free};
+    ghost use Rattle.lq_desk.specs.Slot.{PreparedSlot, slot_of, with_free};
+    ghost use Rattle.lq_desk.specs.Words.{AreMarked};
     ghost use Rattle.std.specs.Coded.{codes};
     ghost use Rattle.lq_predicate.specs.QueryCode.{coded_query};
 
@@ -40,7 +49,8 @@ impl Model for Slots {
 
     ghost view = { λ s. with_free s.stored.items };
 
-    ghost invariant = { λ s. (vec_len s.stored ≤ 64) × (64 ≤ vec_capacity s.stored) };
+    ghost invariant = { λ s. (vec_len s.stored ≤ 64) × (64 ≤ vec_capacity s.stored)
+        × AreMarked s.ending s.movable (map (option_map slot_of) s.stored.items) };
 }
 
 impl Slots {
@@ -51,16 +61,9 @@ impl Slots {
     {
         Ok(Slots {
             stored: Vec::with_capacity(alloc, SLOTS)?,
+            ending: 0,
+            movable: 0,
         })
-    }
-
-    /// How many slots are stored: no slot behind them is taken.
-    pub fn len(&self) -> usize
-        ensures within { result ≤ 64 }
-        ensures slots { length self.now ≡ 64 }
-        ensures free { drop result self.now ≡ replicate (64 - result) None }
-    {
-        self.stored.len()
     }
 
     /// The place of the first free slot, or 64.
@@ -77,6 +80,8 @@ impl Slots {
             slice_set self.old (first_free (map (option_map slot_of) self.old)) (Some slot) }
     {
         let place = first_free(&self.stored);
+        self.ending = with_bit(self.ending, place, slot.is_ending());
+        self.movable = with_bit(self.movable, place, slot.can_move());
         if place < self.stored.len() {
             fill(&mut self.stored, place, slot);
         } else {
@@ -84,39 +89,83 @@ impl Slots {
         }
     }
 
-    /// How many places the port of a slot has; none where the slot is free.
-    pub fn places(&self, slot: u64) -> u64
-        ensures { result ≡ places_at (map (option_map slot_places) self.now) slot }
-    {
-        if slot == 0 || slot > self.stored.len() as u64 {
-            return 0;
-        }
-        match &self.stored[(slot - 1) as usize] {
-            None => 0,
-            Some(there) => there.places(),
-        }
-    }
-
-    /// Makes the messages of a change for each subscription.
-    pub fn ready(&mut self, volume: &Volume, change: &Change) -> Result<(), Refusal>
-        requires lawful { IsLawful volume.now change.now }
+    /// Makes the messages of a change for each subscription. The word has a bit for each slot with
+    /// messages.
+    pub fn ready(&mut self, planned: &Planned<'_>) -> Result<u64, Refusal>
         requires few { AllByRecursion (IsFew (2 ^ 63 - 1)) (map (option_map slot_of) self.old) }
         ensures refused { IsRefusedBy result None }
+        ensures told { IfOk result (λ told. IsMarked has_ready told self.new) }
         ensures ok { OnOk result (self.new ≡
-            map (option_map (prepared_slot volume.now change.now)) self.old) }
+            map (option_map (prepared_slot planned.now.before planned.now.change)) self.old) }
         ensures err { OnErr result (map (option_map slot_of) self.new ≡
             map (option_map slot_of) self.old) }
     {
-        ready_all(&mut self.stored, volume, change)?;
-        Ok(())
+        Ok(ready_all(&mut self.stored, planned)?)
     }
 
-    /// Tells each subscription's messages.
-    pub fn commit(&mut self)
-        requires { AllByRecursion (IsFew (2 ^ 63 - 1)) (map (option_map slot_of) self.old) }
+    /// Tells each subscription's messages, by a word with a bit for each slot that has some.
+    pub fn commit(&mut self, told: u64)
+        requires few { AllByRecursion (IsFew (2 ^ 63 - 1)) (map (option_map slot_of) self.old) }
+        requires told { IsMarked has_ready told self.old }
         ensures { self.new ≡ map (option_map committed_slot) self.old }
     {
-        commit_all(&mut self.stored);
+        if told == 0 {
+            return;
+        }
+        commit_all(&mut self.stored, told);
+        self.movable |= told;
+    }
+
+    /// Notices the end of each subscription that asks for it.
+    pub fn notice_all(&mut self, number: u64)
+        requires { AllByRecursion (IsFew (2 ^ 63 - 1)) (map (option_map slot_of) self.old) }
+        ensures { map (option_map slot_of) self.new ≡
+            map (option_map (noticed number)) (map (option_map slot_of) self.old) }
+    {
+        if self.ending == 0 {
+            return;
+        }
+        notice_all(&mut self.stored, self.ending, number);
+        self.movable |= self.ending;
+        self.ending = 0;
+    }
+
+    /// Fills each port.
+    pub fn fill_all(&mut self)
+        ensures { map (option_map slot_of) self.new ≡
+            map (option_map filled) (map (option_map slot_of) self.old) }
+    {
+        if self.movable == 0 {
+            return;
+        }
+        fill_all(&mut self.stored, self.movable);
+        self.movable = 0;
+    }
+
+    /// Notices the end of the subscription at a place, where it asks for it.
+    pub fn notice(&mut self, place: usize, number: u64)
+        requires place { place < 64 }
+        requires few { AllByRecursion (IsFew (2 ^ 63 - 1)) (map (option_map slot_of) self.old) }
+        ensures { map (option_map slot_of) self.new ≡
+            done_at (noticed number) (map (option_map slot_of) self.old) place }
+    {
+        if place >= self.stored.len() {
+            return;
+        }
+        notice_in(&mut self.stored, place, has_bit(self.ending, place), number);
+        self.movable |= self.ending;
+    }
+
+    /// Fills the port of the slot at a place.
+    pub fn fill(&mut self, place: usize)
+        requires { place < 64 }
+        ensures { map (option_map slot_of) self.new ≡
+            done_at filled (map (option_map slot_of) self.old) place }
+    {
+        if place >= self.stored.len() {
+            return;
+        }
+        fill_in(&mut self.stored, place, has_bit(self.movable, place));
     }
 
     /// Does an act at the slot of a place.
@@ -129,7 +178,10 @@ impl Slots {
         if place >= self.stored.len() {
             return Reply::Refused(Refusal::NotOpen);
         }
-        act_in(&mut self.stored, place, act, number)
+        let reply = act_in(&mut self.stored, place, act, number);
+        self.ending = with_bit(self.ending, place, is_ending_in(&self.stored, place));
+        self.movable = with_bit(self.movable, place, can_move_in(&self.stored, place));
+        reply
     }
 }
 
@@ -157,34 +209,122 @@ fn fill(slots: &mut Vec<Option<Slot>>, place: usize, slot: Slot)
     slots[place] = Some(slot);
 }
 
-// Makes the messages of a change for each subscription.
-fn ready_all(slots: &mut Vec<Option<Slot>>, volume: &Volume, change: &Change) -> Result<(), Refusal>
-    requires lawful { IsLawful volume.now change.now }
+// Makes the messages of a change for each subscription. The word has a bit for each slot with
+// messages.
+fn ready_all(slots: &mut Vec<Option<Slot>>, planned: &Planned<'_>) -> Result<u64, Refusal>
+    requires within { length slots.old.items ≤ 64 }
     requires few { AllByRecursion (IsFew (2 ^ 63 - 1)) (map (option_map slot_of) slots.old.items) }
     ensures refused { IsRefusedBy result None }
+    ensures told { IfOk result (λ told. IsMarked has_ready told slots.new.items) }
     ensures ok { OnOk result (slots.new.items ≡
-        map (option_map (prepared_slot volume.now change.now)) slots.old.items) }
+        map (option_map (prepared_slot planned.now.before planned.now.change)) slots.old.items) }
     ensures err { OnErr result (map (option_map slot_of) slots.new.items ≡
         map (option_map slot_of) slots.old.items) }
     ensures len { vec_len slots.new ≡ vec_len slots.old }
     ensures room { vec_capacity slots.new ≡ vec_capacity slots.old }
 {
+    let mut told = 0;
+    let mut index = 0;
     for slot in slots.iter_mut() {
-        ready_at(slot, volume, change)?;
+        let any = ready_at(slot, planned)?;
+        told = with_bit(told, index, any);
+        index += 1;
     }
-    Ok(())
+    Ok(told)
 }
 
-// Tells each subscription's messages.
-fn commit_all(slots: &mut Vec<Option<Slot>>)
-    requires { AllByRecursion (IsFew (2 ^ 63 - 1)) (map (option_map slot_of) slots.old.items) }
+// Tells each subscription's messages, by a word with a bit for each slot that has some.
+fn commit_all(slots: &mut Vec<Option<Slot>>, told: u64)
+    requires within { length slots.old.items ≤ 64 }
+    requires few { AllByRecursion (IsFew (2 ^ 63 - 1)) (map (option_map slot_of) slots.old.items) }
+    requires told { IsMarked has_ready told slots.old.items }
     ensures items { slots.new.items ≡ map (option_map committed_slot) slots.old.items }
     ensures len { vec_len slots.new ≡ vec_len slots.old }
     ensures room { vec_capacity slots.new ≡ vec_capacity slots.old }
 {
+    let mut index = 0;
     for slot in slots.iter_mut() {
-        commit_at(slot);
+        commit_at(slot, has_bit(told, index));
+        index += 1;
     }
+}
+
+// Notices the end of each subscription that asks for it, by a word with a bit for each of them.
+fn notice_all(slots: &mut Vec<Option<Slot>>, ending: u64, number: u64)
+    requires within { length slots.old.items ≤ 64 }
+    requires few { AllByRecursion (IsFew (2 ^ 63 - 1)) (map (option_map slot_of) slots.old.items) }
+    requires ends { IsMarked is_ending ending (map (option_map slot_of) slots.old.items) }
+    ensures items { map (option_map slot_of) slots.new.items ≡
+        map (option_map (noticed number)) (map (option_map slot_of) slots.old.items) }
+    ensures len { vec_len slots.new ≡ vec_len slots.old }
+    ensures room { vec_capacity slots.new ≡ vec_capacity slots.old }
+{
+    let mut index = 0;
+    for slot in slots.iter_mut() {
+        notice_at(slot, has_bit(ending, index), number);
+        index += 1;
+    }
+}
+
+// Fills each port, by a word with a bit for each that may take a parcel.
+fn fill_all(slots: &mut Vec<Option<Slot>>, movable: u64)
+    requires within { length slots.old.items ≤ 64 }
+    requires moves { IsMarked can_move movable (map (option_map slot_of) slots.old.items) }
+    ensures items { map (option_map slot_of) slots.new.items ≡
+        map (option_map filled) (map (option_map slot_of) slots.old.items) }
+    ensures len { vec_len slots.new ≡ vec_len slots.old }
+    ensures room { vec_capacity slots.new ≡ vec_capacity slots.old }
+{
+    let mut index = 0;
+    for slot in slots.iter_mut() {
+        fill_at(slot, has_bit(movable, index));
+        index += 1;
+    }
+}
+
+// Notices the end of the subscription at a place, where a test says that it may be asked for.
+fn notice_in(slots: &mut Vec<Option<Slot>>, place: usize, may_end: bool, number: u64)
+    requires place { place < length slots.old.items }
+    requires few { AllByRecursion (IsFew (2 ^ 63 - 1)) (map (option_map slot_of) slots.old.items) }
+    requires ends { passes is_ending (option_flatten (slice_get (map (option_map slot_of)
+        slots.old.items) place)) ≡ true → may_end ≡ true }
+    ensures items { map (option_map slot_of) slots.new.items ≡
+        done_at (noticed number) (map (option_map slot_of) slots.old.items) place }
+    ensures len { vec_len slots.new ≡ vec_len slots.old }
+    ensures room { vec_capacity slots.new ≡ vec_capacity slots.old }
+{
+    notice_at(&mut slots[place], may_end, number);
+}
+
+// Fills the port of the slot at a place, where a test says that something may move.
+fn fill_in(slots: &mut Vec<Option<Slot>>, place: usize, may_move: bool)
+    requires place { place < length slots.old.items }
+    requires moves { passes can_move (option_flatten (slice_get (map (option_map slot_of)
+        slots.old.items) place)) ≡ true → may_move ≡ true }
+    ensures items { map (option_map slot_of) slots.new.items ≡
+        done_at filled (map (option_map slot_of) slots.old.items) place }
+    ensures len { vec_len slots.new ≡ vec_len slots.old }
+    ensures room { vec_capacity slots.new ≡ vec_capacity slots.old }
+{
+    fill_at(&mut slots[place], may_move);
+}
+
+// Whether the subscription at a place is live, and its end was asked for.
+fn is_ending_in(slots: &Vec<Option<Slot>>, place: usize) -> bool
+    requires { place < length slots.now.items }
+    ensures { result ≡
+        passes is_ending (option_flatten (slice_get (map (option_map slot_of) slots.now.items) place)) }
+{
+    is_ending_at(&slots[place])
+}
+
+// Whether a parcel could move into the port of the slot at a place.
+fn can_move_in(slots: &Vec<Option<Slot>>, place: usize) -> bool
+    requires { place < length slots.now.items }
+    ensures { result ≡
+        passes can_move (option_flatten (slice_get (map (option_map slot_of) slots.now.items) place)) }
+{
+    can_move_at(&slots[place])
 }
 
 // Does an act at the slot of a place.

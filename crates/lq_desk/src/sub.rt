@@ -1,15 +1,14 @@
 //! One subscription.
-ghost use Rattle.std.specs.Prelude.{◌≡◌, ◌+◌, ◌<◌, ◌≤◌, ◌^◌, [], ◌++◌, length, vec_len, true, false, None, Some, IfOk, OnOk, OnErr, IsTrue, IfSome};
+ghost use Rattle.std.specs.Prelude.{◌≡◌, ◌+◌, ◌<◌, ◌≤◌, ◌^◌, [], ◌++◌, length, vec_len, nat_lt, is_some, true, false, None, Some, IfOk, OnOk, OnErr, IsTrue, IfSome};
 ghost use Rattle.std.specs.VecDeque.{deque_len, deque_capacity};
 ghost use Rattle.lq_value.specs.Refusal.{IsRefusedBy};
-ghost use Rattle.lq_volume.specs.Change.{IsLawful};
 ghost use Rattle.lq_predicate.specs.Names.{names_of};
 ghost use Rattle.lq_desk.specs.Passing.{is_among, passes_over};
 
 use lq_predicate::{Predicate, names, truth_goes_by_names};
 use lq_update::{Cause, Mark, Message, Parcel, changes_pass_over, step};
 use lq_value::{AttrName, Refusal};
-use lq_volume::{Change, Volume};
+use lq_volume::{Change, Planned};
 use std::alloc::Global;
 use std::collections::VecDeque;
 use std::marker::Model;
@@ -119,33 +118,32 @@ impl Sub {
     ///
     /// It passes over a change of values alone that the predicate doesn't look at. Refused:
     /// `NoMemory`, and then nothing has changed, nor has what was made ready before.
-    pub fn ready(&mut self, volume: &Volume, change: &Change) -> Result<(), Refusal>
-        requires lawful { IsLawful volume.now change.now }
+    pub fn ready(&mut self, planned: &Planned<'_>) -> Result<(), Refusal>
         requires few { self.old.held.sent < 2 ^ 63 }
         requires live { IsTrue (is_live self.old.held) }
         ensures refused { IsRefusedBy result None }
-        ensures ok { OnOk result (self.new ≡ prepared volume.now change.now self.old) }
+        ensures ok { OnOk result
+            (self.new ≡ prepared planned.now.before planned.now.change self.old) }
         ensures err { OnErr result (self.new ≡ self.old) }
     {
         changes_pass_over();
         truth_goes_by_names();
-        if self.passes_over(change) {
+        let before = planned.applied().change - 1;
+        if self.passes_over(planned.change()) {
             self.ready = Vec::new(self.alloc);
-            self.before = volume.changes();
+            self.before = before;
             return Ok(());
         }
         let first = self.sent + 1;
-        let step = step(
-            self.alloc,
-            &self.predicate,
-            volume,
-            change,
-            first,
-            self.moved,
-        )?;
+        let step = step(self.alloc, &self.predicate, planned, first, self.moved)?;
+        if step.is_empty() {
+            self.ready = step;
+            self.before = before;
+            return Ok(());
+        }
         self.messages.reserve(step.len() + 1)?;
         self.ready = step;
-        self.before = volume.changes();
+        self.before = before;
         Ok(())
     }
 
@@ -183,6 +181,26 @@ impl Sub {
         }
         self.sent += ready.len() as u64;
         append(&mut self.messages, ready);
+    }
+
+    /// Whether messages of a change are made and not told yet. It takes no memory.
+    pub fn has_ready(&self) -> bool
+        ensures { result ≡ nat_lt 0 (length self.now.ready) }
+    {
+        !self.ready.is_empty()
+    }
+
+    /// Whether `next` has something to give. It takes no memory.
+    pub fn has_next(&self) -> bool
+        ensures { result ≡ is_some (next_parcel self.now.held) }
+    {
+        if !self.messages.is_empty() {
+            return true;
+        }
+        if self.mark_out {
+            return false;
+        }
+        self.mark.is_some()
     }
 
     /// Ends it; the mark covers the changes up to a number. It takes no memory.

@@ -6,7 +6,7 @@ ghost use Rattle.lq_volume.specs.Change.{refused, node_of};
 ghost use Rattle.lq_board.specs.Book.{IsFullBook};
 ghost use Rattle.lq_slots.specs.Slots.{SlotsStand, AllReady};
 
-use crate::slots::{Planned, Slots, fill_all, ready_all, tell_all};
+use crate::slots::{Slots, fill_all, ready_all, tell_all};
 use lq_board::Board;
 use lq_subscription::Identity;
 use lq_value::Refusal;
@@ -82,9 +82,9 @@ fn add(
     ensures full { IsFullBook slots.new.keeper.book }
     ensures holding { SlotsStand slots.new slots.old.keeper.book }
 {
-    volume.check(change)?;
-    ready_all(board, slots, &Planned { volume, change })?;
-    let applied = volume.apply(change)?;
+    let planned = volume.plan(change)?;
+    ready_all(board, slots, &planned)?;
+    let applied = volume.make(change)?;
     board.add(&mut slots.keeper, change);
     Ok(applied)
 }

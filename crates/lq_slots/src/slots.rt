@@ -1,7 +1,6 @@
 //! The slots under the lock, one or all.
 ghost use Rattle.std.specs.Prelude.{◌≡◌, ◌+◌, ◌<◌, ◌≤◌, ◌^◌, ℕ, length, None, Some, IsSome, is_some, IfOk, OnOk, OnErr, true, false};
 ghost use Rattle.lq_value.specs.Refusal.{IsRefusedBy};
-ghost use Rattle.lq_volume.specs.Change.{IsLawful};
 ghost use Rattle.lq_volume.specs.Book.{state_of};
 ghost use Rattle.lq_board.specs.Slot.{slot_at, counted};
 ghost use Rattle.lq_subscription.specs.Standing.{SameButHeld, SameButPuts};
@@ -10,7 +9,7 @@ ghost use Rattle.lq_slots.specs.Slots.{IsTaken, SlotStands, asks_of, SlotsStand,
 use lq_board::{Board, Keeper};
 use lq_subscription::{Identity, Subscription, commit, notice, pump, ready};
 use lq_value::Refusal;
-use lq_volume::{Change, Volume};
+use lq_volume::{Change, Planned};
 use std::alloc::Global;
 use std::sync::Wait;
 
@@ -25,13 +24,6 @@ pub struct Slots {
     pub subscriptions: Vec<Option<Subscription>>,
     pub taken: Vec<usize>,
     pub openings: u64,
-}
-
-/// A change that the volume takes, before it is made.
-#[derive(Clone, Copy)]
-pub(crate) struct Planned<'a> {
-    pub(crate) volume: &'a Volume,
-    pub(crate) change: &'a Change,
 }
 
 /// All slots free.
@@ -144,12 +136,11 @@ fn ready_slot(
     keeper: &mut Keeper<Identity>,
     slot: &mut Subscription,
     place: usize,
-    planned: &Planned,
+    planned: &Planned<'_>,
 ) -> Result<(), Refusal>
     requires board { keeper.old.board ≡ board.now }
     requires place { (0 < place) × (place < 65) × (length keeper.old.slots ≡ 65) }
-    requires state { planned.now.volume.now ≡ state_of keeper.old.book }
-    requires lawful { IsLawful planned.now.volume.now planned.now.change.now }
+    requires state { planned.now.before ≡ state_of keeper.old.book }
     requires taken { IsTaken slot.old (slot_at keeper.old.slots place) keeper.old.book }
     ensures refused { IsRefusedBy result None }
     ensures board { keeper.new.board ≡ keeper.old.board }
@@ -158,11 +149,11 @@ fn ready_slot(
     ensures taken { IsTaken slot.new (slot_at keeper.new.slots place) keeper.new.book }
     ensures asks { slot.new.asks ≡ slot.old.asks }
     ensures ready { OnOk result
-        (IsReadyAt (Some slot.new) planned.now.volume.now planned.now.change.now) }
+        (IsReadyAt (Some slot.new) planned.now.before planned.now.change) }
 {
-    let number = planned.volume.changes();
+    let number = planned.applied().change - 1;
     notice_slot(board, keeper, slot, place, number);
-    ready(slot, planned.volume, planned.change)
+    ready(slot, planned)
 }
 
 // The same for a slot that may be free.
@@ -171,12 +162,11 @@ fn ready_at(
     keeper: &mut Keeper<Identity>,
     slot: &mut Option<Subscription>,
     place: usize,
-    planned: &Planned,
+    planned: &Planned<'_>,
 ) -> Result<(), Refusal>
     requires board { keeper.old.board ≡ board.now }
     requires place { (0 < place) × (place < 65) × (length keeper.old.slots ≡ 65) }
-    requires state { planned.now.volume.now ≡ state_of keeper.old.book }
-    requires lawful { IsLawful planned.now.volume.now planned.now.change.now }
+    requires state { planned.now.before ≡ state_of keeper.old.book }
     requires fits { SlotStands slot.old (slot_at keeper.old.slots place) keeper.old.book }
     ensures refused { IsRefusedBy result None }
     ensures board { keeper.new.board ≡ keeper.old.board }
@@ -187,7 +177,7 @@ fn ready_at(
         ≤ asks_of slot.old (slot_at keeper.old.slots place) }
     ensures kept { is_some slot.new ≡ is_some slot.old }
     ensures ready { OnOk result
-        (IsReadyAt slot.new planned.now.volume.now planned.now.change.now) }
+        (IsReadyAt slot.new planned.now.before planned.now.change) }
 {
     match slot {
         Some(taken) => ready_slot(board, keeper, taken, place, planned),
@@ -199,11 +189,10 @@ fn ready_at(
 pub(crate) fn ready_all(
     board: &Board<Identity>,
     slots: &mut Slots,
-    planned: &Planned,
+    planned: &Planned<'_>,
 ) -> Result<(), Refusal>
     requires board { slots.old.keeper.board ≡ board.now }
-    requires state { planned.now.volume.now ≡ state_of slots.old.keeper.book }
-    requires lawful { IsLawful planned.now.volume.now planned.now.change.now }
+    requires state { planned.now.before ≡ state_of slots.old.keeper.book }
     requires holding { SlotsStand slots.old slots.old.keeper.book }
     ensures refused { IsRefusedBy result None }
     ensures board { slots.new.keeper.board ≡ slots.old.keeper.board }
@@ -211,7 +200,7 @@ pub(crate) fn ready_all(
     ensures openings { slots.new.openings ≡ slots.old.openings }
     ensures holding { SlotsStand slots.new slots.new.keeper.book }
     ensures ready { OnOk result (AllReady slots.new.subscriptions.items
-        planned.now.volume.now planned.now.change.now) }
+        planned.now.before planned.now.change) }
 {
     for index in 0..slots.taken.len() {
         let place = place_of(slots, index);

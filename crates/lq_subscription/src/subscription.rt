@@ -13,7 +13,7 @@ use lq_desk::Sub;
 use lq_port::PortIn;
 use lq_update::{Cause, steps_are_few};
 use lq_value::Refusal;
-use lq_volume::{Change, Volume};
+use lq_volume::{Change, Planned};
 
 /// A subscription with the end of its port for puts, as a lock has it.
 #[derive(Drop)]
@@ -33,19 +33,18 @@ pub struct Subscription {
 /// Makes the messages of a lawful change that isn't made yet, where the subscription is live.
 ///
 /// What it holds stays, and so does its mark. Refused: `NoMemory`.
-pub fn ready(slot: &mut Subscription, volume: &Volume, change: &Change) -> Result<(), Refusal>
-    requires lawful { IsLawful volume.now change.now }
+pub fn ready(slot: &mut Subscription, planned: &Planned<'_>) -> Result<(), Refusal>
     requires few { slot.old.sub.held.sent < 2 ^ 63 }
     ensures refused { IsRefusedBy result None }
     ensures held { slot.new.sub.held ≡ slot.old.sub.held }
     ensures others { SameButHeld slot.old slot.new }
     ensures shut { slot.new.shut ≡ slot.old.shut }
-    ensures ready { OnOk result (IsReady slot.new.sub volume.now change.now) }
+    ensures ready { OnOk result (IsReady slot.new.sub planned.now.before planned.now.change) }
 {
     if !slot.sub.is_live() {
         return Ok(());
     }
-    slot.sub.ready(volume, change)
+    slot.sub.ready(planned)
 }
 
 /// Holds the messages that `ready` made for this change, or ends with an overrun where they are

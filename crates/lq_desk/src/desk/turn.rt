@@ -2,15 +2,16 @@
 ghost use Rattle.std.specs.Prelude.{◌≡◌, ◌⊎◌};
 ghost use Rattle.lq_value.specs.declared.refusal.Refusal.TheVariants.{NoMemory};
 ghost use Rattle.lq_world.specs.World.{World};
-ghost use Rattle.lq_world.specs.Events.{Noticing, Putting, Refused};
+ghost use Rattle.lq_world.specs.Events.{Noticing, Refused};
 ghost use Rattle.lq_world.specs.Turns.{all_puts, notices, places_at, puts};
 ghost use Rattle.lq_desk.specs.Kept.{Shows, kept_outcome};
 ghost use Rattle.lq_desk.specs.Reply.{answer_of, happening_of};
-ghost use Rattle.lq_desk.specs.Turn.{TurnRuns, TurnStep, is_moved, kept_after, kept_ports, turn_outcome};
+ghost use Rattle.lq_desk.specs.Turn.{TurnRuns, TurnStep, kept_after, kept_ports, turn_outcome};
 
 use crate::desk::Desk;
 use crate::event::{Event, Reply};
 use crate::slot::Act;
+use crate::slots::SLOTS;
 use lq_update::updates_join;
 use lq_volume::changes_are_counted;
 use lq_world::runs_keep_worlds_fair;
@@ -69,61 +70,49 @@ impl Desk {
     fn notice_all(&mut self)
         ensures { self.new ≡ kept_after self.old (notices (kept_ports self.old)) }
     {
-        for place in 0..self.slots.len() {
-            self.notice(place as u64 + 1);
-        }
+        updates_join();
+        changes_are_counted();
+        runs_keep_worlds_fair();
+        let number = self.volume.changes();
+        self.slots.notice_all(number);
     }
 
     // Notices the end of a slot, where that asks for it.
     fn notice(&mut self, slot: u64)
         ensures { self.new ≡ (kept_outcome self.old (Noticing slot)).1 }
     {
-        let _ = self.act(slot, Act::Notice);
+        updates_join();
+        changes_are_counted();
+        runs_keep_worlds_fair();
+        let number = self.volume.changes();
+        if slot == 0 || slot > SLOTS as u64 {
+            return;
+        }
+        self.slots.notice((slot - 1) as usize, number);
     }
 
     // Fills each port.
     fn fill_all(&mut self)
         ensures { self.new ≡ kept_after self.old (all_puts (kept_ports self.old)) }
     {
-        for place in 0..self.slots.len() {
-            self.fill(place as u64 + 1);
-        }
+        updates_join();
+        changes_are_counted();
+        runs_keep_worlds_fair();
+        self.slots.fill_all();
     }
 
     // Moves parcels into a slot's port until nothing moves.
     fn fill(&mut self, slot: u64)
         ensures { self.new ≡ kept_after self.old (puts slot (places_at (kept_ports self.old) slot)) }
     {
-        for _ in 0..self.places(slot) {
-            if !self.put(slot) {
-                return;
-            }
+        updates_join();
+        changes_are_counted();
+        runs_keep_worlds_fair();
+        // For what is so of each desk.
+        let _ = self.volume.changes();
+        if slot == 0 || slot > SLOTS as u64 {
+            return;
         }
-    }
-
-    // How many places the port of a slot has; none where the slot is free.
-    fn places(&self, slot: u64) -> u64
-        ensures { result ≡ places_at (kept_ports self.now) slot }
-    {
-        self.slots.places(slot)
-    }
-
-    // Moves a parcel into a slot's port, and tells whether it did.
-    fn put(&mut self, slot: u64) -> bool
-        ensures moved { result ≡ is_moved (kept_outcome self.old (Putting slot)).0 }
-        ensures put { self.new ≡ (kept_outcome self.old (Putting slot)).1 }
-    {
-        let reply = self.act(slot, Act::Put);
-        is_moved(&reply)
-    }
-}
-
-// Whether a reply says that a parcel moved.
-fn is_moved(reply: &Reply) -> bool
-    ensures { result ≡ is_moved (answer_of reply.now) }
-{
-    match reply {
-        Reply::Moved(moved) => *moved,
-        _ => false,
+        self.slots.fill((slot - 1) as usize);
     }
 }

@@ -11,4 +11,4 @@ invariant-loop-index l =
     × SlotsStand l.slots l.slots.keeper.book
     × ((j : ℕ) → j < l.index → j < length l.slots.taken.items
     → IsReadyAt (slot_in l.slots.subscriptions.items (place_at l.slots.taken.items j))
-    l.planned.volume.now l.planned.change.now)
+    l.planned.before l.planned.change)

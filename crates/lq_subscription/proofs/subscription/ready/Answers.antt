@@ -4,4 +4,4 @@ use Rattle.lq_subscription.proofs.subscription.ready.Goals as goal
 pub returns-clause-ready : goal.returns-clause-ready
 returns-clause-ready c =
     on_ok c.ready.result _ _ c.ready.ensures.ok
-    (ready_of c.args.volume.now c.args.change.now c.args.slot.now.sub c.ready.new.self)
+    (ready_of c.args.planned.now.before c.args.planned.now.change c.args.slot.now.sub c.ready.new.self)

@@ -1,21 +1,27 @@
-use Rattle.std.proofs.Common.{◌≡◌, ◌<◌, ◌-◌, ◌∙◌, arith, ap, subst, take, length}
-use Rattle.lq_world.specs.Turns.{at_each, puts}
+use Rattle.std.proofs.Common.{◌≡◌, ◌*◌, ap, ◌∙◌, sym, subst, map}
+use Rattle.std.specs.Option.{option_map}
+use Rattle.lq_world.specs.Turns.{all_puts}
+use Rattle.lq_desk.specs.Slot.{filled}
+use Rattle.lq_desk.specs.Kept.{Kept, IsDesk}
 use Rattle.lq_desk.specs.Turn.{kept_after, kept_ports}
-use Rattle.lq_desk.proofs.FreeLemmas.{each-stored}
-use Rattle.lq_desk.specs.Kept.{Kept}
-use Rattle.lq_desk.proofs.TurnLemmas.{puts-more}
+use Rattle.lq_desk.proofs.Shown.{kept-shows}
+use Rattle.lq_desk.proofs.Desks.{IsDesk-after}
+use Rattle.lq_desk.proofs.ListLemmas.{length-map}
+use Rattle.lq_desk.proofs.SlotsLemmas.{kept_slot, few-filled_all}
+use Rattle.lq_desk.proofs.TurnLemmas.{filled-all}
 use Rattle.lq_desk.proofs.desk.Desk.fill_all.Goals as goal
 
-pub loop-place-preserved : goal.loop-place-preserved
-loop-place-preserved c =
-    let here : c.loop-place.place < length c.args.self.now.slots = omega (arith, c.loop-place-test.true, c.len-place-end.ensures.within, c.self.invariant.slots, ap (λ (k : Kept). length k.slots) c.self.view_is) in
-    record { done = puts-more c.args.self.now c.loop-place.self c.fill.new.self c.loop-place.place c.loop-place.invariant.done here c.fill.ensures }
+pub invariant_of-self : goal.invariant_of-self
+invariant_of-self c =
+    let k : Kept = record { volume = c.self.inside.volume; openings = c.self.inside.openings; slots = map kept_slot c.self.inside.slots } in
+    let made : map kept_slot c.fill_all.new.self ≡ map (option_map filled) k.slots = c.fill_all.ensures in
+    subst (λ ks. IsDesk (record { volume = k.volume; openings = k.openings; slots = ks })) (sym made)
+    (IsDesk-after (kept-shows c.changes_are_counted.ensures c.updates_join.ensures c.runs_keep_worlds_fair.ensures) k (all_puts (kept_ports k)) (map (option_map filled) k.slots) c.self.invariant
+    (sym (filled-all k)) (length-map _ k.slots) (few-filled_all (3 * k.volume.number) k.slots c.self.invariant.few))
 
 pub returns : goal.returns
 returns c =
-    let xs = c.self.inside.slots in
-    let n = c.len-place-end.result in
-    let end : c.loop-place.place ≡ n = omega (arith, c.loop-place-test.false) in
-    let all : at_each puts 1 (take n (kept_ports c.args.self.now)) ≡ at_each puts 1 (kept_ports c.args.self.now) =
-    subst (λ (k : Kept). at_each puts 1 (take n (kept_ports k)) ≡ at_each puts 1 (kept_ports k)) c.self.view_is (each-stored puts n (64 - n) xs c.len-place-end.ensures.free) in
-    c.loop-place.invariant.done ∙ ap (kept_after c.args.self.now) (ap (λ i. at_each puts 1 (take i (kept_ports c.args.self.now))) end ∙ all)
+    let k : Kept = record { volume = c.self.inside.volume; openings = c.self.inside.openings; slots = map kept_slot c.self.inside.slots } in
+    let made : map kept_slot c.fill_all.new.self ≡ map (option_map filled) k.slots = c.fill_all.ensures in
+    ap (λ ks. record { volume = k.volume; openings = k.openings; slots = ks }) made
+    ∙ (filled-all k ∙ ap (λ (j : Kept). kept_after j (all_puts (kept_ports j))) c.self.view_is)

@@ -1,21 +1,32 @@
-use Rattle.std.proofs.Common.{◌≡◌, ◌<◌, ◌-◌, ◌∙◌, arith, ap, subst, take, length}
-use Rattle.lq_world.specs.Turns.{at_each, one_notice}
+use Rattle.std.proofs.Common.{◌≡◌, ◌-◌, ◌*◌, ◌^◌, arith, ap, ◌∙◌, sym, subst, map}
+use Rattle.std.specs.Option.{option_map}
+use Rattle.lq_world.specs.Turns.{notices}
+use Rattle.lq_desk.specs.Slot.{noticed}
+use Rattle.lq_desk.specs.Kept.{Kept, IsDesk}
 use Rattle.lq_desk.specs.Turn.{kept_after, kept_ports}
-use Rattle.lq_desk.proofs.FreeLemmas.{each-stored}
-use Rattle.lq_desk.specs.Kept.{Kept}
-use Rattle.lq_desk.proofs.TurnLemmas.{notice-more}
+use Rattle.lq_desk.proofs.Shown.{kept-shows}
+use Rattle.lq_desk.proofs.Desks.{IsDesk-after}
+use Rattle.lq_desk.proofs.ListLemmas.{length-map}
+use Rattle.lq_desk.proofs.SlotsLemmas.{kept_slot, few-more, few-noticed_all}
+use Rattle.lq_desk.proofs.TurnLemmas.{noticed-all}
 use Rattle.lq_desk.proofs.desk.Desk.notice_all.Goals as goal
 
-pub loop-place-preserved : goal.loop-place-preserved
-loop-place-preserved c =
-    let here : c.loop-place.place < length c.args.self.now.slots = omega (arith, c.loop-place-test.true, c.len-place-end.ensures.within, c.self.invariant.slots, ap (λ (k : Kept). length k.slots) c.self.view_is) in
-    record { done = notice-more c.args.self.now c.loop-place.self c.notice.new.self c.loop-place.place c.loop-place.invariant.done here c.notice.ensures }
+pub invariant_of-self : goal.invariant_of-self
+invariant_of-self c =
+    let k : Kept = record { volume = c.self.inside.volume; openings = c.self.inside.openings; slots = map kept_slot c.self.inside.slots } in
+    let made : map kept_slot c.notice_all.new.self ≡ map (option_map (noticed c.self.inside.volume.number)) k.slots = rw (← c.changes-number.ensures.number) c.notice_all.ensures in
+    subst (λ ks. IsDesk (record { volume = k.volume; openings = k.openings; slots = ks })) (sym made)
+    (IsDesk-after (kept-shows c.changes_are_counted.ensures c.updates_join.ensures c.runs_keep_worlds_fair.ensures) k (notices (kept_ports k)) (map (option_map (noticed c.self.inside.volume.number)) k.slots) c.self.invariant
+    (sym (noticed-all k)) (length-map _ k.slots) (few-noticed_all (3 * k.volume.number) k.volume.number k.slots c.self.invariant.few))
 
 pub returns : goal.returns
 returns c =
-    let xs = c.self.inside.slots in
-    let n = c.len-place-end.result in
-    let end : c.loop-place.place ≡ n = omega (arith, c.loop-place-test.false) in
-    let all : at_each one_notice 1 (take n (kept_ports c.args.self.now)) ≡ at_each one_notice 1 (kept_ports c.args.self.now) =
-    subst (λ (k : Kept). at_each one_notice 1 (take n (kept_ports k)) ≡ at_each one_notice 1 (kept_ports k)) c.self.view_is (each-stored one_notice n (64 - n) xs c.len-place-end.ensures.free) in
-    c.loop-place.invariant.done ∙ ap (kept_after c.args.self.now) (ap (λ i. at_each one_notice 1 (take i (kept_ports c.args.self.now))) end ∙ all)
+    let k : Kept = record { volume = c.self.inside.volume; openings = c.self.inside.openings; slots = map kept_slot c.self.inside.slots } in
+    let made : map kept_slot c.notice_all.new.self ≡ map (option_map (noticed c.self.inside.volume.number)) k.slots = rw (← c.changes-number.ensures.number) c.notice_all.ensures in
+    ap (λ ks. record { volume = k.volume; openings = k.openings; slots = ks }) made
+    ∙ (noticed-all k ∙ ap (λ (j : Kept). kept_after j (notices (kept_ports j))) c.self.view_is)
+
+pub notice_all-requires : goal.notice_all-requires
+notice_all-requires c =
+    let numbered = c.changes-number.ensures.volume.numbered in
+    few-more (3 * c.self.inside.volume.number) (2 ^ 63 - 1) _ (omega (arith, numbered.limit, numbered.number)) c.self.invariant.few

@@ -1,11 +1,11 @@
-use Rattle.std.proofs.Common.{◌^◌, ◌-◌, ap, ◌∙◌, sym, subst, map, List, Option}
+use Rattle.std.proofs.Common.{◌^◌, ◌-◌, arith, ap, ◌∙◌, sym, subst, map, List, Option}
 use Rattle.std.specs.Option.{option_map}
 use Rattle.std.specs.List.{AllByRecursion}
 use Rattle.std.proofs.lemmas.Result.{err_from_is_err_and}
 use Rattle.lq_desk.specs.Slot.{PreparedSlot, prepared_slot, with_free}
 use Rattle.lq_desk.specs.Kept.{IsFew}
-use Rattle.lq_desk.proofs.SlotsLemmas.{kept_slot}
-use Rattle.lq_desk.proofs.FreeLemmas.{few-stored, kept-free, map-free}
+use Rattle.lq_desk.proofs.SlotsLemmas.{kept_slot, map-prepared}
+use Rattle.lq_desk.proofs.FreeLemmas.{few-stored, kept-free, map-free, stored-at}
 use Rattle.lq_desk.proofs.slots.Slots.ready.Goals as goal
 
 pub ready_all-requires-clause-few : goal.ready_all-requires-clause-few
@@ -15,8 +15,25 @@ ready_all-requires-clause-few c =
 pub returns-clause-ok : goal.returns-clause-ok
 returns-clause-ok c =
     ap with_free c.in_ok-ready_all.ensures.ok
-    ∙ (sym (map-free (prepared_slot c.args.volume.now c.args.change.now) c.self.inside.stored.items)
-    ∙ ap (map (option_map (prepared_slot c.args.volume.now c.args.change.now))) c.self.view_is)
+    ∙ (sym (map-free (prepared_slot c.args.planned.now.before c.args.planned.now.change) c.self.inside.stored.items)
+    ∙ ap (map (option_map (prepared_slot c.args.planned.now.before c.args.planned.now.change))) c.self.view_is)
+
+pub returns-clause-told : goal.returns-clause-told
+returns-clause-told c = λ i p at. c.in_ok-ready_all.ensures.told i p (stored-at c.ready_all.new.slots.items i p at)
+
+pub invariant_of-self : goal.invariant_of-self
+invariant_of-self c = (
+  omega (arith, c.self.invariant.0, c.ready_all.ensures.len),
+  omega (arith, c.self.invariant.1, c.ready_all.ensures.room),
+  rw c.in_err-ready_all.ensures.err c.self.invariant.2,
+)
+
+pub invariant_of-self-2 : goal.invariant_of-self-2
+invariant_of-self-2 c = (
+  omega (arith, c.self.invariant.0, c.ready_all.ensures.len),
+  omega (arith, c.self.invariant.1, c.ready_all.ensures.room),
+  rw (c.in_ok-ready_all.ensures.ok, map-prepared) c.self.invariant.2,
+)
 
 pub returns-in_err-ready_all-clause-err : goal.returns-in_err-ready_all-clause-err
 returns-in_err-ready_all-clause-err c =

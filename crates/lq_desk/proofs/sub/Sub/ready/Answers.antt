@@ -1,5 +1,6 @@
-use Rattle.std.proofs.Common.{◌≡◌, ◌+◌, [], ap, sym, ◌∙◌, true}
+use Rattle.std.proofs.Common.{◌≡◌, ◌+◌, ◌-◌, [], ap, arith, sym, ◌∙◌, true}
 use Rattle.lq_predicate.specs.Names.{names_of}
+use Rattle.lq_volume.specs.declared.change.Applied.{Applied}
 use Rattle.lq_update.specs.Updates.{step_of}
 use Rattle.lq_desk.specs.Held.{Prepared}
 use Rattle.lq_desk.specs.Passing.{passes_over}
@@ -9,10 +10,13 @@ use Rattle.lq_desk.proofs.sub.Sub.ready.Goals as goal
 pub returns-then-passes_over-clause-ok : goal.returns-then-passes_over-clause-ok
 returns-then-passes_over-clause-ok c =
     let h = c.args.self.now.held in
-    let over : passes_over (names_of h.query) c.args.change.now ≡ true = sym c.passes_over.ensures ∙ c.if-passes_over.true in
-    let none : step_of h.query h.moved c.args.volume.now c.args.change.now (h.sent + 1) ≡ [] = step-empty c.changes_pass_over.ensures c.truth_goes_by_names.ensures h.query h.moved c.args.volume.now c.args.change.now (h.sent + 1) c.changes-self-inside.ensures.volume over in
+    let s = c.args.planned.now.before in
+    let change = c.args.planned.now.change in
+    let over : passes_over (names_of h.query) change ≡ true =
+    ap (passes_over (names_of h.query)) (sym c.change.ensures) ∙ (sym c.passes_over.ensures ∙ c.if-passes_over.true) in
+    let none : step_of h.query h.moved s change (h.sent + 1) ≡ [] = step-empty c.changes_pass_over.ensures c.truth_goes_by_names.ensures h.query h.moved s change (h.sent + 1) c.applied.ensures.volume over in
     let p = c.args.self.now in
-    let r = c.changes-self-inside.result in
-    ap (λ (v : Prepared). record v { ready = c.new.result.items; before = r }) c.self.view_is
-    ∙ (ap (λ messages. record p { ready = messages; before = r }) (c.new.ensures.items ∙ sym none)
-    ∙ ap (λ n. record p { ready = step_of h.query h.moved c.args.volume.now c.args.change.now (h.sent + 1); before = n }) c.changes-self-inside.ensures.number)
+    let before : c.applied.result.change - 1 ≡ s.number = omega (arith, ap (λ (a : Applied). a.change) c.applied.ensures.value) in
+    ap (λ (v : Prepared). record v { ready = c.new.result.items; before = c.applied.result.change - 1 }) c.self.view_is
+    ∙ (ap (λ messages. record p { ready = messages; before = c.applied.result.change - 1 }) (c.new.ensures.items ∙ sym none)
+    ∙ ap (λ n. record p { ready = step_of h.query h.moved s change (h.sent + 1); before = n }) before)

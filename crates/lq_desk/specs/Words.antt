@@ -1,0 +1,18 @@
+-- Words of bits, a bit for each slot: no slot has something to do whose bit is clear.
+use Rattle.std.specs.Prelude.{◌≡◌, ℕ, List, Bool, true, Option, Some, slice_get}
+use Rattle.std.specs.Int.{bit_at}
+use Rattle.lq_desk.specs.Slot.{KeptSlot, can_move, is_ending}
+
+-- the bit is set of each slot that passes a test
+abbrev pub IsMarked : {T : Type 0} → (T → Bool) → ℕ → List (Option T) → Type 0
+IsMarked {T} test word slots = (i : ℕ) (x : T) → slice_get slots i ≡ Some (Some x) → test x ≡ true → bit_at word i ≡ 1
+
+-- those that are ending, and those into whose port a parcel could move
+pub record AreMarked (ending movable : ℕ) (ks : List (Option KeptSlot)) : Type 0 where
+  pub ends : IsMarked is_ending ending ks
+  pub moves : IsMarked can_move movable ks
+
+-- a word with the bit of a place set too, where that is asked for
+pub record SetsBit (old : ℕ) (place : ℕ) (is_set : Bool) (new : ℕ) : Type 0 where
+  pub here : is_set ≡ true → bit_at new place ≡ 1
+  pub others : (i : ℕ) → bit_at old i ≡ 1 → bit_at new i ≡ 1
