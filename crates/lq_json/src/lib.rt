@@ -8,8 +8,6 @@
 mod fields;
 mod number;
 mod reading;
-#[cfg(test)]
-mod tests;
 
 pub use fields::{bool_of, field, i64_of, text_in, text_of, u64_in, u64_of};
 pub use reading::read;

@@ -1,10 +1,12 @@
-//! Tests of lq_value, lq_compact, lq_formula, lq_predicate and lq_lines, a module each.
+//! Tests of lq_value, lq_compact, lq_formula, lq_predicate, lq_json and lq_lines, a module each.
 #![tactic(auto)]
 
 #[cfg(test)]
 mod compact;
 #[cfg(test)]
 mod formulas;
+#[cfg(test)]
+mod json_values;
 #[cfg(test)]
 mod lines;
 #[cfg(test)]

@@ -1,6 +1,6 @@
 //! Texts at the borders of what serde_json takes, read by it and by this crate.
-use crate::{bool_of, field, i64_of, read, text_of, u64_of};
 use json::{Scratch, Value};
+use lq_json::{bool_of, field, i64_of, read, text_of, u64_of};
 use lq_value::Refusal;
 use std::alloc::{AllocError, Global};
 use std::test::Fail;
