@@ -21,10 +21,10 @@ commit-requires-clause-few c =
 
 pub invariant_of-self-2 : goal.invariant_of-self-2
 invariant_of-self-2 c =
-    rw (c.commit.ensures, c.in_ok-told.ensures.ok, c.in_ok-applied.ensures.ok, map-committed)
+    rw (c.commit.ensures, c.in_ok-told.ensures.ok, c.in_ok-planned.ensures.value, c.in_ok-applied.ensures.ok, map-committed)
     (IsDesk-change (kept-shows c.changes_are_counted.ensures c.updates_join.ensures c.runs_keep_worlds_fair.ensures) c.steps_are_few.ensures c.changes_are_counted.ensures _ c.args.change.now c.self.invariant c.changes.ensures.volume c.in_ok-planned.ensures.ok)
 
 pub returns-clause-ok : goal.returns-clause-ok
 returns-clause-ok c =
-    rw (c.commit.ensures, c.in_ok-told.ensures.ok, c.in_ok-applied.ensures.ok, map-committed)
+    rw (c.commit.ensures, c.in_ok-told.ensures.ok, c.in_ok-planned.ensures.value, c.in_ok-applied.ensures.ok, map-committed)
     (ap (λ (k : Kept). changed k c.args.change.now) c.self.view_is)
