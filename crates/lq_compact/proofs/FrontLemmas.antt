@@ -3,8 +3,10 @@ use Rattle.std.proofs.Common.{ℕ, List, ◌++◌, append_assoc, ap, ◌∙◌}
 use Rattle.lq_compact.specs.Front.{Extends}
 
 -- from the new text to the old one by one between
-pub extends_on : (new middle old : List ℕ) → Extends new middle → Extends middle old → Extends new old
+pub extends_on : (new middle old : List ℕ) → Extends new middle → Extends middle old
+    → Extends new old
 extends_on new middle old later earlier = record {
   rest = earlier.rest ++ later.rest;
-  split = later.split ∙ (ap (λ front. front ++ later.rest) earlier.split ∙ append_assoc old earlier.rest later.rest);
+  split = later.split ∙ (ap (λ front. front ++ later.rest) earlier.split
+      ∙ append_assoc old earlier.rest later.rest);
 }

@@ -1,2 +1,3 @@
+-- Read in this order: FrontLemmas, EscapeLemmas.
 pub mod EscapeLemmas
 pub mod FrontLemmas

@@ -5,7 +5,8 @@ use Rattle.lq_compact.proofs.text.plain_len.Given as goal
 
 -- each byte so far is plain
 abbrev pub invariant-loop-len : goal.invariant-loop-len
-invariant-loop-len l = (l.len ≤ length l.text) × (prefix_len is_plain l.text ≡ l.len + prefix_len is_plain (drop l.len l.text))
+invariant-loop-len l = (l.len ≤ length l.text)
+    × (prefix_len is_plain l.text ≡ l.len + prefix_len is_plain (drop l.len l.text))
 
 abbrev pub decreases-loop-len : goal.decreases-loop-len
 decreases-loop-len l = length l.text - l.len

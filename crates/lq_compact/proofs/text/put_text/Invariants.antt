@@ -6,7 +6,8 @@ use Rattle.lq_compact.proofs.text.put_text.Given as goal
 -- what is put and what is left are the whole
 abbrev pub invariant-loop-out : goal.invariant-loop-out
 invariant-loop-out l = record {
-  whole : l.out.items ++ (escape l.rest ++ 34 ∷ []) ≡ l.fn.out.items ++ (l.before ++ 34 ∷ (escape l.text ++ 34 ∷ []));
+  whole : l.out.items ++ (escape l.rest ++ 34 ∷ [])
+      ≡ l.fn.out.items ++ (l.before ++ 34 ∷ (escape l.text ++ 34 ∷ []));
   front : Extends l.out.items l.fn.out.items;
 }
 
