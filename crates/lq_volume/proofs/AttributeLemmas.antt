@@ -92,7 +92,8 @@ without_attr-at (e ∷ es) (suc i) attr h at =
 -- the value is at a place, or among those after it
 value_of-here : (es : Attributes) (i : ℕ) (name : List ℕ) (x : List ℕ × Value) → i < length es →
     x ≡ slice_index_or es i x →
-    value_of (drop i es) name ≡ cond (bytes_eq name x.0) (Some x.1) (value_of (drop (suc i) es) name)
+    value_of (drop i es) name
+    ≡ cond (bytes_eq name x.0) (Some x.1) (value_of (drop (suc i) es) name)
 value_of-here [] i name x less at = grind (arith, nat_tests)
 value_of-here (e ∷ es) zero name x less at = rw at refl
 value_of-here (e ∷ es) (suc i) name x less at = value_of-here es i name x (omega arith) at
@@ -100,47 +101,87 @@ value_of-here (e ∷ es) (suc i) name x less at = value_of-here es i name x (ome
 -- likewise, with the next place as a loop counts it
 pub value_of-drop : (es : Attributes) (i : ℕ) (name : List ℕ) (x : List ℕ × Value) → i < length es →
     x ≡ slice_index_or es i x →
-    value_of (drop i es) name ≡ cond (bytes_eq name x.0) (Some x.1) (value_of (drop (i + 1) es) name)
+    value_of (drop i es) name
+    ≡ cond (bytes_eq name x.0) (Some x.1) (value_of (drop (i + 1) es) name)
 value_of-drop es i name x less at =
     let next : suc i ≡ i + 1 = omega arith in
     subst (λ (n : ℕ). value_of (drop i es) name ≡ cond (bytes_eq name x.0) (Some x.1) (value_of
     (drop n es) name)) next (value_of-here es i name x less at)
 
 -- what is found under a name afterwards
-pub value_of-with : (es : Attributes) (attr name : List ℕ) (value : Value) → value_of (with_attr es attr value) name ≡ cond (bytes_eq name attr) (Some value) (value_of es name)
+pub value_of-with : (es : Attributes) (attr name : List ℕ) (value : Value)
+    → value_of (with_attr es attr value) name
+    ≡ cond (bytes_eq name attr) (Some value) (value_of es name)
 value_of-with [] attr name value = refl
-value_of-with (e ∷ es) attr name value = let a = bytes_eq-Decides attr e.0 in let b = bytes_eq-Decides name e.0 in let c = bytes_eq-Decides name attr in grind (arith, nat_tests, value_of-with es attr name value)
+value_of-with (e ∷ es) attr name value =
+    let a = bytes_eq-Decides attr e.0 in
+    let b = bytes_eq-Decides name e.0 in
+    let c = bytes_eq-Decides name attr in
+    grind (arith, nat_tests, value_of-with es attr name value)
 
-pub value_of-without : (es : Attributes) (attr name : List ℕ) → value_of (without_attr es attr) name ≡ cond (bytes_eq name attr) None (value_of es name)
+-- after a removal the name has no value, and each other name the one that it had
+pub value_of-without : (es : Attributes) (attr name : List ℕ)
+    → value_of (without_attr es attr) name ≡ cond (bytes_eq name attr) None (value_of es name)
 value_of-without [] attr name = grind (arith, nat_tests)
-value_of-without (e ∷ es) attr name = let a = bytes_eq-Decides attr e.0 in let b = bytes_eq-Decides name e.0 in let c = bytes_eq-Decides name attr in grind (arith, nat_tests, value_of-without es attr name)
+value_of-without (e ∷ es) attr name =
+    let a = bytes_eq-Decides attr e.0 in
+    let b = bytes_eq-Decides name e.0 in
+    let c = bytes_eq-Decides name attr in
+    grind (arith, nat_tests, value_of-without es attr name)
 
+-- one element moved from the front of the second list to the end of the first
 pub append-one : (es fs : Attributes) (e : List ℕ × Value) → (es ++ e ∷ []) ++ fs ≡ es ++ e ∷ fs
 append-one [] fs e = refl
 append-one (f ∷ es) fs e = ap (λ l. f ∷ l) (append-one es fs e)
 
 -- what keeps each name apart from the others
-All-with : (P : List ℕ → Type 0) (es : Attributes) (attr : List ℕ) (value : Value) → AllByRecursion (λ b. P b.0) es → P attr → AllByRecursion (λ b. P b.0) (with_attr es attr value)
+All-with : (P : List ℕ → Type 0) (es : Attributes) (attr : List ℕ) (value : Value)
+    → AllByRecursion (λ b. P b.0) es → P attr
+    → AllByRecursion (λ b. P b.0) (with_attr es attr value)
 All-with P [] attr value h p = (p, tt)
-All-with P (e ∷ es) attr value h p = elim (bytes_eq attr e.0) as (λ b. AllByRecursion (λ a. P a.0) (cond b ((e.0, value) ∷ es) (e ∷ with_attr es attr value))) [ true ↦ (h.0, h.1) | false ↦ (h.0, All-with P es attr value h.1 p) ]
+All-with P (e ∷ es) attr value h p = elim (bytes_eq attr e.0) as (λ b. AllByRecursion (λ a. P a.0)
+    (cond b ((e.0, value) ∷ es) (e ∷ with_attr es attr value))) [
+      | true ↦ (h.0, h.1)
+      | false ↦ (h.0, All-with P es attr value h.1 p)
+    ]
 
-pub HasOwnNames-with : (es : Attributes) (attr : List ℕ) (value : Value) → HasOwnNames es → HasOwnNames (with_attr es attr value)
+-- a setting leaves no name twice
+pub HasOwnNames-with : (es : Attributes) (attr : List ℕ) (value : Value) → HasOwnNames es
+    → HasOwnNames (with_attr es attr value)
 HasOwnNames-with [] attr value h = (tt, tt)
-HasOwnNames-with (e ∷ es) attr value h = go (HasOwnNames-with es attr value h.1) (bytes_eq attr e.0) refl
+HasOwnNames-with (e ∷ es) attr value h =
+    go (HasOwnNames-with es attr value h.1) (bytes_eq attr e.0) refl
   where
-    go : HasOwnNames (with_attr es attr value) → (b : Bool) → bytes_eq attr e.0 ≡ b → HasOwnNames (cond b ((e.0, value) ∷ es) (e ∷ with_attr es attr value))
+    go : HasOwnNames (with_attr es attr value) → (b : Bool) → bytes_eq attr e.0 ≡ b
+        → HasOwnNames (cond b ((e.0, value) ∷ es) (e ∷ with_attr es attr value))
     go rest true k = (h.0, h.1)
-    go rest false k = (All-with (λ n. bytes_eq e.0 n ≡ false) es attr value h.0 (turned attr e.0 k), rest)
+    go rest false k =
+        (All-with (λ n. bytes_eq e.0 n ≡ false) es attr value h.0 (turned attr e.0 k), rest)
 
-All-attrs : (P : List ℕ × Value → Type 0) (test : List ℕ × Value → Bool) (es : Attributes) → AllByRecursion P es → AllByRecursion P (filter test es)
+-- what is so of each attribute is so of those that a filter leaves
+All-attrs : (P : List ℕ × Value → Type 0) (test : List ℕ × Value → Bool) (es : Attributes)
+    → AllByRecursion P es → AllByRecursion P (filter test es)
 All-attrs P test [] h = tt
-All-attrs P test (e ∷ es) h = elim (test e) as (λ b. AllByRecursion P (cond b (e ∷ filter test es) (filter test es))) [ true ↦ (h.0, All-attrs P test es h.1) | false ↦ All-attrs P test es h.1 ]
+All-attrs P test (e ∷ es) h =
+    elim (test e) as (λ b. AllByRecursion P (cond b (e ∷ filter test es) (filter test es))) [
+      | true ↦ (h.0, All-attrs P test es h.1)
+      | false ↦ All-attrs P test es h.1
+    ]
 
-HasOwnNames-filter : (test : List ℕ × Value → Bool) (es : Attributes) → HasOwnNames es → HasOwnNames (filter test es)
+-- a filter leaves no name twice
+HasOwnNames-filter : (test : List ℕ × Value → Bool) (es : Attributes) → HasOwnNames es
+    → HasOwnNames (filter test es)
 HasOwnNames-filter test [] h = tt
-HasOwnNames-filter test (e ∷ es) h = elim (test e) as (λ b. HasOwnNames (cond b (e ∷ filter test es) (filter test es))) [ true ↦ (All-attrs (λ a. bytes_eq e.0 a.0 ≡ false) test es h.0, HasOwnNames-filter test es h.1) | false ↦ HasOwnNames-filter test es h.1 ]
+HasOwnNames-filter test (e ∷ es) h =
+    elim (test e) as (λ b. HasOwnNames (cond b (e ∷ filter test es) (filter test es))) [
+      | true ↦
+          (All-attrs (λ a. bytes_eq e.0 a.0 ≡ false) test es h.0, HasOwnNames-filter test es h.1)
+      | false ↦ HasOwnNames-filter test es h.1
+    ]
 
-pub HasOwnNames-without : (es : Attributes) (attr : List ℕ) → HasOwnNames es → HasOwnNames (without_attr es attr)
+-- a removal leaves no name twice
+pub HasOwnNames-without : (es : Attributes) (attr : List ℕ) → HasOwnNames es
+    → HasOwnNames (without_attr es attr)
 HasOwnNames-without es attr h = HasOwnNames-filter (λ a. not (bytes_eq attr a.0)) es h
 
 -- a name under which no number is kept is none of theirs
@@ -242,7 +283,8 @@ without_attr-number (e ∷ es) name n own h =
   where
     go : values_of (remove_entry (is_at (nat_cmp n)) es) ≡ without_attr (values_of es) name →
         (b : Bool) → bytes_eq name e.1.0 ≡ b →
-        values_of (remove_entry (is_at (nat_cmp n)) (e ∷ es)) ≡ without_attr (values_of (e ∷ es)) name
+        values_of (remove_entry (is_at (nat_cmp n)) (e ∷ es))
+        ≡ without_attr (values_of (e ∷ es)) name
     go rest true is =
         let same = h.0 in
         let eq : name ≡ e.1.0 = (bytes_eq-Decides name e.1.0).0 is in
@@ -275,7 +317,8 @@ pub named-removed : (es : Numbered) (name : List ℕ) (n : ℕ) → HasOwnNames 
     AllByRecursion (λ a. bytes_eq name a.1.0 ≡ is_number (Some n) a.0) es →
     (other : List ℕ) (kept : Option ℕ) →
     AllByRecursion (λ a. bytes_eq other a.1.0 ≡ is_number kept a.0) es →
-    AllByRecursion (λ a. bytes_eq other a.1.0 ≡ is_number (cond (bytes_eq name other) None kept) a.0)
+    AllByRecursion
+    (λ a. bytes_eq other a.1.0 ≡ is_number (cond (bytes_eq name other) None kept) a.0)
     (remove_entry (is_at (nat_cmp n)) es)
 named-removed es name n own h other kept k = go (bytes_eq name other) refl
   where
@@ -397,7 +440,8 @@ AreNumbered-push next numbers others es name value none up h =
     record {
       named = λ q. subst (λ (k : Option ℕ). AllByRecursion
           (λ a. bytes_eq q a.1.0 ≡ is_number k a.0) (es ++ (next, (name, value)) ∷ [])) (sym
-          (up q)) (named-push es next name value h.above none q (numbers q) (h.fresh q) (h.named q));
+          (up q))
+          (named-push es next name value h.above none q (numbers q) (h.fresh q) (h.named q));
       above = above-push es next (name, value) h.above;
       fresh = λ q n is. below q n (bytes_eq name q) (sym (up q) ∙ is);
     }

@@ -12,27 +12,54 @@ use Rattle.lq_volume.specs.Change.{refused, refusals, changed, altered, without}
 use Rattle.lq_volume.proofs.RecordLemmas.{All-push, All-weaker, All-filter, Rises-push, Rises-filter, All-without, Rises-without, All-altered, Rises-altered}
 
 -- where nothing refuses, no row's test holds
-pub none_holds : (rows : List (Bool × Refusal)) → first_refusal rows ≡ None → AllByRecursion (λ row. row.0 ≡ false) rows
+pub none_holds : (rows : List (Bool × Refusal)) → first_refusal rows ≡ None
+    → AllByRecursion (λ row. row.0 ≡ false) rows
 none_holds [] h = tt
 none_holds (row ∷ rows) h = let k = none_holds rows in grind (arith, nat_tests)
 
 -- what a creation that nothing refuses has
-pub accepted_size : (s : State) (dir : ℕ) (name : List ℕ) (kind : Kind) (size : ℕ) (time : ℤ) → refused s (Create dir name kind size time) ≡ None → size < 2 ^ 63
-accepted_size s dir name kind size time h = let rows = none_holds (refusals s (Create dir name kind size time)) h in grind (arith, nat_tests)
+pub accepted_size : (s : State) (dir : ℕ) (name : List ℕ) (kind : Kind) (size : ℕ) (time : ℤ)
+    → refused s (Create dir name kind size time) ≡ None → size < 2 ^ 63
+accepted_size s dir name kind size time h =
+    let rows = none_holds (refusals s (Create dir name kind size time)) h in
+    grind (arith, nat_tests)
 
+-- a change that nothing refuses finds the volume below its limit
 pub accepted_number : (s : State) (c : Change) → refused s c ≡ None → s.number < s.limit
-accepted_number s (Create dir name kind size time) h = let rows = none_holds (refusals s (Create dir name kind size time)) h in grind (arith, nat_tests)
-accepted_number s (Remove node) h = let rows = none_holds (refusals s (Remove node)) h in grind (arith, nat_tests)
-accepted_number s (Move node dir name clobber) h = let rows = none_holds (refusals s (Move node dir name clobber)) h in grind (arith, nat_tests)
-accepted_number s (Write node size time) h = let rows = none_holds (refusals s (Write node size time)) h in grind (arith, nat_tests)
-accepted_number s (SetAttr node attr value) h = let rows = none_holds (refusals s (SetAttr node attr value)) h in grind (arith, nat_tests)
-accepted_number s (RemoveAttr node attr) h = let rows = none_holds (refusals s (RemoveAttr node attr)) h in grind (arith, nat_tests)
+accepted_number s (Create dir name kind size time) h =
+    let rows = none_holds (refusals s (Create dir name kind size time)) h in
+    grind (arith, nat_tests)
+accepted_number s (Remove node) h =
+    let rows = none_holds (refusals s (Remove node)) h in
+    grind (arith, nat_tests)
+accepted_number s (Move node dir name clobber) h =
+    let rows = none_holds (refusals s (Move node dir name clobber)) h in
+    grind (arith, nat_tests)
+accepted_number s (Write node size time) h =
+    let rows = none_holds (refusals s (Write node size time)) h in
+    grind (arith, nat_tests)
+accepted_number s (SetAttr node attr value) h =
+    let rows = none_holds (refusals s (SetAttr node attr value)) h in
+    grind (arith, nat_tests)
+accepted_number s (RemoveAttr node attr) h =
+    let rows = none_holds (refusals s (RemoveAttr node attr)) h in
+    grind (arith, nat_tests)
 
-pub written_size : (s : State) (node size : ℕ) (time : ℤ) → refused s (Write node size time) ≡ None → size < 2 ^ 63
-written_size s node size time h = let rows = none_holds (refusals s (Write node size time)) h in grind (arith, nat_tests)
+-- a write that nothing refuses has a size below 2^63
+pub written_size : (s : State) (node size : ℕ) (time : ℤ)
+    → refused s (Write node size time) ≡ None → size < 2 ^ 63
+written_size s node size time h =
+    let rows = none_holds (refusals s (Write node size time)) h in
+    grind (arith, nat_tests)
 
 -- one more change, with a record under the next node
-pub IsNumbered-create : (s : State) (v : Record) → IsNumbered s → s.number < s.limit → IsNumbered (record { limit = s.limit; number = s.number + 1; next = s.next + 1; records = s.records ++ (s.next, v) ∷ [] })
+pub IsNumbered-create : (s : State) (v : Record) → IsNumbered s → s.number < s.limit
+    → IsNumbered (record {
+      limit = s.limit;
+      number = s.number + 1;
+      next = s.next + 1;
+      records = s.records ++ (s.next, v) ∷ [];
+    })
 IsNumbered-create s v n more = record {
   limit = n.limit;
   number = omega arith;
@@ -40,11 +67,18 @@ IsNumbered-create s v n more = record {
   few = omega (arith, n.few);
   rise = Rises-push s.records s.next v n.rise n.below;
   above = All-push (λ e. 2 ≤ e.0) s.records (s.next, v) n.above n.next;
-  below = All-push (λ e. e.0 < s.next + 1) s.records (s.next, v) (All-weaker (λ e. e.0 < s.next) (λ e. e.0 < s.next + 1) s.records (λ e lt. omega arith) n.below) (omega arith);
+  below = All-push (λ e. e.0 < s.next + 1) s.records (s.next, v) (All-weaker (λ e. e.0 < s.next)
+      (λ e. e.0 < s.next + 1) s.records (λ e lt. omega arith) n.below) (omega arith);
 }
 
 -- one more change, with fewer records
-pub IsNumbered-filter : (s : State) (test : ℕ × Record → Bool) → IsNumbered s → s.number < s.limit → IsNumbered (record { limit = s.limit; number = s.number + 1; next = s.next; records = filter test s.records })
+pub IsNumbered-filter : (s : State) (test : ℕ × Record → Bool) → IsNumbered s → s.number < s.limit
+    → IsNumbered (record {
+      limit = s.limit;
+      number = s.number + 1;
+      next = s.next;
+      records = filter test s.records;
+    })
 IsNumbered-filter s test n more = record {
   limit = n.limit;
   number = omega arith;
@@ -56,13 +90,17 @@ IsNumbered-filter s test n more = record {
 }
 
 -- one more change, with a record altered, and perhaps one node less
-pub IsNumbered-altered : (s : State) (other : Option ℕ) (node : ℕ) (f : Record → Record) → IsNumbered s → s.number < s.limit → IsNumbered (changed s (altered node f (without other s.records)))
+pub IsNumbered-altered : (s : State) (other : Option ℕ) (node : ℕ) (f : Record → Record)
+    → IsNumbered s → s.number < s.limit
+    → IsNumbered (changed s (altered node f (without other s.records)))
 IsNumbered-altered s other node f n more = record {
   limit = n.limit;
   number = omega arith;
   next = n.next;
   few = omega (arith, n.few);
   rise = Rises-altered node f (without other s.records) (Rises-without other s.records n.rise);
-  above = All-altered (λ k. 2 ≤ k) node f (without other s.records) (All-without (λ e. 2 ≤ e.0) other s.records n.above);
-  below = All-altered (λ k. k < s.next) node f (without other s.records) (All-without (λ e. e.0 < s.next) other s.records n.below);
+  above = All-altered (λ k. 2 ≤ k) node f (without other s.records)
+      (All-without (λ e. 2 ≤ e.0) other s.records n.above);
+  below = All-altered (λ k. k < s.next) node f (without other s.records)
+      (All-without (λ e. e.0 < s.next) other s.records n.below);
 }

@@ -1,4 +1,5 @@
--- An accepted change keeps the numbers, the nodes and the tree, and alters no record but those it touches.
+-- An accepted change keeps the numbers, the nodes and the tree, and alters no record but those it
+-- touches.
 use Rattle.std.proofs.Common.{◌≡◌, ◌≢◌, ℕ, ℤ, ◌+◌, ◌<◌, List, [], ◌∷◌, ◌++◌, refl, sym, arith, eqb, ap, ◌∙◌, Bool, true, false, length}
 use Rattle.std.specs.Prelude.{not, filter, nat_eq, Option, Some, None, is_none, is_some, IsSome, ◌&&◌}
 use Rattle.std.specs.Option.{option_map, option_map_or, option_to_list}
@@ -23,137 +24,232 @@ use Rattle.lq_volume.proofs.Changes.{none_holds, accepted_number, IsNumbered-cre
 use Rattle.lq_volume.proofs.Tree.{IsChildless, childless-from_test, less-folder, IsTree-less, IsTree-moved, IsTree-kept, IsTree-more, dir_of-is, record-of}
 
 -- a node that is there and is no file is a folder
-is_folder-from_tests : (o : Option Kind) → is_none o ≡ false → option_map_or (λ k. not (is_folder k)) o false ≡ false → option_map_or is_folder o false ≡ true
+is_folder-from_tests : (o : Option Kind)
+    → is_none o ≡ false → option_map_or (λ k. not (is_folder k)) o false ≡ false
+    → option_map_or is_folder o false ≡ true
 is_folder-from_tests None h k = cc
 is_folder-from_tests (Some File) h k = cc
 is_folder-from_tests (Some Folder) h k = refl
 
 -- one record more
-pub keeps-create : (s : State) (new : Record) → new.attrs ≡ [] → IsVolume s → refused s (Create new.dir new.name new.kind new.size new.time) ≡ None → IsVolume (record { limit = s.limit; number = s.number + 1; next = s.next + 1; records = s.records ++ (s.next, new) ∷ [] })
+pub keeps-create : (s : State) (new : Record) → new.attrs ≡ []
+    → IsVolume s → refused s (Create new.dir new.name new.kind new.size new.time) ≡ None
+    → IsVolume (record {
+      limit = s.limit;
+      number = s.number + 1;
+      next = s.next + 1;
+      records = s.records ++ (s.next, new) ∷ [];
+    })
 keeps-create s new bare v h =
     let rows = none_holds (refusals s (Create new.dir new.name new.kind new.size new.time)) h in
     record {
-      numbered = IsNumbered-create s new v.numbered (accepted_number s (Create new.dir new.name new.kind new.size new.time) h);
-      tree = IsTree-more s s.limit (s.number + 1) (s.next + 1) new v.numbered v.tree (is_folder-from_tests (kind_at s new.dir) rows.0 rows.1.0) rows.1.1.0 (λ is. let r = rows.1.1.1.0 in grind (arith, nat_tests));
+      numbered = IsNumbered-create s new v.numbered
+          (accepted_number s (Create new.dir new.name new.kind new.size new.time) h);
+      tree = IsTree-more s s.limit (s.number + 1) (s.next + 1) new v.numbered v.tree
+          (is_folder-from_tests (kind_at s new.dir) rows.0 rows.1.0) rows.1.1.0
+          (λ is. let r = rows.1.1.1.0 in grind (arith, nat_tests));
       named = All-push (λ e. HasOwnNames e.1.attrs) s.records (s.next, new) v.named (rw bare tt);
     }
 
-pub keeps-remove : (s : State) (node : ℕ) → IsVolume s → refused s (Remove node) ≡ None → IsVolume (after s (Remove node))
+-- an accepted removal leaves a volume
+pub keeps-remove : (s : State) (node : ℕ) → IsVolume s → refused s (Remove node) ≡ None
+    → IsVolume (after s (Remove node))
 keeps-remove s node v h =
     let rows = none_holds (refusals s (Remove node)) h in
     let differs : node ≡ root → ⊥ = let r = rows.1.0 in grind (arith, nat_tests) in
     record {
-      numbered = IsNumbered-filter s (λ e. not (eqb e.0 node)) v.numbered (accepted_number s (Remove node) h);
-      tree = IsTree-less s s.limit (s.number + 1) s.next node v.tree (childless-from_test s node v.tree rows.1.1.0) differs;
+      numbered = IsNumbered-filter s (λ e. not (eqb e.0 node)) v.numbered
+          (accepted_number s (Remove node) h);
+      tree = IsTree-less s s.limit (s.number + 1) s.next node v.tree
+          (childless-from_test s node v.tree rows.1.1.0) differs;
       named = All-filter (λ e. HasOwnNames e.1.attrs) (λ e. not (eqb e.0 node)) s.records v.named;
     }
 
 -- a move takes no other node away
-keeps-move_none : (s : State) (node dir : ℕ) (name : List ℕ) → IsVolume s → other_at s node dir name ≡ None
+keeps-move_none : (s : State) (node dir : ℕ) (name : List ℕ) → IsVolume s
+    → other_at s node dir name ≡ None
     → (node ≡ root → ⊥) → is_folder_at s dir ≡ true → reaches s dir node ≡ false
-    → IsTree (record { limit = s.limit; number = s.number + 1; next = s.next; records = altered node (at_place dir name) s.records })
+    → IsTree (record {
+      limit = s.limit;
+      number = s.number + 1;
+      next = s.next;
+      records = altered node (at_place dir name) s.records;
+    })
 keeps-move_none s node dir name v is no_root folder below =
-    IsTree-moved s s.limit (s.number + 1) s.next node dir name v.tree no_root folder below (λ n r at e f. alone n r at e f (node_in s.records dir name) refl)
+    IsTree-moved s s.limit (s.number + 1) s.next node dir name v.tree no_root folder below
+    (λ n r at e f. alone n r at e f (node_in s.records dir name) refl)
   where
-    alone : (n : ℕ) (r : Record) → record_at s n ≡ Some r → r.dir ≡ dir → r.name ≡ name → (o : Option ℕ) → node_in s.records dir name ≡ o → n ≡ node
+    alone : (n : ℕ) (r : Record) → record_at s n ≡ Some r → r.dir ≡ dir → r.name ≡ name
+        → (o : Option ℕ) → node_in s.records dir name ≡ o → n ≡ node
     alone n r at e f None found = absurd (node_in-none s.records dir name n r found at e f)
     alone n r at e f (Some x) found =
         let there = node_in-some s.records dir name x v.numbered.rise found in
-        let same : n ≡ x = v.tree.apart n x r there.0 at there.1 (e ∙ sym there.2) (f ∙ sym there.3) in
+        let same : n ≡ x =
+        v.tree.apart n x r there.0 at there.1 (e ∙ sym there.2) (f ∙ sym there.3) in
         let clash : other_than node (Some x) ≡ None = rw found at is in
         grind (arith, nat_tests)
 
 -- a move takes another node away: it is at that place, and nothing is in it
-module _ (s : State) (x node dir : ℕ) (name : List ℕ) (v : IsVolume s) (is : other_at s node dir name ≡ Some x) (folder : is_folder_at s dir ≡ true) (empty : (is_folder_at s x && has_entries s x) ≡ false) where
+module _ (s : State) (x node dir : ℕ) (name : List ℕ)
+    (v : IsVolume s) (is : other_at s node dir name ≡ Some x) (folder : is_folder_at s dir ≡ true)
+    (empty : (is_folder_at s x && has_entries s x) ≡ false) where
+  -- if another node than this is found, it is the one found, and it is another
   found-of : (o : Option ℕ) → other_than node o ≡ Some x → (o ≡ Some x) × (x ≡ node → ⊥)
   found-of None e = cc
   found-of (Some y) e = (grind (arith, nat_tests), grind (arith, nat_tests))
 
+  -- the other node is found at that place, and isn't the one that moves
   found : (node_in s.records dir name ≡ Some x) × (x ≡ node → ⊥)
   found = found-of (node_in s.records dir name) is
 
+  -- it has a record, with that place
   there : (r : Record) × (record_at s x ≡ Some r) × (r.dir ≡ dir) × (r.name ≡ name)
   there = node_in-some s.records dir name x v.numbered.rise found.0
 
+  -- nothing is in it
   childless : IsChildless s x
   childless = childless-from_test s x v.tree empty
 
+  -- it isn't the root
   no_root : x ≡ root → ⊥
-  no_root e = let a = v.tree.no_root in let b : record_at s root ≡ Some there.0 = rw (← e) there.1 in cc
+  no_root e =
+      let a = v.tree.no_root in
+      let b : record_at s root ≡ Some there.0 = rw (← e) there.1 in
+      cc
 
+  -- the folder that is moved into isn't the one taken away
   dir_stays : dir ≡ x → ⊥
   dir_stays e = childless x there.0 there.1 (there.2 ∙ e)
 
+  -- the state without the node that is taken away
   abbrev without_x : State
-  without_x = record { limit = s.limit; number = s.number; next = s.next; records = filter (λ e. not (eqb e.0 x)) s.records }
+  without_x = record {
+    limit = s.limit;
+    number = s.number;
+    next = s.next;
+    records = filter (λ e. not (eqb e.0 x)) s.records;
+  }
 
+  -- it is a tree
   tree : IsTree without_x
   tree = IsTree-less s s.limit s.number s.next x v.tree childless no_root
 
-  was : (n : ℕ) (r : Record) → record_at without_x n ≡ Some r → (record_at s n ≡ Some r) × (n ≡ x → ⊥)
-  was n r e = let l = lookup-filter s.records x n in (grind (arith, nat_tests), grind (arith, nat_tests))
+  -- a record there is one that was there, of another node
+  was : (n : ℕ) (r : Record) → record_at without_x n ≡ Some r
+      → (record_at s n ≡ Some r) × (n ≡ x → ⊥)
+  was n r e =
+      let l = lookup-filter s.records x n in
+      (grind (arith, nat_tests), grind (arith, nat_tests))
 
-  below : reaches s dir node ≡ false → (b : Bool) → reaches without_x dir node ≡ b → reaches without_x dir node ≡ false
+  -- the folder that is moved into isn't below the node that moves, there either
+  below : reaches s dir node ≡ false → (b : Bool) → reaches without_x dir node ≡ b
+      → reaches without_x dir node ≡ false
   below off false e = e
   below off true e =
       let c = climbs-sound (length without_x.records) (dir_of without_x.records) node dir e in
       let le = length-filter_le s.records x in
-      let d = Climb-more (dir_of without_x.records) (dir_of s.records) node c.0 dir (λ n d h. let r = record-of without_x n d h in dir_of-is s n r.0 (was n r.0 r.1).0 ∙ ap Some r.2) c.2 in
-      let hit = climbs-complete (length s.records) c.0 (dir_of s.records) node dir (omega arith) d in
+      let d = Climb-more (dir_of without_x.records) (dir_of s.records) node c.0 dir (λ n d h.
+      let r = record-of without_x n d h in dir_of-is s n r.0 (was n r.0 r.1).0 ∙ ap Some r.2) c.2 in
+      let hit = climbs-complete (length s.records) c.0 (dir_of s.records) node dir
+      (omega arith) d in
       let clash : true ≡ false = sym hit ∙ off in
       cc
 
-  keeps-move_some : (node ≡ root → ⊥) → reaches s dir node ≡ false → IsTree (record { limit = s.limit; number = s.number + 1; next = s.next; records = altered node (at_place dir name) (filter (λ e. not (eqb e.0 x)) s.records) })
+  -- a move that takes a node away leaves a tree
+  keeps-move_some : (node ≡ root → ⊥) → reaches s dir node ≡ false
+      → IsTree (record {
+        limit = s.limit;
+        number = s.number + 1;
+        next = s.next;
+        records = altered node (at_place dir name) (filter (λ e. not (eqb e.0 x)) s.records);
+      })
   keeps-move_some root_no off =
-      IsTree-moved without_x s.limit (s.number + 1) s.next node dir name tree root_no (less-folder s s.limit s.number s.next x v.tree childless no_root dir dir_stays folder) (below off (reaches without_x dir node) refl)
-      (λ n r at e f. let w = was n r at in absurd (w.1 (v.tree.apart n x r there.0 w.0 there.1 (e ∙ sym there.2) (f ∙ sym there.3))))
+      IsTree-moved without_x s.limit (s.number + 1) s.next node dir name tree root_no
+      (less-folder s s.limit s.number s.next x v.tree childless no_root dir dir_stays folder)
+      (below off (reaches without_x dir node) refl)
+      (λ n r at e f. let w = was n r at in
+      absurd (w.1 (v.tree.apart n x r there.0 w.0 there.1 (e ∙ sym there.2) (f ∙ sym there.3))))
 
-keeps-moved : (s : State) (node dir : ℕ) (name : List ℕ) (other : Option ℕ) → IsVolume s → other_at s node dir name ≡ other
-    → (node ≡ root → ⊥) → is_folder_at s dir ≡ true → reaches s dir node ≡ false → is_other other (λ x. is_folder_at s x && has_entries s x) ≡ false
-    → IsTree (record { limit = s.limit; number = s.number + 1; next = s.next; records = altered node (at_place dir name) (without other s.records) })
-keeps-moved s node dir name None v is not_root folder off empty = keeps-move_none s node dir name v is not_root folder off
-keeps-moved s node dir name (Some x) v is not_root folder off empty = keeps-move_some s x node dir name v is folder empty not_root off
+-- a move leaves a tree, whether or not it takes a node away
+keeps-moved : (s : State) (node dir : ℕ) (name : List ℕ) (other : Option ℕ) → IsVolume s
+    → other_at s node dir name ≡ other
+    → (node ≡ root → ⊥) → is_folder_at s dir ≡ true → reaches s dir node ≡ false
+    → is_other other (λ x. is_folder_at s x && has_entries s x) ≡ false
+    → IsTree (record {
+      limit = s.limit;
+      number = s.number + 1;
+      next = s.next;
+      records = altered node (at_place dir name) (without other s.records);
+    })
+keeps-moved s node dir name None v is not_root folder off empty =
+    keeps-move_none s node dir name v is not_root folder off
+keeps-moved s node dir name (Some x) v is not_root folder off empty =
+    keeps-move_some s x node dir name v is folder empty not_root off
 
-pub keeps-move : (s : State) (node dir : ℕ) (name : List ℕ) (clobber : Bool) → IsVolume s → refused s (Move node dir name clobber) ≡ None → IsVolume (after s (Move node dir name clobber))
+-- an accepted move leaves a volume
+pub keeps-move : (s : State) (node dir : ℕ) (name : List ℕ) (clobber : Bool)
+    → IsVolume s → refused s (Move node dir name clobber) ≡ None
+    → IsVolume (after s (Move node dir name clobber))
 keeps-move s node dir name clobber v h =
     let rows = none_holds (refusals s (Move node dir name clobber)) h in
     let differs : node ≡ root → ⊥ = let r = rows.1.0 in grind (arith, nat_tests) in
     record {
-      numbered = IsNumbered-altered s (other_at s node dir name) node (at_place dir name) v.numbered (accepted_number s (Move node dir name clobber) h);
-      tree = keeps-moved s node dir name (other_at s node dir name) v refl differs (is_folder-from_tests (kind_at s dir) rows.1.1.0 rows.1.1.1.0) rows.1.1.1.1.0 rows.1.1.1.1.1.1.1.0;
-      named = All-kept (λ e. HasOwnNames e.1.attrs) node (at_place dir name) (without (other_at s node dir name) s.records) (λ e h. h) (All-without (λ e. HasOwnNames e.1.attrs) (other_at s node dir name) s.records v.named);
+      numbered = IsNumbered-altered s (other_at s node dir name) node (at_place dir name) v.numbered
+          (accepted_number s (Move node dir name clobber) h);
+      tree = keeps-moved s node dir name (other_at s node dir name) v refl differs
+          (is_folder-from_tests (kind_at s dir) rows.1.1.0 rows.1.1.1.0) rows.1.1.1.1.0
+          rows.1.1.1.1.1.1.1.0;
+      named = All-kept (λ e. HasOwnNames e.1.attrs) node
+          (at_place dir name) (without (other_at s node dir name) s.records) (λ e h. h)
+          (All-without (λ e. HasOwnNames e.1.attrs) (other_at s node dir name) s.records v.named);
     }
 
-pub keeps-write : (s : State) (node size : ℕ) (time : ℤ) → IsVolume s → refused s (Write node size time) ≡ None → IsVolume (after s (Write node size time))
+-- an accepted write leaves a volume
+pub keeps-write : (s : State) (node size : ℕ) (time : ℤ) → IsVolume s
+    → refused s (Write node size time) ≡ None → IsVolume (after s (Write node size time))
 keeps-write s node size time v h =
     let rows = none_holds (refusals s (Write node size time)) h in
     let file = rows.1.1.0 in
     let differs : eqb node root ≡ false = rows.1.0 in
     record {
-      numbered = IsNumbered-altered s None node (written size time) v.numbered (accepted_number s (Write node size time) h);
-      tree = IsTree-kept s s.limit (s.number + 1) s.next node (written size time) v.tree (λ r. refl) (λ r. refl) (λ r. refl) (λ r is folder. absurd (let clash : is_folder_at s node ≡ true = grind (arith, nat_tests) in let no : ⊥ = cc in no));
-      named = All-kept (λ e. HasOwnNames e.1.attrs) node (written size time) s.records (λ e h. h) v.named;
+      numbered = IsNumbered-altered s None node (written size time) v.numbered
+          (accepted_number s (Write node size time) h);
+      tree = IsTree-kept s s.limit (s.number + 1) s.next node (written size time) v.tree (λ r. refl)
+          (λ r. refl) (λ r. refl) (λ r is folder. absurd (let clash : is_folder_at s node ≡ true =
+          grind (arith, nat_tests) in let no : ⊥ = cc in no));
+      named = All-kept (λ e. HasOwnNames e.1.attrs) node (written size time) s.records
+          (λ e h. h) v.named;
     }
 
 -- attributes are no part of a tree
-pub keeps-attrs : (s : State) (node : ℕ) (f : Record → Attributes) → ((r : Record) → HasOwnNames r.attrs → HasOwnNames (f r)) → IsVolume s → s.number < s.limit → IsVolume (changed s (altered node (λ r. with_attrs (f r) r) s.records))
+pub keeps-attrs : (s : State) (node : ℕ) (f : Record → Attributes)
+    → ((r : Record) → HasOwnNames r.attrs → HasOwnNames (f r)) → IsVolume s → s.number < s.limit
+    → IsVolume (changed s (altered node (λ r. with_attrs (f r) r) s.records))
 keeps-attrs s node f own v more = record {
   numbered = IsNumbered-altered s None node (λ r. with_attrs (f r) r) v.numbered more;
-  tree = IsTree-kept s s.limit (s.number + 1) s.next node (λ r. with_attrs (f r) r) v.tree (λ r. refl) (λ r. refl) (λ r. refl) (λ r is folder. v.tree.sizes node r is folder);
-  named = All-kept (λ e. HasOwnNames e.1.attrs) node (λ r. with_attrs (f r) r) s.records (λ e h. own e.1 h) v.named;
+  tree = IsTree-kept s s.limit (s.number + 1) s.next node (λ r. with_attrs (f r) r) v.tree
+      (λ r. refl) (λ r. refl) (λ r. refl) (λ r is folder. v.tree.sizes node r is folder);
+  named = All-kept (λ e. HasOwnNames e.1.attrs) node (λ r. with_attrs (f r) r) s.records
+      (λ e h. own e.1 h) v.named;
 }
 
 -- what the entries need of a creation and of a move
-pub free-create : (s : State) (new : Record) → refused s (Create new.dir new.name new.kind new.size new.time) ≡ None → node_in s.records new.dir new.name ≡ None
+pub free-create : (s : State) (new : Record)
+    → refused s (Create new.dir new.name new.kind new.size new.time) ≡ None
+    → node_in s.records new.dir new.name ≡ None
 free-create s new h =
     let rows = none_holds (refusals s (Create new.dir new.name new.kind new.size new.time)) h in
-    none (node_in s.records new.dir new.name) (sym (is_taken-node_in s.records new.dir new.name) ∙ rows.1.1.0)
+    none (node_in s.records new.dir new.name)
+    (sym (is_taken-node_in s.records new.dir new.name) ∙ rows.1.1.0)
   where
     none : (o : Option ℕ) → is_some o ≡ false → o ≡ None
     none None e = refl
     none (Some x) e = cc
 
-pub can-move : (s : State) (node dir : ℕ) (name : List ℕ) (clobber : Bool) → IsVolume s → refused s (Move node dir name clobber) ≡ None → CanMove s.records node dir name (other_at s node dir name)
+-- an accepted move finds what the entries need of it
+pub can-move : (s : State) (node dir : ℕ) (name : List ℕ) (clobber : Bool)
+    → IsVolume s → refused s (Move node dir name clobber) ≡ None
+    → CanMove s.records node dir name (other_at s node dir name)
 can-move s node dir name clobber v h =
     let rows = none_holds (refusals s (Move node dir name clobber)) h in
     record {
@@ -163,64 +259,111 @@ can-move s node dir name clobber v h =
       stays_apart = (keeps-move s node dir name clobber v h).tree.apart;
     }
   where
-    some : (o : Option Record) → record_at s node ≡ o → is_none (kind_at s node) ≡ false → eqb node root ≡ false → IsSome (record_at s node)
+    some : (o : Option Record) → record_at s node ≡ o → is_none (kind_at s node) ≡ false
+        → eqb node root ≡ false → IsSome (record_at s node)
     some None is k l = absurd (grind (arith, nat_tests))
     some (Some r) is k l = rw is refl
 
+-- each accepted change leaves a volume
 pub keeps-all : ChangesKeepTrees
-keeps-all s (Create dir name kind size time) v h = keeps-create s (record { dir = dir; name = name; kind = kind; size = size; time = time; attrs = [] }) refl v h
+keeps-all s (Create dir name kind size time) v h = keeps-create s
+    (record { dir = dir; name = name; kind = kind; size = size; time = time; attrs = [] }) refl v h
 keeps-all s (Remove node) v h = keeps-remove s node v h
 keeps-all s (Move node dir name clobber) v h = keeps-move s node dir name clobber v h
 keeps-all s (Write node size time) v h = keeps-write s node size time v h
-keeps-all s (SetAttr node attr value) v h = keeps-attrs s node (λ r. with_attr r.attrs attr value) (λ r h. HasOwnNames-with r.attrs attr value h) v (accepted_number s (SetAttr node attr value) h)
-keeps-all s (RemoveAttr node attr) v h = keeps-attrs s node (λ r. without_attr r.attrs attr) (λ r h. HasOwnNames-without r.attrs attr h) v (accepted_number s (RemoveAttr node attr) h)
+keeps-all s (SetAttr node attr value) v h = keeps-attrs s node (λ r. with_attr r.attrs attr value)
+    (λ r h. HasOwnNames-with r.attrs attr value h) v (accepted_number s (SetAttr node attr value) h)
+keeps-all s (RemoveAttr node attr) v h = keeps-attrs s node (λ r. without_attr r.attrs attr)
+    (λ r h. HasOwnNames-without r.attrs attr h) v (accepted_number s (RemoveAttr node attr) h)
 
 -- the record of a node that isn't the one taken away
-look-without : (es : Entries) (p : Option ℕ) (x : ℕ) → (p ≡ Some x → ⊥) → lookup (nat_eq x) (without p es) ≡ lookup (nat_eq x) es
+look-without : (es : Entries) (p : Option ℕ) (x : ℕ) → (p ≡ Some x → ⊥)
+    → lookup (nat_eq x) (without p es) ≡ lookup (nat_eq x) es
 look-without es None x off = refl
-look-without es (Some y) x off = let l = lookup-filter es y x in let differs : x ≡ y → ⊥ = λ e. off (ap Some (sym e)) in grind (arith, nat_tests)
+look-without es (Some y) x off =
+    let l = lookup-filter es y x in
+    let differs : x ≡ y → ⊥ = λ e. off (ap Some (sym e)) in
+    grind (arith, nat_tests)
 
-off-option : (o : Option ℕ) (n : ℕ) → AllByRecursion (λ node. n ≢ node) (option_to_list o) → o ≡ Some n → ⊥
+-- a number that differs from the one in an option isn't that one
+off-option : (o : Option ℕ) (n : ℕ) → AllByRecursion (λ node. n ≢ node) (option_to_list o)
+    → o ≡ Some n → ⊥
 off-option None n off e = cc
 off-option (Some x) n off e = let differs = off.0 in grind (arith, nat_tests)
 
+-- the other node at a place isn't the node itself
 other-differs : (node : ℕ) (o : Option ℕ) → other_than node o ≡ Some node → ⊥
 other-differs node None h = cc
 other-differs node (Some x) h = grind (arith, nat_tests)
 
+-- a node that a change doesn't touch keeps its record
 pub untouched-all : UntouchedStay
 untouched-all s (Create dir name kind size time) n v h off =
-    let l = lookup-push s.records s.next (record { dir = dir; name = name; kind = kind; size = size; time = time; attrs = [] }) n v.numbered.below in
+    let l = lookup-push s.records s.next (record {
+      dir = dir;
+      name = name;
+      kind = kind;
+      size = size;
+      time = time;
+      attrs = [];
+    }) n v.numbered.below in
     let differs = off.0 in grind (arith, nat_tests)
-untouched-all s (Remove node) n v h off = let l = lookup-filter s.records node n in let differs = off.0 in grind (arith, nat_tests)
+untouched-all s (Remove node) n v h off =
+    let l = lookup-filter s.records node n in
+    let differs = off.0 in
+    grind (arith, nat_tests)
 untouched-all s (Move node dir name clobber) n v h off =
-    let l = lookup-altered (without (other_at s node dir name) s.records) node (at_place dir name) n in
-    let k = look-without s.records (other_at s node dir name) n (off-option (other_at s node dir name) n off.1) in
+    let l = lookup-altered (without (other_at s node dir name) s.records) node
+    (at_place dir name) n in
+    let k = look-without s.records (other_at s node dir name) n
+    (off-option (other_at s node dir name) n off.1) in
     let differs = off.0 in grind (arith, nat_tests)
-untouched-all s (Write node size time) n v h off = let l = lookup-altered s.records node (written size time) n in let differs = off.0 in grind (arith, nat_tests)
-untouched-all s (SetAttr node attr value) n v h off = let l = lookup-altered s.records node (setting attr value) n in let differs = off.0 in grind (arith, nat_tests)
-untouched-all s (RemoveAttr node attr) n v h off = let l = lookup-altered s.records node (unsetting attr) n in let differs = off.0 in grind (arith, nat_tests)
+untouched-all s (Write node size time) n v h off =
+    let l = lookup-altered s.records node (written size time) n in
+    let differs = off.0 in
+    grind (arith, nat_tests)
+untouched-all s (SetAttr node attr value) n v h off =
+    let l = lookup-altered s.records node (setting attr value) n in
+    let differs = off.0 in
+    grind (arith, nat_tests)
+untouched-all s (RemoveAttr node attr) n v h off =
+    let l = lookup-altered s.records node (unsetting attr) n in
+    let differs = off.0 in
+    grind (arith, nat_tests)
 
 -- the record that is at the node of a change afterwards
-pub record-left : (s : State) (c : Change) → IsVolume s → record_at (after s c) (node_of s c) ≡ record_left s c
+pub record-left : (s : State) (c : Change) → IsVolume s
+    → record_at (after s c) (node_of s c) ≡ record_left s c
 record-left s (Create dir name kind size time) v =
-    let new : Record = record { dir = dir; name = name; kind = kind; size = size; time = time; attrs = [] } in
+    let new : Record =
+    record { dir = dir; name = name; kind = kind; size = size; time = time; attrs = [] } in
     let l = lookup-push s.records s.next new s.next v.numbered.below in grind (arith, nat_tests)
-record-left s (Remove node) v = let l = lookup-filter s.records node node in grind (arith, nat_tests)
+record-left s (Remove node) v =
+    let l = lookup-filter s.records node node in
+    grind (arith, nat_tests)
 record-left s (Move node dir name clobber) v =
-    let l = lookup-altered (without (other_at s node dir name) s.records) node (at_place dir name) node in
-    let k = look-without s.records (other_at s node dir name) node (other-differs node (node_in s.records dir name)) in
+    let l = lookup-altered (without (other_at s node dir name) s.records) node
+    (at_place dir name) node in
+    let k = look-without s.records (other_at s node dir name) node
+    (other-differs node (node_in s.records dir name)) in
     let j = ap (option_map (at_place dir name)) k in
     grind (arith, nat_tests)
-record-left s (Write node size time) v = let l = lookup-altered s.records node (written size time) node in grind (arith, nat_tests)
-record-left s (SetAttr node attr value) v = let l = lookup-altered s.records node (setting attr value) node in grind (arith, nat_tests)
-record-left s (RemoveAttr node attr) v = let l = lookup-altered s.records node (unsetting attr) node in grind (arith, nat_tests)
+record-left s (Write node size time) v =
+    let l = lookup-altered s.records node (written size time) node in
+    grind (arith, nat_tests)
+record-left s (SetAttr node attr value) v =
+    let l = lookup-altered s.records node (setting attr value) node in
+    grind (arith, nat_tests)
+record-left s (RemoveAttr node attr) v =
+    let l = lookup-altered s.records node (unsetting attr) node in
+    grind (arith, nat_tests)
 
 -- the node that a move takes away
 gone-from : (node : ℕ) (o : Option ℕ) (n : ℕ) → other_than node o ≡ Some n → n ≡ node → ⊥
 gone-from node None n h e = cc
 gone-from node (Some x) n h e = grind (arith, nat_tests)
 
+-- the node that a move takes away is another one, and has no record afterwards
 pub clobbered-go : ClobberedGo
 clobbered-go s (Create dir name kind size time) n v is = cc
 clobbered-go s (Remove node) n v is = cc
@@ -228,20 +371,28 @@ clobbered-go s (Write node size time) n v is = cc
 clobbered-go s (SetAttr node attr value) n v is = cc
 clobbered-go s (RemoveAttr node attr) n v is = cc
 clobbered-go s (Move node dir name clobber) n v is =
-    let differs = gone-from node (node_in s.records dir name) n is in
-    (differs, rw is (let l = lookup-altered (filter (λ e. not (eqb e.0 n)) s.records) node (at_place dir name) n in let k = lookup-filter s.records n n in grind (arith, nat_tests)))
+    let differs = gone-from node (node_in s.records dir name) n is in (
+      differs,
+      rw is (let l = lookup-altered (filter (λ e. not (eqb e.0 n)) s.records) node
+          (at_place dir name) n in let k = lookup-filter s.records n n in grind (arith, nat_tests)),
+    )
 
 -- an entry is found at its place
 pub own-places : PlacesAreOwn
-own-places s n r v is = rw (uniq s.records n r (node_in s.records r.dir r.name) v.numbered.rise v.tree.apart is refl) (let same : eqb n n ≡ true = grind (arith, nat_tests) in rw same refl)
+own-places s n r v is =
+    rw (uniq s.records n r (node_in s.records r.dir r.name) v.numbered.rise v.tree.apart is refl)
+    (let same : eqb n n ≡ true = grind (arith, nat_tests) in rw same refl)
 
 -- a node that was found at a place has a record
 found-at : (node : ℕ) (o : Option ℕ) (x : ℕ) → other_than node o ≡ Some x → o ≡ Some x
 found-at node None x e = cc
 found-at node (Some y) x e = grind (arith, nat_tests)
 
-pub other-there : (s : State) (node dir : ℕ) (name : List ℕ) (x : ℕ) → IsVolume s → other_at s node dir name ≡ Some x → record_at s x ≡ None → ⊥
+-- the other node at a place has a record
+pub other-there : (s : State) (node dir : ℕ) (name : List ℕ) (x : ℕ) → IsVolume s
+    → other_at s node dir name ≡ Some x → record_at s x ≡ None → ⊥
 other-there s node dir name x v is none =
-    let there = node_in-some s.records dir name x v.numbered.rise (found-at node (node_in s.records dir name) x is) in
+    let there = node_in-some s.records dir name x v.numbered.rise
+    (found-at node (node_in s.records dir name) x is) in
     let at = there.1 in
     cc

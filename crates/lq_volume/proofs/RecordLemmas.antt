@@ -12,23 +12,32 @@ use Rattle.std.proofs.lemmas.Bool.Decides.{nat_tests}
 use Rattle.lq_volume.specs.State.{Record, Rises, node_in}
 use Rattle.lq_volume.specs.Change.{altered, without}
 
+-- the records, each under its node
 abbrev pub Entries : Type 0
 Entries = List (ℕ × Record)
 
 -- a node above all others goes to the end
-pub insert_entry-above : (es : Entries) (k : ℕ) (v : Record) → AllByRecursion (λ e. e.0 < k) es → insert_entry nat_cmp es k v ≡ es ++ (k, v) ∷ []
+pub insert_entry-above : (es : Entries) (k : ℕ) (v : Record) → AllByRecursion (λ e. e.0 < k) es
+    → insert_entry nat_cmp es k v ≡ es ++ (k, v) ∷ []
 insert_entry-above [] k v h = refl
 insert_entry-above (e ∷ es) k v h = grind (arith, nat_tests, insert_entry-above es k v h.1)
 
 -- entries above a node are all kept
-filter-above : (es : Entries) (k : ℕ) → AllByRecursion (λ f. k < f.0) es → filter (λ e. not (eqb e.0 k)) es ≡ es
+filter-above : (es : Entries) (k : ℕ) → AllByRecursion (λ f. k < f.0) es
+    → filter (λ e. not (eqb e.0 k)) es ≡ es
 filter-above [] k h = refl
 filter-above (e ∷ es) k h = grind (arith, nat_tests, filter-above es k h.1)
 
 -- where the nodes rise, the one that goes is the only one of its number
-pub remove_entry-node : (es : Entries) (k : ℕ) → Rises es → remove_entry (is_at (nat_cmp k)) es ≡ filter (λ e. not (eqb e.0 k)) es
+pub remove_entry-node : (es : Entries) (k : ℕ) → Rises es
+    → remove_entry (is_at (nat_cmp k)) es ≡ filter (λ e. not (eqb e.0 k)) es
 remove_entry-node [] k h = refl
-remove_entry-node (e ∷ es) k h = grind (arith, nat_tests, remove_entry-node es k h.1, λ (same : e.0 ≡ k). filter-above es k (rw (← same) h.0))
+remove_entry-node (e ∷ es) k h = grind (
+  arith,
+  nat_tests,
+  remove_entry-node es k h.1,
+  λ (same : e.0 ≡ k). filter-above es k (rw (← same) h.0),
+)
 
 -- a look-up by order is one by number
 pub lookup-node : (es : Entries) (k : ℕ) → lookup (is_at (nat_cmp k)) es ≡ lookup (nat_eq k) es
@@ -36,14 +45,22 @@ lookup-node [] k = refl
 lookup-node (e ∷ es) k = grind (arith, nat_tests, lookup-node es k)
 
 -- entries above a node all stay as they are
-altered-above : (es : Entries) (k : ℕ) (g : Record → Record) → AllByRecursion (λ f. k < f.0) es → altered k g es ≡ es
+altered-above : (es : Entries) (k : ℕ) (g : Record → Record) → AllByRecursion (λ f. k < f.0) es
+    → altered k g es ≡ es
 altered-above [] k g h = refl
 altered-above (e ∷ es) k g h = grind (arith, nat_tests, altered-above es k g h.1)
 
 -- the record under a node, altered
-pub set_value-altered : (es : Entries) (k : ℕ) (g : Record → Record) (r : Record) → Rises es → lookup (is_at (nat_cmp k)) es ≡ Some r → set_value (is_at (nat_cmp k)) es (g r) ≡ altered k g es
+pub set_value-altered : (es : Entries) (k : ℕ) (g : Record → Record) (r : Record)
+    → Rises es → lookup (is_at (nat_cmp k)) es ≡ Some r
+    → set_value (is_at (nat_cmp k)) es (g r) ≡ altered k g es
 set_value-altered [] k g r h found = refl
-set_value-altered (e ∷ es) k g r h found = grind (arith, nat_tests, set_value-altered es k g r h.1, λ (same : e.0 ≡ k). altered-above es k g (rw (← same) h.0))
+set_value-altered (e ∷ es) k g r h found = grind (
+  arith,
+  nat_tests,
+  set_value-altered es k g r h.1,
+  λ (same : e.0 ≡ k). altered-above es k g (rw (← same) h.0),
+)
 
 -- what is so anyway is so after an error
 pub on_err : {T E P : Type 0} (r : Result T E) → P → OnErr r P
@@ -51,95 +68,141 @@ on_err (Ok x) p = tt
 on_err (Err e) p = p
 
 -- a record that is written as it was
-pub set_value-same : (es : Entries) (k : ℕ) (r : Record) → lookup (is_at (nat_cmp k)) es ≡ Some r → set_value (is_at (nat_cmp k)) es r ≡ es
+pub set_value-same : (es : Entries) (k : ℕ) (r : Record) → lookup (is_at (nat_cmp k)) es ≡ Some r
+    → set_value (is_at (nat_cmp k)) es r ≡ es
 set_value-same [] k r found = refl
 set_value-same (e ∷ es) k r found = grind (arith, nat_tests, set_value-same es k r)
 
 -- a node that is absent has no record to alter
-pub altered-absent : (es : Entries) (k : ℕ) (g : Record → Record) → lookup (is_at (nat_cmp k)) es ≡ None → altered k g es ≡ es
+pub altered-absent : (es : Entries) (k : ℕ) (g : Record → Record)
+    → lookup (is_at (nat_cmp k)) es ≡ None → altered k g es ≡ es
 altered-absent [] k g h = refl
 altered-absent (e ∷ es) k g h = grind (arith, nat_tests, altered-absent es k g)
 
-pub All-push : (P : ℕ × Record → Type 0) (es : Entries) (e : ℕ × Record) → AllByRecursion P es → P e → AllByRecursion P (es ++ e ∷ [])
+-- what is so of each entry and of one more is so of all of them
+pub All-push : (P : ℕ × Record → Type 0) (es : Entries) (e : ℕ × Record) → AllByRecursion P es → P e
+    → AllByRecursion P (es ++ e ∷ [])
 All-push P [] e h p = (p, tt)
 All-push P (f ∷ es) e h p = (h.0, All-push P es e h.1 p)
 
-pub All-weaker : (P Q : ℕ × Record → Type 0) (es : Entries) → ((e : ℕ × Record) → P e → Q e) → AllByRecursion P es → AllByRecursion Q es
+-- what follows from what is so of each entry is so of each
+pub All-weaker : (P Q : ℕ × Record → Type 0) (es : Entries) → ((e : ℕ × Record) → P e → Q e)
+    → AllByRecursion P es → AllByRecursion Q es
 All-weaker P Q [] f h = tt
 All-weaker P Q (e ∷ es) f h = (f e h.0, All-weaker P Q es f h.1)
 
-pub All-filter : (P : ℕ × Record → Type 0) (test : ℕ × Record → Bool) (es : Entries) → AllByRecursion P es → AllByRecursion P (filter test es)
+-- what is so of each entry is so of those that a filter leaves
+pub All-filter : (P : ℕ × Record → Type 0) (test : ℕ × Record → Bool) (es : Entries)
+    → AllByRecursion P es → AllByRecursion P (filter test es)
 All-filter P test [] h = tt
-All-filter P test (e ∷ es) h = elim (test e) as (λ b. AllByRecursion P (cond b (e ∷ filter test es) (filter test es))) [ true ↦ (h.0, All-filter P test es h.1) | false ↦ All-filter P test es h.1 ]
+All-filter P test (e ∷ es) h =
+    elim (test e) as (λ b. AllByRecursion P (cond b (e ∷ filter test es) (filter test es))) [
+      | true ↦ (h.0, All-filter P test es h.1)
+      | false ↦ All-filter P test es h.1
+    ]
 
-pub Rises-push : (es : Entries) (k : ℕ) (v : Record) → Rises es → AllByRecursion (λ e. e.0 < k) es → Rises (es ++ (k, v) ∷ [])
+-- the nodes still rise after one more that is above all others
+pub Rises-push : (es : Entries) (k : ℕ) (v : Record) → Rises es → AllByRecursion (λ e. e.0 < k) es
+    → Rises (es ++ (k, v) ∷ [])
 Rises-push [] k v h b = (tt, tt)
-Rises-push (e ∷ es) k v h b = (All-push (λ f. e.0 < f.0) es (k, v) h.0 b.0, Rises-push es k v h.1 b.1)
+Rises-push (e ∷ es) k v h b =
+    (All-push (λ f. e.0 < f.0) es (k, v) h.0 b.0, Rises-push es k v h.1 b.1)
 
+-- the nodes that a filter leaves rise
 pub Rises-filter : (test : ℕ × Record → Bool) (es : Entries) → Rises es → Rises (filter test es)
 Rises-filter test [] h = tt
-Rises-filter test (e ∷ es) h = elim (test e) as (λ b. Rises (cond b (e ∷ filter test es) (filter test es))) [ true ↦ (All-filter (λ f. e.0 < f.0) test es h.0, Rises-filter test es h.1) | false ↦ Rises-filter test es h.1 ]
+Rises-filter test (e ∷ es) h =
+    elim (test e) as (λ b. Rises (cond b (e ∷ filter test es) (filter test es))) [
+      | true ↦ (All-filter (λ f. e.0 < f.0) test es h.0, Rises-filter test es h.1)
+      | false ↦ Rises-filter test es h.1
+    ]
 
 -- what a look-up finds after each edit
-pub lookup-filter : (es : Entries) (k n : ℕ) → lookup (nat_eq n) (filter (λ e. not (eqb e.0 k)) es) ≡ cond (eqb n k) None (lookup (nat_eq n) es)
+pub lookup-filter : (es : Entries) (k n : ℕ) → lookup (nat_eq n) (filter (λ e. not (eqb e.0 k)) es)
+    ≡ cond (eqb n k) None (lookup (nat_eq n) es)
 lookup-filter [] k n = grind (arith, nat_tests)
 lookup-filter (e ∷ es) k n = grind (arith, nat_tests, lookup-filter es k n)
 
-pub lookup-altered : (es : Entries) (k : ℕ) (g : Record → Record) (n : ℕ) → lookup (nat_eq n) (altered k g es) ≡ cond (eqb n k) (option_map g (lookup (nat_eq n) es)) (lookup (nat_eq n) es)
+-- a look-up after an alteration finds the altered record, or another node's own
+pub lookup-altered : (es : Entries) (k : ℕ) (g : Record → Record) (n : ℕ)
+    → lookup (nat_eq n) (altered k g es)
+    ≡ cond (eqb n k) (option_map g (lookup (nat_eq n) es)) (lookup (nat_eq n) es)
 lookup-altered [] k g n = grind (arith, nat_tests)
 lookup-altered (e ∷ es) k g n = grind (arith, nat_tests, lookup-altered es k g n)
 
-pub lookup-push : (es : Entries) (k : ℕ) (v : Record) (n : ℕ) → AllByRecursion (λ e. e.0 < k) es → lookup (nat_eq n) (es ++ (k, v) ∷ []) ≡ cond (eqb n k) (Some v) (lookup (nat_eq n) es)
+-- a look-up with one more entry finds it, or what it found before
+pub lookup-push : (es : Entries) (k : ℕ) (v : Record) (n : ℕ) → AllByRecursion (λ e. e.0 < k) es
+    → lookup (nat_eq n) (es ++ (k, v) ∷ []) ≡ cond (eqb n k) (Some v) (lookup (nat_eq n) es)
 lookup-push [] k v n h = grind (arith, nat_tests)
 lookup-push (e ∷ es) k v n h = grind (arith, nat_tests, lookup-push es k v n h.1)
 
-pub All-without : (P : ℕ × Record → Type 0) (other : Option ℕ) (es : Entries) → AllByRecursion P es → AllByRecursion P (without other es)
+-- what is so of each entry is so without one node
+pub All-without : (P : ℕ × Record → Type 0) (other : Option ℕ) (es : Entries) → AllByRecursion P es
+    → AllByRecursion P (without other es)
 All-without P None es h = h
 All-without P (Some k) es h = All-filter P (λ e. not (eqb e.0 k)) es h
 
+-- the nodes still rise without one
 pub Rises-without : (other : Option ℕ) (es : Entries) → Rises es → Rises (without other es)
 Rises-without None es h = h
 Rises-without (Some k) es h = Rises-filter (λ e. not (eqb e.0 k)) es h
 
-pub All-altered : (P : ℕ → Type 0) (k : ℕ) (g : Record → Record) (es : Entries) → AllByRecursion (λ e. P e.0) es → AllByRecursion (λ e. P e.0) (altered k g es)
+-- what is so of each node is so after an alteration
+pub All-altered : (P : ℕ → Type 0) (k : ℕ) (g : Record → Record) (es : Entries)
+    → AllByRecursion (λ e. P e.0) es → AllByRecursion (λ e. P e.0) (altered k g es)
 All-altered P k g [] h = tt
 All-altered P k g (e ∷ es) h = (h.0, All-altered P k g es h.1)
 
 -- what the alteration keeps of each
-pub All-kept : (P : ℕ × Record → Type 0) (k : ℕ) (g : Record → Record) (es : Entries) → ((e : ℕ × Record) → P e → P (e.0, g e.1)) → AllByRecursion P es → AllByRecursion P (altered k g es)
+pub All-kept : (P : ℕ × Record → Type 0) (k : ℕ) (g : Record → Record) (es : Entries)
+    → ((e : ℕ × Record) → P e → P (e.0, g e.1)) → AllByRecursion P es
+    → AllByRecursion P (altered k g es)
 All-kept P k g [] f h = tt
-All-kept P k g (e ∷ es) f h = (elim (eqb e.0 k) as (λ b. P (e.0, cond b (g e.1) e.1)) [ true ↦ f e h.0 | false ↦ h.0 ], All-kept P k g es f h.1)
+All-kept P k g (e ∷ es) f h = (
+  elim (eqb e.0 k) as (λ b. P (e.0, cond b (g e.1) e.1)) [ true ↦ f e h.0 | false ↦ h.0 ],
+  All-kept P k g es f h.1,
+)
 
+-- the nodes still rise after an alteration
 pub Rises-altered : (k : ℕ) (g : Record → Record) (es : Entries) → Rises es → Rises (altered k g es)
 Rises-altered k g [] h = tt
 Rises-altered k g (e ∷ es) h = (All-altered (λ n. e.0 < n) k g es h.0, Rises-altered k g es h.1)
 
 -- one that is there makes the others fewer
-pub length-filter_le : (es : Entries) (k : ℕ) → length (filter (λ e. not (eqb e.0 k)) es) ≤ length es
+pub length-filter_le : (es : Entries) (k : ℕ)
+    → length (filter (λ e. not (eqb e.0 k)) es) ≤ length es
 length-filter_le [] k = omega arith
 length-filter_le (e ∷ es) k = grind (arith, nat_tests, length-filter_le es k)
 
-pub length-filter_lt : (es : Entries) (k : ℕ) (r : Record) → lookup (nat_eq k) es ≡ Some r → length (filter (λ e. not (eqb e.0 k)) es) < length es
+-- without a node that was there the entries are fewer
+pub length-filter_lt : (es : Entries) (k : ℕ) (r : Record) → lookup (nat_eq k) es ≡ Some r
+    → length (filter (λ e. not (eqb e.0 k)) es) < length es
 length-filter_lt [] k r h = grind (arith, nat_tests)
-length-filter_lt (e ∷ es) k r h = let le = length-filter_le es k in grind (arith, nat_tests, length-filter_lt es k r)
+length-filter_lt (e ∷ es) k r h =
+    let le = length-filter_le es k in
+    grind (arith, nat_tests, length-filter_lt es k r)
 
 -- a node below all others is not found among them
-pub lookup-below : (es : Entries) (k : ℕ) → AllByRecursion (λ f. k < f.0) es → lookup (nat_eq k) es ≡ None
+pub lookup-below : (es : Entries) (k : ℕ) → AllByRecursion (λ f. k < f.0) es
+    → lookup (nat_eq k) es ≡ None
 lookup-below [] k h = refl
 lookup-below (e ∷ es) k h = grind (arith, nat_tests, lookup-below es k h.1)
 
 -- nor is one above all others
-pub lookup-above : (es : Entries) (k : ℕ) → AllByRecursion (λ f. f.0 < k) es → lookup (nat_eq k) es ≡ None
+pub lookup-above : (es : Entries) (k : ℕ) → AllByRecursion (λ f. f.0 < k) es
+    → lookup (nat_eq k) es ≡ None
 lookup-above [] k h = refl
 lookup-above (e ∷ es) k h = grind (arith, nat_tests, lookup-above es k h.1)
 
 -- where no record passes a test, none that is found does
-pub fails-lookup : (test : Record → Bool) (es : Entries) (n : ℕ) (r : Record) → list_any test (values_of es) ≡ false → lookup (nat_eq n) es ≡ Some r → test r ≡ false
+pub fails-lookup : (test : Record → Bool) (es : Entries) (n : ℕ) (r : Record)
+    → list_any test (values_of es) ≡ false → lookup (nat_eq n) es ≡ Some r → test r ≡ false
 fails-lookup test [] n r h found = cc
 fails-lookup test (e ∷ es) n r h found = grind (arith, nat_tests, fails-lookup test es n r)
 
 -- the nodes of a front are below that of what follows it
-pub Rises-front : (es fs : Entries) (e : ℕ × Record) → Rises (es ++ e ∷ fs) → AllByRecursion (λ f. f.0 < e.0) es
+pub Rises-front : (es fs : Entries) (e : ℕ × Record) → Rises (es ++ e ∷ fs)
+    → AllByRecursion (λ f. f.0 < e.0) es
 Rises-front [] fs e h = tt
 Rises-front (f ∷ es) fs e h = (below es h.0, Rises-front es fs e h.1)
   where
@@ -147,36 +210,51 @@ Rises-front (f ∷ es) fs e h = (below es h.0, Rises-front es fs e h.1)
     below [] k = k.0
     below (g ∷ gs) k = below gs k.1
 
+-- the nodes of a front rise
 pub Rises-start : (es fs : Entries) → Rises (es ++ fs) → Rises es
 Rises-start [] fs h = tt
 Rises-start (e ∷ es) fs h = (front es h.0, Rises-start es fs h.1)
   where
-    front : (gs : Entries) → AllByRecursion (λ g. e.0 < g.0) (gs ++ fs) → AllByRecursion (λ g. e.0 < g.0) gs
+    front : (gs : Entries) → AllByRecursion (λ g. e.0 < g.0) (gs ++ fs)
+        → AllByRecursion (λ g. e.0 < g.0) gs
     front [] k = tt
     front (g ∷ gs) k = (k.0, front gs k.1)
 
 -- what the search for a place finds
-pub node_in-some : (es : Entries) (dir : ℕ) (name : List ℕ) (x : ℕ) → Rises es → node_in es dir name ≡ Some x → (r : Record) × (lookup (nat_eq x) es ≡ Some r) × (r.dir ≡ dir) × (r.name ≡ name)
+pub node_in-some : (es : Entries) (dir : ℕ) (name : List ℕ) (x : ℕ) → Rises es
+    → node_in es dir name ≡ Some x
+    → (r : Record) × (lookup (nat_eq x) es ≡ Some r) × (r.dir ≡ dir) × (r.name ≡ name)
 node_in-some [] dir name x h found = cc
-node_in-some (e ∷ es) dir name x h found = at (node_in-some es dir name x h.1) ((e.1.dir == dir) && bytes_eq e.1.name name) refl
+node_in-some (e ∷ es) dir name x h found =
+    at (node_in-some es dir name x h.1) ((e.1.dir == dir) && bytes_eq e.1.name name) refl
   where
-    at : (node_in es dir name ≡ Some x → (r : Record) × (lookup (nat_eq x) es ≡ Some r) × (r.dir ≡ dir) × (r.name ≡ name)) → (b : Bool) → ((e.1.dir == dir) && bytes_eq e.1.name name) ≡ b → (r : Record) × (lookup (nat_eq x) (e ∷ es) ≡ Some r) × (r.dir ≡ dir) × (r.name ≡ name)
+    at : (node_in es dir name ≡ Some x
+        → (r : Record) × (lookup (nat_eq x) es ≡ Some r) × (r.dir ≡ dir) × (r.name ≡ name))
+        → (b : Bool) → ((e.1.dir == dir) && bytes_eq e.1.name name) ≡ b
+        → (r : Record) × (lookup (nat_eq x) (e ∷ es) ≡ Some r) × (r.dir ≡ dir) × (r.name ≡ name)
     at hyp true is =
         let same = bytes_eq-Decides e.1.name name in
         let here : e.0 ≡ x = grind (arith, nat_tests) in
         (e.1, grind (arith, nat_tests), grind (arith, nat_tests), grind (arith, nat_tests))
     at hyp false is =
-        let rest : (r : Record) × (lookup (nat_eq x) es ≡ Some r) × (r.dir ≡ dir) × (r.name ≡ name) = hyp (grind (arith, nat_tests)) in
+        let rest : (r : Record) × (lookup (nat_eq x) es ≡ Some r) × (r.dir ≡ dir)
+        × (r.name ≡ name) = hyp (grind (arith, nat_tests)) in
         let l = rest.1 in
         let off = lookup-below es e.0 h.0 in
         let differs : eqb x e.0 ≡ false = grind (arith, nat_tests) in
         (rest.0, grind (arith, nat_tests), rest.2, rest.3)
 
-pub node_in-none : (es : Entries) (dir : ℕ) (name : List ℕ) (n : ℕ) (r : Record) → node_in es dir name ≡ None → lookup (nat_eq n) es ≡ Some r → r.dir ≡ dir → r.name ≡ name → ⊥
+-- where no node is found at a place, no record has it
+pub node_in-none : (es : Entries) (dir : ℕ) (name : List ℕ) (n : ℕ) (r : Record)
+    → node_in es dir name ≡ None → lookup (nat_eq n) es ≡ Some r → r.dir ≡ dir → r.name ≡ name → ⊥
 node_in-none [] dir name n r none found same_dir same_name = cc
-node_in-none (e ∷ es) dir name n r none found same_dir same_name = let same = bytes_eq-Decides e.1.name name in grind (arith, nat_tests, node_in-none es dir name n r)
+node_in-none (e ∷ es) dir name n r none found same_dir same_name =
+    let same = bytes_eq-Decides e.1.name name in
+    grind (arith, nat_tests, node_in-none es dir name n r)
 
 -- a place is taken where the search finds a node
-pub is_taken-node_in : (es : Entries) (dir : ℕ) (name : List ℕ) → list_any (λ r. (r.dir == dir) && bytes_eq r.name name) (values_of es) ≡ is_some (node_in es dir name)
+pub is_taken-node_in : (es : Entries) (dir : ℕ) (name : List ℕ)
+    → list_any (λ r. (r.dir == dir) && bytes_eq r.name name) (values_of es)
+    ≡ is_some (node_in es dir name)
 is_taken-node_in [] dir name = refl
 is_taken-node_in (e ∷ es) dir name = grind (arith, nat_tests, is_taken-node_in es dir name)

@@ -3,6 +3,7 @@ use Rattle.std.proofs.Common.{refl}
 use Rattle.lq_volume.specs.declared.change.Change.TheVariants.{Create, Remove, Move, Write, SetAttr, RemoveAttr}
 use Rattle.lq_volume.specs.Laws.{ChangesCount}
 
+-- each change adds one to the number of changes
 pub counted : ChangesCount
 counted s (Create dir name kind size time) = refl
 counted s (Remove node) = refl

@@ -8,6 +8,7 @@ use Rattle.lq_value.specs.Compare.{Held, Words, Number}
 use Rattle.lq_value.specs.declared.value.Value.{Value}
 use Rattle.lq_value.specs.declared.value.Value.TheVariants as value
 
+-- the attributes of an entry, each a name with its value
 abbrev pub Attributes : Type 0
 Attributes = List (List ℕ × Value)
 
@@ -30,7 +31,9 @@ without_attr attrs attr = filter (λ a. not (bytes_eq attr a.0)) attrs
 
 -- the names that show what every entry has
 abbrev pub is_reserved : List ℕ → Bool
-is_reserved attr = bytes_eq attr (codes "name") || bytes_eq attr (codes "size") || bytes_eq attr (codes "last_modified")
+is_reserved attr =
+    bytes_eq attr (codes "name") || bytes_eq attr (codes "size")
+    || bytes_eq attr (codes "last_modified")
 
 -- what a value holds
 abbrev pub held : Value → Held

@@ -4,10 +4,12 @@ use Rattle.lq_volume.specs.declared.change.Change.{Change}
 use Rattle.lq_volume.specs.State.{State}
 use Rattle.lq_volume.specs.Change.{after, IsLawful}
 
+-- a state to begin with, and the changes since
 pub record Book : Type 0 where
   pub start : State
   pub changes : List Change
 
+-- the state after these changes, one after another
 abbrev pub after_all : State → List Change → State
 after_all s [] = s
 after_all s (c ∷ cs) = after_all (after s c) cs
@@ -17,6 +19,7 @@ abbrev pub AreLawful : State → List Change → Type 0
 AreLawful s [] = Unit {0}
 AreLawful s (c ∷ cs) = IsLawful s c × AreLawful (after s c) cs
 
+-- each change of the book is lawful where it is made
 abbrev pub IsBook : Book → Type 0
 IsBook b = AreLawful b.start b.changes
 
@@ -24,6 +27,7 @@ IsBook b = AreLawful b.start b.changes
 abbrev pub state_of : Book → State
 state_of b = after_all b.start b.changes
 
+-- the number of the book's last change
 abbrev pub number_of : Book → ℕ
 number_of b = b.start.number + length b.changes
 

@@ -25,6 +25,7 @@ abbrev pub other_than : ℕ → Option ℕ → Option ℕ
 other_than node None = None
 other_than node (Some there) = if there == node then None else Some there
 
+-- the node that has this place, if it is another than this one
 abbrev pub other_at : State → ℕ → ℕ → List ℕ → Option ℕ
 other_at s node dir name = other_than node (node_in s.records dir name)
 
@@ -32,6 +33,7 @@ other_at s node dir name = other_than node (node_in s.records dir name)
 abbrev pub is_other : Option ℕ → (ℕ → Bool) → Bool
 is_other other test = option_map_or test other false
 
+-- whether two tests answer differently
 abbrev pub differ : Bool → Bool → Bool
 differ a b = if a then not b else b
 
@@ -50,6 +52,7 @@ create_refusals s dir name kind size =
     ∷ (is_full s, Exhausted)
     ∷ []
 
+-- the tests of a removal
 abbrev pub remove_refusals : State → ℕ → List (Bool × Refusal)
 remove_refusals s node =
     (is_none (kind_at s node), NoNode)
@@ -67,11 +70,19 @@ move_refusals s node dir name clobber =
     ∷ (is_file_at s dir, NotFolder)
     ∷ (reaches s dir node, WouldLoop)
     ∷ (is_other (other_at s node dir name) (λ other. not clobber), Exists)
-    ∷ (is_other (other_at s node dir name) (λ other. differ (is_folder_at s other) (is_folder_at s node)), KindClash)
-    ∷ (is_other (other_at s node dir name) (λ other. is_folder_at s other && has_entries s other), NotEmpty)
+    ∷ (
+      is_other (other_at s node dir name)
+          (λ other. differ (is_folder_at s other) (is_folder_at s node)),
+      KindClash,
+    )
+    ∷ (
+      is_other (other_at s node dir name) (λ other. is_folder_at s other && has_entries s other),
+      NotEmpty,
+    )
     ∷ (is_full s, Exhausted)
     ∷ []
 
+-- the tests of a write
 abbrev pub write_refusals : State → ℕ → ℕ → List (Bool × Refusal)
 write_refusals s node size =
     (is_none (kind_at s node), NoNode)
@@ -81,6 +92,7 @@ write_refusals s node size =
     ∷ (is_full s, Exhausted)
     ∷ []
 
+-- the tests of a setting of an attribute
 abbrev pub set_refusals : State → ℕ → List ℕ → List (Bool × Refusal)
 set_refusals s node attr =
     (is_none (kind_at s node), NoNode)
@@ -89,6 +101,7 @@ set_refusals s node attr =
     ∷ (is_full s, Exhausted)
     ∷ []
 
+-- the tests of a removal of an attribute
 abbrev pub unset_refusals : State → ℕ → List ℕ → List (Bool × Refusal)
 unset_refusals s node attr =
     (is_none (kind_at s node), NoNode)
@@ -98,6 +111,7 @@ unset_refusals s node attr =
     ∷ (is_full s, Exhausted)
     ∷ []
 
+-- the tests of any change, each with its refusal
 abbrev pub refusals : State → Change → List (Bool × Refusal)
 refusals s (Create dir name kind size time) = create_refusals s dir name kind size
 refusals s (Remove node) = remove_refusals s node
@@ -123,28 +137,43 @@ without (Some node) es = filter (λ e. not (e.0 == node)) es
 abbrev pub altered_at : ℕ → (Record → Record) → ℕ × Record → ℕ × Record
 altered_at node f e = (e.0, if e.0 == node then f e.1 else e.1)
 
+-- the entries, where the record of one node is altered
 abbrev pub altered : ℕ → (Record → Record) → List (ℕ × Record) → List (ℕ × Record)
 altered node f es = map (altered_at node f) es
 
 -- a record at another place, one with another size, and one with other attributes
 abbrev pub at_place : ℕ → List ℕ → Record → Record
-at_place dir name r = record { dir = dir; name = name; kind = r.kind; size = r.size; time = r.time; attrs = r.attrs }
+at_place dir name r =
+    record { dir = dir; name = name; kind = r.kind; size = r.size; time = r.time; attrs = r.attrs }
 
+-- a record with another size and time
 abbrev pub written : ℕ → ℤ → Record → Record
-written size time r = record { dir = r.dir; name = r.name; kind = r.kind; size = size; time = time; attrs = r.attrs }
+written size time r =
+    record { dir = r.dir; name = r.name; kind = r.kind; size = size; time = time; attrs = r.attrs }
 
+-- a record with other attributes
 abbrev pub with_attrs : Attributes → Record → Record
-with_attrs attrs r = record { dir = r.dir; name = r.name; kind = r.kind; size = r.size; time = r.time; attrs = attrs }
+with_attrs attrs r = record {
+  dir = r.dir;
+  name = r.name;
+  kind = r.kind;
+  size = r.size;
+  time = r.time;
+  attrs = attrs;
+}
 
+-- a record where one attribute is set
 abbrev pub setting : List ℕ → Value → Record → Record
 setting attr value r = with_attrs (with_attr r.attrs attr value) r
 
+-- a record where one attribute is removed
 abbrev pub unsetting : List ℕ → Record → Record
 unsetting attr r = with_attrs (without_attr r.attrs attr) r
 
 -- one change more, and other records
 abbrev pub changed : State → List (ℕ × Record) → State
-changed s records = record { limit = s.limit; number = s.number + 1; next = s.next; records = records }
+changed s records =
+    record { limit = s.limit; number = s.number + 1; next = s.next; records = records }
 
 -- the state after a change that is not refused
 abbrev pub after : State → Change → State
@@ -153,10 +182,16 @@ after s (Create dir name kind size time) =
       limit = s.limit;
       number = s.number + 1;
       next = s.next + 1;
-      records = s.records ++ (s.next, record { dir = dir; name = name; kind = kind; size = size; time = time; attrs = [] }) ∷ [];
+      records = s.records
+          ++ (
+            s.next,
+            record { dir = dir; name = name; kind = kind; size = size; time = time; attrs = [] },
+          )
+          ∷ [];
     }
 after s (Remove node) = changed s (filter (λ e. not (e.0 == node)) s.records)
-after s (Move node dir name clobber) = changed s (altered node (at_place dir name) (without (other_at s node dir name) s.records))
+after s (Move node dir name clobber) =
+    changed s (altered node (at_place dir name) (without (other_at s node dir name) s.records))
 after s (Write node size time) = changed s (altered node (written size time) s.records)
 after s (SetAttr node attr value) = changed s (altered node (setting attr value) s.records)
 after s (RemoveAttr node attr) = changed s (altered node (unsetting attr) s.records)
@@ -185,7 +220,8 @@ touched_by s c = node_of s c ∷ option_to_list (clobbered s c)
 
 -- the record that a change leaves at its own node
 abbrev pub record_left : State → Change → Option Record
-record_left s (Create dir name kind size time) = Some (record { dir = dir; name = name; kind = kind; size = size; time = time; attrs = [] })
+record_left s (Create dir name kind size time) =
+    Some (record { dir = dir; name = name; kind = kind; size = size; time = time; attrs = [] })
 record_left s (Remove node) = None
 record_left s (Move node dir name clobber) = option_map (at_place dir name) (record_at s node)
 record_left s (Write node size time) = option_map (written size time) (record_at s node)

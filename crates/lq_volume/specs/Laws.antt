@@ -11,7 +11,8 @@ ChangesKeepTrees = (s : State) (c : Change) → IsVolume s → IsLawful s c → 
 
 -- at its own node it leaves the record that the change says
 abbrev pub RecordsLeft : Type 0
-RecordsLeft = (s : State) (c : Change) → IsVolume s → record_at (after s c) (node_of s c) ≡ record_left s c
+RecordsLeft = (s : State) (c : Change) → IsVolume s
+    → record_at (after s c) (node_of s c) ≡ record_left s c
 
 -- the node that a move takes away is another one, and is gone afterwards
 abbrev pub ClobberedGo : Type 0
@@ -20,7 +21,8 @@ ClobberedGo = (s : State) (c : Change) (n : ℕ) → IsVolume s → clobbered s 
 
 -- no other node has the place that an entry has
 abbrev pub PlacesAreOwn : Type 0
-PlacesAreOwn = (s : State) (n : ℕ) (r : Record) → IsVolume s → record_at s n ≡ Some r → other_at s n r.dir r.name ≡ None
+PlacesAreOwn = (s : State) (n : ℕ) (r : Record) → IsVolume s → record_at s n ≡ Some r
+    → other_at s n r.dir r.name ≡ None
 
 -- a node that a change doesn't touch has the record that it had
 abbrev pub UntouchedStay : Type 0

@@ -23,4 +23,11 @@ entry_refusals s node =
 
 -- the record that a listing shows
 abbrev pub listed : Listing → Record
-listed l = record { dir = l.dir; name = l.name; kind = l.kind; size = l.size; time = l.time; attrs = l.attrs.items }
+listed l = record {
+  dir = l.dir;
+  name = l.name;
+  kind = l.kind;
+  size = l.size;
+  time = l.time;
+  attrs = l.attrs.items;
+}

@@ -1,4 +1,5 @@
--- The index of a volume: the node at each place, by folder and then by name. No public clause names it.
+-- The index of a volume: the node at each place, by folder and then by name. No public clause names
+-- it.
 use Rattle.std.specs.Prelude.{◌≡◌, ℕ, List, Bool, false, Option, Some, IsSome, option_and_then, nat_eq, not, length, ◌==◌}
 use Rattle.std.specs.BTreeMap.{BTreeMap, get}
 use Rattle.std.specs.Cmp.Lexicographic.{slice_cmp}
@@ -8,16 +9,19 @@ use Rattle.std.specs.Ordering.{nat_cmp}
 use Rattle.lq_volume.specs.State.{Record, Rises, node_in}
 use Rattle.lq_volume.specs.Change.{altered, at_place, other_than, without}
 
+-- the node under each name, by folder
 abbrev pub Places : Type 0
 Places = BTreeMap ℕ (BTreeMap (List ℕ) ℕ)
 
 -- the node at a place
 abbrev pub place_at : Places → ℕ → List ℕ → Option ℕ
-place_at places dir name = option_and_then (λ names. get (slice_cmp nat_cmp) names name) (get nat_cmp places dir)
+place_at places dir name =
+    option_and_then (λ names. get (slice_cmp nat_cmp) names name) (get nat_cmp places dir)
 
 -- whether a folder has a name
 abbrev pub has_names : Places → ℕ → Bool
-has_names places dir = option_map_or (λ names. not (length names.entries == 0)) (get nat_cmp places dir) false
+has_names places dir =
+    option_map_or (λ names. not (length names.entries == 0)) (get nat_cmp places dir) false
 
 -- the same nodes at the same places
 abbrev pub SamePlaces : Places → Places → Type 0
@@ -34,10 +38,12 @@ pub record IsIndexed (places : Places) (es : List (ℕ × Record)) : Type 0 wher
 
 -- no two of the records share a folder and a name
 abbrev pub IsApart : List (ℕ × Record) → Type 0
-IsApart es = (m n : ℕ) (q r : Record) → lookup (nat_eq m) es ≡ Some q → lookup (nat_eq n) es ≡ Some r → q.dir ≡ r.dir → q.name ≡ r.name → m ≡ n
+IsApart es = (m n : ℕ) (q r : Record) → lookup (nat_eq m) es ≡ Some q
+    → lookup (nat_eq n) es ≡ Some r → q.dir ≡ r.dir → q.name ≡ r.name → m ≡ n
 
 -- what a move of a node needs: it is there, and the other node at its place goes
-pub record CanMove (es : List (ℕ × Record)) (node dir : ℕ) (name : List ℕ) (other : Option ℕ) : Type 0 where
+pub record CanMove (es : List (ℕ × Record)) (node dir : ℕ) (name : List ℕ)
+    (other : Option ℕ) : Type 0 where
   pub apart : IsApart es
   pub there : IsSome (lookup (nat_eq node) es)
   pub other_is : other ≡ other_than node (node_in es dir name)

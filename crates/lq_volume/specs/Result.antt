@@ -17,9 +17,11 @@ shown r attr =
     else if bytes_eq attr (codes "last_modified") then Some (Number r.time)
     else option_map held (value_of r.attrs attr)
 
+-- what a result shows of a record: its place and its node
 abbrev pub entry_of : ℕ × Record → Entry
 entry_of e = record { dir = e.1.dir; name = e.1.name; node = e.0 }
 
+-- the entries of the records that the predicate holds of, by rising node
 abbrev pub result_of : Query → State → List Entry
 result_of q s = map entry_of (filter (λ e. truth q (shown e.1)) s.records)
 

@@ -1,4 +1,5 @@
--- What a volume holds: its limit, how many changes it accepted, the next node, and the records by rising node.
+-- What a volume holds: its limit, how many changes it accepted, the next node, and the records by
+-- rising node.
 use Rattle.std.specs.Prelude.{ℕ, ℤ, zero, suc, ◌≡◌, ◌+◌, ◌≤◌, ◌<◌, List, [], ◌∷◌, length, Bool, true, false, ◌&&◌, ◌||◌, ◌==◌, nat_eq, Option, Some, None, if◌then◌else◌}
 use Rattle.std.specs.Option.{option_map, option_map_or}
 use Rattle.std.specs.List.{list_any, AllByRecursion}
@@ -18,6 +19,7 @@ pub record Record : Type 0 where
   pub time : ℤ
   pub attrs : Attributes
 
+-- what a volume holds
 pub record State : Type 0 where
   pub limit : ℕ
   pub number : ℕ
@@ -28,6 +30,7 @@ pub record State : Type 0 where
 abbrev pub root : ℕ
 root = 1
 
+-- the record of a node
 abbrev pub record_at : State → ℕ → Option Record
 record_at s node = lookup (nat_eq node) s.records
 
@@ -55,12 +58,15 @@ reaches s at to = climbs (length s.records) (dir_of s.records) to at
 -- the node that has a place
 abbrev pub node_in : List (ℕ × Record) → ℕ → List ℕ → Option ℕ
 node_in [] dir name = None
-node_in (e ∷ es) dir name = if (e.1.dir == dir) && bytes_eq e.1.name name then Some e.0 else node_in es dir name
+node_in (e ∷ es) dir name =
+    if (e.1.dir == dir) && bytes_eq e.1.name name then Some e.0
+    else node_in es dir name
 
 -- whether an entry is in the folder, and whether one has that place
 abbrev pub has_entries : State → ℕ → Bool
 has_entries s dir = list_any (λ r. r.dir == dir) (values_of s.records)
 
+-- whether an entry has that place
 abbrev pub is_taken : State → ℕ → List ℕ → Bool
 is_taken s dir name = list_any (λ r. (r.dir == dir) && bytes_eq r.name name) (values_of s.records)
 
@@ -91,7 +97,8 @@ pub record IsTree (s : State) : Type 0 where
   -- walking up reaches the root
   pub climb : (n : ℕ) (r : Record) → record_at s n ≡ Some r → reaches s n root ≡ true
   -- no two records share a folder and a name
-  pub apart : (m n : ℕ) (q r : Record) → record_at s m ≡ Some q → record_at s n ≡ Some r → q.dir ≡ r.dir → q.name ≡ r.name → m ≡ n
+  pub apart : (m n : ℕ) (q r : Record) → record_at s m ≡ Some q → record_at s n ≡ Some r
+      → q.dir ≡ r.dir → q.name ≡ r.name → m ≡ n
   -- a folder's size is 0
   pub sizes : (n : ℕ) (r : Record) → record_at s n ≡ Some r → is_folder r.kind ≡ true → r.size ≡ 0
   -- the root has no record

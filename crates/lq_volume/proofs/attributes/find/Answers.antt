@@ -9,7 +9,8 @@ returns-then-eq c =
     rw (← c.as_str.ensures.value, ← c.as_str-in-loop-pair.ensures.value) (sym c.eq.ensures
     ∙ c.if-eq.true) in
     let is = rw same at
-    (value_of-drop c.args.list.now c.loop-pair.pair-index c.args.attr.now c.pair-item.result c.loop-pair-test.true c.pair-item.is) in
+    (value_of-drop c.args.list.now c.loop-pair.pair-index c.args.attr.now c.pair-item.result
+    c.loop-pair-test.true c.pair-item.is) in
     sym (sym c.loop-pair.invariant ∙ is)
 
 pub loop-pair-preserved : goal.loop-pair-preserved
@@ -18,5 +19,6 @@ loop-pair-preserved c =
     rw (← c.as_str.ensures.value, ← c.as_str-in-loop-pair.ensures.value) (sym c.eq.ensures
     ∙ c.if-eq.false) in
     let is = rw differs at
-    (value_of-drop c.args.list.now c.loop-pair.pair-index c.args.attr.now c.pair-item.result c.loop-pair-test.true c.pair-item.is) in
+    (value_of-drop c.args.list.now c.loop-pair.pair-index c.args.attr.now c.pair-item.result
+    c.loop-pair-test.true c.pair-item.is) in
     sym is ∙ c.loop-pair.invariant

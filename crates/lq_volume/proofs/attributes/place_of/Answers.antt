@@ -22,7 +22,8 @@ loop-pair-preserved c =
     rw (← c.as_str.ensures.value, ← c.as_str-in-loop-pair.ensures.value) (sym c.eq.ensures
     ∙ c.if-eq.false) in
     let is = rw differs at
-    (value_of-drop c.args.list.now c.loop-pair.pair-index c.args.attr.now c.pair-item.result c.loop-pair-test.true c.pair-item.is) in
+    (value_of-drop c.args.list.now c.loop-pair.pair-index c.args.attr.now c.pair-item.result
+    c.loop-pair-test.true c.pair-item.is) in
     record {
       place = ap (λ n. n + 1) c.loop-pair.invariant.place;
       left =

@@ -7,5 +7,7 @@ use Rattle.lq_volume.proofs.checks.other_in.Goals as goal
 pub returns-in-None-record-clause-node : goal.returns-in-None-record-clause-node
 returns-in-None-record-clause-node c =
     let s = c.args.volume.now in
-    let none : record_at s c.in-Some.other ≡ None = sym c.record.ensures ∙ ap option_copied c.in-None-record.is in
-    absurd (other-there s c.args.moved c.args.dir c.args.name.now c.in-Some.other c.changes.ensures.volume (sym c.other_at.ensures ∙ c.in-Some.is) none)
+    let none : record_at s c.in-Some.other ≡ None = sym c.record.ensures
+    ∙ ap option_copied c.in-None-record.is in
+    absurd (other-there s c.args.moved c.args.dir c.args.name.now c.in-Some.other
+    c.changes.ensures.volume (sym c.other_at.ensures ∙ c.in-Some.is) none)

@@ -11,5 +11,7 @@ pub returns-else-is_folder : goal.returns-else-is_folder
 returns-else-is_folder c =
     let s = c.args.volume.now in
     let kind = ap (λ (k : Option Kind). option_map_or is_folder k false) c.requires.kind in
-    let file : is_folder_at s c.args.moved ≡ false = kind ∙ (sym c.is_folder.ensures ∙ c.if-is_folder.false) in
-    c.if-is_folder.false ∙ sym (reaches-file s c.args.moved c.args.dir c.changes.ensures.volume.tree file c.requires.dir)
+    let file : is_folder_at s c.args.moved ≡ false = kind
+    ∙ (sym c.is_folder.ensures ∙ c.if-is_folder.false) in
+    c.if-is_folder.false
+    ∙ sym (reaches-file s c.args.moved c.args.dir c.changes.ensures.volume.tree file c.requires.dir)

@@ -6,4 +6,10 @@ use Rattle.lq_volume.proofs.places.put_first.Goals as goal
 pub returns-clause-ok : goal.returns-clause-ok
 returns-clause-ok c = λ d n.
     let empty = c.new-names.ensures.empty in
-    grind (arith, common_steps, is_eq-slice_cmp c.args.name n, c.in_ok-insert.ensures.updates.0 n, c.in_ok-insert-2.ensures.updates.0 d)
+    grind (
+      arith,
+      common_steps,
+      is_eq-slice_cmp c.args.name n,
+      c.in_ok-insert.ensures.updates.0 n,
+      c.in_ok-insert-2.ensures.updates.0 d,
+    )

@@ -6,7 +6,8 @@ use Rattle.lq_volume.proofs.RecordLemmas.{lookup-above}
 use Rattle.lq_volume.proofs.planned.touched_by.Goals as goal
 
 -- no record has the next node yet
-pub returns-in_ok-check_create-in-Create-clause-touched : goal.returns-in_ok-check_create-in-Create-clause-touched
+pub returns-in_ok-check_create-in-Create-clause-touched :
+    goal.returns-in_ok-check_create-in-Create-clause-touched
 returns-in_ok-check_create-in-Create-clause-touched c =
     let s = c.args.volume.now in
     let volume = c.changes.ensures.volume in

@@ -11,14 +11,19 @@ returns-then-at-to c =
 pub returns-in-None : goal.returns-in-None
 returns-in-None c =
     let n = c.len-end.result - c.loop.counter in
-    sym (climbs-top n _ _ _ c.if-at-to.false (dir_of-none c.args.records.now.entries c.loop.at c.in-None.ensures.value)) ∙ c.loop.invariant.rest n (omega arith)
+    sym (climbs-top n _ _ _ c.if-at-to.false
+    (dir_of-none c.args.records.now.entries c.loop.at c.in-None.ensures.value))
+    ∙ c.loop.invariant.rest n (omega arith)
 
 pub loop-preserved : goal.loop-preserved
 loop-preserved c =
-    let up : dir_of c.args.records.now.entries c.loop.at ≡ Some c.dir-at.result = rw c.dir-at.ensures (dir_of-some c.args.records.now.entries c.loop.at c.in-Some.record.now c.in-Some.ensures.value) in
+    let up : dir_of c.args.records.now.entries c.loop.at ≡ Some c.dir-at.result =
+    rw c.dir-at.ensures (dir_of-some c.args.records.now.entries c.loop.at c.in-Some.record.now
+    c.in-Some.ensures.value) in
     record {
       end = c.loop.invariant.end;
-      rest = λ n e. sym (climbs-on n _ _ _ _ c.if-at-to.false up) ∙ c.loop.invariant.rest (suc n) (omega arith);
+      rest = λ n e. sym (climbs-on n _ _ _ _ c.if-at-to.false up)
+          ∙ c.loop.invariant.rest (suc n) (omega arith);
     }
 
 pub returns : goal.returns

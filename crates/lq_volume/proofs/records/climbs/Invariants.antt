@@ -7,5 +7,6 @@ abbrev pub invariant-loop : goal.invariant-loop
 invariant-loop l =
     record {
       end : l.end ≡ length l.records.entries;
-      rest : (n : ℕ) → l.end ≡ l.counter + n → climbs n (dir_of l.records.entries) l.to l.at ≡ climbs (length l.records.entries) (dir_of l.records.entries) l.to l.from;
+      rest : (n : ℕ) → l.end ≡ l.counter + n → climbs n (dir_of l.records.entries) l.to l.at
+          ≡ climbs (length l.records.entries) (dir_of l.records.entries) l.to l.from;
     }

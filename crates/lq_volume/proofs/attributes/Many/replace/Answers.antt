@@ -22,7 +22,8 @@ invariant_of-self c =
     let some : get_by_text c.self.inside.numbers c.args.attr ≡ Some c.in-Some.number.now =
     rw (← c.as_str.ensures.value) (sym c.in-Some.ensures.value) in
     rw c.write_at.ensures (AreNumbered-set c.self.inside.next
-    (get_by_text c.self.inside.numbers) es c.args.attr c.in-Some.number.now c.args.value some c.self.invariant)
+    (get_by_text c.self.inside.numbers) es c.args.attr c.in-Some.number.now c.args.value some
+    c.self.invariant)
 
 pub returns-in-Some : goal.returns-in-Some
 returns-in-Some c =

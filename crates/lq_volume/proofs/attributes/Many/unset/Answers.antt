@@ -16,10 +16,12 @@ invariant_of-self c =
     let up : (q : List ℕ) → get_by_text c.remove.new.self q ≡ cond
     (bytes_eq c.args.attr.now q) None (get_by_text c.self.inside.numbers q) = λ q. rw
     (← c.as_str.ensures.value)
-    (btree_map_updates_text c.as_str.result.now c.self.inside.numbers c.remove.new.self None c.remove.ensures.updates q) in
+    (btree_map_updates_text c.as_str.result.now c.self.inside.numbers c.remove.new.self None
+    c.remove.ensures.updates q) in
     rw c.remove_at.ensures (AreNumbered-removed c.self.inside.next
     (get_by_text c.self.inside.numbers)
-    (get_by_text c.remove.new.self) es c.args.attr.now c.in-Some.number own some up c.self.invariant)
+    (get_by_text c.remove.new.self) es c.args.attr.now c.in-Some.number own some up
+    c.self.invariant)
 
 pub invariant_of-self-in_default : goal.invariant_of-self-in_default
 invariant_of-self-in_default c = AreNumbered-same c.self.inside.next

@@ -3,6 +3,7 @@ use Rattle.lq_volume.proofs.entries.Entries.add.Goals as goal
 
 pub invariant_of-self-2 : goal.invariant_of-self-2
 invariant_of-self-2 c = record {
-  rise = rw c.in_ok-add.ensures.ok (Rises-push _ _ _ c.self.invariant.rise (rw c.self.view_is c.requires.last));
+  rise = rw c.in_ok-add.ensures.ok
+      (Rises-push _ _ _ c.self.invariant.rise (rw c.self.view_is c.requires.last));
   index = c.in_ok-add.ensures.index;
 }

@@ -6,4 +6,5 @@ use Rattle.lq_volume.proofs.entries.Entries.fetch.Given as goal
 
 -- the entries of the records so far that the predicate holds of
 abbrev pub invariant-loop-node : goal.invariant-loop-node
-invariant-loop-node l = l.entries.items ≡ map entry_of (filter (λ e. truth l.predicate (shown e.1)) (map deref_pair l.yielded))
+invariant-loop-node l = l.entries.items
+    ≡ map entry_of (filter (λ e. truth l.predicate (shown e.1)) (map deref_pair l.yielded))
