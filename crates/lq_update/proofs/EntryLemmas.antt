@@ -1,4 +1,5 @@
--- What a node has among entries that rise by node, and what taking one out or putting one in does to that.
+-- What a node has among entries that rise by node, and what taking one out or putting one in does
+-- to that.
 use Rattle.std.proofs.Common.{◌≡◌, ℕ, ◌<◌, List, [], ◌∷◌, refl, sym, ap, ◌∙◌, Bool, true, false, arith, inl, inr}
 use Rattle.std.specs.Prelude.{Option, Some, None, is_some, ◌==◌, filter, nat_lt, if◌then◌else◌}
 use Rattle.std.specs.Option.{option_map_or}
@@ -16,37 +17,48 @@ abbrev pub entry_at : ℕ → List Entry → Option Entry
 entry_at n [] = None
 entry_at n (e ∷ es) = if e.node == n then Some e else entry_at n es
 
+-- each entry has a node above this one
 abbrev pub Above : ℕ → List Entry → Type 0
 Above n es = AllByRecursion (λ f. n < f.node) es
 
+-- among entries above a node it has no entry
 pub at-above : (n : ℕ) (es : List Entry) → Above n es → entry_at n es ≡ None
 at-above n [] h = refl
 at-above n (e ∷ es) h = let low = h.0 in let rest = at-above n es h.1 in grind (arith, nat_tests)
 
+-- what is above a node is above a lower one
 pub above-lower : (j k : ℕ) (es : List Entry) → j < k → Above k es → Above j es
 above-lower j k [] lt h = tt
 above-lower j k (e ∷ es) lt h = (omega (arith, h.0), above-lower j k es lt h.1)
 
+-- the entry found for a node has that node
 pub at-node : (n : ℕ) (es : List Entry) (e : Entry) → entry_at n es ≡ Some e → e.node ≡ n
 at-node n [] e is = cc
 at-node n (f ∷ es) e is = elim (cases_eq f.node n) [
-  | inl same ↦ let here : f ≡ e = grind (arith, nat_tests) in sym (ap (λ (d : Entry). d.node) here) ∙ same
+  | inl same ↦
+      let here : f ≡ e = grind (arith, nat_tests) in
+      sym (ap (λ (d : Entry). d.node) here) ∙ same
   | inr differs ↦ at-node n es e (grind (arith, nat_tests))
 ]
 
+-- a node is there just where an entry is found for it
 pub has_node-at : (n : ℕ) (es : List Entry) → has_node n es ≡ is_some (entry_at n es)
 has_node-at n [] = refl
 has_node-at n (e ∷ es) = let rest = has_node-at n es in grind (arith, nat_tests)
 
+-- an entry is the same as itself
 pub same-self : (e : Entry) → same_entry e e ≡ true
 same-self e = let name = (bytes_eq-Decides e.name e.name).1 refl in grind (arith, nat_tests)
 
+-- the same entry has the same node
 pub same-node : (e f : Entry) → same_entry e f ≡ true → e.node ≡ f.node
 same-node e f is = grind (arith, nat_tests)
 
+-- an entry, made of its parts again
 abbrev same_parts : Entry → Entry
 same_parts e = record { dir = e.dir; name = e.name; node = e.node }
 
+-- two entries for which the test holds are equal
 pub same-entry : (e f : Entry) → same_entry e f ≡ true → e ≡ f
 same-entry e f is =
     let dir : e.dir ≡ f.dir = grind (arith, nat_tests) in
@@ -55,21 +67,31 @@ same-entry e f is =
     let both : same_parts e ≡ same_parts f = rw (dir, name, node) refl in
     both
 
+-- among entries above its node a triple isn't
 has_entry-above : (e : Entry) (es : List Entry) → Above e.node es → has_entry e es ≡ false
 has_entry-above e [] h = refl
-has_entry-above e (f ∷ es) h = let low = h.0 in let rest = has_entry-above e es h.1 in grind (arith, nat_tests)
+has_entry-above e (f ∷ es) h =
+    let low = h.0 in
+    let rest = has_entry-above e es h.1 in
+    grind (arith, nat_tests)
 
-pub has_entry-at : (e : Entry) (es : List Entry) → EntriesRise es → has_entry e es ≡ option_map_or (same_entry e) (entry_at e.node es) false
+-- where the nodes rise, a triple is there just where it is the one found for its node
+pub has_entry-at : (e : Entry) (es : List Entry) → EntriesRise es
+    → has_entry e es ≡ option_map_or (same_entry e) (entry_at e.node es) false
 has_entry-at e [] h = refl
 has_entry-at e (f ∷ es) h = elim (cases_eq f.node e.node) [
-  | inl same ↦ let rest = has_entry-above e es (rw (← same) h.0) in here same rest (same_entry e f) refl
+  | inl same ↦
+      let rest = has_entry-above e es (rw (← same) h.0) in
+      here same rest (same_entry e f) refl
   | inr differs ↦ let rest = has_entry-at e es h.1 in grind (arith, nat_tests)
 ]
   where
-    here : f.node ≡ e.node → has_entry e es ≡ false → (b : Bool) → same_entry e f ≡ b → has_entry e (f ∷ es) ≡ option_map_or (same_entry e) (entry_at e.node (f ∷ es)) false
+    here : f.node ≡ e.node → has_entry e es ≡ false → (b : Bool) → same_entry e f ≡ b
+        → has_entry e (f ∷ es) ≡ option_map_or (same_entry e) (entry_at e.node (f ∷ es)) false
     here same rest true is = grind (arith, nat_tests)
     here same rest false is = grind (arith, nat_tests)
 
+-- what a filter leaves is above a node where all was
 above-filter : (t : Entry → Bool) (n : ℕ) (es : List Entry) → Above n es → Above n (filter t es)
 above-filter t n [] h = tt
 above-filter t n (e ∷ es) h = at (t e) refl (above-filter t n es h.1)
@@ -78,6 +100,7 @@ above-filter t n (e ∷ es) h = at (t e) refl (above-filter t n es h.1)
     at true is rest = rw is (h.0, rest)
     at false is rest = rw is rest
 
+-- what a filter leaves rises
 pub rises-filter : (t : Entry → Bool) (es : List Entry) → EntriesRise es → EntriesRise (filter t es)
 rises-filter t [] h = tt
 rises-filter t (e ∷ es) h = at (t e) refl (rises-filter t es h.1)
@@ -86,36 +109,50 @@ rises-filter t (e ∷ es) h = at (t e) refl (rises-filter t es h.1)
     at true is rest = rw is (above-filter t e.node es h.0, rest)
     at false is rest = rw is rest
 
-pub at-filter : (t : Entry → Bool) (n : ℕ) (es : List Entry) → EntriesRise es → entry_at n (filter t es) ≡ option_filter t (entry_at n es)
+-- the entry found after a filter is the one found before it, if that passes
+pub at-filter : (t : Entry → Bool) (n : ℕ) (es : List Entry) → EntriesRise es
+    → entry_at n (filter t es) ≡ option_filter t (entry_at n es)
 at-filter t n [] h = refl
 at-filter t n (e ∷ es) h = elim (cases_eq e.node n) [
-  | inl same ↦ let gone = at-above n (filter t es) (rw (← same) (above-filter t e.node es h.0)) in here same gone (t e) refl
+  | inl same ↦
+      let gone = at-above n (filter t es) (rw (← same) (above-filter t e.node es h.0)) in
+      here same gone (t e) refl
   | inr differs ↦ let rest = at-filter t n es h.1 in there differs rest (t e) refl
 ]
   where
-    here : e.node ≡ n → entry_at n (filter t es) ≡ None → (b : Bool) → t e ≡ b → entry_at n (filter t (e ∷ es)) ≡ option_filter t (entry_at n (e ∷ es))
+    here : e.node ≡ n → entry_at n (filter t es) ≡ None → (b : Bool) → t e ≡ b
+        → entry_at n (filter t (e ∷ es)) ≡ option_filter t (entry_at n (e ∷ es))
     here same gone true is = grind (arith, nat_tests)
     here same gone false is = grind (arith, nat_tests)
 
-    there : (e.node ≡ n → ⊥) → entry_at n (filter t es) ≡ option_filter t (entry_at n es) → (b : Bool) → t e ≡ b → entry_at n (filter t (e ∷ es)) ≡ option_filter t (entry_at n (e ∷ es))
+    there : (e.node ≡ n → ⊥)
+        → entry_at n (filter t es) ≡ option_filter t (entry_at n es) → (b : Bool) → t e ≡ b
+        → entry_at n (filter t (e ∷ es)) ≡ option_filter t (entry_at n (e ∷ es))
     there differs rest true is = grind (arith, nat_tests)
     there differs rest false is = grind (arith, nat_tests)
 
 -- with its triple taken out, a node has no entry
-pub at-taken_out : (es : List Entry) (e : Entry) → EntriesRise es → entry_at e.node es ≡ Some e → entry_at e.node (taken_out e es) ≡ None
+pub at-taken_out : (es : List Entry) (e : Entry) → EntriesRise es → entry_at e.node es ≡ Some e
+    → entry_at e.node (taken_out e es) ≡ None
 at-taken_out es e h is = at-filter _ e.node es h ∙ rw (is, same-self e) refl
 
-pub at-put_in : (e : Entry) (n : ℕ) (es : List Entry) → entry_at e.node es ≡ None → entry_at n (put_in e es) ≡ (if e.node == n then Some e else entry_at n es)
+-- with a triple put in, its node has it and each other node what it had
+pub at-put_in : (e : Entry) (n : ℕ) (es : List Entry) → entry_at e.node es ≡ None
+    → entry_at n (put_in e es) ≡ (if e.node == n then Some e else entry_at n es)
 at-put_in e n [] none = refl
 at-put_in e n (f ∷ es) none = elim (cases_lt e.node f.node) [
   | inl low ↦ grind (arith, nat_tests)
   | inr high ↦ elim (cases_eq f.node e.node) [
     | inl same ↦ grind (arith, nat_tests)
-    | inr differs ↦ let rest = at-put_in e n es (grind (arith, nat_tests)) in grind (arith, nat_tests)
+    | inr differs ↦
+        let rest = at-put_in e n es (grind (arith, nat_tests)) in
+        grind (arith, nat_tests)
   ]
 ]
 
-above-put_in : (e : Entry) (n : ℕ) (es : List Entry) → n < e.node → Above n es → Above n (put_in e es)
+-- with a triple above a node put in, all is above that node still
+above-put_in : (e : Entry) (n : ℕ) (es : List Entry) → n < e.node → Above n es
+    → Above n (put_in e es)
 above-put_in e n [] lt h = (lt, tt)
 above-put_in e n (f ∷ es) lt h = at (nat_lt e.node f.node) refl (above-put_in e n es lt h.1)
   where
@@ -123,10 +160,14 @@ above-put_in e n (f ∷ es) lt h = at (nat_lt e.node f.node) refl (above-put_in 
     at true is rest = rw is (lt, h)
     at false is rest = rw is (h.0, rest)
 
-pub rises-put_in : (e : Entry) (es : List Entry) → EntriesRise es → entry_at e.node es ≡ None → EntriesRise (put_in e es)
+-- with a triple of a new node put in, the nodes still rise
+pub rises-put_in : (e : Entry) (es : List Entry) → EntriesRise es → entry_at e.node es ≡ None
+    → EntriesRise (put_in e es)
 rises-put_in e [] h none = (tt, tt)
 rises-put_in e (f ∷ es) h none = elim (cases_lt e.node f.node) [
-  | inl low ↦ let is : nat_lt e.node f.node ≡ true = grind (arith, nat_tests) in rw is ((low, above-lower e.node f.node es low h.0), h)
+  | inl low ↦
+      let is : nat_lt e.node f.node ≡ true = grind (arith, nat_tests) in
+      rw is ((low, above-lower e.node f.node es low h.0), h)
   | inr high ↦
       let is : nat_lt e.node f.node ≡ false = grind (arith, nat_tests) in
       let lt : f.node < e.node = grind (arith, nat_tests) in
@@ -135,7 +176,8 @@ rises-put_in e (f ∷ es) h none = elim (cases_lt e.node f.node) [
 ]
 
 -- entries that rise are those of their nodes
-pub entries-same : (es fs : List Entry) → EntriesRise es → EntriesRise fs → ((n : ℕ) → entry_at n es ≡ entry_at n fs) → es ≡ fs
+pub entries-same : (es fs : List Entry) → EntriesRise es → EntriesRise fs
+    → ((n : ℕ) → entry_at n es ≡ entry_at n fs) → es ≡ fs
 entries-same [] [] h k same = refl
 entries-same [] (f ∷ fs) h k same = let at = same f.node in absurd (grind (arith, nat_tests))
 entries-same (e ∷ es) [] h k same = let at = same e.node in absurd (grind (arith, nat_tests))

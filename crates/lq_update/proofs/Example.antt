@@ -12,12 +12,19 @@ use Rattle.lq_update.specs.declared.message.Opcode.TheVariants.{Created, Removed
 use Rattle.lq_update.specs.Updates.{updates_of}
 use Rattle.lq_update.specs.Fold.{folded}
 
+-- the query of the example, `size>100`
 large : Query
 large = Compare (codes "size") Gt (Plain (codes "100"))
 
+-- the book of the example: a file is created, moved and removed
 comes_and_goes : Book
-comes_and_goes = record { start = empty_state 10; changes = Create 1 (codes "a") File 200 (pos 0) ∷ Create 1 (codes "b") File 100 (pos 0) ∷ Remove 2 ∷ [] }
+comes_and_goes = record {
+  start = empty_state 10;
+  changes =
+      Create 1 (codes "a") File 200 (pos 0) ∷ Create 1 (codes "b") File 100 (pos 0) ∷ Remove 2 ∷ [];
+}
 
+-- it tells that the file came at change 1 and went at change 3
 two_messages : updates_of large false comes_and_goes 0 3 ≡
     record { seq = 1; change = 1; last = true; op = Created; dir = 1; name = codes "a"; node = 2 }
     ∷ record { seq = 2; change = 3; last = true; op = Removed; dir = 1; name = codes "a"; node = 2 }
@@ -25,18 +32,37 @@ two_messages : updates_of large false comes_and_goes 0 3 ≡
 unfolding large comes_and_goes
 two_messages = refl
 
--- a file that gets another name, and one that gets another's: told as moved, or as removed and created
+-- a file that gets another name, and one that gets another's: told as moved, or as removed and
+-- created
 renamed : Book
-renamed = record { start = empty_state 10; changes = Create 1 (codes "a") File 200 (pos 0) ∷ Move 2 1 (codes "b") false ∷ [] }
+renamed = record {
+  start = empty_state 10;
+  changes = Create 1 (codes "a") File 200 (pos 0) ∷ Move 2 1 (codes "b") false ∷ [];
+}
 
+-- a book in which a file takes the name and the place of another
 clobbers : Book
-clobbers = record { start = empty_state 10; changes = Create 1 (codes "a") File 200 (pos 0) ∷ Create 1 (codes "b") File 200 (pos 0) ∷ Move 3 1 (codes "a") true ∷ [] }
+clobbers = record {
+  start = empty_state 10;
+  changes = Create 1 (codes "a") File 200 (pos 0)
+      ∷ Create 1 (codes "b") File 200 (pos 0) ∷ Move 3 1 (codes "a") true ∷ [];
+}
 
+-- where moves are told, another name is one message
 moved_message : updates_of large true renamed 1 2 ≡
-    record { seq = 1; change = 2; last = true; op = Moved 1 (codes "a"); dir = 1; name = codes "b"; node = 2 } ∷ []
+    record {
+      seq = 1;
+      change = 2;
+      last = true;
+      op = Moved 1 (codes "a");
+      dir = 1;
+      name = codes "b";
+      node = 2;
+    } ∷ []
 unfolding large renamed
 moved_message = refl
 
+-- where they aren't, it is a removed and a created one
 two_in_place : updates_of large false renamed 1 2 ≡
     record { seq = 1; change = 2; last = false; op = Removed; dir = 1; name = codes "a"; node = 2 }
     ∷ record { seq = 2; change = 2; last = true; op = Created; dir = 1; name = codes "b"; node = 2 }
@@ -44,13 +70,24 @@ two_in_place : updates_of large false renamed 1 2 ≡
 unfolding large renamed
 two_in_place = refl
 
+-- the file whose name was taken is told as removed, before the move
 moved_with_clobber : updates_of large true clobbers 2 3 ≡
     record { seq = 1; change = 3; last = false; op = Removed; dir = 1; name = codes "a"; node = 2 }
-    ∷ record { seq = 2; change = 3; last = true; op = Moved 1 (codes "b"); dir = 1; name = codes "a"; node = 3 }
+    ∷ record {
+      seq = 2;
+      change = 3;
+      last = true;
+      op = Moved 1 (codes "b");
+      dir = 1;
+      name = codes "a";
+      node = 3;
+    }
     ∷ []
 unfolding large clobbers
 moved_with_clobber = refl
 
-folded_in_place : folded (record { dir = 1; name = codes "a"; node = 2 } ∷ []) (updates_of large true renamed 1 2) ≡ record { dir = 1; name = codes "b"; node = 2 } ∷ []
+-- a fold by the move gives the entry its new name
+folded_in_place : folded (record { dir = 1; name = codes "a"; node = 2 } ∷ [])
+    (updates_of large true renamed 1 2) ≡ record { dir = 1; name = codes "b"; node = 2 } ∷ []
 unfolding large renamed
 folded_in_place = refl

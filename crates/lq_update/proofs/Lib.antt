@@ -1,3 +1,6 @@
+-- Read in this order. Update lists: Lists. What a change tells: ToldLemmas, TouchedLemmas. A set of
+-- entries: EntryLemmas, PlaceLemmas. Folding: FoldLemmas (one difference), FoldLaws (many changes),
+-- Taking (what a rebuild refuses). Changes that tell nothing: PassingOver. Example has books.
 pub mod Lists
 pub mod ToldLemmas
 pub mod TouchedLemmas

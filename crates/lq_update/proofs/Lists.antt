@@ -12,19 +12,25 @@ use Rattle.lq_update.specs.Updates.{updates_of, updates_from, step_of}
 use Rattle.lq_update.specs.Laws.{ChangesAddSteps, UpdatesArePrefixes, UpdatesBeginEmpty, UpdatesGrow, UpdatesJoin, UpdatesStay}
 
 -- what is behind two lists has the number behind both
-two-lists : (f : ℕ → List Message) (xs ys zs : List Message) (seq : ℕ) → zs ≡ ys ++ f (seq + length xs + length ys) → xs ++ zs ≡ xs ++ ys ++ f (seq + length (xs ++ ys))
+two-lists : (f : ℕ → List Message) (xs ys zs : List Message) (seq : ℕ)
+    → zs ≡ ys ++ f (seq + length xs + length ys)
+    → xs ++ zs ≡ xs ++ ys ++ f (seq + length (xs ++ ys))
 two-lists f xs ys zs seq is =
-    let number : seq + length xs + length ys ≡ seq + length (xs ++ ys) = rw (length-append xs ys) (omega arith) in
-    ap (λ rest. xs ++ rest) is ∙ (sym (append_assoc xs ys (f (seq + length xs + length ys))) ∙ ap (λ n. xs ++ ys ++ f n) number)
+    let number : seq + length xs + length ys ≡ seq + length (xs ++ ys) =
+    rw (length-append xs ys) (omega arith) in
+    ap (λ rest. xs ++ rest) is ∙ (sym (append_assoc xs ys (f (seq + length xs + length ys)))
+    ∙ ap (λ n. xs ++ ys ++ f n) number)
 
 -- the messages of some changes, and then of more
 pub updates-join : UpdatesJoin
 updates-join q moved s [] ds seq = ap (updates_from q moved s ds) (omega arith)
 updates-join q moved s (c ∷ cs) ds seq =
-    two-lists (updates_from q moved (after_all (after s c) cs) ds) (step_of q moved s c seq) (updates_from q moved (after s c) cs (seq + length (step_of q moved s c seq)))
+    two-lists (updates_from q moved (after_all (after s c) cs) ds) (step_of q moved s c seq)
+    (updates_from q moved (after s c) cs (seq + length (step_of q moved s c seq)))
     (updates_from q moved (after s c) (cs ++ ds) (seq + length (step_of q moved s c seq))) seq
     (updates-join q moved (after s c) cs ds (seq + length (step_of q moved s c seq)))
 
+-- one element more of a list is the next one
 take-plus : {A : Type 0} (n : ℕ) (xs : List A) → take (suc n) xs ≡ take n xs ++ take 1 (drop n xs)
 take-plus zero [] = refl
 take-plus zero (x ∷ xs) = refl
@@ -37,23 +43,33 @@ updates-grow q moved b m n =
     let s = state_at b m in
     let cs = drop (m - b.start.number) b.changes in
     elim (cases_lt n m) [
-      | inl below ↦ ([], append-nil _ ∙ ap (λ k. updates_from q moved s (take k cs) 1) (let e : n - m ≡ n + 1 - m = omega arith in e))
+      | inl below ↦ (
+        [],
+        append-nil _ ∙ ap (λ k. updates_from q moved s (take k cs) 1)
+            (let e : n - m ≡ n + 1 - m = omega arith in e),
+      )
       | inr reached ↦
           let more = take 1 (drop (n - m) cs) in
           let e : n + 1 - m ≡ suc (n - m) = omega arith in (
-            updates_from q moved (after_all s (take (n - m) cs)) more (1 + length (updates_of q moved b m n)),
-            sym (ap (λ k. updates_from q moved s (take k cs) 1) e ∙ (ap (λ ds. updates_from q moved s ds 1) (take-plus (n - m) cs) ∙ updates-join q moved s (take (n - m) cs) more 1)),
+            updates_from q moved (after_all s (take (n - m) cs)) more
+                (1 + length (updates_of q moved b m n)),
+            sym (ap (λ k. updates_from q moved s (take k cs) 1) e
+                ∙ (ap (λ ds. updates_from q moved s ds 1) (take-plus (n - m) cs)
+                ∙ updates-join q moved s (take (n - m) cs) more 1)),
           )
     ]
 
 -- the state after some changes and then more
-pub after_all-append : (s : State) (xs ys : List Change) → after_all s (xs ++ ys) ≡ after_all (after_all s xs) ys
+pub after_all-append : (s : State) (xs ys : List Change)
+    → after_all s (xs ++ ys) ≡ after_all (after_all s xs) ys
 after_all-append s [] ys = refl
 after_all-append s (x ∷ xs) ys = after_all-append (after s x) xs ys
 
 -- the state of a number is the same where more changes follow
-state-grown : (b : Book) (more : List Change) (m : ℕ) → m ≤ number_of b → state_at (grown b more) m ≡ state_at b m
-state-grown b more m within = ap (after_all b.start) (take-append-le (m - b.start.number) b.changes more (omega arith))
+state-grown : (b : Book) (more : List Change) (m : ℕ) → m ≤ number_of b
+    → state_at (grown b more) m ≡ state_at b m
+state-grown b more m within =
+    ap (after_all b.start) (take-append-le (m - b.start.number) b.changes more (omega arith))
 
 -- one more change adds just its messages
 pub changes-add : ChangesAddSteps
@@ -64,28 +80,36 @@ changes-add q moved b c m n all within =
     let late = drop k cs in
     let many : length late ≡ length cs - k = length-drop k cs in
     let then : take (n + 1 - m) (drop k (cs ++ c ∷ [])) ≡ late ++ c ∷ [] =
-    ap (take (n + 1 - m)) (drop-append-le k cs (c ∷ []) (omega arith)) ∙ take_all (n + 1 - m) (late ++ c ∷ []) (omega (arith, length-append late (c ∷ []))) in
+    ap (take (n + 1 - m)) (drop-append-le k cs (c ∷ []) (omega arith))
+    ∙ take_all (n + 1 - m) (late ++ c ∷ []) (omega (arith, length-append late (c ∷ []))) in
     let now : take (n - m) late ≡ late = take_all (n - m) late (omega arith) in
     let old = updates_from q moved s late 1 in
-    let end : after_all s late ≡ state_of b = sym (after_all-append b.start (take k cs) late) ∙ ap (after_all b.start) (take-append-drop k cs) in
+    let end : after_all s late ≡ state_of b = sym (after_all-append b.start (take k cs) late)
+    ∙ ap (after_all b.start) (take-append-drop k cs) in
     let seq : 1 + length old ≡ length old + 1 = omega arith in
     (λ i. updates_from q moved (state-grown b (c ∷ []) m (omega arith) i) (then i) 1)
     ∙ updates-join q moved s late (c ∷ []) 1
     ∙ ap (λ ms. old ++ ms) (append-nil (step_of q moved (after_all s late) c (1 + length old)))
     ∙ (λ i. old ++ step_of q moved (end i) c (seq i))
-    ∙ ap (λ (ds : List Change). updates_from q moved s ds 1 ++ step_of q moved (state_of b) c (length (updates_from q moved s ds 1) + 1)) (sym now)
+    ∙ ap (λ (ds : List Change). updates_from q moved s ds 1
+    ++ step_of q moved (state_of b) c (length (updates_from q moved s ds 1) + 1)) (sym now)
 
-same-grown : (q : Query) (moved : Bool) (b : Book) (more : List Change) (m e : ℕ) → b.start.number ≤ m → m ≤ e → e ≤ number_of b
+-- more changes at the end of a book don't alter an update list that ends before them
+same-grown : (q : Query) (moved : Bool) (b : Book) (more : List Change) (m e : ℕ)
+    → b.start.number ≤ m → m ≤ e → e ≤ number_of b
     → updates_of q moved (grown b more) m e ≡ updates_of q moved b m e
 same-grown q moved b more m e low le within =
     let k = m - b.start.number in
     let between : take (e - m) (drop k (b.changes ++ more)) ≡ take (e - m) (drop k b.changes) =
-    ap (take (e - m)) (drop-append-le k b.changes more (omega arith)) ∙ take-append-le (e - m) (drop k b.changes) more (omega (arith, length-drop k b.changes)) in
+    ap (take (e - m)) (drop-append-le k b.changes more (omega arith))
+    ∙ take-append-le (e - m) (drop k b.changes) more (omega (arith, length-drop k b.changes)) in
     λ i. updates_from q moved (state-grown b more m (omega arith) i) (between i) 1
 
 -- a longer book has the same update list up to a number of the shorter one
 pub updates-stay : UpdatesStay
-updates-stay q moved longer b m e extends low le within = ap (λ (d : Book). updates_of q moved d m e) extends.1 ∙ same-grown q moved b extends.0 m e low le within
+updates-stay q moved longer b m e extends low le within =
+    ap (λ (d : Book). updates_of q moved d m e) extends.1
+    ∙ same-grown q moved b extends.0 m e low le within
 
 -- an update list is a prefix of the later ones
 pub updates-prefixes : UpdatesArePrefixes
@@ -94,7 +118,8 @@ updates-prefixes q moved b m e n le =
     let front = take (e - m) all in
     let rest = drop (e - m) (take (n - m) all) in
     let split : front ++ rest ≡ take (n - m) all =
-    ap (λ cs. cs ++ rest) (sym (take-take (e - m) (n - m) all (omega arith))) ∙ take-append-drop (e - m) (take (n - m) all) in
+    ap (λ cs. cs ++ rest) (sym (take-take (e - m) (n - m) all (omega arith)))
+    ∙ take-append-drop (e - m) (take (n - m) all) in
     let s = state_at b m in (
       updates_from q moved (after_all s front) rest (1 + length (updates_from q moved s front 1)),
       sym (updates-join q moved s front rest 1) ∙ ap (λ cs. updates_from q moved s cs 1) split,
@@ -104,4 +129,5 @@ updates-prefixes q moved b m e n le =
 pub updates-none : UpdatesBeginEmpty
 updates-none q moved b m =
     let none : m - m ≡ 0 = omega arith in
-    ap (λ n. updates_from q moved (state_at b m) (take n (drop (m - b.start.number) b.changes)) 1) none
+    ap (λ n. updates_from q moved (state_at b m)
+    (take n (drop (m - b.start.number) b.changes)) 1) none

@@ -23,29 +23,39 @@ use Rattle.lq_update.proofs.FoldLemmas.{missing-at}
 use Rattle.lq_update.proofs.TouchedLemmas.{left-same}
 
 -- another name of the predicate has the test's answer too
-same-name : (names : List (List ℕ)) (name other : List ℕ) → list_any (bytes_eq name) names ≡ true → list_any (bytes_eq other) names ≡ false → bytes_eq name other ≡ false
+same-name : (names : List (List ℕ)) (name other : List ℕ) → list_any (bytes_eq name) names ≡ true
+    → list_any (bytes_eq other) names ≡ false → bytes_eq name other ≡ false
 same-name names name other among not_among = at (bytes_eq name other) refl
   where
     at : (b : Bool) → bytes_eq name other ≡ b → bytes_eq name other ≡ false
     at false is = is
     at true is =
         let same : name ≡ other = (bytes_eq-Decides name other).0 is in
-        let both : list_any (bytes_eq other) names ≡ true = ap (λ n. list_any (bytes_eq n) names) (sym same) ∙ among in
+        let both : list_any (bytes_eq other) names ≡ true =
+        ap (λ n. list_any (bytes_eq n) names) (sym same) ∙ among in
         cc
 
-value_of-with_other : (attrs : Attributes) (attr name : List ℕ) (value : Value) → bytes_eq name attr ≡ false → value_of (with_attr attrs attr value) name ≡ value_of attrs name
+-- a setting of an attribute leaves the value of every other
+value_of-with_other : (attrs : Attributes) (attr name : List ℕ) (value : Value)
+    → bytes_eq name attr ≡ false → value_of (with_attr attrs attr value) name ≡ value_of attrs name
 value_of-with_other [] attr name value off = rw off refl
-value_of-with_other (a ∷ attrs) attr name value off = at (bytes_eq attr a.0) refl (value_of-with_other attrs attr name value off)
+value_of-with_other (a ∷ attrs) attr name value off =
+    at (bytes_eq attr a.0) refl (value_of-with_other attrs attr name value off)
   where
-    at : (b : Bool) → bytes_eq attr a.0 ≡ b → value_of (with_attr attrs attr value) name ≡ value_of attrs name → value_of (with_attr (a ∷ attrs) attr value) name ≡ value_of (a ∷ attrs) name
+    at : (b : Bool)
+        → bytes_eq attr a.0 ≡ b → value_of (with_attr attrs attr value) name ≡ value_of attrs name
+        → value_of (with_attr (a ∷ attrs) attr value) name ≡ value_of (a ∷ attrs) name
     at true is rest =
         let same : attr ≡ a.0 = (bytes_eq-Decides attr a.0).0 is in
         let off_here : bytes_eq name a.0 ≡ false = ap (bytes_eq name) (sym same) ∙ off in
         rw is (rw off_here refl)
     at false is rest = rw is (ap (λ o. cond (bytes_eq name a.0) (Some a.1) o) rest)
 
-value_of-without_other : (attrs : Attributes) (attr name : List ℕ) → bytes_eq name attr ≡ false → value_of (without_attr attrs attr) name ≡ value_of attrs name
-value_of-without_other attrs attr name off = lookup-filter-keys (bytes_eq name) (λ k. not (bytes_eq attr k)) true keeps attrs
+-- a removal of an attribute leaves the value of every other
+value_of-without_other : (attrs : Attributes) (attr name : List ℕ) → bytes_eq name attr ≡ false
+    → value_of (without_attr attrs attr) name ≡ value_of attrs name
+value_of-without_other attrs attr name off =
+    lookup-filter-keys (bytes_eq name) (λ k. not (bytes_eq attr k)) true keeps attrs
   where
     keeps : (k : List ℕ) → bytes_eq name k ≡ true → not (bytes_eq attr k) ≡ true
     keeps k is = at (bytes_eq attr k) refl
@@ -55,29 +65,42 @@ value_of-without_other attrs attr name off = lookup-filter-keys (bytes_eq name) 
         at true there =
             let same : name ≡ k = (bytes_eq-Decides name k).0 is in
             let other : attr ≡ k = (bytes_eq-Decides attr k).0 there in
-            let on : bytes_eq name attr ≡ true = (bytes_eq-Decides name attr).1 (same ∙ sym other) in
+            let on : bytes_eq name attr ≡ true =
+            (bytes_eq-Decides name attr).1 (same ∙ sym other) in
             cc
 
 -- what an altered record shows under another name
-shown-written : (size : ℕ) (time : ℤ) (r : Record) (name : List ℕ) → bytes_eq name (codes "size") ≡ false → bytes_eq name (codes "last_modified") ≡ false → shown (written size time r) name ≡ shown r name
+shown-written : (size : ℕ) (time : ℤ) (r : Record) (name : List ℕ)
+    → bytes_eq name (codes "size") ≡ false → bytes_eq name (codes "last_modified") ≡ false
+    → shown (written size time r) name ≡ shown r name
 shown-written size time r name p q = rw (p, q) refl
 
-shown-setting : (attr : List ℕ) (value : Value) (r : Record) (name : List ℕ) → bytes_eq name attr ≡ false → shown (setting attr value r) name ≡ shown r name
+-- a setting leaves what a record shows under every other name
+shown-setting : (attr : List ℕ) (value : Value) (r : Record) (name : List ℕ)
+    → bytes_eq name attr ≡ false → shown (setting attr value r) name ≡ shown r name
 shown-setting attr value r name off = rw (value_of-with_other r.attrs attr name value off) refl
 
-shown-unsetting : (attr : List ℕ) (r : Record) (name : List ℕ) → bytes_eq name attr ≡ false → shown (unsetting attr r) name ≡ shown r name
+-- and so does a removal
+shown-unsetting : (attr : List ℕ) (r : Record) (name : List ℕ) → bytes_eq name attr ≡ false
+    → shown (unsetting attr r) name ≡ shown r name
 shown-unsetting attr r name off = rw (value_of-without_other r.attrs attr name off) refl
 
 -- a change of records that keeps their places and the truth of the query keeps the result
 module _ (test : Record → Bool) (node : ℕ) (f : Record → Record)
     (same : (r : Record) → test (f r) ≡ test r)
     (place : (n : ℕ) (r : Record) → entry_of (n, f r) ≡ entry_of (n, r)) where
-  altered-passes : (es : List (ℕ × Record)) → map entry_of (filter (λ e. test e.1) (altered node f es)) ≡ map entry_of (filter (λ e. test e.1) es)
+  -- such a change of one record leaves the entries of the result
+  altered-passes : (es : List (ℕ × Record))
+      → map entry_of (filter (λ e. test e.1) (altered node f es))
+      ≡ map entry_of (filter (λ e. test e.1) es)
   altered-passes [] = refl
   altered-passes (e ∷ es) = at (e.0 == node) refl (test e.1) refl (altered-passes es)
     where
-      at : (b : Bool) → (e.0 == node) ≡ b → (t : Bool) → test e.1 ≡ t → map entry_of (filter (λ d. test d.1) (altered node f es)) ≡ map entry_of (filter (λ d. test d.1) es)
-          → map entry_of (filter (λ d. test d.1) (altered node f (e ∷ es))) ≡ map entry_of (filter (λ d. test d.1) (e ∷ es))
+      at : (b : Bool) → (e.0 == node) ≡ b
+          → (t : Bool) → test e.1 ≡ t → map entry_of (filter (λ d. test d.1) (altered node f es))
+          ≡ map entry_of (filter (λ d. test d.1) es)
+          → map entry_of (filter (λ d. test d.1) (altered node f (e ∷ es)))
+          ≡ map entry_of (filter (λ d. test d.1) (e ∷ es))
       at true is true holds rest =
           let then : test (f e.1) ≡ true = same e.1 ∙ holds in
           rw is (rw (then, holds, place e.0 e.1, rest) refl)
@@ -87,45 +110,62 @@ module _ (test : Record → Bool) (node : ℕ) (f : Record → Record)
       at false is true holds rest = rw is (rw (holds, rest) refl)
       at false is false holds rest = rw is (rw holds rest)
 
+-- what a list misses of itself rises
 rises-missing : (es : List Entry) → EntriesRise es → EntriesRise (missing es es)
 rises-missing es h = rises-filter _ es h
 
+-- a list misses nothing of itself
 missing-self : (es : List Entry) → EntriesRise es → missing es es ≡ []
-missing-self es h = entries-same (missing es es) [] (rises-missing es h) tt (λ n. missing-at n es es h h ∙ left-same (entry_at n es))
+missing-self es h = entries-same (missing es es) [] (rises-missing es h) tt
+    (λ n. missing-at n es es h h ∙ left-same (entry_at n es))
 
+-- where nothing left and nothing came, nothing is told
 told-nothing : (moved : Bool) → told moved [] [] ≡ []
 told-nothing true = refl
 told-nothing false = refl
 
 -- one result tells nothing
-diff-same : (q : Query) (moved : Bool) (s t : State) → IsVolume s → result_of q t ≡ result_of q s → diff q moved s t ≡ []
+diff-same : (q : Query) (moved : Bool) (s t : State) → IsVolume s → result_of q t ≡ result_of q s
+    → diff q moved s t ≡ []
 diff-same q moved s t v same =
     ap (λ r. told moved (missing (result_of q s) r) (missing r (result_of q s))) same
     ∙ (rw (missing-self (result_of q s) (results-rise q s v)) (told-nothing moved))
 
+-- what is in an option, or the value given
 abbrev inside : {X : Type 0} → X → Option X → X
 inside x None = x
 inside x (Some y) = y
 
+-- equal options hold equal values
 some-inside : {X : Type 0} {x y : X} → Some x ≡ Some y → x ≡ y
 some-inside {X} {x} is = ap (inside x) is
 
+-- a change under names that a query doesn't go by tells it nothing
 pub changes-pass : ChangesPassOver
 changes-pass q moved s (Create dir name kind size time) names altered v by is off = cc
 changes-pass q moved s (Remove node) names altered v by is off = cc
 changes-pass q moved s (Move node dir name clobber) names altered v by is off = cc
 changes-pass q moved s (Write node size time) names altered v by is off =
-    let off_both = subst (AllByRecursion (λ name. list_any (bytes_eq name) names ≡ false)) (sym (some-inside is)) off in
+    let off_both = subst (AllByRecursion (λ name. list_any (bytes_eq name) names ≡ false))
+    (sym (some-inside is)) off in
     diff-same q moved s (after s (Write node size time)) v
-    (altered-passes (λ r. truth q (shown r)) node (written size time) (λ r. by (shown (written size time r)) (shown r) (λ name among.
-    shown-written size time r name (same-name names name (codes "size") among off_both.0) (same-name names name (codes "last_modified") among off_both.1.0))) (λ n r. refl) s.records)
+    (altered-passes (λ r. truth q (shown r)) node (written size time)
+    (λ r. by (shown (written size time r)) (shown r) (λ name among.
+    shown-written size time r name (same-name names name (codes "size") among off_both.0)
+    (same-name names name (codes "last_modified") among off_both.1.0))) (λ n r. refl) s.records)
 changes-pass q moved s (SetAttr node attr value) names altered v by is off =
-    let off_one = subst (AllByRecursion (λ name. list_any (bytes_eq name) names ≡ false)) (sym (some-inside is)) off in
+    let off_one = subst (AllByRecursion (λ name. list_any (bytes_eq name) names ≡ false))
+    (sym (some-inside is)) off in
     diff-same q moved s (after s (SetAttr node attr value)) v
-    (altered-passes (λ r. truth q (shown r)) node (setting attr value) (λ r. by (shown (setting attr value r)) (shown r) (λ name among.
-    shown-setting attr value r name (same-name names name attr among off_one.0))) (λ n r. refl) s.records)
+    (altered-passes (λ r. truth q (shown r)) node (setting attr value)
+    (λ r. by (shown (setting attr value r)) (shown r) (λ name among.
+    shown-setting attr value r name (same-name names name attr among off_one.0)))
+    (λ n r. refl) s.records)
 changes-pass q moved s (RemoveAttr node attr) names altered v by is off =
-    let off_one = subst (AllByRecursion (λ name. list_any (bytes_eq name) names ≡ false)) (sym (some-inside is)) off in
+    let off_one = subst (AllByRecursion (λ name. list_any (bytes_eq name) names ≡ false))
+    (sym (some-inside is)) off in
     diff-same q moved s (after s (RemoveAttr node attr)) v
-    (altered-passes (λ r. truth q (shown r)) node (unsetting attr) (λ r. by (shown (unsetting attr r)) (shown r) (λ name among.
-    shown-unsetting attr r name (same-name names name attr among off_one.0))) (λ n r. refl) s.records)
+    (altered-passes (λ r. truth q (shown r)) node (unsetting attr)
+    (λ r. by (shown (unsetting attr r)) (shown r) (λ name among.
+    shown-unsetting attr r name (same-name names name attr among off_one.0)))
+    (λ n r. refl) s.records)

@@ -15,19 +15,24 @@ use Rattle.lq_update.specs.Fold.{EntriesRise, taken_out, put_in, has_entry}
 use Rattle.lq_update.specs.Place.{IsEntryAt, IsTripleAt, IsGapFor}
 use Rattle.lq_update.proofs.EntryLemmas.{Above, entry_at, same-self, same-entry, at-above, has_node-at, has_entry-at, rises-filter, rises-put_in, at-taken_out}
 
-above-get : (n : ℕ) (es : List Entry) (i : ℕ) (d : Entry) → Above n es → i < length es → n < (get_or es i d).node
+-- each entry of a list above a node is above it
+above-get : (n : ℕ) (es : List Entry) (i : ℕ) (d : Entry) → Above n es → i < length es
+    → n < (get_or es i d).node
 above-get n [] i d h lt = absurd (omega arith)
 above-get n (e ∷ es) zero d h lt = h.0
 above-get n (e ∷ es) (suc i) d h lt = above-get n es i d h.1 (omega arith)
 
-rise-get : (es : List Entry) (i j : ℕ) (d : Entry) → EntriesRise es → i < j → j < length es → (get_or es i d).node < (get_or es j d).node
+-- of two entries the later one has the higher node
+rise-get : (es : List Entry) (i j : ℕ) (d : Entry) → EntriesRise es → i < j → j < length es
+    → (get_or es i d).node < (get_or es j d).node
 rise-get [] i j d h lt within = absurd (omega arith)
 rise-get (e ∷ es) i zero d h lt within = absurd (omega arith)
 rise-get (e ∷ es) zero (suc j) d h lt within = above-get e.node es j d h.0 (omega arith)
 rise-get (e ∷ es) (suc i) (suc j) d h lt within = rise-get es i j d h.1 (omega arith) (omega arith)
 
 -- the comparisons with a node rise along the list, as a binary search asks
-comparisons_rise : (es : List Entry) (n : ℕ) → EntriesRise es → IsNonDecreasingBy (λ e. ordering_index (nat_cmp e.node n)) es
+comparisons_rise : (es : List Entry) (n : ℕ) → EntriesRise es
+    → IsNonDecreasingBy (λ e. ordering_index (nat_cmp e.node n)) es
 comparisons_rise es n h i j d le within =
     let nodes : (get_or es i d).node ≤ (get_or es j d).node = elim (cases_eq i j) [
       | inl same ↦ let is = ap (λ k. (get_or es k d).node) same in omega arith
@@ -36,17 +41,25 @@ comparisons_rise es n h i j d le within =
     grind (arith, nat_tests)
 
 -- a binary search by node ends at the node, or at the gap for it
-pub searched : (es : List Entry) (n : ℕ) → EntriesRise es → (r : Result ℕ ℕ) → IsSearchInRange r (length es) → IsBinarySearchResult (λ e. nat_cmp e.node n) es r → record { found : IfOk r (IsEntryAt es n); absent : IfErr r (IsGapFor es n) }
-searched es n h (Ok place) within equal = record { found = record { within = within; has_node = λ d. ranked _ n _ (sym (equal d)) }; absent = tt }
+pub searched : (es : List Entry) (n : ℕ) → EntriesRise es → (r : Result ℕ ℕ)
+    → IsSearchInRange r (length es) → IsBinarySearchResult (λ e. nat_cmp e.node n) es r
+    → record { found : IfOk r (IsEntryAt es n); absent : IfErr r (IsGapFor es n) }
+searched es n h (Ok place) within equal =
+    record {
+      found = record { within = within; has_node = λ d. ranked _ n _ (sym (equal d)) };
+      absent = tt;
+    }
 searched es n h (Err place) within parted = record {
   found = tt;
   absent = record {
     within = within;
-    lower = λ i d lt. ranked _ n _ (sym ((parted (comparisons_rise es n h)).0 i d (omega arith) lt));
+    lower = λ i d lt. ranked _ n _
+        (sym ((parted (comparisons_rise es n h)).0 i d (omega arith) lt));
     higher = λ i d le lt. ranked _ n _ (sym ((parted (comparisons_rise es n h)).1 i d le lt));
   };
 }
 
+-- a gap behind the first entry is one of the list without it
 gap-tail : (e : Entry) (es : List Entry) (n i : ℕ) → IsGapFor (e ∷ es) n (suc i) → IsGapFor es n i
 gap-tail e es n i g = record {
   within = omega (arith, g.within);
@@ -54,24 +67,39 @@ gap-tail e es n i g = record {
   higher = λ j d le lt. g.higher (suc j) d (omega arith) (omega arith);
 }
 
-all-higher : (fs : List Entry) (n : ℕ) → ((j : ℕ) (d : Entry) → j < length fs → n < (get_or fs j d).node) → Above n fs
+-- if each place has a node above this one, the list is above it
+all-higher : (fs : List Entry) (n : ℕ)
+    → ((j : ℕ) (d : Entry) → j < length fs → n < (get_or fs j d).node) → Above n fs
 all-higher [] n h = tt
-all-higher (f ∷ fs) n h = (h 0 f (omega arith), all-higher fs n (λ j d lt. h (suc j) d (omega arith)))
+all-higher (f ∷ fs) n h =
+    (h 0 f (omega arith), all-higher fs n (λ j d lt. h (suc j) d (omega arith)))
 
 -- a node with a gap has no entry
 pub at-gap : (es : List Entry) (n i : ℕ) → IsGapFor es n i → entry_at n es ≡ None
 at-gap [] n i g = refl
-at-gap (e ∷ es) n zero g = at-above n (e ∷ es) (all-higher (e ∷ es) n (λ j d lt. g.higher j d (omega arith) lt))
-at-gap (e ∷ es) n (suc i) g = let lt = g.lower 0 e (omega arith) in let rest = at-gap es n i (gap-tail e es n i g) in grind (arith, nat_tests)
+at-gap (e ∷ es) n zero g =
+    at-above n (e ∷ es) (all-higher (e ∷ es) n (λ j d lt. g.higher j d (omega arith) lt))
+at-gap (e ∷ es) n (suc i) g =
+    let lt = g.lower 0 e (omega arith) in
+    let rest = at-gap es n i (gap-tail e es n i g) in
+    grind (arith, nat_tests)
 
-pub insert-gap : (e : Entry) (es : List Entry) (i : ℕ) → IsGapFor es e.node i → insert es i e ≡ put_in e es
+-- an entry inserted at the gap for its node is put in
+pub insert-gap : (e : Entry) (es : List Entry) (i : ℕ) → IsGapFor es e.node i
+    → insert es i e ≡ put_in e es
 insert-gap e [] zero g = refl
 insert-gap e [] (suc i) g = absurd (omega (arith, g.within))
-insert-gap e (f ∷ es) zero g = let low = g.higher 0 f (omega arith) (omega arith) in grind (arith, nat_tests)
-insert-gap e (f ∷ es) (suc i) g = let low = g.lower 0 f (omega arith) in let rest = insert-gap e es i (gap-tail f es e.node i g) in grind (arith, nat_tests)
+insert-gap e (f ∷ es) zero g =
+    let low = g.higher 0 f (omega arith) (omega arith) in
+    grind (arith, nat_tests)
+insert-gap e (f ∷ es) (suc i) g =
+    let low = g.lower 0 f (omega arith) in
+    let rest = insert-gap e es i (gap-tail f es e.node i g) in
+    grind (arith, nat_tests)
 
 -- the entry at a place is that of its node
-pub at-place : (es : List Entry) (n i : ℕ) (d : Entry) → EntriesRise es → IsEntryAt es n i → entry_at n es ≡ Some (get_or es i d)
+pub at-place : (es : List Entry) (n i : ℕ) (d : Entry) → EntriesRise es → IsEntryAt es n i
+    → entry_at n es ≡ Some (get_or es i d)
 at-place [] n i d h g = absurd (omega (arith, g.within))
 at-place (e ∷ es) n zero d h g = let here = g.has_node e in grind (arith, nat_tests)
 at-place (e ∷ es) n (suc i) d h g =
@@ -81,23 +109,39 @@ at-place (e ∷ es) n (suc i) d h g =
     let rest = at-place es n i d h.1 (record { within = within; has_node = λ c. g.has_node c }) in
     grind (arith, nat_tests)
 
+-- a triple's place is its node's
 pub triple-place : (es : List Entry) (e : Entry) (i : ℕ) → IsTripleAt es e i → IsEntryAt es e.node i
-triple-place es e i g = record { within = g.within; has_node = λ d. ap (λ (f : Entry). f.node) (g.same d) }
+triple-place es e i g =
+    record { within = g.within; has_node = λ d. ap (λ (f : Entry). f.node) (g.same d) }
 
-pub at-triple : (es : List Entry) (e : Entry) (i : ℕ) → EntriesRise es → IsTripleAt es e i → entry_at e.node es ≡ Some e
+-- a triple at a place is the entry found for its node
+pub at-triple : (es : List Entry) (e : Entry) (i : ℕ) → EntriesRise es → IsTripleAt es e i
+    → entry_at e.node es ≡ Some e
 at-triple es e i h g = at-place es e.node i e h (triple-place es e i g) ∙ ap Some (g.same e)
 
+-- taking a triple out of entries above its node leaves them all
 taken_out-above : (e : Entry) (es : List Entry) → Above e.node es → taken_out e es ≡ es
 taken_out-above e [] h = refl
-taken_out-above e (f ∷ es) h = let low = h.0 in let rest = taken_out-above e es h.1 in grind (arith, nat_tests)
+taken_out-above e (f ∷ es) h =
+    let low = h.0 in
+    let rest = taken_out-above e es h.1 in
+    grind (arith, nat_tests)
 
-triple-tail : (f : Entry) (es : List Entry) (e : Entry) (i : ℕ) → IsTripleAt (f ∷ es) e (suc i) → IsTripleAt es e i
+-- a triple behind the first entry is one of the list without it
+triple-tail : (f : Entry) (es : List Entry) (e : Entry) (i : ℕ) → IsTripleAt (f ∷ es) e (suc i)
+    → IsTripleAt es e i
 triple-tail f es e i g = record { within = omega (arith, g.within); same = λ d. g.same d }
 
-triple-above : (f : Entry) (es : List Entry) (e : Entry) (i : ℕ) → EntriesRise (f ∷ es) → IsTripleAt (f ∷ es) e (suc i) → f.node < e.node
-triple-above f es e i h g = let lt = above-get f.node es i e h.0 (omega (arith, g.within)) in rw (← g.same e) lt
+-- and has a higher node than the first
+triple-above : (f : Entry) (es : List Entry) (e : Entry) (i : ℕ) → EntriesRise (f ∷ es)
+    → IsTripleAt (f ∷ es) e (suc i) → f.node < e.node
+triple-above f es e i h g =
+    let lt = above-get f.node es i e h.0 (omega (arith, g.within)) in
+    rw (← g.same e) lt
 
-pub remove-triple : (es : List Entry) (e : Entry) (i : ℕ) → EntriesRise es → IsTripleAt es e i → remove es i ≡ taken_out e es
+-- removing a triple's place takes it out
+pub remove-triple : (es : List Entry) (e : Entry) (i : ℕ) → EntriesRise es → IsTripleAt es e i
+    → remove es i ≡ taken_out e es
 remove-triple [] e i h g = absurd (omega (arith, g.within))
 remove-triple (f ∷ es) e zero h g =
     let is : f ≡ e = g.same e in
@@ -109,12 +153,14 @@ remove-triple (f ∷ es) e (suc i) h g =
     let rest = remove-triple es e i h.1 (triple-tail f es e i g) in
     grind (arith, nat_tests)
 
+-- a triple put in below all others goes to the front
 put_in-above : (e : Entry) (es : List Entry) → Above e.node es → put_in e es ≡ e ∷ es
 put_in-above e [] h = refl
 put_in-above e (f ∷ es) h = let low = h.0 in grind (arith, nat_tests)
 
 -- an entry at its node's place in place of another
-pub set-triple : (es : List Entry) (e f : Entry) (i : ℕ) → EntriesRise es → IsTripleAt es e i → f.node ≡ e.node → set es i f ≡ put_in f (taken_out e es)
+pub set-triple : (es : List Entry) (e f : Entry) (i : ℕ) → EntriesRise es → IsTripleAt es e i
+    → f.node ≡ e.node → set es i f ≡ put_in f (taken_out e es)
 set-triple [] e f i h g node = absurd (omega (arith, g.within))
 set-triple (d ∷ es) e f zero h g node =
     let is : d ≡ e = g.same e in
@@ -129,43 +175,65 @@ set-triple (d ∷ es) e f (suc i) h g node =
 
 -- ---- the facts that the code needs
 
-pub triple-read : (es : List Entry) (e f : Entry) (i : ℕ) → IsEntryAt es e.node i → f ≡ get_or es i f → same_entry e f ≡ true → IsTripleAt es e i
+-- an entry that was read at its node's place and is the same as a triple is that triple
+pub triple-read : (es : List Entry) (e f : Entry) (i : ℕ) → IsEntryAt es e.node i
+    → f ≡ get_or es i f → same_entry e f ≡ true → IsTripleAt es e i
 triple-read es e f i g read same = record {
   within = g.within;
   same = λ d. get_or_default es i d f g.within ∙ (sym read ∙ sym (same-entry e f same));
 }
 
-pub has_entry-read : (es : List Entry) (e f : Entry) (i : ℕ) (b : Bool) → EntriesRise es → IsEntryAt es e.node i → f ≡ get_or es i f → same_entry e f ≡ b → has_entry e es ≡ b
-has_entry-read es e f i b h g read same = has_entry-at e es h ∙ rw (at-place es e.node i f h g, ← read) same
+-- the entry read at a node's place says whether a triple of that node is there
+pub has_entry-read : (es : List Entry) (e f : Entry) (i : ℕ) (b : Bool) → EntriesRise es
+    → IsEntryAt es e.node i → f ≡ get_or es i f → same_entry e f ≡ b → has_entry e es ≡ b
+has_entry-read es e f i b h g read same = has_entry-at e es h
+    ∙ rw (at-place es e.node i f h g, ← read) same
 
-pub has_entry-lacks : (es : List Entry) (e : Entry) → EntriesRise es → has_node e.node es ≡ false → has_entry e es ≡ false
-has_entry-lacks es e h lacks = has_entry-at e es h ∙ at (entry_at e.node es) (sym (has_node-at e.node es) ∙ lacks)
+-- where a node has no entry, no triple of it is there
+pub has_entry-lacks : (es : List Entry) (e : Entry) → EntriesRise es → has_node e.node es ≡ false
+    → has_entry e es ≡ false
+has_entry-lacks es e h lacks = has_entry-at e es h
+    ∙ at (entry_at e.node es) (sym (has_node-at e.node es) ∙ lacks)
   where
     at : (o : Option Entry) → is_some o ≡ false → option_map_or (same_entry e) o false ≡ false
     at None none = refl
     at (Some f) none = cc
 
+-- a node with a gap isn't there
 pub has_node-gap : (es : List Entry) (n i : ℕ) → IsGapFor es n i → has_node n es ≡ false
 has_node-gap es n i g = has_node-at n es ∙ ap is_some (at-gap es n i g)
 
-pub has_node-place : (es : List Entry) (n i : ℕ) (d : Entry) → EntriesRise es → IsEntryAt es n i → has_node n es ≡ true
+-- a node with a place is there
+pub has_node-place : (es : List Entry) (n i : ℕ) (d : Entry) → EntriesRise es → IsEntryAt es n i
+    → has_node n es ≡ true
 has_node-place es n i d h g = has_node-at n es ∙ ap is_some (at-place es n i d h g)
 
-pub has_node-search : (es : List Entry) (n : ℕ) (r : Result ℕ ℕ) → EntriesRise es → IfOk r (IsEntryAt es n) → IfErr r (IsGapFor es n) → has_node n es ≡ is_ok r
+-- a search says whether a node is there
+pub has_node-search : (es : List Entry) (n : ℕ) (r : Result ℕ ℕ) → EntriesRise es
+    → IfOk r (IsEntryAt es n) → IfErr r (IsGapFor es n) → has_node n es ≡ is_ok r
 has_node-search [] n (Ok i) h found absent = absurd (omega (arith, found.within))
 has_node-search (e ∷ es) n (Ok i) h found absent = has_node-place (e ∷ es) n i e h found
 has_node-search es n (Err i) h found absent = has_node-gap es n i absent
 
-pub has_entry-triple : (es : List Entry) (e : Entry) (i : ℕ) → EntriesRise es → IsTripleAt es e i → has_entry e es ≡ true
+-- a triple at a place is there
+pub has_entry-triple : (es : List Entry) (e : Entry) (i : ℕ) → EntriesRise es → IsTripleAt es e i
+    → has_entry e es ≡ true
 has_entry-triple es e i h g = has_entry-at e es h ∙ rw (at-triple es e i h g) (same-self e)
 
-pub rises-insert : (e : Entry) (es : List Entry) (i : ℕ) → EntriesRise es → IsGapFor es e.node i → EntriesRise (insert es i e)
+-- the nodes still rise after an insertion at the gap
+pub rises-insert : (e : Entry) (es : List Entry) (i : ℕ) → EntriesRise es → IsGapFor es e.node i
+    → EntriesRise (insert es i e)
 rises-insert e es i h g = rw (insert-gap e es i g) (rises-put_in e es h (at-gap es e.node i g))
 
-pub rises-remove : (es : List Entry) (e : Entry) (i : ℕ) → EntriesRise es → IsTripleAt es e i → EntriesRise (remove es i)
+-- the nodes still rise after a removal
+pub rises-remove : (es : List Entry) (e : Entry) (i : ℕ) → EntriesRise es → IsTripleAt es e i
+    → EntriesRise (remove es i)
 rises-remove es e i h g = rw (remove-triple es e i h g) (rises-filter _ es h)
 
-pub rises-set : (es : List Entry) (e f : Entry) (i : ℕ) → EntriesRise es → IsTripleAt es e i → f.node ≡ e.node → EntriesRise (set es i f)
+-- the nodes still rise after an entry is written over by one of its node
+pub rises-set : (es : List Entry) (e f : Entry) (i : ℕ) → EntriesRise es → IsTripleAt es e i
+    → f.node ≡ e.node → EntriesRise (set es i f)
 rises-set es e f i h g node =
-    let none : entry_at f.node (taken_out e es) ≡ None = rw node (at-taken_out es e h (at-triple es e i h g)) in
+    let none : entry_at f.node (taken_out e es) ≡ None =
+    rw node (at-taken_out es e h (at-triple es e i h g)) in
     rw (set-triple es e f i h g node) (rises-put_in f (taken_out e es) (rises-filter _ es h) none)

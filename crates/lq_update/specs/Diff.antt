@@ -27,7 +27,8 @@ alone moved entries others = filter (λ e. not (moved && has_node e.node others)
 
 -- from the old place to the new one, for each node that has both
 abbrev pub moves : List Entry → List Entry → List (Opcode × Entry)
-moves gone come = flat_map (λ e. map (λ f. (Moved e.dir e.name, f)) (filter (λ f. f.node == e.node) come)) gone
+moves gone come =
+    flat_map (λ e. map (λ f. (Moved e.dir e.name, f)) (filter (λ f. f.node == e.node) come)) gone
 
 -- the messages of the entries that left and of those that came
 abbrev pub told : Bool → List Entry → List Entry → List (Opcode × Entry)
@@ -36,6 +37,8 @@ told moved gone come =
     ++ (if moved then moves gone come else [])
     ++ map (λ e. (Created, e)) (alone moved come gone)
 
--- What left the result and what came into it: the removed, the moved and the created, each by rising node.
+-- What left the result and what came into it: the removed, the moved and the created, each by
+-- rising node.
 abbrev pub diff : Query → Bool → State → State → List (Opcode × Entry)
-diff q moved s t = told moved (missing (result_of q s) (result_of q t)) (missing (result_of q t) (result_of q s))
+diff q moved s t =
+    told moved (missing (result_of q s) (result_of q t)) (missing (result_of q t) (result_of q s))

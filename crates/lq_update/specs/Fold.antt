@@ -18,6 +18,7 @@ EntriesRise (e ∷ es) = AllByRecursion (λ f. e.node < f.node) es × EntriesRis
 abbrev pub taken_out : Entry → List Entry → List Entry
 taken_out e entries = filter (λ f. not (same_entry e f)) entries
 
+-- the set with one more triple, before the first of a higher node
 abbrev pub put_in : Entry → List Entry → List Entry
 put_in e [] = e ∷ []
 put_in e (f ∷ fs) = if nat_lt e.node f.node then e ∷ f ∷ fs else f ∷ put_in e fs
@@ -46,12 +47,15 @@ fits_by (Moved dir name) e entries = has_entry (old_entry dir name e) entries
 abbrev pub entry_in : Message → Entry
 entry_in m = record { dir = m.dir; name = m.name; node = m.node }
 
+-- the set after a message
 abbrev pub folded_one : List Entry → Message → List Entry
 folded_one entries m = folded_by m.op (entry_in m) entries
 
+-- whether a message fits the set
 abbrev pub fits_in : List Entry → Message → Bool
 fits_in entries m = fits_by m.op (entry_in m) entries
 
+-- the set after messages, one after another
 abbrev pub folded : List Entry → List Message → List Entry
 folded entries [] = entries
 folded entries (m ∷ ms) = folded (folded_one entries m) ms
@@ -61,15 +65,17 @@ abbrev pub settled_after : Bool → List Message → Bool
 settled_after settled [] = settled
 settled_after settled (m ∷ ms) = settled_after m.last ms
 
+-- whether the final message was the last of its change; so it is of no message
 abbrev pub is_settled : List Message → Bool
 is_settled ms = settled_after true ms
 
+-- the change of the final message, or the number given where there is none
 abbrev pub last_change : ℕ → List Message → ℕ
 last_change at [] = at
 last_change at (m ∷ ms) = last_change m.change ms
 
--- How far a fold has come: how many messages it has taken, whether the latest was the last of its change,
--- that change, and the entries by rising node.
+-- How far a fold has come: how many messages it has taken, whether the latest was the last of its
+-- change, that change, and the entries by rising node.
 pub record Folding : Type 0 where
   pub seq : ℕ
   pub change : ℕ
@@ -80,7 +86,8 @@ pub record Folding : Type 0 where
 abbrev pub opened_at : ℕ → List Entry → Folding
 opened_at at entries = record { seq = 0; change = at; settled = true; entries = entries }
 
--- why a message is refused: it is not the next one, or its change can't be told now, or it doesn't fit
+-- why a message is refused: it is not the next one, or its change can't be told now, or it doesn't
+-- fit
 abbrev pub fold_refusals : Folding → Message → List (Bool × Refusal)
 fold_refusals f m =
     (not (m.seq == f.seq + 1), OutOfStep)
@@ -91,8 +98,10 @@ fold_refusals f m =
 
 -- the fold by one message
 abbrev pub folding_after : Folding → Message → Folding
-folding_after f m = record { seq = m.seq; change = m.change; settled = m.last; entries = folded_one f.entries m }
+folding_after f m =
+    record { seq = m.seq; change = m.change; settled = m.last; entries = folded_one f.entries m }
 
+-- the fold by many messages
 abbrev pub folding_after_all : Folding → List Message → Folding
 folding_after_all f [] = f
 folding_after_all f (m ∷ ms) = folding_after_all (folding_after f m) ms

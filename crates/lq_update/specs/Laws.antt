@@ -19,28 +19,35 @@ use Rattle.lq_update.specs.Fold.{Folding, is_settled, settled_after, fold_refusa
 
 -- a longer book only adds to the end of an update list
 abbrev pub UpdatesGrow : Type 0
-UpdatesGrow = (q : Query) (moved : Bool) (b : Book) (m n : ℕ) → IsPrefixOf (updates_of q moved b m n) (updates_of q moved b m (n + 1))
+UpdatesGrow = (q : Query) (moved : Bool) (b : Book) (m n : ℕ)
+    → IsPrefixOf (updates_of q moved b m n) (updates_of q moved b m (n + 1))
 
--- the messages of some changes, and then those of more, from the state and the number that those lead to
+-- the messages of some changes, and then those of more, from the state and the number that those
+-- lead to
 abbrev pub UpdatesJoin : Type 0
 UpdatesJoin = (q : Query) (moved : Bool) (s : State) (cs ds : List Change) (seq : ℕ) →
     updates_from q moved s (cs ++ ds) seq
-    ≡ updates_from q moved s cs seq ++ updates_from q moved (after_all s cs) ds (seq + length (updates_from q moved s cs seq))
+    ≡ updates_from q moved s cs seq
+    ++ updates_from q moved (after_all s cs) ds (seq + length (updates_from q moved s cs seq))
 
 -- one more change in a book adds just its messages to the end of an update list
 abbrev pub ChangesAddSteps : Type 0
-ChangesAddSteps = (q : Query) (moved : Bool) (b : Book) (c : Change) (m n : ℕ) → n ≡ number_of b → m ≤ n →
+ChangesAddSteps = (q : Query) (moved : Bool) (b : Book) (c : Change) (m n : ℕ)
+    → n ≡ number_of b → m ≤ n →
     updates_of q moved (grown b (c ∷ [])) m (n + 1)
-    ≡ updates_of q moved b m n ++ step_of q moved (state_of b) c (length (updates_of q moved b m n) + 1)
+    ≡ updates_of q moved b m n
+    ++ step_of q moved (state_of b) c (length (updates_of q moved b m n) + 1)
 
 -- a longer book has the same update list up to a number of the shorter one
 abbrev pub UpdatesStay : Type 0
-UpdatesStay = (q : Query) (moved : Bool) (longer b : Book) (m e : ℕ) → Extends longer b → b.start.number ≤ m → m ≤ e → e ≤ number_of b
+UpdatesStay = (q : Query) (moved : Bool) (longer b : Book) (m e : ℕ) → Extends longer b
+    → b.start.number ≤ m → m ≤ e → e ≤ number_of b
     → updates_of q moved longer m e ≡ updates_of q moved b m e
 
 -- an update list up to a number is a prefix of that up to a later one
 abbrev pub UpdatesArePrefixes : Type 0
-UpdatesArePrefixes = (q : Query) (moved : Bool) (b : Book) (m e n : ℕ) → e ≤ n → IsPrefix (updates_of q moved b m e) (updates_of q moved b m n)
+UpdatesArePrefixes = (q : Query) (moved : Bool) (b : Book) (m e n : ℕ) → e ≤ n
+    → IsPrefix (updates_of q moved b m e) (updates_of q moved b m n)
 
 -- an update list begins with no message
 abbrev pub UpdatesBeginEmpty : Type 0
@@ -48,36 +55,46 @@ UpdatesBeginEmpty = (q : Query) (moved : Bool) (b : Book) (m : ℕ) → updates_
 
 -- an accepted change tells a query at most three messages
 abbrev pub StepsAreFew : Type 0
-StepsAreFew = (q : Query) (moved : Bool) (s : State) (c : Change) (seq : ℕ) → IsVolume s → IsLawful s c → length (step_of q moved s c seq) ≤ 3
+StepsAreFew = (q : Query) (moved : Bool) (s : State) (c : Change) (seq : ℕ) → IsVolume s
+    → IsLawful s c → length (step_of q moved s c seq) ≤ 3
 
 -- a result rises by node
 abbrev pub ResultsRise : Type 0
 ResultsRise = (q : Query) (s : State) → IsVolume s → EntriesRise (result_of q s)
 
--- folding a settled front of an update list over the opening's result gives the result after its last change
+-- folding a settled front of an update list over the opening's result gives the result after its
+-- last change
 abbrev pub FoldsGiveResults : Type 0
-FoldsGiveResults = (q : Query) (moved : Bool) (b : Book) (m n : ℕ) (front : List Message) → IsVolume b.start → IsBook b → b.start.number ≤ m → m ≤ number_of b
-    → IsPrefixOf front (updates_of q moved b m n) → IsSettled front → folded (result_of q (state_at b m)) front ≡ result_of q (state_at b (last_change m front))
+FoldsGiveResults = (q : Query) (moved : Bool) (b : Book) (m n : ℕ) (front : List Message)
+    → IsVolume b.start → IsBook b → b.start.number ≤ m → m ≤ number_of b
+    → IsPrefixOf front (updates_of q moved b m n) → IsSettled front
+    → folded (result_of q (state_at b m)) front ≡ result_of q (state_at b (last_change m front))
 
 -- and folding all of it gives the result after the whole book of its changes
 abbrev pub WholeFoldsGiveResults : Type 0
-WholeFoldsGiveResults = (q : Query) (moved : Bool) (b : Book) (m n : ℕ) → IsVolume b.start → IsBook b → b.start.number ≤ m → m ≤ n
+WholeFoldsGiveResults = (q : Query) (moved : Bool) (b : Book) (m n : ℕ) → IsVolume b.start
+    → IsBook b → b.start.number ≤ m → m ≤ n
     → folded (result_of q (state_at b m)) (updates_of q moved b m n) ≡ result_of q (state_at b n)
 
--- Behind each front of an update list the next message fits: a removed triple and a moved one's old triple are
--- in the fold of the front, and a created one's node isn't.
+-- Behind each front of an update list the next message fits: a removed triple and a moved one's old
+-- triple are in the fold of the front, and a created one's node isn't.
 abbrev pub MessagesFitIn : Type 0
-MessagesFitIn = (q : Query) (moved : Bool) (b : Book) (m n : ℕ) (front rest : List Message) (message : Message) → IsVolume b.start → IsBook b
-    → front ++ message ∷ rest ≡ updates_of q moved b m n → fits_in (folded (result_of q (state_at b m)) front) message ≡ true
+MessagesFitIn = (q : Query) (moved : Bool) (b : Book) (m n : ℕ) (front rest : List Message)
+    (message : Message) → IsVolume b.start → IsBook b
+    → front ++ message ∷ rest ≡ updates_of q moved b m n
+    → fits_in (folded (result_of q (state_at b m)) front) message ≡ true
 
 -- a fold from the opening's result that has taken a front of an update list refuses no next message
 abbrev pub RebuildsTakeAll : Type 0
-RebuildsTakeAll = (q : Query) (moved : Bool) (b : Book) (m n : ℕ) (front rest : List Message) (message : Message) → IsVolume b.start → IsBook b → b.start.number ≤ m → m ≤ number_of b
-    → front ++ message ∷ rest ≡ updates_of q moved b m n → first_refusal (fold_refusals (folding_after_all (opened_at m (result_of q (state_at b m))) front) message) ≡ None
+RebuildsTakeAll = (q : Query) (moved : Bool) (b : Book) (m n : ℕ) (front rest : List Message)
+    (message : Message) → IsVolume b.start → IsBook b → b.start.number ≤ m → m ≤ number_of b
+    → front ++ message ∷ rest ≡ updates_of q moved b m n → first_refusal (fold_refusals
+    (folding_after_all (opened_at m (result_of q (state_at b m))) front) message) ≡ None
 
 -- a fold by many messages has their entries, their last change, and whether they are settled
 abbrev pub FoldingsFollow : Type 0
-FoldingsFollow = (f : Folding) (ms : List Message) → ((folding_after_all f ms).entries ≡ folded f.entries ms)
+FoldingsFollow = (f : Folding) (ms : List Message)
+    → ((folding_after_all f ms).entries ≡ folded f.entries ms)
     × ((folding_after_all f ms).change ≡ last_change f.change ms)
     × ((folding_after_all f ms).settled ≡ settled_after f.settled ms)
 
@@ -96,5 +113,7 @@ names_altered (RemoveAttr node attr) = Some (attr ∷ [])
 
 -- a change under names that a predicate doesn't go by tells it nothing
 abbrev pub ChangesPassOver : Type 0
-ChangesPassOver = (q : Query) (moved : Bool) (s : State) (c : Change) (names altered : List (List ℕ)) → IsVolume s → GoesBy names q → names_altered c ≡ Some altered
-    → AllByRecursion (λ name. list_any (bytes_eq name) names ≡ false) altered → diff q moved s (after s c) ≡ []
+ChangesPassOver = (q : Query) (moved : Bool) (s : State) (c : Change)
+    (names altered : List (List ℕ)) → IsVolume s → GoesBy names q → names_altered c ≡ Some altered
+    → AllByRecursion (λ name. list_any (bytes_eq name) names ≡ false) altered
+    → diff q moved s (after s c) ≡ []

@@ -14,7 +14,15 @@ use Rattle.lq_update.specs.Diff.{diff}
 abbrev pub numbered : ℕ → ℕ → List (Opcode × Entry) → List Message
 numbered seq change [] = []
 numbered seq change (x ∷ xs) =
-    record { seq = seq; change = change; last = length xs == 0; op = x.0; dir = x.1.dir; name = x.1.name; node = x.1.node }
+    record {
+      seq = seq;
+      change = change;
+      last = length xs == 0;
+      op = x.0;
+      dir = x.1.dir;
+      name = x.1.name;
+      node = x.1.node;
+    }
     ∷ numbered (seq + 1) change xs
 
 -- the messages of a lawful change to a state
@@ -25,12 +33,14 @@ step_of q moved s c seq = numbered seq (s.number + 1) (diff q moved s (after s c
 abbrev pub updates_from : Query → Bool → State → List Change → ℕ → List Message
 updates_from q moved s [] seq = []
 updates_from q moved s (c ∷ cs) seq =
-    step_of q moved s c seq ++ updates_from q moved (after s c) cs (seq + length (step_of q moved s c seq))
+    step_of q moved s c seq
+    ++ updates_from q moved (after s c) cs (seq + length (step_of q moved s c seq))
 
 -- the update list of a query, from number m to number n of a book
 abbrev pub updates_of : Query → Bool → Book → ℕ → ℕ → List Message
 updates_of q moved b m n = updates_from q moved (state_at b m) (changes_between b m n) 1
 
+-- the second list begins with the first
 abbrev pub IsPrefixOf : List Message → List Message → Type 0
 IsPrefixOf xs ys = (rest : List Message) × (xs ++ rest ≡ ys)
 

@@ -6,10 +6,13 @@ pub returns-in_default-clause-has : goal.returns-in_default-clause-has
 returns-in_default-clause-has c = has_entry-lacks _ _ c.requires c.in_default.ensures.has
 
 pub returns-then-is_triple-clause-found : goal.returns-then-is_triple-clause-found
-returns-then-is_triple-clause-found c = triple-read _ _ c.index-entries-place.result _ c.in-Ok.ensures.found c.index-entries-place.is (sym c.is_triple.ensures ∙ c.if-is_triple.true)
+returns-then-is_triple-clause-found c = triple-read _ _ c.index-entries-place.result _
+    c.in-Ok.ensures.found c.index-entries-place.is (sym c.is_triple.ensures ∙ c.if-is_triple.true)
 
 pub returns-then-is_triple-clause-has : goal.returns-then-is_triple-clause-has
-returns-then-is_triple-clause-has c = has_entry-read _ _ c.index-entries-place.result _ _ c.requires c.in-Ok.ensures.found c.index-entries-place.is (sym c.is_triple.ensures ∙ c.if-is_triple.true)
+returns-then-is_triple-clause-has c = has_entry-read _ _ c.index-entries-place.result _ _ c.requires
+    c.in-Ok.ensures.found c.index-entries-place.is (sym c.is_triple.ensures ∙ c.if-is_triple.true)
 
 pub returns-else-is_triple-clause-has : goal.returns-else-is_triple-clause-has
-returns-else-is_triple-clause-has c = has_entry-read _ _ c.index-entries-place.result _ _ c.requires c.in-Ok.ensures.found c.index-entries-place.is (sym c.is_triple.ensures ∙ c.if-is_triple.false)
+returns-else-is_triple-clause-has c = has_entry-read _ _ c.index-entries-place.result _ _ c.requires
+    c.in-Ok.ensures.found c.index-entries-place.is (sym c.is_triple.ensures ∙ c.if-is_triple.false)

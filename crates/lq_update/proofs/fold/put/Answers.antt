@@ -6,10 +6,14 @@ use Rattle.lq_update.proofs.fold.put.Goals as goal
 
 pub returns-clause-ok : goal.returns-clause-ok
 returns-clause-ok c =
-    let gap : IsGapFor c.args.entries.now.items c.args.message.now.node c.in-Err.place = rw (← c.deref.ensures.value) c.in-Err.ensures.absent in
-    c.in_ok-insert.ensures.items ∙ rw c.in_ok-entry.ensures.value (insert-gap (entry_in c.args.message.now) _ _ gap)
+    let gap : IsGapFor c.args.entries.now.items c.args.message.now.node c.in-Err.place =
+    rw (← c.deref.ensures.value) c.in-Err.ensures.absent in
+    c.in_ok-insert.ensures.items
+    ∙ rw c.in_ok-entry.ensures.value (insert-gap (entry_in c.args.message.now) _ _ gap)
 
 pub returns-clause-rise : goal.returns-clause-rise
 returns-clause-rise c =
-    let gap : IsGapFor c.args.entries.now.items c.args.message.now.node c.in-Err.place = rw (← c.deref.ensures.value) c.in-Err.ensures.absent in
-    rw (c.in_ok-insert.ensures.items, c.in_ok-entry.ensures.value) (rises-insert (entry_in c.args.message.now) _ _ c.requires gap)
+    let gap : IsGapFor c.args.entries.now.items c.args.message.now.node c.in-Err.place =
+    rw (← c.deref.ensures.value) c.in-Err.ensures.absent in
+    rw (c.in_ok-insert.ensures.items, c.in_ok-entry.ensures.value)
+    (rises-insert (entry_in c.args.message.now) _ _ c.requires gap)

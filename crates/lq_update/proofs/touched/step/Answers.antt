@@ -17,11 +17,21 @@ returns-in_default-clause-messages c =
     let volume = c.applied-made.ensures.volume in
     let lawful = c.applied-made.ensures.lawful in
     let kept = c.accepted_changes_keep_trees.ensures s change volume lawful in
-    let number : c.applied-made.result.change ≡ s.number + 1 = rw c.applied-made.ensures.value refl in
-    let removed : c.join-removed.result.0 ≡ told_first moved (left_at q s (after s change) (node_of s change)) (left_at q (after s change) s (node_of s change)) = c.join-removed.ensures.removed ∙ rw (c.in_ok-left.ensures.removed, c.in_ok-left.ensures.created) refl in
-    let last : c.join-removed.result.1 ≡ told_last moved (left_at q s (after s change) (node_of s change)) (left_at q (after s change) s (node_of s change)) = c.join-removed.ensures.last ∙ rw (c.in_ok-left.ensures.removed, c.in_ok-left.ensures.created) refl in
-    let none : clobbered s change ≡ None = sym c.clobbered.ensures.node ∙ ap (option_map (λ e. e.0)) c.in_default.is in
-    c.in_ok-tell.ensures.messages ∙ told-alone q moved s change c.args.first_seq _ _ _ volume kept (λ n off. c.untouched_nodes_stay.ensures s change n volume lawful off) (λ n is. c.clobbered_nodes_go.ensures s change n volume is) number removed last none
+    let number : c.applied-made.result.change ≡ s.number + 1 =
+    rw c.applied-made.ensures.value refl in
+    let removed : c.join-removed.result.0
+    ≡ told_first moved (left_at q s (after s change) (node_of s change))
+    (left_at q (after s change) s (node_of s change)) = c.join-removed.ensures.removed
+    ∙ rw (c.in_ok-left.ensures.removed, c.in_ok-left.ensures.created) refl in
+    let last : c.join-removed.result.1
+    ≡ told_last moved (left_at q s (after s change) (node_of s change))
+    (left_at q (after s change) s (node_of s change)) = c.join-removed.ensures.last
+    ∙ rw (c.in_ok-left.ensures.removed, c.in_ok-left.ensures.created) refl in
+    let none : clobbered s change ≡ None = sym c.clobbered.ensures.node
+    ∙ ap (option_map (λ e. e.0)) c.in_default.is in
+    c.in_ok-tell.ensures.messages ∙ told-alone q moved s change c.args.first_seq _ _ _ volume kept
+    (λ n off. c.untouched_nodes_stay.ensures s change n volume lawful off)
+    (λ n is. c.clobbered_nodes_go.ensures s change n volume is) number removed last none
 
 pub returns-in_ok-tell-2-clause-messages : goal.returns-in_ok-tell-2-clause-messages
 returns-in_ok-tell-2-clause-messages c =
@@ -33,17 +43,29 @@ returns-in_ok-tell-2-clause-messages c =
     let volume = c.applied-made.ensures.volume in
     let lawful = c.applied-made.ensures.lawful in
     let kept = c.accepted_changes_keep_trees.ensures s change volume lawful in
-    let number : c.applied-made.result.change ≡ s.number + 1 = rw c.applied-made.ensures.value refl in
-    let node : c.applied-made.result.node ≡ node_of s change = rw c.applied-made.ensures.value refl in
-    let removed : c.join-removed.result.0 ≡ told_first moved (left_at q s (after s change) (node_of s change)) (left_at q (after s change) s (node_of s change)) = c.join-removed.ensures.removed ∙ rw (c.in_ok-left.ensures.removed, c.in_ok-left.ensures.created) refl in
-    let last : c.join-removed.result.1 ≡ told_last moved (left_at q s (after s change) (node_of s change)) (left_at q (after s change) s (node_of s change)) = c.join-removed.ensures.last ∙ rw (c.in_ok-left.ensures.removed, c.in_ok-left.ensures.created) refl in
+    let number : c.applied-made.result.change ≡ s.number + 1 =
+    rw c.applied-made.ensures.value refl in
+    let node : c.applied-made.result.node ≡ node_of s change =
+    rw c.applied-made.ensures.value refl in
+    let removed : c.join-removed.result.0
+    ≡ told_first moved (left_at q s (after s change) (node_of s change))
+    (left_at q (after s change) s (node_of s change)) = c.join-removed.ensures.removed
+    ∙ rw (c.in_ok-left.ensures.removed, c.in_ok-left.ensures.created) refl in
+    let last : c.join-removed.result.1
+    ≡ told_last moved (left_at q s (after s change) (node_of s change))
+    (left_at q (after s change) s (node_of s change)) = c.join-removed.ensures.last
+    ∙ rw (c.in_ok-left.ensures.removed, c.in_ok-left.ensures.created) refl in
     let clobbered_is = c.in-Some.ensures.node in
     let is : clobbered s change ≡ Some other = cc in
     let entry_is = c.in-Some.ensures.entry in
     let entry : record_at s other ≡ Some c.in-Some.seen.now = cc in
-    let gone : c.in_ok-gone.gone ≡ match_at q s other = c.in_ok-gone.ensures.value ∙ (c.matching.ensures other ∙ sym (ap (option_and_then (λ (r : Record). entry_if q (other, r))) entry)) in
+    let gone : c.in_ok-gone.gone ≡ match_at q s other = c.in_ok-gone.ensures.value
+    ∙ (c.matching.ensures other
+    ∙ sym (ap (option_and_then (λ (r : Record). entry_if q (other, r))) entry)) in
     let low : other < node_of s change = rw (← node) c.if-other-made.true in
-    c.in_ok-tell-2.ensures.messages ∙ told-low q moved s change c.args.first_seq _ _ _ volume kept (λ n off. c.untouched_nodes_stay.ensures s change n volume lawful off) (λ n is. c.clobbered_nodes_go.ensures s change n volume is) number removed last other _ is low gone
+    c.in_ok-tell-2.ensures.messages ∙ told-low q moved s change c.args.first_seq _ _ _ volume kept
+    (λ n off. c.untouched_nodes_stay.ensures s change n volume lawful off) (λ n is.
+    c.clobbered_nodes_go.ensures s change n volume is) number removed last other _ is low gone
 
 pub returns-in_ok-tell-3-clause-messages : goal.returns-in_ok-tell-3-clause-messages
 returns-in_ok-tell-3-clause-messages c =
@@ -55,14 +77,27 @@ returns-in_ok-tell-3-clause-messages c =
     let volume = c.applied-made.ensures.volume in
     let lawful = c.applied-made.ensures.lawful in
     let kept = c.accepted_changes_keep_trees.ensures s change volume lawful in
-    let number : c.applied-made.result.change ≡ s.number + 1 = rw c.applied-made.ensures.value refl in
-    let node : c.applied-made.result.node ≡ node_of s change = rw c.applied-made.ensures.value refl in
-    let removed : c.join-removed.result.0 ≡ told_first moved (left_at q s (after s change) (node_of s change)) (left_at q (after s change) s (node_of s change)) = c.join-removed.ensures.removed ∙ rw (c.in_ok-left.ensures.removed, c.in_ok-left.ensures.created) refl in
-    let last : c.join-removed.result.1 ≡ told_last moved (left_at q s (after s change) (node_of s change)) (left_at q (after s change) s (node_of s change)) = c.join-removed.ensures.last ∙ rw (c.in_ok-left.ensures.removed, c.in_ok-left.ensures.created) refl in
+    let number : c.applied-made.result.change ≡ s.number + 1 =
+    rw c.applied-made.ensures.value refl in
+    let node : c.applied-made.result.node ≡ node_of s change =
+    rw c.applied-made.ensures.value refl in
+    let removed : c.join-removed.result.0
+    ≡ told_first moved (left_at q s (after s change) (node_of s change))
+    (left_at q (after s change) s (node_of s change)) = c.join-removed.ensures.removed
+    ∙ rw (c.in_ok-left.ensures.removed, c.in_ok-left.ensures.created) refl in
+    let last : c.join-removed.result.1
+    ≡ told_last moved (left_at q s (after s change) (node_of s change))
+    (left_at q (after s change) s (node_of s change)) = c.join-removed.ensures.last
+    ∙ rw (c.in_ok-left.ensures.removed, c.in_ok-left.ensures.created) refl in
     let clobbered_is = c.in-Some.ensures.node in
     let is : clobbered s change ≡ Some other = cc in
     let entry_is = c.in-Some.ensures.entry in
     let entry : record_at s other ≡ Some c.in-Some.seen.now = cc in
-    let gone : c.in_ok-gone.gone ≡ match_at q s other = c.in_ok-gone.ensures.value ∙ (c.matching.ensures other ∙ sym (ap (option_and_then (λ (r : Record). entry_if q (other, r))) entry)) in
+    let gone : c.in_ok-gone.gone ≡ match_at q s other = c.in_ok-gone.ensures.value
+    ∙ (c.matching.ensures other
+    ∙ sym (ap (option_and_then (λ (r : Record). entry_if q (other, r))) entry)) in
     let high : node_of s change ≤ other = rw (← node) c.if-other-made.false in
-    c.in_ok-tell-3.ensures.messages ∙ told-high q moved s change c.args.first_seq _ _ _ volume kept (λ n off. c.untouched_nodes_stay.ensures s change n volume lawful off) (λ n is. c.clobbered_nodes_go.ensures s change n volume is) number removed last other _ is (λ low. omega arith) gone
+    c.in_ok-tell-3.ensures.messages ∙ told-high q moved s change c.args.first_seq _ _ _ volume kept
+    (λ n off. c.untouched_nodes_stay.ensures s change n volume lawful off)
+    (λ n is. c.clobbered_nodes_go.ensures s change n volume is) number removed last other _ is
+    (λ low. omega arith) gone
