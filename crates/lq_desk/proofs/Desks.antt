@@ -26,24 +26,37 @@ use Rattle.lq_desk.proofs.ListLemmas.{all-set, length-map, length-set, map-set}
 use Rattle.lq_desk.proofs.SlotsLemmas.{kept_slot, few-after, few-outcome_in}
 use Rattle.lq_desk.proofs.TurnLemmas.{after-shows}
 
+-- free slots have made no messages
 few-free : (m n : ℕ) → AllByRecursion (IsFew m) (map kept_slot (replicate n None))
 few-free m zero = tt
 few-free m (suc n) = (tt, few-free m n)
 
+-- there are as many of them as were asked for
 free-length : (n : ℕ) → length (map kept_slot (replicate n None)) ≡ n
 free-length zero = refl
 free-length (suc n) = ap suc (free-length n)
 
-free-same : {A B C : Type 0} (f : A → C) (g : B → C) (n : ℕ) → map (option_map f) (replicate n None) ≡ map (option_map g) (replicate n None)
+-- what is made of free slots depends on their number alone
+free-same : {A B C : Type 0} (f : A → C) (g : B → C) (n : ℕ)
+    → map (option_map f) (replicate n None) ≡ map (option_map g) (replicate n None)
 free-same f g zero = refl
 free-same f g (suc n) = ap (λ ks. None ∷ ks) (free-same f g n)
 
-pub Shows-new : FirstWorldsAreFair → (s : State) → Shows (record { volume = s; openings = 0; slots = map kept_slot (replicate 64 None) }) (first_world (record { start = s; changes = [] }))
+-- a new desk shows the world that begins with its volume
+pub Shows-new : FirstWorldsAreFair → (s : State)
+    → Shows (record { volume = s; openings = 0; slots = map kept_slot (replicate 64 None) })
+    (first_world (record { start = s; changes = [] }))
 Shows-new fair s =
     let b : Book = record { start = s; changes = [] } in
-    record { fair = fair b; kept = ap (λ ks. record { volume = s; openings = 0; slots = ks }) (free-same slot_of (slot_for b) 64) }
+    record {
+      fair = fair b;
+      kept = ap (λ ks. record { volume = s; openings = 0; slots = ks })
+          (free-same slot_of (slot_for b) 64);
+    }
 
-pub IsDesk-new : FirstWorldsAreFair → (s : State) → IsDesk (record { volume = s; openings = 0; slots = map kept_slot (replicate 64 None) })
+-- a new desk is one
+pub IsDesk-new : FirstWorldsAreFair → (s : State)
+    → IsDesk (record { volume = s; openings = 0; slots = map kept_slot (replicate 64 None) })
 IsDesk-new fair s = record {
   slots = free-length 64;
   few = few-free (3 * s.number) 64;
@@ -51,55 +64,81 @@ IsDesk-new fair s = record {
   shows = Shows-new fair s;
 }
 
+-- where what is kept shows a world, and both answer alike
 module _ (alike : KeptShowsWorlds) where
-  pub IsDesk-change : StepsAreFew → ChangesCount → (k : Kept) (c : Change_) → IsDesk k → IsVolume k.volume → IsLawful k.volume c → IsDesk (changed k c)
+  -- a desk is one after a change
+  pub IsDesk-change : StepsAreFew → ChangesCount → (k : Kept) (c : Change_) → IsDesk k
+      → IsVolume k.volume → IsLawful k.volume c → IsDesk (changed k c)
   IsDesk-change steps count k c d v lawful = record {
     slots = length-map _ k.slots ∙ d.slots;
-    few = subst (λ (n : ℕ). AllByRecursion (IsFew (3 * n)) (changed k c).slots) (sym (count k.volume c)) (few-after steps k.volume c k.slots v lawful d.few);
+    few = subst (λ (n : ℕ). AllByRecursion (IsFew (3 * n)) (changed k c).slots)
+        (sym (count k.volume c)) (few-after steps k.volume c k.slots v lawful d.few);
     world = next d.world (Changing c);
-    shows = subst (λ (r : Option Refusal). Shows (change_if k c r).1 (next d.world (Changing c))) lawful (alike k d.world (Changing c) d.shows).1;
+    shows = subst (λ (r : Option Refusal). Shows (change_if k c r).1 (next d.world (Changing c)))
+        lawful (alike k d.world (Changing c) d.shows).1;
   }
 
-  pub IsDesk-open : (k : Kept) (q : Query) (port backlog : ℕ) (moved : Bool) → IsDesk k → opening_refusal k port backlog ≡ None → IsDesk (opened k (fresh_slot q moved k.volume.number port backlog))
+  -- a desk is one after an opening
+  pub IsDesk-open : (k : Kept) (q : Query) (port backlog : ℕ) (moved : Bool)
+      → IsDesk k → opening_refusal k port backlog ≡ None
+      → IsDesk (opened k (fresh_slot q moved k.volume.number port backlog))
   IsDesk-open k q port backlog moved d none =
       let s = fresh_slot q moved k.volume.number port backlog in
       record {
         slots = length-set k.slots (first_free k.slots) (Some s) ∙ d.slots;
-        few = all-set (IsFew (3 * k.volume.number)) k.slots (first_free k.slots) (Some s) d.few (omega arith);
+        few = all-set (IsFew (3 * k.volume.number)) k.slots (first_free k.slots)
+            (Some s) d.few (omega arith);
         world = next d.world (Opening q port backlog moved);
-        shows = subst (λ (r : Option Refusal). Shows (open_if k s r).1 (next d.world (Opening q port backlog moved))) none (alike k d.world (Opening q port backlog moved) d.shows).1;
+        shows = subst (λ (r : Option Refusal).
+            Shows (open_if k s r).1 (next d.world (Opening q port backlog moved))) none
+            (alike k d.world (Opening q port backlog moved) d.shows).1;
       }
 
-  pub IsDesk-act : (k : Kept) (a : Act) (slot : ℕ) (r : Answer) (ks : List (Option KeptSlot)) → IsDesk k → (r, ks) ≡ outcome_in k.volume.number a k.slots (slot - 1)
-      → (r, record k { slots = ks }) ≡ kept_outcome k (happening_at a slot) → IsDesk (record k { slots = ks })
+  -- a desk is one after an act at a slot
+  pub IsDesk-act : (k : Kept) (a : Act) (slot : ℕ) (r : Answer) (ks : List (Option KeptSlot))
+      → IsDesk k → (r, ks) ≡ outcome_in k.volume.number a k.slots (slot - 1)
+      → (r, record k { slots = ks }) ≡ kept_outcome k (happening_at a slot)
+      → IsDesk (record k { slots = ks })
   IsDesk-act k a slot r ks d is does =
       let e = happening_at a slot in
-      let at : ks ≡ (outcome_in k.volume.number a k.slots (slot - 1)).1 = ap (λ (p : Answer × List (Option KeptSlot)). p.1) is in
+      let at : ks ≡ (outcome_in k.volume.number a k.slots (slot - 1)).1 =
+      ap (λ (p : Answer × List (Option KeptSlot)). p.1) is in
       record {
         slots = ap length at ∙ (length-set k.slots (slot - 1) _ ∙ d.slots);
-        few = subst (λ (js : List (Option KeptSlot)). AllByRecursion (IsFew (3 * k.volume.number)) js) (sym at) (few-outcome_in (3 * k.volume.number) k.volume.number a k.slots (slot - 1) d.few);
+        few = subst (λ (js : List (Option KeptSlot)).
+            AllByRecursion (IsFew (3 * k.volume.number)) js) (sym at)
+            (few-outcome_in (3 * k.volume.number) k.volume.number a k.slots (slot - 1) d.few);
         world = next d.world e;
-        shows = subst (λ (p : Answer × Kept). Shows p.1 (next d.world e)) (sym does) (alike k d.world e d.shows).1;
+        shows = subst (λ (p : Answer × Kept). Shows p.1 (next d.world e)) (sym does)
+            (alike k d.world e d.shows).1;
       }
 
   -- after events that leave the number of slots, and make no message
-  pub IsDesk-after : (k : Kept) (es : List Happening) (ks : List (Option KeptSlot)) → IsDesk k → kept_after k es ≡ record k { slots = ks } → length ks ≡ length k.slots → AllByRecursion (IsFew (3 * k.volume.number)) ks
+  pub IsDesk-after : (k : Kept) (es : List Happening) (ks : List (Option KeptSlot))
+      → IsDesk k → kept_after k es ≡ record k { slots = ks } → length ks ≡ length k.slots
+      → AllByRecursion (IsFew (3 * k.volume.number)) ks
       → IsDesk (record k { slots = ks })
   IsDesk-after k es ks d is long few = record {
     slots = long ∙ d.slots;
     few = few;
     world = after_all outcome d.world es;
-    shows = subst (λ (j : Kept). Shows j (after_all outcome d.world es)) is (after-shows alike k d.world es d.shows);
+    shows = subst (λ (j : Kept). Shows j (after_all outcome d.world es)) is
+        (after-shows alike k d.world es d.shows);
   }
 
 -- an opening that passes the tests
-pub opens : (k : Kept) (port backlog : ℕ) → 1 ≤ port → port ≤ 1024 → backlog ≤ 65536 → first_free k.slots < length k.slots → k.openings < k.volume.limit → opening_refusal k port backlog ≡ None
+pub opens : (k : Kept) (port backlog : ℕ) → 1 ≤ port → port ≤ 1024
+    → backlog ≤ 65536 → first_free k.slots < length k.slots → k.openings < k.volume.limit
+    → opening_refusal k port backlog ≡ None
 opens k port backlog one most few free more = grind (arith, nat_tests)
 
 -- the slots with a new subscription in the first free one
-pub slots-opened : (xs ys : List (Option PreparedSlot)) (place : ℕ) (p : PreparedSlot) (k : KeptSlot) → ys ≡ slice_set xs place (Some p) → slot_of p ≡ k → place ≡ first_free (map kept_slot xs)
+pub slots-opened : (xs ys : List (Option PreparedSlot))
+    (place : ℕ) (p : PreparedSlot) (k : KeptSlot) → ys ≡ slice_set xs place (Some p) → slot_of p ≡ k
+    → place ≡ first_free (map kept_slot xs)
     → map kept_slot ys ≡ slice_set (map kept_slot xs) (first_free (map kept_slot xs)) (Some k)
 slots-opened xs ys place p k is same at =
     ap (map kept_slot) is
     ∙ (map-set kept_slot xs place (Some p)
-    ∙ (ap (λ j. slice_set (map kept_slot xs) place (Some j)) same ∙ ap (λ n. slice_set (map kept_slot xs) n (Some k)) at))
+    ∙ (ap (λ j. slice_set (map kept_slot xs) place (Some j)) same
+    ∙ ap (λ n. slice_set (map kept_slot xs) n (Some k)) at))

@@ -13,30 +13,44 @@ use Rattle.lq_desk.specs.Kept.{IsFew, first_free}
 use Rattle.lq_desk.proofs.ListLemmas.{length-map, length-set, map-append, set-seam, set-same, slice_get-map}
 use Rattle.lq_desk.proofs.SlotsLemmas.{kept_slot}
 
-map-none : {A B : Type 0} (f : A → B) (n : ℕ) → map (option_map f) (replicate n None) ≡ replicate n None
+-- free slots stay free
+map-none : {A B : Type 0} (f : A → B) (n : ℕ)
+    → map (option_map f) (replicate n None) ≡ replicate n None
 map-none f zero = refl
 map-none f (suc n) = ap (λ os. None ∷ os) (map-none f n)
 
-pub map-free : (f : PreparedSlot → PreparedSlot) (xs : List (Option PreparedSlot)) → map (option_map f) (with_free xs) ≡ with_free (map (option_map f) xs)
+-- what is done in each slot is done in those that are stored
+pub map-free : (f : PreparedSlot → PreparedSlot) (xs : List (Option PreparedSlot))
+    → map (option_map f) (with_free xs) ≡ with_free (map (option_map f) xs)
 map-free f xs =
     map-append (option_map f) xs (replicate (64 - length xs) None)
     ∙ (ap (λ ys. map (option_map f) xs ++ ys) (map-none f (64 - length xs))
-    ∙ ap (λ n. map (option_map f) xs ++ replicate (64 - n) None) (sym (length-map (option_map f) xs)))
+    ∙ ap (λ n. map (option_map f) xs ++ replicate (64 - n) None)
+    (sym (length-map (option_map f) xs)))
 
-get-front : {A : Type 0} (xs ys : List A) (i : ℕ) → i < length xs → slice_get (xs ++ ys) i ≡ slice_get xs i
+-- a place of the front is one of the whole list
+get-front : {A : Type 0} (xs ys : List A) (i : ℕ) → i < length xs
+    → slice_get (xs ++ ys) i ≡ slice_get xs i
 get-front [] ys i lt = absurd (omega arith)
 get-front (x ∷ xs) ys zero lt = refl
 get-front (x ∷ xs) ys (suc i) lt = get-front xs ys i (omega arith)
 
-set-front : {A : Type 0} (xs ys : List A) (i : ℕ) (x : A) → i < length xs → slice_set (xs ++ ys) i x ≡ slice_set xs i x ++ ys
+-- a write in the front is one in the whole list
+set-front : {A : Type 0} (xs ys : List A) (i : ℕ) (x : A) → i < length xs
+    → slice_set (xs ++ ys) i x ≡ slice_set xs i x ++ ys
 set-front [] ys i y lt = absurd (omega arith)
 set-front (x ∷ xs) ys zero y lt = refl
 set-front (x ∷ xs) ys (suc i) y lt = ap (λ zs. x ∷ zs) (set-front xs ys i y (omega arith))
 
-pub set-stored : (xs : List (Option PreparedSlot)) (i : ℕ) (x : Option PreparedSlot) → i < length xs → slice_set (with_free xs) i x ≡ with_free (slice_set xs i x)
-set-stored xs i x lt = set-front xs (replicate (64 - length xs) None) i x lt ∙ ap (λ n. slice_set xs i x ++ replicate (64 - n) None) (sym (length-set xs i x))
+-- a write in the stored slots is one in all 64
+pub set-stored : (xs : List (Option PreparedSlot)) (i : ℕ) (x : Option PreparedSlot) → i < length xs
+    → slice_set (with_free xs) i x ≡ with_free (slice_set xs i x)
+set-stored xs i x lt = set-front xs (replicate (64 - length xs) None) i x lt
+    ∙ ap (λ n. slice_set xs i x ++ replicate (64 - n) None) (sym (length-set xs i x))
 
-pub set-pushed : (xs : List (Option PreparedSlot)) (x : Option PreparedSlot) → length xs < 64 → with_free (xs ++ x ∷ []) ≡ slice_set (with_free xs) (length xs) x
+-- one more slot stored is a write in the first that wasn't
+pub set-pushed : (xs : List (Option PreparedSlot)) (x : Option PreparedSlot) → length xs < 64
+    → with_free (xs ++ x ∷ []) ≡ slice_set (with_free xs) (length xs) x
 set-pushed xs x lt =
     let more : length (xs ++ x ∷ []) ≡ suc (length xs) = omega (arith, length-append xs (x ∷ [])) in
     let left : 64 - length xs ≡ suc (64 - suc (length xs)) = omega (arith, lt) in
@@ -44,29 +58,42 @@ set-pushed xs x lt =
     ∙ (sym (set-seam xs None x (replicate (64 - suc (length xs)) None))
     ∙ ap (λ n. slice_set (xs ++ replicate n None) (length xs) x) (sym left))
 
+-- the first of free slots is free
 first-none : (n : ℕ) → first_free (map kept_slot (replicate n None)) ≡ 0
 first-none zero = refl
 first-none (suc n) = refl
 
-first-behind : (xs : List (Option PreparedSlot)) (n : ℕ) → first_free (map kept_slot (xs ++ replicate n None)) ≡ first_free (map kept_slot xs)
+-- free slots behind others don't alter which is the first free one
+first-behind : (xs : List (Option PreparedSlot)) (n : ℕ)
+    → first_free (map kept_slot (xs ++ replicate n None)) ≡ first_free (map kept_slot xs)
 first-behind [] n = first-none n
 first-behind (None ∷ xs) n = refl
 first-behind (Some s ∷ xs) n = ap (λ m. m + 1) (first-behind xs n)
 
-pub first-free : (xs : List (Option PreparedSlot)) → first_free (map kept_slot (with_free xs)) ≡ first_free (map kept_slot xs)
+-- the first free slot is the same with those that aren't stored
+pub first-free : (xs : List (Option PreparedSlot))
+    → first_free (map kept_slot (with_free xs)) ≡ first_free (map kept_slot xs)
 first-free xs = first-behind xs (64 - length xs)
 
-few-front : (n : ℕ) (xs ys : List (Option PreparedSlot)) → AllByRecursion (IsFew n) (map kept_slot (xs ++ ys)) → AllByRecursion (IsFew n) (map kept_slot xs)
+-- what is so of all slots is so of a front
+few-front : (n : ℕ) (xs ys : List (Option PreparedSlot))
+    → AllByRecursion (IsFew n) (map kept_slot (xs ++ ys))
+    → AllByRecursion (IsFew n) (map kept_slot xs)
 few-front n [] ys h = tt
 few-front n (x ∷ xs) ys h = (h.0, few-front n xs ys h.1)
 
-pub few-stored : (n : ℕ) (xs : List (Option PreparedSlot)) → AllByRecursion (IsFew n) (map kept_slot (with_free xs)) → AllByRecursion (IsFew n) (map kept_slot xs)
+-- and so of the stored ones
+pub few-stored : (n : ℕ) (xs : List (Option PreparedSlot))
+    → AllByRecursion (IsFew n) (map kept_slot (with_free xs))
+    → AllByRecursion (IsFew n) (map kept_slot xs)
 few-stored n xs h = few-front n xs (replicate (64 - length xs) None) h
 
 -- what a contract sees of them
-pub kept-free : (xs ys : List (Option PreparedSlot)) → map kept_slot xs ≡ map kept_slot ys → map kept_slot (with_free xs) ≡ map kept_slot (with_free ys)
+pub kept-free : (xs ys : List (Option PreparedSlot)) → map kept_slot xs ≡ map kept_slot ys
+    → map kept_slot (with_free xs) ≡ map kept_slot (with_free ys)
 kept-free xs ys same =
-    let same_length : length xs ≡ length ys = sym (length-map kept_slot xs) ∙ (ap length same ∙ length-map kept_slot ys) in
+    let same_length : length xs ≡ length ys = sym (length-map kept_slot xs)
+    ∙ (ap length same ∙ length-map kept_slot ys) in
     map-append kept_slot xs (replicate (64 - length xs) None)
     ∙ (ap (λ ks. ks ++ map kept_slot (replicate (64 - length xs) None)) same
     ∙ (ap (λ n. map kept_slot ys ++ map kept_slot (replicate (64 - n) None)) same_length
@@ -74,54 +101,82 @@ kept-free xs ys same =
 
 -- ---- an act at a place
 
+-- each of free slots is free
 get-here : (n i : ℕ) → i < n → slice_get {X = Option PreparedSlot} (replicate n None) i ≡ Some None
 get-here zero i lt = absurd (omega arith)
 get-here (suc n) zero lt = refl
 get-here (suc n) (suc i) lt = get-here n i (omega arith)
 
-get-past : (xs : List (Option PreparedSlot)) (n i : ℕ) → length xs ≤ i → i < length xs + n → slice_get (xs ++ replicate n None) i ≡ Some None
+-- a slot behind the stored ones is free
+get-past : (xs : List (Option PreparedSlot)) (n i : ℕ) → length xs ≤ i → i < length xs + n
+    → slice_get (xs ++ replicate n None) i ≡ Some None
 get-past [] n i le lt = get-here n i (omega (arith, lt))
 get-past (x ∷ xs) n zero le lt = absurd (omega arith)
 get-past (x ∷ xs) n (suc i) le lt = get-past xs n i (omega arith) (omega (arith, lt))
 
-pub act-free : (number : ℕ) (a : Act) (xs : List (Option PreparedSlot)) (place : ℕ) → length xs ≤ place → place < 64
-    → (Refused NotOpen, map kept_slot (with_free xs)) ≡ outcome_in number a (map kept_slot (with_free xs)) place
+-- an act at a slot that isn't stored is refused
+pub act-free : (number : ℕ) (a : Act) (xs : List (Option PreparedSlot)) (place : ℕ)
+    → length xs ≤ place → place < 64
+    → (Refused NotOpen, map kept_slot (with_free xs))
+    ≡ outcome_in number a (map kept_slot (with_free xs)) place
 act-free number a xs place le lt =
     let ks = map kept_slot (with_free xs) in
-    let here : slice_get ks place ≡ Some None = slice_get-map kept_slot (with_free xs) place ∙ ap (option_map kept_slot) (get-past xs (64 - length xs) place le (omega (arith, le, lt))) in
+    let here : slice_get ks place ≡ Some None = slice_get-map kept_slot (with_free xs) place
+    ∙ ap (option_map kept_slot) (get-past xs (64 - length xs) place le (omega (arith, le, lt))) in
     ap (λ js. (Refused NotOpen, js)) (sym (set-same ks place None here))
-    ∙ ap (λ (o : Option (Option KeptSlot)). ((outcome_at number a (option_flatten o)).0, slice_set ks place (outcome_at number a (option_flatten o)).1)) (sym here)
+    ∙ ap (λ (o : Option (Option KeptSlot)). (
+      (outcome_at number a (option_flatten o)).0,
+      slice_set ks place (outcome_at number a (option_flatten o)).1,
+    )) (sym here)
 
-pub act-stored : (number : ℕ) (a : Act) (xs ys : List (Option PreparedSlot)) (place : ℕ) (r : Answer) → place < length xs → (r, map kept_slot ys) ≡ outcome_in number a (map kept_slot xs) place
+-- an act in the stored slots is one in all 64
+pub act-stored : (number : ℕ) (a : Act)
+    (xs ys : List (Option PreparedSlot)) (place : ℕ) (r : Answer) → place < length xs
+    → (r, map kept_slot ys) ≡ outcome_in number a (map kept_slot xs) place
     → (r, map kept_slot (with_free ys)) ≡ outcome_in number a (map kept_slot (with_free xs)) place
 act-stored number a xs ys place r lt does =
     let ks = map kept_slot xs in
     let free : List (Option KeptSlot) = map kept_slot (replicate (64 - length xs) None) in
     let o = option_flatten (slice_get ks place) in
-    let made : map kept_slot ys ≡ slice_set ks place (outcome_at number a o).1 = ap (λ (p : Answer × List (Option KeptSlot)). p.1) does in
-    let same_length : length ys ≡ length xs = sym (length-map kept_slot ys) ∙ (ap length made ∙ (length-set ks place (outcome_at number a o).1 ∙ length-map kept_slot xs)) in
+    let made : map kept_slot ys ≡ slice_set ks place (outcome_at number a o).1 =
+    ap (λ (p : Answer × List (Option KeptSlot)). p.1) does in
+    let same_length : length ys ≡ length xs = sym (length-map kept_slot ys) ∙ (ap length made
+    ∙ (length-set ks place (outcome_at number a o).1 ∙ length-map kept_slot xs)) in
     let within : place < length ks = omega (arith, lt, length-map kept_slot xs) in
-    let whole : map kept_slot (with_free xs) ≡ ks ++ free = map-append kept_slot xs (replicate (64 - length xs) None) in
+    let whole : map kept_slot (with_free xs) ≡ ks ++ free =
+    map-append kept_slot xs (replicate (64 - length xs) None) in
     let here : slice_get (ks ++ free) place ≡ slice_get ks place = get-front ks free place within in
     ap (λ js. (r, js)) (map-append kept_slot ys (replicate (64 - length ys) None)
     ∙ (ap (λ n. map kept_slot ys ++ map kept_slot (replicate (64 - n) None)) same_length
-    ∙ (ap (λ js. js ++ free) made ∙ sym (set-front ks free place (outcome_at number a o).1 within))))
-    ∙ (ap (λ b. (b, slice_set (ks ++ free) place (outcome_at number a o).1)) (ap (λ (p : Answer × List (Option KeptSlot)). p.0) does)
-    ∙ (ap (λ (g : Option (Option KeptSlot)). ((outcome_at number a (option_flatten g)).0, slice_set (ks ++ free) place (outcome_at number a (option_flatten g)).1)) (sym here)
+    ∙ (ap (λ js. js ++ free) made
+    ∙ sym (set-front ks free place (outcome_at number a o).1 within))))
+    ∙ (ap (λ b. (b, slice_set (ks ++ free) place (outcome_at number a o).1))
+    (ap (λ (p : Answer × List (Option KeptSlot)). p.0) does)
+    ∙ (ap (λ (g : Option (Option KeptSlot)). (
+      (outcome_at number a (option_flatten g)).0,
+      slice_set (ks ++ free) place (outcome_at number a (option_flatten g)).1,
+    )) (sym here)
     ∙ ap (λ js. outcome_in number a js place) (sym whole)))
 
 -- ---- what is done in each slot, and at a place
 
+-- free slots are kept as free ones
 none-kept : (n : ℕ) → map kept_slot (replicate n None) ≡ replicate n None
 none-kept n = map-none slot_of n
 
 -- behind slots in which the same is kept stand as many free ones
-pub kept-more : (xs : List (Option PreparedSlot)) → map kept_slot (with_free xs) ≡ map kept_slot xs ++ replicate (64 - length xs) None
-kept-more xs = map-append kept_slot xs (replicate (64 - length xs) None) ∙ ap (λ ks. map kept_slot xs ++ ks) (none-kept (64 - length xs))
+pub kept-more : (xs : List (Option PreparedSlot))
+    → map kept_slot (with_free xs) ≡ map kept_slot xs ++ replicate (64 - length xs) None
+kept-more xs = map-append kept_slot xs (replicate (64 - length xs) None)
+    ∙ ap (λ ks. map kept_slot xs ++ ks) (none-kept (64 - length xs))
 
-pub kept-map : (f : KeptSlot → KeptSlot) (xs ys : List (Option PreparedSlot)) → map kept_slot ys ≡ map (option_map f) (map kept_slot xs) → map kept_slot (with_free ys) ≡ map (option_map f) (map kept_slot (with_free xs))
+-- what was done in each stored slot was done in all 64
+pub kept-map : (f : KeptSlot → KeptSlot) (xs ys : List (Option PreparedSlot))
+    → map kept_slot ys ≡ map (option_map f) (map kept_slot xs)
+    → map kept_slot (with_free ys) ≡ map (option_map f) (map kept_slot (with_free xs))
 kept-map f xs ys does =
-    let same_length : length ys ≡ length xs = sym (length-map kept_slot ys) ∙ (ap length does ∙ (length-map (option_map f) (map kept_slot xs) ∙ length-map kept_slot xs)) in
+    let same_length : length ys ≡ length xs = sym (length-map kept_slot ys)
+    ∙ (ap length does ∙ (length-map (option_map f) (map kept_slot xs) ∙ length-map kept_slot xs)) in
     kept-more ys
     ∙ (ap (λ n. map kept_slot ys ++ replicate (64 - n) None) same_length
     ∙ (ap (λ ks. ks ++ replicate (64 - length xs) None) does
@@ -129,51 +184,74 @@ kept-map f xs ys does =
     ∙ (map-append (option_map f) (map kept_slot xs) (replicate (64 - length xs) None)
     ∙ ap (λ ks. map (option_map f) (map kept_slot xs) ++ ks) (map-none f (64 - length xs))))))
 
-pub done-stored : (f : KeptSlot → KeptSlot) (xs ys : List (Option PreparedSlot)) (place : ℕ) → place < length xs → map kept_slot ys ≡ done_at f (map kept_slot xs) place → map kept_slot (with_free ys) ≡ done_at f (map kept_slot (with_free xs)) place
+-- what was done in one stored slot was done in one of the 64
+pub done-stored : (f : KeptSlot → KeptSlot) (xs ys : List (Option PreparedSlot)) (place : ℕ)
+    → place < length xs → map kept_slot ys ≡ done_at f (map kept_slot xs) place
+    → map kept_slot (with_free ys) ≡ done_at f (map kept_slot (with_free xs)) place
 done-stored f xs ys place lt does =
     let ks = map kept_slot xs in
     let free : List (Option KeptSlot) = replicate (64 - length xs) None in
     let o = option_map f (option_flatten (slice_get ks place)) in
-    let same_length : length ys ≡ length xs = sym (length-map kept_slot ys) ∙ (ap length does ∙ (length-set ks place o ∙ length-map kept_slot xs)) in
+    let same_length : length ys ≡ length xs = sym (length-map kept_slot ys)
+    ∙ (ap length does ∙ (length-set ks place o ∙ length-map kept_slot xs)) in
     let within : place < length ks = omega (arith, lt, length-map kept_slot xs) in
     kept-more ys
     ∙ (ap (λ n. map kept_slot ys ++ replicate (64 - n) None) same_length
     ∙ (ap (λ js. js ++ free) does
     ∙ (sym (set-front ks free place o within)
-    ∙ (ap (λ (g : Option (Option KeptSlot)). slice_set (ks ++ free) place (option_map f (option_flatten g))) (sym (get-front ks free place within))
+    ∙ (ap (λ (g : Option (Option KeptSlot)). slice_set (ks ++ free) place
+    (option_map f (option_flatten g))) (sym (get-front ks free place within))
     ∙ ap (λ js. done_at f js place) (sym (kept-more xs))))))
 
-pub done-free : (f : KeptSlot → KeptSlot) (xs : List (Option PreparedSlot)) (place : ℕ) → length xs ≤ place → place < 64 → map kept_slot (with_free xs) ≡ done_at f (map kept_slot (with_free xs)) place
+-- what is done in a slot that isn't stored leaves all as they were
+pub done-free : (f : KeptSlot → KeptSlot) (xs : List (Option PreparedSlot)) (place : ℕ)
+    → length xs ≤ place → place < 64
+    → map kept_slot (with_free xs) ≡ done_at f (map kept_slot (with_free xs)) place
 done-free f xs place le lt =
     let ks = map kept_slot (with_free xs) in
-    let here : slice_get ks place ≡ Some None = slice_get-map kept_slot (with_free xs) place ∙ ap (option_map kept_slot) (get-past xs (64 - length xs) place le (omega (arith, le, lt))) in
-    sym (set-same ks place None here) ∙ ap (λ (g : Option (Option KeptSlot)). slice_set ks place (option_map f (option_flatten g))) (sym here)
+    let here : slice_get ks place ≡ Some None = slice_get-map kept_slot (with_free xs) place
+    ∙ ap (option_map kept_slot) (get-past xs (64 - length xs) place le (omega (arith, le, lt))) in
+    sym (set-same ks place None here)
+    ∙ ap (λ (g : Option (Option KeptSlot)). slice_set ks place (option_map f (option_flatten g)))
+    (sym here)
 
 -- a test of stored slots holds of all
-pub stored-at : (xs : List (Option PreparedSlot)) (i : ℕ) (x : PreparedSlot) → slice_get (with_free xs) i ≡ Some (Some x) → slice_get xs i ≡ Some (Some x)
+pub stored-at : (xs : List (Option PreparedSlot)) (i : ℕ) (x : PreparedSlot)
+    → slice_get (with_free xs) i ≡ Some (Some x) → slice_get xs i ≡ Some (Some x)
 stored-at xs i x at = by xs (64 - length xs) i at
   where
-    free : (n i : ℕ) → slice_get (replicate n None) i ≡ Some (Some x) → slice_get {X = Option PreparedSlot} [] i ≡ Some (Some x)
+    free : (n i : ℕ) → slice_get (replicate n None) i ≡ Some (Some x)
+        → slice_get {X = Option PreparedSlot} [] i ≡ Some (Some x)
     free zero i at = absurd (let no : ⊥ = cc in no)
     free (suc n) zero at = absurd (let no : ⊥ = cc in no)
     free (suc n) (suc i) at = free n i at
 
-    by : (xs : List (Option PreparedSlot)) (n i : ℕ) → slice_get (xs ++ replicate n None) i ≡ Some (Some x) → slice_get xs i ≡ Some (Some x)
+    by : (xs : List (Option PreparedSlot)) (n i : ℕ)
+        → slice_get (xs ++ replicate n None) i ≡ Some (Some x) → slice_get xs i ≡ Some (Some x)
     by [] n i at = free n i at
     by (y ∷ xs) n zero at = at
     by (y ∷ xs) n (suc i) at = by xs n i at
 
-free-at : (xs : List (Option PreparedSlot)) (i : ℕ) (x : PreparedSlot) → slice_get xs i ≡ Some (Some x) → slice_get (with_free xs) i ≡ Some (Some x)
+-- a stored slot is one of the 64
+free-at : (xs : List (Option PreparedSlot)) (i : ℕ) (x : PreparedSlot)
+    → slice_get xs i ≡ Some (Some x) → slice_get (with_free xs) i ≡ Some (Some x)
 free-at xs i x at = by xs (64 - length xs) i at
   where
-    by : (xs : List (Option PreparedSlot)) (n i : ℕ) → slice_get xs i ≡ Some (Some x) → slice_get (xs ++ replicate n None) i ≡ Some (Some x)
+    by : (xs : List (Option PreparedSlot)) (n i : ℕ) → slice_get xs i ≡ Some (Some x)
+        → slice_get (xs ++ replicate n None) i ≡ Some (Some x)
     by [] n i at = absurd (let no : ⊥ = cc in no)
     by (y ∷ xs) n zero at = at
     by (y ∷ xs) n (suc i) at = by xs n i at
 
 -- the place of the first free slot is below 64
-pub free-place : (xs ys : List (Option PreparedSlot)) (place : ℕ) → place ≡ first_free (map kept_slot xs) → with_free xs ≡ ys → first_free (map kept_slot ys) < 64 → place < 64
-free-place xs ys place is view free = omega (arith, is, first-free xs, ap (λ zs. first_free (map kept_slot zs)) view, free)
+pub free-place : (xs ys : List (Option PreparedSlot)) (place : ℕ)
+    → place ≡ first_free (map kept_slot xs) → with_free xs ≡ ys
+    → first_free (map kept_slot ys) < 64 → place < 64
+free-place xs ys place is view free =
+    omega (arith, is, first-free xs, ap (λ zs. first_free (map kept_slot zs)) view, free)
 
-pub stored-told : (told : ℕ) (xs ys : List (Option PreparedSlot)) → with_free xs ≡ ys → IsMarked has_ready told ys → IsMarked has_ready told xs
-stored-told told xs ys view marked = λ i p at. subst (λ zs. IsMarked has_ready told zs) (sym view) marked i p (free-at xs i p at)
+-- a word that marks all 64 marks the stored ones
+pub stored-told : (told : ℕ) (xs ys : List (Option PreparedSlot)) → with_free xs ≡ ys
+    → IsMarked has_ready told ys → IsMarked has_ready told xs
+stored-told told xs ys view marked =
+    λ i p at. subst (λ zs. IsMarked has_ready told zs) (sym view) marked i p (free-at xs i p at)

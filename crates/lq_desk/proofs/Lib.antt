@@ -1,3 +1,7 @@
+-- Read in this order. Lists, words of bits and update lists: ListLemmas, WordLemmas, UpdateLemmas.
+-- One slot: HeldLemmas, PutLemmas, PassingLemmas. All slots: SlotsLemmas, LoopLemmas, FreeLemmas,
+-- MarkLemmas. A desk shows a world: SlotLemmas (one subscription), Shown (each event), PassedLemmas
+-- (lists and refusals). Turns: RunLemmas, TurnLemmas. A desk stays one: Desks.
 pub mod ListLemmas
 pub mod UpdateLemmas
 pub mod HeldLemmas

@@ -5,122 +5,160 @@ use Rattle.std.specs.Option.{option_map}
 use Rattle.std.specs.List.{AllByRecursion}
 use Rattle.std.proofs.lemmas.Bool.Decides.{nat_tests}
 
-pub take-inside : {A : Type 0} (n : ℕ) (xs ys : List A) → n ≤ length xs → take n (xs ++ ys) ≡ take n xs
+-- the first elements of two lists, where they are all of the first list
+pub take-inside : {A : Type 0} (n : ℕ) (xs ys : List A) → n ≤ length xs
+    → take n (xs ++ ys) ≡ take n xs
 take-inside zero xs ys h = refl
 take-inside (suc n) [] ys h = absurd (omega arith)
 take-inside (suc n) (x ∷ xs) ys h = ap (λ zs. x ∷ zs) (take-inside n xs ys (omega arith))
 
-pub drop-inside : {A : Type 0} (n : ℕ) (xs ys : List A) → n ≤ length xs → drop n (xs ++ ys) ≡ drop n xs ++ ys
+-- the rest of two lists, where only elements of the first list are dropped
+pub drop-inside : {A : Type 0} (n : ℕ) (xs ys : List A) → n ≤ length xs
+    → drop n (xs ++ ys) ≡ drop n xs ++ ys
 drop-inside zero xs ys h = refl
 drop-inside (suc n) [] ys h = absurd (omega arith)
 drop-inside (suc n) (x ∷ xs) ys h = drop-inside n xs ys (omega arith)
 
+-- as many elements as a list has, or more, are all of it
 pub take-all : {A : Type 0} (n : ℕ) (xs : List A) → length xs ≤ n → take n xs ≡ xs
 take-all zero [] h = refl
 take-all zero (x ∷ xs) h = absurd (omega arith)
 take-all (suc n) [] h = refl
 take-all (suc n) (x ∷ xs) h = ap (λ ys. x ∷ ys) (take-all n xs (omega arith))
 
+-- a mapped list is as long as the list
 pub length-map : {A B : Type 0} (f : A → B) (xs : List A) → length (map f xs) ≡ length xs
 length-map f [] = refl
 length-map f (x ∷ xs) = ap suc (length-map f xs)
 
-pub map-append : {A B : Type 0} (f : A → B) (xs ys : List A) → map f (xs ++ ys) ≡ map f xs ++ map f ys
+-- two lists are mapped one after the other
+pub map-append : {A B : Type 0} (f : A → B) (xs ys : List A)
+    → map f (xs ++ ys) ≡ map f xs ++ map f ys
 map-append f [] ys = refl
 map-append f (x ∷ xs) ys = ap (λ zs. f x ∷ zs) (map-append f xs ys)
 
-take-suc_more : {A : Type 0} (xs : List A) (i : ℕ) (x : A) → slice_get xs i ≡ Some x → (take (suc i) xs ≡ take i xs ++ x ∷ []) × (suc i ≤ length xs)
+-- one element more is the one at the next place
+take-suc_more : {A : Type 0} (xs : List A) (i : ℕ) (x : A) → slice_get xs i ≡ Some x
+    → (take (suc i) xs ≡ take i xs ++ x ∷ []) × (suc i ≤ length xs)
 take-suc_more [] i x h = cc
 take-suc_more (y ∷ xs) zero x h = (cc, omega arith)
-take-suc_more (y ∷ xs) (suc i) x h = let more = take-suc_more xs i x h in (ap (λ zs. y ∷ zs) more.0, omega (arith, more.1))
+take-suc_more (y ∷ xs) (suc i) x h =
+    let more = take-suc_more xs i x h in
+    (ap (λ zs. y ∷ zs) more.0, omega (arith, more.1))
 
 -- one more of a list
-pub take-one_more : {A : Type 0} (xs : List A) (i : ℕ) (x : A) → slice_get xs i ≡ Some x → (take (i + 1) xs ≡ take i xs ++ x ∷ []) × (i + 1 ≤ length xs)
+pub take-one_more : {A : Type 0} (xs : List A) (i : ℕ) (x : A) → slice_get xs i ≡ Some x
+    → (take (i + 1) xs ≡ take i xs ++ x ∷ []) × (i + 1 ≤ length xs)
 take-one_more xs i x h = rw add-one (take-suc_more xs i x h)
 
-pub all-get : {A : Type 0} (P : A → Type 0) (xs : List A) (i : ℕ) (x : A) → AllByRecursion P xs → slice_get xs i ≡ Some x → P x
+-- what is so of all is so of the one at a place
+pub all-get : {A : Type 0} (P : A → Type 0) (xs : List A) (i : ℕ) (x : A) → AllByRecursion P xs
+    → slice_get xs i ≡ Some x → P x
 all-get P [] i x h at = absurd (let no : ⊥ = cc in no)
 all-get P (y ∷ xs) zero x h at = let same : y ≡ x = cc in rw same at h.0
 all-get P (y ∷ xs) (suc i) x h at = all-get P xs i x h.1 at
 
-pub all-set : {A : Type 0} (P : A → Type 0) (xs : List A) (i : ℕ) (y : A) → AllByRecursion P xs → P y → AllByRecursion P (slice_set xs i y)
+-- what is so of all, and of one more, is so after that one is written
+pub all-set : {A : Type 0} (P : A → Type 0) (xs : List A) (i : ℕ) (y : A) → AllByRecursion P xs
+    → P y → AllByRecursion P (slice_set xs i y)
 all-set P [] i y h p = tt
 all-set P (x ∷ xs) zero y h p = (p, h.1)
 all-set P (x ∷ xs) (suc i) y h p = (h.0, all-set P xs i y h.1 p)
 
 -- ---- tests
+-- if an 'and' of two tests is true, both are
 pub both-true : (a b : Bool) → (a && b) ≡ true → (a ≡ true) × (b ≡ true)
 both-true true b h = (refl, h)
 both-true false b h = absurd (let no : ⊥ = cc in no)
 
+-- if it is false, one of them is
 pub not-both : (a b : Bool) → (a && b) ≡ false → (a ≡ false) ⊎ (b ≡ false)
 not-both true b h = inr h
 not-both false b h = inl refl
 
+-- the test of being less
 pub lt-true : (m n : ℕ) → nat_lt m n ≡ true → m < n
 lt-true m n h = grind (arith, nat_tests)
 
+-- and where it fails
 pub lt-false : (m n : ℕ) → nat_lt m n ≡ false → n ≤ m
 lt-false m n h = grind (arith, nat_tests)
 
 -- ---- a part of a list
 
+-- a front that the list has room for is as long as was asked for
 pub take-length : {A : Type 0} (n : ℕ) (xs : List A) → n ≤ length xs → length (take n xs) ≡ n
 take-length zero xs h = refl
 take-length (suc n) [] h = absurd (omega arith)
 take-length (suc n) (x ∷ xs) h = ap suc (take-length n xs (omega arith))
 
+-- one element dropped after others
 drop-suc : {A : Type 0} (n : ℕ) (xs : List A) → drop 1 (drop n xs) ≡ drop (suc n) xs
 drop-suc zero xs = refl
 drop-suc (suc n) [] = refl
 drop-suc (suc n) (x ∷ xs) = drop-suc n xs
 
+-- the same, as a loop counts it
 pub drop-one_more : {A : Type 0} (n : ℕ) (xs : List A) → drop 1 (drop n xs) ≡ drop (n + 1) xs
 drop-one_more n xs = drop-suc n xs ∙ ap (λ k. drop k xs) (let e : suc n ≡ n + 1 = omega arith in e)
 
+-- as many elements as a list has, or more, leave none
 pub drop-all : {A : Type 0} (n : ℕ) (xs : List A) → length xs ≤ n → drop n xs ≡ []
 drop-all zero [] h = refl
 drop-all zero (x ∷ xs) h = absurd (omega arith)
 drop-all (suc n) [] h = refl
 drop-all (suc n) (x ∷ xs) h = drop-all n xs (omega arith)
 
+-- the first of the rest is the one at that place
 get-drop : {A : Type 0} (n : ℕ) (xs : List A) → slice_get (drop n xs) 0 ≡ slice_get xs n
 get-drop zero xs = refl
 get-drop (suc n) [] = refl
 get-drop (suc n) (x ∷ xs) = get-drop n xs
 
+-- nothing is nothing in either case
 none_either : {A : Type 0} (x : Bool) (o : Option A) → o ≡ None → o ≡ (if x then o else None)
 none_either true o is = refl
 none_either false o is = is
 
+-- nothing is below zero
 pub not-below : (i : ℕ) → false ≡ nat_lt i 0
 not-below i = grind (arith, nat_tests)
 
+-- the test of being less, of two numbers that are one higher
 pub lt-suc : (m n : ℕ) → nat_lt (suc m) (suc n) ≡ nat_lt m n
 lt-suc m n = by (nat_lt (suc m) (suc n)) (nat_lt m n) refl refl
   where
     by : (x y : Bool) → nat_lt (suc m) (suc n) ≡ x → nat_lt m n ≡ y → x ≡ y
     by true true p q = refl
     by false false p q = refl
-    by true false p q = absurd (let lt = lt-true (suc m) (suc n) p in let le = lt-false m n q in omega (arith, lt, le))
-    by false true p q = absurd (let le = lt-false (suc m) (suc n) p in let lt = lt-true m n q in omega (arith, lt, le))
+    by true false p q = absurd (let lt = lt-true (suc m) (suc n) p in let le = lt-false m n q in
+        omega (arith, lt, le))
+    by false true p q = absurd (let le = lt-false (suc m) (suc n) p in let lt = lt-true m n q in
+        omega (arith, lt, le))
 
+-- zero is below each number but itself
 pub above-zero : (i : ℕ) → true ≡ nat_lt 0 (suc i)
 above-zero i = grind (arith, nat_tests)
 
-get-take : {A : Type 0} (n i : ℕ) (xs : List A) → slice_get (take n xs) i ≡ (if nat_lt i n then slice_get xs i else None)
+-- a place of a front is one of the list, or past the front
+get-take : {A : Type 0} (n i : ℕ) (xs : List A)
+    → slice_get (take n xs) i ≡ (if nat_lt i n then slice_get xs i else None)
 get-take zero i xs = none-there i xs (not-below i)
   where
-    none-there : {A : Type 0} (i : ℕ) (xs : List A) → false ≡ nat_lt i 0 → slice_get (take 0 xs) i ≡ (if nat_lt i 0 then slice_get xs i else None)
+    none-there : {A : Type 0} (i : ℕ) (xs : List A) → false ≡ nat_lt i 0
+        → slice_get (take 0 xs) i ≡ (if nat_lt i 0 then slice_get xs i else None)
     none-there i xs is = ap (λ x. if x then slice_get xs i else None) is
 get-take (suc n) i [] = none_either (nat_lt i (suc n)) (slice_get [] i) refl
 get-take (suc n) zero (x ∷ xs) = ap (λ y. if y then Some x else None) (above-zero n)
-get-take (suc n) (suc i) (x ∷ xs) = get-take n i xs ∙ ap (λ y. if y then slice_get xs i else None) (sym (lt-suc i n))
+get-take (suc n) (suc i) (x ∷ xs) = get-take n i xs
+    ∙ ap (λ y. if y then slice_get xs i else None) (sym (lt-suc i n))
 
 -- the first between two places
-pub get-between : {A : Type 0} (m n : ℕ) (xs : List A) → slice_get (drop m (take n xs)) 0 ≡ (if nat_lt m n then slice_get xs m else None)
+pub get-between : {A : Type 0} (m n : ℕ) (xs : List A)
+    → slice_get (drop m (take n xs)) 0 ≡ (if nat_lt m n then slice_get xs m else None)
 get-between m n xs = get-drop m (take n xs) ∙ get-take n m xs
 
+-- a place is within a list just where it has an element
 pub lt-get : {A : Type 0} (xs : List A) (i : ℕ) → nat_lt i (length xs) ≡ is_some (slice_get xs i)
 lt-get [] i = sym (not-below i)
 lt-get (x ∷ xs) zero = sym (above-zero (length xs))
@@ -128,43 +166,57 @@ lt-get (x ∷ xs) (suc i) = lt-suc i (length xs) ∙ lt-get xs i
 
 -- ---- places of a mapped list
 
-pub slice_get-map : {A B : Type 0} (f : A → B) (xs : List A) (i : ℕ) → slice_get (map f xs) i ≡ option_map f (slice_get xs i)
+-- what is at a place of a mapped list
+pub slice_get-map : {A B : Type 0} (f : A → B) (xs : List A) (i : ℕ)
+    → slice_get (map f xs) i ≡ option_map f (slice_get xs i)
 slice_get-map f [] i = refl
 slice_get-map f (x ∷ xs) zero = refl
 slice_get-map f (x ∷ xs) (suc i) = slice_get-map f xs i
 
-pub map-set : {A B : Type 0} (f : A → B) (xs : List A) (i : ℕ) (x : A) → map f (slice_set xs i x) ≡ slice_set (map f xs) i (f x)
+-- a write in a list, mapped
+pub map-set : {A B : Type 0} (f : A → B) (xs : List A) (i : ℕ) (x : A)
+    → map f (slice_set xs i x) ≡ slice_set (map f xs) i (f x)
 map-set f [] i x = refl
 map-set f (y ∷ xs) zero x = refl
 map-set f (y ∷ xs) (suc i) x = ap (λ ys. f y ∷ ys) (map-set f xs i x)
 
-pub set-same : {A : Type 0} (xs : List A) (i : ℕ) (x : A) → slice_get xs i ≡ Some x → slice_set xs i x ≡ xs
+-- what is at a place, written there again, leaves the list
+pub set-same : {A : Type 0} (xs : List A) (i : ℕ) (x : A) → slice_get xs i ≡ Some x
+    → slice_set xs i x ≡ xs
 set-same [] i x h = refl
 set-same (y ∷ xs) zero x h = cc
 set-same (y ∷ xs) (suc i) x h = ap (λ ys. y ∷ ys) (set-same xs i x h)
 
+-- a write leaves the length
 pub length-set : {A : Type 0} (xs : List A) (i : ℕ) (x : A) → length (slice_set xs i x) ≡ length xs
 length-set [] i x = refl
 length-set (y ∷ xs) zero x = refl
 length-set (y ∷ xs) (suc i) x = ap suc (length-set xs i x)
 
-pub get-set_here : {A : Type 0} (xs : List A) (i : ℕ) (x y : A) → slice_get xs i ≡ Some x → slice_get (slice_set xs i y) i ≡ Some y
+-- what was written at a place with an element is there
+pub get-set_here : {A : Type 0} (xs : List A) (i : ℕ) (x y : A) → slice_get xs i ≡ Some x
+    → slice_get (slice_set xs i y) i ≡ Some y
 get-set_here [] i x y h = absurd (let no : ⊥ = cc in no)
 get-set_here (z ∷ xs) zero x y h = refl
 get-set_here (z ∷ xs) (suc i) x y h = get-set_here xs i x y h
 
-pub set-twice : {A : Type 0} (xs : List A) (i : ℕ) (y z : A) → slice_set (slice_set xs i y) i z ≡ slice_set xs i z
+-- of two writes at one place the later one counts
+pub set-twice : {A : Type 0} (xs : List A) (i : ℕ) (y z : A)
+    → slice_set (slice_set xs i y) i z ≡ slice_set xs i z
 set-twice [] i y z = refl
 set-twice (x ∷ xs) zero y z = refl
 set-twice (x ∷ xs) (suc i) y z = ap (λ ys. x ∷ ys) (set-twice xs i y z)
 
-pub get-set_in : {A : Type 0} (xs : List A) (i : ℕ) (y : A) → i < length xs → slice_get (slice_set xs i y) i ≡ Some y
+-- what was written at a place within a list is there
+pub get-set_in : {A : Type 0} (xs : List A) (i : ℕ) (y : A) → i < length xs
+    → slice_get (slice_set xs i y) i ≡ Some y
 get-set_in [] i y lt = absurd (omega arith)
 get-set_in (z ∷ xs) zero y lt = refl
 get-set_in (z ∷ xs) (suc i) y lt = get-set_in xs i y (omega arith)
 
 -- a place of a list with one place written: that one, or one of before
-pub get-set : {A : Type 0} (xs : List A) (i j : ℕ) (y z : A) → slice_get (slice_set xs i y) j ≡ Some z → ((j ≡ i) × (z ≡ y)) ⊎ (slice_get xs j ≡ Some z)
+pub get-set : {A : Type 0} (xs : List A) (i j : ℕ) (y z : A)
+    → slice_get (slice_set xs i y) j ≡ Some z → ((j ≡ i) × (z ≡ y)) ⊎ (slice_get xs j ≡ Some z)
 get-set [] i j y z h = inr h
 get-set (x ∷ xs) zero zero y z h = inl (refl, let same : z ≡ y = cc in same)
 get-set (x ∷ xs) zero (suc j) y z h = inr h
@@ -175,6 +227,7 @@ get-set (x ∷ xs) (suc i) (suc j) y z h = elim (get-set xs i j y z h) [
 ]
 
 -- one written at the place behind a front
-pub set-seam : {A : Type 0} (xs : List A) (y x : A) (ys : List A) → slice_set (xs ++ y ∷ ys) (length xs) x ≡ (xs ++ x ∷ []) ++ ys
+pub set-seam : {A : Type 0} (xs : List A) (y x : A) (ys : List A)
+    → slice_set (xs ++ y ∷ ys) (length xs) x ≡ (xs ++ x ∷ []) ++ ys
 set-seam [] y x ys = refl
 set-seam (z ∷ xs) y x ys = ap (λ zs. z ∷ zs) (set-seam xs y x ys)

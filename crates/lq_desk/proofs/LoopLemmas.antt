@@ -10,83 +10,120 @@ use Rattle.lq_desk.proofs.ListLemmas.{drop-all, length-map, map-set, take-all, t
 use Rattle.lq_desk.proofs.SlotsLemmas.{kept_slot}
 use Rattle.lq_desk.proofs.WordLemmas.{marked-push}
 
-get_or-map : {A B : Type 0} (f : A → B) (xs : List A) (i : ℕ) (d : A) → get_or (map f xs) i (f d) ≡ f (get_or xs i d)
+-- what is at a place of a mapped list, or the value given
+get_or-map : {A B : Type 0} (f : A → B) (xs : List A) (i : ℕ) (d : A)
+    → get_or (map f xs) i (f d) ≡ f (get_or xs i d)
 get_or-map f [] i d = refl
 get_or-map f (x ∷ xs) zero d = refl
 get_or-map f (x ∷ xs) (suc i) d = get_or-map f xs i d
 
-get-is : {A : Type 0} (xs : List A) (i : ℕ) (d : A) → i < length xs → d ≡ get_or xs i d → slice_get xs i ≡ Some d
+-- what was read at a place within a list is there
+get-is : {A : Type 0} (xs : List A) (i : ℕ) (d : A) → i < length xs → d ≡ get_or xs i d
+    → slice_get xs i ≡ Some d
 get-is [] i d lt at = absurd (omega arith)
 get-is (x ∷ xs) zero d lt at = ap (λ o. Some o) (sym at)
 get-is (x ∷ xs) (suc i) d lt at = get-is xs i d (omega arith) at
 
 -- in a list done up to a place, that place is as it was
-get-undone : {A : Type 0} (f : A → A) (xs : List A) (i : ℕ) → i < length xs → slice_get (map f (take i xs) ++ drop i xs) i ≡ slice_get xs i
+get-undone : {A : Type 0} (f : A → A) (xs : List A) (i : ℕ) → i < length xs
+    → slice_get (map f (take i xs) ++ drop i xs) i ≡ slice_get xs i
 get-undone f [] i lt = absurd (omega arith)
 get-undone f (x ∷ xs) zero lt = refl
 get-undone f (x ∷ xs) (suc i) lt = get-undone f xs i (omega arith)
 
-pub length-undone : {A : Type 0} (f : A → A) (xs : List A) (i : ℕ) → length (map f (take i xs) ++ drop i xs) ≡ length xs
+-- a list of which a front is done is as long as before
+pub length-undone : {A : Type 0} (f : A → A) (xs : List A) (i : ℕ)
+    → length (map f (take i xs) ++ drop i xs) ≡ length xs
 length-undone f xs zero = refl
 length-undone f [] (suc i) = refl
 length-undone f (x ∷ xs) (suc i) = ap suc (length-undone f xs i)
 
-pub undone-at : {A : Type 0} (f : A → A) (xs ys : List A) (i : ℕ) (x : A) → i < length xs → ys ≡ map f (take i xs) ++ drop i xs → x ≡ get_or ys i x → slice_get xs i ≡ Some x
+-- what is read at the first place not done is what was there at first
+pub undone-at : {A : Type 0} (f : A → A) (xs ys : List A) (i : ℕ) (x : A) → i < length xs
+    → ys ≡ map f (take i xs) ++ drop i xs → x ≡ get_or ys i x → slice_get xs i ≡ Some x
 undone-at f xs ys i x lt done at =
     let inside : i < length ys = omega (arith, lt, ap length done, length-undone f xs i) in
     sym (get-undone f xs i lt) ∙ (ap (λ zs. slice_get zs i) (sym done) ∙ get-is ys i x inside at)
 
-module _ (f : KeptSlot → KeptSlot) (xs ys : List (Option PreparedSlot)) (i : ℕ) (z : Option PreparedSlot) (lt : i < length xs)
-    (done : map kept_slot ys ≡ map (option_map f) (take i (map kept_slot xs)) ++ drop i (map kept_slot xs)) (at : z ≡ get_or ys i z) where
+-- where a front of the slots is done, and the next one was read
+module _ (f : KeptSlot → KeptSlot) (xs ys : List (Option PreparedSlot)) (i : ℕ)
+    (z : Option PreparedSlot) (lt : i < length xs)
+    (done : map kept_slot ys ≡ map (option_map f) (take i (map kept_slot xs))
+    ++ drop i (map kept_slot xs)) (at : z ≡ get_or ys i z) where
+  -- what is kept of the slot that was read is there
   kept_at : kept_slot z ≡ get_or (map kept_slot ys) i (kept_slot z)
   kept_at = ap kept_slot at ∙ sym (get_or-map kept_slot ys i z)
 
+  -- its place is within the slots that are kept
   kept_lt : i < length (map kept_slot xs)
   kept_lt = omega (arith, lt, length-map kept_slot xs)
 
   -- the slot of the loop is as it was
   pub kept-here : slice_get (map kept_slot xs) i ≡ Some (kept_slot z)
-  kept-here = undone-at (option_map f) (map kept_slot xs) (map kept_slot ys) i (kept_slot z) kept_lt done kept_at
+  kept-here = undone-at (option_map f) (map kept_slot xs) (map kept_slot ys) i
+      (kept_slot z) kept_lt done kept_at
 
   -- and one more is done
-  pub kept-step : (x : Option PreparedSlot) → kept_slot x ≡ option_map f (kept_slot z) → map kept_slot (slice_set ys i x) ≡ map (option_map f) (take (i + 1) (map kept_slot xs)) ++ drop (i + 1) (map kept_slot xs)
+  pub kept-step : (x : Option PreparedSlot)
+      → kept_slot x ≡ option_map f (kept_slot z) → map kept_slot (slice_set ys i x)
+      ≡ map (option_map f) (take (i + 1) (map kept_slot xs)) ++ drop (i + 1) (map kept_slot xs)
   kept-step x does =
       map-set kept_slot ys i x
       ∙ (ap (slice_set (map kept_slot ys) i) does
-      ∙ map_over_more (option_map f) (map kept_slot xs) (map kept_slot ys) i (kept_slot z) kept_lt done kept_at)
+      ∙ map_over_more (option_map f) (map kept_slot xs) (map kept_slot ys) i
+      (kept_slot z) kept_lt done kept_at)
 
+-- a list with nothing behind it
 append-none : {A : Type 0} (xs : List A) → xs ++ [] ≡ xs
 append-none [] = refl
 append-none (x ∷ xs) = ap (λ ys. x ∷ ys) (append-none xs)
 
-pub kept-end : (f : KeptSlot → KeptSlot) (xs ys : List (Option PreparedSlot)) (i : ℕ) → length xs ≤ i → map kept_slot ys ≡ map (option_map f) (take i (map kept_slot xs)) ++ drop i (map kept_slot xs)
+-- where the loop has come to the end, all slots are done
+pub kept-end : (f : KeptSlot → KeptSlot) (xs ys : List (Option PreparedSlot)) (i : ℕ)
+    → length xs ≤ i
+    → map kept_slot ys ≡ map (option_map f) (take i (map kept_slot xs)) ++ drop i (map kept_slot xs)
     → map kept_slot ys ≡ map (option_map f) (map kept_slot xs)
 kept-end f xs ys i le done =
     let ks = map kept_slot xs in
     let past : length ks ≤ i = omega (arith, le, length-map kept_slot xs) in
     done
     ∙ (ap (λ js. map (option_map f) js ++ drop i ks) (take-all i ks past)
-    ∙ (ap (λ js. map (option_map f) ks ++ js) (drop-all i ks past) ∙ append-none (map (option_map f) ks)))
+    ∙ (ap (λ js. map (option_map f) ks ++ js) (drop-all i ks past)
+    ∙ append-none (map (option_map f) ks)))
 
-pub kept-length : (f : KeptSlot → KeptSlot) (xs ys : List (Option PreparedSlot)) (i : ℕ) → map kept_slot ys ≡ map (option_map f) (take i (map kept_slot xs)) ++ drop i (map kept_slot xs) → length ys ≡ length xs
-kept-length f xs ys i done = sym (length-map kept_slot ys) ∙ (ap length done ∙ (length-undone (option_map f) (map kept_slot xs) i ∙ length-map kept_slot xs))
+-- the loop leaves as many slots
+pub kept-length : (f : KeptSlot → KeptSlot) (xs ys : List (Option PreparedSlot)) (i : ℕ)
+    → map kept_slot ys ≡ map (option_map f) (take i (map kept_slot xs)) ++ drop i (map kept_slot xs)
+    → length ys ≡ length xs
+kept-length f xs ys i done = sym (length-map kept_slot ys) ∙ (ap length done
+    ∙ (length-undone (option_map f) (map kept_slot xs) i ∙ length-map kept_slot xs))
 
 -- the slots of the loop, written back
-pub written-back : (n : ℕ) (ys zs : List (Option PreparedSlot)) → length ys ≡ n → take n (ys ++ zs) ≡ ys
-written-back n ys zs long = take-inside n ys zs (omega (arith, long)) ∙ take-all n ys (omega (arith, long))
+pub written-back : (n : ℕ) (ys zs : List (Option PreparedSlot)) → length ys ≡ n
+    → take n (ys ++ zs) ≡ ys
+written-back n ys zs long = take-inside n ys zs (omega (arith, long))
+    ∙ take-all n ys (omega (arith, long))
 
 -- ---- the word of the slots with messages
 
-take-set_more : {A : Type 0} (xs : List A) (i : ℕ) (x : A) → i < length xs → take (suc i) (slice_set xs i x) ≡ take i xs ++ x ∷ []
+-- a front up to a place that was written ends with what was written
+take-set_more : {A : Type 0} (xs : List A) (i : ℕ) (x : A) → i < length xs
+    → take (suc i) (slice_set xs i x) ≡ take i xs ++ x ∷ []
 take-set_more [] i x lt = absurd (omega arith)
 take-set_more (y ∷ xs) zero x lt = refl
 take-set_more (y ∷ xs) (suc i) x lt = ap (λ ys. y ∷ ys) (take-set_more xs i x (omega arith))
 
-take-set : {A : Type 0} (xs : List A) (i : ℕ) (x : A) → i < length xs → take (i + 1) (slice_set xs i x) ≡ take i xs ++ x ∷ []
-take-set xs i x lt = ap (λ n. take n (slice_set xs i x)) (let e : i + 1 ≡ suc i = omega arith in e) ∙ take-set_more xs i x lt
+-- the same, as a loop counts it
+take-set : {A : Type 0} (xs : List A) (i : ℕ) (x : A) → i < length xs
+    → take (i + 1) (slice_set xs i x) ≡ take i xs ++ x ∷ []
+take-set xs i x lt = ap (λ n. take n (slice_set xs i x)) (let e : i + 1 ≡ suc i = omega arith in e)
+    ∙ take-set_more xs i x lt
 
-pub told-more : (old new : ℕ) (xs : List (Option PreparedSlot)) (i : ℕ) (x : Option PreparedSlot) → i < length xs → IsMarked has_ready old (take i xs) → SetsBit old i (passes has_ready x) new
+-- the word marks one slot more, once its bit is set where it has messages to be told
+pub told-more : (old new : ℕ) (xs : List (Option PreparedSlot)) (i : ℕ) (x : Option PreparedSlot)
+    → i < length xs → IsMarked has_ready old (take i xs) → SetsBit old i (passes has_ready x) new
     → IsMarked has_ready new (take (i + 1) (slice_set xs i x))
 told-more old new xs i x lt marked set =
     let long : i ≡ length (take i xs) = sym (take-length i xs (omega (arith, lt))) in
-    rw (take-set xs i x lt) (marked-push has_ready old new (take i xs) x marked set.others (λ is. ap (bit_at new) (sym long) ∙ set.here is))
+    rw (take-set xs i x lt) (marked-push has_ready old new (take i xs) x marked set.others
+    (λ is. ap (bit_at new) (sym long) ∙ set.here is))

@@ -15,10 +15,13 @@ use Rattle.lq_desk.specs.Laws.{KeptPassesListsOn, mark_left}
 use Rattle.lq_desk.proofs.ListLemmas.{all-get, drop-all, lt-true, lt-false}
 use Rattle.lq_desk.proofs.Shown.{kept_at-same, slot-found}
 
-mark-drop : (n i : ℕ) (o : Option End) → drop (i - n) (mark_behind n o) ≡ (if nat_lt n i then [] else map (λ mark. Fin mark) (option_to_list (option_map (mark_of n) o)))
+-- what is left of a mark behind the messages, once some parcels were put
+mark-drop : (n i : ℕ) (o : Option End) → drop (i - n) (mark_behind n o) ≡ (if nat_lt n i then []
+    else map (λ mark. Fin mark) (option_to_list (option_map (mark_of n) o)))
 mark-drop n i o = by (nat_lt n i) refl
   where
-    all : (o : Option End) → mark_behind n o ≡ map (λ mark. Fin mark) (option_to_list (option_map (mark_of n) o))
+    all : (o : Option End)
+        → mark_behind n o ≡ map (λ mark. Fin mark) (option_to_list (option_map (mark_of n) o))
     all None = refl
     all (Some e) = refl
 
@@ -26,26 +29,39 @@ mark-drop n i o = by (nat_lt n i) refl
     few None = omega arith
     few (Some e) = omega arith
 
-    by : (x : Bool) → nat_lt n i ≡ x → drop (i - n) (mark_behind n o) ≡ (if x then [] else map (λ mark. Fin mark) (option_to_list (option_map (mark_of n) o)))
-    by true is = let past = lt-true n i is in drop-all (i - n) (mark_behind n o) (omega (arith, past, few o))
+    by : (x : Bool) → nat_lt n i ≡ x → drop (i - n) (mark_behind n o)
+        ≡ (if x then [] else map (λ mark. Fin mark) (option_to_list (option_map (mark_of n) o)))
+    by true is =
+        let past = lt-true n i is in
+        drop-all (i - n) (mark_behind n o) (omega (arith, past, few o))
     by false is =
         let inside = lt-false n i is in
         let none : i - n ≡ 0 = omega (arith, inside) in
         ap (λ j. drop j (mark_behind n o)) none ∙ all o
 
-to_come-kept : (w : World) (s : Sub) → to_come w.book s ≡ map (λ m. Update m) (held_for w.book s).messages ++ mark_left (held_for w.book s)
-to_come-kept w s = ap (λ ps. map (λ m. Update m) (waiting w.book s) ++ ps) (mark-drop (length (told w.book s)) s.put s.end)
+-- what is to come in the world is what is held, and a mark that hasn't gone out
+to_come-kept : (w : World) (s : Sub) → to_come w.book s
+    ≡ map (λ m. Update m) (held_for w.book s).messages ++ mark_left (held_for w.book s)
+to_come-kept w s = ap (λ ps. map (λ m. Update m) (waiting w.book s) ++ ps)
+    (mark-drop (length (told w.book s)) s.put s.end)
 
+-- what was taken, what is in the port and what is held is all that a subscription is told
 pub passes-on : ListsArePassedOn → KeptPassesListsOn
 passes-on law k w slot s shows is =
-    let f : IsFair w.book s = all-get (IsFairSlot w.book) w.slots (slot - 1) (Some s) shows.fair (slot-found w slot s is) in (
+    let f : IsFair w.book s =
+    all-get (IsFairSlot w.book) w.slots (slot - 1) (Some s) shows.fair (slot-found w slot s is) in (
       slot_for w.book s,
-      ap (λ (j : Kept). kept_at j slot) shows.kept ∙ (kept_at-same w slot ∙ ap (option_map (slot_for w.book)) is),
-      ap (λ ps. take s.taken (whole w.book s) ++ (in_port w.book s ++ ps)) (sym (to_come-kept w s)) ∙ law w.book s f,
+      ap (λ (j : Kept). kept_at j slot) shows.kept
+          ∙ (kept_at-same w slot ∙ ap (option_map (slot_for w.book)) is),
+      ap (λ ps. take s.taken (whole w.book s) ++ (in_port w.book s ++ ps)) (sym (to_come-kept w s))
+          ∙ law w.book s f,
     )
 
-pub refusal-leaves : RefusalsLeaveWorlds → (old new : Kept) (w : World) (e : Happening) (a : Answer) (r : Refusal) → Shows old w → Moves new w e a → a ≡ Refused r → new ≡ old
-refusal-leaves law old new w e a r shows m is = m.shows.kept ∙ (ap kept_of (same m.step) ∙ sym shows.kept)
+-- an event that is refused leaves what is kept
+pub refusal-leaves : RefusalsLeaveWorlds → (old new : Kept) (w : World) (e : Happening) (a : Answer)
+    (r : Refusal) → Shows old w → Moves new w e a → a ≡ Refused r → new ≡ old
+refusal-leaves law old new w e a r shows m is = m.shows.kept
+    ∙ (ap kept_of (same m.step) ∙ sym shows.kept)
   where
     same : Step w e a m.next → m.next ≡ w
     same (inl done) = done.1 ∙ law w e r (sym done.0 ∙ is)

@@ -25,201 +25,303 @@ use Rattle.lq_desk.specs.Kept as kept
 use Rattle.lq_desk.proofs.ListLemmas.{all-set, all-get, both-true, map-set, set-same, slice_get-map, lt-get}
 use Rattle.lq_desk.proofs.PutLemmas.{puts-keep}
 
+-- what is kept of what may be in a slot
 abbrev pub kept_slot : Option PreparedSlot → Option KeptSlot
 kept_slot = option_map slot_of
 
 -- ---- one of a list
 
-pub one-few : (n : ℕ) (ys : List (Option PreparedSlot)) (i : ℕ) (d : Option PreparedSlot) → i < length ys → d ≡ get_or ys i d → AllByRecursion (IsFew n) (map kept_slot ys) → IsFew n (kept_slot d)
+-- a slot that was read has made few messages, where all have
+pub one-few : (n : ℕ) (ys : List (Option PreparedSlot)) (i : ℕ) (d : Option PreparedSlot)
+    → i < length ys → d ≡ get_or ys i d → AllByRecursion (IsFew n) (map kept_slot ys)
+    → IsFew n (kept_slot d)
 one-few n [] i d lt at h = absurd (omega arith)
-one-few n (y ∷ ys) zero d lt at h = subst (λ (o : Option PreparedSlot). IsFew n (kept_slot o)) (sym at) h.0
+one-few n (y ∷ ys) zero d lt at h =
+    subst (λ (o : Option PreparedSlot). IsFew n (kept_slot o)) (sym at) h.0
 one-few n (y ∷ ys) (suc i) d lt at h = one-few n ys i d (omega arith) at h.1
 
-pub few-at : (n : ℕ) (ys : List (Option PreparedSlot)) (i : ℕ) (d : Option PreparedSlot) → i < length ys → AllByRecursion (IsFew n) (map kept_slot ys) → IsFew n (kept_slot (get_or ys i d))
+-- and so has the one at a place
+pub few-at : (n : ℕ) (ys : List (Option PreparedSlot)) (i : ℕ) (d : Option PreparedSlot)
+    → i < length ys → AllByRecursion (IsFew n) (map kept_slot ys)
+    → IsFew n (kept_slot (get_or ys i d))
 few-at n [] i d lt h = absurd (omega arith)
 few-at n (y ∷ ys) zero d lt h = h.0
 few-at n (y ∷ ys) (suc i) d lt h = few-at n ys i d (omega arith) h.1
 
-pub one-get : (xs : List (Option PreparedSlot)) (i : ℕ) (d : Option PreparedSlot) → i < length xs → d ≡ get_or xs i d → slice_get xs i ≡ Some d
+-- a slot that was read at a place within the list is there
+pub one-get : (xs : List (Option PreparedSlot)) (i : ℕ) (d : Option PreparedSlot) → i < length xs
+    → d ≡ get_or xs i d → slice_get xs i ≡ Some d
 one-get [] i d lt at = absurd (omega arith)
 one-get (x ∷ xs) zero d lt at = ap (λ (o : Option PreparedSlot). Some o) (sym at)
 one-get (x ∷ xs) (suc i) d lt at = one-get xs i d (omega arith) at
 
 -- an act at one of them
-pub act_in-same : (number : ℕ) (a : Act) (xs : List (Option PreparedSlot)) (i : ℕ) (x d : Option PreparedSlot) (r : Answer) → i < length xs → d ≡ get_or xs i d
-    → (r, kept_slot x) ≡ outcome_at number a (kept_slot d) → (r, map kept_slot (slice_set xs i x)) ≡ outcome_in number a (map kept_slot xs) i
+pub act_in-same : (number : ℕ) (a : Act) (xs : List (Option PreparedSlot)) (i : ℕ)
+    (x d : Option PreparedSlot) (r : Answer) → i < length xs → d ≡ get_or xs i d
+    → (r, kept_slot x) ≡ outcome_at number a (kept_slot d)
+    → (r, map kept_slot (slice_set xs i x)) ≡ outcome_in number a (map kept_slot xs) i
 act_in-same number a xs i x d r lt at is =
-    let found : option_flatten (slice_get (map kept_slot xs) i) ≡ kept_slot d = ap option_flatten (slice_get-map kept_slot xs i ∙ ap (option_map kept_slot) (one-get xs i d lt at)) in
+    let found : option_flatten (slice_get (map kept_slot xs) i) ≡ kept_slot d = ap option_flatten
+    (slice_get-map kept_slot xs i ∙ ap (option_map kept_slot) (one-get xs i d lt at)) in
     ap (λ ks. (r, ks)) (map-set kept_slot xs i x)
     ∙ (ap (λ (p : Answer × Option KeptSlot). (p.0, slice_set (map kept_slot xs) i p.1)) is
-    ∙ ap (λ (o : Option KeptSlot). ((outcome_at number a o).0, slice_set (map kept_slot xs) i (outcome_at number a o).1)) (sym found))
+    ∙ ap (λ (o : Option KeptSlot). (
+      (outcome_at number a o).0,
+      slice_set (map kept_slot xs) i (outcome_at number a o).1,
+    )) (sym found))
 
-pub kept-get : (xs : List (Option PreparedSlot)) (i : ℕ) (d : Option PreparedSlot) → i < length xs → d ≡ get_or xs i d → option_flatten (slice_get (map kept_slot xs) i) ≡ kept_slot d
-kept-get xs i d lt at = ap option_flatten (slice_get-map kept_slot xs i ∙ ap (option_map kept_slot) (one-get xs i d lt at))
+-- and what is kept of it is what is kept at that place
+pub kept-get : (xs : List (Option PreparedSlot)) (i : ℕ) (d : Option PreparedSlot) → i < length xs
+    → d ≡ get_or xs i d → option_flatten (slice_get (map kept_slot xs) i) ≡ kept_slot d
+kept-get xs i d lt at = ap option_flatten (slice_get-map kept_slot xs i
+    ∙ ap (option_map kept_slot) (one-get xs i d lt at))
 
 -- what is done at one of them
-pub done_in-same : (f : KeptSlot → KeptSlot) (xs : List (Option PreparedSlot)) (i : ℕ) (x d : Option PreparedSlot) → i < length xs → d ≡ get_or xs i d
-    → kept_slot x ≡ option_map f (kept_slot d) → map kept_slot (slice_set xs i x) ≡ done_at f (map kept_slot xs) i
+pub done_in-same : (f : KeptSlot → KeptSlot) (xs : List (Option PreparedSlot)) (i : ℕ)
+    (x d : Option PreparedSlot) → i < length xs → d ≡ get_or xs i d
+    → kept_slot x ≡ option_map f (kept_slot d)
+    → map kept_slot (slice_set xs i x) ≡ done_at f (map kept_slot xs) i
 done_in-same f xs i x d lt at is =
     map-set kept_slot xs i x
     ∙ ap (slice_set (map kept_slot xs) i) (is ∙ ap (option_map f) (sym (kept-get xs i d lt at)))
 
 -- ---- messages that are made, and then told
 
-live-if : {A : Type 0} {B : Type 0} (f : A → B) (x : Bool) (p q : A) → f p ≡ f q → f (if x then p else q) ≡ f q
+-- where a function takes two values to one, it doesn't matter which of them is chosen
+live-if : {A : Type 0} {B : Type 0} (f : A → B) (x : Bool) (p q : A) → f p ≡ f q
+    → f (if x then p else q) ≡ f q
 live-if f true p q is = is
 live-if f false p q is = refl
 
-pub prepared-keeps : (s : State) (c : Change_) (o : Option PreparedSlot) → kept_slot (option_map (prepared_slot s c) o) ≡ kept_slot o
+-- messages that are made don't alter what is kept
+pub prepared-keeps : (s : State) (c : Change_) (o : Option PreparedSlot)
+    → kept_slot (option_map (prepared_slot s c) o) ≡ kept_slot o
 prepared-keeps s c None = refl
 prepared-keeps s c (Some p) = ap (λ k. Some k) (live-if slot_of (is_live p.sub.held) _ p refl)
 
-committed-after : (s : State) (c : Change_) (p : PreparedSlot) → slot_of (committed_slot (prepared_slot s c p)) ≡ slot_after s c (slot_of p)
+-- messages made and then told leave the slot after the change
+committed-after : (s : State) (c : Change_) (p : PreparedSlot)
+    → slot_of (committed_slot (prepared_slot s c p)) ≡ slot_after s c (slot_of p)
 committed-after s c p = by (is_live p.sub.held) refl
   where
-    by : (x : Bool) → is_live p.sub.held ≡ x → slot_of (committed_slot (prepared_slot s c p)) ≡ slot_after s c (slot_of p)
+    by : (x : Bool) → is_live p.sub.held ≡ x
+        → slot_of (committed_slot (prepared_slot s c p)) ≡ slot_after s c (slot_of p)
     by true is = rw (is, is) refl
     by false is = rw (is, is) refl
 
-pub map-prepared : (s : State) (c : Change_) (xs : List (Option PreparedSlot)) → map kept_slot (map (option_map (prepared_slot s c)) xs) ≡ map kept_slot xs
+-- messages that are made in all slots leave what is kept
+pub map-prepared : (s : State) (c : Change_) (xs : List (Option PreparedSlot))
+    → map kept_slot (map (option_map (prepared_slot s c)) xs) ≡ map kept_slot xs
 map-prepared s c [] = refl
 map-prepared s c (x ∷ xs) = let here = prepared-keeps s c x in let rest = map-prepared s c xs in cc
 
-pub map-committed : (s : State) (c : Change_) (xs : List (Option PreparedSlot)) → map kept_slot (map (option_map committed_slot) (map (option_map (prepared_slot s c)) xs)) ≡ map (option_map (slot_after s c)) (map kept_slot xs)
+-- and once they are told, each slot is as after the change
+pub map-committed : (s : State) (c : Change_) (xs : List (Option PreparedSlot))
+    → map kept_slot (map (option_map committed_slot) (map (option_map (prepared_slot s c)) xs))
+    ≡ map (option_map (slot_after s c)) (map kept_slot xs)
 map-committed s c [] = refl
 map-committed s c (None ∷ xs) = ap (λ ks. None ∷ ks) (map-committed s c xs)
-map-committed s c (Some p ∷ xs) = let here = committed-after s c p in let rest = map-committed s c xs in cc
+map-committed s c (Some p ∷ xs) =
+    let here = committed-after s c p in
+    let rest = map-committed s c xs in
+    cc
 
-map-same_here : (ys : List (Option PreparedSlot)) (i : ℕ) (x z : Option PreparedSlot) → kept_slot x ≡ kept_slot z → z ≡ get_or ys i z → map kept_slot (slice_set ys i x) ≡ map kept_slot ys
+-- a slot written at its place leaves what is kept, if it keeps the same
+map-same_here : (ys : List (Option PreparedSlot)) (i : ℕ) (x z : Option PreparedSlot)
+    → kept_slot x ≡ kept_slot z → z ≡ get_or ys i z
+    → map kept_slot (slice_set ys i x) ≡ map kept_slot ys
 map-same_here [] i x z same at = refl
 map-same_here (y ∷ ys) zero x z same at = ap (λ k. k ∷ map kept_slot ys) (same ∙ ap kept_slot at)
-map-same_here (y ∷ ys) (suc i) x z same at = ap (λ ks. kept_slot y ∷ ks) (map-same_here ys i x z same at)
+map-same_here (y ∷ ys) (suc i) x z same at =
+    ap (λ ks. kept_slot y ∷ ks) (map-same_here ys i x z same at)
 
-map-front : (s : State) (c : Change_) (i : ℕ) (xs : List (Option PreparedSlot)) → map kept_slot (map (option_map (prepared_slot s c)) (take i xs) ++ drop i xs) ≡ map kept_slot xs
+-- messages made in a front of the slots leave what is kept
+map-front : (s : State) (c : Change_) (i : ℕ) (xs : List (Option PreparedSlot))
+    → map kept_slot (map (option_map (prepared_slot s c)) (take i xs) ++ drop i xs)
+    ≡ map kept_slot xs
 map-front s c zero xs = refl
 map-front s c (suc i) [] = refl
-map-front s c (suc i) (x ∷ xs) = let here = prepared-keeps s c x in let rest = map-front s c i xs in cc
+map-front s c (suc i) (x ∷ xs) =
+    let here = prepared-keeps s c x in
+    let rest = map-front s c i xs in
+    cc
 
-pub map-kept : (s : State) (c : Change_) (xs ys : List (Option PreparedSlot)) (i : ℕ) (x z : Option PreparedSlot) → ys ≡ map (option_map (prepared_slot s c)) (take i xs) ++ drop i xs
-    → kept_slot x ≡ kept_slot z → z ≡ get_or ys i z → map kept_slot (slice_set ys i x) ≡ map kept_slot xs
-map-kept s c xs ys i x z done same at = map-same_here ys i x z same at ∙ (ap (map kept_slot) done ∙ map-front s c i xs)
+-- and so does the next slot when it is written, if it keeps what was there
+pub map-kept : (s : State) (c : Change_) (xs ys : List (Option PreparedSlot)) (i : ℕ)
+    (x z : Option PreparedSlot) → ys ≡ map (option_map (prepared_slot s c)) (take i xs) ++ drop i xs
+    → kept_slot x ≡ kept_slot z → z ≡ get_or ys i z
+    → map kept_slot (slice_set ys i x) ≡ map kept_slot xs
+map-kept s c xs ys i x z done same at = map-same_here ys i x z same at
+    ∙ (ap (map kept_slot) done ∙ map-front s c i xs)
 
 -- ---- slots with nothing to do
 
+-- a noticing leaves a slot whose end wasn't asked for, or that has ended
 pub noticed-quiet : (n : ℕ) (k : KeptSlot) → is_ending k ≡ false → noticed n k ≡ k
 noticed-quiet n k is = ap (λ x. if x then record k { held = ended_by k.held HungUp n } else k) is
 
+-- after a noticing a slot isn't ending
 pub noticed-still : (n : ℕ) (k : KeptSlot) → is_ending (noticed n k) ≡ false
 noticed-still n k = by (is_ending k) refl
   where
-    by : (x : Bool) → is_ending k ≡ x → is_ending (if x then record k { held = ended_by k.held HungUp n } else k) ≡ false
+    by : (x : Bool) → is_ending k ≡ x
+        → is_ending (if x then record k { held = ended_by k.held HungUp n } else k) ≡ false
     by true is = refl
     by false is = is
 
-held-none : (h : Held) (sent : ℕ) (messages : List Message) → sent ≡ h.sent → messages ≡ h.messages → record h { sent = sent; messages = messages } ≡ h
-held-none h sent messages p q = ap (λ n. record h { sent = n; messages = messages }) p ∙ ap (λ ms. record h { messages = ms }) q
+-- written with what it had, it is held as before
+held-none : (h : Held) (sent : ℕ) (messages : List Message) → sent ≡ h.sent → messages ≡ h.messages
+    → record h { sent = sent; messages = messages } ≡ h
+held-none h sent messages p q = ap (λ n. record h { sent = n; messages = messages }) p
+    ∙ ap (λ ms. record h { messages = ms }) q
 
+-- where there are no messages, none are told
 told-none : (h : Held) (ready : List Message) (before : ℕ) → ready ≡ [] → told h ready before ≡ h
-told-none h ready before none = ap (λ ms. told h ms before) none ∙ held-none h (h.sent + 0) (h.messages ++ []) (omega arith) (append-nil h.messages)
+told-none h ready before none = ap (λ ms. told h ms before) none
+    ∙ held-none h (h.sent + 0) (h.messages ++ []) (omega arith) (append-nil h.messages)
 
+-- and the slot is as before
 committed-none : (p : PreparedSlot) → p.sub.ready ≡ [] → record p { sub = committed p.sub } ≡ p
-committed-none p none = same (told p.sub.held p.sub.ready p.sub.before) [] (told-none p.sub.held p.sub.ready p.sub.before none) (sym none)
+committed-none p none = same (told p.sub.held p.sub.ready p.sub.before) []
+    (told-none p.sub.held p.sub.ready p.sub.before none) (sym none)
   where
-    same : (h : Held) (ms : List Message) → h ≡ p.sub.held → ms ≡ p.sub.ready → record p { sub = record p.sub { held = h; ready = ms } } ≡ p
-    same h ms a b = ap (λ g. record p { sub = record p.sub { held = g; ready = ms } }) a ∙ ap (λ ns. record p { sub = record p.sub { ready = ns } }) b
+    same : (h : Held) (ms : List Message) → h ≡ p.sub.held → ms ≡ p.sub.ready
+        → record p { sub = record p.sub { held = h; ready = ms } } ≡ p
+    same h ms a b = ap (λ g. record p { sub = record p.sub { held = g; ready = ms } }) a
+        ∙ ap (λ ns. record p { sub = record p.sub { ready = ns } }) b
 
+-- messages whose number isn't above zero are none
 no-messages : (ms : List Message) → nat_lt 0 (length ms) ≡ false → ms ≡ []
 no-messages [] none = refl
 no-messages (m ∷ ms) none = absurd (grind (arith, nat_tests, none))
 
+-- telling leaves a slot that has no messages ready
 pub committed-quiet : (p : PreparedSlot) → has_ready p ≡ false → committed_slot p ≡ p
 committed-quiet p is = by (is_live p.sub.held) is
   where
-    by : (x : Bool) → (x && nat_lt 0 (length p.sub.ready)) ≡ false → (if x then record p { sub = committed p.sub } else p) ≡ p
+    by : (x : Bool) → (x && nat_lt 0 (length p.sub.ready)) ≡ false
+        → (if x then record p { sub = committed p.sub } else p) ≡ p
     by true none = committed-none p (no-messages p.sub.ready none)
     by false none = refl
 
 -- telling messages makes no slot ending
-pub committed-ends : (p : PreparedSlot) → is_ending (slot_of (committed_slot p)) ≡ true → is_ending (slot_of p) ≡ true
+pub committed-ends : (p : PreparedSlot) → is_ending (slot_of (committed_slot p)) ≡ true
+    → is_ending (slot_of p) ≡ true
 committed-ends p is = by (is_live p.sub.held) refl is
   where
-    by : (x : Bool) → is_live p.sub.held ≡ x → is_ending (slot_of (if x then record p { sub = committed p.sub } else p)) ≡ true → is_ending (slot_of p) ≡ true
-    by true live is = ap (λ x. x && p.asked) live ∙ (both-true (is_live (told p.sub.held p.sub.ready p.sub.before)) p.asked is).1
+    by : (x : Bool) → is_live p.sub.held ≡ x
+        → is_ending (slot_of (if x then record p { sub = committed p.sub } else p)) ≡ true
+        → is_ending (slot_of p) ≡ true
+    by true live is = ap (λ x. x && p.asked) live
+        ∙ (both-true (is_live (told p.sub.held p.sub.ready p.sub.before)) p.asked is).1
     by false live is = is
 
 -- ---- how many messages were made
 
-pub few-told : StepsAreFew → (s : State) (c : Change_) (h : Held) (x : Bool) → IsVolume s → IsLawful s c → h.sent ≤ 3 * s.number
+-- a change makes at most three messages of a subscription
+pub few-told : StepsAreFew → (s : State) (c : Change_) (h : Held) (x : Bool) → IsVolume s
+    → IsLawful s c → h.sent ≤ 3 * s.number
     → (told_if h (step_of h.query h.moved s c (h.sent + 1)) s.number x).sent ≤ 3 * (s.number + 1)
 few-told steps s c h true v lawful le = omega (arith, le)
-few-told steps s c h false v lawful le = omega (arith, le, steps h.query h.moved s c (h.sent + 1) v lawful)
+few-told steps s c h false v lawful le =
+    omega (arith, le, steps h.query h.moved s c (h.sent + 1) v lawful)
 
-few-changed : StepsAreFew → (s : State) (c : Change_) (k : KeptSlot) (x : Bool) → IsVolume s → IsLawful s c → k.held.sent ≤ 3 * s.number
+-- and of a slot
+few-changed : StepsAreFew → (s : State) (c : Change_) (k : KeptSlot) (x : Bool) → IsVolume s
+    → IsLawful s c → k.held.sent ≤ 3 * s.number
     → IsFew (3 * (s.number + 1)) (Some (if x then record k { held = held_after s c k.held } else k))
-few-changed steps s c k true v lawful le = few-told steps s c k.held (overruns k.held (step_of k.held.query k.held.moved s c (k.held.sent + 1))) v lawful le
+few-changed steps s c k true v lawful le = few-told steps s c k.held
+    (overruns k.held (step_of k.held.query k.held.moved s c (k.held.sent + 1))) v lawful le
 few-changed steps s c k false v lawful le = omega (arith, le)
 
-pub few-after : StepsAreFew → (s : State) (c : Change_) (ks : List (Option KeptSlot)) → IsVolume s → IsLawful s c → AllByRecursion (IsFew (3 * s.number)) ks → AllByRecursion (IsFew (3 * (s.number + 1))) (map (option_map (slot_after s c)) ks)
+-- and of each slot
+pub few-after : StepsAreFew → (s : State) (c : Change_) (ks : List (Option KeptSlot))
+    → IsVolume s → IsLawful s c → AllByRecursion (IsFew (3 * s.number)) ks
+    → AllByRecursion (IsFew (3 * (s.number + 1))) (map (option_map (slot_after s c)) ks)
 few-after steps s c [] v lawful h = tt
 few-after steps s c (None ∷ ks) v lawful h = (tt, few-after steps s c ks v lawful h.1)
-few-after steps s c (Some k ∷ ks) v lawful h = (few-changed steps s c k (is_live k.held) v lawful h.0, few-after steps s c ks v lawful h.1)
+few-after steps s c (Some k ∷ ks) v lawful h =
+    (few-changed steps s c k (is_live k.held) v lawful h.0, few-after steps s c ks v lawful h.1)
 
+-- few messages are few for a higher bound
 few-one : (m n : ℕ) (o : Option KeptSlot) → m ≤ n → IsFew m o → IsFew n o
 few-one m n None le h = tt
 few-one m n (Some k) le h = omega (arith, le, h)
 
-pub few-more : (m n : ℕ) (ks : List (Option KeptSlot)) → m ≤ n → AllByRecursion (IsFew m) ks → AllByRecursion (IsFew n) ks
+-- and so for each slot
+pub few-more : (m n : ℕ) (ks : List (Option KeptSlot)) → m ≤ n → AllByRecursion (IsFew m) ks
+    → AllByRecursion (IsFew n) ks
 few-more m n [] le h = tt
 few-more m n (k ∷ ks) le h = (few-one m n k le h.0, few-more m n ks le h.1)
 
-few-same : (n : ℕ) (k l : KeptSlot) → l.held.sent ≡ k.held.sent → IsFew n (Some k) → IsFew n (Some l)
+-- slots that made as many messages are few alike
+few-same : (n : ℕ) (k l : KeptSlot) → l.held.sent ≡ k.held.sent → IsFew n (Some k)
+    → IsFew n (Some l)
 few-same n k l same h = omega (arith, same, h)
 
+-- a noticing makes no messages
 few-noticed : (n number : ℕ) (k : KeptSlot) → IsFew n (Some k) → IsFew n (Some (noticed number k))
 few-noticed n number k h = by (is_ending k)
   where
-    by : (x : Bool) → IsFew n (Some (if x then record k { held = ended_by k.held HungUp number } else k))
+    by : (x : Bool)
+        → IsFew n (Some (if x then record k { held = ended_by k.held HungUp number } else k))
     by true = h
     by false = h
 
+-- puts make none
 few-filled : (n : ℕ) (k : KeptSlot) → IsFew n (Some k) → IsFew n (Some (filled k))
 few-filled n k h = few-same n k (filled k) (puts-keep k.port k).sent h
 
-few-map : (n : ℕ) (f : KeptSlot → KeptSlot) → ((k : KeptSlot) → IsFew n (Some k) → IsFew n (Some (f k))) → (ks : List (Option KeptSlot)) → AllByRecursion (IsFew n) ks → AllByRecursion (IsFew n) (map (option_map f) ks)
+-- what makes none in a slot makes none in all
+few-map : (n : ℕ) (f : KeptSlot → KeptSlot)
+    → ((k : KeptSlot) → IsFew n (Some k) → IsFew n (Some (f k))) → (ks : List (Option KeptSlot))
+    → AllByRecursion (IsFew n) ks → AllByRecursion (IsFew n) (map (option_map f) ks)
 few-map n f keeps [] h = tt
 few-map n f keeps (None ∷ ks) h = (tt, few-map n f keeps ks h.1)
 few-map n f keeps (Some k ∷ ks) h = (keeps k h.0, few-map n f keeps ks h.1)
 
-pub few-noticed_all : (n number : ℕ) (ks : List (Option KeptSlot)) → AllByRecursion (IsFew n) ks → AllByRecursion (IsFew n) (map (option_map (noticed number)) ks)
+-- noticings in all slots make none
+pub few-noticed_all : (n number : ℕ) (ks : List (Option KeptSlot)) → AllByRecursion (IsFew n) ks
+    → AllByRecursion (IsFew n) (map (option_map (noticed number)) ks)
 few-noticed_all n number ks h = few-map n (noticed number) (few-noticed n number) ks h
 
-pub few-filled_all : (n : ℕ) (ks : List (Option KeptSlot)) → AllByRecursion (IsFew n) ks → AllByRecursion (IsFew n) (map (option_map filled) ks)
+-- puts in all slots make none
+pub few-filled_all : (n : ℕ) (ks : List (Option KeptSlot)) → AllByRecursion (IsFew n) ks
+    → AllByRecursion (IsFew n) (map (option_map filled) ks)
 few-filled_all n ks h = few-map n filled (few-filled n) ks h
 
 -- an act makes no message
-few-put : (n : ℕ) (k : KeptSlot) (x : Bool) (o : Option Parcel) → IsFew n (Some k) → IsFew n (put_if k x o).1
+few-put : (n : ℕ) (k : KeptSlot) (x : Bool) (o : Option Parcel) → IsFew n (Some k)
+    → IsFew n (put_if k x o).1
 few-put n k true None h = h
 few-put n k true (Some (Update m)) h = h
 few-put n k true (Some (Fin m)) h = h
 few-put n k false None h = h
 few-put n k false (Some p) h = h
 
+-- a taking makes none
 few-take : (n : ℕ) (k : KeptSlot) (o : Option Parcel) → IsFew n (Some k) → IsFew n (take_if k o).1
 few-take n k None h = h
 few-take n k (Some p) h = h
 
-few-notice : (n number : ℕ) (k : KeptSlot) (x : Bool) → IsFew n (Some k) → IsFew n (notice_if number k x).1
+-- a noticing makes none, whether or not the end was asked for
+few-notice : (n number : ℕ) (k : KeptSlot) (x : Bool) → IsFew n (Some k)
+    → IsFew n (notice_if number k x).1
 few-notice n number k true h = h
 few-notice n number k false h = h
 
-few-close : (n number : ℕ) (k : KeptSlot) (x : Bool) → IsFew n (Some k) → IsFew n (close_if number k x).1
+-- a closing makes none
+few-close : (n number : ℕ) (k : KeptSlot) (x : Bool) → IsFew n (Some k)
+    → IsFew n (close_if number k x).1
 few-close n number k true h = h
 few-close n number k false h = h
 
+-- a finishing makes none
 few-finish : (n : ℕ) (k : KeptSlot) (x : Bool) → IsFew n (Some k) → IsFew n (finish_if k x).1
 few-finish n k true h = tt
 few-finish n k false h = h
 
+-- no act makes any
 few-act : (n number : ℕ) (a : Act) (k : KeptSlot) → IsFew n (Some k) → IsFew n (act_of number a k).1
 few-act n number act.Put k h = few-put n k _ _ h
 few-act n number act.Take k h = few-take n k _ h
@@ -228,34 +330,51 @@ few-act n number act.Notice k h = few-notice n number k _ h
 few-act n number act.Close k h = few-close n number k _ h
 few-act n number act.Finish k h = few-finish n k _ h
 
-few-outcome : (n number : ℕ) (a : Act) (o : Option KeptSlot) → IsFew n o → IsFew n (outcome_at number a o).1
+-- nor at a slot that may be free
+few-outcome : (n number : ℕ) (a : Act) (o : Option KeptSlot) → IsFew n o
+    → IsFew n (outcome_at number a o).1
 few-outcome n number a None h = tt
 few-outcome n number a (Some k) h = few-act n number a k h
 
-few-flat : (n : ℕ) (ks : List (Option KeptSlot)) (i : ℕ) (o : Option (Option KeptSlot)) → slice_get ks i ≡ o → AllByRecursion (IsFew n) ks → IsFew n (option_flatten o)
+-- what is at a place has made few, where all have
+few-flat : (n : ℕ) (ks : List (Option KeptSlot)) (i : ℕ) (o : Option (Option KeptSlot))
+    → slice_get ks i ≡ o → AllByRecursion (IsFew n) ks → IsFew n (option_flatten o)
 few-flat n ks i None is h = tt
 few-flat n ks i (Some k) is h = all-get (IsFew n) ks i k h is
 
-pub few-outcome_in : (n number : ℕ) (a : Act) (ks : List (Option KeptSlot)) (i : ℕ) → AllByRecursion (IsFew n) ks → AllByRecursion (IsFew n) (outcome_in number a ks i).1
+-- an act at a place of the slots makes none
+pub few-outcome_in : (n number : ℕ) (a : Act) (ks : List (Option KeptSlot)) (i : ℕ)
+    → AllByRecursion (IsFew n) ks → AllByRecursion (IsFew n) (outcome_in number a ks i).1
 few-outcome_in n number a ks i h =
-    all-set (IsFew n) ks i _ h (few-outcome n number a (option_flatten (slice_get ks i)) (few-flat n ks i (slice_get ks i) refl h))
+    all-set (IsFew n) ks i _ h (few-outcome n number a (option_flatten (slice_get ks i))
+    (few-flat n ks i (slice_get ks i) refl h))
 
-few-done : (n : ℕ) (f : KeptSlot → KeptSlot) → ((k : KeptSlot) → IsFew n (Some k) → IsFew n (Some (f k))) → (ks : List (Option KeptSlot)) (i : ℕ) → AllByRecursion (IsFew n) ks → AllByRecursion (IsFew n) (done_at f ks i)
-few-done n f keeps ks i h = all-set (IsFew n) ks i _ h (by (option_flatten (slice_get ks i)) (few-flat n ks i (slice_get ks i) refl h))
+-- what makes none in a slot makes none in that of a place
+few-done : (n : ℕ) (f : KeptSlot → KeptSlot)
+    → ((k : KeptSlot) → IsFew n (Some k) → IsFew n (Some (f k))) → (ks : List (Option KeptSlot))
+    (i : ℕ) → AllByRecursion (IsFew n) ks → AllByRecursion (IsFew n) (done_at f ks i)
+few-done n f keeps ks i h = all-set (IsFew n) ks i _ h
+    (by (option_flatten (slice_get ks i)) (few-flat n ks i (slice_get ks i) refl h))
   where
     by : (o : Option KeptSlot) → IsFew n o → IsFew n (option_map f o)
     by None h = tt
     by (Some k) h = keeps k h
 
-pub few-noticed_at : (n number : ℕ) (ks : List (Option KeptSlot)) (i : ℕ) → AllByRecursion (IsFew n) ks → AllByRecursion (IsFew n) (done_at (noticed number) ks i)
+-- a noticing at a place makes none
+pub few-noticed_at : (n number : ℕ) (ks : List (Option KeptSlot)) (i : ℕ)
+    → AllByRecursion (IsFew n) ks → AllByRecursion (IsFew n) (done_at (noticed number) ks i)
 few-noticed_at n number ks i h = few-done n (noticed number) (few-noticed n number) ks i h
 
-pub few-filled_at : (n : ℕ) (ks : List (Option KeptSlot)) (i : ℕ) → AllByRecursion (IsFew n) ks → AllByRecursion (IsFew n) (done_at filled ks i)
+-- puts at a place make none
+pub few-filled_at : (n : ℕ) (ks : List (Option KeptSlot)) (i : ℕ) → AllByRecursion (IsFew n) ks
+    → AllByRecursion (IsFew n) (done_at filled ks i)
 few-filled_at n ks i h = few-done n filled (few-filled n) ks i h
 
 -- ---- an act is the event that it is
 
-happens : (k : Kept) (a : Act) (slot : ℕ) → kept_outcome k (happening_at a slot) ≡ at_place k (slot - 1) (kept_at k slot) (act_of k.volume.number a)
+-- the event that an act is, at the slot's place
+happens : (k : Kept) (a : Act) (slot : ℕ) → kept_outcome k (happening_at a slot)
+    ≡ at_place k (slot - 1) (kept_at k slot) (act_of k.volume.number a)
 happens k act.Put slot = refl
 happens k act.Take slot = refl
 happens k act.HangUp slot = refl
@@ -263,32 +382,52 @@ happens k act.Notice slot = refl
 happens k act.Close slot = refl
 happens k act.Finish slot = refl
 
-at-place : (k : Kept) (a : Act) (place : ℕ) (o : Option (Option KeptSlot)) → slice_get k.slots place ≡ o → place < length k.slots
-    → ((outcome_at k.volume.number a (option_flatten o)).0, record k { slots = slice_set k.slots place (outcome_at k.volume.number a (option_flatten o)).1 }) ≡ at_place k place (option_flatten o) (act_of k.volume.number a)
+-- an act at a place within the slots is the event there
+at-place : (k : Kept) (a : Act) (place : ℕ) (o : Option (Option KeptSlot))
+    → slice_get k.slots place ≡ o → place < length k.slots
+    → (
+      (outcome_at k.volume.number a (option_flatten o)).0,
+      record k {
+        slots =
+            slice_set k.slots place (outcome_at k.volume.number a (option_flatten o)).1;
+      },
+    )
+    ≡ at_place k place (option_flatten o) (act_of k.volume.number a)
 at-place k a place None is lt = absurd (let no = lt-get k.slots place in grind (arith, nat_tests))
-at-place k a place (Some None) is lt = ap (λ ks. (Refused NotOpen, record k { slots = ks })) (set-same k.slots place None is)
+at-place k a place (Some None) is lt =
+    ap (λ ks. (Refused NotOpen, record k { slots = ks })) (set-same k.slots place None is)
 at-place k a place (Some (Some s)) is lt = refl
 
-pub act-same : (k : Kept) (a : Act) (slot : ℕ) (r : Answer) (ks : List (Option KeptSlot)) → slot ≢ 0 → slot ≤ length k.slots → (r, ks) ≡ outcome_in k.volume.number a k.slots (slot - 1)
+-- an act at a slot is its event
+pub act-same : (k : Kept) (a : Act) (slot : ℕ) (r : Answer) (ks : List (Option KeptSlot)) → slot ≢ 0
+    → slot ≤ length k.slots → (r, ks) ≡ outcome_in k.volume.number a k.slots (slot - 1)
     → (r, record k { slots = ks }) ≡ kept_outcome k (happening_at a slot)
 act-same k a slot r ks some within is =
-    let there : option_flatten (slice_get k.slots (slot - 1)) ≡ kept_at k slot = grind (arith, nat_tests) in
+    let there : option_flatten (slice_get k.slots (slot - 1)) ≡ kept_at k slot =
+    grind (arith, nat_tests) in
     ap (λ (p : Answer × List (Option KeptSlot)). (p.0, record k { slots = p.1 })) is
     ∙ (at-place k a (slot - 1) (slice_get k.slots (slot - 1)) refl (omega arith)
     ∙ (ap (λ (o : Option KeptSlot). at_place k (slot - 1) o (act_of k.volume.number a)) there
     ∙ sym (happens k a slot)))
 
-pub no-slot : (k : Kept) (a : Act) (slot : ℕ) → kept_at k slot ≡ None → (Refused NotOpen, k) ≡ kept_outcome k (happening_at a slot)
-no-slot k a slot none = ap (λ (o : Option KeptSlot). at_place k (slot - 1) o (act_of k.volume.number a)) (sym none) ∙ sym (happens k a slot)
+-- an act at a free slot is refused, and leaves what is kept
+pub no-slot : (k : Kept) (a : Act) (slot : ℕ) → kept_at k slot ≡ None
+    → (Refused NotOpen, k) ≡ kept_outcome k (happening_at a slot)
+no-slot k a slot none =
+    ap (λ (o : Option KeptSlot). at_place k (slot - 1) o (act_of k.volume.number a)) (sym none)
+    ∙ sym (happens k a slot)
 
+-- slot 0 is free
 pub zero-free : (k : Kept) → kept_at k 0 ≡ None
 zero-free k = refl
 
+-- past the end of a list nothing is
 get-past : {A : Type 0} (xs : List A) (i : ℕ) → length xs ≤ i → slice_get xs i ≡ None
 get-past [] i h = refl
 get-past (x ∷ xs) zero h = absurd (omega arith)
 get-past (x ∷ xs) (suc i) h = get-past xs i (omega arith)
 
+-- a slot past the last one is free
 pub past-free : (k : Kept) (slot : ℕ) → length k.slots < slot → kept_at k slot ≡ None
 past-free k slot past =
     let none : slice_get k.slots (slot - 1) ≡ None = get-past k.slots (slot - 1) (omega arith) in
@@ -296,12 +435,16 @@ past-free k slot past =
 
 -- ---- the first free slot
 
-pub first_free-front : (xs : List (Option PreparedSlot)) → kept.first_free (map kept_slot xs) ≤ length xs
+-- the first free slot is one of them, or the one behind them
+pub first_free-front : (xs : List (Option PreparedSlot))
+    → kept.first_free (map kept_slot xs) ≤ length xs
 first_free-front [] = omega arith
 first_free-front (None ∷ xs) = omega arith
 first_free-front (Some p ∷ xs) = omega (arith, first_free-front xs)
 
-pub replicate-more : (n : ℕ) (o : Option PreparedSlot) → replicate n o ++ o ∷ [] ≡ replicate (n + 1) o
+-- one more of the same
+pub replicate-more : (n : ℕ) (o : Option PreparedSlot)
+    → replicate n o ++ o ∷ [] ≡ replicate (n + 1) o
 replicate-more n o = by n ∙ ap (λ k. replicate k o) (let e : suc n ≡ n + 1 = omega arith in e)
   where
     by : (n : ℕ) → replicate n o ++ o ∷ [] ≡ replicate (suc n) o

@@ -24,23 +24,29 @@ use Rattle.lq_desk.proofs.RunLemmas.{runs-more}
 
 -- ---- lists of events
 
-pub after-join : {Core : Type 0} (step : Core → Happening → Answer × Core) (s : Core) (xs ys : List Happening) → after_all step s (xs ++ ys) ≡ after_all step (after_all step s xs) ys
+-- two lists of events, one after the other
+pub after-join : {Core : Type 0} (step : Core → Happening → Answer × Core) (s : Core)
+    (xs ys : List Happening) → after_all step s (xs ++ ys) ≡ after_all step (after_all step s xs) ys
 after-join step s [] ys = refl
 after-join step s (x ∷ xs) ys = after-join step (step s x).1 xs ys
 
+-- a list with nothing behind it
 append-nil : {A : Type 0} (xs : List A) → xs ++ [] ≡ xs
 append-nil [] = refl
 append-nil (x ∷ xs) = ap (λ ys. x ∷ ys) (append-nil xs)
 
+-- three lists, joined either way
 append-join : {A : Type 0} (xs ys zs : List A) → (xs ++ ys) ++ zs ≡ xs ++ (ys ++ zs)
 append-join [] ys zs = refl
 append-join (x ∷ xs) ys zs = ap (λ ws. x ∷ ws) (append-join xs ys zs)
 
 -- ---- what keeps the ports
 
+-- an event at a slot that leaves it taken, and its port as it was
 abbrev Keeps : (KeptSlot → Answer × Option KeptSlot) → Type 0
 Keeps event = (s : KeptSlot) → option_map slot_port (event s).1 ≡ Some s.port
 
+-- so a noticing does
 notice-keeps : (n : ℕ) → Keeps (notice_slot n)
 notice-keeps n s = by (is_live s.held && s.asked)
   where
@@ -48,6 +54,7 @@ notice-keeps n s = by (is_live s.held && s.asked)
     by true = refl
     by false = refl
 
+-- and a closing
 close-keeps : (n : ℕ) → Keeps (close_slot n)
 close-keeps n s = by (is_live s.held)
   where
@@ -56,40 +63,58 @@ close-keeps n s = by (is_live s.held)
     by false = refl
 
 -- what stands in a taken slot
-kept-there : (k : Kept) (slot : ℕ) (s : KeptSlot) → kept_at k slot ≡ Some s → slice_get k.slots (slot - 1) ≡ Some (Some s)
+kept-there : (k : Kept) (slot : ℕ) (s : KeptSlot) → kept_at k slot ≡ Some s
+    → slice_get k.slots (slot - 1) ≡ Some (Some s)
 kept-there k slot s is = by (slot == 0) (slice_get k.slots (slot - 1)) refl is
   where
-    by : (x : Bool) (o : Option (Option KeptSlot)) → slice_get k.slots (slot - 1) ≡ o → (if x then None else option_flatten o) ≡ Some s → o ≡ Some (Some s)
+    by : (x : Bool) (o : Option (Option KeptSlot)) → slice_get k.slots (slot - 1) ≡ o
+        → (if x then None else option_flatten o) ≡ Some s → o ≡ Some (Some s)
     by true o at none = absurd (let bad : ⊥ = cc in bad)
     by false None at none = absurd (let bad : ⊥ = cc in bad)
     by false (Some None) at none = absurd (let bad : ⊥ = cc in bad)
     by false (Some (Some t)) at same = ap (λ (o : Option KeptSlot). Some o) same
 
-at-keeps : (k : Kept) (slot : ℕ) (o : Option KeptSlot) (event : KeptSlot → Answer × Option KeptSlot) → kept_at k slot ≡ o → Keeps event → kept_ports (at_place k (slot - 1) o event).1 ≡ kept_ports k
+-- such an event keeps all ports
+at-keeps : (k : Kept) (slot : ℕ) (o : Option KeptSlot) (event : KeptSlot → Answer × Option KeptSlot)
+    → kept_at k slot ≡ o → Keeps event → kept_ports (at_place k (slot - 1) o event).1 ≡ kept_ports k
 at-keeps k slot None event is keeps = refl
 at-keeps k slot (Some s) event is keeps =
     map-set (option_map slot_port) k.slots (slot - 1) (event s).1
     ∙ (ap (slice_set (kept_ports k) (slot - 1)) (keeps s)
-    ∙ set-same (kept_ports k) (slot - 1) (Some s.port) (slice_get-map (option_map slot_port) k.slots (slot - 1) ∙ ap (option_map (option_map slot_port)) (kept-there k slot s is)))
+    ∙ set-same (kept_ports k) (slot - 1) (Some s.port) (slice_get-map (option_map slot_port) k.slots
+    (slot - 1) ∙ ap (option_map (option_map slot_port)) (kept-there k slot s is)))
 
+-- a noticing keeps all ports
 ports-noticed : (k : Kept) (slot : ℕ) → kept_ports (kept_outcome k (Noticing slot)).1 ≡ kept_ports k
-ports-noticed k slot = at-keeps k slot (kept_at k slot) (notice_slot k.volume.number) refl (notice-keeps k.volume.number)
+ports-noticed k slot = at-keeps k slot (kept_at k slot)
+    (notice_slot k.volume.number) refl (notice-keeps k.volume.number)
 
+-- a closing keeps all ports
 ports-closed : (k : Kept) (slot : ℕ) → kept_ports (kept_outcome k (Closing slot)).1 ≡ kept_ports k
-ports-closed k slot = at-keeps k slot (kept_at k slot) (close_slot k.volume.number) refl (close-keeps k.volume.number)
+ports-closed k slot =
+    at-keeps k slot (kept_at k slot) (close_slot k.volume.number) refl (close-keeps k.volume.number)
 
-ports-after : (s : State) (c : Change_) (slots : List (Option KeptSlot)) → map (option_map slot_port) (map (option_map (slot_after s c)) slots) ≡ map (option_map slot_port) slots
+-- a change keeps all ports
+ports-after : (s : State) (c : Change_) (slots : List (Option KeptSlot))
+    → map (option_map slot_port) (map (option_map (slot_after s c)) slots)
+    ≡ map (option_map slot_port) slots
 ports-after s c [] = refl
 ports-after s c (None ∷ slots) = ap (λ ps. None ∷ ps) (ports-after s c slots)
-ports-after s c (Some k ∷ slots) = let here = same (is_live k.held) in let rest = ports-after s c slots in cc
+ports-after s c (Some k ∷ slots) =
+    let here = same (is_live k.held) in
+    let rest = ports-after s c slots in
+    cc
   where
-    same : (x : Bool) → slot_port (if x then record k { held = held_after s c k.held } else k) ≡ k.port
+    same : (x : Bool)
+        → slot_port (if x then record k { held = held_after s c k.held } else k) ≡ k.port
     same true = refl
     same false = refl
 
 -- ---- the events of one slot are what is done there
 
-kept-next : (k : Kept) (i : ℕ) (o : Option KeptSlot) → slice_get k.slots i ≡ Some o → kept_at k (i + 1) ≡ o
+-- what is at a place is in the slot with the next number
+kept-next : (k : Kept) (i : ℕ) (o : Option KeptSlot) → slice_get k.slots i ≡ Some o
+    → kept_at k (i + 1) ≡ o
 kept-next k i o is =
     let e : i + 1 - 1 ≡ i = omega arith in
     let there : slice_get k.slots (i + 1 - 1) ≡ Some o = ap (slice_get k.slots) e ∙ is in
@@ -98,76 +123,113 @@ kept-next k i o is =
 
 -- what events of a slot do there, of the slots that stand with the volume of k
 abbrev Does : (ℕ → ℕ → List Happening) → (KeptSlot → KeptSlot) → Kept → Type 0
-Does events f k = (ks : List (Option KeptSlot)) (i : ℕ) (s : KeptSlot) → slice_get ks i ≡ Some (Some s)
-    → kept_after (record k { slots = ks }) (events (i + 1) s.port) ≡ record k { slots = slice_set ks i (Some (f s)) }
+Does events f k = (ks : List (Option KeptSlot)) (i : ℕ) (s : KeptSlot)
+    → slice_get ks i ≡ Some (Some s)
+    → kept_after (record k { slots = ks }) (events (i + 1) s.port)
+    ≡ record k { slots = slice_set ks i (Some (f s)) }
 
+-- after a noticing the slot is taken, by what is noticed
 notice-some : (n : ℕ) (s : KeptSlot) → (notice_slot n s).1 ≡ Some (noticed n s)
 notice-some n s = by (is_live s.held && s.asked)
   where
-    by : (x : Bool) → (notice_if n s x).1 ≡ Some (if x then record s { held = ended_by s.held HungUp n } else s)
+    by : (x : Bool)
+        → (notice_if n s x).1 ≡ Some (if x then record s { held = ended_by s.held HungUp n } else s)
     by true = refl
     by false = refl
 
 -- an event that leaves the slot taken
-one-event : (k : Kept) (ks : List (Option KeptSlot)) (i : ℕ) (s t : KeptSlot) (event : KeptSlot → Answer × Option KeptSlot) → slice_get ks i ≡ Some (Some s) → (event s).1 ≡ Some t
-    → (at_kept (record k { slots = ks }) (i + 1) event).1 ≡ record k { slots = slice_set ks i (Some t) }
+one-event : (k : Kept) (ks : List (Option KeptSlot)) (i : ℕ)
+    (s t : KeptSlot) (event : KeptSlot → Answer × Option KeptSlot) → slice_get ks i ≡ Some (Some s)
+    → (event s).1 ≡ Some t
+    → (at_kept (record k { slots = ks }) (i + 1) event).1
+    ≡ record k { slots = slice_set ks i (Some t) }
 one-event k ks i s t event at to =
     let e : i + 1 - 1 ≡ i = omega arith in
-    ap (λ (o : Option KeptSlot). (at_place (record k { slots = ks }) (i + 1 - 1) o event).1) (kept-next (record k { slots = ks }) i (Some s) at)
+    ap (λ (o : Option KeptSlot). (at_place (record k { slots = ks }) (i + 1 - 1) o event).1)
+    (kept-next (record k { slots = ks }) i (Some s) at)
     ∙ (ap (λ j. record k { slots = slice_set ks j (event s).1 }) e
     ∙ ap (λ o. record k { slots = slice_set ks i o }) to)
 
+-- the noticing of a slot notices there
 notice-does : (k : Kept) → Does one_notice (noticed k.volume.number) k
-notice-does k ks i s at = one-event k ks i s (noticed k.volume.number s) (notice_slot k.volume.number) at (notice-some k.volume.number s)
+notice-does k ks i s at = one-event k ks i s (noticed k.volume.number s)
+    (notice_slot k.volume.number) at (notice-some k.volume.number s)
 
-puts-do : (k : Kept) (i n : ℕ) (ks : List (Option KeptSlot)) (s : KeptSlot) → slice_get ks i ≡ Some (Some s)
-    → kept_after (record k { slots = ks }) (replicate n (Putting (i + 1))) ≡ record k { slots = slice_set ks i (Some (after_puts n s)) }
+-- several puts at a slot are those puts there
+puts-do : (k : Kept) (i n : ℕ) (ks : List (Option KeptSlot)) (s : KeptSlot)
+    → slice_get ks i ≡ Some (Some s)
+    → kept_after (record k { slots = ks }) (replicate n (Putting (i + 1)))
+    ≡ record k { slots = slice_set ks i (Some (after_puts n s)) }
 puts-do k i zero ks s at = ap (λ js. record k { slots = js }) (sym (set-same ks i (Some s) at))
 puts-do k i (suc n) ks s at =
     let js = slice_set ks i (Some (after_put s)) in
-    ap (λ j. kept_after j (replicate n (Putting (i + 1)))) (one-event k ks i s (after_put s) put_slot at (put-some s))
+    ap (λ j. kept_after j (replicate n (Putting (i + 1))))
+    (one-event k ks i s (after_put s) put_slot at (put-some s))
     ∙ (puts-do k i n js (after_put s) (get-set_here ks i (Some s) (Some (after_put s)) at)
-    ∙ ap (λ hs. record k { slots = hs }) (set-twice ks i (Some (after_put s)) (Some (after_puts n (after_put s)))))
+    ∙ ap (λ hs. record k { slots = hs })
+    (set-twice ks i (Some (after_put s)) (Some (after_puts n (after_put s)))))
 
+-- as many as its port has places fill it
 fill-does : (k : Kept) → Does puts filled k
 fill-does k ks i s at = puts-do k i s.port ks s at
 
 -- at one slot
-slot-does : (events : ℕ → ℕ → List Happening) (f : KeptSlot → KeptSlot) (k : Kept) (i : ℕ) (o : Option KeptSlot) → Does events f k → slice_get k.slots i ≡ Some o
-    → kept_after k (at_slot_of events (i + 1) (option_map slot_port o)) ≡ record k { slots = slice_set k.slots i (option_map f o) }
-slot-does events f k i None does at = ap (λ ks. record k { slots = ks }) (sym (set-same k.slots i None at))
+slot-does : (events : ℕ → ℕ → List Happening) (f : KeptSlot → KeptSlot) (k : Kept) (i : ℕ)
+    (o : Option KeptSlot) → Does events f k → slice_get k.slots i ≡ Some o
+    → kept_after k (at_slot_of events (i + 1) (option_map slot_port o))
+    ≡ record k { slots = slice_set k.slots i (option_map f o) }
+slot-does events f k i None does at =
+    ap (λ ks. record k { slots = ks }) (sym (set-same k.slots i None at))
 slot-does events f k i (Some s) does at = does k.slots i s at
 
+-- a place within a list has an element
 get-some : {A : Type 0} (xs : List A) (i : ℕ) → i < length xs → (x : A) × (slice_get xs i ≡ Some x)
 get-some [] i lt = absurd (omega arith)
 get-some (x ∷ xs) zero lt = (x, refl)
 get-some (x ∷ xs) (suc i) lt = get-some xs i (omega arith)
 
-notice-there : (k : Kept) (i : ℕ) (o : Option KeptSlot) → slice_get k.slots i ≡ Some o → (kept_outcome k (Noticing (i + 1))).1 ≡ kept_after k (at_slot_of one_notice (i + 1) (option_map slot_port o))
-notice-there k i None is = ap (λ (o : Option KeptSlot). (at_place k (i + 1 - 1) o (notice_slot k.volume.number)).1) (kept-next k i None is)
+-- a noticing at a place is the turn's noticing there, also of a free slot
+notice-there : (k : Kept) (i : ℕ) (o : Option KeptSlot)
+    → slice_get k.slots i ≡ Some o → (kept_outcome k (Noticing (i + 1))).1
+    ≡ kept_after k (at_slot_of one_notice (i + 1) (option_map slot_port o))
+notice-there k i None is =
+    ap (λ (o : Option KeptSlot). (at_place k (i + 1 - 1) o (notice_slot k.volume.number)).1)
+    (kept-next k i None is)
 notice-there k i (Some s) is = refl
 
-places-here : (k : Kept) (i : ℕ) (o : Option KeptSlot) → slice_get k.slots i ≡ Some o → places_at (kept_ports k) (i + 1) ≡ places_in (option_map slot_port o)
+-- the places of a slot's port
+places-here : (k : Kept) (i : ℕ) (o : Option KeptSlot) → slice_get k.slots i ≡ Some o
+    → places_at (kept_ports k) (i + 1) ≡ places_in (option_map slot_port o)
 places-here k i o is =
     let e : i + 1 - 1 ≡ i = omega arith in
     let some : (i + 1 == 0) ≡ false = grind (arith, nat_tests) in
     let there : slice_get (kept_ports k) (i + 1 - 1) ≡ Some (option_map slot_port o) =
-    slice_get-map (option_map slot_port) k.slots (i + 1 - 1) ∙ ap (option_map (option_map slot_port)) (ap (slice_get k.slots) e ∙ is) in
+    slice_get-map (option_map slot_port) k.slots (i + 1 - 1)
+    ∙ ap (option_map (option_map slot_port)) (ap (slice_get k.slots) e ∙ is) in
     rw (some, there) refl
 
-puts-there : (k : Kept) (i : ℕ) (o : Option KeptSlot) → slice_get k.slots i ≡ Some o → kept_after k (puts (i + 1) (places_at (kept_ports k) (i + 1))) ≡ kept_after k (at_slot_of puts (i + 1) (option_map slot_port o))
+-- the puts at a place are the turn's puts there, also of a free slot
+puts-there : (k : Kept) (i : ℕ) (o : Option KeptSlot)
+    → slice_get k.slots i ≡ Some o → kept_after k (puts (i + 1) (places_at (kept_ports k) (i + 1)))
+    ≡ kept_after k (at_slot_of puts (i + 1) (option_map slot_port o))
 puts-there k i o is = ap (λ n. kept_after k (puts (i + 1) n)) (places-here k i o is) ∙ by o
   where
-    by : (o : Option KeptSlot) → kept_after k (puts (i + 1) (places_in (option_map slot_port o))) ≡ kept_after k (at_slot_of puts (i + 1) (option_map slot_port o))
+    by : (o : Option KeptSlot) → kept_after k (puts (i + 1) (places_in (option_map slot_port o)))
+        ≡ kept_after k (at_slot_of puts (i + 1) (option_map slot_port o))
     by None = refl
     by (Some s) = refl
 
 -- what is done at a place, where that is one of the slots
-done-there : (f : KeptSlot → KeptSlot) (k : Kept) (i : ℕ) (o : Option KeptSlot) → slice_get k.slots i ≡ Some o → record k { slots = slice_set k.slots i (option_map f o) } ≡ record k { slots = done_at f k.slots i }
-done-there f k i o at = ap (λ (g : Option (Option KeptSlot)). record k { slots = slice_set k.slots i (option_map f (option_flatten g)) }) (sym at)
+done-there : (f : KeptSlot → KeptSlot) (k : Kept) (i : ℕ) (o : Option KeptSlot)
+    → slice_get k.slots i ≡ Some o → record k { slots = slice_set k.slots i (option_map f o) }
+    ≡ record k { slots = done_at f k.slots i }
+done-there f k i o at = ap (λ (g : Option (Option KeptSlot)).
+    record k { slots = slice_set k.slots i (option_map f (option_flatten g)) }) (sym at)
 
 -- the notice of a slot, and the puts of a slot
-pub noticed-one : (k : Kept) (slot : ℕ) → slot ≢ 0 → slot ≤ length k.slots → record k { slots = done_at (noticed k.volume.number) k.slots (slot - 1) } ≡ (kept_outcome k (Noticing slot)).1
+pub noticed-one : (k : Kept) (slot : ℕ) → slot ≢ 0 → slot ≤ length k.slots
+    → record k { slots = done_at (noticed k.volume.number) k.slots (slot - 1) }
+    ≡ (kept_outcome k (Noticing slot)).1
 noticed-one k slot some within =
     let i = slot - 1 in
     let e : i + 1 ≡ slot = omega (arith, some) in
@@ -177,7 +239,10 @@ noticed-one k slot some within =
     ∙ (slot-does one_notice (noticed k.volume.number) k i t.0 (notice-does k) t.1
     ∙ done-there (noticed k.volume.number) k i t.0 t.1)))
 
-pub filled-one : (k : Kept) (slot : ℕ) → slot ≢ 0 → slot ≤ length k.slots → record k { slots = done_at filled k.slots (slot - 1) } ≡ kept_after k (puts slot (places_at (kept_ports k) slot))
+-- puts at one slot of the turn fill it
+pub filled-one : (k : Kept) (slot : ℕ) → slot ≢ 0
+    → slot ≤ length k.slots → record k { slots = done_at filled k.slots (slot - 1) }
+    ≡ kept_after k (puts slot (places_at (kept_ports k) slot))
 filled-one k slot some within =
     let i = slot - 1 in
     let e : i + 1 ≡ slot = omega (arith, some) in
@@ -188,19 +253,27 @@ filled-one k slot some within =
     ∙ done-there filled k i t.0 t.1)))
 
 -- where there is no slot, nothing is done
-pub noticed-none : (k : Kept) (slot : ℕ) → kept_at k slot ≡ None → k ≡ (kept_outcome k (Noticing slot)).1
-noticed-none k slot none = sym (ap (λ (o : Option KeptSlot). (at_place k (slot - 1) o (notice_slot k.volume.number)).1) none)
+pub noticed-none : (k : Kept) (slot : ℕ) → kept_at k slot ≡ None
+    → k ≡ (kept_outcome k (Noticing slot)).1
+noticed-none k slot none = sym
+    (ap (λ (o : Option KeptSlot). (at_place k (slot - 1) o (notice_slot k.volume.number)).1) none)
 
-no-places : (x : Bool) (o : Option (Option KeptSlot)) → (if x then None else option_flatten o) ≡ None → (if x then 0 else places_in (option_flatten (option_map (option_map slot_port) o))) ≡ 0
+-- a free slot has no places
+no-places : (x : Bool) (o : Option (Option KeptSlot))
+    → (if x then None else option_flatten o) ≡ None
+    → (if x then 0 else places_in (option_flatten (option_map (option_map slot_port) o))) ≡ 0
 no-places true o none = refl
 no-places false None none = refl
 no-places false (Some None) none = refl
 no-places false (Some (Some s)) none = absurd (let bad : ⊥ = cc in bad)
 
-pub filled-none : (k : Kept) (slot : ℕ) → kept_at k slot ≡ None → k ≡ kept_after k (puts slot (places_at (kept_ports k) slot))
+-- puts at a free slot leave what is kept
+pub filled-none : (k : Kept) (slot : ℕ) → kept_at k slot ≡ None
+    → k ≡ kept_after k (puts slot (places_at (kept_ports k) slot))
 filled-none k slot none =
     let zero_places : places_at (kept_ports k) slot ≡ 0 =
-    ap (λ (o : Option (Option ℕ)). if slot == 0 then 0 else places_in (option_flatten o)) (slice_get-map (option_map slot_port) k.slots (slot - 1))
+    ap (λ (o : Option (Option ℕ)). if slot == 0 then 0 else places_in (option_flatten o))
+    (slice_get-map (option_map slot_port) k.slots (slot - 1))
     ∙ no-places (slot == 0) (slice_get k.slots (slot - 1)) none in
     sym (ap (λ n. kept_after k (puts slot n)) zero_places)
 
@@ -208,105 +281,162 @@ filled-none k slot none =
 
 -- notices keep the ports
 abbrev IsQuiet : (ℕ → ℕ → List Happening) → Type 0
-IsQuiet events = (k : Kept) (slot port : ℕ) → kept_ports (kept_after k (events slot port)) ≡ kept_ports k
+IsQuiet events = (k : Kept) (slot port : ℕ)
+    → kept_ports (kept_after k (events slot port)) ≡ kept_ports k
 
+-- noticings keep the ports
 notice-quiet : IsQuiet one_notice
 notice-quiet k slot port = ports-noticed k slot
 
-slot-quiet : (events : ℕ → ℕ → List Happening) → IsQuiet events → (k : Kept) (slot : ℕ) (o : Option ℕ) → kept_ports (kept_after k (at_slot_of events slot o)) ≡ kept_ports k
+-- quiet events at one slot keep the ports
+slot-quiet : (events : ℕ → ℕ → List Happening) → IsQuiet events → (k : Kept) (slot : ℕ)
+    (o : Option ℕ) → kept_ports (kept_after k (at_slot_of events slot o)) ≡ kept_ports k
 slot-quiet events quiet k slot None = refl
 slot-quiet events quiet k slot (Some port) = quiet k slot port
 
-each-quiet : (events : ℕ → ℕ → List Happening) → IsQuiet events → (k : Kept) (n : ℕ) (ports : List (Option ℕ)) → kept_ports (kept_after k (at_each events n ports)) ≡ kept_ports k
+-- quiet events at each slot keep them
+each-quiet : (events : ℕ → ℕ → List Happening) → IsQuiet events → (k : Kept) (n : ℕ)
+    (ports : List (Option ℕ)) → kept_ports (kept_after k (at_each events n ports)) ≡ kept_ports k
 each-quiet events quiet k n [] = refl
 each-quiet events quiet k n (o ∷ ports) =
     ap kept_ports (after-join kept_outcome k (at_slot_of events n o) (at_each events (n + 1) ports))
     ∙ (each-quiet events quiet (kept_after k (at_slot_of events n o)) (n + 1) ports
     ∙ slot-quiet events quiet k n o)
 
+-- one element more makes a list one longer
 length-one : {A : Type 0} (xs : List A) (x : A) → length (xs ++ x ∷ []) ≡ length xs + 1
 length-one [] x = refl
 length-one (y ∷ xs) x = omega (arith, length-one xs x)
 
-get-seam : {A : Type 0} (xs : List A) (y : A) (ys : List A) → slice_get (xs ++ y ∷ ys) (length xs) ≡ Some y
+-- the element behind a front is at the front's length
+get-seam : {A : Type 0} (xs : List A) (y : A) (ys : List A)
+    → slice_get (xs ++ y ∷ ys) (length xs) ≡ Some y
 get-seam [] y ys = refl
 get-seam (x ∷ xs) y ys = get-seam xs y ys
 
-module _ (events : ℕ → ℕ → List Happening) (f : KeptSlot → KeptSlot) (k : Kept) (does : Does events f k) where
+-- of events that do the same in each slot
+module _ (events : ℕ → ℕ → List Happening) (f : KeptSlot → KeptSlot) (k : Kept)
+    (does : Does events f k) where
+  -- what is kept, with these slots
   abbrev at : List (Option KeptSlot) → Kept
   at ks = record k { slots = ks }
 
+  -- the events of the slots from a number on
   abbrev rest : ℕ → List (Option KeptSlot) → List Happening
   rest n post = at_each events n (map (option_map slot_port) post)
 
-  next-slot : (pre post : List (Option KeptSlot)) (x : Option KeptSlot) → kept_after (at ((pre ++ x ∷ []) ++ post)) (rest (length (pre ++ x ∷ []) + 1) post) ≡ at ((pre ++ x ∷ []) ++ map (option_map f) post)
-      → kept_after (at ((pre ++ x ∷ []) ++ post)) (rest (length pre + 1 + 1) post) ≡ at (pre ++ x ∷ map (option_map f) post)
+  -- where the rest does as it says from the next slot on, it does so from here
+  next-slot : (pre post : List (Option KeptSlot)) (x : Option KeptSlot)
+      → kept_after (at ((pre ++ x ∷ []) ++ post)) (rest (length (pre ++ x ∷ []) + 1) post)
+      ≡ at ((pre ++ x ∷ []) ++ map (option_map f) post)
+      → kept_after (at ((pre ++ x ∷ []) ++ post)) (rest (length pre + 1 + 1) post)
+      ≡ at (pre ++ x ∷ map (option_map f) post)
   next-slot pre post x more =
-      ap (λ n. kept_after (at ((pre ++ x ∷ []) ++ post)) (rest (n + 1) post)) (sym (length-one pre x))
+      ap (λ n. kept_after (at ((pre ++ x ∷ []) ++ post)) (rest (n + 1) post))
+      (sym (length-one pre x))
       ∙ (more ∙ ap at (append-join pre (x ∷ []) (map (option_map f) post)))
 
   -- the slots before are done, those after are left
-  each-does : (pre post : List (Option KeptSlot)) → kept_after (at (pre ++ post)) (rest (length pre + 1) post) ≡ at (pre ++ map (option_map f) post)
+  each-does : (pre post : List (Option KeptSlot))
+      → kept_after (at (pre ++ post)) (rest (length pre + 1) post)
+      ≡ at (pre ++ map (option_map f) post)
   each-does pre [] = refl
   each-does pre (None ∷ post) =
-      ap (λ ks. kept_after (at ks) (rest (length pre + 1 + 1) post)) (sym (append-join pre (None ∷ []) post))
+      ap (λ ks. kept_after (at ks) (rest (length pre + 1 + 1) post))
+      (sym (append-join pre (None ∷ []) post))
       ∙ next-slot pre post None (each-does (pre ++ None ∷ []) post)
   each-does pre (Some s ∷ post) =
-      after-join kept_outcome (at (pre ++ Some s ∷ post)) (events (length pre + 1) s.port) (rest (length pre + 1 + 1) post)
-      ∙ (ap (λ j. kept_after j (rest (length pre + 1 + 1) post)) (does (pre ++ Some s ∷ post) (length pre) s (get-seam pre (Some s) post) ∙ ap at (set-seam pre (Some s) (Some (f s)) post))
+      after-join kept_outcome (at (pre ++ Some s ∷ post)) (events (length pre + 1) s.port)
+      (rest (length pre + 1 + 1) post)
+      ∙ (ap (λ j. kept_after j (rest (length pre + 1 + 1) post)) (does (pre ++ Some s ∷ post)
+      (length pre) s (get-seam pre (Some s) post) ∙ ap at (set-seam pre (Some s) (Some (f s)) post))
       ∙ next-slot pre post (Some (f s)) (each-does (pre ++ Some (f s) ∷ []) post))
 
-  pub all-does : kept_after k (at_each events 1 (kept_ports k)) ≡ record k { slots = map (option_map f) k.slots }
+  -- the events of all slots do it in each
+  pub all-does : kept_after k (at_each events 1 (kept_ports k))
+      ≡ record k { slots = map (option_map f) k.slots }
   all-does = each-does [] k.slots
 
-pub noticed-all : (k : Kept) → record k { slots = map (option_map (noticed k.volume.number)) k.slots } ≡ kept_after k (notices (kept_ports k))
+-- noticings of all slots notice in each
+pub noticed-all : (k : Kept)
+    → record k { slots = map (option_map (noticed k.volume.number)) k.slots }
+    ≡ kept_after k (notices (kept_ports k))
 noticed-all k = sym (all-does one_notice (noticed k.volume.number) k (notice-does k))
 
-pub filled-all : (k : Kept) → record k { slots = map (option_map filled) k.slots } ≡ kept_after k (all_puts (kept_ports k))
+-- puts at all slots fill each
+pub filled-all : (k : Kept)
+    → record k { slots = map (option_map filled) k.slots } ≡ kept_after k (all_puts (kept_ports k))
 filled-all k = sym (all-does puts filled k (fill-does k))
 
 -- ---- whole turns
 
-pub take-turn : (k l m n : Kept) (slot : ℕ) (a : Answer) → l ≡ (kept_outcome k (Noticing slot)).1 → m ≡ kept_after l (puts slot (places_at (kept_ports l) slot)) → (a, n) ≡ kept_outcome m (Taking slot)
+-- a noticing, puts and a taking are the turn of a taking
+pub take-turn : (k l m n : Kept) (slot : ℕ) (a : Answer) → l ≡ (kept_outcome k (Noticing slot)).1
+    → m ≡ kept_after l (puts slot (places_at (kept_ports l) slot))
+    → (a, n) ≡ kept_outcome m (Taking slot)
     → TurnStep k (Taking slot) a n
 take-turn k l m n slot a noticed filled taken =
     let same : kept_ports l ≡ kept_ports k = ap kept_ports noticed ∙ ports-noticed k slot in
-    let at : m ≡ kept_after (kept_outcome k (Noticing slot)).1 (puts slot (places_at (kept_ports k) slot)) =
-    filled ∙ (ap (λ ps. kept_after l (puts slot (places_at ps slot))) same ∙ ap (λ j. kept_after j (puts slot (places_at (kept_ports k) slot))) noticed) in
+    let at : m ≡ kept_after (kept_outcome k (Noticing slot)).1
+    (puts slot (places_at (kept_ports k) slot)) =
+    filled ∙ (ap (λ ps. kept_after l (puts slot (places_at ps slot))) same
+    ∙ ap (λ j. kept_after j (puts slot (places_at (kept_ports k) slot))) noticed) in
     record {
       middle = n;
-      step = inl (ap (λ (p : Answer × Kept). p.0) taken ∙ ap (λ j. (kept_outcome j (Taking slot)).0) at, ap (λ (p : Answer × Kept). p.1) taken ∙ ap (λ j. (kept_outcome j (Taking slot)).1) at);
+      step = inl (
+        ap (λ (p : Answer × Kept). p.0) taken ∙ ap (λ j. (kept_outcome j (Taking slot)).0) at,
+        ap (λ (p : Answer × Kept). p.1) taken ∙ ap (λ j. (kept_outcome j (Taking slot)).1) at,
+      );
       after = refl;
     }
 
-pub close-turn : (k l m n : Kept) (slot : ℕ) (a : Answer) → l ≡ (kept_outcome k (Noticing slot)).1 → (a, m) ≡ kept_outcome l (Closing slot) → n ≡ kept_after m (puts slot (places_at (kept_ports m) slot))
+-- a noticing, a closing and puts are the turn of a closing
+pub close-turn : (k l m n : Kept) (slot : ℕ) (a : Answer)
+    → l ≡ (kept_outcome k (Noticing slot)).1 → (a, m) ≡ kept_outcome l (Closing slot)
+    → n ≡ kept_after m (puts slot (places_at (kept_ports m) slot))
     → TurnStep k (Closing slot) a n
 close-turn k l m n slot a noticed closed filled =
-    let same : kept_ports m ≡ kept_ports k = ap (λ (p : Answer × Kept). kept_ports p.1) closed ∙ (ports-closed l slot ∙ (ap kept_ports noticed ∙ ports-noticed k slot)) in
+    let same : kept_ports m ≡ kept_ports k = ap (λ (p : Answer × Kept). kept_ports p.1) closed
+    ∙ (ports-closed l slot ∙ (ap kept_ports noticed ∙ ports-noticed k slot)) in
     record {
       middle = m;
-      step = inl (ap (λ (p : Answer × Kept). p.0) closed ∙ ap (λ j. (kept_outcome j (Closing slot)).0) noticed, ap (λ (p : Answer × Kept). p.1) closed ∙ ap (λ j. (kept_outcome j (Closing slot)).1) noticed);
+      step = inl (
+        ap (λ (p : Answer × Kept). p.0) closed ∙ ap
+            (λ j. (kept_outcome j (Closing slot)).0) noticed,
+        ap (λ (p : Answer × Kept). p.1) closed
+            ∙ ap (λ j. (kept_outcome j (Closing slot)).1) noticed,
+      );
       after = filled ∙ ap (λ ps. kept_after m (puts slot (places_at ps slot))) same;
     }
 
-ports-changed : (k : Kept) (c : Change_) (r : Option Refusal) → kept_ports (change_if k c r).1 ≡ kept_ports k
+-- a change keeps the ports, refused or not
+ports-changed : (k : Kept) (c : Change_) (r : Option Refusal)
+    → kept_ports (change_if k c r).1 ≡ kept_ports k
 ports-changed k c None = ports-after k.volume c k.slots
 ports-changed k c (Some e) = refl
 
-ports-step : (k l : Kept) (c : Change_) (a : Answer) → KeptStep k (Changing c) a l → kept_ports l ≡ kept_ports k
+-- and so does a change where memory may run out
+ports-step : (k l : Kept) (c : Change_) (a : Answer) → KeptStep k (Changing c) a l
+    → kept_ports l ≡ kept_ports k
 ports-step k l c a (inl does) = ap kept_ports does.1 ∙ ports-changed k c (refused k.volume c)
 ports-step k l c a (inr ran) = ap kept_ports ran.2
 
-pub change-turn : (k l m n : Kept) (c : Change_) (a : Answer) → l ≡ kept_after k (notices (kept_ports k)) → KeptStep l (Changing c) a m → n ≡ kept_after m (all_puts (kept_ports m)) → TurnStep k (Changing c) a n
+-- noticings, a change and puts at all slots are the turn of a change
+pub change-turn : (k l m n : Kept) (c : Change_) (a : Answer)
+    → l ≡ kept_after k (notices (kept_ports k)) → KeptStep l (Changing c) a m
+    → n ≡ kept_after m (all_puts (kept_ports m)) → TurnStep k (Changing c) a n
 change-turn k l m n c a noticed step filled =
-    let same : kept_ports m ≡ kept_ports k = ports-step l m c a step ∙ (ap kept_ports noticed ∙ each-quiet one_notice notice-quiet k 1 (kept_ports k)) in
+    let same : kept_ports m ≡ kept_ports k = ports-step l m c a step
+    ∙ (ap kept_ports noticed ∙ each-quiet one_notice notice-quiet k 1 (kept_ports k)) in
     record {
       middle = m;
       step = subst (λ (j : Kept). KeptStep j (Changing c) a m) noticed step;
       after = filled ∙ ap (λ ps. kept_after m (all_puts ps)) same;
     }
 
-pub alone-turn : (k l : Kept) (e : Happening) (a : Answer) → (kept_turn k e).before ≡ [] → (kept_turn k e).after ≡ [] → KeptStep k e a l → TurnStep k e a l
+-- an event with nothing to do about it is a turn alone
+pub alone-turn : (k l : Kept) (e : Happening) (a : Answer) → (kept_turn k e).before ≡ []
+    → (kept_turn k e).after ≡ [] → KeptStep k e a l → TurnStep k e a l
 alone-turn k l e a before after step = record {
   middle = l;
   step = subst (λ (es : List Happening). KeptStep (kept_after k es) e a l) (sym before) step;
@@ -315,39 +445,63 @@ alone-turn k l e a before after step = record {
 
 -- ---- turns are runs, and worlds take them alike
 
+-- each step of what is kept is a move from a world that it shows
 abbrev pub Moving : Type 0
-Moving = (old new : Kept) (w : World) (e : Happening) (a : Answer) → KeptStep old e a new → Shows old w → Moves new w e a
+Moving = (old new : Kept) (w : World) (e : Happening) (a : Answer) → KeptStep old e a new
+    → Shows old w → Moves new w e a
 
+-- where that is so
 module _ (moves : Moving) where
-  run-all : (k : Kept) (w : World) (done : List Happening) (answers : List Answer) (es : List Happening) → Runs k w done answers
-      → (more : List Answer) × (length more ≡ length es) × Runs (kept_after k es) w (done ++ es) (answers ++ more)
-  run-all k w done answers [] r = ([], refl, subst (λ (got : List Answer). Runs k w (done ++ []) got) (sym (append-nil answers)) (subst (λ (es : List Happening). Runs k w es answers) (sym (append-nil done)) r))
+  -- events that take no memory carry a run on
+  run-all : (k : Kept) (w : World) (done : List Happening) (answers : List Answer)
+      (es : List Happening) → Runs k w done answers
+      → (more : List Answer) × (length more ≡ length es)
+      × Runs (kept_after k es) w (done ++ es) (answers ++ more)
+  run-all k w done answers [] r = (
+    [],
+    refl,
+    subst (λ (got : List Answer). Runs k w (done ++ []) got) (sym (append-nil answers))
+        (subst (λ (es : List Happening). Runs k w es answers) (sym (append-nil done)) r),
+  )
   run-all k w done answers (e ∷ es) r =
       let a = (kept_outcome k e).0 in
       let l = (kept_outcome k e).1 in
-      let rest = run-all l w (done ++ e ∷ []) (answers ++ a ∷ []) es (runs-more k l w done answers e a r (moves k l r.end e a (inl (refl, refl)) r.shows)) in (
+      let rest = run-all l w (done ++ e ∷ []) (answers ++ a ∷ []) es
+      (runs-more k l w done answers e a r (moves k l r.end e a (inl (refl, refl)) r.shows)) in (
         a ∷ rest.0,
         ap suc rest.1,
-        subst (λ (got : List Answer). Runs (kept_after l es) w (done ++ e ∷ es) got) (append-join answers (a ∷ []) rest.0)
-            (subst (λ (xs : List Happening). Runs (kept_after l es) w xs ((answers ++ a ∷ []) ++ rest.0)) (append-join done (e ∷ []) es) rest.2),
+        subst (λ (got : List Answer). Runs (kept_after l es) w (done ++ e ∷ es) got)
+            (append-join answers (a ∷ []) rest.0)
+            (subst (λ (xs : List Happening). Runs (kept_after l es) w xs
+            ((answers ++ a ∷ []) ++ rest.0)) (append-join done (e ∷ []) es) rest.2),
       )
 
-  pub turn-runs : (k l : Kept) (w : World) (e : Happening) (a : Answer) → kept_turn k e ≡ record (kept_turn k e) { event = e } → TurnStep k e a l → Shows k w → TurnRuns k l w e a
+  -- a turn is a run of its events
+  pub turn-runs : (k l : Kept) (w : World) (e : Happening) (a : Answer)
+      → kept_turn k e ≡ record (kept_turn k e) { event = e } → TurnStep k e a l → Shows k w
+      → TurnRuns k l w e a
   turn-runs k l w e a is t shows =
       let turn = kept_turn k e in
       let first = run-all k w [] [] turn.before (record { end = w; run = refl; shows = shows }) in
       let mid = kept_after k turn.before in
-      let second = runs-more mid t.middle w turn.before first.0 e a first.2 (moves mid t.middle first.2.end e a t.step first.2.shows) in
+      let second = runs-more mid t.middle w turn.before first.0 e a first.2
+      (moves mid t.middle first.2.end e a t.step first.2.shows) in
       let last = run-all t.middle w (turn.before ++ e ∷ []) (first.0 ++ a ∷ []) turn.after second in
-      let whole : Runs l w ((turn.before ++ e ∷ []) ++ turn.after) ((first.0 ++ a ∷ []) ++ last.0) = subst (λ (j : Kept). Runs j w ((turn.before ++ e ∷ []) ++ turn.after) ((first.0 ++ a ∷ []) ++ last.0)) (sym t.after) last.2 in
+      let whole : Runs l w ((turn.before ++ e ∷ []) ++ turn.after) ((first.0 ++ a ∷ []) ++ last.0) =
+      subst (λ (j : Kept). Runs j w ((turn.before ++ e ∷ []) ++ turn.after)
+      ((first.0 ++ a ∷ []) ++ last.0)) (sym t.after) last.2 in
       record {
         before = first.0;
         after = last.0;
         place = first.1;
-        runs = subst (λ (es : List Happening). Runs l w es (first.0 ++ a ∷ last.0)) (append-join turn.before (e ∷ []) turn.after ∙ ap (λ (u : Turn). turn.before ++ u.event ∷ turn.after) (sym is))
-            (subst (λ (got : List Answer). Runs l w ((turn.before ++ e ∷ []) ++ turn.after) got) (append-join first.0 (a ∷ []) last.0) whole);
+        runs = subst (λ (es : List Happening). Runs l w es (first.0 ++ a ∷ last.0))
+            (append-join turn.before (e ∷ []) turn.after
+            ∙ ap (λ (u : Turn). turn.before ++ u.event ∷ turn.after) (sym is))
+            (subst (λ (got : List Answer). Runs l w ((turn.before ++ e ∷ []) ++ turn.after) got)
+            (append-join first.0 (a ∷ []) last.0) whole);
       }
 
+-- a turn's event is the one that began it
 pub turn-event : (k : Kept) (e : Happening) → kept_turn k e ≡ record (kept_turn k e) { event = e }
 turn-event k (Changing c) = refl
 turn-event k (Opening q port backlog moved) = refl
@@ -358,25 +512,42 @@ turn-event k (Noticing slot) = refl
 turn-event k (Closing slot) = refl
 turn-event k (Finishing slot) = refl
 
+-- where what is kept shows a world, and both answer alike
 module _ (alike : KeptShowsWorlds) where
-  pub after-shows : (k : Kept) (w : World) (es : List Happening) → Shows k w → Shows (kept_after k es) (after_all outcome w es)
+  -- they show each other after many events
+  pub after-shows : (k : Kept) (w : World) (es : List Happening) → Shows k w
+      → Shows (kept_after k es) (after_all outcome w es)
   after-shows k w [] shows = shows
-  after-shows k w (e ∷ es) shows = after-shows (kept_outcome k e).1 (next w e) es (alike k w e shows).1
+  after-shows k w (e ∷ es) shows =
+      after-shows (kept_outcome k e).1 (next w e) es (alike k w e shows).1
 
-  ports-shown : (b : Book) (slots : List (Option Sub)) → map (option_map slot_port) (map (option_map (slot_for b)) slots) ≡ map (option_map (λ (s : Sub). s.port)) slots
+  -- the ports of the desk are the world's
+  ports-shown : (b : Book) (slots : List (Option Sub))
+      → map (option_map slot_port) (map (option_map (slot_for b)) slots)
+      ≡ map (option_map (λ (s : Sub). s.port)) slots
   ports-shown b [] = refl
   ports-shown b (None ∷ slots) = ap (λ ps. None ∷ ps) (ports-shown b slots)
   ports-shown b (Some s ∷ slots) = ap (λ ps. Some s.port ∷ ps) (ports-shown b slots)
 
-  same-turn : (k : Kept) (w : World) (t : Turn) → Shows k w → ((carried_out kept_outcome k t).0 ≡ (carried_out outcome w t).0) × Shows (carried_out kept_outcome k t).1 (carried_out outcome w t).1
+  -- a turn is carried out alike
+  same-turn : (k : Kept) (w : World) (t : Turn) → Shows k w
+      → ((carried_out kept_outcome k t).0 ≡ (carried_out outcome w t).0)
+      × Shows (carried_out kept_outcome k t).1 (carried_out outcome w t).1
   same-turn k w t shows =
       let first = after-shows k w t.before shows in
-      let step = alike (kept_after k t.before) (after_all outcome w t.before) t.event first in
-      (step.0, after-shows (kept_outcome (kept_after k t.before) t.event).1 (next (after_all outcome w t.before) t.event) t.after step.1)
+      let step = alike (kept_after k t.before) (after_all outcome w t.before) t.event first in (
+        step.0,
+        after-shows (kept_outcome (kept_after k t.before) t.event).1
+            (next (after_all outcome w t.before) t.event) t.after step.1,
+      )
 
+  -- each turn is carried out alike
   pub turns-show : KeptTurnsShowWorlds
   turns-show k w e shows =
-      let ports : kept_ports k ≡ ports_of w = ap kept_ports shows.kept ∙ ports-shown w.book w.slots in
-      subst (λ (ps : List (Option ℕ)). ((carried_out kept_outcome k (turn_of ps e)).0 ≡ (carried_out outcome w (turn_of (ports_of w) e)).0)
-      × Shows (carried_out kept_outcome k (turn_of ps e)).1 (carried_out outcome w (turn_of (ports_of w) e)).1) (sym ports)
+      let ports : kept_ports k ≡ ports_of w = ap kept_ports shows.kept
+      ∙ ports-shown w.book w.slots in
+      subst (λ (ps : List (Option ℕ)). ((carried_out kept_outcome k (turn_of ps e)).0
+      ≡ (carried_out outcome w (turn_of (ports_of w) e)).0)
+      × Shows (carried_out kept_outcome k (turn_of ps e)).1
+      (carried_out outcome w (turn_of (ports_of w) e)).1) (sym ports)
       (same-turn k w (turn_of (ports_of w) e) shows)

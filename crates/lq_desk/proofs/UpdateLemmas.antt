@@ -12,53 +12,75 @@ use Rattle.lq_update.specs.Updates.{updates_from, updates_of, step_of}
 use Rattle.lq_update.specs.Laws.{UpdatesJoin}
 use Rattle.lq_desk.proofs.ListLemmas.{take-inside, drop-inside, take-all}
 
-pub after_all-append : (s : State) (cs ds : List Change_) → after_all s (cs ++ ds) ≡ after_all (after_all s cs) ds
+-- changes one after another, in two lists
+pub after_all-append : (s : State) (cs ds : List Change_)
+    → after_all s (cs ++ ds) ≡ after_all (after_all s cs) ds
 after_all-append s [] ds = refl
 after_all-append s (c ∷ cs) ds = after_all-append (after s c) cs ds
 
 -- the number of the state that changes lead to
-pub number-all : ChangesCount → (s : State) (cs : List Change_) → (after_all s cs).number ≡ s.number + length cs
+pub number-all : ChangesCount → (s : State) (cs : List Change_)
+    → (after_all s cs).number ≡ s.number + length cs
 number-all count s [] = omega arith
 number-all count s (c ∷ cs) = omega (arith, number-all count (after s c) cs, count s c)
 
-after_all-split : (s : State) (n : ℕ) (cs : List Change_) → after_all (after_all s (take n cs)) (drop n cs) ≡ after_all s cs
+-- changes, split at a number
+after_all-split : (s : State) (n : ℕ) (cs : List Change_)
+    → after_all (after_all s (take n cs)) (drop n cs) ≡ after_all s cs
 after_all-split s zero cs = refl
 after_all-split s (suc n) [] = refl
 after_all-split s (suc n) (c ∷ cs) = after_all-split (after s c) n cs
 
 -- more changes at a book's end leave the updates up to a number of the book
-pub updates_of-stays : (q : Query) (moved : Bool) (b : Book) (cs : List Change_) (m n : ℕ) → b.start.number ≤ m → m ≤ n → n ≤ number_of b
+pub updates_of-stays : (q : Query) (moved : Bool) (b : Book) (cs : List Change_) (m n : ℕ)
+    → b.start.number ≤ m → m ≤ n → n ≤ number_of b
     → updates_of q moved (grown b cs) m n ≡ updates_of q moved b m n
 updates_of-stays q moved b cs m n begun order within =
     let k = m - b.start.number in
     let inside : k ≤ length b.changes = omega arith in
     let between : n - m ≤ length (drop k b.changes) = omega (arith, length-drop k b.changes) in
-    ap (λ ds. updates_from q moved (after_all b.start ds) (take (n - m) (drop k (b.changes ++ cs))) 1) (take-inside k b.changes cs inside)
-    ∙ (ap (λ ds. updates_from q moved (state_at b m) (take (n - m) ds) 1) (drop-inside k b.changes cs inside)
-    ∙ ap (λ ds. updates_from q moved (state_at b m) ds 1) (take-inside (n - m) (drop k b.changes) cs between))
+    ap (λ ds. updates_from q moved (after_all b.start ds)
+    (take (n - m) (drop k (b.changes ++ cs))) 1) (take-inside k b.changes cs inside)
+    ∙ (ap (λ ds. updates_from q moved (state_at b m) (take (n - m) ds) 1)
+    (drop-inside k b.changes cs inside)
+    ∙ ap (λ ds. updates_from q moved (state_at b m) ds 1)
+    (take-inside (n - m) (drop k b.changes) cs between))
 
 -- the update list up to the book's end, without its upper bound
 abbrev pub from_opening : Query → Bool → Book → ℕ → List Message
-from_opening q moved b m = updates_from q moved (state_at b m) (drop (m - b.start.number) b.changes) 1
+from_opening q moved b m =
+    updates_from q moved (state_at b m) (drop (m - b.start.number) b.changes) 1
 
-pub whole-from : (q : Query) (moved : Bool) (b : Book) (m : ℕ) → updates_of q moved b m (number_of b) ≡ from_opening q moved b m
+-- an update list up to the book's number is all since the opening
+pub whole-from : (q : Query) (moved : Bool) (b : Book) (m : ℕ)
+    → updates_of q moved b m (number_of b) ≡ from_opening q moved b m
 whole-from q moved b m =
-    ap (λ cs. updates_from q moved (state_at b m) cs 1) (take-all (number_of b - m) (drop (m - b.start.number) b.changes) (omega (arith, length-drop (m - b.start.number) b.changes)))
+    ap (λ cs. updates_from q moved (state_at b m) cs 1) (take-all (number_of b - m) (drop
+    (m - b.start.number) b.changes) (omega (arith, length-drop (m - b.start.number) b.changes)))
 
 -- one more change adds what it tells, and nothing else
-pub updates_of-change : UpdatesJoin → (q : Query) (moved : Bool) (b : Book) (c : Change_) (m : ℕ) → m ≤ number_of b
-    → updates_of q moved (grown b (c ∷ [])) m (number_of (grown b (c ∷ []))) ≡ updates_of q moved b m (number_of b) ++ step_of q moved (state_of b) c (length (updates_of q moved b m (number_of b)) + 1)
-updates_of-change join q moved b c m opened = rw (whole-from q moved (grown b (c ∷ [])) m, whole-from q moved b m) from-change
+pub updates_of-change : UpdatesJoin → (q : Query) (moved : Bool) (b : Book) (c : Change_) (m : ℕ)
+    → m ≤ number_of b
+    → updates_of q moved (grown b (c ∷ [])) m (number_of (grown b (c ∷ [])))
+    ≡ updates_of q moved b m (number_of b)
+    ++ step_of q moved (state_of b) c (length (updates_of q moved b m (number_of b)) + 1)
+updates_of-change join q moved b c m opened =
+    rw (whole-from q moved (grown b (c ∷ [])) m, whole-from q moved b m) from-change
   where
-    from-change : from_opening q moved (grown b (c ∷ [])) m ≡ from_opening q moved b m ++ step_of q moved (state_of b) c (length (from_opening q moved b m) + 1)
+    from-change : from_opening q moved (grown b (c ∷ [])) m ≡ from_opening q moved b m
+        ++ step_of q moved (state_of b) c (length (from_opening q moved b m) + 1)
     from-change =
         let k = m - b.start.number in
         let s = after_all b.start (take k b.changes) in
         let past = drop k b.changes in
         let inside : k ≤ length b.changes = omega arith in
-        ap (λ cs. updates_from q moved (after_all b.start cs) (drop k (b.changes ++ c ∷ [])) 1) (take-inside k b.changes (c ∷ []) inside)
+        ap (λ cs. updates_from q moved (after_all b.start cs) (drop k (b.changes ++ c ∷ [])) 1)
+        (take-inside k b.changes (c ∷ []) inside)
         ∙ (ap (λ cs. updates_from q moved s cs 1) (drop-inside k b.changes (c ∷ []) inside)
         ∙ (join q moved s past (c ∷ []) 1
         ∙ (ap (λ xs. updates_from q moved s past 1 ++ xs) (append-nil _
-        ∙ (ap (λ t. step_of q moved t c (1 + length (updates_from q moved s past 1))) (after_all-split b.start k b.changes)
-        ∙ ap (λ n. step_of q moved (state_of b) c n) (let e : 1 + length (updates_from q moved s past 1) ≡ length (updates_from q moved s past 1) + 1 = omega arith in e))))))
+        ∙ (ap (λ t. step_of q moved t c (1 + length (updates_from q moved s past 1)))
+        (after_all-split b.start k b.changes)
+        ∙ ap (λ n. step_of q moved (state_of b) c n)
+        (let e : 1 + length (updates_from q moved s past 1)
+        ≡ length (updates_from q moved s past 1) + 1 = omega arith in e))))))

@@ -7,6 +7,7 @@ use Rattle.lq_desk.specs.declared.slot.Act.{Act}
 use Rattle.lq_desk.specs.declared.slot.Act.TheVariants as act
 use Rattle.lq_desk.specs.Slot.{KeptSlot, put_slot, take_slot, ask_slot, notice_slot, close_slot, finish_slot}
 
+-- what an act does at a taken slot, and its answer
 abbrev pub act_of : ℕ → Act → KeptSlot → Answer × Option KeptSlot
 act_of number act.Put = put_slot
 act_of number act.Take = take_slot
@@ -22,8 +23,10 @@ outcome_at number a (Some k) = act_of number a k
 
 -- at a place of the slots
 abbrev pub outcome_in : ℕ → Act → List (Option KeptSlot) → ℕ → Answer × List (Option KeptSlot)
-outcome_in number a ks place =
-    ((outcome_at number a (option_flatten (slice_get ks place))).0, slice_set ks place (outcome_at number a (option_flatten (slice_get ks place))).1)
+outcome_in number a ks place = (
+  (outcome_at number a (option_flatten (slice_get ks place))).0,
+  slice_set ks place (outcome_at number a (option_flatten (slice_get ks place))).1,
+)
 
 -- the event that an act at a slot is
 abbrev pub happening_at : Act → ℕ → Happening

@@ -11,8 +11,8 @@ use Rattle.lq_update.specs.declared.parcel.Parcel.{Parcel}
 use Rattle.lq_update.specs.declared.parcel.Parcel.TheVariants.{Update, Fin}
 use Rattle.lq_update.specs.Updates.{step_of}
 
--- Its query, the number of changes at its opening and its backlog; how many messages were made so far and which of
--- them are held; its mark, if it has ended, and whether that went out.
+-- Its query, the number of changes at its opening and its backlog; how many messages were made so
+-- far and which of them are held; its mark, if it has ended, and whether that went out.
 pub record Held : Type 0 where
   pub query : Query
   pub moved : Bool
@@ -23,8 +23,8 @@ pub record Held : Type 0 where
   pub mark : Option Mark
   pub mark_out : Bool
 
--- the same, with the messages of a change that are made and not yet held, the number before that change, and
--- whether there is room to put a parcel back
+-- the same, with the messages of a change that are made and not yet held, the number before that
+-- change, and whether there is room to put a parcel back
 pub record Prepared : Type 0 where
   pub held : Held
   pub ready : List Message
@@ -44,6 +44,7 @@ opened_with q moved at backlog = record {
   mark_out = false;
 }
 
+-- it has not ended
 abbrev pub is_live : Held → Bool
 is_live h = is_none h.mark
 
@@ -51,21 +52,25 @@ is_live h = is_none h.mark
 
 -- with these messages held too
 abbrev pub with_messages : Held → List Message → Held
-with_messages h messages = record h { sent = h.sent + length messages; messages = h.messages ++ messages }
+with_messages h messages =
+    record h { sent = h.sent + length messages; messages = h.messages ++ messages }
 
 -- ended: the mark has the number behind the last message
 abbrev pub ended_by : Held → Cause → ℕ → Held
-ended_by h cause change = record h { mark = Some (record { seq = h.sent + 1; change = change; cause = cause }) }
+ended_by h cause change =
+    record h { mark = Some (record { seq = h.sent + 1; change = change; cause = cause }) }
 
 -- whether messages are more than the backlog has room for
 abbrev pub overruns : Held → List Message → Bool
-overruns h messages = nat_lt 0 (length messages) && nat_lt h.backlog (length h.messages + length messages)
+overruns h messages =
+    nat_lt 0 (length messages) && nat_lt h.backlog (length h.messages + length messages)
 
 -- they are held, or it ends before their change
 abbrev pub told_if : Held → List Message → ℕ → Bool → Held
 told_if h messages before true = ended_by h Overrun before
 told_if h messages before false = with_messages h messages
 
+-- with the messages of a change held, or ended before it if they are too many
 abbrev pub told : Held → List Message → ℕ → Held
 told h messages before = told_if h messages before (overruns h messages)
 
@@ -75,23 +80,27 @@ held_after s c h = told h (step_of h.query h.moved s c (h.sent + 1)) s.number
 
 -- with the messages of the change made
 abbrev pub prepared : State → Change → Prepared → Prepared
-prepared s c p = record p { ready = step_of p.held.query p.held.moved s c (p.held.sent + 1); before = s.number }
+prepared s c p =
+    record p { ready = step_of p.held.query p.held.moved s c (p.held.sent + 1); before = s.number }
 
 -- with those messages told
 abbrev pub committed : Prepared → Prepared
 committed p = record p { held = told p.held p.ready p.before; ready = [] }
 
+-- as it is held, without the messages that are made
 abbrev pub held_of : Prepared → Held
 held_of p = p.held
 
 -- ---- its parcels, one after another: the messages held, and then the mark
 
+-- the next parcel: the first message, or a mark that hasn't gone out
 abbrev pub next_of : List Message → Option Mark → Bool → Option Parcel
 next_of (m ∷ messages) mark mark_out = Some (Update m)
 next_of [] None mark_out = None
 next_of [] (Some mark) true = None
 next_of [] (Some mark) false = Some (Fin mark)
 
+-- the next parcel of a subscription
 abbrev pub next_parcel : Held → Option Parcel
 next_parcel h = next_of h.messages h.mark h.mark_out
 

@@ -25,12 +25,19 @@ pub record Kept : Type 0 where
 
 -- ---- a change
 
+-- what is kept after a change: each subscription is told it
 abbrev pub changed : Kept → Change_ → Kept
-changed k c = record { volume = after k.volume c; openings = k.openings; slots = map (option_map (slot_after k.volume c)) k.slots }
+changed k c = record {
+  volume = after k.volume c;
+  openings = k.openings;
+  slots = map (option_map (slot_after k.volume c)) k.slots;
+}
 
+-- a change that is refused, or made
 abbrev pub change_if : Kept → Change_ → Option Refusal → Answer × Kept
 change_if k c (Some e) = (Refused e, k)
-change_if k c None = (Changed (record { change = k.volume.number + 1; node = node_of k.volume c }), changed k c)
+change_if k c None =
+    (Changed (record { change = k.volume.number + 1; node = node_of k.volume c }), changed k c)
 
 -- ---- an opening
 
@@ -40,6 +47,7 @@ first_free [] = 0
 first_free (None ∷ slots) = 0
 first_free (Some s ∷ slots) = first_free slots + 1
 
+-- the tests of an opening, and what each that holds refuses it with
 abbrev pub opening_refusals : Kept → ℕ → ℕ → List (Bool × Refusal)
 opening_refusals k port backlog =
     (not (nat_le 1 port && nat_le port 1024), BadPort)
@@ -48,25 +56,38 @@ opening_refusals k port backlog =
     ∷ (nat_le k.volume.limit k.openings, Exhausted)
     ∷ []
 
+-- the first of them that holds
 abbrev pub opening_refusal : Kept → ℕ → ℕ → Option Refusal
 opening_refusal k port backlog = first_refusal (opening_refusals k port backlog)
 
+-- what is kept after an opening: the first free slot is taken
 abbrev pub opened : Kept → KeptSlot → Kept
-opened k s = record { volume = k.volume; openings = k.openings + 1; slots = slice_set k.slots (first_free k.slots) (Some s) }
+opened k s = record {
+  volume = k.volume;
+  openings = k.openings + 1;
+  slots = slice_set k.slots (first_free k.slots) (Some s);
+}
 
+-- an opening that is refused, or made
 abbrev pub open_if : Kept → KeptSlot → Option Refusal → Answer × Kept
 open_if k s (Some e) = (Refused e, k)
-open_if k s None = (Opened (first_free k.slots + 1) k.volume.number (result_of s.held.query k.volume), opened k s)
+open_if k s None =
+    (Opened (first_free k.slots + 1) k.volume.number (result_of s.held.query k.volume), opened k s)
 
 -- ---- the events of one slot
 
+-- what is in a slot; slot 0 is free
 abbrev pub kept_at : Kept → ℕ → Option KeptSlot
 kept_at k slot = if slot == 0 then None else option_flatten (slice_get k.slots (slot - 1))
 
-abbrev pub at_place : Kept → ℕ → Option KeptSlot → (KeptSlot → Answer × Option KeptSlot) → Answer × Kept
+-- an event at a place that is free, or taken
+abbrev pub at_place : Kept → ℕ → Option KeptSlot
+    → (KeptSlot → Answer × Option KeptSlot) → Answer × Kept
 at_place k place None event = (Refused NotOpen, k)
-at_place k place (Some s) event = ((event s).0, record k { slots = slice_set k.slots place (event s).1 })
+at_place k place (Some s) event =
+    ((event s).0, record k { slots = slice_set k.slots place (event s).1 })
 
+-- an event at a slot
 abbrev pub at_kept : Kept → ℕ → (KeptSlot → Answer × Option KeptSlot) → Answer × Kept
 at_kept k slot event = at_place k (slot - 1) (kept_at k slot) event
 
@@ -75,7 +96,8 @@ at_kept k slot event = at_place k (slot - 1) (kept_at k slot) event
 -- what an event is answered where this is kept, and what is kept then
 abbrev pub kept_outcome : Kept → Happening → Answer × Kept
 kept_outcome k (Changing c) = change_if k c (refused k.volume c)
-kept_outcome k (Opening q port backlog moved) = open_if k (fresh_slot q moved k.volume.number port backlog) (opening_refusal k port backlog)
+kept_outcome k (Opening q port backlog moved) =
+    open_if k (fresh_slot q moved k.volume.number port backlog) (opening_refusal k port backlog)
 kept_outcome k (Putting slot) = at_kept k slot put_slot
 kept_outcome k (Taking slot) = at_kept k slot take_slot
 kept_outcome k (HangingUp slot) = at_kept k slot ask_slot
@@ -96,10 +118,12 @@ MayRunOut k (Finishing slot) = ⊥
 
 -- its outcome, or a want of memory that leaves what is kept
 abbrev pub KeptStep : Kept → Happening → Answer → Kept → Type 0
-KeptStep k e a l = ((a ≡ (kept_outcome k e).0) × (l ≡ (kept_outcome k e).1)) ⊎ (MayRunOut k e × (a ≡ Refused NoMemory) × (l ≡ k))
+KeptStep k e a l = ((a ≡ (kept_outcome k e).0) × (l ≡ (kept_outcome k e).1))
+    ⊎ (MayRunOut k e × (a ≡ Refused NoMemory) × (l ≡ k))
 
 -- ---- the worlds that it shows
 
+-- the mark of a subscription that was told this many messages and then ended
 abbrev pub mark_of : ℕ → End → Mark
 mark_of n e = record { seq = n + 1; change = e.change; cause = e.cause }
 
@@ -116,13 +140,19 @@ held_for b s = record {
   mark_out = nat_lt (length (told b s)) s.put;
 }
 
+-- what a world's subscription has in its slot
 abbrev pub slot_for : Book → Sub → KeptSlot
 slot_for b s = record { held = held_for b s; port = s.port; queue = in_port b s; asked = s.asked }
 
 -- what the desk keeps where this world stands
 abbrev pub kept_of : World → Kept
-kept_of w = record { volume = state_of w.book; openings = w.openings; slots = map (option_map (slot_for w.book)) w.slots }
+kept_of w = record {
+  volume = state_of w.book;
+  openings = w.openings;
+  slots = map (option_map (slot_for w.book)) w.slots;
+}
 
+-- what is kept is what a desk keeps where this world stands, and the world is fair
 pub record Shows (k : Kept) (w : World) : Type 0 where
   pub fair : IsFairWorld w
   pub kept : k ≡ kept_of w

@@ -13,24 +13,29 @@ use Rattle.lq_desk.specs.Turn as turn
 
 -- a parcel that goes out and is put back leaves all as it was
 abbrev pub PuttingBackUndoes : Type 0
-PuttingBackUndoes = (h : Held) (p : Parcel) → next_parcel h ≡ Some p → with_back (without h (Some p)) p ≡ h
+PuttingBackUndoes = (h : Held) (p : Parcel) → next_parcel h ≡ Some p
+    → with_back (without h (Some p)) p ≡ h
 
 -- where what is kept shows a world, both answer each event alike, and then show each other again
 abbrev pub KeptShowsWorlds : Type 0
-KeptShowsWorlds = (k : Kept) (w : World) (e : Happening) → Shows k w → ((kept_outcome k e).0 ≡ answer w e) × Shows (kept_outcome k e).1 (next w e)
+KeptShowsWorlds = (k : Kept) (w : World) (e : Happening) → Shows k w
+    → ((kept_outcome k e).0 ≡ answer w e) × Shows (kept_outcome k e).1 (next w e)
 
 -- and carry out each turn alike
 abbrev pub KeptTurnsShowWorlds : Type 0
 KeptTurnsShowWorlds = (k : Kept) (w : World) (e : Happening) → Shows k w →
-    ((turn.turn_outcome k e).0 ≡ (turn_outcome w e).0) × Shows (turn.turn_outcome k e).1 (turn_outcome w e).1
+    ((turn.turn_outcome k e).0 ≡ (turn_outcome w e).0)
+    × Shows (turn.turn_outcome k e).1 (turn_outcome w e).1
 
 -- the mark, where it hasn't gone out
 abbrev pub mark_left : Held → List Parcel
 mark_left h = if h.mark_out then [] else map (λ mark. Fin mark) (option_to_list h.mark)
 
--- Of each subscription of a world that it shows: what was taken, then what is in the port, then the messages held,
--- then a mark that hasn't gone out, is all that the subscription is told.
+-- Of each subscription of a world that it shows: what was taken, then what is in the port, then the
+-- messages held, then a mark that hasn't gone out, is all that the subscription is told.
 abbrev pub KeptPassesListsOn : Type 0
-KeptPassesListsOn = (k : Kept) (w : World) (slot : ℕ) (s : Sub) → Shows k w → slot_at w slot ≡ Some s →
+KeptPassesListsOn = (k : Kept) (w : World) (slot : ℕ) (s : Sub) → Shows k w
+    → slot_at w slot ≡ Some s →
     (c : KeptSlot) × (kept_at k slot ≡ Some c)
-    × (take s.taken (whole w.book s) ++ (c.queue ++ (map (λ m. Update m) c.held.messages ++ mark_left c.held)) ≡ whole w.book s)
+    × (take s.taken (whole w.book s)
+    ++ (c.queue ++ (map (λ m. Update m) c.held.messages ++ mark_left c.held)) ≡ whole w.book s)

@@ -9,6 +9,7 @@ use Rattle.lq_update.specs.Laws.{names_altered}
 abbrev pub is_among : List (List ℕ) → List ℕ → Bool
 is_among names name = list_any (bytes_eq name) names
 
+-- whether some names are known to be altered, and none of them is among these
 abbrev pub are_apart : List (List ℕ) → Option (List (List ℕ)) → Bool
 are_apart names None = false
 are_apart names (Some altered) = not (list_any (is_among names) altered)

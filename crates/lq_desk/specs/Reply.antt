@@ -12,6 +12,7 @@ use Rattle.lq_world.specs.Events.{Happening, Changing, Opening, Putting, Taking,
 use Rattle.lq_world.specs.Runs.{Step, Run}
 use Rattle.lq_desk.specs.Kept.{Kept, Shows}
 
+-- the world's event
 abbrev pub happening_of : Event → Happening
 happening_of (event.Change c) = Changing c
 happening_of (event.Open q port backlog moved) = Opening q port backlog moved
@@ -22,12 +23,14 @@ happening_of (event.Notice slot) = Noticing slot
 happening_of (event.Close slot) = Closing slot
 happening_of (event.Finish slot) = Finishing slot
 
+-- the world's answer to a taking
 abbrev pub answer_of_read : Read → Answer
 answer_of_read (read.Update message) = Took (Update message)
 answer_of_read (read.Fin mark) = Took (Fin mark)
 answer_of_read read.Empty = Empty
 answer_of_read read.Ended = Ended
 
+-- the world's answer
 abbrev pub answer_of : Reply → Answer
 answer_of (reply.Changed applied) = Changed applied
 answer_of (reply.Opened slot at result) = Opened slot at result.items
@@ -46,7 +49,8 @@ pub record Moves (new : Kept) (w : World) (e : Happening) (a : Answer) : Type 0 
   pub shows : Shows new next
 
 -- over several events
-pub record Runs (new : Kept) (w : World) (events : List Happening) (answers : List Answer) : Type 0 where
+pub record Runs (new : Kept) (w : World) (events : List Happening)
+    (answers : List Answer) : Type 0 where
   pub end : World
   pub run : Run w events answers end
   pub shows : Shows new end

@@ -10,7 +10,8 @@ use Rattle.lq_update.specs.declared.mark.Cause.TheVariants.{Closed, HungUp}
 use Rattle.lq_world.specs.Events.{Answer, Moved, Took, Empty, Ended, Asked, Noticed, Shut, Finished, Refused}
 use Rattle.lq_desk.specs.Held.{Held, Prepared, opened_with, is_live, held_after, prepared, committed, ended_by, next_parcel, without}
 
--- the subscription, how many places its port has, the parcels in it, and whether its end was asked for
+-- the subscription, how many places its port has, the parcels in it, and whether its end was asked
+-- for
 pub record KeptSlot : Type 0 where
   pub held : Held
   pub port : ℕ
@@ -24,6 +25,7 @@ pub record PreparedSlot : Type 0 where
   pub queue : List Parcel
   pub asked : Bool
 
+-- the slot without the messages that are made
 abbrev pub slot_of : PreparedSlot → KeptSlot
 slot_of p = record { held = p.sub.held; port = p.port; queue = p.queue; asked = p.asked }
 
@@ -33,26 +35,33 @@ with_free slots = slots ++ replicate (64 - length slots) None
 
 -- as it is opened
 abbrev pub fresh_slot : Query → Bool → ℕ → ℕ → ℕ → KeptSlot
-fresh_slot q moved at port backlog = record { held = opened_with q moved at backlog; port = port; queue = []; asked = false }
+fresh_slot q moved at port backlog =
+    record { held = opened_with q moved at backlog; port = port; queue = []; asked = false }
 
 -- ---- a change, of those that are live
 
+-- a slot after a change
 abbrev pub slot_after : State → Change → KeptSlot → KeptSlot
 slot_after s c k = if is_live k.held then record k { held = held_after s c k.held } else k
 
+-- a slot with the messages of a change made
 abbrev pub prepared_slot : State → Change → PreparedSlot → PreparedSlot
 prepared_slot s c p = if is_live p.sub.held then record p { sub = prepared s c p.sub } else p
 
+-- a slot with those messages told
 abbrev pub committed_slot : PreparedSlot → PreparedSlot
 committed_slot p = if is_live p.sub.held then record p { sub = committed p.sub } else p
 
 -- ---- the other events: the answer, and what is in the slot then
 
+-- a put, where the port has room, and of the next parcel if there is one
 abbrev pub put_if : KeptSlot → Bool → Option Parcel → Answer × Option KeptSlot
-put_if k true (Some p) = (Moved true, Some (record k { held = without k.held (Some p); queue = k.queue ++ p ∷ [] }))
+put_if k true (Some p) =
+    (Moved true, Some (record k { held = without k.held (Some p); queue = k.queue ++ p ∷ [] }))
 put_if k true None = (Moved false, Some k)
 put_if k false o = (Moved false, Some k)
 
+-- a put: the next parcel goes into the port, if there is room
 abbrev pub put_slot : KeptSlot → Answer × Option KeptSlot
 put_slot k = put_if k (nat_lt (length k.queue) k.port) (next_parcel k.held)
 
@@ -60,34 +69,43 @@ put_slot k = put_if k (nat_lt (length k.queue) k.port) (next_parcel k.held)
 abbrev pub is_read : KeptSlot → Bool
 is_read k = k.held.mark_out && (length k.queue == 0)
 
+-- a taking of the first parcel, if there is one
 abbrev pub take_if : KeptSlot → Option Parcel → Answer × Option KeptSlot
 take_if k (Some p) = (Took p, Some (record k { queue = drop 1 k.queue }))
 take_if k None = (if is_read k then Ended else Empty, Some k)
 
+-- a taking from the port
 abbrev pub take_slot : KeptSlot → Answer × Option KeptSlot
 take_slot k = take_if k (slice_get k.queue 0)
 
+-- the end is asked for
 abbrev pub ask_slot : KeptSlot → Answer × Option KeptSlot
 ask_slot k = (Asked, Some (record k { asked = true }))
 
+-- it ends as hung up, if it is live and its end was asked for
 abbrev pub notice_if : ℕ → KeptSlot → Bool → Answer × Option KeptSlot
 notice_if number k true = (Noticed true, Some (record k { held = ended_by k.held HungUp number }))
 notice_if number k false = (Noticed false, Some k)
 
+-- a noticing that its end was asked for
 abbrev pub notice_slot : ℕ → KeptSlot → Answer × Option KeptSlot
 notice_slot number k = notice_if number k (is_live k.held && k.asked)
 
+-- it ends as closed, if it is live
 abbrev pub close_if : ℕ → KeptSlot → Bool → Answer × Option KeptSlot
 close_if number k true = (Shut number, Some (record k { held = ended_by k.held Closed number }))
 close_if number k false = (Refused NotOpen, Some k)
 
+-- a closing
 abbrev pub close_slot : ℕ → KeptSlot → Answer × Option KeptSlot
 close_slot number k = close_if number k (is_live k.held)
 
+-- the slot becomes free, if all was read
 abbrev pub finish_if : KeptSlot → Bool → Answer × Option KeptSlot
 finish_if k true = (Finished, None)
 finish_if k false = (Refused StillOpen, Some k)
 
+-- a finishing
 abbrev pub finish_slot : KeptSlot → Answer × Option KeptSlot
 finish_slot k = finish_if k (is_read k)
 
@@ -106,6 +124,7 @@ has_ready p = is_live p.sub.held && nat_lt 0 (length p.sub.ready)
 abbrev pub is_ending : KeptSlot → Bool
 is_ending k = is_live k.held && k.asked
 
+-- a slot after a noticing
 abbrev pub noticed : ℕ → KeptSlot → KeptSlot
 noticed number k = if is_ending k then record k { held = ended_by k.held HungUp number } else k
 
@@ -117,6 +136,7 @@ can_move k = nat_lt (length k.queue) k.port && is_some (next_parcel k.held)
 abbrev pub after_put : KeptSlot → KeptSlot
 after_put k = unwrap_or (put_slot k).1 k
 
+-- a slot after several puts
 abbrev pub after_puts : ℕ → KeptSlot → KeptSlot
 after_puts zero k = k
 after_puts (suc n) k = after_puts n (after_put k)

@@ -8,12 +8,15 @@ use Rattle.lq_desk.specs.Slot.{KeptSlot}
 use Rattle.lq_desk.specs.Kept.{Kept, KeptStep, kept_outcome}
 use Rattle.lq_desk.specs.Reply.{Runs}
 
+-- how many places a slot's port has
 abbrev pub slot_port : KeptSlot → ℕ
 slot_port s = s.port
 
+-- how many places each slot's port has, where the slot is taken
 abbrev pub kept_ports : Kept → List (Option ℕ)
 kept_ports k = map (option_map slot_port) k.slots
 
+-- the turn that an event begins: the event, and those that go before it and after it
 abbrev pub kept_turn : Kept → Happening → Turn
 kept_turn k e = turn_of (kept_ports k) e
 

@@ -5,7 +5,8 @@ use Rattle.lq_desk.specs.Slot.{KeptSlot, can_move, is_ending}
 
 -- the bit is set of each slot that passes a test
 abbrev pub IsMarked : {T : Type 0} → (T → Bool) → ℕ → List (Option T) → Type 0
-IsMarked {T} test word slots = (i : ℕ) (x : T) → slice_get slots i ≡ Some (Some x) → test x ≡ true → bit_at word i ≡ 1
+IsMarked {T} test word slots = (i : ℕ) (x : T) → slice_get slots i ≡ Some (Some x) → test x ≡ true
+    → bit_at word i ≡ 1
 
 -- those that are ending, and those into whose port a parcel could move
 pub record AreMarked (ending movable : ℕ) (ks : List (Option KeptSlot)) : Type 0 where

@@ -2,4 +2,5 @@ use Rattle.lq_desk.proofs.Shown.{kept-shows}
 use Rattle.lq_desk.proofs.laws.kept_shows_worlds.Goals as goal
 
 pub returns : goal.returns
-returns c = kept-shows c.changes_are_counted.ensures c.updates_join.ensures c.runs_keep_worlds_fair.ensures
+returns c =
+    kept-shows c.changes_are_counted.ensures c.updates_join.ensures c.runs_keep_worlds_fair.ensures

@@ -6,7 +6,9 @@ use Rattle.lq_desk.proofs.slots.commit_all.Given as goal
 
 abbrev pub invariant-loop-slot : goal.invariant-loop-slot
 invariant-loop-slot l = record {
-  done : l.slot-items ≡ map (option_map committed_slot) (take l.slot-index l.fn.slots.items) ++ drop l.slot-index l.fn.slots.items;
-  few : (k : ℕ) (d : Option PreparedSlot) → l.slot-index ≤ k → k < length l.slot-items → IsFew (2 ^ 63 - 1) (option_map slot_of (get_or l.slot-items k d));
+  done : l.slot-items ≡ map (option_map committed_slot) (take l.slot-index l.fn.slots.items)
+      ++ drop l.slot-index l.fn.slots.items;
+  few : (k : ℕ) (d : Option PreparedSlot) → l.slot-index ≤ k → k < length l.slot-items
+      → IsFew (2 ^ 63 - 1) (option_map slot_of (get_or l.slot-items k d));
   place : l.index ≡ l.slot-index;
 }

@@ -7,5 +7,6 @@ use Rattle.lq_desk.proofs.slots.first_free.Given as goal
 abbrev pub invariant-loop-slot : goal.invariant-loop-slot
 invariant-loop-slot l = record {
   place : l.place ≡ l.slot-index;
-  rest : first_free (map (option_map slot_of) l.slots) ≡ l.place + first_free (map (option_map slot_of) (drop l.slot-index l.slots));
+  rest : first_free (map (option_map slot_of) l.slots)
+      ≡ l.place + first_free (map (option_map slot_of) (drop l.slot-index l.slots));
 }

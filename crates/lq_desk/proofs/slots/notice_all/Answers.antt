@@ -13,8 +13,13 @@ loop-slot-preserved c =
     let l = c.loop-slot in
     let here : l.slot-index < length c.args.slots.now.items = omega arith in
     record {
-      done = kept-step (noticed c.args.number) c.args.slots.now.items l.slot-items l.slot-index c.slot-item.result here l.invariant.done c.slot-item.is c.notice_at.new.slot (c.notice_at.ensures ∙ ap (λ o. option_map (noticed c.args.number) (kept_slot o)) (sym c.slot-item.is));
-      few = λ k d le lt. let ne : k ≢ l.slot-index = omega arith in rw get_or-set_other (l.invariant.few k d (omega arith) (omega (arith, length-set {A = Option PreparedSlot})));
+      done = kept-step (noticed c.args.number) c.args.slots.now.items l.slot-items
+          l.slot-index c.slot-item.result here l.invariant.done c.slot-item.is c.notice_at.new.slot
+          (c.notice_at.ensures
+          ∙ ap (λ o. option_map (noticed c.args.number) (kept_slot o)) (sym c.slot-item.is));
+      few = λ k d le lt. let ne : k ≢ l.slot-index = omega arith in
+          rw get_or-set_other
+          (l.invariant.few k d (omega arith) (omega (arith, length-set {A = Option PreparedSlot})));
       place = omega (arith, l.invariant.place);
     }
 
@@ -22,18 +27,30 @@ pub notice_at-requires-clause-ends : goal.notice_at-requires-clause-ends
 notice_at-requires-clause-ends c = λ test.
     let l = c.loop-slot in
     let here : l.slot-index < length c.args.slots.now.items = omega arith in
-    let there = kept-here (noticed c.args.number) c.args.slots.now.items l.slot-items l.slot-index c.slot-item.result here l.invariant.done c.slot-item.is in
-    c.has_bit.ensures ∙ (ap (λ i. bit_at c.args.ending i == 1) l.invariant.place ∙ marked-at is_ending c.args.ending (map kept_slot c.args.slots.now.items) l.slot-index (kept_slot c.slot-item.result) c.requires.ends there (ap (λ o. passes is_ending (kept_slot o)) c.slot-item.is ∙ test))
+    let there = kept-here (noticed c.args.number) c.args.slots.now.items l.slot-items l.slot-index
+    c.slot-item.result here l.invariant.done c.slot-item.is in
+    c.has_bit.ensures
+    ∙ (ap (λ i. bit_at c.args.ending i == 1) l.invariant.place ∙ marked-at is_ending c.args.ending
+    (map kept_slot c.args.slots.now.items) l.slot-index (kept_slot c.slot-item.result)
+    c.requires.ends there (ap (λ o. passes is_ending (kept_slot o)) c.slot-item.is ∙ test))
 
 pub returns-clause-items : goal.returns-clause-items
 returns-clause-items c =
     let l = c.loop-slot in
     let end : length c.args.slots.now.items ≤ l.slot-index = omega arith in
-    let long : length l.slot-items ≡ length c.args.slots.now.items = kept-length (noticed c.args.number) c.args.slots.now.items l.slot-items l.slot-index l.invariant.done in
-    ap (map kept_slot) (written-back c.args.slots.now.len l.slot-items _ (omega (arith, long, c.args.slots.now.ok.0)))
-    ∙ kept-end (noticed c.args.number) c.args.slots.now.items l.slot-items l.slot-index end l.invariant.done
+    let long : length l.slot-items ≡ length c.args.slots.now.items = kept-length
+    (noticed c.args.number) c.args.slots.now.items l.slot-items l.slot-index l.invariant.done in
+    ap (map kept_slot)
+    (written-back c.args.slots.now.len l.slot-items _ (omega (arith, long, c.args.slots.now.ok.0)))
+    ∙ kept-end (noticed c.args.number) c.args.slots.now.items l.slot-items l.slot-index end
+    l.invariant.done
 
 pub loop-slot-init : goal.loop-slot-init
 loop-slot-init c =
     let e : c.deref_mut-slot-items.result.now ≡ c.args.slots.now.items = search rules in
-    record { done = ap (map kept_slot) e; few = λ k d le lt. few-at (2 ^ 63 - 1) c.deref_mut-slot-items.result.now k d lt (rw e c.requires.few); place = refl }
+    record {
+      done = ap (map kept_slot) e;
+      few = λ k d le lt. few-at
+          (2 ^ 63 - 1) c.deref_mut-slot-items.result.now k d lt (rw e c.requires.few);
+      place = refl;
+    }

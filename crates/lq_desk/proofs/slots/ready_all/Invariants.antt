@@ -7,8 +7,10 @@ use Rattle.lq_desk.proofs.slots.ready_all.Given as goal
 
 abbrev pub invariant-loop-slot : goal.invariant-loop-slot
 invariant-loop-slot l = record {
-  done : l.slot-items ≡ map (option_map (prepared_slot l.planned.before l.planned.change)) (take l.slot-index l.fn.slots.items) ++ drop l.slot-index l.fn.slots.items;
-  few : (k : ℕ) (d : Option PreparedSlot) → l.slot-index ≤ k → k < length l.slot-items → IsFew (2 ^ 63 - 1) (option_map slot_of (get_or l.slot-items k d));
+  done : l.slot-items ≡ map (option_map (prepared_slot l.planned.before l.planned.change))
+      (take l.slot-index l.fn.slots.items) ++ drop l.slot-index l.fn.slots.items;
+  few : (k : ℕ) (d : Option PreparedSlot) → l.slot-index ≤ k → k < length l.slot-items
+      → IsFew (2 ^ 63 - 1) (option_map slot_of (get_or l.slot-items k d));
   place : l.index ≡ l.slot-index;
   told : IsMarked has_ready l.told (take l.slot-index l.slot-items);
 }

@@ -4,7 +4,14 @@ use Rattle.lq_desk.proofs.WordLemmas.{either-left}
 use Rattle.lq_desk.proofs.word.with_bit.Goals as goal
 
 pub returns-then-not-is_set : goal.returns-then-not-is_set
-returns-then-not-is_set c = record { here = λ is. absurd (let set = c.if-not-is_set.true in let no : ⊥ = cc in no); others = λ i is. is }
+returns-then-not-is_set c =
+    record {
+      here = λ is. absurd (let set = c.if-not-is_set.true in let no : ⊥ = cc in no);
+      others = λ i is. is;
+    }
 
 pub returns : goal.returns
-returns c = record { here = λ is. bit_at_set_same w64 c.args.word c.args.place c.requires; others = either-left c.args.word _ }
+returns c = record {
+  here = λ is. bit_at_set_same w64 c.args.word c.args.place c.requires;
+  others = either-left c.args.word _;
+}

@@ -7,24 +7,41 @@ use Rattle.lq_desk.proofs.Desks.{IsDesk-change}
 use Rattle.lq_desk.proofs.desk.Desk.change.Goals as goal
 
 pub invariant_of-self-in_err-applied : goal.invariant_of-self-in_err-applied
-invariant_of-self-in_err-applied c = rw (c.in_err-applied.ensures.err, c.in_ok-told.ensures.ok, map-prepared) c.self.invariant
+invariant_of-self-in_err-applied c =
+    rw (c.in_err-applied.ensures.err, c.in_ok-told.ensures.ok, map-prepared) c.self.invariant
 
 pub returns-in_err-applied-clause-err : goal.returns-in_err-applied-clause-err
 returns-in_err-applied-clause-err c =
-    let p = err_from_is_err_and c.from_residual-in_err-applied.result c.from_residual-in_err-applied.ensures.1 in
+    let p = err_from_is_err_and c.from_residual-in_err-applied.result
+    c.from_residual-in_err-applied.ensures.1 in
     rw (p.1, c.in_err-applied.ensures.err, c.in_ok-told.ensures.ok, map-prepared) c.self.view_is
 
 pub commit-requires-clause-few : goal.commit-requires-clause-few
 commit-requires-clause-few c =
     let numbered = c.changes.ensures.volume.numbered in
-    rw (c.in_ok-told.ensures.ok, map-prepared) (few-more (3 * c.self.inside.volume.number) (2 ^ 63 - 1) _ (omega (arith, numbered.limit, numbered.number)) c.self.invariant.few)
+    rw (c.in_ok-told.ensures.ok, map-prepared) (few-more (3 * c.self.inside.volume.number)
+    (2 ^ 63 - 1) _ (omega (arith, numbered.limit, numbered.number)) c.self.invariant.few)
 
 pub invariant_of-self-2 : goal.invariant_of-self-2
 invariant_of-self-2 c =
-    rw (c.commit.ensures, c.in_ok-told.ensures.ok, c.in_ok-planned.ensures.value, c.in_ok-applied.ensures.ok, map-committed)
-    (IsDesk-change (kept-shows c.changes_are_counted.ensures c.updates_join.ensures c.runs_keep_worlds_fair.ensures) c.steps_are_few.ensures c.changes_are_counted.ensures _ c.args.change.now c.self.invariant c.changes.ensures.volume c.in_ok-planned.ensures.ok)
+    rw (
+      c.commit.ensures,
+      c.in_ok-told.ensures.ok,
+      c.in_ok-planned.ensures.value,
+      c.in_ok-applied.ensures.ok,
+      map-committed,
+    )
+    (IsDesk-change (kept-shows c.changes_are_counted.ensures c.updates_join.ensures
+    c.runs_keep_worlds_fair.ensures) c.steps_are_few.ensures c.changes_are_counted.ensures _
+    c.args.change.now c.self.invariant c.changes.ensures.volume c.in_ok-planned.ensures.ok)
 
 pub returns-clause-ok : goal.returns-clause-ok
 returns-clause-ok c =
-    rw (c.commit.ensures, c.in_ok-told.ensures.ok, c.in_ok-planned.ensures.value, c.in_ok-applied.ensures.ok, map-committed)
+    rw (
+      c.commit.ensures,
+      c.in_ok-told.ensures.ok,
+      c.in_ok-planned.ensures.value,
+      c.in_ok-applied.ensures.ok,
+      map-committed,
+    )
     (ap (λ (k : Kept). changed k c.args.change.now) c.self.view_is)

@@ -13,15 +13,29 @@ use Rattle.lq_desk.proofs.desk.Desk.fill_all.Goals as goal
 
 pub invariant_of-self : goal.invariant_of-self
 invariant_of-self c =
-    let k : Kept = record { volume = c.self.inside.volume; openings = c.self.inside.openings; slots = map kept_slot c.self.inside.slots } in
-    let made : map kept_slot c.fill_all.new.self ≡ map (option_map filled) k.slots = c.fill_all.ensures in
-    subst (λ ks. IsDesk (record { volume = k.volume; openings = k.openings; slots = ks })) (sym made)
-    (IsDesk-after (kept-shows c.changes_are_counted.ensures c.updates_join.ensures c.runs_keep_worlds_fair.ensures) k (all_puts (kept_ports k)) (map (option_map filled) k.slots) c.self.invariant
-    (sym (filled-all k)) (length-map _ k.slots) (few-filled_all (3 * k.volume.number) k.slots c.self.invariant.few))
+    let k : Kept = record {
+      volume = c.self.inside.volume;
+      openings = c.self.inside.openings;
+      slots = map kept_slot c.self.inside.slots;
+    } in
+    let made : map kept_slot c.fill_all.new.self ≡ map (option_map filled) k.slots =
+    c.fill_all.ensures in
+    subst (λ ks. IsDesk (record { volume = k.volume; openings = k.openings; slots = ks }))
+    (sym made)
+    (IsDesk-after (kept-shows c.changes_are_counted.ensures
+    c.updates_join.ensures c.runs_keep_worlds_fair.ensures) k (all_puts (kept_ports k))
+    (map (option_map filled) k.slots) c.self.invariant
+    (sym (filled-all k)) (length-map _ k.slots)
+    (few-filled_all (3 * k.volume.number) k.slots c.self.invariant.few))
 
 pub returns : goal.returns
 returns c =
-    let k : Kept = record { volume = c.self.inside.volume; openings = c.self.inside.openings; slots = map kept_slot c.self.inside.slots } in
-    let made : map kept_slot c.fill_all.new.self ≡ map (option_map filled) k.slots = c.fill_all.ensures in
+    let k : Kept = record {
+      volume = c.self.inside.volume;
+      openings = c.self.inside.openings;
+      slots = map kept_slot c.self.inside.slots;
+    } in
+    let made : map kept_slot c.fill_all.new.self ≡ map (option_map filled) k.slots =
+    c.fill_all.ensures in
     ap (λ ks. record { volume = k.volume; openings = k.openings; slots = ks }) made
     ∙ (filled-all k ∙ ap (λ (j : Kept). kept_after j (all_puts (kept_ports j))) c.self.view_is)

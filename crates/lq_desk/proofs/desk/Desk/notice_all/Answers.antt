@@ -13,20 +13,37 @@ use Rattle.lq_desk.proofs.desk.Desk.notice_all.Goals as goal
 
 pub invariant_of-self : goal.invariant_of-self
 invariant_of-self c =
-    let k : Kept = record { volume = c.self.inside.volume; openings = c.self.inside.openings; slots = map kept_slot c.self.inside.slots } in
-    let made : map kept_slot c.notice_all.new.self ≡ map (option_map (noticed c.self.inside.volume.number)) k.slots = rw (← c.changes-number.ensures.number) c.notice_all.ensures in
-    subst (λ ks. IsDesk (record { volume = k.volume; openings = k.openings; slots = ks })) (sym made)
-    (IsDesk-after (kept-shows c.changes_are_counted.ensures c.updates_join.ensures c.runs_keep_worlds_fair.ensures) k (notices (kept_ports k)) (map (option_map (noticed c.self.inside.volume.number)) k.slots) c.self.invariant
-    (sym (noticed-all k)) (length-map _ k.slots) (few-noticed_all (3 * k.volume.number) k.volume.number k.slots c.self.invariant.few))
+    let k : Kept = record {
+      volume = c.self.inside.volume;
+      openings = c.self.inside.openings;
+      slots = map kept_slot c.self.inside.slots;
+    } in
+    let made : map kept_slot c.notice_all.new.self
+    ≡ map (option_map (noticed c.self.inside.volume.number)) k.slots =
+    rw (← c.changes-number.ensures.number) c.notice_all.ensures in
+    subst (λ ks. IsDesk (record { volume = k.volume; openings = k.openings; slots = ks }))
+    (sym made)
+    (IsDesk-after (kept-shows c.changes_are_counted.ensures
+    c.updates_join.ensures c.runs_keep_worlds_fair.ensures) k (notices (kept_ports k))
+    (map (option_map (noticed c.self.inside.volume.number)) k.slots) c.self.invariant
+    (sym (noticed-all k)) (length-map _ k.slots)
+    (few-noticed_all (3 * k.volume.number) k.volume.number k.slots c.self.invariant.few))
 
 pub returns : goal.returns
 returns c =
-    let k : Kept = record { volume = c.self.inside.volume; openings = c.self.inside.openings; slots = map kept_slot c.self.inside.slots } in
-    let made : map kept_slot c.notice_all.new.self ≡ map (option_map (noticed c.self.inside.volume.number)) k.slots = rw (← c.changes-number.ensures.number) c.notice_all.ensures in
+    let k : Kept = record {
+      volume = c.self.inside.volume;
+      openings = c.self.inside.openings;
+      slots = map kept_slot c.self.inside.slots;
+    } in
+    let made : map kept_slot c.notice_all.new.self
+    ≡ map (option_map (noticed c.self.inside.volume.number)) k.slots =
+    rw (← c.changes-number.ensures.number) c.notice_all.ensures in
     ap (λ ks. record { volume = k.volume; openings = k.openings; slots = ks }) made
     ∙ (noticed-all k ∙ ap (λ (j : Kept). kept_after j (notices (kept_ports j))) c.self.view_is)
 
 pub notice_all-requires : goal.notice_all-requires
 notice_all-requires c =
     let numbered = c.changes-number.ensures.volume.numbered in
-    few-more (3 * c.self.inside.volume.number) (2 ^ 63 - 1) _ (omega (arith, numbered.limit, numbered.number)) c.self.invariant.few
+    few-more (3 * c.self.inside.volume.number) (2 ^ 63 - 1) _
+    (omega (arith, numbered.limit, numbered.number)) c.self.invariant.few

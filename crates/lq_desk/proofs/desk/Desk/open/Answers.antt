@@ -10,23 +10,46 @@ use Rattle.lq_desk.proofs.desk.Desk.open.Goals as goal
 pub invariant_of-self : goal.invariant_of-self
 invariant_of-self c =
     let xs = c.self.inside.slots in
-    let k : Kept = record { volume = c.self.inside.volume; openings = c.self.inside.openings; slots = map kept_slot xs } in
-    let fresh : KeptSlot = fresh_slot c.args.predicate.now c.args.moved k.volume.number c.args.port c.args.backlog in
-    let same : slot_of c.in_ok-slot.slot ≡ fresh = rw (← c.changes-at.ensures.number) c.in_ok-slot.ensures.value in
+    let k : Kept = record {
+      volume = c.self.inside.volume;
+      openings = c.self.inside.openings;
+      slots = map kept_slot xs;
+    } in
+    let fresh : KeptSlot =
+    fresh_slot c.args.predicate.now c.args.moved k.volume.number c.args.port c.args.backlog in
+    let same : slot_of c.in_ok-slot.slot ≡ fresh =
+    rw (← c.changes-at.ensures.number) c.in_ok-slot.ensures.value in
     let place : c.first_free-place.result ≡ first_free k.slots = c.first_free-place.ensures in
-    let free : first_free k.slots < length k.slots = omega (arith, c.if-place-ge-SLOTS.false, place, c.self.invariant.slots) in
+    let free : first_free k.slots < length k.slots =
+    omega (arith, c.if-place-ge-SLOTS.false, place, c.self.invariant.slots) in
     let none : opening_refusal k c.args.port c.args.backlog ≡ None =
-    opens k c.args.port c.args.backlog (omega (arith, c.if-port-lt1.false)) (omega (arith, c.if-port-gt-MAX_PORT.false)) (omega (arith, c.if-backlog-gt-MAX_BACKLOG.false)) free (omega (arith, c.if-limit-self.false, c.limit.ensures)) in
-    let made : map kept_slot c.open.new.self ≡ slice_set k.slots (first_free k.slots) (Some fresh) = slots-opened xs c.open.new.self (first_free k.slots) c.in_ok-slot.slot fresh c.open.ensures same refl in
-    subst (λ ks. IsDesk (record { volume = k.volume; openings = k.openings + 1; slots = ks })) (sym made)
-    (IsDesk-open (kept-shows c.changes_are_counted.ensures c.updates_join.ensures c.runs_keep_worlds_fair.ensures) k c.args.predicate.now c.args.port c.args.backlog c.args.moved c.self.invariant none)
+    opens k c.args.port c.args.backlog (omega (arith, c.if-port-lt1.false))
+    (omega (arith, c.if-port-gt-MAX_PORT.false)) (omega (arith, c.if-backlog-gt-MAX_BACKLOG.false))
+    free (omega (arith, c.if-limit-self.false, c.limit.ensures)) in
+    let made : map kept_slot c.open.new.self ≡ slice_set k.slots (first_free k.slots) (Some fresh) =
+    slots-opened xs c.open.new.self
+    (first_free k.slots) c.in_ok-slot.slot fresh c.open.ensures same refl in
+    subst (λ ks. IsDesk (record { volume = k.volume; openings = k.openings + 1; slots = ks }))
+    (sym made)
+    (IsDesk-open (kept-shows c.changes_are_counted.ensures c.updates_join.ensures
+    c.runs_keep_worlds_fair.ensures) k c.args.predicate.now c.args.port c.args.backlog c.args.moved
+    c.self.invariant none)
 
 pub returns-clause-ok : goal.returns-clause-ok
 returns-clause-ok c =
     let xs = c.self.inside.slots in
-    let k : Kept = record { volume = c.self.inside.volume; openings = c.self.inside.openings; slots = map kept_slot xs } in
-    let fresh : KeptSlot = fresh_slot c.args.predicate.now c.args.moved k.volume.number c.args.port c.args.backlog in
-    let same : slot_of c.in_ok-slot.slot ≡ fresh = rw (← c.changes-at.ensures.number) c.in_ok-slot.ensures.value in
-    let made : map kept_slot c.open.new.self ≡ slice_set k.slots (first_free k.slots) (Some fresh) = slots-opened xs c.open.new.self (first_free k.slots) c.in_ok-slot.slot fresh c.open.ensures same refl in
+    let k : Kept = record {
+      volume = c.self.inside.volume;
+      openings = c.self.inside.openings;
+      slots = map kept_slot xs;
+    } in
+    let fresh : KeptSlot =
+    fresh_slot c.args.predicate.now c.args.moved k.volume.number c.args.port c.args.backlog in
+    let same : slot_of c.in_ok-slot.slot ≡ fresh =
+    rw (← c.changes-at.ensures.number) c.in_ok-slot.ensures.value in
+    let made : map kept_slot c.open.new.self ≡ slice_set k.slots (first_free k.slots) (Some fresh) =
+    slots-opened xs c.open.new.self
+    (first_free k.slots) c.in_ok-slot.slot fresh c.open.ensures same refl in
     ap (λ ks. record { volume = k.volume; openings = k.openings + 1; slots = ks }) made
-    ∙ ap (λ (j : Kept). opened j (fresh_slot c.args.predicate.now c.args.moved j.volume.number c.args.port c.args.backlog)) c.self.view_is
+    ∙ ap (λ (j : Kept). opened j (fresh_slot c.args.predicate.now c.args.moved j.volume.number
+    c.args.port c.args.backlog)) c.self.view_is

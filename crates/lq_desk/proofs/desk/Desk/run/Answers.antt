@@ -19,20 +19,25 @@ loop-event-preserved c =
       room = omega (arith, c.push_reserved.ensures.capacity, l.invariant.room);
       run = λ w shows.
           let r = l.invariant.run w shows in
-          rw (c.push_reserved.ensures.items, at, ← c.event-item.is, map-more, map-more) (runs-more _ _ w _ _ _ _ r (c.event-reply.ensures.world r.end r.shows));
+          rw (c.push_reserved.ensures.items, at, ← c.event-item.is, map-more, map-more)
+          (runs-more _ _ w _ _ _ _ r (c.event-reply.ensures.world r.end r.shows));
     }
 
 pub returns-clause-run : goal.returns-clause-run
 returns-clause-run c = λ w shows.
-    let all = take-all c.loop-event.event-index c.args.events.now (omega (arith, c.loop-event-test.false)) in
-    subst (λ (es : List Event). Runs c.loop-event.self w (map happening_of es) (map answer_of c.loop-event.replies.items)) all (c.loop-event.invariant.run w shows)
+    let all = take-all c.loop-event.event-index c.args.events.now
+    (omega (arith, c.loop-event-test.false)) in
+    subst (λ (es : List Event). Runs c.loop-event.self w (map happening_of es)
+    (map answer_of c.loop-event.replies.items)) all (c.loop-event.invariant.run w shows)
 
 pub returns-clause-readers : goal.returns-clause-readers
 returns-clause-readers c =
     let w = c.self.invariant.world in
-    let shows : Shows c.args.self.now w = subst (λ (k : Kept). Shows k w) c.self.view_is c.self.invariant.shows in
+    let shows : Shows c.args.self.now w =
+    subst (λ (k : Kept). Shows k w) c.self.view_is c.self.invariant.shows in
     let runs = returns-clause-run c w shows in
     let events = map happening_of c.args.events.now in
     let answers = map answer_of c.loop-event.replies.items in
-    subst (λ (s : State). ReadersAreTold s events answers) (sym (ap (λ (k : Kept). k.volume) shows.kept))
+    subst (λ (s : State). ReadersAreTold s events answers)
+    (sym (ap (λ (k : Kept). k.volume) shows.kept))
     (c.readers_are_told.ensures w runs.end events answers runs.run)

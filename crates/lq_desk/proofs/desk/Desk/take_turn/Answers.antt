@@ -8,13 +8,18 @@ use Rattle.lq_desk.proofs.desk.Desk.take_turn.Goals as goal
 pub returns-in-Change : goal.returns-in-Change
 returns-in-Change c =
     let step = c.carry_out-reply.ensures in
-    rw c.in-Change.is (change-turn c.args.self.now c.notice_all.new.self c.carry_out-reply.new.self c.fill_all.new.self c.in-Change.field-0 _ c.notice_all.ensures (rw c.in-Change.is at step) c.fill_all.ensures)
+    rw c.in-Change.is (change-turn c.args.self.now c.notice_all.new.self
+    c.carry_out-reply.new.self c.fill_all.new.self c.in-Change.field-0 _ c.notice_all.ensures
+    (rw c.in-Change.is at step) c.fill_all.ensures)
 
 pub returns-in-Take : goal.returns-in-Take
-returns-in-Take c = rw c.in-Take.is (take-turn c.args.self.now c.notice.new.self c.fill.new.self c.act.new.self c.in-Take.slot _ c.notice.ensures c.fill.ensures c.act.ensures)
+returns-in-Take c = rw c.in-Take.is (take-turn c.args.self.now c.notice.new.self c.fill.new.self
+    c.act.new.self c.in-Take.slot _ c.notice.ensures c.fill.ensures c.act.ensures)
 
 pub returns-in-Close : goal.returns-in-Close
-returns-in-Close c = rw c.in-Close.is (close-turn c.args.self.now c.notice-in-Close.new.self c.act-reply.new.self c.fill-in-Close.new.self c.in-Close.slot _ c.notice-in-Close.ensures c.act-reply.ensures c.fill-in-Close.ensures)
+returns-in-Close c = rw c.in-Close.is (close-turn c.args.self.now c.notice-in-Close.new.self
+    c.act-reply.new.self c.fill-in-Close.new.self c.in-Close.slot _ c.notice-in-Close.ensures
+    c.act-reply.ensures c.fill-in-Close.ensures)
 
 pub returns-in-Open : goal.returns-in-Open
 returns-in-Open c =

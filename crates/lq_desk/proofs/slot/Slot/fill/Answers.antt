@@ -4,14 +4,20 @@ use Rattle.lq_desk.proofs.PutLemmas.{put-leaves, put-quiet, put-stuck, puts-end,
 use Rattle.lq_desk.proofs.slot.Slot.fill.Goals as goal
 
 pub loop-preserved : goal.loop-preserved
-loop-preserved c = record { done = put-leaves (slot_of c.loop.self) (slot_of c.put.new.self) c.put.result c.put.ensures ∙ (ap after_put c.loop.invariant.done ∙ puts-more c.loop.counter (slot_of c.args.self.now)) }
+loop-preserved c = record {
+  done =
+      put-leaves (slot_of c.loop.self) (slot_of c.put.new.self) c.put.result c.put.ensures
+      ∙ (ap after_put c.loop.invariant.done ∙ puts-more c.loop.counter (slot_of c.args.self.now));
+}
 
 pub returns-then-not-put : goal.returns-then-not-put
 returns-then-not-put c =
     let old = slot_of c.args.self.now in
     let here : c.loop.counter ≤ c.places-end.result = omega (arith, c.loop-test.true) in
-    let stuck : can_move (slot_of c.loop.self) ≡ false = put-stuck (slot_of c.loop.self) (slot_of c.put.new.self) c.put.result c.put.ensures c.if-not-put.true in
-    let still : can_move (after_puts c.loop.counter old) ≡ false = ap can_move (sym c.loop.invariant.done) ∙ stuck in
+    let stuck : can_move (slot_of c.loop.self) ≡ false = put-stuck (slot_of c.loop.self)
+    (slot_of c.put.new.self) c.put.result c.put.ensures c.if-not-put.true in
+    let still : can_move (after_puts c.loop.counter old) ≡ false =
+    ap can_move (sym c.loop.invariant.done) ∙ stuck in
     put-leaves (slot_of c.loop.self) (slot_of c.put.new.self) c.put.result c.put.ensures
     ∙ (put-quiet (slot_of c.loop.self) stuck
     ∙ (c.loop.invariant.done

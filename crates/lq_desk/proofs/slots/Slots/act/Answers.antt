@@ -17,30 +17,38 @@ pub returns-then-place-len : goal.returns-then-place-len
 returns-then-place-len c =
     let xs = c.self.inside.stored.items in
     let past : length xs ≤ c.args.place = omega (arith, c.if-place-len.true, c.len.ensures) in
-    subst (λ (ys : List (Option PreparedSlot)). (Refused NotOpen, map kept_slot ys) ≡ outcome_in c.args.number c.args.act (map kept_slot ys) c.args.place) c.self.view_is
+    subst (λ (ys : List (Option PreparedSlot)). (Refused NotOpen, map kept_slot ys)
+    ≡ outcome_in c.args.number c.args.act (map kept_slot ys) c.args.place) c.self.view_is
     (act-free c.args.number c.args.act xs c.args.place past c.requires.place)
 
 pub act_in-reply-requires-clause-few : goal.act_in-reply-requires-clause-few
 act_in-reply-requires-clause-few c =
-    few-stored (2 ^ 63 - 1) c.self.inside.stored.items (subst (λ (ys : List (Option PreparedSlot)). AllByRecursion (IsFew (2 ^ 63 - 1)) (map kept_slot ys)) (sym c.self.view_is) c.requires.few)
+    few-stored (2 ^ 63 - 1) c.self.inside.stored.items (subst (λ (ys : List (Option PreparedSlot)).
+    AllByRecursion (IsFew (2 ^ 63 - 1)) (map kept_slot ys)) (sym c.self.view_is) c.requires.few)
 
 pub returns : goal.returns
 returns c =
     let xs = c.self.inside.stored.items in
     let within : c.args.place < length xs = omega (arith, c.if-place-len.false, c.len.ensures) in
-    act-stored c.args.number c.args.act xs c.act_in-reply.new.slots.items c.args.place (answer_of c.act_in-reply.result) within c.act_in-reply.ensures.does
+    act-stored c.args.number c.args.act xs c.act_in-reply.new.slots.items c.args.place
+    (answer_of c.act_in-reply.result) within c.act_in-reply.ensures.does
     ∙ ap (λ ys. outcome_in c.args.number c.args.act (map kept_slot ys) c.args.place) c.self.view_is
 
 pub invariant_of-self : goal.invariant_of-self
 invariant_of-self c =
     let xs = c.self.inside.stored.items in
     let ks = map kept_slot xs in
-    let within : c.args.place < length ks = omega (arith, c.if-place-len.false, c.len.ensures, length-map kept_slot xs) in (
+    let within : c.args.place < length ks =
+    omega (arith, c.if-place-len.false, c.len.ensures, length-map kept_slot xs) in (
       omega (arith, c.self.invariant.0, c.act_in-reply.ensures.len),
       omega (arith, c.self.invariant.1, c.act_in-reply.ensures.room),
-      marks-acted c.self.inside.ending c.self.inside.movable c.with_bit-self-inside.result c.with_bit-self-inside-2.result ks (map kept_slot c.act_in-reply.new.slots.items) c.args.place _ within
+      marks-acted c.self.inside.ending
+          c.self.inside.movable c.with_bit-self-inside.result c.with_bit-self-inside-2.result ks
+          (map kept_slot c.act_in-reply.new.slots.items) c.args.place _ within
           (ap (λ (p : Answer × List (Option KeptSlot)). p.1) c.act_in-reply.ensures.does)
-          (subst (λ b. SetsBit c.self.inside.ending c.args.place b c.with_bit-self-inside.result) c.is_ending_in.ensures c.with_bit-self-inside.ensures)
-          (subst (λ b. SetsBit c.self.inside.movable c.args.place b c.with_bit-self-inside-2.result) c.can_move_in.ensures c.with_bit-self-inside-2.ensures)
+          (subst (λ b. SetsBit c.self.inside.ending c.args.place b c.with_bit-self-inside.result)
+          c.is_ending_in.ensures c.with_bit-self-inside.ensures)
+          (subst (λ b. SetsBit c.self.inside.movable c.args.place b c.with_bit-self-inside-2.result)
+          c.can_move_in.ensures c.with_bit-self-inside-2.ensures)
           c.self.invariant.2,
     )

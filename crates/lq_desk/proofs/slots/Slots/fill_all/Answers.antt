@@ -12,15 +12,18 @@ use Rattle.lq_desk.proofs.slots.Slots.fill_all.Goals as goal
 pub returns-then-self-eq0 : goal.returns-then-self-eq0
 returns-then-self-eq0 c =
     let xs = c.self.inside.stored.items in
-    let marked = subst (λ word. IsMarked can_move word (map kept_slot xs)) c.if-self-eq0.true c.self.invariant.2.moves in
+    let marked = subst (λ word. IsMarked can_move word (map kept_slot xs)) c.if-self-eq0.true
+    c.self.invariant.2.moves in
     let none = none-marked can_move filled (map kept_slot xs) filled-quiet marked in
-    ap (map kept_slot) (sym c.self.view_is) ∙ (kept-map filled xs xs (sym none) ∙ ap (λ ys. map (option_map filled) (map kept_slot ys)) c.self.view_is)
+    ap (map kept_slot) (sym c.self.view_is) ∙ (kept-map filled xs xs (sym none)
+    ∙ ap (λ ys. map (option_map filled) (map kept_slot ys)) c.self.view_is)
 
 pub invariant_of-self : goal.invariant_of-self
 invariant_of-self c = (
   omega (arith, c.self.invariant.0, c.fill_all.ensures.len),
   omega (arith, c.self.invariant.1, c.fill_all.ensures.room),
-  marks-filled c.self.inside.ending c.self.inside.movable (map kept_slot c.self.inside.stored.items) _ c.fill_all.ensures.items c.self.invariant.2,
+  marks-filled c.self.inside.ending c.self.inside.movable
+      (map kept_slot c.self.inside.stored.items) _ c.fill_all.ensures.items c.self.invariant.2,
 )
 
 pub returns : goal.returns

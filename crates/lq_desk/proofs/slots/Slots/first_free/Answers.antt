@@ -8,4 +8,5 @@ pub returns : goal.returns
 returns c =
     c.first_free.ensures
     ∙ (ap (λ ys. first_free (map kept_slot ys)) c.deref.ensures.value
-    ∙ (sym (first-free c.self.inside.stored.items) ∙ ap (λ ys. first_free (map kept_slot ys)) c.self.view_is))
+    ∙ (sym (first-free c.self.inside.stored.items)
+    ∙ ap (λ ys. first_free (map kept_slot ys)) c.self.view_is))

@@ -13,22 +13,28 @@ use Rattle.lq_desk.proofs.slots.Slots.notice_all.Goals as goal
 pub returns-then-self-eq0 : goal.returns-then-self-eq0
 returns-then-self-eq0 c =
     let xs = c.self.inside.stored.items in
-    let marked = subst (λ word. IsMarked is_ending word (map kept_slot xs)) c.if-self-eq0.true c.self.invariant.2.ends in
-    let none = none-marked is_ending (noticed c.args.number) (map kept_slot xs) (noticed-quiet c.args.number) marked in
-    ap (map kept_slot) (sym c.self.view_is) ∙ (kept-map (noticed c.args.number) xs xs (sym none) ∙ ap (λ ys. map (option_map (noticed c.args.number)) (map kept_slot ys)) c.self.view_is)
+    let marked = subst (λ word. IsMarked is_ending word (map kept_slot xs)) c.if-self-eq0.true
+    c.self.invariant.2.ends in
+    let none = none-marked is_ending (noticed c.args.number) (map kept_slot xs)
+    (noticed-quiet c.args.number) marked in
+    ap (map kept_slot) (sym c.self.view_is) ∙ (kept-map (noticed c.args.number) xs xs (sym none)
+    ∙ ap (λ ys. map (option_map (noticed c.args.number)) (map kept_slot ys)) c.self.view_is)
 
 pub notice_all-requires-clause-few : goal.notice_all-requires-clause-few
 notice_all-requires-clause-few c =
-    few-stored (2 ^ 63 - 1) c.self.inside.stored.items (subst (λ (ys : List (Option PreparedSlot)). AllByRecursion (IsFew (2 ^ 63 - 1)) (map kept_slot ys)) (sym c.self.view_is) c.requires)
+    few-stored (2 ^ 63 - 1) c.self.inside.stored.items (subst (λ (ys : List (Option PreparedSlot)).
+    AllByRecursion (IsFew (2 ^ 63 - 1)) (map kept_slot ys)) (sym c.self.view_is) c.requires)
 
 pub invariant_of-self : goal.invariant_of-self
 invariant_of-self c = (
   omega (arith, c.self.invariant.0, c.notice_all.ensures.len),
   omega (arith, c.self.invariant.1, c.notice_all.ensures.room),
-  marks-noticed c.args.number c.self.inside.ending c.self.inside.movable (map kept_slot c.self.inside.stored.items) _ c.notice_all.ensures.items c.self.invariant.2,
+  marks-noticed c.args.number c.self.inside.ending c.self.inside.movable
+      (map kept_slot c.self.inside.stored.items) _ c.notice_all.ensures.items c.self.invariant.2,
 )
 
 pub returns : goal.returns
 returns c =
-    kept-map (noticed c.args.number) c.self.inside.stored.items c.notice_all.new.slots.items c.notice_all.ensures.items
+    kept-map (noticed c.args.number) c.self.inside.stored.items c.notice_all.new.slots.items
+    c.notice_all.ensures.items
     ∙ ap (λ ys. map (option_map (noticed c.args.number)) (map kept_slot ys)) c.self.view_is

@@ -10,16 +10,20 @@ use Rattle.lq_desk.proofs.slots.Slots.ready.Goals as goal
 
 pub ready_all-requires-clause-few : goal.ready_all-requires-clause-few
 ready_all-requires-clause-few c =
-    few-stored (2 ^ 63 - 1) c.self.inside.stored.items (subst (λ (ys : List (Option PreparedSlot)). AllByRecursion (IsFew (2 ^ 63 - 1)) (map kept_slot ys)) (sym c.self.view_is) c.requires.few)
+    few-stored (2 ^ 63 - 1) c.self.inside.stored.items (subst (λ (ys : List (Option PreparedSlot)).
+    AllByRecursion (IsFew (2 ^ 63 - 1)) (map kept_slot ys)) (sym c.self.view_is) c.requires.few)
 
 pub returns-clause-ok : goal.returns-clause-ok
 returns-clause-ok c =
     ap with_free c.in_ok-ready_all.ensures.ok
-    ∙ (sym (map-free (prepared_slot c.args.planned.now.before c.args.planned.now.change) c.self.inside.stored.items)
-    ∙ ap (map (option_map (prepared_slot c.args.planned.now.before c.args.planned.now.change))) c.self.view_is)
+    ∙ (sym (map-free
+    (prepared_slot c.args.planned.now.before c.args.planned.now.change) c.self.inside.stored.items)
+    ∙ ap (map (option_map (prepared_slot c.args.planned.now.before c.args.planned.now.change)))
+    c.self.view_is)
 
 pub returns-clause-told : goal.returns-clause-told
-returns-clause-told c = λ i p at. c.in_ok-ready_all.ensures.told i p (stored-at c.ready_all.new.slots.items i p at)
+returns-clause-told c =
+    λ i p at. c.in_ok-ready_all.ensures.told i p (stored-at c.ready_all.new.slots.items i p at)
 
 pub invariant_of-self : goal.invariant_of-self
 invariant_of-self c = (
@@ -38,5 +42,6 @@ invariant_of-self-2 c = (
 pub returns-in_err-ready_all-clause-err : goal.returns-in_err-ready_all-clause-err
 returns-in_err-ready_all-clause-err c =
     let p = err_from_is_err_and c.from_residual.result c.from_residual.ensures.1 in
-    let same = kept-free c.ready_all.new.slots.items c.self.inside.stored.items c.in_err-ready_all.ensures.err ∙ ap (map kept_slot) c.self.view_is in
+    let same = kept-free c.ready_all.new.slots.items c.self.inside.stored.items
+    c.in_err-ready_all.ensures.err ∙ ap (map kept_slot) c.self.view_is in
     rw (p.1) same

@@ -13,10 +13,19 @@ returns-then-passes_over-clause-ok c =
     let s = c.args.planned.now.before in
     let change = c.args.planned.now.change in
     let over : passes_over (names_of h.query) change ≡ true =
-    ap (passes_over (names_of h.query)) (sym c.change.ensures) ∙ (sym c.passes_over.ensures ∙ c.if-passes_over.true) in
-    let none : step_of h.query h.moved s change (h.sent + 1) ≡ [] = step-empty c.changes_pass_over.ensures c.truth_goes_by_names.ensures h.query h.moved s change (h.sent + 1) c.applied-before.ensures.volume over in
+    ap (passes_over (names_of h.query)) (sym c.change.ensures)
+    ∙ (sym c.passes_over.ensures ∙ c.if-passes_over.true) in
+    let none : step_of h.query h.moved s change (h.sent + 1) ≡ [] =
+    step-empty c.changes_pass_over.ensures c.truth_goes_by_names.ensures h.query h.moved s change
+    (h.sent + 1) c.applied-before.ensures.volume over in
     let p = c.args.self.now in
-    let before : c.applied-before.result.change - 1 ≡ s.number = omega (arith, ap (λ (a : Applied). a.change) c.applied-before.ensures.value) in
-    ap (λ (v : Prepared). record v { ready = c.new.result.items; before = c.applied-before.result.change - 1 }) c.self.view_is
-    ∙ (ap (λ messages. record p { ready = messages; before = c.applied-before.result.change - 1 }) (c.new.ensures.items ∙ sym none)
-    ∙ ap (λ n. record p { ready = step_of h.query h.moved s change (h.sent + 1); before = n }) before)
+    let before : c.applied-before.result.change - 1 ≡ s.number =
+    omega (arith, ap (λ (a : Applied). a.change) c.applied-before.ensures.value) in
+    ap (λ (v : Prepared). record v {
+      ready = c.new.result.items;
+      before = c.applied-before.result.change - 1;
+    }) c.self.view_is
+    ∙ (ap (λ messages. record p { ready = messages; before = c.applied-before.result.change - 1 })
+    (c.new.ensures.items ∙ sym none)
+    ∙ ap
+    (λ n. record p { ready = step_of h.query h.moved s change (h.sent + 1); before = n }) before)
