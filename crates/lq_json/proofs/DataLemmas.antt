@@ -53,6 +53,7 @@ mutual
       ap (option_map object) (of_members-members_after ms no_members)
       ∙ mapped object (members_in_range ms) (members_after ms no_members)
 
+  -- the same of an array's items
   of_items-items_of : (js : json.Items)
       → of_items js ≡ cond (items_in_range js) (Some (items_of js)) None
   of_items-items_of json.no_items = refl
@@ -60,6 +61,7 @@ mutual
       rw (of_json-data_of j, of_items-items_of js)
       (joined (in_range j) (items_in_range js) (data_of j) (items_of js))
 
+  -- the same of an object's members
   of_members-members_after : (ms : json.Members) (before : Members)
       → of_members ms before ≡ cond (members_in_range ms) (Some (members_after ms before)) None
   of_members-members_after json.no_members before = refl
@@ -104,6 +106,7 @@ get_member-members_after k (json.member l j ms) before =
     get_member-members_after k ms (put l (data_of j) before)
     ∙ stepped k l j before (found.get_member k ms) (bytes_eq l k) refl
 
+-- where nothing was found before, what is found later is all
 later-none : (o : Option json.Json) → later o None ≡ option_map data_of o
 later-none None = refl
 later-none (Some j) = refl
