@@ -9,6 +9,7 @@ use Rattle.lq_request.specs.declared.request.Request.{Request}
 use Rattle.lq_request.specs.declared.request.Request.TheVariants as request
 use Rattle.lq_request.specs.Request.{Asked, Given, given_text, given_number, asks_create, asks_remove, asks_move, asks_write, asks_set, asks_unset, asks_open, asks_read, asks_hang_up, asks_close, asks_finish, asks_find, asks_entry, asks_fetch, asks_rebuilt, Question, Happens, Finds, Lists, Fetches, Rebuilds}
 
+-- the value of a `set`, as it was given
 abbrev pub given : View → Given
 given (view.Text text) = given_text text.now
 given (view.Int32 n) = given_number (value.Int32 n)
@@ -16,6 +17,7 @@ given (view.Int64 n) = given_number (value.Int64 n)
 given (view.UInt32 n) = given_number (value.UInt32 n)
 given (view.UInt64 n) = given_number (value.UInt64 n)
 
+-- what a request asks for
 abbrev pub asked : Request → Asked
 asked (request.Create dir name kind size time) = asks_create dir name.now kind size time
 asked (request.Remove node) = asks_remove node
@@ -33,6 +35,7 @@ asked (request.Entry node) = asks_entry node
 asked (request.Fetch query) = asks_fetch query.now
 asked (request.Rebuilt slot) = asks_rebuilt slot
 
+-- the question of the code, as the one that is asked
 abbrev pub question_of : Question_ → Question
 question_of (question.Event event) = Happens (happening_of event)
 question_of (question.Find dir name) = Finds dir name

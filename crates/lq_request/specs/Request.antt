@@ -40,7 +40,8 @@ pub data Asked : Type 0 where
   asks_fetch : (query : List ℕ) → Asked
   asks_rebuilt : (slot : ℕ) → Asked
 
--- what a line asks once its values are read: an event of the core, a look at the volume, or a rebuilt result
+-- what a line asks once its values are read: an event of the core, a look at the volume, or a
+-- rebuilt result
 pub data Question : Type 0 where
   Happens : (event : Happening) → Question
   Finds : (dir : ℕ) (name : List ℕ) → Question
@@ -52,6 +53,7 @@ pub data Question : Type 0 where
 abbrev pub needed_text : List ℕ → Data → Option (List ℕ)
 needed_text key d = option_and_then as_str (get key d)
 
+-- a whole number from 0 up, which has to be there
 abbrev pub needed_u64 : List ℕ → Data → Option ℕ
 needed_u64 key d = option_and_then as_u64 (option_and_then as_number (get key d))
 
@@ -60,25 +62,35 @@ abbrev pub u64_or : ℕ → Option Data → Option ℕ
 u64_or default None = Some default
 u64_or default (Some d) = option_and_then as_u64 (as_number d)
 
+-- a whole number that may be absent
 abbrev pub i64_or : ℤ → Option Data → Option ℤ
 i64_or default None = Some default
 i64_or default (Some d) = option_and_then as_i64 (as_number d)
 
+-- the kind that a text names
 abbrev pub kind_named : List ℕ → Option Kind
-kind_named text = if bytes_eq text (codes "file") then Some File else if bytes_eq text (codes "folder") then Some Folder else None
+kind_named text =
+    if bytes_eq text (codes "file") then Some File
+    else if bytes_eq text (codes "folder") then Some Folder
+    else None
 
+-- a kind that may be absent
 abbrev pub kind_or : Kind → Option Data → Option Kind
 kind_or default None = Some default
 kind_or default (Some d) = option_and_then kind_named (as_str d)
 
+-- a truth value that may be absent
 abbrev pub flag_or : Bool → Option Data → Option Bool
 flag_or default None = Some default
 flag_or default (Some d) = as_bool d
 
 -- a whole number of 32 bits, with a sign and without
 abbrev pub within_i32 : ℤ → Option Given
-within_i32 n = if int_le (negsuc 2147483647) n && int_le n (pos 2147483647) then Some (given_number (Int32 n)) else None
+within_i32 n =
+    if int_le (negsuc 2147483647) n && int_le n (pos 2147483647) then Some (given_number (Int32 n))
+    else None
 
+-- a whole number of 32 bits without a sign
 abbrev pub within_u32 : ℕ → Option Given
 within_u32 n = if nat_le n 4294967295 then Some (given_number (UInt32 n)) else None
 
@@ -86,12 +98,17 @@ within_u32 n = if nat_le n 4294967295 then Some (given_number (UInt32 n)) else N
 abbrev pub given_by : List ℕ → Data → Option Given
 given_by kind d =
     if bytes_eq kind (codes "CSTR") then option_map given_text (as_str d)
-    else if bytes_eq kind (codes "LONG") then option_and_then within_i32 (option_and_then as_i64 (as_number d))
-    else if bytes_eq kind (codes "LLNG") then option_map (λ n. given_number (Int64 n)) (option_and_then as_i64 (as_number d))
-    else if bytes_eq kind (codes "ULNG") then option_and_then within_u32 (option_and_then as_u64 (as_number d))
-    else if bytes_eq kind (codes "ULLG") then option_map (λ n. given_number (UInt64 n)) (option_and_then as_u64 (as_number d))
+    else if bytes_eq kind (codes "LONG")
+    then option_and_then within_i32 (option_and_then as_i64 (as_number d))
+    else if bytes_eq kind (codes "LLNG")
+    then option_map (λ n. given_number (Int64 n)) (option_and_then as_i64 (as_number d))
+    else if bytes_eq kind (codes "ULNG")
+    then option_and_then within_u32 (option_and_then as_u64 (as_number d))
+    else if bytes_eq kind (codes "ULLG")
+    then option_map (λ n. given_number (UInt64 n)) (option_and_then as_u64 (as_number d))
     else None
 
+-- what a `move` asks for, if its fields are there
 abbrev pub move_of : Data → Option Asked
 move_of d =
     option_and_then (λ node.
@@ -103,6 +120,7 @@ move_of d =
     (needed_text (codes "name") d))
     (needed_u64 (codes "node") d)
 
+-- what a `write` asks for
 abbrev pub write_of : Data → Option Asked
 write_of d =
     option_and_then (λ node.
@@ -112,6 +130,7 @@ write_of d =
     (needed_u64 (codes "size") d))
     (needed_u64 (codes "node") d)
 
+-- what a `set` asks for
 abbrev pub set_of : Data → Option Asked
 set_of d =
     option_and_then (λ node.
@@ -125,10 +144,15 @@ set_of d =
     (needed_text (codes "attr") d))
     (needed_u64 (codes "node") d)
 
+-- what an `unset` asks for
 abbrev pub unset_of : Data → Option Asked
 unset_of d =
-    option_and_then (λ node. option_map (λ attr. asks_unset node attr) (needed_text (codes "attr") d)) (needed_u64 (codes "node") d)
+    option_and_then (λ node.
+    option_map (λ attr. asks_unset node attr)
+    (needed_text (codes "attr") d))
+    (needed_u64 (codes "node") d)
 
+-- what a `create` asks for
 abbrev pub create_of : Data → Option Asked
 create_of d =
     option_and_then (λ name.
@@ -142,9 +166,11 @@ create_of d =
     (u64_or 1 (get (codes "dir") d)))
     (needed_text (codes "name") d)
 
+-- what a `remove` asks for
 abbrev pub remove_of : Data → Option Asked
 remove_of d = option_map (λ node. asks_remove node) (needed_u64 (codes "node") d)
 
+-- what an `open` asks for
 abbrev pub open_of : Data → Option Asked
 open_of d =
     option_and_then (λ query.
@@ -156,28 +182,39 @@ open_of d =
     (needed_u64 (codes "port") d))
     (needed_text (codes "query") d)
 
+-- what a `read` asks for
 abbrev pub read_of : Data → Option Asked
 read_of d = option_map (λ slot. asks_read slot) (needed_u64 (codes "slot") d)
 
+-- what a `hang_up` asks for
 abbrev pub hang_up_of : Data → Option Asked
 hang_up_of d = option_map (λ slot. asks_hang_up slot) (needed_u64 (codes "slot") d)
 
+-- what a `close` asks for
 abbrev pub close_of : Data → Option Asked
 close_of d = option_map (λ slot. asks_close slot) (needed_u64 (codes "slot") d)
 
+-- what a `finish` asks for
 abbrev pub finish_of : Data → Option Asked
 finish_of d = option_map (λ slot. asks_finish slot) (needed_u64 (codes "slot") d)
 
+-- what a `find` asks for
 abbrev pub find_of : Data → Option Asked
 find_of d =
-    option_and_then (λ name. option_map (λ dir. asks_find dir name) (u64_or 1 (get (codes "dir") d))) (needed_text (codes "name") d)
+    option_and_then (λ name.
+    option_map (λ dir. asks_find dir name)
+    (u64_or 1 (get (codes "dir") d)))
+    (needed_text (codes "name") d)
 
+-- what an `entry` asks for
 abbrev pub entry_of : Data → Option Asked
 entry_of d = option_map (λ node. asks_entry node) (needed_u64 (codes "node") d)
 
+-- what a `fetch` asks for
 abbrev pub fetch_of : Data → Option Asked
 fetch_of d = option_map (λ query. asks_fetch query) (needed_text (codes "query") d)
 
+-- what a `result` asks for
 abbrev pub rebuilt_of : Data → Option Asked
 rebuilt_of d = option_map (λ slot. asks_rebuilt slot) (needed_u64 (codes "slot") d)
 
@@ -201,6 +238,7 @@ asked_by act d =
     else if bytes_eq act (codes "result") then rebuilt_of d
     else None
 
+-- what a JSON value asks for
 abbrev pub asked_of : Data → Option Asked
 asked_of d = option_and_then (λ act. asked_by act d) (needed_text (codes "do") d)
 
@@ -209,10 +247,12 @@ abbrev pub asked_or : Option Asked → Result Asked Refusal
 asked_or None = Err BadLine
 asked_or (Some a) = Ok a
 
+-- what a text asks for, which may be no JSON
 abbrev pub asked_from : Option Data → Result Asked Refusal
 asked_from None = Err NotJson
 asked_from (Some d) = asked_or (asked_of d)
 
+-- what a line asks for, which may be no UTF-8
 abbrev pub asked_in : List ℕ → Result Asked Refusal
 asked_in line = if is_utf8 line then asked_from (read line) else Err NotUtf8
 
@@ -221,29 +261,42 @@ abbrev pub opening_or : Result Query ℕ → ℕ → ℕ → Bool → Result Que
 opening_or (Err place) port backlog moved = Err (BadQuery place)
 opening_or (Ok q) port backlog moved = Ok (Happens (Opening q port backlog moved))
 
+-- a predicate to fetch by, or its refusal
 abbrev pub fetching_or : Result Query ℕ → Result Question Refusal
 fetching_or (Err place) = Err (BadQuery place)
 fetching_or (Ok q) = Ok (Fetches q)
 
+-- a text as a value, or its refusal
 abbrev pub text_or : Option Refusal → List ℕ → Result Value Refusal
 text_or None text = Ok (Text text)
 text_or (Some e) text = Err e
 
+-- a value, or the refusal of its text
 abbrev pub value_for : Given → Result Value Refusal
 value_for (given_text text) = text_or (text_refusal text) text
 value_for (given_number value) = Ok value
 
+-- a setting, or the refusal of its value
 abbrev pub setting_for : ℕ → List ℕ → Result Value Refusal → Result Question Refusal
 setting_for node attr (Err e) = Err e
 setting_for node attr (Ok value) = Ok (Happens (Changing (SetAttr node attr value)))
 
+-- what is asked once the values are read, or the first refusal
 abbrev pub question_for : Asked → Result Question Refusal
-question_for (asks_create dir name kind size time) = if is_name name then Ok (Happens (Changing (Create dir name kind size time))) else Err BadName
+question_for (asks_create dir name kind size time) =
+    if is_name name then Ok (Happens (Changing (Create dir name kind size time)))
+    else Err BadName
 question_for (asks_remove node) = Ok (Happens (Changing (Remove node)))
-question_for (asks_move node dir name clobber) = if is_name name then Ok (Happens (Changing (Move node dir name clobber))) else Err BadName
+question_for (asks_move node dir name clobber) =
+    if is_name name then Ok (Happens (Changing (Move node dir name clobber)))
+    else Err BadName
 question_for (asks_write node size time) = Ok (Happens (Changing (Write node size time)))
-question_for (asks_set node attr value) = if is_attr_name attr then setting_for node attr (value_for value) else Err BadName
-question_for (asks_unset node attr) = if is_attr_name attr then Ok (Happens (Changing (RemoveAttr node attr))) else Err BadName
+question_for (asks_set node attr value) =
+    if is_attr_name attr then setting_for node attr (value_for value)
+    else Err BadName
+question_for (asks_unset node attr) =
+    if is_attr_name attr then Ok (Happens (Changing (RemoveAttr node attr)))
+    else Err BadName
 question_for (asks_open query port backlog moved) = opening_or (reading_of query) port backlog moved
 question_for (asks_read slot) = Ok (Happens (Taking slot))
 question_for (asks_hang_up slot) = Ok (Happens (HangingUp slot))
@@ -254,6 +307,7 @@ question_for (asks_entry node) = Ok (Lists node)
 question_for (asks_fetch query) = fetching_or (reading_of query)
 question_for (asks_rebuilt slot) = Ok (Rebuilds slot)
 
+-- what is asked where a line may have been refused already
 abbrev pub question_from : Result Asked Refusal → Result Question Refusal
 question_from (Err e) = Err e
 question_from (Ok a) = question_for a
