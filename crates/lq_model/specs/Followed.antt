@@ -1,5 +1,5 @@
 -- What is left where a query was followed.
-use Rattle.std.specs.Prelude.{◌≡◌, ℕ, false, length}
+use Rattle.std.specs.Prelude.{◌≡◌, false, length}
 use mathlib.Core.List.{IsPrefix}
 use Rattle.lq_formula.specs.Query.{Query}
 use Rattle.lq_volume.specs.Book.{Book}
