@@ -1,5 +1,5 @@
 -- What is left where a query was followed.
-use Rattle.std.specs.Prelude.{◌≡◌, ℕ, false, length}
+use Rattle.std.specs.Prelude.{◌≡◌, false, length}
 use mathlib.Core.List.{IsPrefix}
 use Rattle.lq_formula.specs.Query.{Query}
 use Rattle.lq_volume.specs.Book.{Book}
@@ -17,9 +17,11 @@ pub record GoesOn (old new : ReaderHold) : Type 0 where
   pub board : new.seat.board ≡ old.seat.board
   pub name : new.seat.name ≡ old.seat.name
 
--- there is one book of changes: what the reader has received is a prefix of the query's update list over it, and the volume is the state after it and what was added later
+-- there is one book of changes: what the reader has received is a prefix of the query's update list
+-- over it, and the volume is the state after it and what was added later
 pub record IsFollowed (q : Query) (f : Followed) : Type 0 where
   pub book : Book
   pub number : f.synced.change ≡ length book.changes
-  pub prefix : IsPrefix (received f.reader.reading) (updates_of q false book f.reader.reading.port.floor.opened (upto f.synced.mark f.synced.change))
+  pub prefix : IsPrefix (received f.reader.reading) (updates_of q false book
+      f.reader.reading.port.floor.opened (upto f.synced.mark f.synced.change))
   pub retired : IsRetired book f.retired.volume f.retired.changes

@@ -6,12 +6,12 @@ ghost use Rattle.lq_model.specs.Followed.{GoesOn, IsFollowed};
 use lq_board::Seat;
 use lq_desk::Read;
 use lq_predicate::Predicate;
-use lq_server::{Base, Named, Reader, Retired, Server, Synced};
+use lq_server::{Base, Named, Reader, Retired, Server, Synced, Work, join_over};
 use lq_subscription::Identity;
 use lq_value::Refusal;
 use lq_volume::Change;
 use std::sync::Wait;
-use std::thread::{Threads, join};
+use std::thread::Threads;
 
 /// What is left where a query was followed: its reader, how far it is, and the volume.
 #[derive(Drop)]
@@ -41,17 +41,8 @@ pub fn follow<N: Named + Send + Sync, R: Threads + Wait + Sync>(
     let server: Server<N> = Server::new(base);
     let mut seat = server.seat(rt)?;
     let reader = server.open(rt, &mut seat, predicate, 16, 1024, false)?;
-    let (reader, seat) = join(
-        rt,
-        || -> Result<Reader, Refusal>
-            requires { (reader.seat.board ≡ N.board) × IsOwn reader }
-            ensures { IfOk result (GoesOn reader) }
-        { read_out(rt, &server, reader, reads) },
-        || -> Result<Seat<Identity>, Refusal>
-            requires { (seat.board ≡ N.board) × (seat.slot ≡ 0) }
-            ensures { IfOk result (λ seat. (seat.board ≡ N.board) × (seat.slot ≡ 0)) }
-        { apply_all(rt, &server, seat, changes) },
-    );
+    let reads = Reads { reader, reads };
+    let (reader, seat) = join_over(rt, &server, reads, Applies { seat, changes });
     let mut reader = reader?;
     let mut seat = seat?;
     let synced = server.sync(rt, &mut reader);
@@ -62,6 +53,50 @@ pub fn follow<N: Named + Send + Sync, R: Threads + Wait + Sync>(
         synced,
         retired,
     })
+}
+
+// What one thread does: it makes changes.
+#[derive(Drop)]
+struct Applies<'a> {
+    seat: Seat<Identity>,
+    changes: &'a [Change],
+}
+
+impl<'a> Work for Applies<'a> {
+    type Given = Result<Seat<Identity>, Refusal>;
+
+    ghost can = { λ applies board. (applies.seat.board ≡ board) × (applies.seat.slot ≡ 0) };
+
+    ghost gives = { λ _ board given. IfOk given (λ seat. (seat.board ≡ board) × (seat.slot ≡ 0)) };
+
+    fn work<N: Named, R: Wait>(
+        self,
+        rt: &R,
+        server: &Server<N>,
+    ) -> Result<Seat<Identity>, Refusal> {
+        let Applies { seat, changes } = self;
+        apply_all(rt, server, seat, changes)
+    }
+}
+
+// What another does: it reads that many times, and goes on to its mark.
+#[derive(Drop)]
+struct Reads {
+    reader: Reader,
+    reads: u64,
+}
+
+impl Work for Reads {
+    type Given = Result<Reader, Refusal>;
+
+    ghost can = { λ reads board. (reads.reader.seat.board ≡ board) × IsOwn reads.reader };
+
+    ghost gives = { λ reads _ given. IfOk given (GoesOn reads.reader) };
+
+    fn work<N: Named, R: Wait>(self, rt: &R, server: &Server<N>) -> Result<Reader, Refusal> {
+        let Reads { reader, reads } = self;
+        read_out(rt, server, reader, reads)
+    }
 }
 
 fn apply_all<N: Named, R: Wait>(

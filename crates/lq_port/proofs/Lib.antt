@@ -1,5 +1,4 @@
--- Read ListLemmas, then PortLemmas, then EndLemmas; Crossing stands alone.
+-- Read ListLemmas, then PortLemmas, then EndLemmas.
 pub mod ListLemmas
 pub mod PortLemmas
 pub mod EndLemmas
-pub mod Crossing

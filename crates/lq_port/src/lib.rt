@@ -2,8 +2,8 @@
 //!
 //! A contract sees an end as the record `End` of `specs/End`: which port it is, its places and
 //! floor, what was taken, and what was put behind that. `specs/Port` has the rule of the two.
-//! `put`, `take` and `take_waiting` may wait. The ends cross threads where the items do
-//! (`proofs/Crossing`). Begin with `follows`, then `ends`.
+//! `put`, `take` and `take_waiting` may wait. The ends cross threads where the items do. Begin with
+//! `follows`, then `ends`.
 #![tactic(auto)]
 
 mod ends;

@@ -21,6 +21,7 @@ pub is_free : is_simple_and_free lq_app ≡ true
 unfolding clap_on_literals
 is_free = refl
 
+-- the command is one that clap's clauses speak of
 pub is_plain : is_simple lq_app ≡ true
 unfolding clap_on_literals
 is_plain = refl
@@ -31,7 +32,8 @@ unfolding clap_on_literals
 run_passes = refl
 
 -- a text whose first byte is no `-`
-not_dash : (x : ℕ) (xs : Text) → starts_with nat_eq (x ∷ xs) (codes "-") ≡ false → nat_eq x 45 ≡ false
+not_dash : (x : ℕ) (xs : Text) → starts_with nat_eq (x ∷ xs) (codes "-") ≡ false
+    → nat_eq x 45 ≡ false
 not_dash x xs h = grind (arith, nat_tests)
 
 -- ---- a formula behind `check`
@@ -40,15 +42,19 @@ not_dash x xs h = grind (arith, nat_tests)
 abbrev top : Shape
 top = (built lq_app).top
 
+-- the names of the subcommands
 abbrev names : Names
 names = names_of (built lq_app)
 
+-- a subcommand by its place
 abbrev sub_at : ℕ → Shape
 sub_at k = unwrap_or (slice_get (built lq_app).subs k) top
 
+-- the subcommand `run`
 abbrev run_shape : Shape
 run_shape = sub_at 0
 
+-- the subcommand `check`
 abbrev check_shape : Shape
 check_shape = sub_at 1
 
@@ -56,34 +62,60 @@ check_shape = sub_at 1
 abbrev held_with : List Row → Option (Text × List Text) → Held
 held_with rows pending = record { rows = rows; pending = pending; skip = 0 }
 
+-- a walk that has come to a position
 abbrev at_place : Held → ℕ → Bool → Walk
-at_place h position is_trailing = record { held = h; waiting = idle; position = position; is_trailing = is_trailing; stopped = None }
+at_place h position is_trailing = record {
+  held = h;
+  waiting = idle;
+  position = position;
+  is_trailing = is_trailing;
+  stopped = None;
+}
 
 -- where no option has a name, a word that names no subcommand and isn't `--` is a value
-module _ (c : List Rule) (no_long : (name : Text) → arg_by_long c name ≡ None) (no_short : (x : ℕ) → arg_by_short c x ≡ None) (word : Text) (h : Held) where
+module _ (c : List Rule) (no_long : (name : Text) → arg_by_long c name ≡ None)
+    (no_short : (x : ℕ) → arg_by_short c x ≡ None) (word : Text) (h : Held) where
+  -- read as a bundle of options, the word is a value at its next byte, or at its end
   by_char : (k : ℕ) (flags : Text) (o : Option ℕ)
-      → after_flag c idle word (bundle_step c o flags 0 plain h (bundle_met c k)).0 (bundle_step c o flags 0 plain h (bundle_met c k)).1 ≡ (h, value)
+      → after_flag c idle word (bundle_step c o flags 0 plain h (bundle_met c k)).0
+      (bundle_step c o flags 0 plain h (bundle_met c k)).1 ≡ (h, value)
   by_char k flags None = refl
   by_char k flags (Some x) =
       let rest = drop (length (encode_utf8 x)) flags in
-      ap (λ (o : Option Rule). after_flag c idle word (short_met c o rest h (bundle_met c k rest 0 done)).0 (short_met c o rest h (bundle_met c k rest 0 done)).1) (no_short x)
+      ap (λ (o : Option Rule). after_flag c idle word
+      (short_met c o rest h (bundle_met c k rest 0 done)).0
+      (short_met c o rest h (bundle_met c k rest 0 done)).1) (no_short x)
 
-  by_flags : (k : ℕ) (flags : Text) → after_flag c idle word (bundle_met c k flags 0 plain h).0 (bundle_met c k flags 0 plain h).1 ≡ (h, value)
+  -- and so it is whatever bytes are left
+  by_flags : (k : ℕ) (flags : Text) → after_flag c idle word (bundle_met c k flags 0 plain h).0
+      (bundle_met c k flags 0 plain h).1 ≡ (h, value)
   unfolding bundle_met
   by_flags zero flags = refl
   by_flags (suc k) flags = by_char k flags (slice_get (chars flags) 0)
 
-module _ (c : List Rule) (no_long : (name : Text) → arg_by_long c name ≡ None) (no_short : (x : ℕ) → arg_by_short c x ≡ None) (word : Text) (rows : List Row) (pending : Option (Text × List Text)) where
-  by_short : (o : Option Text) → short_or_plain c idle word o (held_with rows pending) ≡ (held_with rows pending, value)
+-- the same, where rows are held and a value may be pending
+module _ (c : List Rule) (no_long : (name : Text) → arg_by_long c name ≡ None)
+    (no_short : (x : ℕ) → arg_by_short c x ≡ None) (word : Text) (rows : List Row)
+    (pending : Option (Text × List Text)) where
+  -- a word that may begin with `-` is a value
+  by_short : (o : Option Text)
+      → short_or_plain c idle word o (held_with rows pending) ≡ (held_with rows pending, value)
   by_short None = refl
-  by_short (Some flags) = by_flags c no_long no_short word (held_with rows pending) (length flags) flags
+  by_short (Some flags) =
+      by_flags c no_long no_short word (held_with rows pending) (length flags) flags
 
-  by_long : (o : Option (Text × Option Text)) → long_or_other c idle word o (held_with rows pending) ≡ (held_with rows pending, value)
+  -- a word that may begin with `--` is a value
+  by_long : (o : Option (Text × Option Text))
+      → long_or_other c idle word o (held_with rows pending) ≡ (held_with rows pending, value)
   by_long None = by_short (short_of word)
-  by_long (Some p) = ap (λ (o : Option Rule). after_flag c idle word (long_met c o p.1 (held_with rows pending)).0 (long_met c o p.1 (held_with rows pending)).1) (no_long p.0)
+  by_long (Some p) =
+      ap (λ (o : Option Rule). after_flag c idle word (long_met c o p.1 (held_with rows pending)).0
+      (long_met c o p.1 (held_with rows pending)).1) (no_long p.0)
 
+  -- a word that names no subcommand and isn't `--` is a value
   value_met : (position : ℕ) → bytes_eq word (codes "--") ≡ false
-      → subcommand_or_other c None idle position word (held_with rows pending) ≡ (held_with rows pending, value)
+      → subcommand_or_other c None idle position word (held_with rows pending)
+      ≡ (held_with rows pending, value)
   value_met position e = rw e (by_long (long_of word))
 
 -- what the level of `check` comes to on one word, by the fault and the step of that word
@@ -96,31 +128,42 @@ level_of formula fault m =
     (check_fault check_shape (finished check_shape.rules end) false))))
 
 -- a text that doesn't begin with `-` is no `--` and no option
-no_dashes : (formula : Text) → starts_with nat_eq formula (codes "-") ≡ false → bytes_eq formula (codes "--") ≡ false
+no_dashes : (formula : Text) → starts_with nat_eq formula (codes "-") ≡ false
+    → bytes_eq formula (codes "--") ≡ false
 no_dashes [] h = refl
 no_dashes (x ∷ xs) h = rw (not_dash x xs h) refl
 
-no_option : (formula : Text) → starts_with nat_eq formula (codes "-") ≡ false → word_fault check_shape [] false idle formula nothing_held ≡ []
+-- a text that doesn't begin with `-` is no fault behind `check`
+no_option : (formula : Text) → starts_with nat_eq formula (codes "-") ≡ false
+    → word_fault check_shape [] false idle formula nothing_held ≡ []
 no_option [] h = refl
 no_option (x ∷ xs) h =
     let short : short_of (x ∷ xs) ≡ None = rw (not_dash x xs h) refl in
     rw (not_dash x xs h, short) refl
 
-formula_met : (formula : Text) → starts_with nat_eq formula (codes "-") ≡ false → word_met check_shape.rules [] false idle 1 formula nothing_held ≡ (nothing_held, value)
-formula_met formula h = value_met check_shape.rules (λ n. refl) (λ x. refl) formula [] None 1 (no_dashes formula h)
+-- a text that doesn't begin with `-` is a value there
+formula_met : (formula : Text) → starts_with nat_eq formula (codes "-") ≡ false
+    → word_met check_shape.rules [] false idle 1 formula nothing_held ≡ (nothing_held, value)
+formula_met formula h =
+    value_met check_shape.rules (λ n. refl) (λ x. refl) formula [] None 1 (no_dashes formula h)
 
+-- `check` with such a formula is no fault
 pub check_passes : (formula : Text) → starts_with nat_eq formula (codes "-") ≡ false
     → fault_of lq_app (codes "check" ∷ formula ∷ []) ≡ []
 unfolding clap_on_literals
 check_passes formula h =
-    let by_level : fault_of lq_app (codes "check" ∷ formula ∷ []) ≡ level_of formula (word_fault check_shape [] false idle formula nothing_held) (word_met check_shape.rules [] false idle 1 formula nothing_held) = at_level _ in
+    let by_level : fault_of lq_app (codes "check" ∷ formula ∷ [])
+    ≡ level_of formula (word_fault check_shape [] false idle formula nothing_held)
+    (word_met check_shape.rules [] false idle 1 formula nothing_held) = at_level _ in
     by_level ∙ ap₂ (level_of formula) (no_option formula h) (formula_met formula h)
   where
     at_level : (k : Kinds) → or_else k [] ≡ k
     at_level [] = refl
     at_level (k ∷ ks) = refl
 
-pub behind_dashes_passes : (formula : Text) → fault_of lq_app (codes "check" ∷ codes "--" ∷ formula ∷ []) ≡ []
+-- `check --` with any formula is no fault
+pub behind_dashes_passes : (formula : Text)
+    → fault_of lq_app (codes "check" ∷ codes "--" ∷ formula ∷ []) ≡ []
 unfolding clap_on_literals
 behind_dashes_passes formula = refl
 
@@ -128,161 +171,234 @@ behind_dashes_passes formula = refl
 abbrev pub given : List Text → Option (Text × Option Text)
 given words = option_map (λ p. (p.0, first_of (codes "formula") p.1)) (subcommand_of lq_app words)
 
+-- `run` gives `run` alone
 pub run_given : given (codes "run" ∷ []) ≡ Some (codes "run", None)
 unfolding clap_on_literals
 run_given = refl
 
+-- `check` with such a formula gives it
 pub check_given : (formula : Text) → starts_with nat_eq formula (codes "-") ≡ false
     → given (codes "check" ∷ formula ∷ []) ≡ Some (codes "check", Some formula)
 unfolding clap_on_literals
-check_given formula h = ap (λ (m : Held × Step). Some (codes "check", first_of (codes "formula") (finished check_shape.rules (after_step check_shape.rules formula (walk_from nothing_held) m.0 m.1).held))) (formula_met formula h)
+check_given formula h = ap (λ (m : Held × Step).
+    Some (
+      codes "check",
+      first_of (codes "formula") (finished check_shape.rules (after_step
+          check_shape.rules formula (walk_from nothing_held) m.0 m.1).held),
+    )) (formula_met formula h)
 
-pub behind_dashes_given : (formula : Text) → given (codes "check" ∷ codes "--" ∷ formula ∷ []) ≡ Some (codes "check", Some formula)
+-- `check --` gives whatever follows
+pub behind_dashes_given : (formula : Text)
+    → given (codes "check" ∷ codes "--" ∷ formula ∷ []) ≡ Some (codes "check", Some formula)
 unfolding clap_on_literals
 behind_dashes_given formula = refl
 
 -- ---- the only words that are no fault
 
+-- where neither of two gives a fault, the first gives none
 first_passes : (a b : Kinds) → or_else a b ≡ [] → a ≡ []
 first_passes [] b h = refl
 first_passes (k ∷ ks) b h = h
 
+-- nor does the second
 second_passes : (a b : Kinds) → or_else a b ≡ [] → b ≡ []
 second_passes [] b h = h
 second_passes (k ∷ ks) b h = absurd (let bad : k ∷ ks ≡ [] = h in cc)
 
 -- a word that is a value: what its turn and the words after it come to
-value_passes : (s : Shape) (names : Names) (h : Held) (position : ℕ) (word : Text) (rest : List Text)
-    → word_met s.rules names false idle position word h ≡ (h, value) → walk_fault s names (at_place h position false) (word ∷ rest) ≡ []
-    → (step_fault s position h value ≡ []) × (walk_fault s names (to_positional s.rules (arg_by_index s.rules position) word (at_place h position false) h) rest ≡ [])
+value_passes : (s : Shape) (names : Names) (h : Held) (position : ℕ) (word : Text)
+    (rest : List Text)
+    → word_met s.rules names false idle position word h ≡ (h, value)
+    → walk_fault s names (at_place h position false) (word ∷ rest) ≡ []
+    → (step_fault s position h value ≡ []) × (walk_fault s names (to_positional s.rules
+    (arg_by_index s.rules position) word (at_place h position false) h) rest ≡ [])
 unfolding walk_fault walked
 value_passes s names h position word rest met e =
     let w : Walk = at_place h position false in
-    let turn : turn_fault s names w word ≡ [] = first_passes (turn_fault s names w word) (walk_fault s names (walked s.rules names w word) rest) e in
-    let after : walk_fault s names (walked s.rules names w word) rest ≡ [] = second_passes (turn_fault s names w word) (walk_fault s names (walked s.rules names w word) rest) e in
+    let turn : turn_fault s names w word ≡ [] = first_passes (turn_fault s names w word)
+    (walk_fault s names (walked s.rules names w word) rest) e in
+    let after : walk_fault s names (walked s.rules names w word) rest ≡ [] = second_passes
+    (turn_fault s names w word) (walk_fault s names (walked s.rules names w word) rest) e in
     let m : Held × Step = word_met s.rules names false idle position word h in
-    let step : step_fault s position m.0 m.1 ≡ [] = second_passes (word_fault s names false idle word h) (step_fault s position m.0 m.1) turn in (
+    let step : step_fault s position m.0 m.1 ≡ [] =
+    second_passes (word_fault s names false idle word h) (step_fault s position m.0 m.1) turn in (
       subst (λ (x : Held × Step). step_fault s position x.0 x.1 ≡ []) met step,
-      subst (λ (x : Held × Step). walk_fault s names (after_step s.rules word w x.0 x.1) rest ≡ []) met after,
+      subst (λ (x : Held × Step). walk_fault s names (after_step s.rules word w x.0 x.1) rest ≡ [])
+          met after,
     )
 
-trailing_passes : (s : Shape) (names : Names) (h : Held) (position : ℕ) (word : Text) (rest : List Text)
+-- a value behind `--` is no fault, and neither are the words after it
+trailing_passes : (s : Shape) (names : Names) (h : Held) (position : ℕ) (word : Text)
+    (rest : List Text)
     → walk_fault s names (at_place h position true) (word ∷ rest) ≡ []
-    → (step_fault s position h value ≡ []) × (walk_fault s names (to_positional s.rules (arg_by_index s.rules position) word (at_place h position true) h) rest ≡ [])
+    → (step_fault s position h value ≡ []) × (walk_fault s names (to_positional s.rules
+    (arg_by_index s.rules position) word (at_place h position true) h) rest ≡ [])
 unfolding walk_fault walked
 trailing_passes s names h position word rest e =
     let w : Walk = at_place h position true in (
-      first_passes (turn_fault s names w word) (walk_fault s names (walked s.rules names w word) rest) e,
-      second_passes (turn_fault s names w word) (walk_fault s names (walked s.rules names w word) rest) e,
+      first_passes (turn_fault s names w word)
+          (walk_fault s names (walked s.rules names w word) rest) e,
+      second_passes (turn_fault s names w word)
+          (walk_fault s names (walked s.rules names w word) rest) e,
     )
 
 -- the name of a subcommand is no value
-no_subcommand : (word : Text) → bytes_eq (codes "run") word ≡ false → bytes_eq (codes "check") word ≡ false → subcommand_met names idle word ≡ None
+no_subcommand : (word : Text) → bytes_eq (codes "run") word ≡ false
+    → bytes_eq (codes "check") word ≡ false → subcommand_met names idle word ≡ None
 no_subcommand word run check = rw (run, check) refl
 
 -- a fault of the top level's own words, and of those of the subcommand
-own_passes : (words : List Text) → fault_of lq_app words ≡ [] → walk_fault top names (at_place nothing_held 1 false) words ≡ []
+own_passes : (words : List Text) → fault_of lq_app words ≡ []
+    → walk_fault top names (at_place nothing_held 1 false) words ≡ []
 own_passes words e = first_passes (walk_fault top names (walk_from nothing_held) words) _ e
 
-below_passes : (words rest : List Text) (name : Text) → (walk top.rules names nothing_held words).stopped ≡ Some (name, rest) → fault_of lq_app words ≡ [] → entered_fault (built lq_app) (Some (name, rest)) ≡ []
+-- where the words of a subcommand are no fault, they are none at its own level
+below_passes : (words rest : List Text) (name : Text)
+    → (walk top.rules names nothing_held words).stopped ≡ Some (name, rest)
+    → fault_of lq_app words ≡ [] → entered_fault (built lq_app) (Some (name, rest)) ≡ []
 below_passes words rest name stop e =
     let stopped : Option (Text × List Text) = (walk top.rules names nothing_held words).stopped in
     subst (λ (o : Option (Text × List Text)). entered_fault (built lq_app) o ≡ []) stop
     (first_passes (entered_fault (built lq_app) stopped) _
     (second_passes (walk_fault top names (walk_from nothing_held) words) _ e))
 
-run_stops : (rest : List Text) → (walk top.rules names nothing_held (codes "run" ∷ rest)).stopped ≡ Some (codes "run", rest)
+-- the top level stops at `run`, with the words behind it
+run_stops : (rest : List Text)
+    → (walk top.rules names nothing_held (codes "run" ∷ rest)).stopped ≡ Some (codes "run", rest)
 unfolding walked
-run_stops rest = sym (ap (λ (w : Walk). w.stopped) (walk_stopped top.rules names (walk_from nothing_held) (codes "run") [] rest))
+run_stops rest = sym (ap (λ (w : Walk). w.stopped)
+    (walk_stopped top.rules names (walk_from nothing_held) (codes "run") [] rest))
 
-check_stops : (rest : List Text) → (walk top.rules names nothing_held (codes "check" ∷ rest)).stopped ≡ Some (codes "check", rest)
+-- the top level stops at `check`, with the words behind it
+check_stops : (rest : List Text)
+    → (walk top.rules names nothing_held (codes "check" ∷ rest)).stopped
+    ≡ Some (codes "check", rest)
 unfolding walked
-check_stops rest = sym (ap (λ (w : Walk). w.stopped) (walk_stopped top.rules names (walk_from nothing_held) (codes "check") [] rest))
+check_stops rest = sym (ap (λ (w : Walk). w.stopped)
+    (walk_stopped top.rules names (walk_from nothing_held) (codes "check") [] rest))
 
-run_below : (rest : List Text) → fault_of lq_app (codes "run" ∷ rest) ≡ [] → walk_fault run_shape [] (at_place nothing_held 1 false) rest ≡ []
-run_below rest e = first_passes (walk_fault run_shape [] (walk_from nothing_held) rest) _ (below_passes (codes "run" ∷ rest) rest (codes "run") (run_stops rest) e)
+-- where the words are no fault, those behind `run` are none
+run_below : (rest : List Text) → fault_of lq_app (codes "run" ∷ rest) ≡ []
+    → walk_fault run_shape [] (at_place nothing_held 1 false) rest ≡ []
+run_below rest e = first_passes (walk_fault run_shape [] (walk_from nothing_held) rest) _
+    (below_passes (codes "run" ∷ rest) rest (codes "run") (run_stops rest) e)
 
-check_below : (rest : List Text) → fault_of lq_app (codes "check" ∷ rest) ≡ [] → walk_fault check_shape [] (at_place nothing_held 1 false) rest ≡ []
-check_below rest e = first_passes (walk_fault check_shape [] (walk_from nothing_held) rest) _ (below_passes (codes "check" ∷ rest) rest (codes "check") (check_stops rest) e)
+-- where the words are no fault, those behind `check` are none
+check_below : (rest : List Text) → fault_of lq_app (codes "check" ∷ rest) ≡ []
+    → walk_fault check_shape [] (at_place nothing_held 1 false) rest ≡ []
+check_below rest e = first_passes (walk_fault check_shape [] (walk_from nothing_held) rest) _
+    (below_passes (codes "check" ∷ rest) rest (codes "check") (check_stops rest) e)
 
+-- a list that has a fault isn't empty
 no_kind : {P : Type 0} (k : ErrorKind) (ks : Kinds) → k ∷ ks ≡ [] → P
 no_kind k ks e = absurd (cc)
 
+-- the test of `--`
 is_dashes : (word : Text) → bytes_eq word (codes "--") ≡ true → word ≡ codes "--"
 is_dashes word e = (bytes_eq-Decides word (codes "--")).0 e
 
 -- neither `run` nor `check`
-other_word : (word : Text) (rest : List Text) → bytes_eq (codes "run") word ≡ false → bytes_eq (codes "check") word ≡ false → fault_of lq_app (word ∷ rest) ≡ [] → ⊥
+other_word : (word : Text) (rest : List Text) → bytes_eq (codes "run") word ≡ false
+    → bytes_eq (codes "check") word ≡ false → fault_of lq_app (word ∷ rest) ≡ [] → ⊥
 unfolding clap_on_literals
 other_word word rest run check e = by_dashes (bytes_eq word (codes "--")) refl
   where
     behind : (more : List Text) → fault_of lq_app (codes "--" ∷ more) ≡ [] → ⊥
     behind [] f = no_kind _ _ f
-    behind (x ∷ xs) f = no_kind _ _ (trailing_passes top names nothing_held 1 x xs (own_passes (codes "--" ∷ x ∷ xs) f)).0
+    behind (x ∷ xs) f = no_kind _ _
+        (trailing_passes top names nothing_held 1 x xs (own_passes (codes "--" ∷ x ∷ xs) f)).0
 
     by_dashes : (t : Bool) → bytes_eq word (codes "--") ≡ t → ⊥
-    by_dashes true t = behind rest (subst (λ (w : Text). fault_of lq_app (w ∷ rest) ≡ []) (is_dashes word t) e)
+    by_dashes true t =
+        behind rest (subst (λ (w : Text). fault_of lq_app (w ∷ rest) ≡ []) (is_dashes word t) e)
     by_dashes false t =
         let met : word_met top.rules names false idle 1 word nothing_held ≡ (nothing_held, value) =
-        ap (λ (o : Option Text). subcommand_or_other top.rules o idle 1 word nothing_held) (no_subcommand word run check) ∙ value_met [] (λ n. refl) (λ x. refl) word [] None 1 t in
-        no_kind _ _ (value_passes top names nothing_held 1 word rest met (own_passes (word ∷ rest) e)).0
+        ap (λ (o : Option Text). subcommand_or_other top.rules o idle 1 word nothing_held)
+        (no_subcommand word run check) ∙ value_met [] (λ n. refl) (λ x. refl) word [] None 1 t in
+        no_kind _ _
+        (value_passes top names nothing_held 1 word rest met (own_passes (word ∷ rest) e)).0
 
 -- nothing stands behind `run`
-run_alone : (word : Text) (rest : List Text) → has_stray (codes "run" ∷ word ∷ rest) ≡ false → walk_fault run_shape [] (at_place nothing_held 1 false) (word ∷ rest) ≡ [] → ⊥
+run_alone : (word : Text) (rest : List Text) → has_stray (codes "run" ∷ word ∷ rest) ≡ false
+    → walk_fault run_shape [] (at_place nothing_held 1 false) (word ∷ rest) ≡ [] → ⊥
 unfolding clap_on_literals
 run_alone word rest stray e = by_dashes (bytes_eq word (codes "--")) refl
   where
-    behind : (more : List Text) → has_stray (codes "run" ∷ codes "--" ∷ more) ≡ false → walk_fault run_shape [] (at_place nothing_held 1 false) (codes "--" ∷ more) ≡ [] → ⊥
+    behind : (more : List Text) → has_stray (codes "run" ∷ codes "--" ∷ more) ≡ false
+        → walk_fault run_shape [] (at_place nothing_held 1 false) (codes "--" ∷ more) ≡ [] → ⊥
     behind [] s f = absurd (let bad : true ≡ false = s in cc)
     behind (x ∷ xs) s f = no_kind _ _ (trailing_passes run_shape [] nothing_held 1 x xs f).0
 
     by_dashes : (t : Bool) → bytes_eq word (codes "--") ≡ t → ⊥
     by_dashes true t = behind rest
         (subst (λ (w : Text). has_stray (codes "run" ∷ w ∷ rest) ≡ false) (is_dashes word t) stray)
-        (subst (λ (w : Text). walk_fault run_shape [] (at_place nothing_held 1 false) (w ∷ rest) ≡ []) (is_dashes word t) e)
-    by_dashes false t = no_kind _ _ (value_passes run_shape [] nothing_held 1 word rest (value_met [] (λ n. refl) (λ x. refl) word [] None 1 t) e).0
+        (subst (λ (w : Text). walk_fault run_shape [] (at_place nothing_held 1 false) (w ∷ rest)
+        ≡ []) (is_dashes word t) e)
+    by_dashes false t = no_kind _ _ (value_passes run_shape [] nothing_held 1 word rest
+        (value_met [] (λ n. refl) (λ x. refl) word [] None 1 t) e).0
 
 -- behind `check` stands a formula, or `--` and a formula
-check_form : (words : List Text) → has_stray (codes "check" ∷ words) ≡ false → fault_of lq_app (codes "check" ∷ words) ≡ [] → (formula : Text) × IsCheckOf (codes "check" ∷ words) formula
+check_form : (words : List Text)
+    → has_stray (codes "check" ∷ words) ≡ false → fault_of lq_app (codes "check" ∷ words) ≡ []
+    → (formula : Text) × IsCheckOf (codes "check" ∷ words) formula
 unfolding clap_on_literals
 check_form [] stray e = missing stray e
   where
-    missing : has_stray (codes "check" ∷ []) ≡ false → fault_of lq_app (codes "check" ∷ []) ≡ [] → (formula : Text) × IsCheckOf (codes "check" ∷ []) formula
+    missing : has_stray (codes "check" ∷ []) ≡ false → fault_of lq_app (codes "check" ∷ []) ≡ []
+        → (formula : Text) × IsCheckOf (codes "check" ∷ []) formula
     missing s f = no_kind _ _ f
 check_form (word ∷ []) stray e = (word, inl (refl, stray))
 check_form (word ∷ next ∷ rest) stray e = by_dashes (bytes_eq word (codes "--")) refl
   where
     -- a place at which no argument stands
-    past : (h : Held) (more : List Text) → walk_fault check_shape [] (at_place h 2 true) more ≡ [] → more ≡ []
+    past : (h : Held) (more : List Text)
+        → walk_fault check_shape [] (at_place h 2 true) more ≡ [] → more ≡ []
     past h [] f = refl
     past h (x ∷ xs) f = no_kind _ _ (trailing_passes check_shape [] h 2 x xs f).0
 
-    behind : walk_fault check_shape [] (at_place nothing_held 1 false) (codes "--" ∷ next ∷ rest) ≡ [] → rest ≡ []
-    behind f = past (held_with [] (Some (codes "formula", next ∷ []))) rest (trailing_passes check_shape [] nothing_held 1 next rest f).1
+    behind : walk_fault check_shape [] (at_place nothing_held 1 false)
+        (codes "--" ∷ next ∷ rest) ≡ [] → rest ≡ []
+    behind f = past (held_with [] (Some (codes "formula", next ∷ []))) rest
+        (trailing_passes check_shape [] nothing_held 1 next rest f).1
 
-    at_next : (t : Bool) → bytes_eq next (codes "--") ≡ t → bytes_eq word (codes "--") ≡ false → walk_fault check_shape [] (at_place (held_with [] (Some (codes "formula", word ∷ []))) 2 false) (next ∷ rest) ≡ [] → ⊥
-    at_next true t w f = two (past (held_with [] (Some (codes "formula", word ∷ []))) rest (dashes (subst (λ (x : Text). walk_fault check_shape [] (at_place (held_with [] (Some (codes "formula", word ∷ []))) 2 false) (x ∷ rest) ≡ []) (is_dashes next t) f)))
+    at_next : (t : Bool) → bytes_eq next (codes "--") ≡ t → bytes_eq word (codes "--") ≡ false
+        → walk_fault check_shape []
+        (at_place (held_with [] (Some (codes "formula", word ∷ []))) 2 false) (next ∷ rest) ≡ [] → ⊥
+    at_next true t w f = two (past (held_with [] (Some (codes "formula", word ∷ []))) rest
+        (dashes (subst (λ (x : Text). walk_fault check_shape [] (at_place (held_with []
+        (Some (codes "formula", word ∷ []))) 2 false) (x ∷ rest) ≡ []) (is_dashes next t) f)))
       where
-        dashes : walk_fault check_shape [] (at_place (held_with [] (Some (codes "formula", word ∷ []))) 2 false) (codes "--" ∷ rest) ≡ [] → walk_fault check_shape [] (at_place (held_with [] (Some (codes "formula", word ∷ []))) 2 true) rest ≡ []
+        dashes : walk_fault check_shape []
+            (at_place (held_with [] (Some (codes "formula", word ∷ []))) 2 false)
+            (codes "--" ∷ rest) ≡ [] → walk_fault check_shape []
+            (at_place (held_with [] (Some (codes "formula", word ∷ []))) 2 true) rest ≡ []
         dashes f = f
 
         two : rest ≡ [] → ⊥
         two none =
-            let here : has_stray (codes "check" ∷ word ∷ next ∷ []) ≡ false = subst (λ (r : List Text). has_stray (codes "check" ∷ word ∷ next ∷ r) ≡ false) none stray in
+            let here : has_stray (codes "check" ∷ word ∷ next ∷ []) ≡ false = subst
+            (λ (r : List Text). has_stray (codes "check" ∷ word ∷ next ∷ r) ≡ false) none stray in
             let bad : true ≡ false = rw (w, t) at here in
             absurd (cc)
-    at_next false t w f = no_kind _ _ (value_passes check_shape [] (held_with [] (Some (codes "formula", word ∷ []))) 2 next rest (value_met check_shape.rules (λ n. refl) (λ x. refl) next [] (Some (codes "formula", word ∷ [])) 2 t) f).0
+    at_next false t w f = no_kind _ _ (value_passes check_shape []
+        (held_with [] (Some (codes "formula", word ∷ []))) 2 next rest (value_met check_shape.rules
+        (λ n. refl) (λ x. refl) next [] (Some (codes "formula", word ∷ [])) 2 t) f).0
 
-    by_dashes : (t : Bool) → bytes_eq word (codes "--") ≡ t → (formula : Text) × IsCheckOf (codes "check" ∷ word ∷ next ∷ rest) formula
+    by_dashes : (t : Bool) → bytes_eq word (codes "--") ≡ t
+        → (formula : Text) × IsCheckOf (codes "check" ∷ word ∷ next ∷ rest) formula
     by_dashes true t =
         let is : word ≡ codes "--" = is_dashes word t in
-        let none : rest ≡ [] = behind (subst (λ (w : Text). walk_fault check_shape [] (at_place nothing_held 1 false) (w ∷ next ∷ rest) ≡ []) is (check_below (word ∷ next ∷ rest) e)) in
+        let none : rest ≡ [] =
+        behind (subst (λ (w : Text). walk_fault check_shape [] (at_place nothing_held 1 false)
+        (w ∷ next ∷ rest) ≡ []) is (check_below (word ∷ next ∷ rest) e)) in
         (next, inr (cc))
     by_dashes false t = absurd (at_next (bytes_eq next (codes "--")) refl t
-        (value_passes check_shape [] nothing_held 1 word (next ∷ rest) (value_met check_shape.rules (λ n. refl) (λ x. refl) word [] None 1 t) (check_below (word ∷ next ∷ rest) e)).1)
+        (value_passes check_shape [] nothing_held 1 word (next ∷ rest) (value_met check_shape.rules
+        (λ n. refl) (λ x. refl) word [] None 1 t) (check_below (word ∷ next ∷ rest) e)).1)
 
 -- the words that clap takes
-pub taken : (words : List Text) → has_stray words ≡ false → fault_of lq_app words ≡ [] → IsRun words ⊎ ((formula : Text) × IsCheckOf words formula)
+pub taken : (words : List Text) → has_stray words ≡ false → fault_of lq_app words ≡ []
+    → IsRun words ⊎ ((formula : Text) × IsCheckOf words formula)
 unfolding clap_on_literals
 taken [] stray e = none e
   where
@@ -290,20 +406,25 @@ taken [] stray e = none e
     none f = no_kind _ _ f
 taken (word ∷ rest) stray e = by_run (bytes_eq (codes "run") word) refl
   where
-    run_is : (more : List Text) → has_stray (codes "run" ∷ more) ≡ false → fault_of lq_app (codes "run" ∷ more) ≡ [] → IsRun (codes "run" ∷ more)
+    run_is : (more : List Text) → has_stray (codes "run" ∷ more) ≡ false
+        → fault_of lq_app (codes "run" ∷ more) ≡ [] → IsRun (codes "run" ∷ more)
     run_is [] s f = refl
     run_is (x ∷ xs) s f = absurd (run_alone x xs s (run_below (x ∷ xs) f))
 
-    by_check : (t : Bool) → bytes_eq (codes "check") word ≡ t → bytes_eq (codes "run") word ≡ false → IsRun (word ∷ rest) ⊎ ((formula : Text) × IsCheckOf (word ∷ rest) formula)
+    by_check : (t : Bool) → bytes_eq (codes "check") word ≡ t → bytes_eq (codes "run") word ≡ false
+        → IsRun (word ∷ rest) ⊎ ((formula : Text) × IsCheckOf (word ∷ rest) formula)
     by_check true t r =
         let is : codes "check" ≡ word = (bytes_eq-Decides (codes "check") word).0 t in
         inr (subst (λ (w : Text). (formula : Text) × IsCheckOf (w ∷ rest) formula) is
-        (check_form rest (subst (λ (w : Text). has_stray (w ∷ rest) ≡ false) (sym is) stray) (subst (λ (w : Text). fault_of lq_app (w ∷ rest) ≡ []) (sym is) e)))
+        (check_form rest (subst (λ (w : Text). has_stray (w ∷ rest) ≡ false) (sym is) stray)
+        (subst (λ (w : Text). fault_of lq_app (w ∷ rest) ≡ []) (sym is) e)))
     by_check false t r = absurd (other_word word rest r t e)
 
-    by_run : (t : Bool) → bytes_eq (codes "run") word ≡ t → IsRun (word ∷ rest) ⊎ ((formula : Text) × IsCheckOf (word ∷ rest) formula)
+    by_run : (t : Bool) → bytes_eq (codes "run") word ≡ t
+        → IsRun (word ∷ rest) ⊎ ((formula : Text) × IsCheckOf (word ∷ rest) formula)
     by_run true t =
         let is : codes "run" ≡ word = (bytes_eq-Decides (codes "run") word).0 t in
         inl (subst (λ (w : Text). IsRun (w ∷ rest)) is
-        (run_is rest (subst (λ (w : Text). has_stray (w ∷ rest) ≡ false) (sym is) stray) (subst (λ (w : Text). fault_of lq_app (w ∷ rest) ≡ []) (sym is) e)))
+        (run_is rest (subst (λ (w : Text). has_stray (w ∷ rest) ≡ false) (sym is) stray)
+        (subst (λ (w : Text). fault_of lq_app (w ∷ rest) ≡ []) (sym is) e)))
     by_run false t = by_check (bytes_eq (codes "check") word) refl t

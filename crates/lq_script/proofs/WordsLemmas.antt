@@ -5,7 +5,8 @@ use Rattle.std.specs.Io.KnownBytes.{Appends}
 use Rattle.lq_script.specs.Words.{Tells, WritesFront}
 
 -- the first bytes of a line are a front of it
-pub writes_part : (line : List ℕ) (written written' : Option (List ℕ)) → ((n : ℕ) × Appends written written' (take n line)) → WritesFront line written written'
+pub writes_part : (line : List ℕ) (written written' : Option (List ℕ))
+    → ((n : ℕ) × Appends written written' (take n line)) → WritesFront line written written'
 writes_part line written written' h = record {
   text = take h.0 line;
   appended = h.1;
@@ -13,8 +14,11 @@ writes_part line written written' h = record {
 }
 
 -- a line that was tried
-pub tells : {T E : Type 0} (r : Result T E) (line : List ℕ) (written written' : Option (List ℕ)) (failed stalled : Bool)
-    → OnOk r (Appends written written' line) → OnErr r ((n : ℕ) × Appends written written' (take n line))
+pub tells : {T E : Type 0} (r : Result T E) (line : List ℕ) (written written' : Option (List ℕ))
+    (failed stalled : Bool)
+    → OnOk r (Appends written written' line)
+    → OnErr r ((n : ℕ) × Appends written written' (take n line))
     → OnErr r ((failed ≡ true) ⊎ (stalled ≡ true)) → Tells line written written' failed stalled
 tells (Ok x) line written written' failed stalled whole part breaks = inl whole
-tells (Err e) line written written' failed stalled whole part breaks = inr (writes_part line written written' part, breaks)
+tells (Err e) line written written' failed stalled whole part breaks =
+    inr (writes_part line written written' part, breaks)

@@ -19,6 +19,7 @@ found (Some e) _ = Refuses e
 found None None = Refuses NoEntry
 found None (Some node) = Found node
 
+-- what a look-up is answered: its refusal, or the entry
 abbrev pub shown : Option Refusal → ℕ → Option Record → Response
 shown (Some e) node entry = Refuses e
 shown None node None = Refuses NoNode
@@ -28,6 +29,7 @@ shown None node (Some entry) = Listed node entry
 abbrev pub found_in : State → ℕ → List ℕ → Response
 found_in s dir name = found (first_refusal (find_refusals s dir name)) (node_in s.records dir name)
 
+-- what a look-up of a node is answered over a volume
 abbrev pub shown_in : State → ℕ → Response
 shown_in s node = shown (first_refusal (entry_refusals s node)) node (record_at s node)
 
@@ -52,14 +54,17 @@ abbrev pub happened : {Core : Type 0} → ℕ → Folds → Answer × Core → R
 happened slot folds p = (Answers slot p.0, session_with p.1 (folds_after slot p.0 folds))
 
 -- what a question is answered, and the session after it: only an event changes it
-abbrev pub responds : {Core : Type 0} → (Core → Happening → Answer × Core) → (Core → State) → Session Core → Question → Response × Session Core
+abbrev pub responds : {Core : Type 0} → (Core → Happening → Answer × Core) → (Core → State)
+    → Session Core → Question → Response × Session Core
 responds step volume s (Happens e) = happened (slot_of e) s.folds (step s.core e)
 responds step volume s (Finds dir name) = (found_in (volume s.core) dir name, s)
 responds step volume s (Lists node) = (shown_in (volume s.core) node, s)
-responds step volume s (Fetches q) = (Fetched (volume s.core).number (result_of q (volume s.core)), s)
+responds step volume s (Fetches q) =
+    (Fetched (volume s.core).number (result_of q (volume s.core)), s)
 responds step volume s (Rebuilds slot) = (rebuilt (fold_at s.folds slot), s)
 
 -- a line that asks nothing is refused, and nothing changes
-abbrev pub answered : {Core : Type 0} → (Core → Happening → Answer × Core) → (Core → State) → Session Core → Result Question Refusal → Response × Session Core
+abbrev pub answered : {Core : Type 0} → (Core → Happening → Answer × Core) → (Core → State)
+    → Session Core → Result Question Refusal → Response × Session Core
 answered step volume s (Err e) = (Refuses e, s)
 answered step volume s (Ok q) = responds step volume s q

@@ -15,12 +15,15 @@ bare name = record {
   subs = [];
 }
 
+-- the formula of `check`, which has to be there
 abbrev pub formula_rule : Rule
 formula_rule = record (new_rule (codes "formula")) { action = Some Set; required = true }
 
+-- the subcommand `check`
 abbrev pub check_app : App
 check_app = with_rule (bare (codes "check")) formula_rule
 
+-- the command itself, whose words begin behind its name and name a subcommand
 abbrev pub lq_top : App
 lq_top = record (bare (codes "lq")) {
   top = record (bare (codes "lq")).top { no_binary_name = true; subcommand_required = true };

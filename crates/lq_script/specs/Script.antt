@@ -1,4 +1,5 @@
--- What is written for a whole script: what each line asks, its answer in the world, and the answer's text.
+-- What is written for a whole script: what each line asks, its answer in the world, and the
+-- answer's text.
 use Rattle.std.specs.Prelude.{ℕ, List, []}
 use Rattle.lq_value.specs.declared.refusal.Refusal.TheVariants.{LongLine}
 use Rattle.lq_volume.specs.State.{State, empty_state}
@@ -18,7 +19,8 @@ use Rattle.lq_script.specs.Answered.{answered}
 use Rattle.lq_reply.specs.Reply.{reply_text}
 
 -- how lines are answered where turns are, over a volume
-abbrev pub rules_by : {Core : Type 0} → (Core → Happening → Answer × Core) → (Core → State) → Rules (Session Core)
+abbrev pub rules_by : {Core : Type 0} → (Core → Happening → Answer × Core) → (Core → State)
+    → Rules (Session Core)
 rules_by step volume = record {
   reply = λ s line. reply_text (answered step volume s (question_in line)).0;
   after = λ s line. (answered step volume s (question_in line)).1;
@@ -29,12 +31,15 @@ rules_by step volume = record {
 abbrev pub volume_of : World → State
 volume_of w = state_of w.book
 
+-- how lines are answered over worlds
 abbrev pub world_rules : Rules (Session World)
 world_rules = rules_by turn_outcome volume_of
 
+-- the volume that a desk keeps
 abbrev pub kept_volume : Kept → State
 kept_volume k = k.volume
 
+-- how lines are answered over what a desk keeps
 abbrev pub kept_rules : Rules (Session Kept)
 kept_rules = rules_by kept.turn_outcome kept_volume
 
@@ -42,6 +47,7 @@ kept_rules = rules_by kept.turn_outcome kept_volume
 abbrev pub script_world : World
 script_world = first_world (record { start = empty_state 1000000000000; changes = [] })
 
+-- the session that a script begins with: no slot has a fold
 abbrev pub script_session : Session World
 script_session = session_with script_world no_folds
 

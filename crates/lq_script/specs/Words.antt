@@ -59,9 +59,11 @@ fault_line Limit = line_with (codes "lq: input too long")
 fault_line Memory = line_with (codes "lq: no memory")
 fault_line Thread = line_with (codes "lq: no thread")
 
+-- of a formula that is refused at this place
 abbrev pub refusal_line : ℕ → List ℕ
 refusal_line place = codes "lq: BadQuery at " ++ line_with (decimal place)
 
+-- of any other words
 abbrev pub usage_line : List ℕ
 usage_line = line_with (codes "lq: usage")
 
@@ -82,14 +84,15 @@ pub record Prints (formula : List ℕ) (written written' : Option (List ℕ)) : 
   pub reads : Reads formula query
   pub appended : Appends written written' (line_with (canonical query))
 
+-- the formula reads, and a front of its canonical text and LF was written
 pub record PrintsFront (formula : List ℕ) (written written' : Option (List ℕ)) : Type 0 where
   pub query : Query
   pub reads : Reads formula query
   pub appended : WritesFront (line_with (canonical query)) written written'
 
 -- What each fault says. Read: the reader failed, and just the lines that LF ended are answered.
--- Write: the writer failed, or took nothing of some bytes. Limit: a limit was met, and just the lines
--- before it that LF ended are answered. No thread is started.
+-- Write: the writer failed, or took nothing of some bytes. Limit: a limit was met, and just the
+-- lines before it that LF ended are answered. No thread is started.
 abbrev pub IsFaultOf : RunFault → Option (List ℕ) → Option (List ℕ) → Bool
     → Option (List ℕ) → Option (List ℕ) → Bool → Bool → Type 0
 IsFaultOf Read left left' fails written written' failed stalled =

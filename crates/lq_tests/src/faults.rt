@@ -125,18 +125,29 @@ fn unmet(
     Ok(None)
 }
 
+/// Returns whether runs with trouble at one call end as they have to, by 1 and 10 bytes a call.
+fn are_met(
+    alloc: Global,
+    example: &Example,
+    row: &(Device, Trouble, usize, usize),
+) -> Result<bool, AllocError> {
+    let (device, trouble, by_one, by_ten) = *row;
+    let one = unmet(alloc, example, device, trouble, 1, by_one)?;
+    let ten = unmet(alloc, example, device, trouble, 10, by_ten)?;
+    Ok(one.is_none() && ten.is_none())
+}
+
 #[test]
 fn each_call_of_a_device_has_trouble_in_turn(rt: HostRuntime) -> Result<(), Fail> {
-    for (rows, troubles) in TROUBLES {
-        let example = Example::of(rt.alloc(), rows)?;
-        for (device, trouble, by_one, by_ten) in troubles {
-            for (step, calls) in [(1, by_one), (10, by_ten)] {
-                let at = unmet(rt.alloc(), &example, device, trouble, step, calls)?;
-                assert!(rt;
-                    at.is_none(),
-                    "{device:?} {trouble:?} {step} {calls} {at:?}"
-                );
-            }
+    for (rows, troubles) in &TROUBLES {
+        let example = Example::of(rt.alloc(), *rows)?;
+        for row in troubles {
+            assert!(rt;
+                are_met(rt.alloc(), &example, row)?,
+                "{:?} {:?}",
+                row.0,
+                row.1
+            );
         }
     }
     Ok(())
@@ -156,20 +167,32 @@ fn scenario_read_fault(rt: HostRuntime) -> Result<(), Fail> {
     Ok(())
 }
 
+/// Returns whether a run over this writer answers and writes this.
+fn is_written(
+    alloc: Global,
+    example: &Example,
+    writes: Pace,
+    wanted: Result<(), RunFault>,
+    text: &str,
+) -> Result<bool, AllocError> {
+    let (answer, written) = answer(alloc, &example.script, FREE, writes)?;
+    Ok(answer == wanted && written.as_slice() == text.as_bytes())
+}
+
+fn pace(step: usize, at: usize, trouble: Trouble) -> Pace {
+    Pace { step, at, trouble }
+}
+
 #[test]
 fn scenario_write_faults(rt: HostRuntime) -> Result<(), Fail> {
-    let example = Example::of(rt.alloc(), FIRST_MESSAGE)?;
-    // bytes a write, the write with trouble; the answer, what was written
-    let rows = [
-        (10, 1, Trouble::Fails, Err(RunFault::Write), "{\"at\":0,\"r"),
-        (1, 999, Trouble::Fails, Ok(()), example.output.as_str()),
-        (999, 0, Trouble::MovesNone, Err(RunFault::Write), ""),
-    ];
-    for (step, at, trouble, wanted, text) in rows {
-        let writes = Pace { step, at, trouble };
-        let (answer, written) = answer(rt.alloc(), &example.script, FREE, writes)?;
-        assert_eq!(rt; answer, wanted, "{step}");
-        assert!(rt; written.as_slice() == text.as_bytes(), "{step}");
-    }
+    let alloc = rt.alloc();
+    let example = Example::of(alloc, FIRST_MESSAGE)?;
+    let fails = pace(10, 1, Trouble::Fails);
+    let fault = Err(RunFault::Write);
+    assert!(rt; is_written(alloc, &example, fails, fault, "{\"at\":0,\"r")?);
+    let never = pace(1, 999, Trouble::Fails);
+    assert!(rt; is_written(alloc, &example, never, Ok(()), &example.output)?);
+    let moves_none = pace(999, 0, Trouble::MovesNone);
+    assert!(rt; is_written(alloc, &example, moves_none, fault, "")?);
     Ok(())
 }

@@ -135,22 +135,35 @@ fn nested(alloc: Global, open: &str, close: &str, depth: usize) -> Result<String
 #[test]
 fn a_text_is_read_as_serde_json_reads_it(rt: HostRuntime) -> Result<(), Fail> {
     let mut scratch = Scratch::new(rt.alloc());
-    for (text, is_taken) in TEXTS {
+    for (text, is_taken) in &TEXTS {
         assert_eq!(rt;
             taken(rt.alloc(), &mut scratch, text),
-            Some(is_taken),
+            Some(*is_taken),
             "{text}"
         );
     }
-    for (depth, is_taken) in DEPTHS {
-        for (open, close) in [("[", "]"), ("{\"a\":", "}")] {
-            let text = nested(rt.alloc(), open, close, depth)?;
-            assert_eq!(rt;
-                taken(rt.alloc(), &mut scratch, &text),
-                Some(is_taken),
-                "{open} {depth}"
-            );
-        }
+    Ok(())
+}
+
+// Whether a value in that many brackets is taken.
+fn is_taken_in(
+    alloc: Global,
+    open: &str,
+    close: &str,
+    depth: usize,
+) -> Result<Option<bool>, AllocError> {
+    let mut scratch = Scratch::new(alloc);
+    let text = nested(alloc, open, close, depth)?;
+    Ok(taken(alloc, &mut scratch, &text))
+}
+
+#[test]
+fn brackets_nest_127_deep(rt: HostRuntime) -> Result<(), Fail> {
+    for (depth, is_taken) in &DEPTHS {
+        let lists = is_taken_in(rt.alloc(), "[", "]", *depth)?;
+        assert_eq!(rt; lists, Some(*is_taken), "{depth}");
+        let objects = is_taken_in(rt.alloc(), "{\"a\":", "}", *depth)?;
+        assert_eq!(rt; objects, Some(*is_taken), "{depth}");
     }
     Ok(())
 }

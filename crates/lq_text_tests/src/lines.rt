@@ -174,42 +174,54 @@ fn run_over(
     }
 }
 
+/// Returns whether a run over a reader that doesn't fail writes this, and is flushed once.
+fn writes(
+    alloc: Global,
+    input: &str,
+    step: usize,
+    takes: usize,
+    output: &str,
+) -> Result<bool, AllocError> {
+    let told = run_over(alloc, input.as_bytes(), step, false, takes, 99)?;
+    let is_written = told.text.as_slice() == output.as_bytes();
+    Ok(is_written && told.answer == Ok(()) && told.flushes == 1)
+}
+
 #[test]
 fn each_line_has_its_reply(rt: HostRuntime) -> Result<(), Fail> {
+    let alloc = rt.alloc();
     // the input, bytes a read, bytes a write; what was written
-    let rows = [
-        ("", 9, 99, ""),
-        ("\r\n\n", 9, 99, ""),
-        ("ab\n\ncd\r\nef\r\r\n", 9, 99, ">ab\nacd\ncef\r\n"),
-        ("ab\ncd", 1, 99, ">ab\nacd\n"),
-        ("ab\ncd\r", 2, 1, ">ab\nacd\n"),
-    ];
-    for (input, step, takes, output) in rows {
-        let told = run_over(rt.alloc(), input.as_bytes(), step, false, takes, 99)?;
-        assert_eq!(rt; told.answer, Ok(()), "{input}");
-        assert!(rt; told.text.as_slice() == output.as_bytes(), "{input}");
-        assert_eq!(rt; told.flushes, 1, "{input}");
-    }
+    assert!(rt; writes(alloc, "", 9, 99, "")?);
+    assert!(rt; writes(alloc, "\r\n\n", 9, 99, "")?);
+    assert!(rt; writes(alloc, "ab\n\ncd\r\nef\r\r\n", 9, 99, ">ab\nacd\ncef\r\n")?);
+    assert!(rt; writes(alloc, "ab\ncd", 1, 99, ">ab\nacd\n")?);
+    assert!(rt; writes(alloc, "ab\ncd\r", 2, 1, ">ab\nacd\n")?);
+    Ok(())
+}
+
+/// Returns whether a run stopped at this fault, with this written and so many flushes.
+fn is_stopped(told: &Told, fault: RunFault, output: &str, flushes: u8) -> bool {
+    let is_written = told.text.as_slice() == output.as_bytes();
+    is_written && told.answer == Err(fault) && told.flushes == flushes
+}
+
+#[test]
+fn a_read_fault_is_answered(rt: HostRuntime) -> Result<(), Fail> {
+    let after_a_line = run_over(rt.alloc(), b"ab\ncd", 4, true, 99, 99)?;
+    assert!(rt; is_stopped(&after_a_line, RunFault::Read, ">ab\n", 1));
+    let at_once = run_over(rt.alloc(), b"", 4, true, 99, 99)?;
+    assert!(rt; is_stopped(&at_once, RunFault::Read, "", 1));
     Ok(())
 }
 
 #[test]
 fn the_first_fault_is_answered(rt: HostRuntime) -> Result<(), Fail> {
-    // the input, bytes a read, whether the reader then fails, bytes a write, bytes in all;
-    // the fault, what was written, flushes
-    let rows = [
-        ("ab\ncd", 4, true, 99, 99, RunFault::Read, ">ab\n", 1),
-        ("", 4, true, 99, 99, RunFault::Read, "", 1),
-        ("ab\ncd\n", 99, false, 99, 6, RunFault::Write, ">ab\nac", 0),
-        ("ab\ncd\n", 1, true, 99, 6, RunFault::Write, ">ab\nac", 0),
-        ("ab\n", 99, false, 0, 99, RunFault::Write, "", 0),
-    ];
-    for (input, step, fails, takes, room, fault, output, flushes) in rows {
-        let told = run_over(rt.alloc(), input.as_bytes(), step, fails, takes, room)?;
-        assert_eq!(rt; told.answer, Err(fault), "{input}");
-        assert!(rt; told.text.as_slice() == output.as_bytes(), "{input}");
-        assert_eq!(rt; told.flushes, flushes, "{input}");
-    }
+    let no_room = run_over(rt.alloc(), b"ab\ncd\n", 99, false, 99, 6)?;
+    assert!(rt; is_stopped(&no_room, RunFault::Write, ">ab\nac", 0));
+    let no_room_before_a_fault = run_over(rt.alloc(), b"ab\ncd\n", 1, true, 99, 6)?;
+    assert!(rt; is_stopped(&no_room_before_a_fault, RunFault::Write, ">ab\nac", 0));
+    let takes_nothing = run_over(rt.alloc(), b"ab\n", 99, false, 0, 99)?;
+    assert!(rt; is_stopped(&takes_nothing, RunFault::Write, "", 0));
     Ok(())
 }
 
@@ -232,42 +244,48 @@ fn letters(alloc: Global, count: usize, text: &[u8]) -> Result<Vec<u8>, AllocErr
     Ok(line)
 }
 
+/// Returns whether the output of so many letters and this text has so many bytes, and ends so.
+fn has_output(
+    alloc: Global,
+    count: usize,
+    text: &[u8],
+    bytes: usize,
+    end: &[u8],
+) -> Result<bool, AllocError> {
+    let input = letters(alloc, count, text)?;
+    let mut reader = Host::new(input.as_slice());
+    let mut writer = Host::new(Vec::new(alloc));
+    let mut responder = Echo { first: b'>' };
+    let answer = run_lines(alloc, &mut reader, &mut writer, &mut responder);
+    let output = writer.into_device();
+    Ok(answer == Ok(()) && output.len() == bytes && output.ends_with(end))
+}
+
 #[test]
 fn a_line_over_65536_bytes_is_long(rt: HostRuntime) -> Result<(), Fail> {
-    // the letters, what follows them, the bytes of the output, its end
-    let rows = [
-        (65536, "\na\n", 65541, "x\nxa\n"),
-        (65537, "\na\n", 5, "!\n>a\n"),
-        (65536, "\r\na\n", 5, "!\n>a\n"),
-        (65535, "\r\na\n", 65540, "x\nxa\n"),
-        (65536, "", 65538, "x\n"),
-        (200000, "", 2, "!\n"),
-    ];
-    for (count, text, bytes, end) in rows {
-        let input = letters(rt.alloc(), count, text.as_bytes())?;
-        let mut reader = Host::new(input.as_slice());
-        let mut writer = Host::new(Vec::new(rt.alloc()));
-        let mut responder = Echo { first: b'>' };
-        let answer = run_lines(rt.alloc(), &mut reader, &mut writer, &mut responder);
-        assert_eq!(rt; answer, Ok(()), "{count}");
-        let output = writer.into_device();
-        assert_eq!(rt; output.len(), bytes, "{count}");
-        assert!(rt; output.ends_with(end.as_bytes()), "{count}");
-    }
+    let alloc = rt.alloc();
+    // the letters, what follows them; the bytes of the output, its end
+    assert!(rt; has_output(alloc, 65536, b"\na\n", 65541, b"x\nxa\n")?);
+    assert!(rt; has_output(alloc, 65537, b"\na\n", 5, b"!\n>a\n")?);
+    assert!(rt; has_output(alloc, 65536, b"\r\na\n", 5, b"!\n>a\n")?);
+    assert!(rt; has_output(alloc, 65535, b"\r\na\n", 65540, b"x\nxa\n")?);
+    assert!(rt; has_output(alloc, 65536, b"", 65538, b"x\n")?);
+    assert!(rt; has_output(alloc, 200000, b"", 2, b"!\n")?);
     Ok(())
+}
+
+/// Returns whether a fault is shown by this text.
+fn is_shown(alloc: Global, fault: RunFault, text: &str) -> Result<bool, AllocError> {
+    Ok(format!(in alloc; "{fault}")?.as_str() == text)
 }
 
 #[test]
 fn a_fault_shows_its_text(rt: HostRuntime) -> Result<(), Fail> {
-    let rows = [
-        (RunFault::Read, "read fault"),
-        (RunFault::Write, "write fault"),
-        (RunFault::Limit, "input too long"),
-        (RunFault::Memory, "no memory"),
-        (RunFault::Thread, "no thread"),
-    ];
-    for (fault, text) in rows {
-        assert_eq!(rt; format!(in rt.alloc(); "{fault}")?.as_str(), text);
-    }
+    let alloc = rt.alloc();
+    assert!(rt; is_shown(alloc, RunFault::Read, "read fault")?);
+    assert!(rt; is_shown(alloc, RunFault::Write, "write fault")?);
+    assert!(rt; is_shown(alloc, RunFault::Limit, "input too long")?);
+    assert!(rt; is_shown(alloc, RunFault::Memory, "no memory")?);
+    assert!(rt; is_shown(alloc, RunFault::Thread, "no thread")?);
     Ok(())
 }

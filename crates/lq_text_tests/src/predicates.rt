@@ -1,6 +1,6 @@
 //! Of lq_predicate: predicates from pushes, their texts and names, with memory.
 use lq_predicate::{Stack, StackOp, names, write};
-use lq_value::Refusal;
+use lq_value::{AttrName, Refusal};
 use std::alloc::Global;
 use std::test::Fail;
 
@@ -38,24 +38,38 @@ fn scenario_postfix_stack(rt: HostRuntime) -> Result<(), Fail> {
     Ok(())
 }
 
+// The names in the scenario's predicate.
+fn names_of_both(alloc: Global) -> Result<Vec<AttrName>, Refusal> {
+    let mut stack = size_and_name(alloc)?;
+    let predicate = stack.finish()?;
+    names(alloc, &predicate)
+}
+
+fn are_size_and_name(names: &[AttrName]) -> bool {
+    match names {
+        [size, name] => size.as_str() == "size" && name.as_str() == "name",
+        _ => false,
+    }
+}
+
 #[test]
 fn scenario_postfix_stack_names(rt: HostRuntime) -> Result<(), Fail> {
-    let mut stack = size_and_name(rt.alloc())?;
-    let predicate = stack.finish()?;
-    let found = names(rt.alloc(), &predicate)?;
-    assert_eq!(rt; found.len(), 2);
-    assert_eq!(rt; found[0].as_str(), "size");
-    assert_eq!(rt; found[1].as_str(), "name");
+    assert!(rt; are_size_and_name(&names_of_both(rt.alloc())?));
     Ok(())
+}
+
+// How an `and` of an attribute and a number is refused; both stay on the stack.
+fn joined_number(stack: &mut Stack) -> Result<Result<(), Refusal>, Refusal> {
+    stack.push_attr("a")?;
+    stack.push_int64(-5)?;
+    Ok(stack.push_op(StackOp::And))
 }
 
 #[test]
 fn scenario_postfix_stack_refusals(rt: HostRuntime) -> Result<(), Fail> {
     let mut stack = Stack::new(rt.alloc());
     assert_eq!(rt; stack.finish().err(), Some(Refusal::BadQuery { place: 0 }));
-    stack.push_attr("a")?;
-    stack.push_int64(-5)?;
-    let refused = stack.push_op(StackOp::And);
+    let refused = joined_number(&mut stack)?;
     assert_eq!(rt; refused, Err(Refusal::BadQuery { place: 2 }));
     stack.push_op(StackOp::Lt)?;
     let text = finished_text(rt.alloc(), &mut stack)?;
@@ -63,18 +77,27 @@ fn scenario_postfix_stack_refusals(rt: HostRuntime) -> Result<(), Fail> {
     Ok(())
 }
 
+// The text of `a` at most this number of 64 bits, and of 32.
+fn most_in_64(alloc: Global, stack: &mut Stack, number: u64) -> Result<String, Refusal> {
+    stack.push_attr("a")?;
+    stack.push_uint64(number)?;
+    stack.push_op(StackOp::Le)?;
+    finished_text(alloc, stack)
+}
+
+fn most_in_32(alloc: Global, stack: &mut Stack, number: u32) -> Result<String, Refusal> {
+    stack.push_attr("a")?;
+    stack.push_uint32(number)?;
+    stack.push_op(StackOp::Le)?;
+    finished_text(alloc, stack)
+}
+
 #[test]
 fn scenario_moved_pushes(rt: HostRuntime) -> Result<(), Fail> {
     let mut stack = Stack::new(rt.alloc());
-    stack.push_attr("a")?;
-    stack.push_uint64(18446744073709551615)?;
-    stack.push_op(StackOp::Le)?;
-    let text = finished_text(rt.alloc(), &mut stack)?;
+    let text = most_in_64(rt.alloc(), &mut stack, 18446744073709551615)?;
     assert_eq!(rt; text.as_str(), "(a<=\"18446744073709551615\")");
-    stack.push_attr("a")?;
-    stack.push_uint32(7)?;
-    stack.push_op(StackOp::Le)?;
-    let text = finished_text(rt.alloc(), &mut stack)?;
+    let text = most_in_32(rt.alloc(), &mut stack, 7)?;
     assert_eq!(rt; text.as_str(), "(a<=\"7\")");
     Ok(())
 }

@@ -2,7 +2,7 @@
 use lq_value::{
     AttrName, Literal, Name, Op, Pattern, Refusal, Text, Value, ValueText, View, compare,
 };
-use std::alloc::Global;
+use std::alloc::{AllocError, Global};
 use std::cmp::Ordering;
 use std::test::Fail;
 
@@ -153,131 +153,115 @@ fn fields(row: &str) -> Result<(&str, &str), Fail> {
     Ok(row.split_once('|').ok_or("a row without a bar")?)
 }
 
+// Whether a refusal is shown by this text.
+fn is_shown(alloc: Global, refusal: Refusal, text: &str) -> Result<bool, AllocError> {
+    Ok(format!(in alloc; "{refusal}")?.as_str() == text)
+}
+
 #[test]
 fn a_refusal_shows_its_name(rt: HostRuntime) -> Result<(), Fail> {
     let mut names = NAMES.lines();
-    for refusal in REFUSALS {
+    for refusal in &REFUSALS {
         let name = names.next().ok_or("too few names")?;
-        assert_eq!(rt; format!(in rt.alloc(); "{refusal}")?.as_str(), name);
+        assert!(rt; is_shown(rt.alloc(), *refusal, name)?, "{name}");
     }
+    Ok(())
+}
+
+#[test]
+fn a_bad_query_shows_its_place(rt: HostRuntime) -> Result<(), Fail> {
     let at_seven = Refusal::BadQuery { place: 7 };
-    assert_eq!(rt;
-        format!(in rt.alloc(); "{at_seven}")?.as_str(),
-        "BadQuery at 7"
-    );
+    assert!(rt; is_shown(rt.alloc(), at_seven, "BadQuery at 7")?);
     assert_eq!(rt; at_seven.name(), "BadQuery");
     assert_eq!(rt; at_seven.code(), 20);
     Ok(())
 }
 
+// The place of the fault for which a source is refused.
+fn place_of_fault(alloc: Global, source: &str) -> Option<u64> {
+    match Pattern::read(alloc, source) {
+        Err(Refusal::BadQuery { place }) => Some(place),
+        _ => None,
+    }
+}
+
 #[test]
-fn patterns(rt: HostRuntime) -> Result<(), Fail> {
+fn a_source_has_its_leftmost_fault(rt: HostRuntime) -> Result<(), Fail> {
     for row in FAULTS.lines() {
         let (source, place) = fields(row)?;
-        let place = place.parse().ok().ok_or("no place")?;
-        let refused = Pattern::read(rt.alloc(), source).err();
-        assert_eq!(rt; refused, Some(Refusal::BadQuery { place }), "{row}");
+        let place: u64 = place.parse().ok().ok_or("no place")?;
+        assert_eq!(rt; place_of_fault(rt.alloc(), source), Some(place), "{row}");
     }
-    let pattern = Pattern::read(rt.alloc(), "[^a-c]?\\*")?;
-    assert!(rt; pattern.matches("dx*"));
-    assert!(rt; !pattern.matches("bx*"));
-    let pattern = Pattern::read(rt.alloc(), "?")?;
-    assert!(rt; pattern.matches("é"));
-    let z = Literal::Plain(Text::new(String::from_str(rt.alloc(), "z")?));
-    assert!(rt; compare(View::Text("é"), Op::Gt, &z));
     Ok(())
+}
+
+// Whether the pattern of a source fits a text, and a copy of it too.
+fn fits(alloc: Global, source: &str, text: &str) -> Result<(bool, bool), Refusal> {
+    let pattern = Pattern::read(alloc, source)?;
+    let copy = pattern.copy(alloc)?;
+    Ok((pattern.matches(text), copy.matches(text)))
 }
 
 #[test]
 fn an_element_fits_whole_characters(rt: HostRuntime) -> Result<(), Fail> {
     for row in FITS.lines() {
         let (source, rest) = fields(row)?;
-        let (text, fits) = fields(rest)?;
-        let pattern = Pattern::read(rt.alloc(), source)?;
-        assert_eq!(rt; pattern.matches(text), fits == "yes", "{row}");
-        let copy = pattern.copy(rt.alloc())?;
-        assert_eq!(rt; copy.matches(text), fits == "yes", "{row}");
-    }
-    let mut stars = String::new(rt.alloc());
-    for _ in 0..40 {
-        stars.push_str("*a")?;
-    }
-    let text = letters(rt.alloc(), 4096)?;
-    assert!(rt; Pattern::read(rt.alloc(), stars.as_str())?.matches(text.as_str()));
-    stars.push_str("*b")?;
-    assert!(rt; !Pattern::read(rt.alloc(), stars.as_str())?.matches(text.as_str()));
-    Ok(())
-}
-
-#[test]
-fn a_value_shows_what_it_holds(rt: HostRuntime) -> Result<(), Fail> {
-    let longest = letters(rt.alloc(), 4096)?;
-    let longer = letters(rt.alloc(), 4097)?;
-    let refused = Value::text(rt.alloc(), longer.as_str()).err();
-    assert_eq!(rt; refused, Some(Refusal::TooLong));
-    let value = Value::text(rt.alloc(), longest.as_str())?;
-    let View::Text(text) = value.view() else {
-        return Err(Fail::from(Refusal::Mismatch));
-    };
-    assert_eq!(rt; text.len(), 4096);
-
-    let alloc = rt.alloc();
-    assert!(rt; shows(alloc, &Value::text(alloc, "é")?, "Text(\"é\")")?);
-    assert!(rt; shows(alloc, &Value::Int32(i32::MIN), "Int32(-2147483648)")?);
-    assert!(rt; shows(alloc, &Value::Int64(-5), "Int64(-5)")?);
-    assert!(rt; shows(alloc, &Value::UInt32(u32::MAX), "UInt32(4294967295)")?);
-    assert!(rt;
-        shows(
-            alloc,
-            &Value::UInt64(u64::MAX),
-            "UInt64(18446744073709551615)"
-        )?
-    );
-    let text = ValueText::read(rt.alloc(), "a")?.copy(rt.alloc())?;
-    assert_eq!(rt; text.as_str(), "a");
-    let name = Name::read(rt.alloc(), "a.b")?.copy(rt.alloc())?;
-    assert_eq!(rt; name.as_str(), "a.b");
-    assert_eq!(rt; Name::read(rt.alloc(), "..").err(), Some(Refusal::BadName));
-    let attr = AttrName::read(rt.alloc(), "a/b")?.copy(rt.alloc())?;
-    assert_eq!(rt; attr.as_str(), "a/b");
-    assert_eq!(rt;
-        AttrName::read(rt.alloc(), "").err(),
-        Some(Refusal::BadName)
-    );
-    Ok(())
-}
-
-#[test]
-fn a_literal_writes_a_number(rt: HostRuntime) -> Result<(), Fail> {
-    for row in NUMBERS.lines() {
-        let (text, number) = fields(row)?;
-        let pattern = Literal::Pattern(Pattern::read(rt.alloc(), text)?);
-        let plain = Literal::Plain(Text::new(String::from_str(rt.alloc(), text)?));
-        assert_eq!(rt; pattern.number(), number.parse().ok(), "{row}");
-        assert_eq!(rt;
-            plain.copy(rt.alloc())?.number(),
-            number.parse().ok(),
+        let (text, wanted) = fields(rest)?;
+        let wanted = wanted == "yes";
+        assert!(rt;
+            fits(rt.alloc(), source, text)? == (wanted, wanted),
             "{row}"
         );
     }
-    for row in SOURCES.lines() {
-        let (source, number) = fields(row)?;
-        let pattern = Pattern::read(rt.alloc(), source)?;
-        assert_eq!(rt; pattern.number(), number.parse().ok(), "{row}");
+    Ok(())
+}
+
+#[test]
+fn a_set_stands_beside_other_elements(rt: HostRuntime) -> Result<(), Fail> {
+    assert!(rt; fits(rt.alloc(), "[^a-c]?\\*", "dx*")?.0);
+    assert!(rt; !fits(rt.alloc(), "[^a-c]?\\*", "bx*")?.0);
+    assert!(rt; fits(rt.alloc(), "?", "é")?.0);
+    Ok(())
+}
+
+// The text so many times, and then another.
+fn repeated(alloc: Global, text: &str, count: usize, end: &str) -> Result<String, AllocError> {
+    let mut whole = String::new(alloc);
+    for _ in 0..count {
+        whole.push_str(text)?;
     }
-    let twelve = Literal::Pattern(Pattern::plain(rt.alloc(), "12")?);
-    assert!(rt; compare(View::Int32(12), Op::Eq, &twelve));
-    assert!(rt; compare(View::UInt32(13), Op::Ne, &twelve));
-    assert!(rt; twelve.suits(Op::Eq) && !twelve.suits(Op::Lt));
-    let text = Text::new(String::from_str(rt.alloc(), "18446744073709551614")?);
-    assert_eq!(rt;
-        text.copy(rt.alloc())?.into_string().as_str(),
-        text.as_str()
-    );
-    let below = Literal::Plain(text);
-    assert!(rt; compare(View::UInt64(18446744073709551615), Op::Gt, &below));
-    assert!(rt; compare(View::Int64(-1), Op::Lt, &below));
-    assert!(rt; Op::Le.accepts(Ordering::Equal));
+    whole.push_str(end)?;
+    Ok(whole)
+}
+
+// Whether forty stars with a letter behind each, and then this source, fit 4,096 of that letter.
+fn stars_fit(alloc: Global, end: &str) -> Result<bool, Refusal> {
+    let source = repeated(alloc, "*a", 40, end)?;
+    let text = repeated(alloc, "a", 4096, "")?;
+    Ok(Pattern::read(alloc, &source)?.matches(&text))
+}
+
+#[test]
+fn many_stars_fit_a_long_text(rt: HostRuntime) -> Result<(), Fail> {
+    assert!(rt; stars_fit(rt.alloc(), "")?);
+    assert!(rt; !stars_fit(rt.alloc(), "*b")?);
+    Ok(())
+}
+
+// How long a value is shown that is made of a text of so many letters.
+fn shown_len(alloc: Global, letters: usize) -> Result<usize, Refusal> {
+    let text = repeated(alloc, "a", letters, "")?;
+    let value = Value::text(alloc, &text)?;
+    match value.view() {
+        View::Text(shown) => Ok(shown.len()),
+        _ => Err(Refusal::Mismatch),
+    }
+}
+
+#[test]
+fn a_text_value_has_4096_bytes_at_most(rt: HostRuntime) -> Result<(), Fail> {
+    assert_eq!(rt; shown_len(rt.alloc(), 4096), Ok(4096));
+    assert_eq!(rt; shown_len(rt.alloc(), 4097), Err(Refusal::TooLong));
     Ok(())
 }
 
@@ -289,11 +273,108 @@ fn shows(alloc: Global, value: &Value, text: &str) -> Result<bool, Fail> {
     Ok(view.as_str() == text && same.as_str() == text)
 }
 
-// So many letters.
-fn letters(alloc: Global, count: usize) -> Result<String, Fail> {
-    let mut text = String::new(alloc);
-    for _ in 0..count {
-        text.push('a')?;
+#[test]
+fn a_value_shows_what_it_holds(rt: HostRuntime) -> Result<(), Fail> {
+    let alloc = rt.alloc();
+    assert!(rt; shows(alloc, &Value::text(alloc, "é")?, "Text(\"é\")")?);
+    assert!(rt; shows(alloc, &Value::Int32(i32::MIN), "Int32(-2147483648)")?);
+    assert!(rt; shows(alloc, &Value::Int64(-5), "Int64(-5)")?);
+    assert!(rt; shows(alloc, &Value::UInt32(u32::MAX), "UInt32(4294967295)")?);
+    let most = "UInt64(18446744073709551615)";
+    assert!(rt; shows(alloc, &Value::UInt64(u64::MAX), most)?);
+    Ok(())
+}
+
+// Whether a copy of what is read of a text has that text.
+fn is_name_copied(alloc: Global, text: &str) -> Result<bool, Refusal> {
+    let name = Name::read(alloc, text)?;
+    Ok(name.copy(alloc)?.as_str() == text)
+}
+
+fn is_attr_copied(alloc: Global, text: &str) -> Result<bool, Refusal> {
+    let attr = AttrName::read(alloc, text)?;
+    Ok(attr.copy(alloc)?.as_str() == text)
+}
+
+fn is_text_copied(alloc: Global, text: &str) -> Result<bool, Refusal> {
+    let value = ValueText::read(alloc, text)?;
+    Ok(value.copy(alloc)?.as_str() == text)
+}
+
+#[test]
+fn a_copy_has_its_text(rt: HostRuntime) -> Result<(), Fail> {
+    assert_eq!(rt; is_text_copied(rt.alloc(), "a"), Ok(true));
+    assert_eq!(rt; is_name_copied(rt.alloc(), "a.b"), Ok(true));
+    assert_eq!(rt; is_name_copied(rt.alloc(), ".."), Err(Refusal::BadName));
+    assert_eq!(rt; is_attr_copied(rt.alloc(), "a/b"), Ok(true));
+    assert_eq!(rt; is_attr_copied(rt.alloc(), ""), Err(Refusal::BadName));
+    Ok(())
+}
+
+fn pattern(alloc: Global, source: &str) -> Result<Literal, Refusal> {
+    Ok(Literal::Pattern(Pattern::read(alloc, source)?))
+}
+
+fn plain(alloc: Global, text: &str) -> Result<Literal, AllocError> {
+    Ok(Literal::Plain(Text::new(String::from_str(alloc, text)?)))
+}
+
+fn copied_number(alloc: Global, literal: &Literal) -> Result<Option<i128>, Refusal> {
+    Ok(literal.copy(alloc)?.number())
+}
+
+#[test]
+fn a_literal_writes_a_number(rt: HostRuntime) -> Result<(), Fail> {
+    for row in NUMBERS.lines() {
+        let (text, number) = fields(row)?;
+        let number = number.parse().ok();
+        assert_eq!(rt; pattern(rt.alloc(), text)?.number(), number, "{row}");
+        let copied = copied_number(rt.alloc(), &plain(rt.alloc(), text)?)?;
+        assert_eq!(rt; copied, number, "{row}");
     }
-    Ok(text)
+    Ok(())
+}
+
+#[test]
+fn a_pattern_writes_a_number(rt: HostRuntime) -> Result<(), Fail> {
+    for row in SOURCES.lines() {
+        let (source, number) = fields(row)?;
+        let written = Pattern::read(rt.alloc(), source)?.number();
+        assert_eq!(rt; written, number.parse().ok(), "{row}");
+    }
+    Ok(())
+}
+
+#[test]
+fn a_number_is_equal_or_not(rt: HostRuntime) -> Result<(), Fail> {
+    let twelve = Literal::Pattern(Pattern::plain(rt.alloc(), "12")?);
+    assert!(rt; compare(View::Int32(12), Op::Eq, &twelve));
+    assert!(rt; compare(View::UInt32(13), Op::Ne, &twelve));
+    assert!(rt; twelve.suits(Op::Eq) && !twelve.suits(Op::Lt));
+    Ok(())
+}
+
+#[test]
+fn views_have_an_order(rt: HostRuntime) -> Result<(), Fail> {
+    let number = String::from_str(rt.alloc(), "18446744073709551614")?;
+    let below = Literal::Plain(Text::new(number));
+    assert!(rt; compare(View::UInt64(18446744073709551615), Op::Gt, &below));
+    assert!(rt; compare(View::Int64(-1), Op::Lt, &below));
+    let z = Literal::Plain(Text::new(String::from_str(rt.alloc(), "z")?));
+    assert!(rt; compare(View::Text("é"), Op::Gt, &z));
+    assert!(rt; Op::Le.accepts(Ordering::Equal));
+    Ok(())
+}
+
+// Whether a text that is copied and taken out has its bytes.
+fn comes_out(alloc: Global, bytes: &str) -> Result<bool, Refusal> {
+    let text = Text::new(String::from_str(alloc, bytes)?);
+    let copy = text.copy(alloc)?;
+    Ok(text.as_str() == bytes && copy.into_string().as_str() == bytes)
+}
+
+#[test]
+fn a_text_comes_out(rt: HostRuntime) -> Result<(), Fail> {
+    assert!(rt; comes_out(rt.alloc(), "18446744073709551614")?);
+    Ok(())
 }

@@ -9,6 +9,7 @@ use Rattle.lq_server.proofs.Crossing.{server_sync}
 use Rattle.lq_threads.specs.contracts.batch.Turn as turn
 use Rattle.lq_threads.proofs.held.Held.TheSendSync as found_held
 
+-- it is `Send`, where the gate is `Sync`
 pub turn_send : (ℓ : NamedLft) (N G : RattleType) (g : Ghosts N.Denot) → IsSync G
     → IsSend (turn.the_row ℓ N G g)
 turn_send ℓ N G g gate =

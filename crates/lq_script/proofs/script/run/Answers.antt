@@ -46,36 +46,52 @@ returns-in_default-no_rebuilds-clause-err g c = record {
 
 pub returns-clause-ok : goal.returns-clause-ok
 returns-clause-ok g c =
-    let desk : Shows c.in-Ok.desk script_world = subst (λ (s : State). Shows c.in-Ok.desk (first_world (record { start = s; changes = [] }))) c.new.ensures c.in-Ok.ensures.world in
-    let alike : Alike (session_with c.new-session.result.desk c.new-session.result.rebuilds.items) script_session = record {
+    let desk : Shows c.in-Ok.desk script_world = subst (λ (s : State). Shows c.in-Ok.desk
+    (first_world (record { start = s; changes = [] }))) c.new.ensures c.in-Ok.ensures.world in
+    let alike : Alike (session_with c.new-session.result.desk c.new-session.result.rebuilds.items)
+    script_session = record {
       core = rw c.new-session.ensures.desk desk;
       folds = c.new-session.ensures.rebuilds ∙ c.in-Ok-no_rebuilds.ensures.none;
     } in
-    on_ok c.run_lines.result (answered-world c.kept_turns_show_worlds.ensures (session_with c.new-session.result.desk c.new-session.result.rebuilds.items) script_session alike _ _ _ _) c.run_lines.ensures.ok
+    on_ok c.run_lines.result (answered-world c.kept_turns_show_worlds.ensures
+    (session_with c.new-session.result.desk c.new-session.result.rebuilds.items) script_session
+    alike _ _ _ _) c.run_lines.ensures.ok
 
 pub returns-clause-err : goal.returns-clause-err
 returns-clause-err g c =
-    let desk : Shows c.in-Ok.desk script_world = subst (λ (s : State). Shows c.in-Ok.desk (first_world (record { start = s; changes = [] }))) c.new.ensures c.in-Ok.ensures.world in
-    let alike : Alike (session_with c.new-session.result.desk c.new-session.result.rebuilds.items) script_session = record {
+    let desk : Shows c.in-Ok.desk script_world = subst (λ (s : State). Shows c.in-Ok.desk
+    (first_world (record { start = s; changes = [] }))) c.new.ensures c.in-Ok.ensures.world in
+    let alike : Alike (session_with c.new-session.result.desk c.new-session.result.rebuilds.items)
+    script_session = record {
       core = rw c.new-session.ensures.desk desk;
       folds = c.new-session.ensures.rebuilds ∙ c.in-Ok-no_rebuilds.ensures.none;
     } in
-    on_err c.run_lines.result (stopped-world c.kept_turns_show_worlds.ensures (session_with c.new-session.result.desk c.new-session.result.rebuilds.items) script_session alike _ _ _ _) c.run_lines.ensures.err
+    on_err c.run_lines.result (stopped-world c.kept_turns_show_worlds.ensures
+    (session_with c.new-session.result.desk c.new-session.result.rebuilds.items) script_session
+    alike _ _ _ _) c.run_lines.ensures.err
 
 pub returns-clause-read : goal.returns-clause-read
 returns-clause-read g c = λ is.
-    let desk : Shows c.in-Ok.desk script_world = subst (λ (s : State). Shows c.in-Ok.desk (first_world (record { start = s; changes = [] }))) c.new.ensures c.in-Ok.ensures.world in
-    let alike : Alike (session_with c.new-session.result.desk c.new-session.result.rebuilds.items) script_session = record {
+    let desk : Shows c.in-Ok.desk script_world = subst (λ (s : State). Shows c.in-Ok.desk
+    (first_world (record { start = s; changes = [] }))) c.new.ensures c.in-Ok.ensures.world in
+    let alike : Alike (session_with c.new-session.result.desk c.new-session.result.rebuilds.items)
+    script_session = record {
       core = rw c.new-session.ensures.desk desk;
       folds = c.new-session.ensures.rebuilds ∙ c.in-Ok-no_rebuilds.ensures.none;
     } in
-    ended-world c.kept_turns_show_worlds.ensures (session_with c.new-session.result.desk c.new-session.result.rebuilds.items) script_session alike _ _ _ _ (c.run_lines.ensures.read is)
+    ended-world c.kept_turns_show_worlds.ensures
+    (session_with c.new-session.result.desk c.new-session.result.rebuilds.items) script_session
+    alike _ _ _ _ (c.run_lines.ensures.read is)
 
 pub returns-clause-limit : goal.returns-clause-limit
 returns-clause-limit g c = λ is.
-    let desk : Shows c.in-Ok.desk script_world = subst (λ (s : State). Shows c.in-Ok.desk (first_world (record { start = s; changes = [] }))) c.new.ensures c.in-Ok.ensures.world in
-    let alike : Alike (session_with c.new-session.result.desk c.new-session.result.rebuilds.items) script_session = record {
+    let desk : Shows c.in-Ok.desk script_world = subst (λ (s : State). Shows c.in-Ok.desk
+    (first_world (record { start = s; changes = [] }))) c.new.ensures c.in-Ok.ensures.world in
+    let alike : Alike (session_with c.new-session.result.desk c.new-session.result.rebuilds.items)
+    script_session = record {
       core = rw c.new-session.ensures.desk desk;
       folds = c.new-session.ensures.rebuilds ∙ c.in-Ok-no_rebuilds.ensures.none;
     } in
-    passed-world c.kept_turns_show_worlds.ensures (session_with c.new-session.result.desk c.new-session.result.rebuilds.items) script_session alike _ _ _ _ (c.run_lines.ensures.limit is)
+    passed-world c.kept_turns_show_worlds.ensures
+    (session_with c.new-session.result.desk c.new-session.result.rebuilds.items) script_session
+    alike _ _ _ _ (c.run_lines.ensures.limit is)

@@ -7,11 +7,13 @@ use Rattle.lq_script.proofs.words.program.Goals as goal
 
 pub returns-in-Ok-Check-clause-usage : goal.returns-in-Ok-Check-clause-usage
 returns-in-Ok-Check-clause-usage g c usage two =
-    absurd (usage.not_check c.in-Ok-Check.formula.now (subst (IsAskedBy (texts_of c.args.words.now)) c.in-Ok-Check.field-0-is c.in-Ok-Check.ensures.ok))
+    absurd (usage.not_check c.in-Ok-Check.formula.now (subst
+    (IsAskedBy (texts_of c.args.words.now)) c.in-Ok-Check.field-0-is c.in-Ok-Check.ensures.ok))
 
 pub returns-in-Ok-Check-clause-usage_status : goal.returns-in-Ok-Check-clause-usage_status
 returns-in-Ok-Check-clause-usage_status g c usage =
-    absurd (usage.not_check c.in-Ok-Check.formula.now (subst (IsAskedBy (texts_of c.args.words.now)) c.in-Ok-Check.field-0-is c.in-Ok-Check.ensures.ok))
+    absurd (usage.not_check c.in-Ok-Check.formula.now (subst
+    (IsAskedBy (texts_of c.args.words.now)) c.in-Ok-Check.field-0-is c.in-Ok-Check.ensures.ok))
 
 -- with nothing read and nothing written
 pub returns-in-Err-NoMemory-clause-run_stopped : goal.returns-in-Err-NoMemory-clause-run_stopped
@@ -25,4 +27,5 @@ returns-in-Err-NoMemory-clause-run_stopped g c run one = record {
 
 pub returns-in-Err-Usage-clause-refused : goal.returns-in-Err-Usage-clause-refused
 returns-in-Err-Usage-clause-refused g c formula check two =
-    absurd ((c.in-Err-Usage.ensures.usage (ap Err c.in-Err-Usage.field-0-is)).not_check formula check)
+    absurd
+    ((c.in-Err-Usage.ensures.usage (ap Err c.in-Err-Usage.field-0-is)).not_check formula check)

@@ -11,5 +11,6 @@ pub returns-in_err-write_all-clause-err : goal.returns-in_err-write_all-clause-e
 returns-in_err-write_all-clause-err g c =
     let bytes : c.as_bytes.result.now ≡ c.args.line.now = search rules in
     on_err_any c.from_residual.result
-    (subst (λ (line : List ℕ). WritesFront line (g.W.Sink.written c.args.writer.now) (g.W.Sink.written c.write_all.new.writer)) bytes
+    (subst (λ (line : List ℕ). WritesFront line (g.W.Sink.written c.args.writer.now)
+    (g.W.Sink.written c.write_all.new.writer)) bytes
     (writes_part c.as_bytes.result.now _ _ c.in_err-write_all.ensures.err))

@@ -18,9 +18,16 @@ use Rattle.lq_server_tests.proofs.held.SeatOf.TheSendSync as found_seat
 use Rattle.lq_server_tests.proofs.drawn.apply_both.Goals as goal
 
 -- what the first closure takes: the runtime, the allocator, the server, a seat, a number
-taken : (ν : Sym) (ℓ ℓ₁ ℓ₂ ℓ₃ ℓ₄ : NamedLft) (N R : RattleType) (g : Ghosts N.Denot) → IsSync (param 1 R)
-    → IsSend (TupleAt ν ((shr_ref_field ℓ (param 1 R) tt).row ∷ (shr_ref_field ℓ₁ global.the_row tt).row ∷ (shr_ref_field ℓ₂ (server.the_row (param 0 N) g) tt).row ∷ (mut_ref_field ℓ₃ (seat_of.the_row (param 0 N) g) tt).row ∷ (shr_ref_field ℓ₄ u64-field.row tt).row ∷ []))
-taken ν ℓ ℓ₁ ℓ₂ ℓ₃ ℓ₄ N R g y = search (sendable, crosses, server_sync, found_change.the_sync, found_seat.the_send) depth 20
+taken : (ν : Sym) (ℓ ℓ₁ ℓ₂ ℓ₃ ℓ₄ : NamedLft) (N R : RattleType) (g : Ghosts N.Denot)
+    → IsSync (param 1 R)
+    → IsSend (TupleAt ν ((shr_ref_field ℓ (param 1 R) tt).row
+    ∷ (shr_ref_field ℓ₁ global.the_row tt).row
+    ∷ (shr_ref_field ℓ₂ (server.the_row (param 0 N) g) tt).row
+    ∷ (mut_ref_field ℓ₃ (seat_of.the_row (param 0 N) g) tt).row
+    ∷ (shr_ref_field ℓ₄ u64-field.row tt).row ∷ []))
+taken ν ℓ ℓ₁ ℓ₂ ℓ₃ ℓ₄ N R g y =
+    search (sendable, crosses, server_sync, found_change.the_sync, found_seat.the_send) depth 20
 
 pub join-a-requires-send-F : goal.join-a-requires-send-F
-join-a-requires-send-F g c κs within = param_send 1 _ (arg_send _ no _ (taken _ _ _ _ _ _ g.row.N g.row.R g.N.Named c.type_bounds.sync-R))
+join-a-requires-send-F g c κs within = param_send 1 _
+    (arg_send _ no _ (taken _ _ _ _ _ _ g.row.N g.row.R g.N.Named c.type_bounds.sync-R))

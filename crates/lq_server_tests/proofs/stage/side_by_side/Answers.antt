@@ -20,10 +20,26 @@ use Rattle.lq_server_tests.proofs.acts.Party.TheSendSync as found_party
 use Rattle.lq_server_tests.proofs.stage.Scenario.TheSendSync as found_scenario
 use Rattle.lq_server_tests.proofs.stage.side_by_side.Goals as goal
 
--- what the first closure takes: the runtime, the allocator, the server, a party, how often a call is given, the scenario
-taken : (ν : Sym) (ℓ ℓ₁ ℓ₂ ℓ₃ ℓ₄ ℓ₅ : NamedLft) (N R : RattleType) (g : Ghosts N.Denot) → IsSync (param 1 R)
-    → IsSend (TupleAt ν ((shr_ref_field ℓ (param 1 R) tt).row ∷ (shr_ref_field ℓ₁ global.the_row tt).row ∷ (shr_ref_field ℓ₂ (server.the_row (param 0 N) g) tt).row ∷ (mut_ref_field ℓ₃ (party.the_row (param 0 N) g) tt).row ∷ (shr_ref_field ℓ₄ tries.the_row tt).row ∷ (shr_ref_field ℓ₅ scenario.the_row tt).row ∷ []))
-taken ν ℓ ℓ₁ ℓ₂ ℓ₃ ℓ₄ ℓ₅ N R g y = search (sendable, crosses, server_sync, found_change.the_sync, found_party.the_send, found_scenario.the_sync) depth 20
+-- what the first closure takes: the runtime, the allocator, the server, a party, how often a call
+-- is given, the scenario
+taken : (ν : Sym) (ℓ ℓ₁ ℓ₂ ℓ₃ ℓ₄ ℓ₅ : NamedLft) (N R : RattleType) (g : Ghosts N.Denot)
+    → IsSync (param 1 R)
+    → IsSend (TupleAt ν ((shr_ref_field ℓ (param 1 R) tt).row
+    ∷ (shr_ref_field ℓ₁ global.the_row tt).row
+    ∷ (shr_ref_field ℓ₂ (server.the_row (param 0 N) g) tt).row
+    ∷ (mut_ref_field ℓ₃ (party.the_row (param 0 N) g) tt).row
+    ∷ (shr_ref_field ℓ₄ tries.the_row tt).row
+    ∷ (shr_ref_field ℓ₅ scenario.the_row tt).row ∷ []))
+taken ν ℓ ℓ₁ ℓ₂ ℓ₃ ℓ₄ ℓ₅ N R g y =
+    search (
+      sendable,
+      crosses,
+      server_sync,
+      found_change.the_sync,
+      found_party.the_send,
+      found_scenario.the_sync,
+    ) depth 20
 
 pub join-second-requires-send-F : goal.join-second-requires-send-F
-join-second-requires-send-F g c κs within = param_send 1 _ (arg_send _ no _ (taken _ _ _ _ _ _ _ g.row.N g.row.R g.N.Named c.type_bounds.sync-R))
+join-second-requires-send-F g c κs within = param_send 1 _
+    (arg_send _ no _ (taken _ _ _ _ _ _ _ g.row.N g.row.R g.N.Named c.type_bounds.sync-R))

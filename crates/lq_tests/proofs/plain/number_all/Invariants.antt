@@ -8,6 +8,7 @@ abbrev pub invariant-loop-op : goal.invariant-loop-op
 invariant-loop-op l = record {
   can : (goal.iterator-loop-op).can_next l.op-iterator;
   finite : (goal.iterator-loop-op).is_finite l.op-iterator;
-  all : l.messages.items ++ numbered (l.first_seq + length l.messages.items) l.change (into_iter_items l.op-iterator) ≡ numbered l.first_seq l.change l.fn.told.items;
+  all : l.messages.items ++ numbered (l.first_seq + length l.messages.items) l.change
+      (into_iter_items l.op-iterator) ≡ numbered l.first_seq l.change l.fn.told.items;
   count : length l.messages.items + length (into_iter_items l.op-iterator) ≡ l.count;
 }

@@ -7,24 +7,45 @@ use Rattle.lq_update.specs.Updates.{numbered}
 use Rattle.lq_tests.proofs.plain.step.Goals as goal
 use Rattle.lq_tests.proofs.plain.step.Goals.{In_ok-told}
 
-length-numbered : (seq number : ℕ) (xs : List (Opcode × Entry)) → length (numbered seq number xs) ≡ length xs
+length-numbered : (seq number : ℕ) (xs : List (Opcode × Entry))
+    → length (numbered seq number xs) ≡ length xs
 length-numbered seq number [] = refl
 length-numbered seq number (x ∷ xs) = ap suc (length-numbered (seq + 1) number xs)
 
 -- what is told is the difference of the two results
-told-diff : (c : In_ok-told) → c.in_ok-told.told.items ≡ diff c.args.predicate.now c.args.moved c.args.before.now (after c.args.before.now c.args.change.now)
-told-diff c = c.in_ok-told.ensures.value ∙ rw (c.deref-5.ensures.value, c.deref-6.ensures.value, c.in_ok-gone.ensures.value, c.in_ok-come.ensures.value, c.deref.ensures.value, c.deref-2.ensures.value, c.deref-3.ensures.value, c.deref-4.ensures.value, c.in_ok-old.ensures.entries, c.in_ok-new.ensures.entries) refl
+told-diff : (c : In_ok-told) → c.in_ok-told.told.items ≡ diff c.args.predicate.now c.args.moved
+    c.args.before.now (after c.args.before.now c.args.change.now)
+told-diff c =
+    c.in_ok-told.ensures.value ∙ rw (
+      c.deref-5.ensures.value,
+      c.deref-6.ensures.value,
+      c.in_ok-gone.ensures.value,
+      c.in_ok-come.ensures.value,
+      c.deref.ensures.value,
+      c.deref-2.ensures.value,
+      c.deref-3.ensures.value,
+      c.deref-4.ensures.value,
+      c.in_ok-old.ensures.entries,
+      c.in_ok-new.ensures.entries,
+    ) refl
 
 pub number_all-requires-clause-few : goal.number_all-requires-clause-few
 number_all-requires-clause-few c =
-    let few = c.steps_are_few.ensures c.args.predicate.now c.args.moved c.args.before.now c.args.change.now c.args.first_seq c.changes-number.ensures.volume c.requires.lawful in
+    let few = c.steps_are_few.ensures c.args.predicate.now c.args.moved c.args.before.now
+    c.args.change.now c.args.first_seq c.changes-number.ensures.volume c.requires.lawful in
     rw (told-diff c) (rw length-numbered at few)
 
 pub returns-clause-messages : goal.returns-clause-messages
-returns-clause-messages c = c.in_ok-number_all.ensures.messages ∙ rw (told-diff (goal.at.returns-clause-messages c).In_ok-told, c.changes-number.ensures.number) refl
+returns-clause-messages c = c.in_ok-number_all.ensures.messages ∙ rw
+    (told-diff (goal.at.returns-clause-messages c).In_ok-told, c.changes-number.ensures.number) refl
 
 pub returns-clause-few : goal.returns-clause-few
 returns-clause-few c =
-    let few = c.steps_are_few.ensures c.args.predicate.now c.args.moved c.args.before.now c.args.change.now c.args.first_seq c.changes-number.ensures.volume c.requires.lawful in
-    let all : length c.in_ok-number_all.field-0.items ≤ 3 = rw (c.in_ok-number_all.ensures.messages, told-diff (goal.at.returns-clause-few c).In_ok-told, c.changes-number.ensures.number) few in
+    let few = c.steps_are_few.ensures c.args.predicate.now c.args.moved c.args.before.now
+    c.args.change.now c.args.first_seq c.changes-number.ensures.volume c.requires.lawful in
+    let all : length c.in_ok-number_all.field-0.items ≤ 3 = rw (
+      c.in_ok-number_all.ensures.messages,
+      told-diff (goal.at.returns-clause-few c).In_ok-told,
+      c.changes-number.ensures.number,
+    ) few in
     omega (arith, c.in_ok-number_all.field-0.ok)
