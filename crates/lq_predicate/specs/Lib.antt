@@ -5,6 +5,7 @@ pub mod TreeFalls
 pub mod MachineView
 pub mod PlainPlace
 pub mod Refusals
+pub mod Field
 pub mod Truth
 pub mod Names
 pub mod Laws

@@ -8,8 +8,10 @@
 
 mod attributes;
 mod canonical;
+mod column;
 mod extent;
 mod fault_place;
+mod field;
 mod fitting;
 mod gauge;
 mod item;
@@ -28,6 +30,8 @@ mod truth;
 
 pub use attributes::names;
 pub use canonical::write;
+pub use column::Column;
+pub use field::Field;
 pub use laws::truth_goes_by_names;
 pub use predicate::Predicate;
 pub use reader::read;

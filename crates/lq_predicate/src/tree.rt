@@ -10,6 +10,7 @@ ghost use Rattle.lq_predicate.specs.Limits.{is_formed};
 ghost use Rattle.lq_predicate.specs.Names.{attributes, each_once, is_among};
 ghost use Rattle.lq_predicate.specs.Truth.{truth};
 
+use crate::column::Column;
 use crate::truth::Row;
 use lq_formula::{comparison_size, put_comparison};
 use lq_value::{AttrName, Literal, Op, Refusal, compare};
@@ -26,7 +27,7 @@ pub(crate) struct Tree {
 #[cycle(tree)]
 #[derive(Debug, Drop)]
 enum TreeNode {
-    Compare(AttrName, Op, Literal),
+    Compare(Column, Op, Literal),
     Not(Box<Tree>),
     And(Vec<Tree>),
     Or(Vec<Tree>),
@@ -57,7 +58,7 @@ impl Tree {
         ensures { result ≡ Compare attr op literal }
     {
         Tree {
-            node: TreeNode::Compare(attr, op, literal),
+            node: TreeNode::Compare(Column::new(attr), op, literal),
         }
     }
 
@@ -130,7 +131,9 @@ impl Tree {
         ensures { result ≡ capped (length (canonical self.now)) }
     {
         match &self.node {
-            TreeNode::Compare(attr, op, literal) => comparison_size(attr, *op, literal),
+            TreeNode::Compare(column, op, literal) => {
+                comparison_size(column.name(), *op, literal)
+            }
             TreeNode::Not(part) => part.size().saturating_add(1),
             TreeNode::And(parts) => {
                 if parts.is_empty() {
@@ -180,8 +183,8 @@ impl Tree {
         ensures value { IfOk result (λ copy. copy ≡ self.now) }
     {
         let node = match &self.node {
-            TreeNode::Compare(attr, op, literal) => {
-                TreeNode::Compare(attr.copy(alloc)?, *op, literal.copy(alloc)?)
+            TreeNode::Compare(column, op, literal) => {
+                TreeNode::Compare(column.copy(alloc)?, *op, literal.copy(alloc)?)
             }
             TreeNode::Not(part) => TreeNode::Not(Box::new(alloc, part.copy(alloc)?)?),
             TreeNode::And(parts) => TreeNode::And(copy_parts(alloc, parts.as_slice())?),
@@ -196,7 +199,7 @@ impl Tree {
         ensures { result ≡ truth self.now (R.looks row.now) }
     {
         match &self.node {
-            TreeNode::Compare(attr, op, literal) => match row.look(attr) {
+            TreeNode::Compare(column, op, literal) => match row.look(column) {
                 None => false,
                 Some(view) => compare(view, *op, literal),
             },
@@ -228,7 +231,9 @@ impl Tree {
             (λ _. string_bytes out.new ≡ string_bytes out.old ++ canonical self.now) }
     {
         match &self.node {
-            TreeNode::Compare(attr, op, literal) => put_comparison(attr, *op, literal, out),
+            TreeNode::Compare(column, op, literal) => {
+                put_comparison(column.name(), *op, literal, out)
+            }
             TreeNode::Not(part) => {
                 out.push_str("!")?;
                 part.put(out)
@@ -245,7 +250,8 @@ impl Tree {
             (λ _. names.new.items ≡ each_once names.old.items (attributes self.now)) }
     {
         match &self.node {
-            TreeNode::Compare(attr, _, _) => {
+            TreeNode::Compare(column, _, _) => {
+                let attr = column.name();
                 if !is_among(names.as_slice(), attr) {
                     names.push(attr.copy(alloc)?)?;
                 }

@@ -4,8 +4,9 @@ ghost use Rattle.std.specs.Option.{option_map};
 ghost use Rattle.lq_value.specs.Compare.{held_of};
 ghost use Rattle.lq_predicate.specs.Truth.{truth};
 
+use crate::column::Column;
 use crate::predicate::Predicate;
-use lq_value::{AttrName, View};
+use lq_value::View;
 
 /// What has attributes: an entry, or any other row.
 pub trait Row {
@@ -14,9 +15,9 @@ pub trait Row {
     /// What it shows under each name.
     ghost looks: { Self → List ℕ → Option Held };
 
-    /// What the row shows under an attribute's name; `None` where it has no such attribute.
-    fn look(&self, attr: &AttrName) -> Option<View<'_>>
-        ensures { option_map held_of result ≡ looks self.now attr.now };
+    /// What the row shows in a column; `None` where it has no attribute of that name.
+    fn look(&self, column: &Column) -> Option<View<'_>>
+        ensures { option_map held_of result ≡ looks self.now column.now };
 }
 
 /// Whether the predicate holds of the row. It takes no memory.

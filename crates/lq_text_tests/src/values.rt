@@ -96,6 +96,10 @@ const FITS: &str = r"||yes
 *|aé€𝄞|yes
 *€*|aé€𝄞|yes
 *€|aé€𝄞|no
+*€|aé€|yes
+é*|é€|yes
+é*|aé|no
+**|a|yes
 a|a|yes
 é|é|yes
 €|€|yes

@@ -1,7 +1,8 @@
--- Read in this order. Matching: PatternLemmas, MatchingLemmas. Reading a source: PieceLemmas,
--- ReadingLemmas, WrittenLemmas, SourceLemmas, SourceLaws.
+-- Read in this order. Matching: PatternLemmas, MatchingLemmas, StarredLemmas. Reading a source:
+-- PieceLemmas, ReadingLemmas, WrittenLemmas, SourceLemmas, SourceLaws.
 pub mod PatternLemmas
 pub mod MatchingLemmas
+pub mod StarredLemmas
 pub mod PieceLemmas
 pub mod ReadingLemmas
 pub mod WrittenLemmas

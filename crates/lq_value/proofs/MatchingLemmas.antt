@@ -12,7 +12,7 @@ not_true : (b : Bool) → b ≡ false → b ≡ true → ⊥
 not_true b e h = let no : false ≡ true = sym e ∙ h in cc
 
 -- tests that are true together are equal
-bool_same : (a b : Bool) → (a ≡ true → b ≡ true) → (b ≡ true → a ≡ true) → a ≡ b
+pub bool_same : (a b : Bool) → (a ≡ true → b ≡ true) → (b ≡ true → a ≡ true) → a ≡ b
 bool_same true true f g = refl
 bool_same false false f g = refl
 bool_same true false f g = sym (f refl)

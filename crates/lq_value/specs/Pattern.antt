@@ -7,7 +7,8 @@ use Rattle.std.specs.String.{string_bytes}
 use Rattle.lq_value.specs.declared.element.Element.{Element}
 use Rattle.lq_value.specs.declared.element.Element.TheVariants.{Star, Any, Plain, Set}
 use Rattle.lq_value.specs.declared.pattern.Form.{Form}
-use Rattle.lq_value.specs.declared.pattern.Form.TheVariants.{PlainText, Elements}
+use Rattle.lq_value.specs.declared.pattern.Form.TheVariants.{PlainText, StarredText, Elements}
+use Rattle.lq_value.specs.declared.starred.Starred.{Starred}
 use Rattle.lq_value.specs.Element.{set_has, takes}
 use Rattle.lq_value.specs.Number.{number_of}
 
@@ -61,6 +62,18 @@ abbrev pub plain_elements : List ℕ → List Element
 plain_elements [] = []
 plain_elements (c ∷ cs) = Plain c ∷ plain_elements cs
 
+-- a star or nothing
+abbrev pub star_if : Bool → List Element
+star_if false = []
+star_if true = Star ∷ []
+
+-- the elements that are these characters, with a star before them, behind them, or both
+abbrev pub with_stars : Bool → List ℕ → Bool → List Element
+with_stars before cs behind = star_if before ++ (plain_elements cs ++ star_if behind)
+
+abbrev pub starred_elements : Starred → List Element
+starred_elements s = with_stars s.before (chars (string_bytes s.text)) s.behind
+
 -- the whole number that a pattern writes, if all its elements are plain and their text writes one
 abbrev pub pattern_number : List Element → Option ℤ
 pattern_number es = option_and_then (λ cs. number_of (encode_utf8_all cs)) (plain_chars es)
@@ -68,10 +81,14 @@ pattern_number es = option_and_then (λ cs. number_of (encode_utf8_all cs)) (pla
 -- the elements that a form of them stands for
 abbrev pub elements_of : Form → List Element
 elements_of (PlainText text number) = plain_elements (chars (string_bytes text))
+elements_of (StarredText elements starred) = elements.items
 elements_of (Elements elements) = elements.items
 
--- a form is a text just where all elements are plain, and has the number that it writes
+-- A form is a text just where all elements are plain, and has the number that it writes. One with
+-- stars has the elements that they and its text are.
 abbrev pub IsTextIfPlain : Form → Type 0
 IsTextIfPlain (PlainText text number) =
     number ≡ pattern_number (plain_elements (chars (string_bytes text)))
+IsTextIfPlain (StarredText elements starred) =
+    (plain_chars elements.items ≡ None) × (starred_elements starred ≡ elements.items)
 IsTextIfPlain (Elements elements) = plain_chars elements.items ≡ None

@@ -22,6 +22,7 @@ mod refusal;
 mod set;
 mod sign;
 mod source;
+mod starred;
 mod text;
 mod value;
 mod value_text;

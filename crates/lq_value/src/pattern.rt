@@ -1,9 +1,9 @@
 //! Patterns, and the texts that they fit.
-ghost use Rattle.std.specs.Prelude.{◌≡◌, ◌↔◌, ℕ, None, Ok, IfOk, IfErr, IsTrue, MatchOption};
+ghost use Rattle.std.specs.Prelude.{◌≡◌, ◌↔◌, ℕ, None, Ok, IfOk, IfErr, IfSome, IsTrue, MatchOption};
 ghost use Rattle.std.specs.Str.{chars};
 ghost use Rattle.std.specs.String.{string_bytes};
 ghost use Rattle.lq_value.specs.Refusal.{IsRefusedBy};
-ghost use Rattle.lq_value.specs.Pattern.{Fits, fits, plain_chars, plain_elements, pattern_number};
+ghost use Rattle.lq_value.specs.Pattern.{Fits, fits, plain_chars, plain_elements, pattern_number, starred_elements};
 ghost use Rattle.lq_value.specs.Sign.{signs_of};
 ghost use Rattle.lq_value.specs.Source.{pattern_of, source_refusal};
 ghost use Rattle.lq_value.specs.Written.{HasFaultAt, Writes};
@@ -14,6 +14,7 @@ use crate::element::Element;
 use crate::matching::{Left, fits_text};
 use crate::refusal::Refusal;
 use crate::source::read_elements;
+use crate::starred::{Starred, without_stars};
 use std::alloc::Global;
 use std::marker::Model;
 
@@ -29,8 +30,16 @@ pub struct Pattern {
 #[derive(Debug, Drop)]
 pub(crate) enum Form {
     // The text of plain elements, which compares by its bytes, and the number that it writes.
-    PlainText { text: String, number: Option<i128> },
-    // Elements that are not all plain.
+    PlainText {
+        text: String,
+        number: Option<i128>,
+    },
+    // Elements that are plain but for a first and a last star, and the text between these.
+    StarredText {
+        elements: Vec<Element>,
+        starred: Starred,
+    },
+    // Other elements that are not all plain.
     Elements(Vec<Element>),
 }
 
@@ -89,12 +98,14 @@ impl Pattern {
         ensures refused { IsRefusedBy result None }
         ensures value { IfOk result (λ pattern. pattern ≡ elements.items) }
     {
-        match plain_text(alloc, elements.as_slice())? {
-            Some(text) => Ok(plain_pattern(text)),
-            None => Ok(Pattern {
-                form: Form::Elements(elements),
-            }),
+        if let Some(text) = plain_text(alloc, elements.as_slice())? {
+            return Ok(plain_pattern(text));
         }
+        let form = match starred_text(alloc, elements.as_slice())? {
+            Some(starred) => Form::StarredText { elements, starred },
+            None => Form::Elements(elements),
+        };
+        Ok(Pattern { form })
     }
 
     /// The elements, as the pattern keeps them. It takes no memory.
@@ -103,19 +114,23 @@ impl Pattern {
     {
         match &self.form {
             Form::PlainText { text, .. } => Elements::Text(text.as_str()),
-            Form::Elements(elements) => Elements::List(elements.as_slice()),
+            Form::StarredText { elements, .. } | Form::Elements(elements) => {
+                Elements::List(elements.as_slice())
+            }
         }
     }
 
     /// Whether the pattern fits the whole text. It takes no memory.
     ///
-    /// It takes at most about as many steps as the pattern's length times the text's.
+    /// It takes at most about as many steps as the pattern's length times the text's, and about as
+    /// many as the text has bytes where all but a first and a last star are plain characters.
     pub fn matches(&self, text: &str) -> bool
         ensures fits { result ≡ fits self.now (chars text.now) }
         ensures split { IsTrue result ↔ Fits self.now (chars text.now) }
     {
         match &self.form {
             Form::PlainText { text: plain, .. } => fits_plain(plain.as_str(), text),
+            Form::StarredText { starred, .. } => starred.fits(text),
             Form::Elements(elements) => fits_text(Left {
                 elements: elements.as_slice(),
                 text,
@@ -130,7 +145,7 @@ impl Pattern {
     {
         match &self.form {
             Form::PlainText { number, .. } => *number,
-            Form::Elements(_) => None,
+            Form::StarredText { .. } | Form::Elements(_) => None,
         }
     }
 
@@ -144,6 +159,12 @@ impl Pattern {
                 form: Form::PlainText {
                     text: String::from_str(alloc, text.as_str())?,
                     number: *number,
+                },
+            }),
+            Form::StarredText { elements, starred } => Ok(Pattern {
+                form: Form::StarredText {
+                    elements: copy_elements(alloc, elements.as_slice())?,
+                    starred: starred.copy(alloc)?,
                 },
             }),
             Form::Elements(elements) => Ok(Pattern {
@@ -177,6 +198,23 @@ fn plain_text(alloc: Global, elements: &[Element]) -> Result<Option<String>, Ref
         text.push(*c)?;
     }
     Ok(Some(text))
+}
+
+// The elements as plain text with a star before it, behind it or both, if they are.
+fn starred_text(alloc: Global, elements: &[Element]) -> Result<Option<Starred>, Refusal>
+    ensures refused { IsRefusedBy result None }
+    ensures value { IfOk result (λ text. IfSome text
+        (λ starred. starred_elements starred ≡ elements.now)) }
+{
+    let inner = without_stars(elements);
+    match plain_text(alloc, inner.elements)? {
+        None => Ok(None),
+        Some(text) => Ok(Some(Starred {
+            text,
+            before: inner.before,
+            behind: inner.behind,
+        })),
+    }
 }
 
 fn fits_plain(plain: &str, text: &str) -> bool

@@ -6,7 +6,7 @@ ghost use Rattle.lq_volume.specs.Attributes.{value_of};
 ghost use Rattle.lq_volume.specs.Seen.{attrs_of};
 
 use crate::attributes::Attributes;
-use lq_predicate::Row;
+use lq_predicate::{Column, Field, Row};
 use lq_value::{AttrName, Entry, Kind, Name, Refusal, Value, View};
 use std::alloc::Global;
 use std::marker::Model;
@@ -143,18 +143,15 @@ impl<'a> Row for Seen<'a> {
 
     ghost looks = { shown };
 
-    fn look(&self, attr: &AttrName) -> Option<View<'_>> {
-        if attr.as_str() == "name" {
-            Some(View::Text(self.name.as_str()))
-        } else if attr.as_str() == "size" {
-            Some(View::Int64(self.size as i64))
-        } else if attr.as_str() == "last_modified" {
-            Some(View::Int64(self.time))
-        } else {
-            match self.value(attr) {
+    fn look(&self, column: &Column) -> Option<View<'_>> {
+        match column.field() {
+            Field::Name => Some(View::Text(self.name.as_str())),
+            Field::Size => Some(View::Int64(self.size as i64)),
+            Field::LastModified => Some(View::Int64(self.time)),
+            Field::Attribute => match self.value(column.name()) {
                 None => None,
                 Some(value) => Some(value.view()),
-            }
+            },
         }
     }
 }
