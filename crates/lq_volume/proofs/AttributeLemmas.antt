@@ -130,7 +130,7 @@ value_of-without (e ∷ es) attr name =
     grind (arith, nat_tests, value_of-without es attr name)
 
 -- one element moved from the front of the second list to the end of the first
-pub append-one : (es fs : Attributes) (e : List ℕ × Value) → (es ++ e ∷ []) ++ fs ≡ es ++ e ∷ fs
+pub append-one : {X : Type 0} (es fs : List X) (e : X) → (es ++ e ∷ []) ++ fs ≡ es ++ e ∷ fs
 append-one [] fs e = refl
 append-one (f ∷ es) fs e = ap (λ l. f ∷ l) (append-one es fs e)
 

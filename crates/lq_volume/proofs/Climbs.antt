@@ -8,9 +8,7 @@ use Rattle.std.proofs.lemmas.Bool.Decides.{nat_tests}
 use Rattle.std.proofs.lemmas.Bool.{cases_eq}
 use Rattle.lq_volume.specs.State.{Record, climbs, dir_of}
 use Rattle.lq_volume.specs.Walk.{Climb}
-use Rattle.lq_volume.proofs.RecordLemmas.{Entries, lookup-filter, length-filter_lt, lookup-node}
-use Rattle.std.specs.BTreeMap.{is_at}
-use Rattle.std.specs.Ordering.{nat_cmp}
+use Rattle.lq_volume.proofs.RecordLemmas.{Entries, lookup-filter, length-filter_lt}
 
 -- a bounded walk comes there just where some number of steps within the bound does
 pub climbs-sound : (f : ℕ) (up : ℕ → Option ℕ) (to at : ℕ) → climbs f up to at ≡ true
@@ -120,13 +118,13 @@ pub climbs-on : (n : ℕ) (up : ℕ → Option ℕ) (to at d : ℕ) → (at ≡ 
 climbs-on n up to at d h is = grind (arith, nat_tests)
 
 -- a folder as a map's look-up gives it
-pub dir_of-some : (es : Entries) (k : ℕ) (r : Record) → Some r ≡ lookup (is_at (nat_cmp k)) es
+pub dir_of-some : (es : Entries) (k : ℕ) (r : Record) → Some r ≡ lookup (nat_eq k) es
     → dir_of es k ≡ Some r.dir
-dir_of-some es k r h = sym (ap (option_map (λ (v : Record). v.dir)) (h ∙ lookup-node es k))
+dir_of-some es k r h = sym (ap (option_map (λ (v : Record). v.dir)) h)
 
 -- a node that the map doesn't have is in no folder
-pub dir_of-none : (es : Entries) (k : ℕ) → None ≡ lookup (is_at (nat_cmp k)) es → dir_of es k ≡ None
-dir_of-none es k h = sym (ap (option_map (λ (v : Record). v.dir)) (h ∙ lookup-node es k))
+pub dir_of-none : (es : Entries) (k : ℕ) → None ≡ lookup (nat_eq k) es → dir_of es k ≡ None
+dir_of-none es k h = sym (ap (option_map (λ (v : Record). v.dir)) h)
 
 -- a walk that was there stays, where nodes only come
 pub Climb-more : (up new : ℕ → Option ℕ) (to k at : ℕ)

@@ -1,7 +1,10 @@
--- Read in this order. Records by node: RecordLemmas. Walks up, and what keeps the tree: Climbs,
--- Tree. What each accepted change keeps: Changes, Keeps, Touches. The index of places: PlaceLemmas.
--- Attributes: AttributeLemmas.
+-- Read in this order. Records by rising node: RecordLemmas. Lists in order, and the records of a
+-- map in order: OrderLemmas, ByNode. Walks up, and what keeps the tree: Climbs, Tree. What each
+-- accepted change keeps: Changes, Keeps, Touches. The index of places: PlaceLemmas. Attributes:
+-- AttributeLemmas.
+pub mod OrderLemmas
 pub mod RecordLemmas
+pub mod ByNode
 pub mod Climbs
 pub mod Tree
 pub mod Changes

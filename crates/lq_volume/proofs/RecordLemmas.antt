@@ -5,9 +5,7 @@ use Rattle.std.specs.Option.{option_map}
 use Rattle.std.specs.List.{AllByRecursion, list_any}
 use Rattle.std.specs.Str.{bytes_eq}
 use Rattle.std.proofs.lemmas.Slice.Eq.{bytes_eq-Decides}
-use Rattle.std.specs.BTreeMap.{insert_entry, is_at}
-use Rattle.std.specs.Map.{remove_entry, lookup, set_value, values_of}
-use Rattle.std.specs.Ordering.{nat_cmp}
+use Rattle.std.specs.Map.{lookup, values_of}
 use Rattle.std.proofs.lemmas.Bool.Decides.{nat_tests}
 use Rattle.lq_volume.specs.State.{Record, Rises, node_in}
 use Rattle.lq_volume.specs.Change.{altered, without}
@@ -16,66 +14,14 @@ use Rattle.lq_volume.specs.Change.{altered, without}
 abbrev pub Entries : Type 0
 Entries = List (ℕ × Record)
 
--- a node above all others goes to the end
-pub insert_entry-above : (es : Entries) (k : ℕ) (v : Record) → AllByRecursion (λ e. e.0 < k) es
-    → insert_entry nat_cmp es k v ≡ es ++ (k, v) ∷ []
-insert_entry-above [] k v h = refl
-insert_entry-above (e ∷ es) k v h = grind (arith, nat_tests, insert_entry-above es k v h.1)
-
--- entries above a node are all kept
-filter-above : (es : Entries) (k : ℕ) → AllByRecursion (λ f. k < f.0) es
-    → filter (λ e. not (eqb e.0 k)) es ≡ es
-filter-above [] k h = refl
-filter-above (e ∷ es) k h = grind (arith, nat_tests, filter-above es k h.1)
-
--- where the nodes rise, the one that goes is the only one of its number
-pub remove_entry-node : (es : Entries) (k : ℕ) → Rises es
-    → remove_entry (is_at (nat_cmp k)) es ≡ filter (λ e. not (eqb e.0 k)) es
-remove_entry-node [] k h = refl
-remove_entry-node (e ∷ es) k h = grind (
-  arith,
-  nat_tests,
-  remove_entry-node es k h.1,
-  λ (same : e.0 ≡ k). filter-above es k (rw (← same) h.0),
-)
-
--- a look-up by order is one by number
-pub lookup-node : (es : Entries) (k : ℕ) → lookup (is_at (nat_cmp k)) es ≡ lookup (nat_eq k) es
-lookup-node [] k = refl
-lookup-node (e ∷ es) k = grind (arith, nat_tests, lookup-node es k)
-
--- entries above a node all stay as they are
-altered-above : (es : Entries) (k : ℕ) (g : Record → Record) → AllByRecursion (λ f. k < f.0) es
-    → altered k g es ≡ es
-altered-above [] k g h = refl
-altered-above (e ∷ es) k g h = grind (arith, nat_tests, altered-above es k g h.1)
-
--- the record under a node, altered
-pub set_value-altered : (es : Entries) (k : ℕ) (g : Record → Record) (r : Record)
-    → Rises es → lookup (is_at (nat_cmp k)) es ≡ Some r
-    → set_value (is_at (nat_cmp k)) es (g r) ≡ altered k g es
-set_value-altered [] k g r h found = refl
-set_value-altered (e ∷ es) k g r h found = grind (
-  arith,
-  nat_tests,
-  set_value-altered es k g r h.1,
-  λ (same : e.0 ≡ k). altered-above es k g (rw (← same) h.0),
-)
-
 -- what is so anyway is so after an error
 pub on_err : {T E P : Type 0} (r : Result T E) → P → OnErr r P
 on_err (Ok x) p = tt
 on_err (Err e) p = p
 
--- a record that is written as it was
-pub set_value-same : (es : Entries) (k : ℕ) (r : Record) → lookup (is_at (nat_cmp k)) es ≡ Some r
-    → set_value (is_at (nat_cmp k)) es r ≡ es
-set_value-same [] k r found = refl
-set_value-same (e ∷ es) k r found = grind (arith, nat_tests, set_value-same es k r)
-
 -- a node that is absent has no record to alter
 pub altered-absent : (es : Entries) (k : ℕ) (g : Record → Record)
-    → lookup (is_at (nat_cmp k)) es ≡ None → altered k g es ≡ es
+    → lookup (nat_eq k) es ≡ None → altered k g es ≡ es
 altered-absent [] k g h = refl
 altered-absent (e ∷ es) k g h = grind (arith, nat_tests, altered-absent es k g)
 

@@ -4,6 +4,7 @@ pub mod State
 pub mod Walk
 pub mod Change
 pub mod Plan
+pub mod Order
 pub mod Places
 pub mod Lookup
 pub mod Seen

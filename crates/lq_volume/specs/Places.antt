@@ -1,12 +1,13 @@
 -- The index of a volume: the node at each place, by folder and then by name. No public clause names
 -- it.
-use Rattle.std.specs.Prelude.{◌≡◌, ℕ, List, Bool, false, Option, Some, IsSome, option_and_then, nat_eq, not, length, ◌==◌}
+use Rattle.std.specs.Prelude.{◌≡◌, ℕ, List, Bool, false, Option, Some, None, IsSome, option_and_then, nat_eq, not, length, ◌==◌, ◌&&◌, if◌then◌else◌}
 use Rattle.std.specs.BTreeMap.{BTreeMap, get}
 use Rattle.std.specs.Cmp.Lexicographic.{slice_cmp}
 use Rattle.std.specs.Map.{lookup}
 use Rattle.std.specs.Option.{option_map_or}
 use Rattle.std.specs.Ordering.{nat_cmp}
-use Rattle.lq_volume.specs.State.{Record, Rises, node_in}
+use Rattle.std.specs.Str.{bytes_eq}
+use Rattle.lq_volume.specs.State.{Record, node_in}
 use Rattle.lq_volume.specs.Change.{altered, at_place, other_than, without}
 
 -- the node under each name, by folder
@@ -27,14 +28,19 @@ has_names places dir =
 abbrev pub SamePlaces : Places → Places → Type 0
 SamePlaces p q = (d : ℕ) (n : List ℕ) → place_at p d n ≡ place_at q d n
 
+-- a place has a node, and each other place what it had
+abbrev pub Puts : Places → Places → ℕ → List ℕ → ℕ → Type 0
+Puts old new dir name node = (d : ℕ) (n : List ℕ) → place_at new d n
+    ≡ (if (d == dir) && bytes_eq name n then Some node else place_at old d n)
+
+-- a place has no node, and each other place what it had
+abbrev pub Takes : Places → Places → ℕ → List ℕ → Type 0
+Takes old new dir name = (d : ℕ) (n : List ℕ) → place_at new d n
+    ≡ (if (d == dir) && bytes_eq name n then None else place_at old d n)
+
 -- the index has each place of the records, and no other
 abbrev pub IsIndex : Places → List (ℕ × Record) → Type 0
 IsIndex places es = (d : ℕ) (n : List ℕ) → place_at places d n ≡ node_in es d n
-
--- what is always so of the records and their index
-pub record IsIndexed (places : Places) (es : List (ℕ × Record)) : Type 0 where
-  pub rise : Rises es
-  pub index : IsIndex places es
 
 -- no two of the records share a folder and a name
 abbrev pub IsApart : List (ℕ × Record) → Type 0

@@ -1,112 +1,214 @@
-//! The records of a volume, by node.
-ghost use Rattle.std.specs.List.{AllByRecursion};
-ghost use Rattle.lq_volume.specs.State.{Rises, climbs, dir_of};
-ghost use Rattle.lq_volume.specs.Change.{without, altered, at_place, written, setting, unsetting};
+//! The records of a volume.
+ghost use Rattle.std.specs.Prelude.{◌≡◌, ◌==◌, ◌<◌, ◌^◌, [], ◌∷◌, ◌++◌, length, filter, map, nat_eq, not, None, IfErr, IfOk, OnErr, OnOk};
+ghost use Rattle.std.specs.List.{AllByRecursion, IsDistinct};
+ghost use Rattle.std.specs.Map.{keys_of, lookup};
+ghost use Rattle.std.specs.Option.{option_copied};
+ghost use Rattle.lq_predicate.specs.Truth.{truth};
 ghost use Rattle.lq_value.specs.Refusal.{IsRefusedBy};
-ghost use Rattle.std.specs.Prelude.{◌≡◌, ◌==◌, ◌<◌, ◌^◌, [], ◌∷◌, ◌++◌, length, filter, not, None, IfErr, OnErr, OnOk};
+ghost use Rattle.lq_volume.specs.Order.{shown_pair};
+ghost use Rattle.lq_volume.specs.Result.{shown, entry_of};
 
+use crate::seen::Difference;
 use crate::stored::Stored;
-use lq_value::{AttrName, Name, Refusal, Value};
-use std::collections::BTreeMap;
+use indexmap::IndexMap;
+use lq_predicate::{Predicate, holds};
+use lq_value::{AttrName, Entry, Name, Refusal, Value};
+use std::alloc::Global;
+use std::marker::Model;
 
-/// Whether a walk up by the folders comes from one node to another.
-pub fn climbs(records: &BTreeMap<u64, Stored>, from: u64, to: u64) -> bool
-    ensures { result ≡ climbs (length records.now.entries) (dir_of records.now.entries) to from }
-{
-    let mut at = from;
-    for _ in 0..records.len() {
-        if at == to {
-            return true;
+/// The records of all entries, each under its node, in no order that matters.
+///
+/// To look one up, add one, take one out or alter one takes the same time on average, however many
+/// there are, but for the times that the map grows. A contract sees a list by rising node.
+#[derive(Debug, Drop)]
+pub struct Records {
+    stored: IndexMap<u64, Stored>,
+}
+
+impl Model for Records {
+    ghost use Rattle.std.specs.Prelude.{ℕ, List};
+    ghost use Rattle.lq_volume.specs.Order.{by_node};
+    ghost use Rattle.lq_volume.specs.State.{Record, Rises};
+
+    ghost Value = { List (ℕ × Record) };
+
+    ghost view = { λ r. by_node r.stored.entries };
+
+    ghost invariant = { λ r. Rises (by_node r.stored.entries) };
+}
+
+impl Records {
+    ghost use Rattle.lq_volume.specs.State.{Rises, climbs, dir_of};
+    ghost use Rattle.lq_volume.specs.Change.{without, altered, at_place, written, setting, unsetting};
+
+    /// No records. It takes no memory.
+    pub fn new(alloc: Global) -> Records
+        ensures { result ≡ [] }
+    {
+        Records {
+            stored: IndexMap::new(alloc),
         }
-        match records.get(&at) {
-            None => return false,
-            Some(record) => at = record.dir(),
+    }
+
+    /// The record of a node.
+    pub fn get(&self, node: u64) -> Option<&Stored>
+        ensures record { option_copied result ≡ lookup (nat_eq node) self.now }
+        ensures rise { Rises self.now }
+    {
+        self.stored.get(&node)
+    }
+
+    /// Whether a walk up by the folders comes from one node to another.
+    pub fn climbs(&self, from: u64, to: u64) -> bool
+        ensures { result ≡ climbs (length self.now) (dir_of self.now) to from }
+    {
+        let mut at = from;
+        for _ in 0..self.len() {
+            if at == to {
+                return true;
+            }
+            match self.get(at) {
+                None => return false,
+                Some(record) => at = record.dir(),
+            }
+        }
+        at == to
+    }
+
+    fn len(&self) -> usize
+        ensures { result ≡ length self.now }
+    {
+        self.stored.len()
+    }
+
+    /// The records with their nodes, by rising node. Refused: `NoMemory`.
+    pub fn in_order(&self, alloc: Global) -> Result<Vec<(u64, &Stored)>, Refusal>
+        ensures refused { IsRefusedBy result None }
+        ensures records { IfOk result (λ records. map shown_pair records.items ≡ self.now) }
+        ensures rise { Rises self.now }
+    {
+        let mut records = pairs_of(&self.stored, alloc)?;
+        records.sort_unstable_by_key(|pair| pair.0);
+        Ok(records)
+    }
+
+    /// The entries that the predicate holds of, by rising node. Refused: `NoMemory`.
+    pub fn fetch(&self, alloc: Global, predicate: &Predicate) -> Result<Vec<Entry>, Refusal>
+        ensures refused { IsRefusedBy result None }
+        ensures entries { IfOk result (λ entries. entries.items
+            ≡ map entry_of (filter (λ e. truth predicate.now (shown e.1)) self.now)) }
+    {
+        let mut entries = finds_in(&self.stored, alloc, predicate)?;
+        // Linear where they rise already, as while nothing was ever removed.
+        entries.sort_unstable_by_key(|entry| entry.node);
+        Ok(entries)
+    }
+
+    /// Adds a record under a node above all others, or hands it back where there is no memory.
+    pub fn add(&mut self, node: u64, stored: Stored) -> Result<(), Stored>
+        requires { AllByRecursion (λ e. e.0 < node) self.old }
+        ensures ok { OnOk result (self.new ≡ self.old ++ (node, stored) ∷ []) }
+        ensures err { OnErr result (self.new ≡ self.old) }
+        ensures back { IfErr result (λ back. back ≡ stored) }
+    {
+        match self.stored.insert(node, stored) {
+            Ok(_) => Ok(()),
+            Err(failed) => Err(failed.value.1),
         }
     }
-    at == to
-}
 
-/// Adds a record under a node above all others, or hands it back where there is no memory.
-pub fn add_last(
-    records: &mut BTreeMap<u64, Stored>,
-    node: u64,
-    stored: Stored,
-) -> Result<(), Stored>
-    requires { AllByRecursion (λ e. e.0 < node) records.old.entries }
-    ensures ok { OnOk result (records.new.entries ≡ records.old.entries ++ (node, stored) ∷ []) }
-    ensures err { OnErr result (records.new.entries ≡ records.old.entries) }
-    ensures back { IfErr result (λ back. back ≡ stored) }
-{
-    match records.insert(node, stored) {
-        Ok(_) => Ok(()),
-        Err(failed) => Err(failed.value.1),
+    /// Takes a node's record out.
+    pub fn remove(&mut self, node: u64) -> Option<Stored>
+        ensures record { result ≡ lookup (nat_eq node) self.old }
+        ensures rise { Rises self.old }
+        ensures left { self.new ≡ filter (λ e. not (e.0 == node)) self.old }
+    {
+        self.stored.swap_remove(&node)
+    }
+
+    /// Takes a node's record out, if one is named.
+    pub fn remove_if(&mut self, node: Option<u64>)
+        ensures { self.new ≡ without node self.old }
+    {
+        if let Some(node) = node {
+            self.remove(node);
+        }
+    }
+
+    /// Gives a node another place.
+    pub fn relocate(&mut self, node: u64, dir: u64, name: Name)
+        ensures { self.new ≡ altered node (at_place dir name) self.old }
+    {
+        if let Some(record) = self.stored.get_mut(&node) {
+            record.relocate(dir, name);
+        }
+    }
+
+    /// Gives a node another size and time.
+    pub fn write(&mut self, node: u64, size: u64, time: i64)
+        requires { size < 2 ^ 63 }
+        ensures { self.new ≡ altered node (written size time) self.old }
+    {
+        if let Some(record) = self.stored.get_mut(&node) {
+            record.write(size, time);
+        }
+    }
+
+    /// Sets an attribute of a node. Refused: `NoMemory`, and then nothing changes.
+    pub fn set_attr(&mut self, node: u64, attr: AttrName, value: Value) -> Result<(), Refusal>
+        ensures refused { IsRefusedBy result None }
+        ensures ok { OnOk result (self.new ≡ altered node (setting attr value) self.old) }
+        ensures err { OnErr result (self.new ≡ self.old) }
+    {
+        if let Some(record) = self.stored.get_mut(&node) {
+            record.set_attr(attr, value)?;
+        }
+        Ok(())
+    }
+
+    /// Takes an attribute of a node out.
+    pub fn unset_attr(&mut self, node: u64, attr: &AttrName)
+        ensures { self.new ≡ altered node (unsetting attr.now) self.old }
+    {
+        if let Some(record) = self.stored.get_mut(&node) {
+            record.unset_attr(attr);
+        }
     }
 }
 
-/// Takes a node's record out.
-pub fn take_out(records: &mut BTreeMap<u64, Stored>, node: u64)
-    requires { Rises records.old.entries }
-    ensures { records.new.entries ≡ filter (λ e. not (e.0 == node)) records.old.entries }
-{
-    records.remove(&node);
-}
-
-/// Takes a node's record out, if one is named.
-pub fn take_out_if(records: &mut BTreeMap<u64, Stored>, node: Option<u64>)
-    requires { Rises records.old.entries }
-    ensures { records.new.entries ≡ without node records.old.entries }
-{
-    if let Some(node) = node {
-        take_out(records, node);
-    }
-}
-
-/// Gives a node another place.
-pub fn place(records: &mut BTreeMap<u64, Stored>, node: u64, dir: u64, name: Name)
-    requires { Rises records.old.entries }
-    ensures { records.new.entries ≡ altered node (at_place dir name) records.old.entries }
-{
-    if let Some(record) = records.get_mut(&node) {
-        record.relocate(dir, name);
-    }
-}
-
-/// Sets an attribute of a node. Refused: `NoMemory`, and then nothing changes.
-pub fn set_attr(
-    records: &mut BTreeMap<u64, Stored>,
-    node: u64,
-    attr: AttrName,
-    value: Value,
-) -> Result<(), Refusal>
-    requires { Rises records.old.entries }
+// The nodes and records of a map, in its order. Refused: `NoMemory`.
+fn pairs_of(
+    stored: &IndexMap<u64, Stored>,
+    alloc: Global,
+) -> Result<Vec<(u64, &Stored)>, Refusal>
     ensures refused { IsRefusedBy result None }
-    ensures ok { OnOk result
-        (records.new.entries ≡ altered node (setting attr value) records.old.entries) }
-    ensures err { OnErr result (records.new.entries ≡ records.old.entries) }
+    ensures pairs { IfOk result (λ pairs. map shown_pair pairs.items ≡ stored.now.entries) }
+    ensures own { IsDistinct nat_eq (keys_of stored.now.entries) }
 {
-    if let Some(record) = records.get_mut(&node) {
-        record.set_attr(attr, value)?;
+    let mut pairs = Vec::new(alloc);
+    for (node, record) in stored.iter() {
+        pairs.push((*node, record))?;
     }
-    Ok(())
+    Ok(pairs)
 }
 
-/// Takes an attribute of a node out.
-pub fn unset_attr(records: &mut BTreeMap<u64, Stored>, node: u64, attr: &AttrName)
-    requires { Rises records.old.entries }
-    ensures { records.new.entries ≡ altered node (unsetting attr.now) records.old.entries }
+// The entries of a map that the predicate holds of, in its order. Refused: `NoMemory`.
+fn finds_in(
+    stored: &IndexMap<u64, Stored>,
+    alloc: Global,
+    predicate: &Predicate,
+) -> Result<Vec<Entry>, Refusal>
+    ensures refused { IsRefusedBy result None }
+    ensures finds { IfOk result (λ finds. finds.items
+        ≡ map entry_of (filter (λ e. truth predicate.now (shown e.1)) stored.now.entries)) }
+    ensures own { IsDistinct nat_eq (keys_of stored.now.entries) }
 {
-    if let Some(record) = records.get_mut(&node) {
-        record.unset_attr(attr);
+    let mut finds = Vec::new(alloc);
+    for (node, record) in stored.iter() {
+        let seen = record.seen(Difference::None);
+        if holds(predicate, &seen) {
+            finds.push(seen.entry(alloc, *node)?)?;
+        }
     }
-}
-
-/// Gives a node another size and time.
-pub fn write(records: &mut BTreeMap<u64, Stored>, node: u64, size: u64, time: i64)
-    requires rise { Rises records.old.entries }
-    requires small { size < 2 ^ 63 }
-    ensures { records.new.entries ≡ altered node (written size time) records.old.entries }
-{
-    if let Some(record) = records.get_mut(&node) {
-        record.write(size, time);
-    }
+    Ok(finds)
 }

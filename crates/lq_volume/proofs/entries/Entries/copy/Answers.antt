@@ -1,17 +1,32 @@
-use Rattle.std.proofs.Common.{◌≡◌, ℕ, ◌∷◌, ◌++◌, ◌∙◌, ap, sym}
+use Rattle.std.proofs.Common.{◌≡◌, ℕ, ◌∷◌, ◌++◌, ◌∙◌, ap, map, sym}
+use Rattle.std.specs.Vec.Iter.{into_iter_items}
+use Rattle.lq_volume.specs.Order.{shown_pair}
 use Rattle.lq_volume.specs.State.{Record}
-use Rattle.lq_volume.proofs.RecordLemmas.{Rises-front, Rises-start}
+use Rattle.lq_volume.proofs.AttributeLemmas.{append-one}
+use Rattle.lq_volume.proofs.RecordLemmas.{Entries, Rises-front, Rises-start}
 use Rattle.lq_volume.proofs.PlaceLemmas.{node_in-next}
 use Rattle.lq_volume.proofs.entries.Entries.copy.Goals as goal
 
 pub add-requires : goal.add-requires
 add-requires c =
-    let e : ℕ × Record = (c.in-Some.node.now, c.in-Some.record.now) in
-    let all : c.loop-node.copy ++ e ∷ c.next.new.self ≡ c.self.inside.records.entries =
-    ap (λ left. c.loop-node.copy ++ left) (sym c.in-Some.ensures.steps) ∙ c.loop-node.invariant in
-    let rise = rw (← all) at c.self.invariant.rise in
+    let e : ℕ × Record = (c.in-Some.node, c.in-Some.record.now) in
+    let left : Entries = map shown_pair (into_iter_items c.next.new.self) in
+    let all : c.loop-node.copy ++ e ∷ left ≡ c.args.self.now =
+    ap (λ rest. c.loop-node.copy ++ map shown_pair rest) (sym c.in-Some.ensures.steps.0)
+    ∙ c.loop-node.invariant in
+    let rise = rw (← all) at (rw c.self.view_is at c.in_ok-items.ensures.rise) in
     record {
-      last = Rises-front c.loop-node.copy c.next.new.self e rise;
-      free = rw c.in_ok-copy.ensures.value (node_in-next c.loop-node.copy c.next.new.self e
-          (Rises-start c.loop-node.copy _ rise) rise (rw (all, c.self.view_is) c.requires));
+      last = Rises-front c.loop-node.copy left e rise;
+      free = rw c.in_ok-copy.ensures.value (node_in-next c.loop-node.copy left e
+          (Rises-start c.loop-node.copy _ rise) rise (rw all c.requires));
     }
+
+pub loop-node-preserved : goal.loop-node-preserved
+loop-node-preserved c =
+    let e : ℕ × Record = (c.in-Some.node, c.in-Some.record.now) in
+    let left : Entries = map shown_pair (into_iter_items c.next.new.self) in
+    let all : c.loop-node.copy ++ e ∷ left ≡ c.args.self.now =
+    ap (λ rest. c.loop-node.copy ++ map shown_pair rest) (sym c.in-Some.ensures.steps.0)
+    ∙ c.loop-node.invariant in
+    rw (c.in_ok-add.ensures.ok, c.in_ok-copy.ensures.value)
+    (append-one c.loop-node.copy left e ∙ all)
