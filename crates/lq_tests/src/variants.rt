@@ -181,14 +181,18 @@ fn settings(alloc: Global) -> Result<Vec<Event>, Refusal> {
     Ok(events)
 }
 
+fn at(slot: u64, act: lq_desk::Act) -> Event {
+    Event::At { slot, act }
+}
+
 fn endings(alloc: Global) -> Result<Vec<Event>, Refusal> {
     let mut events = Vec::new(alloc);
     events.push(Event::Change(Change::Remove { node: 2 }))?;
-    events.push(Event::HangUp(1))?;
-    events.push(Event::Notice(1))?;
-    events.push(Event::Close(2))?;
-    events.push(Event::Put(2))?;
-    events.push(Event::Take(2))?;
+    events.push(at(1, lq_desk::Act::HangUp))?;
+    events.push(at(1, lq_desk::Act::Notice))?;
+    events.push(at(2, lq_desk::Act::Close))?;
+    events.push(at(2, lq_desk::Act::Put))?;
+    events.push(at(2, lq_desk::Act::Read))?;
     Ok(events)
 }
 

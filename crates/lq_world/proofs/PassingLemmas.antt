@@ -13,7 +13,9 @@ use Rattle.lq_update.specs.declared.parcel.Parcel.TheVariants.{Update}
 use Rattle.lq_update.specs.Updates.{step_of}
 use Rattle.lq_update.specs.Laws.{UpdatesJoin}
 use Rattle.lq_world.specs.World.{World, Sub, in_port, waiting, to_come, one_more_put, covered, covered_by, told, mark_behind, whole, is_live, is_over, can_put, first_in_port, slot_at, with_slot}
-use Rattle.lq_world.specs.Events.{Changing, Opening, Putting, Taking, HangingUp, Noticing, Closing, Finishing, Answer, Refused, changing, opening, opened_now, open_refusal, putting, putting_if, taking, taking_of, hanging_up, noticing, noticing_if, closing, closing_if, finishing, finishing_if, at_slot}
+use Rattle.lq_world.specs.declared.event.Event.TheVariants.{Change, Open, At}
+use Rattle.lq_world.specs.declared.event.Act.TheVariants as act
+use Rattle.lq_world.specs.Events.{Answer, Refused, changing, opening, opened_now, open_refusal, putting, putting_if, reading, reading_if, hanging_up, noticing, noticing_if, closing, closing_if, finishing, finishing_if, at_slot}
 use Rattle.lq_world.specs.Laws.{LiveListsGrow, EndedListsStay, EndsAddMarks, ListsArePassedOn, PortsAreQueues, RefusalsLeaveWorlds}
 use Rattle.lq_world.proofs.ListLemmas.{drop-inside, lt-false, lt-true, map-append, length-map, take-drop}
 use Rattle.lq_world.proofs.WorldLemmas.{updates_of-change, updates_of-stays}
@@ -163,7 +165,7 @@ same-tests m k port put all rest one two =
 over-test : (taken all k rest : ℕ) → taken + (k + rest) ≡ all → (taken == all) ≡ (k + rest == 0)
 over-test taken all k rest sum = grind (arith, nat_tests)
 
--- a port is a queue: a put adds at its end, a take gives its front
+-- a port is a queue: a put adds at its end, a read gives its front
 pub ports-are : PortsAreQueues
 ports-are b s h =
     let xs = whole b s in
@@ -216,11 +218,11 @@ putting-alone b s r is = by (can_put b s) is
     by true is = absurd (let no : ⊥ = cc in no)
     by false is = refl
 
--- a take that is refused leaves its subscription
-taking-alone : (b : Book) → RefusesAlone (taking b)
-taking-alone b s r is = by (first_in_port b s) is
+-- a read that is refused leaves its subscription
+reading-alone : (b : Book) → RefusesAlone (reading b)
+reading-alone b s r is = by (first_in_port b s) is
   where
-    by : (o : Option Parcel) → (taking_of b s o).0 ≡ Refused r → (taking_of b s o).1 ≡ Some s
+    by : (o : Option Parcel) → (reading_if b s o).0 ≡ Refused r → (reading_if b s o).1 ≡ Some s
     by None is = refl
     by (Some p) is = absurd (let no : ⊥ = cc in no)
 
@@ -266,18 +268,18 @@ opening-refused w s None r is = absurd (let no : ⊥ = cc in no)
 
 -- each event that is refused leaves the world
 pub refusals-leave : RefusalsLeaveWorlds
-refusals-leave w (Changing c) r is = changing-refused w c (refused_by (state_of w.book) c) r is
-refusals-leave w (Opening q port backlog moved) r is =
+refusals-leave w (Change c) r is = changing-refused w c (refused_by (state_of w.book) c) r is
+refusals-leave w (Open q port backlog moved) r is =
     opening-refused w (opened_now w q port backlog moved) (open_refusal w port backlog) r is
-refusals-leave w (Putting k) r is =
+refusals-leave w (At k act.Put) r is =
     at_slot-refused w k (putting w.book) r (putting-alone w.book) (slot_at w k) refl is
-refusals-leave w (Taking k) r is =
-    at_slot-refused w k (taking w.book) r (taking-alone w.book) (slot_at w k) refl is
-refusals-leave w (HangingUp k) r is =
+refusals-leave w (At k act.Read) r is =
+    at_slot-refused w k (reading w.book) r (reading-alone w.book) (slot_at w k) refl is
+refusals-leave w (At k act.HangUp) r is =
     at_slot-refused w k hanging_up r hanging_up-alone (slot_at w k) refl is
-refusals-leave w (Noticing k) r is =
+refusals-leave w (At k act.Notice) r is =
     at_slot-refused w k (noticing w.book) r (noticing-alone w.book) (slot_at w k) refl is
-refusals-leave w (Closing k) r is =
+refusals-leave w (At k act.Close) r is =
     at_slot-refused w k (closing w.book) r (closing-alone w.book) (slot_at w k) refl is
-refusals-leave w (Finishing k) r is =
+refusals-leave w (At k act.Finish) r is =
     at_slot-refused w k (finishing w.book) r (finishing-alone w.book) (slot_at w k) refl is

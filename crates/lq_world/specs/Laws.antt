@@ -7,7 +7,10 @@ use Rattle.lq_update.specs.declared.mark.Cause.{Cause}
 use Rattle.lq_update.specs.declared.parcel.Parcel.TheVariants.{Update, Fin}
 use Rattle.lq_update.specs.Updates.{step_of}
 use Rattle.lq_world.specs.World.{World, Sub, End, first_world, told, whole, in_port, waiting, held, to_come, first_in_port, can_put, is_live, is_over, news, with_end, one_more_put, one_more_taken}
-use Rattle.lq_world.specs.Events.{Happening, Changing, Putting, Taking, Closing, Answer, Moved, Refused, answer, next, outcome}
+use Rattle.lq_world.specs.declared.event.Event.{Event}
+use Rattle.lq_world.specs.declared.event.Event.TheVariants.{Change, At}
+use Rattle.lq_world.specs.declared.event.Act.TheVariants as act
+use Rattle.lq_world.specs.Events.{Answer, Moved, Refused, answer, next, outcome}
 use Rattle.lq_world.specs.Runs.{Run}
 use Rattle.lq_world.specs.Turns.{after_all, ports_of, turn_of, turn_outcome}
 use Rattle.lq_world.specs.Fair.{IsFair, IsFairWorld}
@@ -19,18 +22,18 @@ FirstWorldsAreFair = (b : Book) → IsFairWorld (first_world b)
 
 -- and each event leaves a fair world fair
 abbrev pub RunsKeepWorldsFair : Type 0
-RunsKeepWorldsFair = (w end : World) (events : List Happening) (answers : List Answer)
+RunsKeepWorldsFair = (w end : World) (events : List Event) (answers : List Answer)
     → IsFairWorld w → Run w events answers end → IsFairWorld end
 
 -- and has as many slots
 abbrev pub RunsKeepSlots : Type 0
-RunsKeepSlots = (w end : World) (events : List Happening) (answers : List Answer)
+RunsKeepSlots = (w end : World) (events : List Event) (answers : List Answer)
     → Run w events answers end → length end.slots ≡ length w.slots
 
 -- a refused event leaves the world as it was
 abbrev pub RefusalsLeaveWorlds : Type 0
 RefusalsLeaveWorlds =
-    (w : World) (e : Happening) (r : Refusal) → answer w e ≡ Refused r → next w e ≡ w
+    (w : World) (e : Event) (r : Refusal) → answer w e ≡ Refused r → next w e ≡ w
 
 -- Passing a change: a live subscription is told just its messages more, and
 -- so many more are held; the list of one that has ended stays.
@@ -63,7 +66,7 @@ ListsArePassedOn = (b : Book) (s : Sub) → IsFair b s
     → take s.taken (whole b s) ++ (in_port b s ++ to_come b s) ≡ whole b s
 
 -- A port is a queue: a put moves the first of what is to come to its back, where it has room, a
--- take gives its front, and all that is told was taken where neither has anything.
+-- read gives its front, and all that is told was taken where neither has anything.
 abbrev pub PortsAreQueues : Type 0
 PortsAreQueues = (b : Book) (s : Sub) → IsFair b s →
     (length (in_port b s) ≡ s.put - s.taken)
@@ -77,26 +80,27 @@ PortsAreQueues = (b : Book) (s : Sub) → IsFair b s →
 
 -- nothing moves into the port of a slot
 abbrev pub IsStill : World → ℕ → Type 0
-IsStill w slot = answer w (Putting slot) ≡ Moved true → ⊥
+IsStill w slot = answer w (At slot act.Put) ≡ Moved true → ⊥
 
 -- A turn puts until nothing moves: behind a change into no port,
--- behind a close and before a take not into that of its slot.
+-- behind a close and before a read not into that of its slot.
 abbrev pub TurnsFillPorts : Type 0
 TurnsFillPorts = (w : World) → IsFairWorld w →
-    ((c : Change_) (slot : ℕ) → IsStill (turn_outcome w (Changing c)).1 slot)
-    × ((slot : ℕ) → IsStill (turn_outcome w (Closing slot)).1 slot)
-    × ((slot : ℕ) → IsStill (after_all outcome w (turn_of (ports_of w) (Taking slot)).before) slot)
+    ((c : Change_) (slot : ℕ) → IsStill (turn_outcome w (Change c)).1 slot)
+    × ((slot : ℕ) → IsStill (turn_outcome w (At slot act.Close)).1 slot)
+    × ((slot : ℕ)
+    → IsStill (after_all outcome w (turn_of (ports_of w) (At slot act.Read)).before) slot)
 
 -- The accepted changes of a run are a book from the state
 -- before it, and stand behind the book that was there.
 abbrev pub RunsMakeBooks : Type 0
 RunsMakeBooks =
-    (w end : World) (events : List Happening) (answers : List Answer) → Run w events answers end →
+    (w end : World) (events : List Event) (answers : List Answer) → Run w events answers end →
     IsBook (book_of (state_of w.book) events answers)
     × (end.book ≡ grown w.book (accepted events answers))
 
 -- the headline, of every run from any world, so also from
 -- a first one over the state that a volume has
 abbrev pub RunsTellReaders : Type 0
-RunsTellReaders = (w end : World) (events : List Happening) (answers : List Answer)
+RunsTellReaders = (w end : World) (events : List Event) (answers : List Answer)
     → Run w events answers end → ReadersAreTold (state_of w.book) events answers

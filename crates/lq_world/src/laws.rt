@@ -53,13 +53,13 @@ pub fn lists_are_passed_on()
 {}
 
 /// A port is a queue: a put moves the first of what is to come to its back, where it has room, and
-/// a take gives its front.
+/// a read gives its front.
 pub fn ports_are_queues()
     ensures { PortsAreQueues }
 {}
 
 /// A turn puts until nothing moves: behind a change no port takes one more parcel, and behind a
-/// close and before a take that of its slot takes none.
+/// close and before a read that of its slot takes none.
 pub fn turns_fill_ports()
     ensures { TurnsFillPorts }
 {
@@ -72,7 +72,7 @@ pub fn runs_make_books()
     ensures { RunsMakeBooks }
 {}
 
-/// What the takes of a subscription that a run opens give is a prefix of its query's update list
+/// What the reads of a subscription that a run opens give is a prefix of its query's update list
 /// from its opening on, over the changes that the run accepts, each message once and in order.
 ///
 /// The closing mark comes only after the whole list up to the change that it names, nothing follows
