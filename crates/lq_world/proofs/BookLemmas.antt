@@ -11,9 +11,8 @@ use Rattle.lq_world.specs.declared.event.Event.TheVariants.{Change, Open, At}
 use Rattle.lq_world.specs.Events.{Answer, changing, outcome}
 use Rattle.lq_world.specs.Runs.{Step, Run}
 use Rattle.lq_world.specs.Headline.{accepted_by, accepted}
-use Rattle.lq_world.specs.Laws.{RunsMakeBooks}
 use Rattle.lq_world.proofs.WorldLemmas.{after_all-append}
-use Rattle.lq_world.proofs.ReadLemmas.{accepted_by-refused, step-book, run-book}
+use Rattle.lq_world.proofs.ReadLemmas.{accepted_by-refused, step-book}
 
 -- lawful changes and then others, lawful from where those lead, are lawful together
 are-lawful-append : (s : State) (cs ds : List Change_)
@@ -58,8 +57,3 @@ run-lawful w end (e ∷ events) (a ∷ answers) run =
     (step-lawful w e a run.0 run.1)
     (subst (λ (s : State). AreLawful s (accepted events answers)) there
     (run-lawful run.0 end events answers run.2))
-
--- the accepted changes of a run are a book
-pub runs-make : RunsMakeBooks
-runs-make w end events answers run =
-    (run-lawful w end events answers run, run-book w events answers end run)

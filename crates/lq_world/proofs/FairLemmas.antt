@@ -1,6 +1,6 @@
 -- Each event leaves a fair world fair.
-use Rattle.std.proofs.Common.{◌≡◌, ℕ, zero, suc, ◌-◌, ◌≤◌, ◌<◌, List, [], ◌∷◌, refl, ap, take, drop, length, sym, subst, arith, ◌∙◌, Some, None, Option, inl, inr, Bool, true, false}
-use Rattle.std.specs.Prelude.{slice_get, slice_set, ◌==◌, ◌&&◌, not, nat_le, if◌then◌else◌, replicate}
+use Rattle.std.proofs.Common.{◌≡◌, ℕ, zero, suc, ◌-◌, ◌≤◌, ◌<◌, List, [], ◌∷◌, refl, ap, take, drop, length, sym, subst, arith, Some, None, Option, inl, inr, Bool, true, false}
+use Rattle.std.specs.Prelude.{slice_get, ◌==◌, ◌&&◌, not, nat_le, if◌then◌else◌, replicate}
 use Rattle.std.specs.Option.{option_flatten, option_map}
 use Rattle.std.specs.List.{AllByRecursion}
 use Rattle.std.proofs.lemmas.Bool.Decides.{nat_tests}
@@ -17,12 +17,12 @@ use Rattle.lq_world.specs.World.{World, Sub, slot_at, taken_before_free, after_c
 use Rattle.lq_world.specs.declared.event.Event.{Event}
 use Rattle.lq_world.specs.declared.event.Event.TheVariants.{Change, Open, At}
 use Rattle.lq_world.specs.declared.event.Act.TheVariants as act
-use Rattle.lq_world.specs.Events.{Answer, changing, opening, opened_now, open_refusal, putting, reading, hanging_up, noticing, closing, finishing, finishing_if, at_slot, outcome, acting}
+use Rattle.lq_world.specs.Events.{Answer, changing, opening, opened_now, open_refusal, putting, reading, hanging_up, noticing, closing, finishing, finishing_if, at_slot, outcome}
 use Rattle.lq_world.specs.Runs.{Step}
 use Rattle.lq_world.specs.Fair.{IsFair, IsFairSlot, IsFairWorld}
-use Rattle.lq_world.specs.Laws.{FirstWorldsAreFair, RunsKeepSlots, RunsKeepWorldsFair}
+use Rattle.lq_world.specs.Laws.{FirstWorldsAreFair, RunsKeepWorldsFair}
 use Rattle.lq_world.specs.World.{is_over}
-use Rattle.lq_world.proofs.ListLemmas.{all-get, all-set, all-map, both-true, length-map}
+use Rattle.lq_world.proofs.ListLemmas.{all-get, all-set, all-map, both-true}
 use Rattle.lq_world.proofs.SubLemmas.{Leaves, keeps-change, putting-leaves, reading-leaves, hanging_up-leaves, noticing-leaves, closing-leaves}
 
 -- slots that are all free are fair
@@ -132,54 +132,6 @@ finishing-fair b s h = by (is_over b s)
     by : (x : Bool) → IsFairSlot b (finishing_if s x).1
     by true = tt
     by false = h
-
--- ---- as many slots
-
--- a list in which one place is set has the same length
-length-slice_set : {A : Type 0} (xs : List A) (i : ℕ) (x : A)
-    → length (slice_set xs i x) ≡ length xs
-length-slice_set [] i x = refl
-length-slice_set (y ∷ xs) zero x = refl
-length-slice_set (y ∷ xs) (suc i) x = ap suc (length-slice_set xs i x)
-
--- a change leaves the number of slots
-changing-slots : (w : World) (c : Change_) (r : Option Refusal)
-    → length (changing w c r).1.slots ≡ length w.slots
-changing-slots w c (Some e) = refl
-changing-slots w c None = length-map (option_map (after_change w.book c)) w.slots
-
--- an opening leaves the number of slots
-opening-slots : (w : World) (s : Sub) (r : Option Refusal)
-    → length (opening w s r).1.slots ≡ length w.slots
-opening-slots w s (Some e) = refl
-opening-slots w s None = length-slice_set w.slots (taken_before_free w.slots) (Some s)
-
--- an event in one slot leaves the number of slots
-at_slot-slots : (w : World) (slot : ℕ) (o : Option Sub) (event : Sub → Answer × Option Sub)
-    → length (at_slot w slot o event).1.slots ≡ length w.slots
-at_slot-slots w slot None event = refl
-at_slot-slots w slot (Some s) event = length-slice_set w.slots (slot - 1) (event s).1
-
--- each event leaves the number of slots
-outcome-slots : (w : World) (e : Event) → length (outcome w e).1.slots ≡ length w.slots
-outcome-slots w (Change c) = changing-slots w c (refused_by (state_of w.book) c)
-outcome-slots w (Open q port backlog moved) =
-    opening-slots w (opened_now w q port backlog moved) (open_refusal w port backlog)
-outcome-slots w (At k a) = at_slot-slots w k (slot_at w k) (acting w.book a)
-
--- each step leaves the number of slots
-step-slots : (w : World) (e : Event) (a : Answer) (v : World) → Step w e a v
-    → length v.slots ≡ length w.slots
-step-slots w e a v (inl done) = ap (λ (u : World). length u.slots) done.1 ∙ outcome-slots w e
-step-slots w e a v (inr ran) = ap (λ (u : World). length u.slots) ran.2
-
--- a run leaves the number of slots
-pub run-slots : RunsKeepSlots
-run-slots w end [] [] run = ap (λ (u : World). length u.slots) run
-run-slots w end [] (a ∷ answers) run = absurd run
-run-slots w end (e ∷ events) [] run = absurd run
-run-slots w end (e ∷ events) (a ∷ answers) run =
-    run-slots run.0 end events answers run.2 ∙ step-slots w e a run.0 run.1
 
 module _ (join : UpdatesJoin) where
   -- a change leaves each slot fair

@@ -11,7 +11,6 @@ mod laws;
 
 pub use event::{Act, Event};
 pub use laws::{
-    ended_lists_stay, ends_add_marks, first_worlds_are_fair, lists_are_passed_on, live_lists_grow,
-    ports_are_queues, readers_are_told, refusals_leave_worlds, runs_keep_slots,
-    runs_keep_worlds_fair, runs_make_books, turns_fill_ports,
+    first_worlds_are_fair, lists_are_passed_on, readers_are_told, refusals_leave_worlds,
+    runs_keep_worlds_fair, turns_fill_ports,
 };
