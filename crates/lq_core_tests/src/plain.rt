@@ -163,7 +163,7 @@ fn reply_value(alloc: Global, slot: u64, reply: &Reply) -> Result<Value, AllocEr
             at,
             result: entries,
         } => opened_value(alloc, *opened, *at, entries),
-        Reply::Took(read) => read_value(alloc, slot, read),
+        Reply::Read(read) => read_value(alloc, slot, read),
         Reply::Shut(change) => shut_value(alloc, *change, slot),
         Reply::Asked | Reply::Finished | Reply::Moved(_) | Reply::Noticed(_) => {
             slot_value(alloc, slot)

@@ -69,7 +69,7 @@ fn message(alloc: Global, last: bool, op: Opcode) -> Result<Response, Refusal> {
 }
 
 fn read(read: Read) -> Response {
-    reply(Reply::Took(read))
+    reply(Reply::Read(read))
 }
 
 fn reply(reply: Reply) -> Response {

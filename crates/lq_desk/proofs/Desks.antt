@@ -13,12 +13,14 @@ use Rattle.lq_volume.specs.Book.{Book}
 use Rattle.lq_volume.specs.Laws.{ChangesCount}
 use Rattle.lq_update.specs.Laws.{StepsAreFew}
 use Rattle.lq_world.specs.World.{first_world}
-use Rattle.lq_world.specs.Events.{Changing, Happening, Opening, Answer, next, outcome}
+use Rattle.lq_world.specs.declared.event.Event.{Event}
+use Rattle.lq_world.specs.declared.event.Event.TheVariants.{Change, Open, At}
+use Rattle.lq_world.specs.Events.{Answer, next, outcome}
 use Rattle.lq_world.specs.Turns.{after_all}
 use Rattle.lq_world.specs.Laws.{FirstWorldsAreFair}
-use Rattle.lq_desk.specs.declared.slot.Act.{Act}
+use Rattle.lq_world.specs.declared.event.Act.{Act}
 use Rattle.lq_desk.specs.Slot.{KeptSlot, PreparedSlot, slot_of, fresh_slot}
-use Rattle.lq_desk.specs.Act.{outcome_in, happening_at}
+use Rattle.lq_desk.specs.Act.{outcome_in}
 use Rattle.lq_desk.specs.Kept.{Kept, IsDesk, IsFew, Shows, first_free, opening_refusal, opened, open_if, changed, change_if, kept_outcome, slot_for}
 use Rattle.lq_desk.specs.Turn.{kept_after}
 use Rattle.lq_desk.specs.Laws.{KeptShowsWorlds}
@@ -73,9 +75,9 @@ module _ (alike : KeptShowsWorlds) where
     slots = length-map _ k.slots ∙ d.slots;
     few = subst (λ (n : ℕ). AllByRecursion (IsFew (3 * n)) (changed k c).slots)
         (sym (count k.volume c)) (few-after steps k.volume c k.slots v lawful d.few);
-    world = next d.world (Changing c);
-    shows = subst (λ (r : Option Refusal). Shows (change_if k c r).1 (next d.world (Changing c)))
-        lawful (alike k d.world (Changing c) d.shows).1;
+    world = next d.world (Change c);
+    shows = subst (λ (r : Option Refusal). Shows (change_if k c r).1 (next d.world (Change c)))
+        lawful (alike k d.world (Change c) d.shows).1;
   }
 
   -- a desk is one after an opening
@@ -88,19 +90,19 @@ module _ (alike : KeptShowsWorlds) where
         slots = length-set k.slots (first_free k.slots) (Some s) ∙ d.slots;
         few = all-set (IsFew (3 * k.volume.number)) k.slots (first_free k.slots)
             (Some s) d.few (omega arith);
-        world = next d.world (Opening q port backlog moved);
+        world = next d.world (Open q port backlog moved);
         shows = subst (λ (r : Option Refusal).
-            Shows (open_if k s r).1 (next d.world (Opening q port backlog moved))) none
-            (alike k d.world (Opening q port backlog moved) d.shows).1;
+            Shows (open_if k s r).1 (next d.world (Open q port backlog moved))) none
+            (alike k d.world (Open q port backlog moved) d.shows).1;
       }
 
   -- a desk is one after an act at a slot
   pub IsDesk-act : (k : Kept) (a : Act) (slot : ℕ) (r : Answer) (ks : List (Option KeptSlot))
       → IsDesk k → (r, ks) ≡ outcome_in k.volume.number a k.slots (slot - 1)
-      → (r, record k { slots = ks }) ≡ kept_outcome k (happening_at a slot)
+      → (r, record k { slots = ks }) ≡ kept_outcome k (At slot a)
       → IsDesk (record k { slots = ks })
   IsDesk-act k a slot r ks d is does =
-      let e = happening_at a slot in
+      let e : Event = At slot a in
       let at : ks ≡ (outcome_in k.volume.number a k.slots (slot - 1)).1 =
       ap (λ (p : Answer × List (Option KeptSlot)). p.1) is in
       record {
@@ -114,7 +116,7 @@ module _ (alike : KeptShowsWorlds) where
       }
 
   -- after events that leave the number of slots, and make no message
-  pub IsDesk-after : (k : Kept) (es : List Happening) (ks : List (Option KeptSlot))
+  pub IsDesk-after : (k : Kept) (es : List Event) (ks : List (Option KeptSlot))
       → IsDesk k → kept_after k es ≡ record k { slots = ks } → length ks ≡ length k.slots
       → AllByRecursion (IsFew (3 * k.volume.number)) ks
       → IsDesk (record k { slots = ks })

@@ -5,7 +5,8 @@ use Rattle.std.specs.Option.{option_map, option_to_list}
 use Rattle.lq_value.specs.declared.refusal.Refusal.{Refusal}
 use Rattle.lq_update.specs.declared.parcel.Parcel.TheVariants.{Update, Fin}
 use Rattle.lq_world.specs.World.{World, Sub, End, told, whole, in_port, waiting, to_come, mark_behind}
-use Rattle.lq_world.specs.Events.{Happening, Answer, Refused}
+use Rattle.lq_world.specs.declared.event.Event.{Event}
+use Rattle.lq_world.specs.Events.{Answer, Refused}
 use Rattle.lq_world.specs.Runs.{Step}
 use Rattle.lq_world.specs.Fair.{IsFair, IsFairSlot}
 use Rattle.lq_world.specs.Laws.{ListsArePassedOn, RefusalsLeaveWorlds}
@@ -58,7 +59,7 @@ passes-on law k w slot s shows is =
     )
 
 -- an event that is refused leaves what is kept
-pub refusal-leaves : RefusalsLeaveWorlds → (old new : Kept) (w : World) (e : Happening) (a : Answer)
+pub refusal-leaves : RefusalsLeaveWorlds → (old new : Kept) (w : World) (e : Event) (a : Answer)
     (r : Refusal) → Shows old w → Moves new w e a → a ≡ Refused r → new ≡ old
 refusal-leaves law old new w e a r shows m is = m.shows.kept
     ∙ (ap kept_of (same m.step) ∙ sym shows.kept)

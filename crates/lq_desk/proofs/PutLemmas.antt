@@ -22,21 +22,22 @@ pub record Keeps (k l : KeptSlot) : Type 0 where
   pub sent : l.held.sent ≡ k.held.sent
   pub mark : l.held.mark ≡ k.held.mark
   pub port : l.port ≡ k.port
-  pub asked : l.asked ≡ k.asked
+  pub hang_up_asked : l.hang_up_asked ≡ k.hang_up_asked
 
 -- a put keeps the number of messages made, the mark, the port and whether the end was asked for
 put-keeps : (k : KeptSlot) → Keeps k (after_put k)
 put-keeps k = by (nat_lt (length k.queue) k.port) (next_parcel k.held)
   where
     by : (x : Bool) (o : Option Parcel) → Keeps k (unwrap_or (put_if k x o).1 k)
-    by true (Some (Update m)) = record { sent = refl; mark = refl; port = refl; asked = refl }
-    by true (Some (Fin m)) = record { sent = refl; mark = refl; port = refl; asked = refl }
-    by true None = record { sent = refl; mark = refl; port = refl; asked = refl }
-    by false o = record { sent = refl; mark = refl; port = refl; asked = refl }
+    by true (Some (Update m)) =
+        record { sent = refl; mark = refl; port = refl; hang_up_asked = refl }
+    by true (Some (Fin m)) = record { sent = refl; mark = refl; port = refl; hang_up_asked = refl }
+    by true None = record { sent = refl; mark = refl; port = refl; hang_up_asked = refl }
+    by false o = record { sent = refl; mark = refl; port = refl; hang_up_asked = refl }
 
 -- and so do several
 pub puts-keep : (n : ℕ) (k : KeptSlot) → Keeps k (after_puts n k)
-puts-keep zero k = record { sent = refl; mark = refl; port = refl; asked = refl }
+puts-keep zero k = record { sent = refl; mark = refl; port = refl; hang_up_asked = refl }
 puts-keep (suc n) k =
     let rest = puts-keep n (after_put k) in
     let here = put-keeps k in
@@ -44,7 +45,7 @@ puts-keep (suc n) k =
       sent = rest.sent ∙ here.sent;
       mark = rest.mark ∙ here.mark;
       port = rest.port ∙ here.port;
-      asked = rest.asked ∙ here.asked;
+      hang_up_asked = rest.hang_up_asked ∙ here.hang_up_asked;
     }
 
 -- ---- a put that moves nothing
@@ -115,7 +116,7 @@ filled-still k = by (can_move (filled k)) refl
 
 -- puts don't alter whether a slot is ending
 pub filled-ends : (k : KeptSlot) → is_ending (filled k) ≡ is_ending k
-filled-ends k = let keeps = puts-keep k.port k in rw (keeps.mark, keeps.asked) refl
+filled-ends k = let keeps = puts-keep k.port k in rw (keeps.mark, keeps.hang_up_asked) refl
 
 -- ---- puts one after another
 

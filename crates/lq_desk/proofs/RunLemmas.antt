@@ -1,14 +1,15 @@
 -- A run of a desk goes on by one event.
 use Rattle.std.proofs.Common.{◌≡◌, List, [], ◌∷◌, ◌++◌, refl, ap, subst, map}
 use Rattle.lq_world.specs.World.{World}
-use Rattle.lq_world.specs.Events.{Happening, Answer}
+use Rattle.lq_world.specs.declared.event.Event.{Event}
+use Rattle.lq_world.specs.Events.{Answer}
 use Rattle.lq_world.specs.Runs.{Step, Run}
 use Rattle.lq_desk.specs.Kept.{Kept}
 use Rattle.lq_desk.specs.Reply.{Moves, Runs}
 
 -- a run of a world, with one step more
-run-more : (w mid v : World) (events : List Happening) (answers : List Answer)
-    (e : Happening) (a : Answer) → Run w events answers mid → Step mid e a v
+run-more : (w mid v : World) (events : List Event) (answers : List Answer)
+    (e : Event) (a : Answer) → Run w events answers mid → Step mid e a v
     → Run w (events ++ e ∷ []) (answers ++ a ∷ []) v
 run-more w mid v [] [] e a run step = (v, subst (λ (u : World). Step u e a v) run step, refl)
 run-more w mid v [] (b ∷ answers) e a run step = absurd run
@@ -17,8 +18,8 @@ run-more w mid v (f ∷ events) (b ∷ answers) e a run step =
     (run.0, run.1, run-more run.0 mid v events answers e a run.2 step)
 
 -- a run that a desk shows, with one move more
-pub runs-more : (mid new : Kept) (w : World) (events : List Happening) (answers : List Answer)
-    (e : Happening) (a : Answer) (r : Runs mid w events answers) → Moves new r.end e a
+pub runs-more : (mid new : Kept) (w : World) (events : List Event) (answers : List Answer)
+    (e : Event) (a : Answer) (r : Runs mid w events answers) → Moves new r.end e a
     → Runs new w (events ++ e ∷ []) (answers ++ a ∷ [])
 runs-more mid new w events answers e a r m = record {
   end = m.next;

@@ -16,18 +16,20 @@ use Rattle.lq_volume.specs.Book.{Book, grown, number_of, state_of, state_at}
 use Rattle.lq_update.specs.Updates.{updates_of, updates_from}
 use Rattle.lq_update.specs.Laws.{UpdatesJoin}
 use Rattle.lq_world.specs.World.{World, Sub, told, slot_at, after_change, taken_before_free}
-use Rattle.lq_world.specs.Events.{Happening, Changing, Opening, Putting, Taking, HangingUp, Noticing, Closing, Finishing, Answer, Changed, Opened, changing, with_change, opening, opened_now, open_refusal, putting, taking, hanging_up, noticing, closing, finishing, at_slot, answer, next}
+use Rattle.lq_world.specs.declared.event.Event.{Event}
+use Rattle.lq_world.specs.declared.event.Event.TheVariants.{Change, Open, At}
+use Rattle.lq_world.specs.declared.event.Act.TheVariants as act
+use Rattle.lq_world.specs.Events.{Answer, Changed, Opened, changing, with_change, opening, opened_now, open_refusal, putting, reading, hanging_up, noticing, closing, finishing, at_slot, answer, next}
 use Rattle.lq_world.specs.Runs.{MayRunOut}
 use Rattle.lq_world.specs.Fair.{IsFair, IsFairSlot, IsFairWorld}
 use Rattle.lq_world.specs.Laws.{RunsKeepWorldsFair}
-use Rattle.lq_desk.specs.Slot.{KeptSlot, fresh_slot, slot_after, put_slot, take_slot, ask_slot, notice_slot, close_slot, finish_slot}
-use Rattle.lq_desk.specs.Kept.{Kept, Shows, KeptStep, kept_of, slot_for, kept_at, at_place, at_kept, first_free, opening_refusal, opened, open_if, changed, change_if, kept_outcome}
-use Rattle.lq_desk.specs.Kept as kept
+use Rattle.lq_desk.specs.Slot.{KeptSlot, fresh_slot, slot_after, put_slot, read_slot, ask_slot, notice_slot, close_slot, finish_slot}
+use Rattle.lq_desk.specs.Kept.{Kept, Shows, KeptMayRunOut, KeptStep, kept_of, slot_for, kept_at, at_place, at_kept, first_free, opening_refusal, opened, open_if, changed, change_if, kept_outcome}
 use Rattle.lq_desk.specs.Reply.{Moves}
 use Rattle.lq_desk.specs.Laws.{KeptShowsWorlds}
 use Rattle.lq_desk.proofs.ListLemmas.{all-get, map-set, slice_get-map, length-map, not-below}
 use Rattle.lq_desk.proofs.UpdateLemmas.{after_all-append, number-all}
-use Rattle.lq_desk.proofs.SlotLemmas.{kept_alike, put-same, take-same, ask-same, notice-same, close-same, finish-same, change-same}
+use Rattle.lq_desk.proofs.SlotLemmas.{kept_alike, put-same, read-same, ask-same, notice-same, close-same, finish-same, change-same}
 
 -- ---- an event of one slot
 
@@ -212,32 +214,32 @@ module _ (count : ChangesCount) where
     -- ---- all events
 
     -- each event is answered alike
-    outcome-same : (w : World) (e : Happening) → IsFairWorld w
+    outcome-same : (w : World) (e : Event) → IsFairWorld w
         → kept_outcome (kept_of w) e ≡ (answer w e, kept_of (next w e))
-    outcome-same w (Changing c) fair = changing-same w c fair (refused_by (state_of w.book) c)
-    outcome-same w (Opening q port backlog moved) fair =
+    outcome-same w (Change c) fair = changing-same w c fair (refused_by (state_of w.book) c)
+    outcome-same w (Open q port backlog moved) fair =
         ap (open_if (kept_of w) (fresh_slot q moved (state_of w.book).number port backlog))
         (refusal-same w port backlog)
         ∙ opening-same w q port backlog moved (open_refusal w port backlog)
-    outcome-same w (Putting slot) fair =
+    outcome-same w (At slot act.Put) fair =
         at-same w fair slot (putting w.book) put_slot (put-same w.book)
-    outcome-same w (Taking slot) fair =
-        at-same w fair slot (taking w.book) take_slot (take-same w.book)
-    outcome-same w (HangingUp slot) fair =
+    outcome-same w (At slot act.Read) fair =
+        at-same w fair slot (reading w.book) read_slot (read-same w.book)
+    outcome-same w (At slot act.HangUp) fair =
         at-same w fair slot hanging_up ask_slot (λ s f. ask-same w.book s)
-    outcome-same w (Noticing slot) fair =
+    outcome-same w (At slot act.Notice) fair =
         ap (λ n. at_kept (kept_of w) slot (notice_slot n)) (numbered w.book) ∙ at-same w fair slot
         (noticing w.book) (notice_slot (number_of w.book)) (notice-same w.book)
-    outcome-same w (Closing slot) fair =
+    outcome-same w (At slot act.Close) fair =
         ap (λ n. at_kept (kept_of w) slot (close_slot n)) (numbered w.book)
         ∙ at-same w fair slot (closing w.book) (close_slot (number_of w.book)) (close-same w.book)
-    outcome-same w (Finishing slot) fair =
+    outcome-same w (At slot act.Finish) fair =
         at-same w fair slot (finishing w.book) finish_slot (finish-same w.book)
 
     -- and fair worlds stay fair
     module _ (stays : RunsKeepWorldsFair) where
       -- a fair world is fair after an event
-      next-fair : (w : World) (e : Happening) → IsFairWorld w → IsFairWorld (next w e)
+      next-fair : (w : World) (e : Event) → IsFairWorld w → IsFairWorld (next w e)
       next-fair w e fair =
           stays w (next w e) (e ∷ []) (answer w e ∷ []) fair (next w e, inl (refl, refl), refl)
 
@@ -254,18 +256,13 @@ module _ (count : ChangesCount) where
           )
 
       -- what may run out in the desk may in the world
-      runs_out : (w : World) (e : Happening) → kept.MayRunOut (kept_of w) e → MayRunOut w e
-      runs_out w (Changing c) is = is
-      runs_out w (Opening q port backlog moved) is = sym (refusal-same w port backlog) ∙ is
-      runs_out w (Putting slot) is = is
-      runs_out w (Taking slot) is = is
-      runs_out w (HangingUp slot) is = is
-      runs_out w (Noticing slot) is = is
-      runs_out w (Closing slot) is = is
-      runs_out w (Finishing slot) is = is
+      runs_out : (w : World) (e : Event) → KeptMayRunOut (kept_of w) e → MayRunOut w e
+      runs_out w (Change c) is = is
+      runs_out w (Open q port backlog moved) is = sym (refusal-same w port backlog) ∙ is
+      runs_out w (At slot a) is = is
 
       -- a step of what is kept is a move from a world that it shows
-      pub moves : (old new : Kept) (w : World) (e : Happening) (a : Answer) → KeptStep old e a new
+      pub moves : (old new : Kept) (w : World) (e : Event) (a : Answer) → KeptStep old e a new
           → Shows old w → Moves new w e a
       moves old new w e a (inl done) shows =
           let same = kept-shows old w e shows in
@@ -277,6 +274,6 @@ module _ (count : ChangesCount) where
       moves old new w e a (inr ran) shows = record {
         next = w;
         step = inr
-            (runs_out w e (subst (λ (k : Kept). kept.MayRunOut k e) shows.kept ran.0), ran.1, refl);
+            (runs_out w e (subst (λ (k : Kept). KeptMayRunOut k e) shows.kept ran.0), ran.1, refl);
         shows = subst (λ (k : Kept). Shows k w) (sym ran.2) shows;
       }

@@ -14,11 +14,11 @@ use Rattle.lq_update.specs.declared.parcel.Parcel.TheVariants.{Update, Fin}
 use Rattle.lq_update.specs.Updates.{updates_of, step_of}
 use Rattle.lq_update.specs.Laws.{UpdatesJoin}
 use Rattle.lq_world.specs.World.{Sub, End, covered_by, covered, told, mark_behind, whole, is_live, is_over, with_end, one_more_put, first_in_port, overruns, overrun_if, after_change}
-use Rattle.lq_world.specs.Events.{Moved, Took, Ended, Empty, Noticed, Shut, putting_if, putting, taking_of, taking, hanging_up, noticing_if, noticing, closing_if, closing, finishing_if, finishing}
+use Rattle.lq_world.specs.Events.{Moved, Read, Ended, Empty, Noticed, Shut, putting_if, putting, reading_if, reading, hanging_up, noticing_if, noticing, closing_if, closing, finishing_if, finishing}
 use Rattle.lq_world.specs.Fair.{IsFair}
 use Rattle.lq_desk.specs.Held.{Held, next_of, without, ended_by, told_if, with_messages, next_parcel}
 use Rattle.lq_desk.specs.Held as h
-use Rattle.lq_desk.specs.Slot.{KeptSlot, slot_after, put_if, put_slot, is_read, take_if, take_slot, ask_slot, notice_if, notice_slot, close_if, close_slot, finish_if, finish_slot}
+use Rattle.lq_desk.specs.Slot.{KeptSlot, slot_after, put_if, put_slot, is_read, read_if, read_slot, ask_slot, notice_if, notice_slot, close_if, close_slot, finish_if, finish_slot}
 use Rattle.lq_desk.specs.Kept.{mark_of, held_for, slot_for}
 use Rattle.lq_desk.proofs.ListLemmas.{take-inside, drop-inside, take-length, take-one_more, drop-one_more, drop-all, get-between, lt-get, length-map, map-append, both-true, above-zero, lt-suc}
 use Rattle.lq_desk.proofs.UpdateLemmas.{updates_of-stays, updates_of-change}
@@ -42,7 +42,7 @@ kept_with s n messages mark mark_out queue = record {
   };
   port = s.port;
   queue = queue;
-  asked = s.asked;
+  hang_up_asked = s.hang_up_asked;
 }
 
 -- slots with the same parts are the same
@@ -163,25 +163,27 @@ read-alike t p l k n None put list taken wait = grind (arith, nat_tests)
 read-alike t p l k n (Some e) put list taken wait = grind (arith, nat_tests)
 
 -- all is read in the slot just where it is over in the world
-pub read-same : (b : Book) (s : Sub) → IsFair b s → is_read (slot_for b s) ≡ is_over b s
-read-same b s f =
+pub is_read-same : (b : Book) (s : Sub) → IsFair b s → is_read (slot_for b s) ≡ is_over b s
+is_read-same b s f =
     read-alike (length (told b s)) s.put (length (whole b s)) s.taken _ s.end f.put
     (length-append (parcels (told b s)) (mark_behind (length (told b s)) s.end) ∙ ap (λ n. n
     + length (mark_behind (length (told b s)) s.end)) (length-map (λ m. Update m) (told b s)))
     f.taken (queue-length b s f)
 
--- a taking is answered alike, of a parcel or of none
-take-if : (b : Book) (s : Sub) → IsFair b s → (o : Option Parcel)
-    → take_if (slot_for b s) o ≡ ((taking_of b s o).0, option_map (slot_for b) (taking_of b s o).1)
-take-if b s f None = ap (λ x. (if x then Ended else Empty, Some (slot_for b s))) (read-same b s f)
-take-if b s f (Some p) = ap (λ ps. (Took p, Some (record (slot_for b s) { queue = ps })))
+-- a read is answered alike, of a parcel or of none
+read-if : (b : Book) (s : Sub) → IsFair b s → (o : Option Parcel)
+    → read_if (slot_for b s) o
+    ≡ ((reading_if b s o).0, option_map (slot_for b) (reading_if b s o).1)
+read-if b s f None =
+    ap (λ x. (if x then Ended else Empty, Some (slot_for b s))) (is_read-same b s f)
+read-if b s f (Some p) = ap (λ ps. (Read p, Some (record (slot_for b s) { queue = ps })))
     (drop-one_more s.taken (take s.put (whole b s)))
 
--- a taking is answered alike
-pub take-same : (b : Book) (s : Sub) → IsFair b s
-    → take_slot (slot_for b s) ≡ ((taking b s).0, option_map (slot_for b) (taking b s).1)
-take-same b s f = ap (take_if (slot_for b s)) (get-between s.taken s.put (whole b s))
-    ∙ take-if b s f (first_in_port b s)
+-- a read is answered alike
+pub read-same : (b : Book) (s : Sub) → IsFair b s
+    → read_slot (slot_for b s) ≡ ((reading b s).0, option_map (slot_for b) (reading b s).1)
+read-same b s f = ap (read_if (slot_for b s)) (get-between s.taken s.put (whole b s))
+    ∙ read-if b s f (first_in_port b s)
 
 -- asking for the end is answered alike
 pub ask-same : (b : Book) (s : Sub)
@@ -191,7 +193,7 @@ ask-same b s = refl
 -- a finishing is answered alike
 pub finish-same : (b : Book) (s : Sub) → IsFair b s
     → finish_slot (slot_for b s) ≡ ((finishing b s).0, option_map (slot_for b) (finishing b s).1)
-finish-same b s f = ap (finish_if (slot_for b s)) (read-same b s f) ∙ by (is_over b s)
+finish-same b s f = ap (finish_if (slot_for b s)) (is_read-same b s f) ∙ by (is_over b s)
   where
     by : (x : Bool) → finish_if (slot_for b s) x
         ≡ ((finishing_if s x).0, option_map (slot_for b) (finishing_if s x).1)
@@ -240,13 +242,13 @@ end-same b d s cause n f live same =
 -- a noticing is answered alike
 pub notice-same : (b : Book) (s : Sub) → IsFair b s → notice_slot (number_of b) (slot_for b s)
     ≡ ((noticing b s).0, option_map (slot_for b) (noticing b s).1)
-notice-same b s f = ap (λ x. notice_if (number_of b) (slot_for b s) (x && s.asked))
-    (live-same (length (told b s)) s.end) ∙ by (is_live s && s.asked) refl
+notice-same b s f = ap (λ x. notice_if (number_of b) (slot_for b s) (x && s.hang_up_asked))
+    (live-same (length (told b s)) s.end) ∙ by (is_live s && s.hang_up_asked) refl
   where
-    by : (x : Bool) → (is_live s && s.asked) ≡ x → notice_if (number_of b) (slot_for b s) x
+    by : (x : Bool) → (is_live s && s.hang_up_asked) ≡ x → notice_if (number_of b) (slot_for b s) x
         ≡ ((noticing_if b s x).0, option_map (slot_for b) (noticing_if b s x).1)
     by true is =
-        let live = live-none s.end (both-true (is_live s) s.asked is).0 in
+        let live = live-none s.end (both-true (is_live s) s.hang_up_asked is).0 in
         ap (λ k. (Noticed true, Some k))
         (end-same b b s HungUp (number_of b) f live (sym (told-live b s live)))
     by false is = refl

@@ -15,12 +15,13 @@ use Rattle.lq_update.specs.Updates.{step_of}
 use Rattle.lq_update.specs.Laws.{StepsAreFew}
 use Rattle.lq_world.specs.Events.{Answer, Refused}
 use Rattle.lq_value.specs.declared.refusal.Refusal.TheVariants.{NotOpen}
-use Rattle.lq_desk.specs.declared.slot.Act.{Act}
-use Rattle.lq_desk.specs.declared.slot.Act.TheVariants as act
+use Rattle.lq_world.specs.declared.event.Event.TheVariants.{At}
+use Rattle.lq_world.specs.declared.event.Act.{Act}
+use Rattle.lq_world.specs.declared.event.Act.TheVariants as act
 use Rattle.lq_desk.specs.Held.{Held, is_live, held_after, committed, ended_by, told, told_if, overruns}
-use Rattle.lq_desk.specs.Slot.{KeptSlot, PreparedSlot, slot_of, prepared_slot, committed_slot, slot_after, put_if, take_if, notice_if, close_if, finish_if, done_at, filled, has_ready, is_ending, noticed}
-use Rattle.lq_desk.specs.Act.{act_of, outcome_at, outcome_in, happening_at}
-use Rattle.lq_desk.specs.Kept.{Kept, IsFew, kept_at, at_place, at_kept, kept_outcome}
+use Rattle.lq_desk.specs.Slot.{KeptSlot, PreparedSlot, slot_of, prepared_slot, committed_slot, slot_after, put_if, read_if, notice_if, close_if, finish_if, done_at, filled, has_ready, is_ending, noticed}
+use Rattle.lq_desk.specs.Act.{act_of, outcome_at, outcome_in}
+use Rattle.lq_desk.specs.Kept.{Kept, IsFew, kept_at, at_place, kept_outcome}
 use Rattle.lq_desk.specs.Kept as kept
 use Rattle.lq_desk.proofs.ListLemmas.{all-set, all-get, both-true, map-set, set-same, slice_get-map, lt-get}
 use Rattle.lq_desk.proofs.PutLemmas.{puts-keep}
@@ -212,8 +213,8 @@ committed-ends p is = by (is_live p.sub.held) refl is
     by : (x : Bool) → is_live p.sub.held ≡ x
         → is_ending (slot_of (if x then record p { sub = committed p.sub } else p)) ≡ true
         → is_ending (slot_of p) ≡ true
-    by true live is = ap (λ x. x && p.asked) live
-        ∙ (both-true (is_live (told p.sub.held p.sub.ready p.sub.before)) p.asked is).1
+    by true live is = ap (λ x. x && p.hang_up_asked) live
+        ∙ (both-true (is_live (told p.sub.held p.sub.ready p.sub.before)) p.hang_up_asked is).1
     by false live is = is
 
 -- ---- how many messages were made
@@ -299,10 +300,10 @@ few-put n k true (Some (Fin m)) h = h
 few-put n k false None h = h
 few-put n k false (Some p) h = h
 
--- a taking makes none
-few-take : (n : ℕ) (k : KeptSlot) (o : Option Parcel) → IsFew n (Some k) → IsFew n (take_if k o).1
-few-take n k None h = h
-few-take n k (Some p) h = h
+-- a read makes none
+few-read : (n : ℕ) (k : KeptSlot) (o : Option Parcel) → IsFew n (Some k) → IsFew n (read_if k o).1
+few-read n k None h = h
+few-read n k (Some p) h = h
 
 -- a noticing makes none, whether or not the end was asked for
 few-notice : (n number : ℕ) (k : KeptSlot) (x : Bool) → IsFew n (Some k)
@@ -324,7 +325,7 @@ few-finish n k false h = h
 -- no act makes any
 few-act : (n number : ℕ) (a : Act) (k : KeptSlot) → IsFew n (Some k) → IsFew n (act_of number a k).1
 few-act n number act.Put k h = few-put n k _ _ h
-few-act n number act.Take k h = few-take n k _ h
+few-act n number act.Read k h = few-read n k _ h
 few-act n number act.HangUp k h = h
 few-act n number act.Notice k h = few-notice n number k _ h
 few-act n number act.Close k h = few-close n number k _ h
@@ -370,17 +371,7 @@ pub few-filled_at : (n : ℕ) (ks : List (Option KeptSlot)) (i : ℕ) → AllByR
     → AllByRecursion (IsFew n) (done_at filled ks i)
 few-filled_at n ks i h = few-done n filled (few-filled n) ks i h
 
--- ---- an act is the event that it is
-
--- the event that an act is, at the slot's place
-happens : (k : Kept) (a : Act) (slot : ℕ) → kept_outcome k (happening_at a slot)
-    ≡ at_place k (slot - 1) (kept_at k slot) (act_of k.volume.number a)
-happens k act.Put slot = refl
-happens k act.Take slot = refl
-happens k act.HangUp slot = refl
-happens k act.Notice slot = refl
-happens k act.Close slot = refl
-happens k act.Finish slot = refl
+-- ---- an act at a place is the event at its slot
 
 -- an act at a place within the slots is the event there
 at-place : (k : Kept) (a : Act) (place : ℕ) (o : Option (Option KeptSlot))
@@ -401,21 +392,19 @@ at-place k a place (Some (Some s)) is lt = refl
 -- an act at a slot is its event
 pub act-same : (k : Kept) (a : Act) (slot : ℕ) (r : Answer) (ks : List (Option KeptSlot)) → slot ≢ 0
     → slot ≤ length k.slots → (r, ks) ≡ outcome_in k.volume.number a k.slots (slot - 1)
-    → (r, record k { slots = ks }) ≡ kept_outcome k (happening_at a slot)
+    → (r, record k { slots = ks }) ≡ kept_outcome k (At slot a)
 act-same k a slot r ks some within is =
     let there : option_flatten (slice_get k.slots (slot - 1)) ≡ kept_at k slot =
     grind (arith, nat_tests) in
     ap (λ (p : Answer × List (Option KeptSlot)). (p.0, record k { slots = p.1 })) is
     ∙ (at-place k a (slot - 1) (slice_get k.slots (slot - 1)) refl (omega arith)
-    ∙ (ap (λ (o : Option KeptSlot). at_place k (slot - 1) o (act_of k.volume.number a)) there
-    ∙ sym (happens k a slot)))
+    ∙ ap (λ (o : Option KeptSlot). at_place k (slot - 1) o (act_of k.volume.number a)) there)
 
 -- an act at a free slot is refused, and leaves what is kept
 pub no-slot : (k : Kept) (a : Act) (slot : ℕ) → kept_at k slot ≡ None
-    → (Refused NotOpen, k) ≡ kept_outcome k (happening_at a slot)
+    → (Refused NotOpen, k) ≡ kept_outcome k (At slot a)
 no-slot k a slot none =
     ap (λ (o : Option KeptSlot). at_place k (slot - 1) o (act_of k.volume.number a)) (sym none)
-    ∙ sym (happens k a slot)
 
 -- slot 0 is free
 pub zero-free : (k : Kept) → kept_at k 0 ≡ None

@@ -1,6 +1,6 @@
 -- The turns of a desk.
 use Rattle.std.proofs.Common.{◌≡◌, ℕ, zero, suc, ◌+◌, ◌-◌, ◌≤◌, ◌<◌, List, [], ◌∷◌, ◌++◌, refl, ap, map, length, ◌∙◌, sym, subst, arith, Some, None, Option, Bool, true, false, inl, inr}
-use Rattle.std.specs.Prelude.{slice_get, slice_set, replicate, if◌then◌else◌, ◌==◌, ◌&&◌, ◌≢◌}
+use Rattle.std.specs.Prelude.{slice_get, slice_set, replicate, if◌then◌else◌, ◌==◌, ◌&&◌, ◌≢◌, ◌⊎◌}
 use Rattle.std.specs.Option.{option_map, option_flatten}
 use Rattle.std.proofs.lemmas.Bool.Decides.{nat_tests}
 use Rattle.lq_value.specs.declared.refusal.Refusal.{Refusal}
@@ -9,7 +9,11 @@ use Rattle.lq_volume.specs.State.{State}
 use Rattle.lq_volume.specs.Book.{Book}
 use Rattle.lq_volume.specs.Change.{refused}
 use Rattle.lq_world.specs.World.{World, Sub}
-use Rattle.lq_world.specs.Events.{Happening, Changing, Opening, Putting, Taking, HangingUp, Noticing, Closing, Finishing, Answer, outcome, next}
+use Rattle.lq_world.specs.declared.event.Event.{Event}
+use Rattle.lq_world.specs.declared.event.Event.TheVariants.{Change, Open, At}
+use Rattle.lq_world.specs.declared.event.Act.{Act}
+use Rattle.lq_world.specs.declared.event.Act.TheVariants as act
+use Rattle.lq_world.specs.Events.{Answer, outcome, next}
 use Rattle.lq_world.specs.Turns.{Turn, turn_of, ports_of, places_at, places_in, at_slot_of, at_each, one_notice, puts, notices, all_puts, after_all, carried_out}
 use Rattle.lq_update.specs.declared.mark.Cause.TheVariants.{HungUp}
 use Rattle.lq_desk.specs.Held.{is_live, held_after, ended_by}
@@ -25,8 +29,8 @@ use Rattle.lq_desk.proofs.RunLemmas.{runs-more}
 -- ---- lists of events
 
 -- two lists of events, one after the other
-pub after-join : {Core : Type 0} (step : Core → Happening → Answer × Core) (s : Core)
-    (xs ys : List Happening) → after_all step s (xs ++ ys) ≡ after_all step (after_all step s xs) ys
+pub after-join : {Core : Type 0} (step : Core → Event → Answer × Core) (s : Core)
+    (xs ys : List Event) → after_all step s (xs ++ ys) ≡ after_all step (after_all step s xs) ys
 after-join step s [] ys = refl
 after-join step s (x ∷ xs) ys = after-join step (step s x).1 xs ys
 
@@ -48,7 +52,7 @@ Keeps event = (s : KeptSlot) → option_map slot_port (event s).1 ≡ Some s.por
 
 -- so a noticing does
 notice-keeps : (n : ℕ) → Keeps (notice_slot n)
-notice-keeps n s = by (is_live s.held && s.asked)
+notice-keeps n s = by (is_live s.held && s.hang_up_asked)
   where
     by : (x : Bool) → option_map slot_port (notice_if n s x).1 ≡ Some s.port
     by true = refl
@@ -85,12 +89,14 @@ at-keeps k slot (Some s) event is keeps =
     (slot - 1) ∙ ap (option_map (option_map slot_port)) (kept-there k slot s is)))
 
 -- a noticing keeps all ports
-ports-noticed : (k : Kept) (slot : ℕ) → kept_ports (kept_outcome k (Noticing slot)).1 ≡ kept_ports k
+ports-noticed : (k : Kept) (slot : ℕ)
+    → kept_ports (kept_outcome k (At slot act.Notice)).1 ≡ kept_ports k
 ports-noticed k slot = at-keeps k slot (kept_at k slot)
     (notice_slot k.volume.number) refl (notice-keeps k.volume.number)
 
 -- a closing keeps all ports
-ports-closed : (k : Kept) (slot : ℕ) → kept_ports (kept_outcome k (Closing slot)).1 ≡ kept_ports k
+ports-closed : (k : Kept) (slot : ℕ)
+    → kept_ports (kept_outcome k (At slot act.Close)).1 ≡ kept_ports k
 ports-closed k slot =
     at-keeps k slot (kept_at k slot) (close_slot k.volume.number) refl (close-keeps k.volume.number)
 
@@ -122,7 +128,7 @@ kept-next k i o is =
     rw (some, there) refl
 
 -- what events of a slot do there, of the slots that stand with the volume of k
-abbrev Does : (ℕ → ℕ → List Happening) → (KeptSlot → KeptSlot) → Kept → Type 0
+abbrev Does : (ℕ → ℕ → List Event) → (KeptSlot → KeptSlot) → Kept → Type 0
 Does events f k = (ks : List (Option KeptSlot)) (i : ℕ) (s : KeptSlot)
     → slice_get ks i ≡ Some (Some s)
     → kept_after (record k { slots = ks }) (events (i + 1) s.port)
@@ -130,7 +136,7 @@ Does events f k = (ks : List (Option KeptSlot)) (i : ℕ) (s : KeptSlot)
 
 -- after a noticing the slot is taken, by what is noticed
 notice-some : (n : ℕ) (s : KeptSlot) → (notice_slot n s).1 ≡ Some (noticed n s)
-notice-some n s = by (is_live s.held && s.asked)
+notice-some n s = by (is_live s.held && s.hang_up_asked)
   where
     by : (x : Bool)
         → (notice_if n s x).1 ≡ Some (if x then record s { held = ended_by s.held HungUp n } else s)
@@ -158,12 +164,12 @@ notice-does k ks i s at = one-event k ks i s (noticed k.volume.number s)
 -- several puts at a slot are those puts there
 puts-do : (k : Kept) (i n : ℕ) (ks : List (Option KeptSlot)) (s : KeptSlot)
     → slice_get ks i ≡ Some (Some s)
-    → kept_after (record k { slots = ks }) (replicate n (Putting (i + 1)))
+    → kept_after (record k { slots = ks }) (replicate n (At (i + 1) act.Put))
     ≡ record k { slots = slice_set ks i (Some (after_puts n s)) }
 puts-do k i zero ks s at = ap (λ js. record k { slots = js }) (sym (set-same ks i (Some s) at))
 puts-do k i (suc n) ks s at =
     let js = slice_set ks i (Some (after_put s)) in
-    ap (λ j. kept_after j (replicate n (Putting (i + 1))))
+    ap (λ j. kept_after j (replicate n (At (i + 1) act.Put)))
     (one-event k ks i s (after_put s) put_slot at (put-some s))
     ∙ (puts-do k i n js (after_put s) (get-set_here ks i (Some s) (Some (after_put s)) at)
     ∙ ap (λ hs. record k { slots = hs })
@@ -174,7 +180,7 @@ fill-does : (k : Kept) → Does puts filled k
 fill-does k ks i s at = puts-do k i s.port ks s at
 
 -- at one slot
-slot-does : (events : ℕ → ℕ → List Happening) (f : KeptSlot → KeptSlot) (k : Kept) (i : ℕ)
+slot-does : (events : ℕ → ℕ → List Event) (f : KeptSlot → KeptSlot) (k : Kept) (i : ℕ)
     (o : Option KeptSlot) → Does events f k → slice_get k.slots i ≡ Some o
     → kept_after k (at_slot_of events (i + 1) (option_map slot_port o))
     ≡ record k { slots = slice_set k.slots i (option_map f o) }
@@ -190,7 +196,7 @@ get-some (x ∷ xs) (suc i) lt = get-some xs i (omega arith)
 
 -- a noticing at a place is the turn's noticing there, also of a free slot
 notice-there : (k : Kept) (i : ℕ) (o : Option KeptSlot)
-    → slice_get k.slots i ≡ Some o → (kept_outcome k (Noticing (i + 1))).1
+    → slice_get k.slots i ≡ Some o → (kept_outcome k (At (i + 1) act.Notice)).1
     ≡ kept_after k (at_slot_of one_notice (i + 1) (option_map slot_port o))
 notice-there k i None is =
     ap (λ (o : Option KeptSlot). (at_place k (i + 1 - 1) o (notice_slot k.volume.number)).1)
@@ -229,12 +235,12 @@ done-there f k i o at = ap (λ (g : Option (Option KeptSlot)).
 -- the notice of a slot, and the puts of a slot
 pub noticed-one : (k : Kept) (slot : ℕ) → slot ≢ 0 → slot ≤ length k.slots
     → record k { slots = done_at (noticed k.volume.number) k.slots (slot - 1) }
-    ≡ (kept_outcome k (Noticing slot)).1
+    ≡ (kept_outcome k (At slot act.Notice)).1
 noticed-one k slot some within =
     let i = slot - 1 in
     let e : i + 1 ≡ slot = omega (arith, some) in
     let t = get-some k.slots i (omega (arith, some, within)) in
-    sym (ap (λ n. (kept_outcome k (Noticing n)).1) (sym e)
+    sym (ap (λ n. (kept_outcome k (At n act.Notice)).1) (sym e)
     ∙ (notice-there k i t.0 t.1
     ∙ (slot-does one_notice (noticed k.volume.number) k i t.0 (notice-does k) t.1
     ∙ done-there (noticed k.volume.number) k i t.0 t.1)))
@@ -254,7 +260,7 @@ filled-one k slot some within =
 
 -- where there is no slot, nothing is done
 pub noticed-none : (k : Kept) (slot : ℕ) → kept_at k slot ≡ None
-    → k ≡ (kept_outcome k (Noticing slot)).1
+    → k ≡ (kept_outcome k (At slot act.Notice)).1
 noticed-none k slot none = sym
     (ap (λ (o : Option KeptSlot). (at_place k (slot - 1) o (notice_slot k.volume.number)).1) none)
 
@@ -280,7 +286,7 @@ filled-none k slot none =
 -- ---- one slot after another
 
 -- notices keep the ports
-abbrev IsQuiet : (ℕ → ℕ → List Happening) → Type 0
+abbrev IsQuiet : (ℕ → ℕ → List Event) → Type 0
 IsQuiet events = (k : Kept) (slot port : ℕ)
     → kept_ports (kept_after k (events slot port)) ≡ kept_ports k
 
@@ -289,13 +295,13 @@ notice-quiet : IsQuiet one_notice
 notice-quiet k slot port = ports-noticed k slot
 
 -- quiet events at one slot keep the ports
-slot-quiet : (events : ℕ → ℕ → List Happening) → IsQuiet events → (k : Kept) (slot : ℕ)
+slot-quiet : (events : ℕ → ℕ → List Event) → IsQuiet events → (k : Kept) (slot : ℕ)
     (o : Option ℕ) → kept_ports (kept_after k (at_slot_of events slot o)) ≡ kept_ports k
 slot-quiet events quiet k slot None = refl
 slot-quiet events quiet k slot (Some port) = quiet k slot port
 
 -- quiet events at each slot keep them
-each-quiet : (events : ℕ → ℕ → List Happening) → IsQuiet events → (k : Kept) (n : ℕ)
+each-quiet : (events : ℕ → ℕ → List Event) → IsQuiet events → (k : Kept) (n : ℕ)
     (ports : List (Option ℕ)) → kept_ports (kept_after k (at_each events n ports)) ≡ kept_ports k
 each-quiet events quiet k n [] = refl
 each-quiet events quiet k n (o ∷ ports) =
@@ -315,14 +321,14 @@ get-seam [] y ys = refl
 get-seam (x ∷ xs) y ys = get-seam xs y ys
 
 -- of events that do the same in each slot
-module _ (events : ℕ → ℕ → List Happening) (f : KeptSlot → KeptSlot) (k : Kept)
+module _ (events : ℕ → ℕ → List Event) (f : KeptSlot → KeptSlot) (k : Kept)
     (does : Does events f k) where
   -- what is kept, with these slots
   abbrev at : List (Option KeptSlot) → Kept
   at ks = record k { slots = ks }
 
   -- the events of the slots from a number on
-  abbrev rest : ℕ → List (Option KeptSlot) → List Happening
+  abbrev rest : ℕ → List (Option KeptSlot) → List Event
   rest n post = at_each events n (map (option_map slot_port) post)
 
   -- where the rest does as it says from the next slot on, it does so from here
@@ -370,31 +376,32 @@ filled-all k = sym (all-does puts filled k (fill-does k))
 
 -- ---- whole turns
 
--- a noticing, puts and a taking are the turn of a taking
-pub take-turn : (k l m n : Kept) (slot : ℕ) (a : Answer) → l ≡ (kept_outcome k (Noticing slot)).1
+-- a noticing, puts and a read are the turn of a read
+pub read-turn : (k l m n : Kept) (slot : ℕ) (a : Answer)
+    → l ≡ (kept_outcome k (At slot act.Notice)).1
     → m ≡ kept_after l (puts slot (places_at (kept_ports l) slot))
-    → (a, n) ≡ kept_outcome m (Taking slot)
-    → TurnStep k (Taking slot) a n
-take-turn k l m n slot a noticed filled taken =
+    → (a, n) ≡ kept_outcome m (At slot act.Read)
+    → TurnStep k (At slot act.Read) a n
+read-turn k l m n slot a noticed filled taken =
     let same : kept_ports l ≡ kept_ports k = ap kept_ports noticed ∙ ports-noticed k slot in
-    let at : m ≡ kept_after (kept_outcome k (Noticing slot)).1
+    let at : m ≡ kept_after (kept_outcome k (At slot act.Notice)).1
     (puts slot (places_at (kept_ports k) slot)) =
     filled ∙ (ap (λ ps. kept_after l (puts slot (places_at ps slot))) same
     ∙ ap (λ j. kept_after j (puts slot (places_at (kept_ports k) slot))) noticed) in
     record {
       middle = n;
       step = inl (
-        ap (λ (p : Answer × Kept). p.0) taken ∙ ap (λ j. (kept_outcome j (Taking slot)).0) at,
-        ap (λ (p : Answer × Kept). p.1) taken ∙ ap (λ j. (kept_outcome j (Taking slot)).1) at,
+        ap (λ (p : Answer × Kept). p.0) taken ∙ ap (λ j. (kept_outcome j (At slot act.Read)).0) at,
+        ap (λ (p : Answer × Kept). p.1) taken ∙ ap (λ j. (kept_outcome j (At slot act.Read)).1) at,
       );
       after = refl;
     }
 
 -- a noticing, a closing and puts are the turn of a closing
 pub close-turn : (k l m n : Kept) (slot : ℕ) (a : Answer)
-    → l ≡ (kept_outcome k (Noticing slot)).1 → (a, m) ≡ kept_outcome l (Closing slot)
+    → l ≡ (kept_outcome k (At slot act.Notice)).1 → (a, m) ≡ kept_outcome l (At slot act.Close)
     → n ≡ kept_after m (puts slot (places_at (kept_ports m) slot))
-    → TurnStep k (Closing slot) a n
+    → TurnStep k (At slot act.Close) a n
 close-turn k l m n slot a noticed closed filled =
     let same : kept_ports m ≡ kept_ports k = ap (λ (p : Answer × Kept). kept_ports p.1) closed
     ∙ (ports-closed l slot ∙ (ap kept_ports noticed ∙ ports-noticed k slot)) in
@@ -402,9 +409,9 @@ close-turn k l m n slot a noticed closed filled =
       middle = m;
       step = inl (
         ap (λ (p : Answer × Kept). p.0) closed ∙ ap
-            (λ j. (kept_outcome j (Closing slot)).0) noticed,
+            (λ j. (kept_outcome j (At slot act.Close)).0) noticed,
         ap (λ (p : Answer × Kept). p.1) closed
-            ∙ ap (λ j. (kept_outcome j (Closing slot)).1) noticed,
+            ∙ ap (λ j. (kept_outcome j (At slot act.Close)).1) noticed,
       );
       after = filled ∙ ap (λ ps. kept_after m (puts slot (places_at ps slot))) same;
     }
@@ -416,52 +423,83 @@ ports-changed k c None = ports-after k.volume c k.slots
 ports-changed k c (Some e) = refl
 
 -- and so does a change where memory may run out
-ports-step : (k l : Kept) (c : Change_) (a : Answer) → KeptStep k (Changing c) a l
+ports-step : (k l : Kept) (c : Change_) (a : Answer) → KeptStep k (Change c) a l
     → kept_ports l ≡ kept_ports k
 ports-step k l c a (inl does) = ap kept_ports does.1 ∙ ports-changed k c (refused k.volume c)
 ports-step k l c a (inr ran) = ap kept_ports ran.2
 
 -- noticings, a change and puts at all slots are the turn of a change
 pub change-turn : (k l m n : Kept) (c : Change_) (a : Answer)
-    → l ≡ kept_after k (notices (kept_ports k)) → KeptStep l (Changing c) a m
-    → n ≡ kept_after m (all_puts (kept_ports m)) → TurnStep k (Changing c) a n
+    → l ≡ kept_after k (notices (kept_ports k)) → KeptStep l (Change c) a m
+    → n ≡ kept_after m (all_puts (kept_ports m)) → TurnStep k (Change c) a n
 change-turn k l m n c a noticed step filled =
     let same : kept_ports m ≡ kept_ports k = ports-step l m c a step
     ∙ (ap kept_ports noticed ∙ each-quiet one_notice notice-quiet k 1 (kept_ports k)) in
     record {
       middle = m;
-      step = subst (λ (j : Kept). KeptStep j (Changing c) a m) noticed step;
+      step = subst (λ (j : Kept). KeptStep j (Change c) a m) noticed step;
       after = filled ∙ ap (λ ps. kept_after m (all_puts ps)) same;
     }
 
 -- an event with nothing to do about it is a turn alone
-pub alone-turn : (k l : Kept) (e : Happening) (a : Answer) → (kept_turn k e).before ≡ []
+pub alone-turn : (k l : Kept) (e : Event) (a : Answer) → (kept_turn k e).before ≡ []
     → (kept_turn k e).after ≡ [] → KeptStep k e a l → TurnStep k e a l
 alone-turn k l e a before after step = record {
   middle = l;
-  step = subst (λ (es : List Happening). KeptStep (kept_after k es) e a l) (sym before) step;
+  step = subst (λ (es : List Event). KeptStep (kept_after k es) e a l) (sym before) step;
   after = ap (kept_after l) (sym after);
 }
+
+-- an act that comes alone
+abbrev pub IsAlone : Act → Type 0
+IsAlone a = (a ≡ act.Put) ⊎ ((a ≡ act.HangUp) ⊎ ((a ≡ act.Notice) ⊎ (a ≡ act.Finish)))
+
+-- nothing goes before it and nothing after it
+none-beside : (k : Kept) (slot : ℕ) (a : Act) → IsAlone a
+    → ((kept_turn k (At slot a)).before ≡ []) × ((kept_turn k (At slot a)).after ≡ [])
+none-beside k slot a alone = elim alone [
+  | inl is ↦ by is refl
+  | inr p ↦ elim p [
+    | inl is ↦ by is refl
+    | inr p ↦ elim p [
+      | inl is ↦ by is refl
+      | inr is ↦ by is refl
+    ]
+  ]
+]
+  where
+    by : {x : Act} → a ≡ x → kept_turn k (At slot x)
+        ≡ record { before = []; event = At slot x; after = [] }
+        → ((kept_turn k (At slot a)).before ≡ []) × ((kept_turn k (At slot a)).after ≡ [])
+    by is none = rw is (ap (λ (t : Turn). t.before) none, ap (λ (t : Turn). t.after) none)
+
+-- such an act is its turn
+pub act-turn : (k l : Kept) (a : Act) (slot : ℕ) (r : Answer) → IsAlone a
+    → (r, l) ≡ kept_outcome k (At slot a) → TurnStep k (At slot a) r l
+act-turn k l a slot r alone does =
+    let none = none-beside k slot a alone in
+    alone-turn k l (At slot a) r none.0 none.1
+    (inl (ap (λ (p : Answer × Kept). p.0) does, ap (λ (p : Answer × Kept). p.1) does))
 
 -- ---- turns are runs, and worlds take them alike
 
 -- each step of what is kept is a move from a world that it shows
 abbrev pub Moving : Type 0
-Moving = (old new : Kept) (w : World) (e : Happening) (a : Answer) → KeptStep old e a new
+Moving = (old new : Kept) (w : World) (e : Event) (a : Answer) → KeptStep old e a new
     → Shows old w → Moves new w e a
 
 -- where that is so
 module _ (moves : Moving) where
   -- events that take no memory carry a run on
-  run-all : (k : Kept) (w : World) (done : List Happening) (answers : List Answer)
-      (es : List Happening) → Runs k w done answers
+  run-all : (k : Kept) (w : World) (done : List Event) (answers : List Answer)
+      (es : List Event) → Runs k w done answers
       → (more : List Answer) × (length more ≡ length es)
       × Runs (kept_after k es) w (done ++ es) (answers ++ more)
   run-all k w done answers [] r = (
     [],
     refl,
     subst (λ (got : List Answer). Runs k w (done ++ []) got) (sym (append-nil answers))
-        (subst (λ (es : List Happening). Runs k w es answers) (sym (append-nil done)) r),
+        (subst (λ (es : List Event). Runs k w es answers) (sym (append-nil done)) r),
   )
   run-all k w done answers (e ∷ es) r =
       let a = (kept_outcome k e).0 in
@@ -472,12 +510,12 @@ module _ (moves : Moving) where
         ap suc rest.1,
         subst (λ (got : List Answer). Runs (kept_after l es) w (done ++ e ∷ es) got)
             (append-join answers (a ∷ []) rest.0)
-            (subst (λ (xs : List Happening). Runs (kept_after l es) w xs
+            (subst (λ (xs : List Event). Runs (kept_after l es) w xs
             ((answers ++ a ∷ []) ++ rest.0)) (append-join done (e ∷ []) es) rest.2),
       )
 
   -- a turn is a run of its events
-  pub turn-runs : (k l : Kept) (w : World) (e : Happening) (a : Answer)
+  pub turn-runs : (k l : Kept) (w : World) (e : Event) (a : Answer)
       → kept_turn k e ≡ record (kept_turn k e) { event = e } → TurnStep k e a l → Shows k w
       → TurnRuns k l w e a
   turn-runs k l w e a is t shows =
@@ -494,7 +532,7 @@ module _ (moves : Moving) where
         before = first.0;
         after = last.0;
         place = first.1;
-        runs = subst (λ (es : List Happening). Runs l w es (first.0 ++ a ∷ last.0))
+        runs = subst (λ (es : List Event). Runs l w es (first.0 ++ a ∷ last.0))
             (append-join turn.before (e ∷ []) turn.after
             ∙ ap (λ (u : Turn). turn.before ++ u.event ∷ turn.after) (sym is))
             (subst (λ (got : List Answer). Runs l w ((turn.before ++ e ∷ []) ++ turn.after) got)
@@ -502,20 +540,20 @@ module _ (moves : Moving) where
       }
 
 -- a turn's event is the one that began it
-pub turn-event : (k : Kept) (e : Happening) → kept_turn k e ≡ record (kept_turn k e) { event = e }
-turn-event k (Changing c) = refl
-turn-event k (Opening q port backlog moved) = refl
-turn-event k (Putting slot) = refl
-turn-event k (Taking slot) = refl
-turn-event k (HangingUp slot) = refl
-turn-event k (Noticing slot) = refl
-turn-event k (Closing slot) = refl
-turn-event k (Finishing slot) = refl
+pub turn-event : (k : Kept) (e : Event) → kept_turn k e ≡ record (kept_turn k e) { event = e }
+turn-event k (Change c) = refl
+turn-event k (Open q port backlog moved) = refl
+turn-event k (At slot act.Put) = refl
+turn-event k (At slot act.Read) = refl
+turn-event k (At slot act.HangUp) = refl
+turn-event k (At slot act.Notice) = refl
+turn-event k (At slot act.Close) = refl
+turn-event k (At slot act.Finish) = refl
 
 -- where what is kept shows a world, and both answer alike
 module _ (alike : KeptShowsWorlds) where
   -- they show each other after many events
-  pub after-shows : (k : Kept) (w : World) (es : List Happening) → Shows k w
+  pub after-shows : (k : Kept) (w : World) (es : List Event) → Shows k w
       → Shows (kept_after k es) (after_all outcome w es)
   after-shows k w [] shows = shows
   after-shows k w (e ∷ es) shows =

@@ -1,16 +1,16 @@
--- What may be done at one slot, with the number of changes so far.
+-- What an act does at one slot, with the number of changes so far.
 use Rattle.std.specs.Prelude.{ℕ, List, Option, Some, None, slice_get, slice_set}
 use Rattle.std.specs.Option.{option_flatten}
 use Rattle.lq_value.specs.declared.refusal.Refusal.TheVariants.{NotOpen}
-use Rattle.lq_world.specs.Events.{Answer, Refused, Happening, Putting, Taking, HangingUp, Noticing, Closing, Finishing}
-use Rattle.lq_desk.specs.declared.slot.Act.{Act}
-use Rattle.lq_desk.specs.declared.slot.Act.TheVariants as act
-use Rattle.lq_desk.specs.Slot.{KeptSlot, put_slot, take_slot, ask_slot, notice_slot, close_slot, finish_slot}
+use Rattle.lq_world.specs.declared.event.Act.{Act}
+use Rattle.lq_world.specs.declared.event.Act.TheVariants as act
+use Rattle.lq_world.specs.Events.{Answer, Refused}
+use Rattle.lq_desk.specs.Slot.{KeptSlot, put_slot, read_slot, ask_slot, notice_slot, close_slot, finish_slot}
 
 -- what an act does at a taken slot, and its answer
 abbrev pub act_of : ℕ → Act → KeptSlot → Answer × Option KeptSlot
 act_of number act.Put = put_slot
-act_of number act.Take = take_slot
+act_of number act.Read = read_slot
 act_of number act.HangUp = ask_slot
 act_of number act.Notice = notice_slot number
 act_of number act.Close = close_slot number
@@ -27,12 +27,3 @@ outcome_in number a ks place = (
   (outcome_at number a (option_flatten (slice_get ks place))).0,
   slice_set ks place (outcome_at number a (option_flatten (slice_get ks place))).1,
 )
-
--- the event that an act at a slot is
-abbrev pub happening_at : Act → ℕ → Happening
-happening_at act.Put slot = Putting slot
-happening_at act.Take slot = Taking slot
-happening_at act.HangUp slot = HangingUp slot
-happening_at act.Notice slot = Noticing slot
-happening_at act.Close slot = Closing slot
-happening_at act.Finish slot = Finishing slot

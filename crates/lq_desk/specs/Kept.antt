@@ -12,10 +12,13 @@ use Rattle.lq_volume.specs.Result.{result_of}
 use Rattle.lq_volume.specs.Book.{Book, state_of}
 use Rattle.lq_update.specs.declared.mark.Mark.{Mark}
 use Rattle.lq_world.specs.World.{World, Sub, End, told, waiting, in_port}
-use Rattle.lq_world.specs.Events.{Happening, Changing, Opening, Putting, Taking, HangingUp, Noticing, Closing, Finishing, Answer, Changed, Opened, Refused}
+use Rattle.lq_world.specs.declared.event.Event.{Event}
+use Rattle.lq_world.specs.declared.event.Event.TheVariants.{Change, Open, At}
+use Rattle.lq_world.specs.Events.{Answer, Changed, Opened, Refused}
 use Rattle.lq_world.specs.Fair.{IsFairWorld}
 use Rattle.lq_desk.specs.Held.{Held}
-use Rattle.lq_desk.specs.Slot.{KeptSlot, fresh_slot, slot_after, put_slot, take_slot, ask_slot, notice_slot, close_slot, finish_slot}
+use Rattle.lq_desk.specs.Slot.{KeptSlot, fresh_slot, slot_after}
+use Rattle.lq_desk.specs.Act.{act_of}
 
 -- the volume, the openings so far, and what is in slot k at place k - 1
 pub record Kept : Type 0 where
@@ -74,52 +77,42 @@ open_if k s (Some e) = (Refused e, k)
 open_if k s None =
     (Opened (first_free k.slots + 1) k.volume.number (result_of s.held.query k.volume), opened k s)
 
--- ---- the events of one slot
+-- ---- the acts at a slot
 
 -- what is in a slot; slot 0 is free
 abbrev pub kept_at : Kept → ℕ → Option KeptSlot
 kept_at k slot = if slot == 0 then None else option_flatten (slice_get k.slots (slot - 1))
 
--- an event at a place that is free, or taken
+-- an act at a place that is free, or taken
 abbrev pub at_place : Kept → ℕ → Option KeptSlot
     → (KeptSlot → Answer × Option KeptSlot) → Answer × Kept
-at_place k place None event = (Refused NotOpen, k)
-at_place k place (Some s) event =
-    ((event s).0, record k { slots = slice_set k.slots place (event s).1 })
+at_place k place None does = (Refused NotOpen, k)
+at_place k place (Some s) does =
+    ((does s).0, record k { slots = slice_set k.slots place (does s).1 })
 
--- an event at a slot
+-- an act at a slot
 abbrev pub at_kept : Kept → ℕ → (KeptSlot → Answer × Option KeptSlot) → Answer × Kept
-at_kept k slot event = at_place k (slot - 1) (kept_at k slot) event
+at_kept k slot does = at_place k (slot - 1) (kept_at k slot) does
 
 -- ---- all of them
 
 -- what an event is answered where this is kept, and what is kept then
-abbrev pub kept_outcome : Kept → Happening → Answer × Kept
-kept_outcome k (Changing c) = change_if k c (refused k.volume c)
-kept_outcome k (Opening q port backlog moved) =
+abbrev pub kept_outcome : Kept → Event → Answer × Kept
+kept_outcome k (Change c) = change_if k c (refused k.volume c)
+kept_outcome k (Open q port backlog moved) =
     open_if k (fresh_slot q moved k.volume.number port backlog) (opening_refusal k port backlog)
-kept_outcome k (Putting slot) = at_kept k slot put_slot
-kept_outcome k (Taking slot) = at_kept k slot take_slot
-kept_outcome k (HangingUp slot) = at_kept k slot ask_slot
-kept_outcome k (Noticing slot) = at_kept k slot (notice_slot k.volume.number)
-kept_outcome k (Closing slot) = at_kept k slot (close_slot k.volume.number)
-kept_outcome k (Finishing slot) = at_kept k slot finish_slot
+kept_outcome k (At slot a) = at_kept k slot (act_of k.volume.number a)
 
 -- a change and an opening that nothing else refuses may run out of memory
-abbrev pub MayRunOut : Kept → Happening → Type 0
-MayRunOut k (Changing c) = refused k.volume c ≡ None
-MayRunOut k (Opening q port backlog moved) = opening_refusal k port backlog ≡ None
-MayRunOut k (Putting slot) = ⊥
-MayRunOut k (Taking slot) = ⊥
-MayRunOut k (HangingUp slot) = ⊥
-MayRunOut k (Noticing slot) = ⊥
-MayRunOut k (Closing slot) = ⊥
-MayRunOut k (Finishing slot) = ⊥
+abbrev pub KeptMayRunOut : Kept → Event → Type 0
+KeptMayRunOut k (Change c) = refused k.volume c ≡ None
+KeptMayRunOut k (Open q port backlog moved) = opening_refusal k port backlog ≡ None
+KeptMayRunOut k (At slot a) = ⊥
 
 -- its outcome, or a want of memory that leaves what is kept
-abbrev pub KeptStep : Kept → Happening → Answer → Kept → Type 0
+abbrev pub KeptStep : Kept → Event → Answer → Kept → Type 0
 KeptStep k e a l = ((a ≡ (kept_outcome k e).0) × (l ≡ (kept_outcome k e).1))
-    ⊎ (MayRunOut k e × (a ≡ Refused NoMemory) × (l ≡ k))
+    ⊎ (KeptMayRunOut k e × (a ≡ Refused NoMemory) × (l ≡ k))
 
 -- ---- the worlds that it shows
 
@@ -142,7 +135,12 @@ held_for b s = record {
 
 -- what a world's subscription has in its slot
 abbrev pub slot_for : Book → Sub → KeptSlot
-slot_for b s = record { held = held_for b s; port = s.port; queue = in_port b s; asked = s.asked }
+slot_for b s = record {
+  held = held_for b s;
+  port = s.port;
+  queue = in_port b s;
+  hang_up_asked = s.hang_up_asked;
+}
 
 -- what the desk keeps where this world stands
 abbrev pub kept_of : World → Kept

@@ -4,12 +4,13 @@ use Rattle.std.specs.Option.{option_to_list}
 use Rattle.lq_update.specs.declared.parcel.Parcel.{Parcel}
 use Rattle.lq_update.specs.declared.parcel.Parcel.TheVariants.{Update, Fin}
 use Rattle.lq_world.specs.World.{World, Sub, whole, slot_at}
-use Rattle.lq_world.specs.Events.{Happening, answer, next}
+use Rattle.lq_world.specs.declared.event.Event.{Event}
+use Rattle.lq_world.specs.Events.{answer, next}
 use Rattle.lq_world.specs.Turns.{turn_outcome}
 use Rattle.lq_desk.specs.Held.{Held, next_parcel, without, with_back}
 use Rattle.lq_desk.specs.Slot.{KeptSlot}
 use Rattle.lq_desk.specs.Kept.{Kept, Shows, kept_at, kept_outcome}
-use Rattle.lq_desk.specs.Turn as turn
+use Rattle.lq_desk.specs.Turn.{kept_turn_outcome}
 
 -- a parcel that goes out and is put back leaves all as it was
 abbrev pub PuttingBackUndoes : Type 0
@@ -18,14 +19,14 @@ PuttingBackUndoes = (h : Held) (p : Parcel) → next_parcel h ≡ Some p
 
 -- where what is kept shows a world, both answer each event alike, and then show each other again
 abbrev pub KeptShowsWorlds : Type 0
-KeptShowsWorlds = (k : Kept) (w : World) (e : Happening) → Shows k w
+KeptShowsWorlds = (k : Kept) (w : World) (e : Event) → Shows k w
     → ((kept_outcome k e).0 ≡ answer w e) × Shows (kept_outcome k e).1 (next w e)
 
 -- and carry out each turn alike
 abbrev pub KeptTurnsShowWorlds : Type 0
-KeptTurnsShowWorlds = (k : Kept) (w : World) (e : Happening) → Shows k w →
-    ((turn.turn_outcome k e).0 ≡ (turn_outcome w e).0)
-    × Shows (turn.turn_outcome k e).1 (turn_outcome w e).1
+KeptTurnsShowWorlds = (k : Kept) (w : World) (e : Event) → Shows k w →
+    ((kept_turn_outcome k e).0 ≡ (turn_outcome w e).0)
+    × Shows (kept_turn_outcome k e).1 (turn_outcome w e).1
 
 -- the mark, where it hasn't gone out
 abbrev pub mark_left : Held → List Parcel

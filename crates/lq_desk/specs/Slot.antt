@@ -1,4 +1,4 @@
--- What is in a taken slot: a subscription and its port; and what each event does there.
+-- What is in a taken slot: a subscription and its port; and what each act does there.
 use Rattle.std.specs.Prelude.{ℕ, zero, suc, ◌-◌, List, [], ◌∷◌, ◌++◌, length, drop, replicate, Bool, true, false, ◌&&◌, ◌==◌, nat_lt, Option, Some, None, is_some, unwrap_or, slice_get, slice_set, if◌then◌else◌}
 use Rattle.std.specs.Option.{option_map, option_flatten}
 use Rattle.lq_value.specs.declared.refusal.Refusal.TheVariants.{NotOpen, StillOpen}
@@ -7,7 +7,7 @@ use Rattle.lq_volume.specs.declared.change.Change.{Change}
 use Rattle.lq_volume.specs.State.{State}
 use Rattle.lq_update.specs.declared.parcel.Parcel.{Parcel}
 use Rattle.lq_update.specs.declared.mark.Cause.TheVariants.{Closed, HungUp}
-use Rattle.lq_world.specs.Events.{Answer, Moved, Took, Empty, Ended, Asked, Noticed, Shut, Finished, Refused}
+use Rattle.lq_world.specs.Events.{Answer, Moved, Read, Empty, Ended, Asked, Noticed, Shut, Finished, Refused}
 use Rattle.lq_desk.specs.Held.{Held, Prepared, opened_with, is_live, held_after, prepared, committed, ended_by, next_parcel, without}
 
 -- the subscription, how many places its port has, the parcels in it, and whether its end was asked
@@ -16,18 +16,23 @@ pub record KeptSlot : Type 0 where
   pub held : Held
   pub port : ℕ
   pub queue : List Parcel
-  pub asked : Bool
+  pub hang_up_asked : Bool
 
 -- the same, with the messages of a change that isn't made yet
 pub record PreparedSlot : Type 0 where
   pub sub : Prepared
   pub port : ℕ
   pub queue : List Parcel
-  pub asked : Bool
+  pub hang_up_asked : Bool
 
 -- the slot without the messages that are made
 abbrev pub slot_of : PreparedSlot → KeptSlot
-slot_of p = record { held = p.sub.held; port = p.port; queue = p.queue; asked = p.asked }
+slot_of p = record {
+  held = p.sub.held;
+  port = p.port;
+  queue = p.queue;
+  hang_up_asked = p.hang_up_asked;
+}
 
 -- slots, and free ones behind them up to 64
 abbrev pub with_free : List (Option PreparedSlot) → List (Option PreparedSlot)
@@ -36,7 +41,7 @@ with_free slots = slots ++ replicate (64 - length slots) None
 -- as it is opened
 abbrev pub fresh_slot : Query → Bool → ℕ → ℕ → ℕ → KeptSlot
 fresh_slot q moved at port backlog =
-    record { held = opened_with q moved at backlog; port = port; queue = []; asked = false }
+    record { held = opened_with q moved at backlog; port = port; queue = []; hang_up_asked = false }
 
 -- ---- a change, of those that are live
 
@@ -52,7 +57,7 @@ prepared_slot s c p = if is_live p.sub.held then record p { sub = prepared s c p
 abbrev pub committed_slot : PreparedSlot → PreparedSlot
 committed_slot p = if is_live p.sub.held then record p { sub = committed p.sub } else p
 
--- ---- the other events: the answer, and what is in the slot then
+-- ---- the acts: the answer, and what is in the slot then
 
 -- a put, where the port has room, and of the next parcel if there is one
 abbrev pub put_if : KeptSlot → Bool → Option Parcel → Answer × Option KeptSlot
@@ -69,18 +74,18 @@ put_slot k = put_if k (nat_lt (length k.queue) k.port) (next_parcel k.held)
 abbrev pub is_read : KeptSlot → Bool
 is_read k = k.held.mark_out && (length k.queue == 0)
 
--- a taking of the first parcel, if there is one
-abbrev pub take_if : KeptSlot → Option Parcel → Answer × Option KeptSlot
-take_if k (Some p) = (Took p, Some (record k { queue = drop 1 k.queue }))
-take_if k None = (if is_read k then Ended else Empty, Some k)
+-- a read of the first parcel, if there is one
+abbrev pub read_if : KeptSlot → Option Parcel → Answer × Option KeptSlot
+read_if k (Some p) = (Read p, Some (record k { queue = drop 1 k.queue }))
+read_if k None = (if is_read k then Ended else Empty, Some k)
 
--- a taking from the port
-abbrev pub take_slot : KeptSlot → Answer × Option KeptSlot
-take_slot k = take_if k (slice_get k.queue 0)
+-- a read from the port
+abbrev pub read_slot : KeptSlot → Answer × Option KeptSlot
+read_slot k = read_if k (slice_get k.queue 0)
 
 -- the end is asked for
 abbrev pub ask_slot : KeptSlot → Answer × Option KeptSlot
-ask_slot k = (Asked, Some (record k { asked = true }))
+ask_slot k = (Asked, Some (record k { hang_up_asked = true }))
 
 -- it ends as hung up, if it is live and its end was asked for
 abbrev pub notice_if : ℕ → KeptSlot → Bool → Answer × Option KeptSlot
@@ -89,7 +94,7 @@ notice_if number k false = (Noticed false, Some k)
 
 -- a noticing that its end was asked for
 abbrev pub notice_slot : ℕ → KeptSlot → Answer × Option KeptSlot
-notice_slot number k = notice_if number k (is_live k.held && k.asked)
+notice_slot number k = notice_if number k (is_live k.held && k.hang_up_asked)
 
 -- it ends as closed, if it is live
 abbrev pub close_if : ℕ → KeptSlot → Bool → Answer × Option KeptSlot
@@ -122,7 +127,7 @@ has_ready p = is_live p.sub.held && nat_lt 0 (length p.sub.ready)
 
 -- a live one whose end was asked for
 abbrev pub is_ending : KeptSlot → Bool
-is_ending k = is_live k.held && k.asked
+is_ending k = is_live k.held && k.hang_up_asked
 
 -- a slot after a noticing
 abbrev pub noticed : ℕ → KeptSlot → KeptSlot

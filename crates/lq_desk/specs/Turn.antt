@@ -2,7 +2,8 @@
 use Rattle.std.specs.Prelude.{◌≡◌, ◌++◌, ◌∷◌, ℕ, List, length, map, Option}
 use Rattle.std.specs.Option.{option_map}
 use Rattle.lq_world.specs.World.{World}
-use Rattle.lq_world.specs.Events.{Happening, Answer}
+use Rattle.lq_world.specs.declared.event.Event.{Event}
+use Rattle.lq_world.specs.Events.{Answer}
 use Rattle.lq_world.specs.Turns.{Turn, turn_of, events_in, after_all, carried_out}
 use Rattle.lq_desk.specs.Slot.{KeptSlot}
 use Rattle.lq_desk.specs.Kept.{Kept, KeptStep, kept_outcome}
@@ -17,25 +18,25 @@ abbrev pub kept_ports : Kept → List (Option ℕ)
 kept_ports k = map (option_map slot_port) k.slots
 
 -- the turn that an event begins: the event, and those that go before it and after it
-abbrev pub kept_turn : Kept → Happening → Turn
+abbrev pub kept_turn : Kept → Event → Turn
 kept_turn k e = turn_of (kept_ports k) e
 
 -- what the event is answered, and what is kept after the turn
-abbrev pub turn_outcome : Kept → Happening → Answer × Kept
-turn_outcome k e = carried_out kept_outcome k (kept_turn k e)
+abbrev pub kept_turn_outcome : Kept → Event → Answer × Kept
+kept_turn_outcome k e = carried_out kept_outcome k (kept_turn k e)
 
 -- what is kept after events that take no memory
-abbrev pub kept_after : Kept → List Happening → Kept
+abbrev pub kept_after : Kept → List Event → Kept
 kept_after k events = after_all kept_outcome k events
 
 -- the whole turn, also where its event wants memory that isn't there
-pub record TurnStep (k : Kept) (e : Happening) (a : Answer) (l : Kept) : Type 0 where
+pub record TurnStep (k : Kept) (e : Event) (a : Answer) (l : Kept) : Type 0 where
   pub middle : Kept
   pub step : KeptStep (kept_after k (kept_turn k e).before) e a middle
   pub after : l ≡ kept_after middle (kept_turn k e).after
 
 -- a turn is a run of its events, and the answer is that of the event
-pub record TurnRuns (k l : Kept) (w : World) (e : Happening) (a : Answer) : Type 0 where
+pub record TurnRuns (k l : Kept) (w : World) (e : Event) (a : Answer) : Type 0 where
   pub before : List Answer
   pub after : List Answer
   pub place : length before ≡ length (kept_turn k e).before

@@ -6,15 +6,16 @@ ghost use Rattle.lq_volume.specs.Change.{refused, node_of};
 
 mod turn;
 
-use crate::event::{Event, Reply};
-use crate::slot::{Act, Slot};
+use crate::reply::Reply;
+use crate::slot::Slot;
 use crate::slots::{SLOTS, Slots};
 use lq_predicate::Predicate;
 use lq_update::{steps_are_few, updates_join};
 use lq_value::Refusal;
 use lq_volume::{Applied, Change, Volume, changes_are_counted};
 use lq_world::{
-    first_worlds_are_fair, readers_are_told, refusals_leave_worlds, runs_keep_worlds_fair,
+    Act, Event, first_worlds_are_fair, readers_are_told, refusals_leave_worlds,
+    runs_keep_worlds_fair,
 };
 use std::alloc::Global;
 use std::marker::Model;
@@ -56,14 +57,14 @@ impl Model for Desk {
 impl Desk {
     ghost use Rattle.lq_volume.specs.Result.{result_of};
     ghost use Rattle.lq_world.specs.World.{World, first_world};
+    ghost use Rattle.lq_world.specs.declared.event.Event.TheVariants.{At};
     ghost use Rattle.lq_world.specs.Events.{Opened, Refused};
     ghost use Rattle.lq_value.specs.declared.refusal.Refusal.{Refusal};
     ghost use Rattle.lq_world.specs.Headline.{ReadersAreTold};
     ghost use Rattle.lq_desk.specs.Slot.{fresh_slot};
     ghost use Rattle.lq_desk.specs.Kept.{Kept, KeptStep, Shows, changed, opened, opening_refusal, kept_outcome};
     ghost use Rattle.lq_desk.specs.Kept as kept;
-    ghost use Rattle.lq_desk.specs.Act.{happening_at};
-    ghost use Rattle.lq_desk.specs.Reply.{Moves, Runs, happening_of, answer_of};
+    ghost use Rattle.lq_desk.specs.Reply.{Moves, Runs, answer_of};
 
     /// A desk over a volume, with 64 free slots. Refused: `NoMemory`.
     pub fn new(alloc: Global, volume: Volume) -> Result<Desk, Refusal>
@@ -92,14 +93,14 @@ impl Desk {
     /// Carries out one event, and answers it.
     ///
     /// A change is refused as `Volume::apply` refuses it; an opening, the first that fits, with
-    /// `BadPort`, `BadBacklog`, `NoSlot`, `Exhausted`, `NoMemory`; any other event of a slot that is
-    /// free with `NotOpen`, and so is a close of a subscription that has ended; the finish of a slot
-    /// whose mark wasn't taken with `StillOpen`. A refused event changes nothing. Only a change and
+    /// `BadPort`, `BadBacklog`, `NoSlot`, `Exhausted`, `NoMemory`; an act at a slot that is free
+    /// with `NotOpen`, and so is a close of a subscription that has ended; the finish of a slot
+    /// whose mark wasn't read with `StillOpen`. A refused event changes nothing. Only a change and
     /// an opening take memory.
     pub fn event(&mut self, event: &Event) -> Reply
-        ensures kept { KeptStep self.old (happening_of event.now) (answer_of result) self.new }
+        ensures kept { KeptStep self.old event.now (answer_of result) self.new }
         ensures world { (w : World) → Shows self.old w →
-            Moves self.new w (happening_of event.now) (answer_of result) }
+            Moves self.new w event.now (answer_of result) }
         ensures refused { (refusal : Refusal) → answer_of result ≡ Refused refusal → self.new ≡ self.old }
     {
         updates_join();
@@ -112,15 +113,15 @@ impl Desk {
 
     /// Carries out events one after another, and answers each.
     ///
-    /// Refused: `NoMemory`, before any event. The takes of each subscription that these events open
+    /// Refused: `NoMemory`, before any event. The reads of each subscription that these events open
     /// are answered as a reader of its update list is told: each message once and in order, the
     /// mark behind them, and after each change that folds to the query's result.
     pub fn run(&mut self, events: &[Event]) -> Result<Vec<Reply>, Refusal>
         ensures refused { IsRefusedBy result None }
         ensures run { IfOk result (λ replies. (w : World) → Shows self.old w →
-            Runs self.new w (map happening_of events.now) (map answer_of replies.items)) }
+            Runs self.new w events.now (map answer_of replies.items)) }
         ensures readers { IfOk result (λ replies. ReadersAreTold self.old.volume
-            (map happening_of events.now) (map answer_of replies.items)) }
+            events.now (map answer_of replies.items)) }
         ensures volume { IsVolume self.old.volume }
         ensures err { OnErr result (self.new ≡ self.old) }
     {
@@ -136,7 +137,7 @@ impl Desk {
 
     // Carries out one event, and answers it.
     fn carry_out(&mut self, event: &Event) -> Reply
-        ensures { KeptStep self.old (happening_of event.now) (answer_of result) self.new }
+        ensures { KeptStep self.old event.now (answer_of result) self.new }
     {
         match event {
             Event::Change(change) => match self.change(change) {
@@ -152,12 +153,7 @@ impl Desk {
                 Ok(reply) => reply,
                 Err(refusal) => Reply::Refused(refusal),
             },
-            Event::Put(slot) => self.act(*slot, Act::Put),
-            Event::Take(slot) => self.act(*slot, Act::Take),
-            Event::HangUp(slot) => self.act(*slot, Act::HangUp),
-            Event::Notice(slot) => self.act(*slot, Act::Notice),
-            Event::Close(slot) => self.act(*slot, Act::Close),
-            Event::Finish(slot) => self.act(*slot, Act::Finish),
+            Event::At { slot, act } => self.act(*slot, *act),
         }
     }
 
@@ -227,7 +223,7 @@ impl Desk {
 
     // Does an act at a slot.
     fn act(&mut self, slot: u64, act: Act) -> Reply
-        ensures { (answer_of result, self.new) ≡ kept_outcome self.old (happening_at act slot) }
+        ensures { (answer_of result, self.new) ≡ kept_outcome self.old (At slot act) }
     {
         updates_join();
         changes_are_counted();

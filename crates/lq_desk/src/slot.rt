@@ -7,26 +7,16 @@ ghost use Rattle.lq_desk.specs.Kept.{IsFew};
 ghost use Rattle.lq_desk.specs.Act.{outcome_at};
 ghost use Rattle.lq_desk.specs.Reply.{answer_of};
 
-use crate::event::{Read, Reply};
+use crate::reply::{Read, Reply};
 use crate::sub::Sub;
 use lq_predicate::Predicate;
 use lq_update::{Cause, Parcel};
 use lq_value::Refusal;
 use lq_volume::Planned;
+use lq_world::Act;
 use std::alloc::Global;
 use std::collections::VecDeque;
 use std::marker::Model;
-
-/// What may be done at one slot.
-#[derive(Clone, Copy, Debug)]
-pub enum Act {
-    Put,
-    Take,
-    HangUp,
-    Notice,
-    Close,
-    Finish,
-}
 
 /// A subscription, its port with room for all its places, and whether its end was asked for.
 #[derive(Debug, Drop)]
@@ -34,7 +24,7 @@ pub struct Slot {
     sub: Sub,
     port: u64,
     queue: VecDeque<Parcel>,
-    asked: bool,
+    hang_up_asked: bool,
 }
 
 impl Model for Slot {
@@ -48,7 +38,7 @@ impl Model for Slot {
 
     ghost coded = { Prim.hlevel (codes, coded_query) };
 
-    ghost view = { λ s. record { sub = s.sub; port = s.port; queue = s.queue.items; asked = s.asked } };
+    ghost view = { λ s. record { sub = s.sub; port = s.port; queue = s.queue.items; hang_up_asked = s.hang_up_asked } };
 
     ghost invariant = { λ s. s.port ≤ deque_capacity s.queue };
 }
@@ -56,7 +46,7 @@ impl Model for Slot {
 impl Slot {
     ghost use Rattle.lq_world.specs.Events.{Answer, Moved, Noticed};
     ghost use Rattle.lq_desk.specs.Held.{is_live, ended_by};
-    ghost use Rattle.lq_desk.specs.Slot.{KeptSlot, PreparedSlot, fresh_slot, put_slot, take_slot, notice_slot, is_read};
+    ghost use Rattle.lq_desk.specs.Slot.{KeptSlot, PreparedSlot, fresh_slot, put_slot, read_slot, notice_slot, is_read};
     ghost use Rattle.lq_desk.specs.Reply.{answer_of_read};
     ghost use Rattle.lq_update.specs.declared.mark.Cause.TheVariants.{Closed};
 
@@ -76,7 +66,7 @@ impl Slot {
             sub: Sub::new(alloc, predicate, at, backlog, moved)?,
             port,
             queue: VecDeque::with_capacity(alloc, port as usize)?,
-            asked: false,
+            hang_up_asked: false,
         })
     }
 
@@ -145,9 +135,9 @@ impl Slot {
         (self.queue.len() as u64) < self.port && self.sub.has_next()
     }
 
-    /// Takes the first parcel in the port.
-    pub fn take(&mut self) -> Read
-        ensures { (answer_of_read result, Some (slot_of self.new)) ≡ take_slot (slot_of self.old) }
+    /// Reads the first parcel in the port, which takes it out.
+    pub fn read(&mut self) -> Read
+        ensures { (answer_of_read result, Some (slot_of self.new)) ≡ read_slot (slot_of self.old) }
     {
         match self.queue.pop_front() {
             Some(Parcel::Update(message)) => Read::Update(message),
@@ -164,16 +154,16 @@ impl Slot {
 
     /// Notes that its end is asked for.
     pub fn hang_up(&mut self)
-        ensures { slot_of self.new ≡ record (slot_of self.old) { asked = true } }
+        ensures { slot_of self.new ≡ record (slot_of self.old) { hang_up_asked = true } }
     {
-        self.asked = true;
+        self.hang_up_asked = true;
     }
 
     /// Whether it is live, and its end was asked for.
     pub fn is_ending(&self) -> bool
         ensures { result ≡ is_ending (slot_of self.now) }
     {
-        self.sub.is_live() && self.asked
+        self.sub.is_live() && self.hang_up_asked
     }
 
     /// Ends it where that was asked for, and tells whether it did.
@@ -182,7 +172,7 @@ impl Slot {
         ensures does { (Noticed result, Some (slot_of self.new)) ≡ notice_slot number (slot_of self.old) }
         ensures slot { slot_of self.new ≡ noticed number (slot_of self.old) }
     {
-        let ends = self.sub.is_live() && self.asked;
+        let ends = self.sub.is_live() && self.hang_up_asked;
         if ends {
             self.sub.finish_with(Cause::HungUp, number);
         }
@@ -229,7 +219,7 @@ pub fn act_at(slot: &mut Option<Slot>, act: Act, number: u64) -> Reply
     };
     match act {
         Act::Put => Reply::Moved(there.put()),
-        Act::Take => Reply::Took(there.take()),
+        Act::Read => Reply::Read(there.read()),
         Act::HangUp => {
             there.hang_up();
             Reply::Asked

@@ -10,13 +10,14 @@ ghost use Rattle.lq_desk.specs.Kept.{IsFew, first_free};
 ghost use Rattle.lq_desk.specs.Act.{outcome_in};
 ghost use Rattle.lq_desk.specs.Reply.{answer_of};
 
-use crate::event::Reply;
+use crate::reply::Reply;
 use crate::slot::{
-    Act, Slot, act_at, can_move_at, commit_at, fill_at, is_ending_at, notice_at, ready_at,
+    Slot, act_at, can_move_at, commit_at, fill_at, is_ending_at, notice_at, ready_at,
 };
 use crate::word::{has_bit, with_bit};
 use lq_value::Refusal;
 use lq_volume::Planned;
+use lq_world::Act;
 use std::alloc::Global;
 use std::marker::Model;
 

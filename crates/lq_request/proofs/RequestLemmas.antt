@@ -9,7 +9,8 @@ use Rattle.lq_value.specs.declared.refusal.Refusal.TheVariants.{NoMemory, NotUtf
 use Rattle.lq_value.specs.declared.value.Value.{Value}
 use Rattle.lq_formula.specs.Query.{Query}
 use Rattle.lq_predicate.specs.Refusals.{refusal_of}
-use Rattle.lq_request.specs.Request.{Question, asked_in, asked_from, fetching_or, opening_or, setting_for, text_or}
+use Rattle.lq_request.specs.declared.question.Question.{Question}
+use Rattle.lq_request.specs.Request.{asked_in, asked_from, fetching_or, opening_or, setting_for, text_or}
 
 -- a line that isn't UTF-8 is refused as such
 pub asked-not_utf8 : (line : List ℕ) → ¬ IsUtf8 line → asked_in line ≡ Err NotUtf8

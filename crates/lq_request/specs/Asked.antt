@@ -1,13 +1,10 @@
--- A request and a question of the code, as what they ask for.
+-- A request of the code, as what it asks for.
 use Rattle.lq_value.specs.declared.value.Value.TheVariants as value
 use Rattle.lq_value.specs.declared.view.View.{View}
 use Rattle.lq_value.specs.declared.view.View.TheVariants as view
-use Rattle.lq_desk.specs.Reply.{happening_of}
-use Rattle.lq_request.specs.declared.question.Question.{Question as Question_}
-use Rattle.lq_request.specs.declared.question.Question.TheVariants as question
 use Rattle.lq_request.specs.declared.request.Request.{Request}
 use Rattle.lq_request.specs.declared.request.Request.TheVariants as request
-use Rattle.lq_request.specs.Request.{Asked, Given, given_text, given_number, asks_create, asks_remove, asks_move, asks_write, asks_set, asks_unset, asks_open, asks_read, asks_hang_up, asks_close, asks_finish, asks_find, asks_entry, asks_fetch, asks_rebuilt, Question, Happens, Finds, Lists, Fetches, Rebuilds}
+use Rattle.lq_request.specs.Request.{Asked, Given, given_text, given_number, asks_create, asks_remove, asks_move, asks_write, asks_set, asks_unset, asks_open, asks_at, asks_find, asks_entry, asks_fetch, asks_rebuilt}
 
 -- the value of a `set`, as it was given
 abbrev pub given : View → Given
@@ -26,19 +23,8 @@ asked (request.Write node size time) = asks_write node size time
 asked (request.Set node attr value) = asks_set node attr.now (given value)
 asked (request.Unset node attr) = asks_unset node attr.now
 asked (request.Open query port backlog moved) = asks_open query.now port backlog moved
-asked (request.Read slot) = asks_read slot
-asked (request.HangUp slot) = asks_hang_up slot
-asked (request.Close slot) = asks_close slot
-asked (request.Finish slot) = asks_finish slot
+asked (request.At slot act) = asks_at slot act
 asked (request.Find dir name) = asks_find dir name.now
 asked (request.Entry node) = asks_entry node
 asked (request.Fetch query) = asks_fetch query.now
 asked (request.Rebuilt slot) = asks_rebuilt slot
-
--- the question of the code, as the one that is asked
-abbrev pub question_of : Question_ → Question
-question_of (question.Event event) = Happens (happening_of event)
-question_of (question.Find dir name) = Finds dir name
-question_of (question.Entry node) = Lists node
-question_of (question.Fetch predicate) = Fetches predicate
-question_of (question.Rebuilt slot) = Rebuilds slot

@@ -15,7 +15,11 @@ use Rattle.lq_value.specs.declared.value.Value.TheVariants.{Text, Int32, Int64, 
 use Rattle.lq_formula.specs.Query.{Query}
 use Rattle.lq_formula.specs.Reading.{reading_of}
 use Rattle.lq_volume.specs.declared.change.Change.TheVariants.{Create, Remove, Move, Write, SetAttr, RemoveAttr}
-use Rattle.lq_world.specs.Events.{Happening, Changing, Opening, Taking, HangingUp, Closing, Finishing}
+use Rattle.lq_world.specs.declared.event.Event.TheVariants.{Change, Open, At}
+use Rattle.lq_world.specs.declared.event.Act.{Act}
+use Rattle.lq_world.specs.declared.event.Act.TheVariants as act
+use Rattle.lq_request.specs.declared.question.Question.{Question}
+use Rattle.lq_request.specs.declared.question.Question.TheVariants.{Event, Find, Entry, Fetch, Rebuilt}
 
 -- the value of a `set`: a text not yet read, or a number of one of four types
 pub data Given : Type 0 where
@@ -31,23 +35,11 @@ pub data Asked : Type 0 where
   asks_set : (node : ℕ) (attr : List ℕ) (value : Given) → Asked
   asks_unset : (node : ℕ) (attr : List ℕ) → Asked
   asks_open : (query : List ℕ) (port backlog : ℕ) (moved : Bool) → Asked
-  asks_read : (slot : ℕ) → Asked
-  asks_hang_up : (slot : ℕ) → Asked
-  asks_close : (slot : ℕ) → Asked
-  asks_finish : (slot : ℕ) → Asked
+  asks_at : (slot : ℕ) (a : Act) → Asked
   asks_find : (dir : ℕ) (name : List ℕ) → Asked
   asks_entry : (node : ℕ) → Asked
   asks_fetch : (query : List ℕ) → Asked
   asks_rebuilt : (slot : ℕ) → Asked
-
--- what a line asks once its values are read: an event of the core, a look at the volume, or a
--- rebuilt result
-pub data Question : Type 0 where
-  Happens : (event : Happening) → Question
-  Finds : (dir : ℕ) (name : List ℕ) → Question
-  Lists : (node : ℕ) → Question
-  Fetches : (query : Query) → Question
-  Rebuilds : (slot : ℕ) → Question
 
 -- a text, and a whole number from 0 up, which have to be there
 abbrev pub needed_text : List ℕ → Data → Option (List ℕ)
@@ -182,21 +174,9 @@ open_of d =
     (needed_u64 (codes "port") d))
     (needed_text (codes "query") d)
 
--- what a `read` asks for
-abbrev pub read_of : Data → Option Asked
-read_of d = option_map (λ slot. asks_read slot) (needed_u64 (codes "slot") d)
-
--- what a `hang_up` asks for
-abbrev pub hang_up_of : Data → Option Asked
-hang_up_of d = option_map (λ slot. asks_hang_up slot) (needed_u64 (codes "slot") d)
-
--- what a `close` asks for
-abbrev pub close_of : Data → Option Asked
-close_of d = option_map (λ slot. asks_close slot) (needed_u64 (codes "slot") d)
-
--- what a `finish` asks for
-abbrev pub finish_of : Data → Option Asked
-finish_of d = option_map (λ slot. asks_finish slot) (needed_u64 (codes "slot") d)
+-- what a line asks for that is an act at a slot
+abbrev pub act_of : Act → Data → Option Asked
+act_of a d = option_map (λ slot. asks_at slot a) (needed_u64 (codes "slot") d)
 
 -- what a `find` asks for
 abbrev pub find_of : Data → Option Asked
@@ -220,27 +200,27 @@ rebuilt_of d = option_map (λ slot. asks_rebuilt slot) (needed_u64 (codes "slot"
 
 -- by the text of `do`
 abbrev pub asked_by : List ℕ → Data → Option Asked
-asked_by act d =
-    if bytes_eq act (codes "create") then create_of d
-    else if bytes_eq act (codes "remove") then remove_of d
-    else if bytes_eq act (codes "move") then move_of d
-    else if bytes_eq act (codes "write") then write_of d
-    else if bytes_eq act (codes "set") then set_of d
-    else if bytes_eq act (codes "unset") then unset_of d
-    else if bytes_eq act (codes "open") then open_of d
-    else if bytes_eq act (codes "read") then read_of d
-    else if bytes_eq act (codes "hang_up") then hang_up_of d
-    else if bytes_eq act (codes "close") then close_of d
-    else if bytes_eq act (codes "finish") then finish_of d
-    else if bytes_eq act (codes "find") then find_of d
-    else if bytes_eq act (codes "entry") then entry_of d
-    else if bytes_eq act (codes "fetch") then fetch_of d
-    else if bytes_eq act (codes "result") then rebuilt_of d
+asked_by word d =
+    if bytes_eq word (codes "create") then create_of d
+    else if bytes_eq word (codes "remove") then remove_of d
+    else if bytes_eq word (codes "move") then move_of d
+    else if bytes_eq word (codes "write") then write_of d
+    else if bytes_eq word (codes "set") then set_of d
+    else if bytes_eq word (codes "unset") then unset_of d
+    else if bytes_eq word (codes "open") then open_of d
+    else if bytes_eq word (codes "read") then act_of act.Read d
+    else if bytes_eq word (codes "hang_up") then act_of act.HangUp d
+    else if bytes_eq word (codes "close") then act_of act.Close d
+    else if bytes_eq word (codes "finish") then act_of act.Finish d
+    else if bytes_eq word (codes "find") then find_of d
+    else if bytes_eq word (codes "entry") then entry_of d
+    else if bytes_eq word (codes "fetch") then fetch_of d
+    else if bytes_eq word (codes "result") then rebuilt_of d
     else None
 
 -- what a JSON value asks for
 abbrev pub asked_of : Data → Option Asked
-asked_of d = option_and_then (λ act. asked_by act d) (needed_text (codes "do") d)
+asked_of d = option_and_then (λ word. asked_by word d) (needed_text (codes "do") d)
 
 -- the line's faults, in their order
 abbrev pub asked_or : Option Asked → Result Asked Refusal
@@ -259,12 +239,12 @@ asked_in line = if is_utf8 line then asked_from (read line) else Err NotUtf8
 -- the refusals of the values
 abbrev pub opening_or : Result Query ℕ → ℕ → ℕ → Bool → Result Question Refusal
 opening_or (Err place) port backlog moved = Err (BadQuery place)
-opening_or (Ok q) port backlog moved = Ok (Happens (Opening q port backlog moved))
+opening_or (Ok q) port backlog moved = Ok (Event (Open q port backlog moved))
 
 -- a predicate to fetch by, or its refusal
 abbrev pub fetching_or : Result Query ℕ → Result Question Refusal
 fetching_or (Err place) = Err (BadQuery place)
-fetching_or (Ok q) = Ok (Fetches q)
+fetching_or (Ok q) = Ok (Fetch q)
 
 -- a text as a value, or its refusal
 abbrev pub text_or : Option Refusal → List ℕ → Result Value Refusal
@@ -279,33 +259,30 @@ value_for (given_number value) = Ok value
 -- a setting, or the refusal of its value
 abbrev pub setting_for : ℕ → List ℕ → Result Value Refusal → Result Question Refusal
 setting_for node attr (Err e) = Err e
-setting_for node attr (Ok value) = Ok (Happens (Changing (SetAttr node attr value)))
+setting_for node attr (Ok value) = Ok (Event (Change (SetAttr node attr value)))
 
 -- what is asked once the values are read, or the first refusal
 abbrev pub question_for : Asked → Result Question Refusal
 question_for (asks_create dir name kind size time) =
-    if is_name name then Ok (Happens (Changing (Create dir name kind size time)))
+    if is_name name then Ok (Event (Change (Create dir name kind size time)))
     else Err BadName
-question_for (asks_remove node) = Ok (Happens (Changing (Remove node)))
+question_for (asks_remove node) = Ok (Event (Change (Remove node)))
 question_for (asks_move node dir name clobber) =
-    if is_name name then Ok (Happens (Changing (Move node dir name clobber)))
+    if is_name name then Ok (Event (Change (Move node dir name clobber)))
     else Err BadName
-question_for (asks_write node size time) = Ok (Happens (Changing (Write node size time)))
+question_for (asks_write node size time) = Ok (Event (Change (Write node size time)))
 question_for (asks_set node attr value) =
     if is_attr_name attr then setting_for node attr (value_for value)
     else Err BadName
 question_for (asks_unset node attr) =
-    if is_attr_name attr then Ok (Happens (Changing (RemoveAttr node attr)))
+    if is_attr_name attr then Ok (Event (Change (RemoveAttr node attr)))
     else Err BadName
 question_for (asks_open query port backlog moved) = opening_or (reading_of query) port backlog moved
-question_for (asks_read slot) = Ok (Happens (Taking slot))
-question_for (asks_hang_up slot) = Ok (Happens (HangingUp slot))
-question_for (asks_close slot) = Ok (Happens (Closing slot))
-question_for (asks_finish slot) = Ok (Happens (Finishing slot))
-question_for (asks_find dir name) = if is_name name then Ok (Finds dir name) else Err BadName
-question_for (asks_entry node) = Ok (Lists node)
+question_for (asks_at slot a) = Ok (Event (At slot a))
+question_for (asks_find dir name) = if is_name name then Ok (Find dir name) else Err BadName
+question_for (asks_entry node) = Ok (Entry node)
 question_for (asks_fetch query) = fetching_or (reading_of query)
-question_for (asks_rebuilt slot) = Ok (Rebuilds slot)
+question_for (asks_rebuilt slot) = Ok (Rebuilt slot)
 
 -- what is asked where a line may have been refused already
 abbrev pub question_from : Result Asked Refusal → Result Question Refusal

@@ -2,17 +2,16 @@
 ghost use Rattle.std.specs.Prelude.{◌≡◌, ◌⊎◌, IfOk, IfErr, Ok, Err};
 ghost use Rattle.lq_json.specs.Data.{view};
 ghost use Rattle.lq_value.specs.declared.refusal.Refusal.TheVariants.{NoMemory};
-ghost use Rattle.lq_world.specs.Events.{Changing};
-ghost use Rattle.lq_request.specs.Asked.{asked, given, question_of};
-ghost use Rattle.lq_request.specs.Request.{Happens, asks_set, value_for, asked_in, asked_of, asked_or, question_for, question_from, question_in};
+ghost use Rattle.lq_request.specs.Asked.{asked, given};
+ghost use Rattle.lq_request.specs.Request.{asks_set, value_for, asked_in, asked_of, asked_or, question_for, question_from, question_in};
 
 use crate::question::Question;
 use crate::request::{Request, request_in};
 use json::{Scratch, Value};
-use lq_desk::Event;
 use lq_predicate::read;
 use lq_value::{AttrName, Name, Refusal, View};
 use lq_volume::Change;
+use lq_world::Event;
 use std::alloc::Global;
 
 /// What a line asks, the line being without its LF and CR.
@@ -22,7 +21,7 @@ use std::alloc::Global;
 /// unknown `do`, a field missing, of the wrong type or out of its range), then as the values are,
 /// `BadName` or `BadQuery`. The faults and their order are our own.
 pub fn question_in(alloc: Global, scratch: &mut Scratch, line: &[u8]) -> Result<Question, Refusal>
-    ensures value { IfOk result (λ question. question_in line.now ≡ Ok (question_of question)) }
+    ensures value { IfOk result (λ question. question_in line.now ≡ Ok question) }
     ensures refused { IfErr result (λ e. (e ≡ NoMemory) ⊎ (question_in line.now ≡ Err e)) }
 {
     let value = value_in(alloc, scratch, line)?;
@@ -47,7 +46,7 @@ fn value_in<'a>(
 // What a line's JSON value asks.
 fn question_of(alloc: Global, value: &Value<'_>) -> Result<Question, Refusal>
     ensures value { IfOk result (λ question.
-        question_from (asked_or (asked_of (view value.now))) ≡ Ok (question_of question)) }
+        question_from (asked_or (asked_of (view value.now))) ≡ Ok question) }
     ensures refused { IfErr result (λ e. (e ≡ NoMemory)
         ⊎ (question_from (asked_or (asked_of (view value.now))) ≡ Err e)) }
 {
@@ -59,7 +58,7 @@ fn question_of(alloc: Global, value: &Value<'_>) -> Result<Question, Refusal>
 
 // What a request asks, its values read.
 fn question_for(alloc: Global, request: &Request<'_>) -> Result<Question, Refusal>
-    ensures value { IfOk result (λ question. question_for (asked request.now) ≡ Ok (question_of question)) }
+    ensures value { IfOk result (λ question. question_for (asked request.now) ≡ Ok question) }
     ensures refused { IfErr result (λ e. (e ≡ NoMemory) ⊎ (question_for (asked request.now) ≡ Err e)) }
 {
     match request {
@@ -109,10 +108,10 @@ fn question_for(alloc: Global, request: &Request<'_>) -> Result<Question, Refusa
             backlog: *backlog,
             moved: *moved,
         })),
-        Request::Read { slot } => Ok(Question::Event(Event::Take(*slot))),
-        Request::HangUp { slot } => Ok(Question::Event(Event::HangUp(*slot))),
-        Request::Close { slot } => Ok(Question::Event(Event::Close(*slot))),
-        Request::Finish { slot } => Ok(Question::Event(Event::Finish(*slot))),
+        Request::At { slot, act } => Ok(Question::Event(Event::At {
+            slot: *slot,
+            act: *act,
+        })),
         Request::Find { dir, name } => Ok(Question::Find {
             dir: *dir,
             name: Name::read(alloc, name)?,
@@ -127,7 +126,7 @@ fn question_for(alloc: Global, request: &Request<'_>) -> Result<Question, Refusa
 
 // The question that makes a change.
 fn change(change: Change) -> Question
-    ensures { question_of result ≡ Happens (Changing change) }
+    ensures { result ≡ Question.Event (Event.Change change) }
 {
     Question::Event(Event::Change(change))
 }
@@ -135,7 +134,7 @@ fn change(change: Change) -> Question
 // The question that sets an attribute, its name read before its value.
 fn setting(alloc: Global, node: u64, attr: &str, value: View<'_>) -> Result<Question, Refusal>
     ensures value { IfOk result (λ question.
-        question_for (asks_set node attr.now (given value.entry)) ≡ Ok (question_of question)) }
+        question_for (asks_set node attr.now (given value.entry)) ≡ Ok question) }
     ensures refused { IfErr result (λ e. (e ≡ NoMemory)
         ⊎ (question_for (asks_set node attr.now (given value.entry)) ≡ Err e)) }
 {

@@ -1,7 +1,7 @@
 //! What a line asks of a session.
-use lq_desk::Event;
 use lq_predicate::Predicate;
 use lq_value::Name;
+use lq_world::Event;
 
 /// What a line asks, its values read: an event of the core, a look at the volume, or the result of
 /// a slot.

@@ -4,12 +4,13 @@ ghost use Rattle.std.specs.Option.{option_map};
 ghost use Rattle.lq_value.specs.declared.value.Value.TheVariants.{Int32, UInt32};
 ghost use Rattle.lq_value.specs.declared.kind.Kind.TheVariants.{File};
 ghost use Rattle.lq_json.specs.Data.{view};
-ghost use Rattle.lq_request.specs.Request.{asked_by, asked_of, create_of, remove_of, move_of, write_of, set_of, unset_of, open_of, read_of, hang_up_of, close_of, finish_of, rebuilt_of, find_of, entry_of, fetch_of, given_by, given_number, within_i32, within_u32, flag_or, needed_text, needed_u64, u64_or, i64_or, kind_named, kind_or};
+ghost use Rattle.lq_request.specs.Request.{asked_by, asked_of, create_of, remove_of, move_of, write_of, set_of, unset_of, open_of, act_of, rebuilt_of, find_of, entry_of, fetch_of, given_by, given_number, within_i32, within_u32, flag_or, needed_text, needed_u64, u64_or, i64_or, kind_named, kind_or};
 ghost use Rattle.lq_request.specs.Asked.{asked, given};
 
 use json::Value;
 use lq_json::{bool_of, field, i64_of, text_in, text_of, u64_in, u64_of};
 use lq_value::{Kind, View};
+use lq_world::Act;
 
 /// What a line asks for, its texts borrowed from the line's JSON value.
 #[derive(Debug, Drop)]
@@ -50,17 +51,9 @@ pub enum Request<'a> {
         backlog: u64,
         moved: bool,
     },
-    Read {
+    At {
         slot: u64,
-    },
-    HangUp {
-        slot: u64,
-    },
-    Close {
-        slot: u64,
-    },
-    Finish {
-        slot: u64,
+        act: Act,
     },
     Find {
         dir: u64,
@@ -89,10 +82,10 @@ pub fn request_in<'a>(value: &Value<'a>) -> Option<Request<'a>>
         "set" => set_in(value),
         "unset" => unset_in(value),
         "open" => open_in(value),
-        "read" => read_in(value),
-        "hang_up" => hang_up_in(value),
-        "close" => close_in(value),
-        "finish" => finish_in(value),
+        "read" => act_in(value, Act::Read),
+        "hang_up" => act_in(value, Act::HangUp),
+        "close" => act_in(value, Act::Close),
+        "finish" => act_in(value, Act::Finish),
         "find" => find_in(value),
         "entry" => entry_in(value),
         "fetch" => fetch_in(value),
@@ -215,32 +208,11 @@ fn open_in<'a>(value: &Value<'a>) -> Option<Request<'a>>
     })
 }
 
-fn read_in<'a>(value: &Value<'a>) -> Option<Request<'a>>
-    ensures { option_map asked result ≡ read_of (view value.now) }
+fn act_in<'a>(value: &Value<'a>, act: Act) -> Option<Request<'a>>
+    ensures { option_map asked result ≡ act_of act (view value.now) }
 {
     let slot = u64_in(value, "slot")?;
-    Some(Request::Read { slot })
-}
-
-fn hang_up_in<'a>(value: &Value<'a>) -> Option<Request<'a>>
-    ensures { option_map asked result ≡ hang_up_of (view value.now) }
-{
-    let slot = u64_in(value, "slot")?;
-    Some(Request::HangUp { slot })
-}
-
-fn close_in<'a>(value: &Value<'a>) -> Option<Request<'a>>
-    ensures { option_map asked result ≡ close_of (view value.now) }
-{
-    let slot = u64_in(value, "slot")?;
-    Some(Request::Close { slot })
-}
-
-fn finish_in<'a>(value: &Value<'a>) -> Option<Request<'a>>
-    ensures { option_map asked result ≡ finish_of (view value.now) }
-{
-    let slot = u64_in(value, "slot")?;
-    Some(Request::Finish { slot })
+    Some(Request::At { slot, act })
 }
 
 fn find_in<'a>(value: &Value<'a>) -> Option<Request<'a>>

@@ -2,14 +2,17 @@
 use Rattle.std.proofs.Common.{ℕ, ◌-◌, Bool, true, false, Option, None, Some}
 use Rattle.std.specs.Prelude.{if◌then◌else◌}
 use Rattle.lq_value.specs.declared.refusal.Refusal.{Refusal}
-use Rattle.lq_volume.specs.declared.change.Change.{Change}
+use Rattle.lq_volume.specs.declared.change.Change.{Change as Change_}
 use Rattle.lq_volume.specs.State.{IsVolume}
 use Rattle.lq_update.specs.declared.parcel.Parcel.{Parcel}
 use Rattle.lq_update.specs.Laws.{ResultsRise}
-use Rattle.lq_world.specs.Events.{Happening, Changing, Opening, Putting, Taking, HangingUp, Noticing, Closing, Finishing, Answer, Ended, Empty}
-use Rattle.lq_desk.specs.Slot.{KeptSlot, fresh_slot, put_if, put_slot, take_if, take_slot, ask_slot, notice_if, notice_slot, close_if, close_slot, finish_if, finish_slot, is_read}
+use Rattle.lq_world.specs.declared.event.Event.{Event}
+use Rattle.lq_world.specs.declared.event.Event.TheVariants.{Change, Open, At}
+use Rattle.lq_world.specs.declared.event.Act.TheVariants as act
+use Rattle.lq_world.specs.Events.{Answer, Ended, Empty}
+use Rattle.lq_desk.specs.Slot.{KeptSlot, fresh_slot, put_if, put_slot, read_if, read_slot, ask_slot, notice_if, notice_slot, close_if, close_slot, finish_if, finish_slot, is_read}
 use Rattle.lq_desk.specs.Kept.{Kept, at_kept, at_place, change_if, kept_at, open_if, opening_refusal}
-use Rattle.lq_desk.specs.Turn.{kept_after, kept_turn, turn_outcome}
+use Rattle.lq_desk.specs.Turn.{kept_after, kept_turn, kept_turn_outcome}
 use Rattle.lq_script.specs.Folds.{Rises}
 
 -- a put opens no slot
@@ -18,15 +21,15 @@ put-rises s true (Some p) = tt
 put-rises s true None = tt
 put-rises s false o = tt
 
--- nor does a taking from an empty port
+-- nor does a read from an empty port
 none-rises : (b : Bool) → Rises (if b then Ended else Empty)
 none-rises true = tt
 none-rises false = tt
 
--- nor does a taking
-take-rises : (s : KeptSlot) (o : Option Parcel) → Rises (take_if s o).0
-take-rises s (Some p) = tt
-take-rises s None = none-rises (is_read s)
+-- nor does a read
+read-rises : (s : KeptSlot) (o : Option Parcel) → Rises (read_if s o).0
+read-rises s (Some p) = tt
+read-rises s None = none-rises (is_read s)
 
 -- nor does a noticing
 notice-rises : (n : ℕ) (s : KeptSlot) (b : Bool) → Rises (notice_if n s b).0
@@ -53,7 +56,7 @@ slot-rises k slot event h = by (kept_at k slot)
     by (Some s) = h s
 
 -- nor does a change
-change-rises : (k : Kept) (c : Change) (o : Option Refusal) → Rises (change_if k c o).0
+change-rises : (k : Kept) (c : Change_) (o : Option Refusal) → Rises (change_if k c o).0
 change-rises k c None = tt
 change-rises k c (Some e) = tt
 
@@ -64,19 +67,19 @@ open-rises law k s None volume = law s.held.query k.volume volume
 open-rises law k s (Some e) volume = tt
 
 -- what a turn is answered may begin a fold
-pub turn-rises : ResultsRise → (k : Kept) (e : Happening) → IsVolume k.volume
-    → Rises (turn_outcome k e).0
-turn-rises law k (Changing c) volume =
-    change-rises (kept_after k (kept_turn k (Changing c)).before) c _
-turn-rises law k (Opening q port backlog moved) volume = open-rises law k
+pub turn-rises : ResultsRise → (k : Kept) (e : Event) → IsVolume k.volume
+    → Rises (kept_turn_outcome k e).0
+turn-rises law k (Change c) volume =
+    change-rises (kept_after k (kept_turn k (Change c)).before) c _
+turn-rises law k (Open q port backlog moved) volume = open-rises law k
     (fresh_slot q moved k.volume.number port backlog) (opening_refusal k port backlog) volume
-turn-rises law k (Putting slot) volume = slot-rises k slot put_slot (λ s. put-rises s _ _)
-turn-rises law k (Taking slot) volume = slot-rises
-    (kept_after k (kept_turn k (Taking slot)).before) slot take_slot (λ s. take-rises s _)
-turn-rises law k (HangingUp slot) volume = slot-rises k slot ask_slot (λ s. tt)
-turn-rises law k (Noticing slot) volume =
+turn-rises law k (At slot act.Put) volume = slot-rises k slot put_slot (λ s. put-rises s _ _)
+turn-rises law k (At slot act.Read) volume = slot-rises
+    (kept_after k (kept_turn k (At slot act.Read)).before) slot read_slot (λ s. read-rises s _)
+turn-rises law k (At slot act.HangUp) volume = slot-rises k slot ask_slot (λ s. tt)
+turn-rises law k (At slot act.Notice) volume =
     slot-rises k slot (notice_slot k.volume.number) (λ s. notice-rises _ s _)
-turn-rises law k (Closing slot) volume =
-    let l = kept_after k (kept_turn k (Closing slot)).before in
+turn-rises law k (At slot act.Close) volume =
+    let l = kept_after k (kept_turn k (At slot act.Close)).before in
     slot-rises l slot (close_slot l.volume.number) (λ s. close-rises _ s _)
-turn-rises law k (Finishing slot) volume = slot-rises k slot finish_slot (λ s. finish-rises s _)
+turn-rises law k (At slot act.Finish) volume = slot-rises k slot finish_slot (λ s. finish-rises s _)

@@ -7,14 +7,16 @@ use Rattle.lq_volume.specs.Result.{result_of}
 use Rattle.lq_world.specs.World.{World}
 use Rattle.lq_world.specs.Turns.{turn_outcome}
 use Rattle.lq_desk.specs.Kept.{Kept, Shows}
-use Rattle.lq_desk.specs.Turn as kept
+use Rattle.lq_desk.specs.Turn.{kept_turn_outcome}
 use Rattle.lq_desk.specs.Laws.{KeptTurnsShowWorlds}
 use Rattle.lq_lines.specs.Lines.{Begins, Line, long, empty, whole, line_of, lines_of, ended_lines, reply_to, state_after, replies_to}
 use Rattle.lq_lines.specs.Output.{Answered, Ended, Passed, Stopped}
 use Rattle.lq_script.specs.Folds.{fold_at, folds_after}
 use Rattle.lq_script.specs.Session.{Session}
 use Rattle.lq_reply.specs.Reply.{reply_text}
-use Rattle.lq_request.specs.Request.{Question, Happens, Finds, Lists, Fetches, Rebuilds, question_in}
+use Rattle.lq_request.specs.declared.question.Question.{Question}
+use Rattle.lq_request.specs.declared.question.Question.TheVariants as question
+use Rattle.lq_request.specs.Request.{question_in}
 use Rattle.lq_reply.specs.Response.{Answers, Fetched}
 use Rattle.lq_script.specs.Answered.{answered, found_in, rebuilt, responds, shown_in, slot_of}
 use Rattle.lq_script.specs.Script.{kept_rules, kept_volume, volume_of, world_rules}
@@ -33,9 +35,9 @@ module _ (law : KeptTurnsShowWorlds) where
 
   -- both respond alike to a question
   responds-alike : (s : Session Kept) (t : Session World) (q : Question) → Alike s t
-      → ((responds kept.turn_outcome kept_volume s q).0 ≡ (responds turn_outcome volume_of t q).0)
-      × Alike (responds kept.turn_outcome kept_volume s q).1 (responds turn_outcome volume_of t q).1
-  responds-alike s t (Happens e) alike =
+      → ((responds kept_turn_outcome kept_volume s q).0 ≡ (responds turn_outcome volume_of t q).0)
+      × Alike (responds kept_turn_outcome kept_volume s q).1 (responds turn_outcome volume_of t q).1
+  responds-alike s t (question.Event e) alike =
       let a = law s.core t.core e alike.core in (
         ap (Answers (slot_of e)) a.0,
         record {
@@ -44,19 +46,19 @@ module _ (law : KeptTurnsShowWorlds) where
               ∙ ap (folds_after (slot_of e) (turn_outcome t.core e).0) alike.folds;
         },
       )
-  responds-alike s t (Finds dir name) alike =
+  responds-alike s t (question.Find dir name) alike =
       (ap (λ v. found_in v dir name) (volume-alike s t alike), alike)
-  responds-alike s t (Lists node) alike =
+  responds-alike s t (question.Entry node) alike =
       (ap (λ v. shown_in v node) (volume-alike s t alike), alike)
-  responds-alike s t (Fetches q) alike =
+  responds-alike s t (question.Fetch q) alike =
       (ap (λ v. Fetched v.number (result_of q v)) (volume-alike s t alike), alike)
-  responds-alike s t (Rebuilds slot) alike =
+  responds-alike s t (question.Rebuilt slot) alike =
       (ap (λ folds. rebuilt (fold_at folds slot)) alike.folds, alike)
 
   -- and to a line that may ask for nothing
   answered-alike : (s : Session Kept) (t : Session World) (r : Result Question Refusal) → Alike s t
-      → ((answered kept.turn_outcome kept_volume s r).0 ≡ (answered turn_outcome volume_of t r).0)
-      × Alike (answered kept.turn_outcome kept_volume s r).1 (answered turn_outcome volume_of t r).1
+      → ((answered kept_turn_outcome kept_volume s r).0 ≡ (answered turn_outcome volume_of t r).0)
+      × Alike (answered kept_turn_outcome kept_volume s r).1 (answered turn_outcome volume_of t r).1
   answered-alike s t (Err e) alike = (refl, alike)
   answered-alike s t (Ok q) alike = responds-alike s t q alike
 

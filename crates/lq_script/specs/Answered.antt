@@ -6,9 +6,12 @@ use Rattle.lq_value.specs.Refusal.{first_refusal}
 use Rattle.lq_volume.specs.State.{State, Record, node_in, record_at}
 use Rattle.lq_volume.specs.Lookup.{find_refusals, entry_refusals}
 use Rattle.lq_volume.specs.Result.{result_of}
-use Rattle.lq_world.specs.Events.{Happening, Changing, Opening, Putting, Taking, HangingUp, Noticing, Closing, Finishing, Answer}
+use Rattle.lq_world.specs.declared.event.Event.{Event}
+use Rattle.lq_world.specs.declared.event.Event.TheVariants.{Change, Open, At}
+use Rattle.lq_world.specs.Events.{Answer}
 use Rattle.lq_update.specs.Fold.{Folding}
-use Rattle.lq_request.specs.Request.{Question, Happens, Finds, Lists, Fetches, Rebuilds}
+use Rattle.lq_request.specs.declared.question.Question.{Question}
+use Rattle.lq_request.specs.declared.question.Question.TheVariants as question
 use Rattle.lq_reply.specs.Response.{Response, Answers, Refuses, Found, Listed, Fetched, Rebuilt}
 use Rattle.lq_script.specs.Folds.{Folds, fold_at, folds_after}
 use Rattle.lq_script.specs.Session.{Session, session_with}
@@ -34,37 +37,32 @@ abbrev pub shown_in : State → ℕ → Response
 shown_in s node = shown (first_refusal (entry_refusals s node)) node (record_at s node)
 
 -- the slot that an event names; 0 for a change and an opening, which name none
-abbrev pub slot_of : Happening → ℕ
-slot_of (Changing c) = 0
-slot_of (Opening q port backlog moved) = 0
-slot_of (Putting slot) = slot
-slot_of (Taking slot) = slot
-slot_of (HangingUp slot) = slot
-slot_of (Noticing slot) = slot
-slot_of (Closing slot) = slot
-slot_of (Finishing slot) = slot
+abbrev pub slot_of : Event → ℕ
+slot_of (Change c) = 0
+slot_of (Open q port backlog moved) = 0
+slot_of (At slot a) = slot
 
 -- what a slot's fold shows
 abbrev pub rebuilt : Option Folding → Response
 rebuilt None = Refuses NotOpen
 rebuilt (Some f) = Rebuilt f.change f.entries f.settled
 
--- an event's answer, and what it leaves
-abbrev pub happened : {Core : Type 0} → ℕ → Folds → Answer × Core → Response × Session Core
-happened slot folds p = (Answers slot p.0, session_with p.1 (folds_after slot p.0 folds))
+-- an event's answer, and what it leaves: the answer is noted in the folds
+abbrev pub noted : {Core : Type 0} → ℕ → Folds → Answer × Core → Response × Session Core
+noted slot folds p = (Answers slot p.0, session_with p.1 (folds_after slot p.0 folds))
 
 -- what a question is answered, and the session after it: only an event changes it
-abbrev pub responds : {Core : Type 0} → (Core → Happening → Answer × Core) → (Core → State)
+abbrev pub responds : {Core : Type 0} → (Core → Event → Answer × Core) → (Core → State)
     → Session Core → Question → Response × Session Core
-responds step volume s (Happens e) = happened (slot_of e) s.folds (step s.core e)
-responds step volume s (Finds dir name) = (found_in (volume s.core) dir name, s)
-responds step volume s (Lists node) = (shown_in (volume s.core) node, s)
-responds step volume s (Fetches q) =
+responds step volume s (question.Event e) = noted (slot_of e) s.folds (step s.core e)
+responds step volume s (question.Find dir name) = (found_in (volume s.core) dir name, s)
+responds step volume s (question.Entry node) = (shown_in (volume s.core) node, s)
+responds step volume s (question.Fetch q) =
     (Fetched (volume s.core).number (result_of q (volume s.core)), s)
-responds step volume s (Rebuilds slot) = (rebuilt (fold_at s.folds slot), s)
+responds step volume s (question.Rebuilt slot) = (rebuilt (fold_at s.folds slot), s)
 
 -- a line that asks nothing is refused, and nothing changes
-abbrev pub answered : {Core : Type 0} → (Core → Happening → Answer × Core) → (Core → State)
+abbrev pub answered : {Core : Type 0} → (Core → Event → Answer × Core) → (Core → State)
     → Session Core → Result Question Refusal → Response × Session Core
 answered step volume s (Err e) = (Refuses e, s)
 answered step volume s (Ok q) = responds step volume s q

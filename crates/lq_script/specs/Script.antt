@@ -5,10 +5,11 @@ use Rattle.lq_value.specs.declared.refusal.Refusal.TheVariants.{LongLine}
 use Rattle.lq_volume.specs.State.{State, empty_state}
 use Rattle.lq_volume.specs.Book.{state_of}
 use Rattle.lq_world.specs.World.{World, first_world}
-use Rattle.lq_world.specs.Events.{Happening, Answer}
+use Rattle.lq_world.specs.declared.event.Event.{Event}
+use Rattle.lq_world.specs.Events.{Answer}
 use Rattle.lq_world.specs.Turns.{turn_outcome}
 use Rattle.lq_desk.specs.Kept.{Kept}
-use Rattle.lq_desk.specs.Turn as kept
+use Rattle.lq_desk.specs.Turn.{kept_turn_outcome}
 use Rattle.lq_lines.specs.Lines.{Rules}
 use Rattle.lq_lines.specs.Output.{output_of}
 use Rattle.lq_request.specs.Request.{question_in}
@@ -19,7 +20,7 @@ use Rattle.lq_script.specs.Answered.{answered}
 use Rattle.lq_reply.specs.Reply.{reply_text}
 
 -- how lines are answered where turns are, over a volume
-abbrev pub rules_by : {Core : Type 0} → (Core → Happening → Answer × Core) → (Core → State)
+abbrev pub rules_by : {Core : Type 0} → (Core → Event → Answer × Core) → (Core → State)
     → Rules (Session Core)
 rules_by step volume = record {
   reply = λ s line. reply_text (answered step volume s (question_in line)).0;
@@ -41,7 +42,7 @@ kept_volume k = k.volume
 
 -- how lines are answered over what a desk keeps
 abbrev pub kept_rules : Rules (Session Kept)
-kept_rules = rules_by kept.turn_outcome kept_volume
+kept_rules = rules_by kept_turn_outcome kept_volume
 
 -- a script begins with the root alone, which takes 1,000,000,000,000 changes
 abbrev pub script_world : World

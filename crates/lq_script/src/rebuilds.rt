@@ -51,14 +51,14 @@ pub fn note(
             put(rebuilds, *opened, Some(rebuild));
             Ok(())
         }
-        Reply::Took(Read::Update(message)) => feed_at(rebuilds, slot, message),
+        Reply::Read(Read::Update(message)) => feed_at(rebuilds, slot, message),
         Reply::Finished => {
             put(rebuilds, slot, None);
             Ok(())
         }
         Reply::Changed(_)
         | Reply::Moved(_)
-        | Reply::Took(Read::Fin(_) | Read::Empty | Read::Ended)
+        | Reply::Read(Read::Fin(_) | Read::Empty | Read::Ended)
         | Reply::Asked
         | Reply::Noticed(_)
         | Reply::Shut(_)

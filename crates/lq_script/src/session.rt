@@ -1,14 +1,12 @@
 //! A script's session: a desk, and what was rebuilt of each slot, that answer lines.
 ghost use Rattle.std.specs.Prelude.{◌≡◌, IfOk, IfErr, OnOk};
 ghost use Rattle.lq_value.specs.declared.refusal.Refusal.TheVariants.{NoMemory};
-ghost use Rattle.lq_desk.specs.Turn.{turn_outcome};
-ghost use Rattle.lq_desk.specs.Reply.{happening_of};
+ghost use Rattle.lq_desk.specs.Turn.{kept_turn_outcome};
 ghost use Rattle.lq_volume.specs.Result.{result_of};
-ghost use Rattle.lq_request.specs.Asked.{question_of};
 ghost use Rattle.lq_reply.specs.Answer.{response_of};
 ghost use Rattle.lq_request.specs.Request.{question_in};
 ghost use Rattle.lq_reply.specs.Response.{Fetched};
-ghost use Rattle.lq_script.specs.Answered.{answered, found_in, happened, rebuilt, responds, shown_in, slot_of};
+ghost use Rattle.lq_script.specs.Answered.{answered, found_in, noted, rebuilt, responds, shown_in, slot_of};
 ghost use Rattle.lq_script.specs.Folds.{fold_at};
 ghost use Rattle.lq_script.specs.Session.{session_with};
 ghost use Rattle.lq_script.specs.Script.{kept_volume};
@@ -52,10 +50,10 @@ impl Session {
     // What a line is answered: that of its question, or why it asks nothing.
     fn answer(&mut self, line: &[u8]) -> Result<Response, Refusal>
         ensures response { IfOk result (λ response. response_of response ≡
-            (answered turn_outcome kept_volume
+            (answered kept_turn_outcome kept_volume
             (session_with self.old.desk self.old.rebuilds.items) (question_in line.now)).0) }
         ensures after { OnOk result (session_with self.new.desk self.new.rebuilds.items ≡
-            (answered turn_outcome kept_volume
+            (answered kept_turn_outcome kept_volume
             (session_with self.old.desk self.old.rebuilds.items) (question_in line.now)).1) }
         ensures memory { IfErr result (λ e. e ≡ NoMemory) }
     {
@@ -68,11 +66,11 @@ impl Session {
 
     fn respond_to(&mut self, question: &Question) -> Result<Response, Refusal>
         ensures response { IfOk result (λ response. response_of response ≡
-            (responds turn_outcome kept_volume
-            (session_with self.old.desk self.old.rebuilds.items) (question_of question.now)).0) }
+            (responds kept_turn_outcome kept_volume
+            (session_with self.old.desk self.old.rebuilds.items) question.now).0) }
         ensures after { OnOk result (session_with self.new.desk self.new.rebuilds.items ≡
-            (responds turn_outcome kept_volume
-            (session_with self.old.desk self.old.rebuilds.items) (question_of question.now)).1) }
+            (responds kept_turn_outcome kept_volume
+            (session_with self.old.desk self.old.rebuilds.items) question.now).1) }
         ensures memory { IfErr result (λ e. e ≡ NoMemory) }
     {
         match question {
@@ -87,11 +85,11 @@ impl Session {
     // Carries out an event, and notes what it was answered for its slot.
     fn carry_out(&mut self, event: &Event) -> Result<Response, Refusal>
         ensures response { IfOk result (λ response. response_of response ≡
-            (happened (slot_of (happening_of event.now)) self.old.rebuilds.items
-            (turn_outcome self.old.desk (happening_of event.now))).0) }
+            (noted (slot_of event.now) self.old.rebuilds.items
+            (kept_turn_outcome self.old.desk event.now)).0) }
         ensures after { OnOk result (session_with self.new.desk self.new.rebuilds.items ≡
-            (happened (slot_of (happening_of event.now)) self.old.rebuilds.items
-            (turn_outcome self.old.desk (happening_of event.now))).1) }
+            (noted (slot_of event.now) self.old.rebuilds.items
+            (kept_turn_outcome self.old.desk event.now)).1) }
         ensures memory { IfErr result (λ e. e ≡ NoMemory) }
     {
         results_rise();
@@ -109,16 +107,11 @@ impl Session {
 
 // The slot that an event names, or 0.
 fn slot_of(event: &Event) -> u64
-    ensures { result ≡ slot_of (happening_of event.now) }
+    ensures { result ≡ slot_of event.now }
 {
     match event {
         Event::Change(_) | Event::Open { .. } => 0,
-        Event::Put(slot)
-        | Event::Take(slot)
-        | Event::HangUp(slot)
-        | Event::Notice(slot)
-        | Event::Close(slot)
-        | Event::Finish(slot) => *slot,
+        Event::At { slot, .. } => *slot,
     }
 }
 

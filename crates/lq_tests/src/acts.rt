@@ -1,12 +1,12 @@
 //! What the tables of `events` ask a desk; whatever answers `NoMemory` is asked once more.
-use lq_desk::{Desk, Event, Reply};
+use lq_desk::{Act, Desk, Event, Reply};
 use lq_predicate::read;
 use lq_value::{AttrName, Kind, Name, Refusal, Value};
 use lq_volume::{Change, Volume};
 use std::alloc::Global;
 
 /// One event, of slot 1 where it has a slot.
-pub enum Act {
+pub enum Ask {
     /// A file of this name comes in the root.
     Create(&'static str),
     /// Node 3 moves to this name in the root, with or without clobber.
@@ -18,7 +18,7 @@ pub enum Act {
     /// A live query `name=*` is opened: port, backlog.
     Open(u64, u64),
     Put,
-    Take,
+    Read,
     HangUp,
     Notice,
     Close,
@@ -40,9 +40,9 @@ pub fn desk(alloc: Global) -> Result<Desk, Refusal> {
     }
 }
 
-/// What the desk answers an act.
-pub fn reply(alloc: Global, desk: &mut Desk, way: Way, act: &Act) -> Result<Reply, Refusal> {
-    let event = event(alloc, act)?;
+/// What the desk answers.
+pub fn reply(alloc: Global, desk: &mut Desk, way: Way, ask: &Ask) -> Result<Reply, Refusal> {
+    let event = event(alloc, ask)?;
     Ok(give(desk, way, &event))
 }
 
@@ -73,32 +73,36 @@ fn give_once(desk: &mut Desk, way: Way, event: &Event) -> Reply {
     }
 }
 
-fn event(alloc: Global, act: &Act) -> Result<Event, Refusal> {
-    match event_of(alloc, act) {
-        Err(Refusal::NoMemory) => event_of(alloc, act),
+fn event(alloc: Global, ask: &Ask) -> Result<Event, Refusal> {
+    match event_of(alloc, ask) {
+        Err(Refusal::NoMemory) => event_of(alloc, ask),
         made => made,
     }
 }
 
-fn event_of(alloc: Global, act: &Act) -> Result<Event, Refusal> {
-    Ok(match act {
-        Act::Open(port, backlog) => Event::Open {
+fn event_of(alloc: Global, ask: &Ask) -> Result<Event, Refusal> {
+    Ok(match ask {
+        Ask::Open(port, backlog) => Event::Open {
             predicate: read(alloc, "name=*")?,
             port: *port,
             backlog: *backlog,
             moved: false,
         },
-        Act::Put => Event::Put(1),
-        Act::Take => Event::Take(1),
-        Act::HangUp => Event::HangUp(1),
-        Act::Notice => Event::Notice(1),
-        Act::Close => Event::Close(1),
-        Act::Finish => Event::Finish(1),
-        Act::Create(name) => Event::Change(file(alloc, name)?),
-        Act::Move(name, clobber) => Event::Change(renaming(alloc, name, *clobber)?),
-        Act::Text(text) => Event::Change(setting(alloc, Value::text(alloc, text)?)?),
-        Act::Number(number) => Event::Change(setting(alloc, Value::Int32(*number))?),
+        Ask::Put => at(Act::Put),
+        Ask::Read => at(Act::Read),
+        Ask::HangUp => at(Act::HangUp),
+        Ask::Notice => at(Act::Notice),
+        Ask::Close => at(Act::Close),
+        Ask::Finish => at(Act::Finish),
+        Ask::Create(name) => Event::Change(file(alloc, name)?),
+        Ask::Move(name, clobber) => Event::Change(renaming(alloc, name, *clobber)?),
+        Ask::Text(text) => Event::Change(setting(alloc, Value::text(alloc, text)?)?),
+        Ask::Number(number) => Event::Change(setting(alloc, Value::Int32(*number))?),
     })
+}
+
+fn at(act: Act) -> Event {
+    Event::At { slot: 1, act }
 }
 
 /// A change that makes an empty file of this name in the root.

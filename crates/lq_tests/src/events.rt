@@ -2,7 +2,7 @@
 //!
 //! Whatever answers `NoMemory` is asked once more, so each test holds also where any one growth of
 //! memory is refused.
-use crate::acts::{Act, Way, desk, found, reply};
+use crate::acts::{Ask, Way, desk, found, reply};
 use crate::told::{Told, is_told};
 use lq_desk::{Desk, Event, Reply};
 use lq_predicate::read;
@@ -12,120 +12,120 @@ use lq_volume::Volume;
 use std::alloc::Global;
 use std::test::Fail;
 
-const CLOBBER: [(Act, Told); 12] = [
-    (Act::Create("a"), Told::Changed(1, 2)),
-    (Act::Create("b"), Told::Changed(2, 3)),
-    (Act::Open(4, 16), Told::Opened(2, 2)),
-    (Act::Move("a", false), Told::Refused(Refusal::Exists)),
-    (Act::Move("a", true), Told::Changed(3, 3)),
-    (Act::Put, Told::Moved(true)),
-    (Act::Put, Told::Moved(true)),
-    (Act::Put, Told::Moved(true)),
-    (Act::Put, Told::Moved(false)),
-    (Act::Take, Told::Went(1, 3, "a", 2, false)),
-    (Act::Take, Told::Went(2, 3, "b", 3, false)),
-    (Act::Take, Told::Came(3, 3, "a", 3, true)),
+const CLOBBER: [(Ask, Told); 12] = [
+    (Ask::Create("a"), Told::Changed(1, 2)),
+    (Ask::Create("b"), Told::Changed(2, 3)),
+    (Ask::Open(4, 16), Told::Opened(2, 2)),
+    (Ask::Move("a", false), Told::Refused(Refusal::Exists)),
+    (Ask::Move("a", true), Told::Changed(3, 3)),
+    (Ask::Put, Told::Moved(true)),
+    (Ask::Put, Told::Moved(true)),
+    (Ask::Put, Told::Moved(true)),
+    (Ask::Put, Told::Moved(false)),
+    (Ask::Read, Told::Went(1, 3, "a", 2, false)),
+    (Ask::Read, Told::Went(2, 3, "b", 3, false)),
+    (Ask::Read, Told::Came(3, 3, "a", 3, true)),
 ];
 
-const CLOSE_AFTER_HELD: [(Act, Told); 15] = [
-    (Act::Open(1, 2), Told::Opened(0, 0)),
-    (Act::Create("a"), Told::Changed(1, 2)),
-    (Act::Put, Told::Moved(true)),
-    (Act::Create("b"), Told::Changed(2, 3)),
-    (Act::Create("c"), Told::Changed(3, 4)),
-    (Act::Close, Told::Shut(3)),
-    (Act::Take, Told::Came(1, 1, "a", 2, true)),
-    (Act::Put, Told::Moved(true)),
-    (Act::Take, Told::Came(2, 2, "b", 3, true)),
-    (Act::Put, Told::Moved(true)),
-    (Act::Take, Told::Came(3, 3, "c", 4, true)),
-    (Act::Put, Told::Moved(true)),
-    (Act::Take, Told::Mark(4, 3, Cause::Closed)),
-    (Act::Put, Told::Moved(false)),
-    (Act::Take, Told::Ended),
+const CLOSE_AFTER_HELD: [(Ask, Told); 15] = [
+    (Ask::Open(1, 2), Told::Opened(0, 0)),
+    (Ask::Create("a"), Told::Changed(1, 2)),
+    (Ask::Put, Told::Moved(true)),
+    (Ask::Create("b"), Told::Changed(2, 3)),
+    (Ask::Create("c"), Told::Changed(3, 4)),
+    (Ask::Close, Told::Shut(3)),
+    (Ask::Read, Told::Came(1, 1, "a", 2, true)),
+    (Ask::Put, Told::Moved(true)),
+    (Ask::Read, Told::Came(2, 2, "b", 3, true)),
+    (Ask::Put, Told::Moved(true)),
+    (Ask::Read, Told::Came(3, 3, "c", 4, true)),
+    (Ask::Put, Told::Moved(true)),
+    (Ask::Read, Told::Mark(4, 3, Cause::Closed)),
+    (Ask::Put, Told::Moved(false)),
+    (Ask::Read, Told::Ended),
 ];
 
 // By turns, so the ports are filled by the changes, the takes and the close.
-const OVERRUN_AFTER_HELD: [(Act, Told); 11] = [
-    (Act::Open(1, 2), Told::Opened(0, 0)),
-    (Act::Create("a"), Told::Changed(1, 2)),
-    (Act::Create("b"), Told::Changed(2, 3)),
-    (Act::Create("c"), Told::Changed(3, 4)),
-    (Act::Create("d"), Told::Changed(4, 5)),
-    (Act::Close, Told::Refused(Refusal::NotOpen)),
-    (Act::Take, Told::Came(1, 1, "a", 2, true)),
-    (Act::Take, Told::Came(2, 2, "b", 3, true)),
-    (Act::Take, Told::Came(3, 3, "c", 4, true)),
-    (Act::Take, Told::Mark(4, 3, Cause::Overrun)),
-    (Act::Take, Told::Ended),
+const OVERRUN_AFTER_HELD: [(Ask, Told); 11] = [
+    (Ask::Open(1, 2), Told::Opened(0, 0)),
+    (Ask::Create("a"), Told::Changed(1, 2)),
+    (Ask::Create("b"), Told::Changed(2, 3)),
+    (Ask::Create("c"), Told::Changed(3, 4)),
+    (Ask::Create("d"), Told::Changed(4, 5)),
+    (Ask::Close, Told::Refused(Refusal::NotOpen)),
+    (Ask::Read, Told::Came(1, 1, "a", 2, true)),
+    (Ask::Read, Told::Came(2, 2, "b", 3, true)),
+    (Ask::Read, Told::Came(3, 3, "c", 4, true)),
+    (Ask::Read, Told::Mark(4, 3, Cause::Overrun)),
+    (Ask::Read, Told::Ended),
 ];
 
-const CLOSE_ON_FULL_PORT: [(Act, Told); 13] = [
-    (Act::Open(1, 1), Told::Opened(0, 0)),
-    (Act::Create("a"), Told::Changed(1, 2)),
-    (Act::Close, Told::Shut(1)),
-    (Act::Put, Told::Moved(true)),
-    (Act::Put, Told::Moved(false)),
-    (Act::Take, Told::Came(1, 1, "a", 2, true)),
-    (Act::Take, Told::Empty),
-    (Act::Put, Told::Moved(true)),
-    (Act::Take, Told::Mark(2, 1, Cause::Closed)),
-    (Act::Put, Told::Moved(false)),
-    (Act::Take, Told::Ended),
-    (Act::Finish, Told::Finished),
-    (Act::Take, Told::Refused(Refusal::NotOpen)),
+const CLOSE_ON_FULL_PORT: [(Ask, Told); 13] = [
+    (Ask::Open(1, 1), Told::Opened(0, 0)),
+    (Ask::Create("a"), Told::Changed(1, 2)),
+    (Ask::Close, Told::Shut(1)),
+    (Ask::Put, Told::Moved(true)),
+    (Ask::Put, Told::Moved(false)),
+    (Ask::Read, Told::Came(1, 1, "a", 2, true)),
+    (Ask::Read, Told::Empty),
+    (Ask::Put, Told::Moved(true)),
+    (Ask::Read, Told::Mark(2, 1, Cause::Closed)),
+    (Ask::Put, Told::Moved(false)),
+    (Ask::Read, Told::Ended),
+    (Ask::Finish, Told::Finished),
+    (Ask::Read, Told::Refused(Refusal::NotOpen)),
 ];
 
-const HANG_UP_TOLD_AFTER: [(Act, Told); 10] = [
-    (Act::Open(2, 2), Told::Opened(0, 0)),
-    (Act::HangUp, Told::Asked),
-    (Act::Create("a"), Told::Changed(1, 2)),
-    (Act::Notice, Told::Noticed(true)),
-    (Act::Notice, Told::Noticed(false)),
-    (Act::Close, Told::Refused(Refusal::NotOpen)),
-    (Act::Put, Told::Moved(true)),
-    (Act::Put, Told::Moved(true)),
-    (Act::Take, Told::Came(1, 1, "a", 2, true)),
-    (Act::Take, Told::Mark(2, 1, Cause::HungUp)),
+const HANG_UP_TOLD_AFTER: [(Ask, Told); 10] = [
+    (Ask::Open(2, 2), Told::Opened(0, 0)),
+    (Ask::HangUp, Told::Asked),
+    (Ask::Create("a"), Told::Changed(1, 2)),
+    (Ask::Notice, Told::Noticed(true)),
+    (Ask::Notice, Told::Noticed(false)),
+    (Ask::Close, Told::Refused(Refusal::NotOpen)),
+    (Ask::Put, Told::Moved(true)),
+    (Ask::Put, Told::Moved(true)),
+    (Ask::Read, Told::Came(1, 1, "a", 2, true)),
+    (Ask::Read, Told::Mark(2, 1, Cause::HungUp)),
 ];
 
-const OVERRUN_BEFORE_NOTICE: [(Act, Told); 6] = [
-    (Act::Open(1, 0), Told::Opened(0, 0)),
-    (Act::HangUp, Told::Asked),
-    (Act::Create("a"), Told::Changed(1, 2)),
-    (Act::Notice, Told::Noticed(false)),
-    (Act::Put, Told::Moved(true)),
-    (Act::Take, Told::Mark(1, 0, Cause::Overrun)),
+const OVERRUN_BEFORE_NOTICE: [(Ask, Told); 6] = [
+    (Ask::Open(1, 0), Told::Opened(0, 0)),
+    (Ask::HangUp, Told::Asked),
+    (Ask::Create("a"), Told::Changed(1, 2)),
+    (Ask::Notice, Told::Noticed(false)),
+    (Ask::Put, Told::Moved(true)),
+    (Ask::Read, Told::Mark(1, 0, Cause::Overrun)),
 ];
 
-const HANG_UP_DOES_NOT_CARRY_OVER: [(Act, Told); 8] = [
-    (Act::Open(1, 1), Told::Opened(0, 0)),
-    (Act::Close, Told::Shut(0)),
-    (Act::HangUp, Told::Asked),
-    (Act::Put, Told::Moved(true)),
-    (Act::Take, Told::Mark(1, 0, Cause::Closed)),
-    (Act::Finish, Told::Finished),
-    (Act::Open(1, 1), Told::Opened(0, 0)),
-    (Act::Notice, Told::Noticed(false)),
+const HANG_UP_DOES_NOT_CARRY_OVER: [(Ask, Told); 8] = [
+    (Ask::Open(1, 1), Told::Opened(0, 0)),
+    (Ask::Close, Told::Shut(0)),
+    (Ask::HangUp, Told::Asked),
+    (Ask::Put, Told::Moved(true)),
+    (Ask::Read, Told::Mark(1, 0, Cause::Closed)),
+    (Ask::Finish, Told::Finished),
+    (Ask::Open(1, 1), Told::Opened(0, 0)),
+    (Ask::Notice, Told::Noticed(false)),
 ];
 
 // act, its reply, then queries and how many entries each finds
-const TEXT_AND_NUMBER: [(Act, Told, &[(&str, usize)]); 3] = [
-    (Act::Create("a"), Told::Changed(1, 2), &[]),
+const TEXT_AND_NUMBER: [(Ask, Told, &[(&str, usize)]); 3] = [
+    (Ask::Create("a"), Told::Changed(1, 2), &[]),
     (
-        Act::Text("10"),
+        Ask::Text("10"),
         Told::Changed(2, 2),
         &[("x=10", 1), ("x>9", 0)],
     ),
     (
-        Act::Number(10),
+        Ask::Number(10),
         Told::Changed(3, 2),
         &[("x>9", 1), ("x=1*", 0), ("x!=abc", 0)],
     ),
 ];
 
 /// The place of the first row that a new desk answers otherwise, or how many rows there are.
-fn told(alloc: Global, way: Way, rows: &[(Act, Told)]) -> Result<usize, Refusal> {
+fn told(alloc: Global, way: Way, rows: &[(Ask, Told)]) -> Result<usize, Refusal> {
     let mut desk = desk(alloc)?;
     for (place, (act, told)) in rows.iter().enumerate() {
         if !is_told(&reply(alloc, &mut desk, way, act)?, told) {

@@ -34,7 +34,7 @@ pub fn is_told(reply: &Reply, told: &Told) -> bool {
             *slot == 1 && *at == *wanted && result.len() == *entries
         }
         (Reply::Moved(moved), Told::Moved(wanted)) => *moved == *wanted,
-        (Reply::Took(read), _) => is_read(read, told),
+        (Reply::Read(read), _) => is_read(read, told),
         (Reply::Asked, Told::Asked) => true,
         (Reply::Noticed(noticed), Told::Noticed(wanted)) => *noticed == *wanted,
         (Reply::Shut(change), Told::Shut(wanted)) => *change == *wanted,

@@ -177,13 +177,17 @@ fn put_settings(alloc: Global, events: &mut Vec<Event>) -> Result<(), Refusal> {
     Ok(())
 }
 
+fn at(slot: u64, act: lq_desk::Act) -> Event {
+    Event::At { slot, act }
+}
+
 fn put_endings(events: &mut Vec<Event>) -> Result<(), Refusal> {
     events.push(Event::Change(Change::Remove { node: 2 }))?;
-    events.push(Event::HangUp(1))?;
-    events.push(Event::Notice(1))?;
-    events.push(Event::Close(2))?;
-    events.push(Event::Put(2))?;
-    events.push(Event::Take(2))?;
+    events.push(at(1, lq_desk::Act::HangUp))?;
+    events.push(at(1, lq_desk::Act::Notice))?;
+    events.push(at(2, lq_desk::Act::Close))?;
+    events.push(at(2, lq_desk::Act::Put))?;
+    events.push(at(2, lq_desk::Act::Read))?;
     Ok(())
 }
 

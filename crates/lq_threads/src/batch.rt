@@ -36,7 +36,7 @@ impl<'a, N: Named, G: Gate> Work for Turn<'a, N, G> {
             let Ok(read) = self.held.read(rt, self.server) else {
                 return;
             };
-            let reply = Reply::Took(read);
+            let reply = Reply::Read(read);
             if self.replies.push(Response::Reply { slot, reply }).is_err() {
                 return;
             }

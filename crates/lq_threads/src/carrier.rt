@@ -2,7 +2,7 @@
 use crate::gate::Gate;
 use crate::session::Session;
 use json::Scratch;
-use lq_desk::Event;
+use lq_desk::{Act, Event};
 use lq_lines::{Failed, RunFault, Sink, write_all};
 use lq_reply::{Response, put_reply};
 use lq_request::{Question, question_in};
@@ -99,20 +99,24 @@ impl<'a, N: Named + Send + Sync, R: Threads + Wait + Sync, G: Gate + Sync, W: Si
             question_in(self.alloc, &mut self.scratch, line)
         };
         match asked {
-            Ok(Question::Event(Event::Take(slot))) => self.put_read(slot),
-            Ok(question) => {
-                self.end_batch()?;
-                let Ok(response) = self.session.answer(&question) else {
-                    return Err(RunFault::Memory);
-                };
-                self.put(&response)
-            }
+            Ok(question) => self.take_question(&question),
             Err(Refusal::NoMemory) => Err(RunFault::Memory),
             Err(refusal) => {
                 self.end_batch()?;
                 self.put(&Response::Refused(refusal))
             }
         }
+    }
+
+    fn take_question(&mut self, question: &Question) -> Result<(), RunFault> {
+        if let Some(slot) = slot_of_read(question) {
+            return self.put_read(slot);
+        }
+        self.end_batch()?;
+        let Ok(response) = self.session.answer(question) else {
+            return Err(RunFault::Memory);
+        };
+        self.put(&response)
     }
 
     fn put_read(&mut self, slot: u64) -> Result<(), RunFault> {
@@ -160,5 +164,16 @@ impl<'a, N: Named + Send + Sync, R: Threads + Wait + Sync, G: Gate + Sync, W: Si
             Ok(()) => Ok(()),
             Err(Failed) => Err(RunFault::Write),
         }
+    }
+}
+
+// The slot of a read; `None` of any other question.
+fn slot_of_read(question: &Question) -> Option<u64> {
+    let Question::Event(Event::At { slot, act }) = question else {
+        return None;
+    };
+    match act {
+        Act::Read => Some(*slot),
+        Act::Put | Act::HangUp | Act::Notice | Act::Close | Act::Finish => None,
     }
 }

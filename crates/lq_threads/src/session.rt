@@ -3,7 +3,7 @@ use crate::batch::read_beside;
 use crate::gate::Gate;
 use crate::held::Caller;
 use crate::places::Places;
-use lq_desk::{Event, Reply};
+use lq_desk::{Act, Event, Reply};
 use lq_predicate::Predicate;
 use lq_reply::Response;
 use lq_request::Question;
@@ -104,17 +104,23 @@ impl<'a, N: Named + Send + Sync, R: Threads + Wait + Sync, G: Gate + Sync> Sessi
                 backlog,
                 moved,
             } => self.open(predicate, *port, *backlog, *moved),
-            Event::HangUp(slot) => {
-                self.places.reader(*slot)?.hang_up(self.server);
-                Ok(reply(*slot, Reply::Asked))
+            Event::At { slot, act } => self.act(*slot, *act),
+        }
+    }
+
+    fn act(&mut self, slot: u64, act: Act) -> Result<Response, Refusal> {
+        match act {
+            Act::HangUp => {
+                self.places.reader(slot)?.hang_up(self.server);
+                Ok(reply(slot, Reply::Asked))
             }
-            Event::Close(slot) => {
-                let change = self.places.reader(*slot)?.close(self.rt, self.server)?;
-                Ok(reply(*slot, Reply::Shut(change)))
+            Act::Close => {
+                let change = self.places.reader(slot)?.close(self.rt, self.server)?;
+                Ok(reply(slot, Reply::Shut(change)))
             }
-            Event::Finish(slot) => self.finish(*slot),
+            Act::Finish => self.finish(slot),
             // A `read` goes with its batch, and no line asks for the other two.
-            Event::Take(_) | Event::Put(_) | Event::Notice(_) => Err(Refusal::BadLine),
+            Act::Read | Act::Put | Act::Notice => Err(Refusal::BadLine),
         }
     }
 

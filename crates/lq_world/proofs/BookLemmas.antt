@@ -6,12 +6,13 @@ use Rattle.lq_volume.specs.State.{State}
 use Rattle.lq_volume.specs.Change.{refused as refused_by, after}
 use Rattle.lq_volume.specs.Book.{AreLawful, after_all, state_of}
 use Rattle.lq_world.specs.World.{World}
-use Rattle.lq_world.specs.Events.{Happening, Changing, Opening, Putting, Taking, HangingUp, Noticing, Closing, Finishing, Answer, changing, outcome}
+use Rattle.lq_world.specs.declared.event.Event.{Event}
+use Rattle.lq_world.specs.declared.event.Event.TheVariants.{Change, Open, At}
+use Rattle.lq_world.specs.Events.{Answer, changing, outcome}
 use Rattle.lq_world.specs.Runs.{Step, Run}
 use Rattle.lq_world.specs.Headline.{accepted_by, accepted}
-use Rattle.lq_world.specs.Laws.{RunsMakeBooks}
 use Rattle.lq_world.proofs.WorldLemmas.{after_all-append}
-use Rattle.lq_world.proofs.ReadLemmas.{accepted_by-refused, step-book, run-book}
+use Rattle.lq_world.proofs.ReadLemmas.{accepted_by-refused, step-book}
 
 -- lawful changes and then others, lawful from where those lead, are lawful together
 are-lawful-append : (s : State) (cs ds : List Change_)
@@ -22,24 +23,19 @@ are-lawful-append s (c ∷ cs) ds h g = (h.0, are-lawful-append (after s c) cs d
 -- a change that is accepted is lawful in the state that it meets
 changing-lawful : (w : World) (c : Change_) (r : Option Refusal)
     → refused_by (state_of w.book) c ≡ r
-    → AreLawful (state_of w.book) (accepted_by (Changing c) (changing w c r).0)
+    → AreLawful (state_of w.book) (accepted_by (Change c) (changing w c r).0)
 changing-lawful w c (Some e) is = tt
 changing-lawful w c None is = (is, tt)
 
 -- what an event adds to the book is lawful in the state that it meets
-outcome-lawful : (w : World) (e : Happening)
+outcome-lawful : (w : World) (e : Event)
     → AreLawful (state_of w.book) (accepted_by e (outcome w e).0)
-outcome-lawful w (Changing c) = changing-lawful w c (refused_by (state_of w.book) c) refl
-outcome-lawful w (Opening q port backlog moved) = tt
-outcome-lawful w (Putting k) = tt
-outcome-lawful w (Taking k) = tt
-outcome-lawful w (HangingUp k) = tt
-outcome-lawful w (Noticing k) = tt
-outcome-lawful w (Closing k) = tt
-outcome-lawful w (Finishing k) = tt
+outcome-lawful w (Change c) = changing-lawful w c (refused_by (state_of w.book) c) refl
+outcome-lawful w (Open q port backlog moved) = tt
+outcome-lawful w (At k a) = tt
 
 -- what a step adds to the book is lawful in the state that it meets
-step-lawful : (w : World) (e : Happening) (a : Answer) (v : World) → Step w e a v
+step-lawful : (w : World) (e : Event) (a : Answer) (v : World) → Step w e a v
     → AreLawful (state_of w.book) (accepted_by e a)
 step-lawful w e a v (inl done) =
     subst (λ (b : Answer). AreLawful (state_of w.book) (accepted_by e b)) (sym done.0)
@@ -48,7 +44,7 @@ step-lawful w e a v (inr ran) = subst (λ (cs : List Change_). AreLawful (state_
     (sym (ap (accepted_by e) ran.1 ∙ accepted_by-refused e _)) tt
 
 -- what a run adds to the book is lawful from the state that it meets
-pub run-lawful : (w end : World) (events : List Happening) (answers : List Answer)
+pub run-lawful : (w end : World) (events : List Event) (answers : List Answer)
     → Run w events answers end → AreLawful (state_of w.book) (accepted events answers)
 run-lawful w end [] [] run = tt
 run-lawful w end [] (a ∷ answers) run = absurd run
@@ -61,8 +57,3 @@ run-lawful w end (e ∷ events) (a ∷ answers) run =
     (step-lawful w e a run.0 run.1)
     (subst (λ (s : State). AreLawful s (accepted events answers)) there
     (run-lawful run.0 end events answers run.2))
-
--- the accepted changes of a run are a book
-pub runs-make : RunsMakeBooks
-runs-make w end events answers run =
-    (run-lawful w end events answers run, run-book w events answers end run)

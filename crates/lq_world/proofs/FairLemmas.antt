@@ -1,6 +1,6 @@
 -- Each event leaves a fair world fair.
-use Rattle.std.proofs.Common.{◌≡◌, ℕ, zero, suc, ◌-◌, ◌≤◌, ◌<◌, List, [], ◌∷◌, refl, ap, take, drop, length, sym, subst, arith, ◌∙◌, Some, None, Option, inl, inr, Bool, true, false}
-use Rattle.std.specs.Prelude.{slice_get, slice_set, ◌==◌, ◌&&◌, not, nat_le, if◌then◌else◌, replicate}
+use Rattle.std.proofs.Common.{◌≡◌, ℕ, zero, suc, ◌-◌, ◌≤◌, ◌<◌, List, [], ◌∷◌, refl, ap, take, drop, length, sym, subst, arith, Some, None, Option, inl, inr, Bool, true, false}
+use Rattle.std.specs.Prelude.{slice_get, ◌==◌, ◌&&◌, not, nat_le, if◌then◌else◌, replicate}
 use Rattle.std.specs.Option.{option_flatten, option_map}
 use Rattle.std.specs.List.{AllByRecursion}
 use Rattle.std.proofs.lemmas.Bool.Decides.{nat_tests}
@@ -14,13 +14,16 @@ use Rattle.lq_volume.specs.Book.{Book, grown, number_of, state_of, state_at}
 use Rattle.lq_update.specs.Updates.{updates_of, updates_from}
 use Rattle.lq_update.specs.Laws.{UpdatesJoin}
 use Rattle.lq_world.specs.World.{World, Sub, slot_at, taken_before_free, after_change}
-use Rattle.lq_world.specs.Events.{Happening, Changing, Opening, Putting, Taking, HangingUp, Noticing, Closing, Finishing, Answer, changing, opening, opened_now, open_refusal, putting, taking, hanging_up, noticing, closing, finishing, finishing_if, at_slot, outcome}
+use Rattle.lq_world.specs.declared.event.Event.{Event}
+use Rattle.lq_world.specs.declared.event.Event.TheVariants.{Change, Open, At}
+use Rattle.lq_world.specs.declared.event.Act.TheVariants as act
+use Rattle.lq_world.specs.Events.{Answer, changing, opening, opened_now, open_refusal, putting, reading, hanging_up, noticing, closing, finishing, finishing_if, at_slot, outcome}
 use Rattle.lq_world.specs.Runs.{Step}
 use Rattle.lq_world.specs.Fair.{IsFair, IsFairSlot, IsFairWorld}
-use Rattle.lq_world.specs.Laws.{FirstWorldsAreFair, RunsKeepSlots, RunsKeepWorldsFair}
+use Rattle.lq_world.specs.Laws.{FirstWorldsAreFair, RunsKeepWorldsFair}
 use Rattle.lq_world.specs.World.{is_over}
-use Rattle.lq_world.proofs.ListLemmas.{all-get, all-set, all-map, both-true, length-map}
-use Rattle.lq_world.proofs.SubLemmas.{Leaves, keeps-change, putting-leaves, taking-leaves, hanging_up-leaves, noticing-leaves, closing-leaves}
+use Rattle.lq_world.proofs.ListLemmas.{all-get, all-set, all-map, both-true}
+use Rattle.lq_world.proofs.SubLemmas.{Leaves, keeps-change, putting-leaves, reading-leaves, hanging_up-leaves, noticing-leaves, closing-leaves}
 
 -- slots that are all free are fair
 free_slots : (b : Book) (n : ℕ) → AllByRecursion (IsFairSlot b) (replicate n None)
@@ -130,59 +133,6 @@ finishing-fair b s h = by (is_over b s)
     by true = tt
     by false = h
 
--- ---- as many slots
-
--- a list in which one place is set has the same length
-length-slice_set : {A : Type 0} (xs : List A) (i : ℕ) (x : A)
-    → length (slice_set xs i x) ≡ length xs
-length-slice_set [] i x = refl
-length-slice_set (y ∷ xs) zero x = refl
-length-slice_set (y ∷ xs) (suc i) x = ap suc (length-slice_set xs i x)
-
--- a change leaves the number of slots
-changing-slots : (w : World) (c : Change_) (r : Option Refusal)
-    → length (changing w c r).1.slots ≡ length w.slots
-changing-slots w c (Some e) = refl
-changing-slots w c None = length-map (option_map (after_change w.book c)) w.slots
-
--- an opening leaves the number of slots
-opening-slots : (w : World) (s : Sub) (r : Option Refusal)
-    → length (opening w s r).1.slots ≡ length w.slots
-opening-slots w s (Some e) = refl
-opening-slots w s None = length-slice_set w.slots (taken_before_free w.slots) (Some s)
-
--- an event in one slot leaves the number of slots
-at_slot-slots : (w : World) (slot : ℕ) (o : Option Sub) (event : Sub → Answer × Option Sub)
-    → length (at_slot w slot o event).1.slots ≡ length w.slots
-at_slot-slots w slot None event = refl
-at_slot-slots w slot (Some s) event = length-slice_set w.slots (slot - 1) (event s).1
-
--- each event leaves the number of slots
-outcome-slots : (w : World) (e : Happening) → length (outcome w e).1.slots ≡ length w.slots
-outcome-slots w (Changing c) = changing-slots w c (refused_by (state_of w.book) c)
-outcome-slots w (Opening q port backlog moved) =
-    opening-slots w (opened_now w q port backlog moved) (open_refusal w port backlog)
-outcome-slots w (Putting k) = at_slot-slots w k (slot_at w k) (putting w.book)
-outcome-slots w (Taking k) = at_slot-slots w k (slot_at w k) (taking w.book)
-outcome-slots w (HangingUp k) = at_slot-slots w k (slot_at w k) hanging_up
-outcome-slots w (Noticing k) = at_slot-slots w k (slot_at w k) (noticing w.book)
-outcome-slots w (Closing k) = at_slot-slots w k (slot_at w k) (closing w.book)
-outcome-slots w (Finishing k) = at_slot-slots w k (slot_at w k) (finishing w.book)
-
--- each step leaves the number of slots
-step-slots : (w : World) (e : Happening) (a : Answer) (v : World) → Step w e a v
-    → length v.slots ≡ length w.slots
-step-slots w e a v (inl done) = ap (λ (u : World). length u.slots) done.1 ∙ outcome-slots w e
-step-slots w e a v (inr ran) = ap (λ (u : World). length u.slots) ran.2
-
--- a run leaves the number of slots
-pub run-slots : RunsKeepSlots
-run-slots w end [] [] run = ap (λ (u : World). length u.slots) run
-run-slots w end [] (a ∷ answers) run = absurd run
-run-slots w end (e ∷ events) [] run = absurd run
-run-slots w end (e ∷ events) (a ∷ answers) run =
-    run-slots run.0 end events answers run.2 ∙ step-slots w e a run.0 run.1
-
 module _ (join : UpdatesJoin) where
   -- a change leaves each slot fair
   changed-fair : (b : Book) (c : Change_) (o : Option Sub) → IsFairSlot b o
@@ -204,26 +154,26 @@ module _ (join : UpdatesJoin) where
   opening-fair w s None fair h = all-set (IsFairSlot w.book) w.slots _ (Some s) h (fair refl)
 
   -- each event leaves a fair world fair
-  pub outcome-fair : (w : World) (e : Happening) → IsFairWorld w → IsFairWorld (outcome w e).1
-  outcome-fair w (Changing c) h = changing-fair w c (refused_by (state_of w.book) c) h
-  outcome-fair w (Opening q port backlog moved) h =
+  pub outcome-fair : (w : World) (e : Event) → IsFairWorld w → IsFairWorld (outcome w e).1
+  outcome-fair w (Change c) h = changing-fair w c (refused_by (state_of w.book) c) h
+  outcome-fair w (Open q port backlog moved) h =
       opening-fair w (opened_now w q port backlog moved) (open_refusal w port backlog)
       (λ none. opened-fair w q port backlog moved (may_open w port backlog none)) h
-  outcome-fair w (Putting k) h = at_slot-fair w k (putting w.book)
+  outcome-fair w (At k act.Put) h = at_slot-fair w k (putting w.book)
       (λ s f. left-fair w.book s _ _ (putting-leaves w.book s f)) h (slot_at w k) refl
-  outcome-fair w (Taking k) h = at_slot-fair w k (taking w.book)
-      (λ s f. left-fair w.book s _ _ (taking-leaves w.book s f)) h (slot_at w k) refl
-  outcome-fair w (HangingUp k) h = at_slot-fair w k hanging_up
+  outcome-fair w (At k act.Read) h = at_slot-fair w k (reading w.book)
+      (λ s f. left-fair w.book s _ _ (reading-leaves w.book s f)) h (slot_at w k) refl
+  outcome-fair w (At k act.HangUp) h = at_slot-fair w k hanging_up
       (λ s f. left-fair w.book s _ _ (hanging_up-leaves w.book s f)) h (slot_at w k) refl
-  outcome-fair w (Noticing k) h = at_slot-fair w k (noticing w.book)
+  outcome-fair w (At k act.Notice) h = at_slot-fair w k (noticing w.book)
       (λ s f. left-fair w.book s _ _ (noticing-leaves w.book s f)) h (slot_at w k) refl
-  outcome-fair w (Closing k) h = at_slot-fair w k (closing w.book)
+  outcome-fair w (At k act.Close) h = at_slot-fair w k (closing w.book)
       (λ s f. left-fair w.book s _ _ (closing-leaves w.book s f)) h (slot_at w k) refl
-  outcome-fair w (Finishing k) h =
+  outcome-fair w (At k act.Finish) h =
       at_slot-fair w k (finishing w.book) (finishing-fair w.book) h (slot_at w k) refl
 
   -- each step leaves a fair world fair
-  step-fair : (w : World) (e : Happening) (a : Answer) (v : World) → IsFairWorld w → Step w e a v
+  step-fair : (w : World) (e : Event) (a : Answer) (v : World) → IsFairWorld w → Step w e a v
       → IsFairWorld v
   step-fair w e a v h (inl done) =
       subst (λ (u : World). IsFairWorld u) (sym done.1) (outcome-fair w e h)

@@ -9,7 +9,10 @@ use Rattle.lq_value.specs.declared.refusal.Refusal.{Refusal}
 use Rattle.lq_volume.specs.Book.{Book, state_of}
 use Rattle.lq_update.specs.Laws.{UpdatesJoin}
 use Rattle.lq_world.specs.World.{World, Sub, slot_at, can_put, after_change, overrun_if, overruns, is_live, whole}
-use Rattle.lq_world.specs.Events.{Happening, Changing, Putting, Noticing, Closing, Taking, Answer, Moved, changing, putting, putting_if, noticing, noticing_if, closing, closing_if, at_slot, outcome, next}
+use Rattle.lq_world.specs.declared.event.Event.{Event}
+use Rattle.lq_world.specs.declared.event.Event.TheVariants.{Change, At}
+use Rattle.lq_world.specs.declared.event.Act.TheVariants as act
+use Rattle.lq_world.specs.Events.{Answer, Moved, changing, putting, putting_if, noticing, noticing_if, closing, closing_if, at_slot, outcome, next}
 use Rattle.lq_world.specs.Turns.{ports_of, places_in, places_at, puts, notices, all_puts, at_each, at_slot_of, one_notice, after_all, turn_of, turn_outcome}
 use Rattle.lq_world.specs.Fair.{IsFairSlot, IsFairWorld}
 use Rattle.lq_world.specs.Laws.{IsStill, TurnsFillPorts}
@@ -177,7 +180,7 @@ at-book w j event (Some s) = refl
 -- ---- puts, in a world
 
 -- a put in a slot is one put there
-put-here : (w : World) (k : ℕ) → slot_at (next w (Putting k)) k ≡ put_once w.book (slot_at w k)
+put-here : (w : World) (k : ℕ) → slot_at (next w (At k act.Put)) k ≡ put_once w.book (slot_at w k)
 put-here w k = at-here w k (putting w.book) (slot_at w k) refl ∙ by (slot_at w k)
   where
     by : (o : Option Sub) → after_event (putting w.book) o ≡ put_once w.book o
@@ -185,31 +188,31 @@ put-here w k = at-here w k (putting w.book) (slot_at w k) refl ∙ by (slot_at w
     by (Some s) = refl
 
 -- a put in another slot leaves this one
-put-other : (w : World) (k j : ℕ) → k ≢ j → slot_at (next w (Putting j)) k ≡ slot_at w k
+put-other : (w : World) (k j : ℕ) → k ≢ j → slot_at (next w (At j act.Put)) k ≡ slot_at w k
 put-other w k j ne = at-other w k j (putting w.book) (slot_at w j) ne refl
 
 -- a put leaves the book
-put-book : (w : World) (j : ℕ) → (next w (Putting j)).book ≡ w.book
+put-book : (w : World) (j : ℕ) → (next w (At j act.Put)).book ≡ w.book
 put-book w j = at-book w j (putting w.book) (slot_at w j)
 
 -- puts leave the book
 puts-book : (w : World) (j n : ℕ) → (after_all outcome w (puts j n)).book ≡ w.book
 puts-book w j zero = refl
-puts-book w j (suc n) = puts-book (next w (Putting j)) j n ∙ put-book w j
+puts-book w j (suc n) = puts-book (next w (At j act.Put)) j n ∙ put-book w j
 
 -- puts in a slot are that many puts there
 puts-here : (w : World) (k n : ℕ)
     → slot_at (after_all outcome w (puts k n)) k ≡ puts_left w.book n (slot_at w k)
 puts-here w k zero = refl
-puts-here w k (suc n) = puts-here (next w (Putting k)) k n
-    ∙ (ap (λ b. puts_left b n (slot_at (next w (Putting k)) k)) (put-book w k)
+puts-here w k (suc n) = puts-here (next w (At k act.Put)) k n
+    ∙ (ap (λ b. puts_left b n (slot_at (next w (At k act.Put)) k)) (put-book w k)
     ∙ ap (λ o. puts_left w.book n o) (put-here w k))
 
 -- puts in another slot leave this one
 puts-other : (w : World) (k j n : ℕ) → k ≢ j
     → slot_at (after_all outcome w (puts j n)) k ≡ slot_at w k
 puts-other w k j zero ne = refl
-puts-other w k j (suc n) ne = puts-other (next w (Putting j)) k j n ne ∙ put-other w k j ne
+puts-other w k j (suc n) ne = puts-other (next w (At j act.Put)) k j n ne ∙ put-other w k j ne
 
 -- nothing can be put at a slot of a world
 abbrev Still : World → ℕ → Type 0
@@ -243,7 +246,7 @@ puts-still w k j n h = by (nat_eq_or k j)
         (sym (puts-book w j n)) (subst (λ o. StillIn w.book o) (sym (puts-other w k j n ne)) h)
 
 -- events and then others lead to where the others lead from there
-after_all-append : (w : World) (xs ys : List Happening)
+after_all-append : (w : World) (xs ys : List Event)
     → after_all outcome w (xs ++ ys) ≡ after_all outcome (after_all outcome w xs) ys
 after_all-append w [] ys = refl
 after_all-append w (x ∷ xs) ys = after_all-append (next w x) xs ys
@@ -336,7 +339,7 @@ event-port w k j event keeps = by (nat_eq_or k j)
 
 -- noticing a hang-up keeps the size of the port
 noticing-port : (b : Book) → KeepsPort (noticing b)
-noticing-port b s = by (is_live s && s.asked)
+noticing-port b s = by (is_live s && s.hang_up_asked)
   where
     by : (x : Bool) → port_in (noticing_if b s x).1 ≡ s.port
     by true = refl
@@ -352,7 +355,7 @@ closing-port b s = by (is_live s)
 
 -- noticing a hang-up, in whatever slot, keeps the size of this slot's port
 notice-port : (w : World) (k j : ℕ)
-    → port_in (slot_at (next w (Noticing j)) k) ≡ port_in (slot_at w k)
+    → port_in (slot_at (next w (At j act.Notice)) k) ≡ port_in (slot_at w k)
 notice-port w k j = event-port w k j (noticing w.book) (noticing-port w.book)
 
 -- the notices of one slot keep the size of this slot's port
@@ -390,7 +393,7 @@ changed-ports b c (o ∷ slots) (suc i) = changed-ports b c slots i
 
 -- a change, accepted or refused, keeps the size of this slot's port
 change-port : (w : World) (c : Change_) (k : ℕ)
-    → port_in (slot_at (next w (Changing c)) k) ≡ port_in (slot_at w k)
+    → port_in (slot_at (next w (Change c)) k) ≡ port_in (slot_at w k)
 change-port w c k = by (refused_by (state_of w.book) c)
   where
     each : (x : Bool)
@@ -443,30 +446,30 @@ all-fill v w k fair same = still-answers _ k (by (k == 0) refl)
 
 module _ (join : UpdatesJoin) where
   -- events leave a fair world fair
-  after_all-fair : (events : List Happening) (w : World) → IsFairWorld w
+  after_all-fair : (events : List Event) (w : World) → IsFairWorld w
       → IsFairWorld (after_all outcome w events)
   after_all-fair [] w h = h
   after_all-fair (e ∷ events) w h = after_all-fair events (next w e) (outcome-fair join w e h)
 
   -- the puts of a turn fill the ports
   pub turns-fill : TurnsFillPorts
-  turns-fill w fair = (changes, closes, takes)
+  turns-fill w fair = (changes, closes, reads)
     where
-      changes : (c : Change_) (slot : ℕ) → IsStill (turn_outcome w (Changing c)).1 slot
+      changes : (c : Change_) (slot : ℕ) → IsStill (turn_outcome w (Change c)).1 slot
       changes c slot =
           let v = after_all outcome w (notices (ports_of w)) in
-          all-fill (next v (Changing c)) w slot
-          (outcome-fair join v (Changing c) (after_all-fair (notices (ports_of w)) w fair))
+          all-fill (next v (Change c)) w slot
+          (outcome-fair join v (Change c) (after_all-fair (notices (ports_of w)) w fair))
           (change-port v c slot ∙ notices-port (ports_of w) w slot 1)
 
-      closes : (slot : ℕ) → IsStill (turn_outcome w (Closing slot)).1 slot
+      closes : (slot : ℕ) → IsStill (turn_outcome w (At slot act.Close)).1 slot
       closes slot =
-          let v = next w (Noticing slot) in
-          own-fills (next v (Closing slot)) w slot
-          (outcome-fair join v (Closing slot) (outcome-fair join w (Noticing slot) fair))
+          let v = next w (At slot act.Notice) in
+          own-fills (next v (At slot act.Close)) w slot
+          (outcome-fair join v (At slot act.Close) (outcome-fair join w (At slot act.Notice) fair))
           (event-port v slot slot (closing v.book) (closing-port v.book) ∙ notice-port w slot slot)
 
-      takes : (slot : ℕ)
-          → IsStill (after_all outcome w (turn_of (ports_of w) (Taking slot)).before) slot
-      takes slot = own-fills (next w (Noticing slot)) w slot
-          (outcome-fair join w (Noticing slot) fair) (notice-port w slot slot)
+      reads : (slot : ℕ)
+          → IsStill (after_all outcome w (turn_of (ports_of w) (At slot act.Read)).before) slot
+      reads slot = own-fills (next w (At slot act.Notice)) w slot
+          (outcome-fair join w (At slot act.Notice) fair) (notice-port w slot slot)

@@ -14,7 +14,9 @@ use Rattle.lq_update.specs.Updates.{updates_of, IsPrefixOf}
 use Rattle.lq_update.specs.Fold.{folded}
 use Rattle.lq_update.specs.Laws.{FoldsGiveResults, UpdatesJoin, UpdatesGrow, WholeFoldsGiveResults}
 use Rattle.lq_world.specs.World.{World, Sub, taken_before_free}
-use Rattle.lq_world.specs.Events.{Happening, Opening, Answer, Opened, opening, opened_now, open_refusal, with_sub}
+use Rattle.lq_world.specs.declared.event.Event.{Event}
+use Rattle.lq_world.specs.declared.event.Event.TheVariants.{Open}
+use Rattle.lq_world.specs.Events.{Answer, Opened, opening, opened_now, open_refusal, with_sub}
 use Rattle.lq_world.specs.Runs.{Step, Run}
 use Rattle.lq_world.specs.Headline.{reads_of, parcels_in, updates_among, updates_in, accepted_by, accepted, book_of, IsOpening, AreReads, ReadersAreTold}
 use Rattle.lq_world.proofs.WorldLemmas.{after_all-append, number-all, updates_of-rebased}
@@ -27,7 +29,7 @@ use Rattle.lq_world.proofs.RunLemmas.{AreTold, parcels_in-append, updates_among-
 -- ---- the parts of a run
 
 -- what two runs in a row accept is what the first accepts and then the second
-accepted-append : (before events : List Happening) (befores answers : List Answer)
+accepted-append : (before events : List Event) (befores answers : List Answer)
     → length before ≡ length befores → accepted (before ++ events) (befores ++ answers)
     ≡ accepted before befores ++ accepted events answers
 accepted-append [] events [] answers same = refl
@@ -38,7 +40,7 @@ accepted-append (e ∷ before) events (a ∷ befores) answers same =
     ∙ sym (append_assoc (accepted_by e a) (accepted before befores) (accepted events answers))
 
 -- a run goes on where its first part ends
-run_parts : (w : World) (before events : List Happening)
+run_parts : (w : World) (before events : List Event)
     (befores answers : List Answer) (end : World)
     → length before ≡ length befores → Run w (before ++ events) (befores ++ answers) end
     → (mid : World) × Run w before befores mid × Run mid events answers end
@@ -78,7 +80,7 @@ opened_facts w s None slot at first v may told is =
 -- a step that answers an opened slot has opened there
 pub step_opened : (w : World) (q : Query) (port backlog : ℕ) (moved : Bool) (slot at : ℕ)
     (first : List Entry) (v : World)
-    → Step w (Opening q port backlog moved) (Opened slot at first) v
+    → Step w (Open q port backlog moved) (Opened slot at first) v
     → IsOpened w (opened_now w q port backlog moved) slot at first v
 step_opened w q port backlog moved slot at first v (inl done) =
     opened_facts w (opened_now w q port backlog moved) (open_refusal w port backlog) slot at first v
@@ -149,8 +151,8 @@ module _ (join : UpdatesJoin) (grow : UpdatesGrow) (count : ChangesCount) (fold 
     (fold_all : WholeFoldsGiveResults) where
   -- what is taken from a slot, from its opening on, is what the book tells of its query
   opened_reads : (w : World) (q : Query) (port backlog : ℕ) (moved : Bool) (slot at : ℕ)
-      (first : List Entry) (events : List Happening) (answers : List Answer) (end : World)
-      → Run w (Opening q port backlog moved ∷ events) (Opened slot at first ∷ answers) end
+      (first : List Entry) (events : List Event) (answers : List Answer) (end : World)
+      → Run w (Open q port backlog moved ∷ events) (Opened slot at first ∷ answers) end
       → (at ≡ number_of w.book) × (first ≡ result_of q (state_of w.book))
       × AreTold end.book q moved at (reads_of slot events answers)
   opened_reads w q port backlog moved slot at first events answers end run =
@@ -173,13 +175,13 @@ module _ (join : UpdatesJoin) (grow : UpdatesGrow) (count : ChangesCount) (fold 
       )
 
   -- from any world whose book leads to the state
-  pub headline : (w end : World) (events : List Happening) (answers : List Answer)
+  pub headline : (w end : World) (events : List Event) (answers : List Answer)
       → Run w events answers end → ReadersAreTold (state_of w.book) events answers
   headline w end events answers run before after befores afters q port backlog moved slot at first
       is told same =
-      let parts = run_parts w before (Opening q port backlog moved ∷ after) befores
+      let parts = run_parts w before (Open q port backlog moved ∷ after) befores
       (Opened slot at first ∷ afters) end same
-      (subst (λ (es : List Happening). Run w es (befores ++ Opened slot at first ∷ afters) end) is
+      (subst (λ (es : List Event). Run w es (befores ++ Opened slot at first ∷ afters) end) is
       (subst (λ (xs : List Answer). Run w events xs end) told run)) in
       let mid = parts.0 in
       let reads = opened_reads mid q port backlog moved slot at first after afters end parts.2 in
@@ -192,8 +194,8 @@ module _ (join : UpdatesJoin) (grow : UpdatesGrow) (count : ChangesCount) (fold 
       let all : end.book ≡ grown w.book cs = run-book w events answers end run in
       let both : cs ≡ early ++ late =
       ap (λ es. accepted es answers) is
-      ∙ (ap (accepted (before ++ Opening q port backlog moved ∷ after)) told ∙ accepted-append
-      before (Opening q port backlog moved ∷ after) befores (Opened slot at first ∷ afters) same) in
+      ∙ (ap (accepted (before ++ Open q port backlog moved ∷ after)) told ∙ accepted-append
+      before (Open q port backlog moved ∷ after) befores (Opened slot at first ∷ afters) same) in
       let counted = number-all count w.book.start w.book.changes in
       let number : number_of end.book ≡ number_of b =
       omega (arith, ap number_of all, length-append w.book.changes cs, counted) in

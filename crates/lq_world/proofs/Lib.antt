@@ -1,5 +1,5 @@
 -- Read in this order: ListLemmas; WorldLemmas (updates), SubLemmas (one event, one subscription),
--- FairLemmas (what each event keeps); FillLemmas (turns), PassingLemmas (lists, ports, refusals);
+-- FairLemmas (what each event keeps); FillLemmas (turns), PassingLemmas (lists, refusals);
 -- ReadLemmas, BookLemmas, RunLemmas and HeadlineLemmas (whole runs). Example has scenarios.
 pub mod ListLemmas
 pub mod WorldLemmas

@@ -1,71 +1,20 @@
--- What a change and an end add to a list, how a list is passed on, and what a refusal leaves.
-use Rattle.std.proofs.Common.{◌≡◌, ℕ, zero, suc, ◌+◌, ◌-◌, ◌≤◌, ◌<◌, List, [], ◌∷◌, ◌++◌, refl, ap, take, drop, length, ◌∙◌, sym, arith, append_assoc, length-append, length-drop, add-one, Some, None, Option, Bool, true, false}
-use Rattle.std.specs.Prelude.{slice_get, slice_set, nat_lt, ◌&&◌, ◌==◌, if◌then◌else◌}
-use Rattle.std.proofs.lemmas.Bool.Decides.{nat_tests}
-use Rattle.std.proofs.lemmas.List.{length-take-le}
+-- How a list is passed on, and what a refusal leaves.
+use Rattle.std.proofs.Common.{◌≡◌, ℕ, zero, suc, ◌+◌, ◌-◌, ◌≤◌, List, [], ◌∷◌, ◌++◌, refl, ap, take, drop, length, ◌∙◌, sym, arith, append_assoc, Some, None, Option, Bool, true, false}
+use Rattle.std.specs.Prelude.{slice_get, slice_set, if◌then◌else◌}
 use Rattle.lq_value.specs.declared.refusal.Refusal.{Refusal}
 use Rattle.lq_volume.specs.declared.change.Change.{Change as Change_}
 use Rattle.lq_volume.specs.Change.{refused as refused_by}
-use Rattle.lq_volume.specs.Book.{Book, grown, number_of, state_of}
+use Rattle.lq_volume.specs.Book.{Book, state_of}
 use Rattle.lq_update.specs.declared.message.Message.{Message}
 use Rattle.lq_update.specs.declared.parcel.Parcel.{Parcel}
-use Rattle.lq_update.specs.declared.parcel.Parcel.TheVariants.{Update}
-use Rattle.lq_update.specs.Updates.{step_of}
-use Rattle.lq_update.specs.Laws.{UpdatesJoin}
-use Rattle.lq_world.specs.World.{World, Sub, in_port, waiting, to_come, one_more_put, covered, covered_by, told, mark_behind, whole, is_live, is_over, can_put, first_in_port, slot_at, with_slot}
-use Rattle.lq_world.specs.Events.{Changing, Opening, Putting, Taking, HangingUp, Noticing, Closing, Finishing, Answer, Refused, changing, opening, opened_now, open_refusal, putting, putting_if, taking, taking_of, hanging_up, noticing, noticing_if, closing, closing_if, finishing, finishing_if, at_slot}
-use Rattle.lq_world.specs.Laws.{LiveListsGrow, EndedListsStay, EndsAddMarks, ListsArePassedOn, PortsAreQueues, RefusalsLeaveWorlds}
-use Rattle.lq_world.proofs.ListLemmas.{drop-inside, lt-false, lt-true, map-append, length-map, take-drop}
-use Rattle.lq_world.proofs.WorldLemmas.{updates_of-change, updates_of-stays}
-use Rattle.lq_world.proofs.SubLemmas.{updates_to, parcels, whole-live, told-live}
+use Rattle.lq_world.specs.World.{World, Sub, in_port, to_come, told, mark_behind, whole, is_live, is_over, can_put, first_in_port, slot_at, with_slot}
+use Rattle.lq_world.specs.declared.event.Event.TheVariants.{Change, Open, At}
+use Rattle.lq_world.specs.declared.event.Act.TheVariants as act
+use Rattle.lq_world.specs.Events.{Answer, Refused, changing, opening, opened_now, open_refusal, putting, putting_if, reading, reading_if, hanging_up, noticing, noticing_if, closing, closing_if, finishing, finishing_if, at_slot}
+use Rattle.lq_world.specs.Laws.{ListsArePassedOn, RefusalsLeaveWorlds}
+use Rattle.lq_world.proofs.ListLemmas.{take-drop}
+use Rattle.lq_world.proofs.SubLemmas.{parcels}
 use Rattle.lq_world.proofs.FairLemmas.{slot-found}
-
--- ---- lists
-
--- a change adds to each live list the updates of its step
-pub lists-grow : UpdatesJoin → LiveListsGrow
-lists-grow join b c s h live =
-    let d = grown b (c ∷ []) in
-    let here = told-live b s live in
-    let to : covered b s ≡ number_of b = ap (covered_by b) live in
-    let step = step_of s.query s.moved (state_of b) c (length (told b s) + 1) in
-    let more : told d s ≡ told b s ++ step =
-    told-live d s live
-    ∙ (updates_of-change join s.query s.moved b c s.opened (omega (arith, h.opened, to))
-    ∙ ap (λ us. us ++ step_of s.query s.moved (state_of b) c (length us + 1)) (sym here)) in
-    let list : whole b s ≡ parcels (told b s) = whole-live b s live ∙ ap parcels (sym here) in
-    let later : whole d s ≡ parcels (told d s) =
-    whole-live d s live ∙ ap parcels (sym (told-live d s live)) in
-    let within : s.put ≤ length (told b s) =
-    omega (arith, h.put, ap length list, length-map (λ m. Update m) (told b s)) in
-    let waits : waiting d s ≡ waiting b s ++ step = ap (drop s.put) more
-    ∙ drop-inside s.put (told b s) step within in (
-      more,
-      later ∙ (ap parcels more ∙ (map-append (λ m. Update m) (told b s) step
-          ∙ ap (λ ps. ps ++ parcels step) (sym list))),
-      waits,
-      ap length waits ∙ length-append (waiting b s) step,
-    )
-
--- the list of a subscription that has ended stays as it is
-pub lists-stay : EndedListsStay
-lists-stay b cs s e h is =
-    let to : covered b s ≡ e.change = ap (covered_by b) is in
-    let same : told (grown b cs) s ≡ told b s =
-    ap (λ o. updates_to (grown b cs) s (covered_by (grown b cs) o)) is
-    ∙ (updates_of-stays s.query s.moved b cs s.opened e.change h.begun (omega (arith, h.opened, to))
-    (omega (arith, h.covered, to))
-    ∙ ap (λ o. updates_to b s (covered_by b o)) (sym is)) in
-    (same, ap (λ us. parcels us ++ mark_behind (length us) s.end) same)
-
--- an end adds the mark to a list, and nothing else
-pub ends-add : EndsAddMarks
-ends-add b s cause live =
-    let n = number_of b in
-    let mark : List Message → List Parcel =
-    λ us. mark_behind (length us) (Some (record { cause = cause; change = n })) in
-    ap (λ ps. ps ++ mark (updates_to b s n)) (sym (whole-live b s live))
-    ∙ ap (λ us. whole b s ++ mark us) (sym (told-live b s live))
 
 -- ---- the parts of a list
 
@@ -99,92 +48,6 @@ lists-passed b s h =
     ∙ (ap (λ ps. (ps ++ in_port b s) ++ drop s.put xs) (sym (take-of_take s.taken s.put xs h.taken))
     ∙ (ap (λ ps. ps ++ drop s.put xs) (take-drop s.taken (take s.put xs)) ∙ take-drop s.put xs)))
 
--- ---- the port
-
--- one more left out is one left out of what lies after the others
-drop-suc : {A : Type 0} (n : ℕ) (xs : List A) → drop (n + 1) xs ≡ drop 1 (drop n xs)
-drop-suc n xs = rw add-one (by n xs)
-  where
-    by : {A : Type 0} (n : ℕ) (xs : List A) → drop (suc n) xs ≡ drop 1 (drop n xs)
-    by zero xs = refl
-    by (suc n) [] = refl
-    by (suc n) (x ∷ xs) = by n xs
-
--- a front longer by one is that front and the first member after it
-take-suc : {A : Type 0} (n : ℕ) (xs : List A) → take (n + 1) xs ≡ take n xs ++ take 1 (drop n xs)
-take-suc n xs = rw add-one (by n xs)
-  where
-    by : {A : Type 0} (n : ℕ) (xs : List A) → take (suc n) xs ≡ take n xs ++ take 1 (drop n xs)
-    by zero [] = refl
-    by zero (x ∷ xs) = refl
-    by (suc n) [] = refl
-    by (suc n) (x ∷ xs) = ap (λ ys. x ∷ ys) (by n xs)
-
--- a member within a front stands at the start of what is left of the front
-slice_get-within : {A : Type 0} (xs : List A) (i n : ℕ) → i < n
-    → slice_get xs i ≡ slice_get (drop i (take n xs)) 0
-slice_get-within xs i zero h = absurd (omega arith)
-slice_get-within [] zero (suc n) h = refl
-slice_get-within [] (suc i) (suc n) h = refl
-slice_get-within (x ∷ xs) zero (suc n) h = refl
-slice_get-within (x ∷ xs) (suc i) (suc n) h = slice_get-within xs i n (omega arith)
-
--- past a front nothing is left of it
-slice_get-past : {A : Type 0} (xs : List A) (i n : ℕ) → n ≤ i
-    → None ≡ slice_get (drop i (take n xs)) 0
-slice_get-past xs zero zero h = refl
-slice_get-past xs (suc i) zero h = refl
-slice_get-past xs zero (suc n) h = absurd (omega arith)
-slice_get-past [] (suc i) (suc n) h = refl
-slice_get-past (x ∷ xs) (suc i) (suc n) h = slice_get-past xs i n (omega arith)
-
--- the member at a place, if it is within a front, is the first that is left of it
-slice_get-front : {A : Type 0} (xs : List A) (i n : ℕ)
-    → (if nat_lt i n then slice_get xs i else None) ≡ slice_get (drop i (take n xs)) 0
-slice_get-front {A = A} xs i n = by (nat_lt i n) refl
-  where
-    by : (x : Bool) → nat_lt i n ≡ x
-        → (if x then slice_get xs i else None) ≡ slice_get (drop i (take n xs)) 0
-    by true is = slice_get-within xs i n (lt-true i n is)
-    by false is = slice_get-past xs i n (lt-false i n is)
-
--- the test for one number below another is one for their difference
-more-test : (m n : ℕ) → nat_lt m n ≡ nat_lt 0 (n - m)
-more-test m n = grind (arith, nat_tests)
-
--- the test for a put is the same by counts and by what is left
-same-tests : (m k port put all rest : ℕ) → k ≡ m → rest ≡ all - put
-    → (nat_lt m port && nat_lt put all) ≡ (nat_lt k port && nat_lt 0 rest)
-same-tests m k port put all rest one two =
-    ap (λ x. nat_lt m port && x) (more-test put all ∙ ap (nat_lt 0) (sym two))
-    ∙ ap (λ n. nat_lt n port && nat_lt 0 rest) (sym one)
-
--- all is taken just where nothing is in the port and nothing is to come
-over-test : (taken all k rest : ℕ) → taken + (k + rest) ≡ all → (taken == all) ≡ (k + rest == 0)
-over-test taken all k rest sum = grind (arith, nat_tests)
-
--- a port is a queue: a put adds at its end, a take gives its front
-pub ports-are : PortsAreQueues
-ports-are b s h =
-    let xs = whole b s in
-    let rest = to_come-is b s in
-    let port_length : length (in_port b s) ≡ s.put - s.taken =
-    omega (arith, length-drop s.taken (take s.put xs), length-take-le s.put xs h.put) in
-    let rest_length : length (to_come b s) ≡ length xs - s.put = ap length rest
-    ∙ length-drop s.put xs in (
-      port_length,
-      same-tests (s.put - s.taken) (length (in_port b s)) s.port s.put (length xs)
-          (length (to_come b s)) port_length rest_length,
-      ap (drop s.taken) (take-suc s.put xs) ∙ (drop-inside s.taken (take s.put xs)
-          (take 1 (drop s.put xs)) (omega (arith, length-take-le s.put xs h.put, h.taken))
-          ∙ ap (λ ps. in_port b s ++ take 1 ps) (sym rest)),
-      to_come-is b (one_more_put s) ∙ (drop-suc s.put xs ∙ ap (drop 1) (sym rest)),
-      slice_get-front xs s.taken s.put,
-      drop-suc s.taken (take s.put xs),
-      ap (λ x. if is_live s then false else x) (over-test s.taken (length xs) (length (in_port b s))
-          (length (to_come b s)) (omega (arith, h.taken, h.put, port_length, rest_length))),
-    )
-
 -- ---- a refusal
 
 -- a place that is set to what stands there leaves the list
@@ -216,11 +79,11 @@ putting-alone b s r is = by (can_put b s) is
     by true is = absurd (let no : ⊥ = cc in no)
     by false is = refl
 
--- a take that is refused leaves its subscription
-taking-alone : (b : Book) → RefusesAlone (taking b)
-taking-alone b s r is = by (first_in_port b s) is
+-- a read that is refused leaves its subscription
+reading-alone : (b : Book) → RefusesAlone (reading b)
+reading-alone b s r is = by (first_in_port b s) is
   where
-    by : (o : Option Parcel) → (taking_of b s o).0 ≡ Refused r → (taking_of b s o).1 ≡ Some s
+    by : (o : Option Parcel) → (reading_if b s o).0 ≡ Refused r → (reading_if b s o).1 ≡ Some s
     by None is = refl
     by (Some p) is = absurd (let no : ⊥ = cc in no)
 
@@ -266,18 +129,18 @@ opening-refused w s None r is = absurd (let no : ⊥ = cc in no)
 
 -- each event that is refused leaves the world
 pub refusals-leave : RefusalsLeaveWorlds
-refusals-leave w (Changing c) r is = changing-refused w c (refused_by (state_of w.book) c) r is
-refusals-leave w (Opening q port backlog moved) r is =
+refusals-leave w (Change c) r is = changing-refused w c (refused_by (state_of w.book) c) r is
+refusals-leave w (Open q port backlog moved) r is =
     opening-refused w (opened_now w q port backlog moved) (open_refusal w port backlog) r is
-refusals-leave w (Putting k) r is =
+refusals-leave w (At k act.Put) r is =
     at_slot-refused w k (putting w.book) r (putting-alone w.book) (slot_at w k) refl is
-refusals-leave w (Taking k) r is =
-    at_slot-refused w k (taking w.book) r (taking-alone w.book) (slot_at w k) refl is
-refusals-leave w (HangingUp k) r is =
+refusals-leave w (At k act.Read) r is =
+    at_slot-refused w k (reading w.book) r (reading-alone w.book) (slot_at w k) refl is
+refusals-leave w (At k act.HangUp) r is =
     at_slot-refused w k hanging_up r hanging_up-alone (slot_at w k) refl is
-refusals-leave w (Noticing k) r is =
+refusals-leave w (At k act.Notice) r is =
     at_slot-refused w k (noticing w.book) r (noticing-alone w.book) (slot_at w k) refl is
-refusals-leave w (Closing k) r is =
+refusals-leave w (At k act.Close) r is =
     at_slot-refused w k (closing w.book) r (closing-alone w.book) (slot_at w k) refl is
-refusals-leave w (Finishing k) r is =
+refusals-leave w (At k act.Finish) r is =
     at_slot-refused w k (finishing w.book) r (finishing-alone w.book) (slot_at w k) refl is

@@ -1,4 +1,4 @@
--- What the takes of one slot give over a run.
+-- What the reads of one slot give over a run.
 use Rattle.std.proofs.Common.{◌≡◌, ◌≢◌, ℕ, suc, ◌+◌, ◌-◌, List, [], ◌∷◌, refl, ap, ◌∙◌, sym, subst, arith, append_assoc, append-nil, Some, None, Option, inl, inr, Bool, true, false}
 use Rattle.std.specs.Prelude.{slice_get, slice_set, ◌⊎◌, ◌==◌, if◌then◌else◌}
 use Rattle.std.specs.Option.{option_flatten, option_map}
@@ -11,12 +11,15 @@ use Rattle.lq_volume.specs.Change.{refused as refused_by}
 use Rattle.lq_volume.specs.Book.{Book, grown, state_of}
 use Rattle.lq_update.specs.Laws.{UpdatesJoin}
 use Rattle.lq_world.specs.World.{World, Sub, is_over, slot_at, taken_before_free, with_slot, after_change}
-use Rattle.lq_world.specs.Events.{Happening, Changing, Opening, Putting, Taking, HangingUp, Noticing, Closing, Finishing, Answer, Changed, Opened, Moved, Took, Empty, Ended, Asked, Noticed, Shut, Finished, Refused, changing, opening, opened_now, open_refusal, putting, taking, hanging_up, noticing, closing, finishing, finishing_if, at_slot, outcome}
+use Rattle.lq_world.specs.declared.event.Event.{Event}
+use Rattle.lq_world.specs.declared.event.Event.TheVariants.{Change, Open, At}
+use Rattle.lq_world.specs.declared.event.Act.TheVariants as act
+use Rattle.lq_world.specs.Events.{Answer, Changed, Opened, Moved, Read, Empty, Ended, Asked, Noticed, Shut, Finished, Refused, changing, opening, opened_now, open_refusal, putting, reading, hanging_up, noticing, closing, finishing, finishing_if, at_slot, outcome, acting}
 use Rattle.lq_world.specs.Runs.{Step, Run}
 use Rattle.lq_world.specs.Fair.{IsFair}
 use Rattle.lq_world.specs.Headline.{read_by, frees, accepted_by, accepted}
 use Rattle.lq_world.proofs.ListLemmas.{slice_get-set_here, slice_get-set_other, slice_get-map}
-use Rattle.lq_world.proofs.SubLemmas.{IsOver, Reads, Leaves, over-from, keeps-change, after_change-taken, reads-nothing, reads-self, taken_within, putting-leaves, taking-leaves, hanging_up-leaves, noticing-leaves, closing-leaves}
+use Rattle.lq_world.proofs.SubLemmas.{IsOver, Reads, Leaves, over-from, keeps-change, after_change-taken, reads-nothing, reads-self, taken_within, putting-leaves, reading-leaves, hanging_up-leaves, noticing-leaves, closing-leaves}
 
 -- ---- the book of a run
 
@@ -26,7 +29,7 @@ same_book b = ap (λ cs. record { start = b.start; changes = cs }) (sym (append-
 
 -- a change adds to the book itself if it is accepted, and else nothing
 changing-book : (w : World) (c : Change_) (r : Option Refusal)
-    → (changing w c r).1.book ≡ grown w.book (accepted_by (Changing c) (changing w c r).0)
+    → (changing w c r).1.book ≡ grown w.book (accepted_by (Change c) (changing w c r).0)
 changing-book w c (Some e) = same_book w.book
 changing-book w c None = refl
 
@@ -42,32 +45,22 @@ at_slot-book w k None event = refl
 at_slot-book w k (Some s) event = refl
 
 -- an event adds to the book what it accepts
-outcome-book : (w : World) (e : Happening)
+outcome-book : (w : World) (e : Event)
     → (outcome w e).1.book ≡ grown w.book (accepted_by e (outcome w e).0)
-outcome-book w (Changing c) = changing-book w c (refused_by (state_of w.book) c)
-outcome-book w (Opening q port backlog moved) =
+outcome-book w (Change c) = changing-book w c (refused_by (state_of w.book) c)
+outcome-book w (Open q port backlog moved) =
     opening-book w (opened_now w q port backlog moved) (open_refusal w port backlog)
     ∙ same_book w.book
-outcome-book w (Putting k) = at_slot-book w k (slot_at w k) (putting w.book) ∙ same_book w.book
-outcome-book w (Taking k) = at_slot-book w k (slot_at w k) (taking w.book) ∙ same_book w.book
-outcome-book w (HangingUp k) = at_slot-book w k (slot_at w k) hanging_up ∙ same_book w.book
-outcome-book w (Noticing k) = at_slot-book w k (slot_at w k) (noticing w.book) ∙ same_book w.book
-outcome-book w (Closing k) = at_slot-book w k (slot_at w k) (closing w.book) ∙ same_book w.book
-outcome-book w (Finishing k) = at_slot-book w k (slot_at w k) (finishing w.book) ∙ same_book w.book
+outcome-book w (At k x) = at_slot-book w k (slot_at w k) (acting w.book x) ∙ same_book w.book
 
 -- an event that is refused accepts no change
-pub accepted_by-refused : (e : Happening) (r : Refusal) → accepted_by e (Refused r) ≡ []
-accepted_by-refused (Changing c) r = refl
-accepted_by-refused (Opening q port backlog moved) r = refl
-accepted_by-refused (Putting k) r = refl
-accepted_by-refused (Taking k) r = refl
-accepted_by-refused (HangingUp k) r = refl
-accepted_by-refused (Noticing k) r = refl
-accepted_by-refused (Closing k) r = refl
-accepted_by-refused (Finishing k) r = refl
+pub accepted_by-refused : (e : Event) (r : Refusal) → accepted_by e (Refused r) ≡ []
+accepted_by-refused (Change c) r = refl
+accepted_by-refused (Open q port backlog moved) r = refl
+accepted_by-refused (At k x) r = refl
 
 -- a step adds to the book what it accepts
-pub step-book : (w : World) (e : Happening) (a : Answer) (v : World) → Step w e a v
+pub step-book : (w : World) (e : Event) (a : Answer) (v : World) → Step w e a v
     → v.book ≡ grown w.book (accepted_by e a)
 step-book w e a v (inl done) = ap (λ (u : World). u.book) done.1
     ∙ (outcome-book w e ∙ ap (λ b. grown w.book (accepted_by e b)) (sym done.0))
@@ -77,7 +70,7 @@ step-book w e a v (inr ran) =
     ∙ ap (λ b. grown w.book (accepted_by e b)) (sym ran.1)))
 
 -- after a run the book has the accepted changes at its end
-pub run-book : (w : World) (events : List Happening) (answers : List Answer) (end : World)
+pub run-book : (w : World) (events : List Event) (answers : List Answer) (end : World)
     → Run w events answers end → end.book ≡ grown w.book (accepted events answers)
 run-book w [] [] end run = ap (λ (v : World). v.book) run ∙ same_book w.book
 run-book w [] (a ∷ answers) end run = absurd run
@@ -95,14 +88,14 @@ pub record Stands (w : World) (i : ℕ) (s : Sub) : Type 0 where
   pub here : slice_get w.slots i ≡ Some (Some s)
   pub fair : IsFair w.book s
 
--- from w to v it goes on at its place, and these takes were answered
+-- from w to v it goes on at its place, and these reads were answered
 pub record Goes (w : World) (i : ℕ) (s : Sub) (reads : List Answer) (v : World) : Type 0 where
   pub sub : Sub
   pub here : slice_get v.slots i ≡ Some (Some sub)
   pub does : Reads w.book s v.book sub reads
 
 -- it goes on, or it was over and its slot is free
-abbrev pub Passes : World → ℕ → Sub → Happening → Answer → World → Type 0
+abbrev pub Passes : World → ℕ → Sub → Event → Answer → World → Type 0
 Passes w i s e a v = ((frees (i + 1) e a ≡ true) × IsOver w.book s)
     ⊎ ((frees (i + 1) e a ≡ false) × Goes w i s (read_by (i + 1) e a) v)
 
@@ -161,7 +154,7 @@ other_event w i s k event h other = elim (cases_eq k 0) [
           does = reads-self w.book s h.fair;
         }
 
--- an event in some slot that takes nothing leaves this slot's reads
+-- an event in some slot that reads nothing leaves this slot's reads
 slot_event : (w : World) (i : ℕ) (s : Sub) (k : ℕ) (event : Sub → Answer × Option Sub)
     → Stands w i s → Leaves w.book s [] (event s).1
     → Goes w i s [] (at_slot w k (slot_at w k) event).1
@@ -192,46 +185,46 @@ opening-goes w i s t None h =
       does = reads-self w.book s h.fair;
     }
 
--- ---- what a take of a slot is answered
+-- ---- what a read of a slot is answered
 
--- the answer to a take from this slot is one that it reads
-read_own : (slot k : ℕ) (a : Answer) → k ≡ slot → read_by slot (Taking k) a ≡ a ∷ []
+-- the answer to a read of this slot is one of its reads
+read_own : (slot k : ℕ) (a : Answer) → k ≡ slot → read_by slot (At k act.Read) a ≡ a ∷ []
 read_own slot k a own =
     let e : (k == slot) ≡ true = grind (arith, nat_tests) in
     ap (λ x. if x then a ∷ [] else []) e
 
--- the answer to a take from another slot is none that it reads
-read_other : (slot k : ℕ) (a : Answer) → k ≢ slot → read_by slot (Taking k) a ≡ []
+-- the answer to a read of another slot is none of its reads
+read_other : (slot k : ℕ) (a : Answer) → k ≢ slot → read_by slot (At k act.Read) a ≡ []
 read_other slot k a other =
     let e : (k == slot) ≡ false = grind (arith, nat_tests) in
     ap (λ x. if x then a ∷ [] else []) e
 
--- a take gives this slot's reads its answer, if it is from this slot
-taking-goes : (w : World) (i : ℕ) (s : Sub) (k : ℕ) → Stands w i s
-    → Goes w i s (read_by (i + 1) (Taking k) (at_slot w k (slot_at w k) (taking w.book)).0)
-    (at_slot w k (slot_at w k) (taking w.book)).1
-taking-goes w i s k h = elim (cases_eq k (i + 1)) [
+-- a read gives this slot's reads its answer, if it is of this slot
+reading-goes : (w : World) (i : ℕ) (s : Sub) (k : ℕ) → Stands w i s
+    → Goes w i s (read_by (i + 1) (At k act.Read) (at_slot w k (slot_at w k) (reading w.book)).0)
+    (at_slot w k (slot_at w k) (reading w.book)).1
+reading-goes w i s k h = elim (cases_eq k (i + 1)) [
   | inl own ↦
-      let v = (at_slot w k (slot_at w k) (taking w.book)).1 in
-      let answered : (at_slot w k (slot_at w k) (taking w.book)).0 ≡ (taking w.book s).0 =
-      ap (λ o. (at_slot w k o (taking w.book)).0) (slot_here w i s k h.here own) in
+      let v = (at_slot w k (slot_at w k) (reading w.book)).1 in
+      let answered : (at_slot w k (slot_at w k) (reading w.book)).0 ≡ (reading w.book s).0 =
+      ap (λ o. (at_slot w k o (reading w.book)).0) (slot_here w i s k h.here own) in
       subst (λ (xs : List Answer). Goes w i s xs v)
       (sym (read_own (i + 1) k _ own ∙ ap (λ a. a ∷ []) answered))
-      (own_event w i s k (taking w.book) _ h own (taking-leaves w.book s h.fair))
+      (own_event w i s k (reading w.book) _ h own (reading-leaves w.book s h.fair))
   | inr other ↦
-      let v = (at_slot w k (slot_at w k) (taking w.book)).1 in
+      let v = (at_slot w k (slot_at w k) (reading w.book)).1 in
       subst (λ (xs : List Answer). Goes w i s xs v) (sym (read_other (i + 1) k _ other))
-      (other_event w i s k (taking w.book) h other)
+      (other_event w i s k (reading w.book) h other)
 ]
 
 -- ---- a finish
 
 -- a finish in another slot does not free this one
-frees_other : (slot k : ℕ) (a : Answer) → k ≢ slot → frees slot (Finishing k) a ≡ false
+frees_other : (slot k : ℕ) (a : Answer) → k ≢ slot → frees slot (At k act.Finish) a ≡ false
 frees_other slot k (Changed applied) other = refl
 frees_other slot k (Opened n at first) other = refl
 frees_other slot k (Moved was) other = refl
-frees_other slot k (Took p) other = refl
+frees_other slot k (Read p) other = refl
 frees_other slot k Empty other = refl
 frees_other slot k Ended other = refl
 frees_other slot k Asked other = refl
@@ -242,18 +235,19 @@ frees_other slot k (Refused r) other = refl
 
 -- a finish leaves this slot's reads, or frees the slot
 finishing-goes : (w : World) (i : ℕ) (s : Sub) (k : ℕ) → Stands w i s
-    → Passes w i s (Finishing k) (at_slot w k (slot_at w k) (finishing w.book)).0
+    → Passes w i s (At k act.Finish) (at_slot w k (slot_at w k) (finishing w.book)).0
     (at_slot w k (slot_at w k) (finishing w.book)).1
 finishing-goes w i s k h = elim (cases_eq k (i + 1)) [
   | inl own ↦
-      subst (λ (o : Option Sub). Passes w i s (Finishing k) (at_slot w k o (finishing w.book)).0
+      subst (λ (o : Option Sub). Passes w i s (At k act.Finish) (at_slot w k o (finishing w.book)).0
       (at_slot w k o (finishing w.book)).1) (sym (slot_here w i s k h.here own))
       (by own (is_over w.book s) refl)
   | inr other ↦ inr (frees_other (i + 1) k _ other, other_event w i s k (finishing w.book) h other)
 ]
   where
     by : k ≡ i + 1 → (x : Bool) → is_over w.book s ≡ x
-        → Passes w i s (Finishing k) (finishing_if s x).0 (with_slot w (k - 1) (finishing_if s x).1)
+        → Passes w i s (At k act.Finish) (finishing_if s x).0
+        (with_slot w (k - 1) (finishing_if s x).1)
     by own true is = inl (grind (arith, nat_tests), over-from w.book s is)
     by own false is = inr (
       refl,
@@ -278,43 +272,38 @@ module _ (join : UpdatesJoin) where
   }
 
   -- each event leaves this slot's reads, gives one more, or frees the slot
-  outcome-goes : (w : World) (i : ℕ) (s : Sub) (e : Happening) → Stands w i s
+  outcome-goes : (w : World) (i : ℕ) (s : Sub) (e : Event) → Stands w i s
       → Passes w i s e (outcome w e).0 (outcome w e).1
-  outcome-goes w i s (Changing c) h =
+  outcome-goes w i s (Change c) h =
       inr (refl, changing-goes w i s c (refused_by (state_of w.book) c) h)
-  outcome-goes w i s (Opening q port backlog moved) h = inr (
+  outcome-goes w i s (Open q port backlog moved) h = inr (
     refl,
     opening-goes w i s (opened_now w q port backlog moved) (open_refusal w port backlog) h,
   )
-  outcome-goes w i s (Putting k) h =
+  outcome-goes w i s (At k act.Put) h =
       inr (refl, slot_event w i s k (putting w.book) h (putting-leaves w.book s h.fair))
-  outcome-goes w i s (Taking k) h = inr (refl, taking-goes w i s k h)
-  outcome-goes w i s (HangingUp k) h =
+  outcome-goes w i s (At k act.Read) h = inr (refl, reading-goes w i s k h)
+  outcome-goes w i s (At k act.HangUp) h =
       inr (refl, slot_event w i s k hanging_up h (hanging_up-leaves w.book s h.fair))
-  outcome-goes w i s (Noticing k) h =
+  outcome-goes w i s (At k act.Notice) h =
       inr (refl, slot_event w i s k (noticing w.book) h (noticing-leaves w.book s h.fair))
-  outcome-goes w i s (Closing k) h =
+  outcome-goes w i s (At k act.Close) h =
       inr (refl, slot_event w i s k (closing w.book) h (closing-leaves w.book s h.fair))
-  outcome-goes w i s (Finishing k) h = finishing-goes w i s k h
+  outcome-goes w i s (At k act.Finish) h = finishing-goes w i s k h
 
   -- each step leaves this slot's reads, gives one more, or frees the slot
-  pub step-goes : (w : World) (i : ℕ) (s : Sub) (e : Happening) (a : Answer) (v : World)
+  pub step-goes : (w : World) (i : ℕ) (s : Sub) (e : Event) (a : Answer) (v : World)
       → Stands w i s → Step w e a v → Passes w i s e a v
   step-goes w i s e a v h (inl done) =
       subst (λ (b : Answer). Passes w i s e b v) (sym done.0)
       (subst (λ (u : World). Passes w i s e (outcome w e).0 u) (sym done.1)
       (outcome-goes w i s e h))
-  step-goes w i s (Changing c) a v h (inr ran) =
-      subst (λ (b : Answer). Passes w i s (Changing c) b v) (sym ran.1)
-      (subst (λ (u : World). Passes w i s (Changing c) (Refused NoMemory) u) (sym ran.2)
+  step-goes w i s (Change c) a v h (inr ran) =
+      subst (λ (b : Answer). Passes w i s (Change c) b v) (sym ran.1)
+      (subst (λ (u : World). Passes w i s (Change c) (Refused NoMemory) u) (sym ran.2)
       (inr (refl, rests w i s h)))
-  step-goes w i s (Opening q port backlog moved) a v h (inr ran) =
-      subst (λ (b : Answer). Passes w i s (Opening q port backlog moved) b v) (sym ran.1)
-      (subst (λ (u : World). Passes w i s (Opening q port backlog moved) (Refused NoMemory) u)
+  step-goes w i s (Open q port backlog moved) a v h (inr ran) =
+      subst (λ (b : Answer). Passes w i s (Open q port backlog moved) b v) (sym ran.1)
+      (subst (λ (u : World). Passes w i s (Open q port backlog moved) (Refused NoMemory) u)
       (sym ran.2) (inr (refl, rests w i s h)))
-  step-goes w i s (Putting k) a v h (inr ran) = absurd ran.0
-  step-goes w i s (Taking k) a v h (inr ran) = absurd ran.0
-  step-goes w i s (HangingUp k) a v h (inr ran) = absurd ran.0
-  step-goes w i s (Noticing k) a v h (inr ran) = absurd ran.0
-  step-goes w i s (Closing k) a v h (inr ran) = absurd ran.0
-  step-goes w i s (Finishing k) a v h (inr ran) = absurd ran.0
+  step-goes w i s (At k x) a v h (inr ran) = absurd ran.0

@@ -1,4 +1,4 @@
--- What the takes of a subscription are answered over a run from its opening on.
+-- What the reads of a subscription are answered over a run from its opening on.
 use Rattle.std.proofs.Common.{◌≡◌, ℕ, zero, suc, ◌+◌, ◌-◌, ◌≤◌, List, [], ◌∷◌, ◌++◌, refl, ap, take, drop, length, ◌∙◌, sym, subst, arith, append_assoc, append-nil, Some, None, Option, inl, inr, Bool, true, false}
 use Rattle.std.specs.Prelude.{◌⊎◌, ◌==◌, if◌then◌else◌}
 use Rattle.std.specs.List.{AllByRecursion}
@@ -11,7 +11,10 @@ use Rattle.lq_update.specs.declared.parcel.Parcel.TheVariants.{Update, Fin}
 use Rattle.lq_update.specs.Updates.{updates_of, IsPrefixOf}
 use Rattle.lq_update.specs.Laws.{UpdatesJoin, UpdatesGrow}
 use Rattle.lq_world.specs.World.{World, Sub, End, covered, covered_by, told, mark_behind, whole}
-use Rattle.lq_world.specs.Events.{Happening, Changing, Opening, Putting, Taking, HangingUp, Noticing, Closing, Finishing, Answer, Took, Ended}
+use Rattle.lq_world.specs.declared.event.Event.{Event}
+use Rattle.lq_world.specs.declared.event.Event.TheVariants.{Change, Open, At}
+use Rattle.lq_world.specs.declared.event.Act.TheVariants as act
+use Rattle.lq_world.specs.Events.{Answer, Read, Ended}
 use Rattle.lq_world.specs.Runs.{Run}
 use Rattle.lq_world.specs.Fair.{IsFair}
 use Rattle.lq_world.specs.Headline.{read_by, reads_of, parcel_in, parcels_in, updates_among, updates_in, accepted, HasMark}
@@ -23,14 +26,14 @@ use Rattle.lq_world.proofs.ReadLemmas.{Stands, Passes, step-goes, run-book}
 abbrev IsMarked : List Parcel → Type 0
 IsMarked ps = (m : Mark) × (front : List Parcel) × (ps ≡ front ++ Fin m ∷ [])
 
--- what the takes were answered, from one point of a subscription to another
+-- what the reads were answered, from one point of a subscription to another
 pub record Ran (b : Book) (s : Sub) (d : Book) (reads : List Answer) : Type 0 where
   pub sub : Sub
   pub same : IsSame s sub
   pub fair : IsFair d sub
   pub front : take s.taken (whole b s) ++ parcels_in reads ≡ take sub.taken (whole d sub)
   pub over : IsOver b s → AllByRecursion IsEnded reads
-  pub marked : (front rest : List Answer) (m : Mark) → reads ≡ front ++ Took (Fin m) ∷ rest
+  pub marked : (front rest : List Answer) (m : Mark) → reads ≡ front ++ Read (Fin m) ∷ rest
       → AllByRecursion IsEnded rest
   pub shown : (front rest : List Answer) → reads ≡ front ++ Ended ∷ rest
       → IsMarked (take s.taken (whole b s) ++ parcels_in front)
@@ -48,7 +51,7 @@ ran-nothing b s d t r = record {
   fair = r.keeps.fair;
   front = r.front;
   over = λ o. tt;
-  marked = λ front rest m is. absurd (no_place front rest (Took (Fin m)) is);
+  marked = λ front rest m is. absurd (no_place front rest (Read (Fin m)) is);
   shown = λ front rest is. absurd (no_place front rest Ended is);
 }
 
@@ -72,22 +75,22 @@ over-marked b s o =
           ∙ ap (λ e. us ++ mark_behind (length (told b s)) e) o.1),
     )
 
--- one event answers one take at most
-read_shape : (slot : ℕ) (e : Happening) (a : Answer)
+-- one event answers one read at most
+read_shape : (slot : ℕ) (e : Event) (a : Answer)
     → (read_by slot e a ≡ []) ⊎ ((x : Answer) × (read_by slot e a ≡ x ∷ []))
-read_shape slot (Changing c) a = inl refl
-read_shape slot (Opening q port backlog moved) a = inl refl
-read_shape slot (Putting k) a = inl refl
-read_shape slot (Taking k) a = by (k == slot)
+read_shape slot (Change c) a = inl refl
+read_shape slot (Open q port backlog moved) a = inl refl
+read_shape slot (At k act.Put) a = inl refl
+read_shape slot (At k act.Read) a = by (k == slot)
   where
     by : (x : Bool)
         → ((if x then a ∷ [] else []) ≡ []) ⊎ ((y : Answer) × ((if x then a ∷ [] else []) ≡ y ∷ []))
     by true = inr (a, refl)
     by false = inl refl
-read_shape slot (HangingUp k) a = inl refl
-read_shape slot (Noticing k) a = inl refl
-read_shape slot (Closing k) a = inl refl
-read_shape slot (Finishing k) a = inl refl
+read_shape slot (At k act.HangUp) a = inl refl
+read_shape slot (At k act.Notice) a = inl refl
+read_shape slot (At k act.Close) a = inl refl
+read_shape slot (At k act.Finish) a = inl refl
 
 -- one read, or none, and then a run of reads are a run
 ran-more : (b c d : Book) (s t : Sub) (xs ys : List Answer)
@@ -111,22 +114,22 @@ ran-more b c d s t xs ys shape r ran = record {
 }
   where
     one : (x : Answer) → xs ≡ x ∷ [] → (front rest : List Answer) (m : Mark)
-        → x ∷ ys ≡ front ++ Took (Fin m) ∷ rest → AllByRecursion IsEnded rest
+        → x ∷ ys ≡ front ++ Read (Fin m) ∷ rest → AllByRecursion IsEnded rest
     one x at [] rest m is =
-        let first : x ≡ Took (Fin m) = cc in
+        let first : x ≡ Read (Fin m) = cc in
         let others : ys ≡ rest = cc in
         subst (λ (zs : List Answer). AllByRecursion IsEnded zs) others
         (ran.over (r.marked m (at ∙ ap (λ y. y ∷ []) first)))
     one x at (y ∷ front) rest m is =
-        let others : ys ≡ front ++ Took (Fin m) ∷ rest = cc in
+        let others : ys ≡ front ++ Read (Fin m) ∷ rest = cc in
         ran.marked front rest m others
 
     by : (xs ≡ []) ⊎ ((x : Answer) × (xs ≡ x ∷ [])) → (front rest : List Answer) (m : Mark)
-        → xs ++ ys ≡ front ++ Took (Fin m) ∷ rest → AllByRecursion IsEnded rest
+        → xs ++ ys ≡ front ++ Read (Fin m) ∷ rest → AllByRecursion IsEnded rest
     by (inl none) front rest m is = ran.marked front rest m (sym (ap (λ zs. zs ++ ys) none) ∙ is)
     by (inr at) front rest m is = one at.0 at.1 front rest m (sym (ap (λ zs. zs ++ ys) at.1) ∙ is)
 
-    -- where a take of the second part is the one
+    -- where a read of the second part is the one
     later : (front : List Answer) → IsMarked (take t.taken (whole c t) ++ parcels_in front)
         → IsMarked (take s.taken (whole b s) ++ parcels_in (xs ++ front))
     later front marked =
@@ -160,7 +163,7 @@ ran-more b c d s t xs ys shape r ran = record {
 
 module _ (join : UpdatesJoin) where
   -- over a whole run
-  pub run-ran : (w : World) (i : ℕ) (s : Sub) (events : List Happening) (answers : List Answer)
+  pub run-ran : (w : World) (i : ℕ) (s : Sub) (events : List Event) (answers : List Answer)
       (end : World) → Stands w i s → Run w events answers end
       → Ran w.book s end.book (reads_of (i + 1) events answers)
   run-ran w i s [] [] end h run = subst (λ (v : World). Ran w.book s v.book []) (sym run)
@@ -242,20 +245,20 @@ has-mark (x ∷ reads) marked =
         → p ∷ parcels_in reads ≡ front ++ Fin m ∷ []
         → ((m : Mark) (front : List Parcel)
         → parcels_in reads ≡ front ++ Fin m ∷ [] → HasMark reads)
-        → HasMark (Took p ∷ reads)
+        → HasMark (Read p ∷ reads)
     given p m [] is more =
         let first : p ≡ Fin m = cc in
-        (m, [], reads, ap (λ q. Took q ∷ reads) first)
+        (m, [], reads, ap (λ q. Read q ∷ reads) first)
     given p m (f ∷ front) is more =
         let others : parcels_in reads ≡ front ++ Fin m ∷ [] = cc in
-        onward (Took p) (more m front others)
+        onward (Read p) (more m front others)
 
     by : (x : Answer) (m : Mark) (front : List Parcel)
         → parcels_in (x ∷ reads) ≡ front ++ Fin m ∷ []
         → ((m : Mark) (front : List Parcel)
         → parcels_in reads ≡ front ++ Fin m ∷ [] → HasMark reads)
         → HasMark (x ∷ reads)
-    by (Took p) m front is more = given p m front is more
+    by (Read p) m front is more = given p m front is more
     by x m front is more = onward x (more m front is)
 
 -- ---- prefixes
@@ -290,14 +293,14 @@ updates-prefix grow q moved b m n (suc k) =
 pub record AreTold (b : Book) (q : Query) (moved : Bool) (at : ℕ)
     (reads : List Answer) : Type 0 where
   pub prefix : IsPrefixOf (updates_in reads) (updates_of q moved b at (number_of b))
-  pub mark : (front rest : List Answer) (m : Mark) → reads ≡ front ++ Took (Fin m) ∷ rest →
+  pub mark : (front rest : List Answer) (m : Mark) → reads ≡ front ++ Read (Fin m) ∷ rest →
       (at ≤ m.change) × (m.change ≤ number_of b)
       × (updates_in front ≡ updates_of q moved b at m.change)
       × (m.seq ≡ length (updates_in front) + 1)
       × AllByRecursion IsEnded rest
   pub ended : (front rest : List Answer) → reads ≡ front ++ Ended ∷ rest → HasMark front
 
--- what a subscription reads over a run, from its first take, is what the book tells
+-- what a subscription reads over a run, from its first read, is what the book tells
 pub ran-reads : UpdatesGrow → (b : Book) (s : Sub) (d : Book) (reads : List Answer) → s.taken ≡ 0
     → Ran b s d reads → AreTold d s.query s.moved s.opened reads
 ran-reads grow b s d reads none ran =
@@ -322,7 +325,7 @@ ran-reads grow b s d reads none ran =
           ∷ (parcels_in rest ++ drop t.taken (whole d t)) ≡ whole d t =
           sym (append_assoc (parcels_in front) (Fin m ∷ parcels_in rest) (drop t.taken (whole d t)))
           ∙ (ap (λ ps. ps ++ drop t.taken (whole d t))
-          (sym (parcels_in-append front (Took (Fin m) ∷ rest)) ∙ (ap parcels_in (sym is) ∙ given))
+          (sym (parcels_in-append front (Read (Fin m) ∷ rest)) ∙ (ap parcels_in (sym is) ∙ given))
           ∙ take-drop t.taken (whole d t)) in
           let place =
           mark-place (told d t) (length (told d t)) t.end (parcels_in front) _ m parts in

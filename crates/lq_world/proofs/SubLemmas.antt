@@ -13,8 +13,8 @@ use Rattle.lq_update.specs.declared.parcel.Parcel.{Parcel}
 use Rattle.lq_update.specs.declared.parcel.Parcel.TheVariants.{Update, Fin}
 use Rattle.lq_update.specs.Updates.{updates_of, step_of}
 use Rattle.lq_update.specs.Laws.{UpdatesJoin}
-use Rattle.lq_world.specs.World.{Sub, End, covered_by, covered, told, mark_behind, whole, held, is_live, is_over, with_end, with_asked, one_more_put, one_more_taken, can_put, first_in_port, news, overruns, overrun_if, after_change}
-use Rattle.lq_world.specs.Events.{Answer, Took, Ended, Empty, putting_if, putting, taking_of, taking, hanging_up, noticing_if, noticing, closing_if, closing}
+use Rattle.lq_world.specs.World.{Sub, End, covered_by, covered, told, mark_behind, whole, held, is_live, is_over, with_end, with_hang_up_asked, one_more_put, one_more_taken, can_put, first_in_port, news, overruns, overrun_if, after_change}
+use Rattle.lq_world.specs.Events.{Answer, Read, Ended, Empty, putting_if, putting, reading_if, reading, hanging_up, noticing_if, noticing, closing_if, closing}
 use Rattle.lq_world.specs.Fair.{IsFair}
 use Rattle.lq_world.specs.Headline.{parcels_in}
 use Rattle.lq_world.proofs.ListLemmas.{take-inside, take-one_more, map-append, length-map, both-true, not-both, lt-true, lt-false}
@@ -43,15 +43,15 @@ IsOver b s = (e : End) × (s.end ≡ Some e) × (s.taken ≡ length (whole b s))
 abbrev pub IsEnded : Answer → Type 0
 IsEnded a = a ≡ Ended
 
--- it goes on, and these takes were answered
+-- it goes on, and these reads were answered
 pub record Reads (b : Book) (s : Sub) (d : Book) (t : Sub) (reads : List Answer) : Type 0 where
   pub keeps : Keeps b s d t
   pub front : take s.taken (whole b s) ++ parcels_in reads ≡ take t.taken (whole d t)
   pub over : IsOver b s → IsOver d t × AllByRecursion IsEnded reads
-  pub marked : (m : Mark) → reads ≡ Took (Fin m) ∷ [] → IsOver d t
+  pub marked : (m : Mark) → reads ≡ Read (Fin m) ∷ [] → IsOver d t
   pub shown : reads ≡ Ended ∷ [] → IsOver b s
 
--- an event of its slot leaves it there, and these takes were answered
+-- an event of its slot leaves it there, and these reads were answered
 pub record Leaves (b : Book) (s : Sub) (reads : List Answer) (o : Option Sub) : Type 0 where
   pub sub : Sub
   pub is : o ≡ Some sub
@@ -288,7 +288,7 @@ after_change-taken b c s = by (is_live s && overruns b c s)
 
 -- ---- what was read
 
--- no take
+-- no read
 pub reads-nothing : (b : Book) (s : Sub) (d : Book) (t : Sub)
     → s.taken ≤ length (whole b s) → t.taken ≡ s.taken → Keeps b s d t → Reads b s d t []
 reads-nothing b s d t within taken k = record {
@@ -312,7 +312,7 @@ taken_within b s h = omega (arith, h.taken, h.put)
 pub reads-self : (b : Book) (s : Sub) → IsFair b s → Reads b s b s []
 reads-self b s h = reads-nothing b s b s (taken_within b s h) refl (keeps-self b s h)
 
--- an event that takes nothing and keeps what was told leaves the reads
+-- an event that reads nothing and keeps what was told leaves the reads
 leaves : (b : Book) (s : Sub) (t : Sub) → IsFair b s → t.taken ≡ s.taken → Keeps b s b t
     → Leaves b s [] (Some t)
 leaves b s t h taken k =
@@ -350,7 +350,8 @@ putting-leaves b s h = by (can_put b s) refl
 
 -- a hang-up leaves the reads of a fair subscription
 pub hanging_up-leaves : (b : Book) (s : Sub) → IsFair b s → Leaves b s [] (hanging_up s).1
-hanging_up-leaves b s h = leaves b s (with_asked s) h refl (keeps-same b s (with_asked s)
+hanging_up-leaves b s h = leaves b s (with_hang_up_asked s) h refl
+    (keeps-same b s (with_hang_up_asked s)
     (record { query = refl; moved = refl; opened = refl }) refl refl (record {
       begun = h.begun;
       places = h.places;
@@ -366,11 +367,11 @@ hanging_up-leaves b s h = leaves b s (with_asked s) h refl (keeps-same b s (with
 
 -- noticing a hang-up leaves the reads of a fair subscription
 pub noticing-leaves : (b : Book) (s : Sub) → IsFair b s → Leaves b s [] (noticing b s).1
-noticing-leaves b s h = by (is_live s && s.asked) refl
+noticing-leaves b s h = by (is_live s && s.hang_up_asked) refl
   where
-    by : (x : Bool) → (is_live s && s.asked) ≡ x → Leaves b s [] (noticing_if b s x).1
+    by : (x : Bool) → (is_live s && s.hang_up_asked) ≡ x → Leaves b s [] (noticing_if b s x).1
     by true is = leaves b s (with_end s HungUp (number_of b)) h refl
-        (keeps-end b s HungUp h (live-none s.end (both-true (is_live s) s.asked is).0))
+        (keeps-end b s HungUp h (live-none s.end (both-true (is_live s) s.hang_up_asked is).0))
     by false is = leaves b s s h refl (keeps-self b s h)
 
 -- a close leaves the reads of a fair subscription
@@ -400,10 +401,10 @@ in_port : (x : Bool) (o : Option Parcel) (p : Parcel) → (if x then o else None
 in_port true o p is = (refl, is)
 in_port false o p is = absurd (let no : ⊥ = cc in no)
 
--- a take gives the reads of a fair subscription its answer
-pub taking-leaves : (b : Book) (s : Sub) → IsFair b s
-    → Leaves b s ((taking b s).0 ∷ []) (taking b s).1
-taking-leaves b s h = by (first_in_port b s) refl
+-- a read gives the reads of a fair subscription its answer
+pub reading-leaves : (b : Book) (s : Sub) → IsFair b s
+    → Leaves b s ((reading b s).0 ∷ []) (reading b s).1
+reading-leaves b s h = by (first_in_port b s) refl
   where
     none_given : (x : Bool) → [] ≡ parcels_in ((if x then Ended else Empty) ∷ [])
     none_given true = refl
@@ -413,12 +414,12 @@ taking-leaves b s h = by (first_in_port b s) refl
     is_ended true is = refl
     is_ended false is = absurd (let no : ⊥ = cc in no)
 
-    no_mark : (x : Bool) (m : Mark) → (if x then Ended else Empty) ∷ [] ≡ Took (Fin m) ∷ [] → ⊥
+    no_mark : (x : Bool) (m : Mark) → (if x then Ended else Empty) ∷ [] ≡ Read (Fin m) ∷ [] → ⊥
     no_mark true m is = cc
     no_mark false m is = cc
 
     by : (o : Option Parcel) → first_in_port b s ≡ o
-        → Leaves b s ((taking_of b s o).0 ∷ []) (taking_of b s o).1
+        → Leaves b s ((reading_if b s o).0 ∷ []) (reading_if b s o).1
     by None is = record {
       sub = s;
       is = refl;

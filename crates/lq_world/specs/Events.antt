@@ -1,4 +1,4 @@
--- What each event is answered, and the world after it.
+-- What each event (`src/event.rt`) is answered, and the world after it.
 use Rattle.std.specs.Prelude.{ℕ, ◌+◌, ◌-◌, List, [], ◌∷◌, length, map, Bool, true, false, not, ◌&&◌, nat_le, Option, Some, None, if◌then◌else◌}
 use Rattle.std.specs.Option.{option_map}
 use Rattle.lq_value.specs.declared.refusal.Refusal.{Refusal}
@@ -13,24 +13,18 @@ use Rattle.lq_volume.specs.Result.{result_of}
 use Rattle.lq_volume.specs.Book.{grown, number_of, state_of, Book}
 use Rattle.lq_update.specs.declared.mark.Cause.TheVariants.{Closed, HungUp}
 use Rattle.lq_update.specs.declared.parcel.Parcel.{Parcel}
-use Rattle.lq_world.specs.World.{World, Sub, with_end, with_asked, one_more_put, one_more_taken, can_put, first_in_port, is_live, is_over, after_change, slot_at, taken_before_free, with_slot}
+use Rattle.lq_world.specs.declared.event.Event.{Event}
+use Rattle.lq_world.specs.declared.event.Event.TheVariants.{Change, Open, At}
+use Rattle.lq_world.specs.declared.event.Act.{Act}
+use Rattle.lq_world.specs.declared.event.Act.TheVariants as act
+use Rattle.lq_world.specs.World.{World, Sub, with_end, with_hang_up_asked, one_more_put, one_more_taken, can_put, first_in_port, is_live, is_over, after_change, slot_at, taken_before_free, with_slot}
 
--- what may happen, and what is answered
-pub data Happening : Type 0 where
-  Changing : (change : Change_) → Happening
-  Opening : (query : Query) (port backlog : ℕ) (moved : Bool) → Happening
-  Putting : (slot : ℕ) → Happening
-  Taking : (slot : ℕ) → Happening
-  HangingUp : (slot : ℕ) → Happening
-  Noticing : (slot : ℕ) → Happening
-  Closing : (slot : ℕ) → Happening
-  Finishing : (slot : ℕ) → Happening
-
+-- what an event may be answered
 pub data Answer : Type 0 where
   Changed : (applied : Applied) → Answer
   Opened : (slot : ℕ) (at : ℕ) (result : List Entry) → Answer
   Moved : (was : Bool) → Answer
-  Took : (parcel : Parcel) → Answer
+  Read : (parcel : Parcel) → Answer
   Empty : Answer
   Ended : Answer
   Asked : Answer
@@ -64,7 +58,7 @@ opened_now w q port backlog moved = record {
   opened = number_of w.book;
   port = port;
   backlog = backlog;
-  asked = false;
+  hang_up_asked = false;
   put = 0;
   taken = 0;
   end = None;
@@ -95,8 +89,8 @@ opening w s None = (
   with_sub w s,
 )
 
--- ---- the events of one slot: over a book and its
--- subscription, the answer and what is in the slot then
+-- ---- the acts at a slot: over a book and its subscription,
+-- the answer and what is in the slot then
 
 -- the next parcel moves into the port
 abbrev pub putting_if : Sub → Bool → Answer × Option Sub
@@ -106,17 +100,17 @@ putting_if s false = (Moved false, Some s)
 abbrev pub putting : Book → Sub → Answer × Option Sub
 putting b s = putting_if s (can_put b s)
 
--- the first parcel in the port is taken
-abbrev pub taking_of : Book → Sub → Option Parcel → Answer × Option Sub
-taking_of b s (Some p) = (Took p, Some (one_more_taken s))
-taking_of b s None = (if is_over b s then Ended else Empty, Some s)
+-- the first parcel in the port is read
+abbrev pub reading_if : Book → Sub → Option Parcel → Answer × Option Sub
+reading_if b s (Some p) = (Read p, Some (one_more_taken s))
+reading_if b s None = (if is_over b s then Ended else Empty, Some s)
 
-abbrev pub taking : Book → Sub → Answer × Option Sub
-taking b s = taking_of b s (first_in_port b s)
+abbrev pub reading : Book → Sub → Answer × Option Sub
+reading b s = reading_if b s (first_in_port b s)
 
 -- its end is asked for
 abbrev pub hanging_up : Sub → Answer × Option Sub
-hanging_up s = (Asked, Some (with_asked s))
+hanging_up s = (Asked, Some (with_hang_up_asked s))
 
 -- it ends where that was asked for
 abbrev pub noticing_if : Book → Sub → Bool → Answer × Option Sub
@@ -124,7 +118,7 @@ noticing_if b s true = (Noticed true, Some (with_end s HungUp (number_of b)))
 noticing_if b s false = (Noticed false, Some s)
 
 abbrev pub noticing : Book → Sub → Answer × Option Sub
-noticing b s = noticing_if b s (is_live s && s.asked)
+noticing b s = noticing_if b s (is_live s && s.hang_up_asked)
 
 -- it ends, unless it has
 abbrev pub closing_if : Book → Sub → Bool → Answer × Option Sub
@@ -134,7 +128,7 @@ closing_if b s false = (Refused NotOpen, Some s)
 abbrev pub closing : Book → Sub → Answer × Option Sub
 closing b s = closing_if b s (is_live s)
 
--- its slot is free, where its mark was taken
+-- its slot is free, where its mark was read
 abbrev pub finishing_if : Sub → Bool → Answer × Option Sub
 finishing_if s true = (Finished, None)
 finishing_if s false = (Refused StillOpen, Some s)
@@ -142,27 +136,31 @@ finishing_if s false = (Refused StillOpen, Some s)
 abbrev pub finishing : Book → Sub → Answer × Option Sub
 finishing b s = finishing_if s (is_over b s)
 
--- such an event of a slot, where that is taken
+-- what an act does at a taken slot
+abbrev pub acting : Book → Act → Sub → Answer × Option Sub
+acting b act.Put = putting b
+acting b act.Read = reading b
+acting b act.HangUp = hanging_up
+acting b act.Notice = noticing b
+acting b act.Close = closing b
+acting b act.Finish = finishing b
+
+-- such an act at a slot, where that is taken
 abbrev pub at_slot : World → ℕ → Option Sub → (Sub → Answer × Option Sub) → Answer × World
-at_slot w slot None event = (Refused NotOpen, w)
-at_slot w slot (Some s) event = ((event s).0, with_slot w (slot - 1) (event s).1)
+at_slot w slot None does = (Refused NotOpen, w)
+at_slot w slot (Some s) does = ((does s).0, with_slot w (slot - 1) (does s).1)
 
 -- ---- all of them
 
 -- what an event is answered, and the world after it
-abbrev pub outcome : World → Happening → Answer × World
-outcome w (Changing c) = changing w c (refused (state_of w.book) c)
-outcome w (Opening q port backlog moved) =
+abbrev pub outcome : World → Event → Answer × World
+outcome w (Change c) = changing w c (refused (state_of w.book) c)
+outcome w (Open q port backlog moved) =
     opening w (opened_now w q port backlog moved) (open_refusal w port backlog)
-outcome w (Putting slot) = at_slot w slot (slot_at w slot) (putting w.book)
-outcome w (Taking slot) = at_slot w slot (slot_at w slot) (taking w.book)
-outcome w (HangingUp slot) = at_slot w slot (slot_at w slot) hanging_up
-outcome w (Noticing slot) = at_slot w slot (slot_at w slot) (noticing w.book)
-outcome w (Closing slot) = at_slot w slot (slot_at w slot) (closing w.book)
-outcome w (Finishing slot) = at_slot w slot (slot_at w slot) (finishing w.book)
+outcome w (At slot a) = at_slot w slot (slot_at w slot) (acting w.book a)
 
-abbrev pub answer : World → Happening → Answer
+abbrev pub answer : World → Event → Answer
 answer w e = (outcome w e).0
 
-abbrev pub next : World → Happening → World
+abbrev pub next : World → Event → World
 next w e = (outcome w e).1

@@ -26,7 +26,7 @@ pub record Sub : Type 0 where
   pub opened : ℕ
   pub port : ℕ
   pub backlog : ℕ
-  pub asked : Bool
+  pub hang_up_asked : Bool
   pub put : ℕ
   pub taken : ℕ
   pub end : Option End
@@ -92,8 +92,8 @@ is_over b s = if is_live s then false else s.taken == length (whole b s)
 abbrev pub with_end : Sub → Cause → ℕ → Sub
 with_end s cause change = record s { end = Some (record { cause = cause; change = change }) }
 
-abbrev pub with_asked : Sub → Sub
-with_asked s = record s { asked = true }
+abbrev pub with_hang_up_asked : Sub → Sub
+with_hang_up_asked s = record s { hang_up_asked = true }
 
 abbrev pub one_more_put : Sub → Sub
 one_more_put s = record s { put = s.put + 1 }

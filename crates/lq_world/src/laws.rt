@@ -1,5 +1,5 @@
 //! Laws of worlds and of their runs: each is the contract of a function that does nothing.
-ghost use Rattle.lq_world.specs.Laws.{EndedListsStay, EndsAddMarks, FirstWorldsAreFair, ListsArePassedOn, LiveListsGrow, PortsAreQueues, RefusalsLeaveWorlds, RunsKeepSlots, RunsKeepWorldsFair, RunsMakeBooks, RunsTellReaders, TurnsFillPorts};
+ghost use Rattle.lq_world.specs.Laws.{FirstWorldsAreFair, ListsArePassedOn, RefusalsLeaveWorlds, RunsKeepWorldsFair, RunsTellReaders, TurnsFillPorts};
 
 use lq_update::{folds_give_results, updates_grow, updates_join, whole_folds_give_results};
 use lq_volume::changes_are_counted;
@@ -18,32 +18,9 @@ pub fn runs_keep_worlds_fair()
     updates_join();
 }
 
-/// A run leaves as many slots as there were.
-pub fn runs_keep_slots()
-    ensures { RunsKeepSlots }
-{}
-
 /// A refused event leaves the world as it was.
 pub fn refusals_leave_worlds()
     ensures { RefusalsLeaveWorlds }
-{}
-
-/// A change adds to the list of a live subscription just the messages that it has for it, and as
-/// many to what is held for it.
-pub fn live_lists_grow()
-    ensures { LiveListsGrow }
-{
-    updates_join();
-}
-
-/// Later changes leave the list of a subscription that has ended.
-pub fn ended_lists_stay()
-    ensures { EndedListsStay }
-{}
-
-/// An end adds the mark to the list of a live subscription, and nothing else.
-pub fn ends_add_marks()
-    ensures { EndsAddMarks }
 {}
 
 /// What was taken of a subscription, then what is in its port, then what is held for it, then a
@@ -52,27 +29,15 @@ pub fn lists_are_passed_on()
     ensures { ListsArePassedOn }
 {}
 
-/// A port is a queue: a put moves the first of what is to come to its back, where it has room, and
-/// a take gives its front.
-pub fn ports_are_queues()
-    ensures { PortsAreQueues }
-{}
-
 /// A turn puts until nothing moves: behind a change no port takes one more parcel, and behind a
-/// close and before a take that of its slot takes none.
+/// close and before a read that of its slot takes none.
 pub fn turns_fill_ports()
     ensures { TurnsFillPorts }
 {
     updates_join();
 }
 
-/// The changes that a run accepts are a book from the state before it, and come to stand behind
-/// those that the world's book had.
-pub fn runs_make_books()
-    ensures { RunsMakeBooks }
-{}
-
-/// What the takes of a subscription that a run opens give is a prefix of its query's update list
+/// What the reads of a subscription that a run opens give is a prefix of its query's update list
 /// from its opening on, over the changes that the run accepts, each message once and in order.
 ///
 /// The closing mark comes only after the whole list up to the change that it names, nothing follows

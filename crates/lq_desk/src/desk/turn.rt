@@ -2,33 +2,33 @@
 ghost use Rattle.std.specs.Prelude.{◌≡◌, ◌⊎◌};
 ghost use Rattle.lq_value.specs.declared.refusal.Refusal.TheVariants.{NoMemory};
 ghost use Rattle.lq_world.specs.World.{World};
-ghost use Rattle.lq_world.specs.Events.{Noticing, Refused};
+ghost use Rattle.lq_world.specs.declared.event.Event.TheVariants.{At};
+ghost use Rattle.lq_world.specs.Events.{Refused};
 ghost use Rattle.lq_world.specs.Turns.{all_puts, notices, places_at, puts};
 ghost use Rattle.lq_desk.specs.Kept.{Shows, kept_outcome};
-ghost use Rattle.lq_desk.specs.Reply.{answer_of, happening_of};
-ghost use Rattle.lq_desk.specs.Turn.{TurnRuns, TurnStep, kept_after, kept_ports, turn_outcome};
+ghost use Rattle.lq_desk.specs.Reply.{answer_of};
+ghost use Rattle.lq_desk.specs.Turn.{TurnRuns, TurnStep, kept_after, kept_ports, kept_turn_outcome};
 
 use crate::desk::Desk;
-use crate::event::{Event, Reply};
-use crate::slot::Act;
+use crate::reply::Reply;
 use crate::slots::SLOTS;
 use lq_update::updates_join;
 use lq_volume::changes_are_counted;
-use lq_world::runs_keep_worlds_fair;
+use lq_world::{Act, Event, runs_keep_worlds_fair};
 
 impl Desk {
     /// Carries out one event with all that belongs to its turn, and answers the event.
     ///
     /// A change comes after the notices of all taken slots, and each port is filled behind it; a
-    /// take comes after the notice of its slot, and after its port was filled; a close comes
+    /// read comes after the notice of its slot, and after its port was filled; a close comes
     /// after the notice of its slot, whose port is filled behind it. Any other event comes alone.
     /// The event is refused as `event` refuses it, and the rest of its turn stands.
     pub fn turn(&mut self, event: &Event) -> Reply
-        ensures kept { TurnStep self.old (happening_of event.now) (answer_of result) self.new }
+        ensures kept { TurnStep self.old event.now (answer_of result) self.new }
         ensures outcome { (answer_of result ≡ Refused NoMemory)
-            ⊎ ((answer_of result, self.new) ≡ turn_outcome self.old (happening_of event.now)) }
+            ⊎ ((answer_of result, self.new) ≡ kept_turn_outcome self.old event.now) }
         ensures run { (w : World) → Shows self.old w →
-            TurnRuns self.old self.new w (happening_of event.now) (answer_of result) }
+            TurnRuns self.old self.new w event.now (answer_of result) }
     {
         updates_join();
         changes_are_counted();
@@ -38,7 +38,7 @@ impl Desk {
 
     // Carries out the events of a turn.
     fn take_turn(&mut self, event: &Event) -> Reply
-        ensures { TurnStep self.old (happening_of event.now) (answer_of result) self.new }
+        ensures { TurnStep self.old event.now (answer_of result) self.new }
     {
         match event {
             Event::Change(_) => {
@@ -47,22 +47,28 @@ impl Desk {
                 self.fill_all();
                 reply
             }
-            Event::Take(slot) => {
-                self.notice(*slot);
-                self.fill(*slot);
-                self.act(*slot, Act::Take)
+            Event::Open { .. } => self.carry_out(event),
+            Event::At { slot, act } => self.act_turn(*slot, *act),
+        }
+    }
+
+    // Carries out the events of the turn of an act at a slot.
+    fn act_turn(&mut self, slot: u64, act: Act) -> Reply
+        ensures { TurnStep self.old (At slot act) (answer_of result) self.new }
+    {
+        match act {
+            Act::Read => {
+                self.notice(slot);
+                self.fill(slot);
+                self.act(slot, Act::Read)
             }
-            Event::Close(slot) => {
-                self.notice(*slot);
-                let reply = self.act(*slot, Act::Close);
-                self.fill(*slot);
+            Act::Close => {
+                self.notice(slot);
+                let reply = self.act(slot, Act::Close);
+                self.fill(slot);
                 reply
             }
-            Event::Open { .. }
-            | Event::Put(_)
-            | Event::HangUp(_)
-            | Event::Notice(_)
-            | Event::Finish(_) => self.carry_out(event),
+            Act::Put | Act::HangUp | Act::Notice | Act::Finish => self.act(slot, act),
         }
     }
 
@@ -79,7 +85,7 @@ impl Desk {
 
     // Notices the end of a slot, where that asks for it.
     fn notice(&mut self, slot: u64)
-        ensures { self.new ≡ (kept_outcome self.old (Noticing slot)).1 }
+        ensures { self.new ≡ (kept_outcome self.old (At slot Act.Notice)).1 }
     {
         updates_join();
         changes_are_counted();

@@ -1,9 +1,9 @@
 use Rattle.std.proofs.Common.{◌<◌, length, arith, ap, sym, subst, List, map}
 use Rattle.std.proofs.lemmas.List.{take_more}
 use Rattle.lq_volume.specs.State.{State}
-use Rattle.lq_desk.specs.declared.event.Event.{Event}
+use Rattle.lq_world.specs.declared.event.Event.{Event}
 use Rattle.lq_desk.specs.Kept.{Kept, Shows}
-use Rattle.lq_desk.specs.Reply.{Runs, happening_of, answer_of}
+use Rattle.lq_desk.specs.Reply.{Runs, answer_of}
 use Rattle.lq_desk.proofs.ListLemmas.{take-all}
 use Rattle.lq_world.specs.Headline.{ReadersAreTold}
 use Rattle.lq_desk.proofs.RunLemmas.{runs-more, map-more}
@@ -19,7 +19,7 @@ loop-event-preserved c =
       room = omega (arith, c.push_reserved.ensures.capacity, l.invariant.room);
       run = λ w shows.
           let r = l.invariant.run w shows in
-          rw (c.push_reserved.ensures.items, at, ← c.event-item.is, map-more, map-more)
+          rw (c.push_reserved.ensures.items, at, ← c.event-item.is, map-more)
           (runs-more _ _ w _ _ _ _ r (c.event-reply.ensures.world r.end r.shows));
     }
 
@@ -27,7 +27,7 @@ pub returns-clause-run : goal.returns-clause-run
 returns-clause-run c = λ w shows.
     let all = take-all c.loop-event.event-index c.args.events.now
     (omega (arith, c.loop-event-test.false)) in
-    subst (λ (es : List Event). Runs c.loop-event.self w (map happening_of es)
+    subst (λ (es : List Event). Runs c.loop-event.self w es
     (map answer_of c.loop-event.replies.items)) all (c.loop-event.invariant.run w shows)
 
 pub returns-clause-readers : goal.returns-clause-readers
@@ -36,7 +36,7 @@ returns-clause-readers c =
     let shows : Shows c.args.self.now w =
     subst (λ (k : Kept). Shows k w) c.self.view_is c.self.invariant.shows in
     let runs = returns-clause-run c w shows in
-    let events = map happening_of c.args.events.now in
+    let events = c.args.events.now in
     let answers = map answer_of c.loop-event.replies.items in
     subst (λ (s : State). ReadersAreTold s events answers)
     (sym (ap (λ (k : Kept). k.volume) shows.kept))

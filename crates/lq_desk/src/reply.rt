@@ -1,0 +1,44 @@
+//! What the desk answers.
+use lq_update::{Mark, Message};
+use lq_value::{Entry, Refusal};
+use lq_volume::Applied;
+
+/// What a read gives.
+#[derive(Debug, Drop)]
+pub enum Read {
+    /// The next message.
+    Update(Message),
+    /// The mark that ends the subscription.
+    Fin(Mark),
+    /// The port is empty.
+    Empty,
+    /// The mark was read before.
+    Ended,
+}
+
+/// What the desk answers an event.
+#[derive(Debug, Drop)]
+pub enum Reply {
+    /// The change was accepted.
+    Changed(Applied),
+    /// The live query stands in this slot, with the result after so many changes.
+    Opened {
+        slot: u64,
+        at: u64,
+        result: Vec<Entry>,
+    },
+    /// Whether a parcel moved into the port.
+    Moved(bool),
+    /// What a read gave.
+    Read(Read),
+    /// The end of the subscription was asked for.
+    Asked,
+    /// Whether this event ended the subscription.
+    Noticed(bool),
+    /// The subscription was ended, and covers so many changes.
+    Shut(u64),
+    /// The slot is free.
+    Finished,
+    /// The event was refused, and nothing has changed.
+    Refused(Refusal),
+}
