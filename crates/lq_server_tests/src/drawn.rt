@@ -10,7 +10,8 @@ use lq_desk::Read;
 use lq_predicate::read;
 use lq_server::{Base, Named, Retired, Server};
 use lq_update::{Mark, Message};
-use lq_value::Refusal;
+use lq_value::{Entry, Refusal};
+use lq_volume::Volume;
 use std::alloc::Global;
 use std::marker::Brand;
 use std::sync::Wait;
@@ -39,6 +40,15 @@ struct Done {
     taken: Vec<Taken>,
     logs: Vec<Log>,
     retired: Retired,
+}
+
+/// What a reader was told up to its end, the result then, and whether it could be finished.
+#[derive(Drop)]
+struct Heard {
+    messages: Vec<Message>,
+    mark: Option<Mark>,
+    ended: Vec<Entry>,
+    finished: bool,
 }
 
 /// Applies drawn changes; those that were accepted.
@@ -104,22 +114,15 @@ fn follow<N: Named, R: Wait>(
     let text = QUERIES.get(query).copied().unwrap_or("");
     let predicate = read(alloc, text)?;
     let from = seat.latest(server);
-    let mut reader = seat.open(rt, server, &predicate, port, backlog, moved)?;
+    let reader = seat.open(rt, server, &predicate, port, backlog, moved)?;
     let to = seat.latest(server);
     let begun = copy_of(alloc, reader.result())?;
-    let mut messages = Vec::new(alloc);
-    let early = read_some(rt, server, &mut reader, draws, &mut messages)?;
-    match ending {
-        Ending::HangUp => reader.hang_up(server),
-        // Refused where an overrun ended it before.
-        Ending::Close => {
-            let _ = reader.close(rt, server);
-        }
-    }
-    let late = read_out(rt, server, &mut reader, &mut messages)?;
-    let mark = early.or(late);
-    let ended = copy_of(alloc, reader.result())?;
-    let finished = reader.finish(rt, server).is_ok();
+    let Heard {
+        messages,
+        mark,
+        ended,
+        finished,
+    } = hear_out(rt, alloc, server, reader, ending, draws)?;
     Ok(Log {
         query,
         moved,
@@ -130,6 +133,34 @@ fn follow<N: Named, R: Wait>(
         mark,
         ended,
         finished,
+    })
+}
+
+/// Reads some, ends the subscription, and reads the rest.
+fn hear_out<N: Named, R: Wait>(
+    rt: &R,
+    alloc: Global,
+    server: &Server<N>,
+    mut reader: ReaderOf<N>,
+    ending: Ending,
+    draws: &mut Draws,
+) -> Result<Heard, Refusal> {
+    let mut messages = Vec::new(alloc);
+    let early = read_some(rt, server, &mut reader, draws, &mut messages)?;
+    match ending {
+        Ending::HangUp => reader.hang_up(server),
+        // Refused where an overrun ended it before.
+        Ending::Close => {
+            let _ = reader.close(rt, server);
+        }
+    }
+    let late = read_out(rt, server, &mut reader, &mut messages)?;
+    let ended = copy_of(alloc, reader.result())?;
+    Ok(Heard {
+        messages,
+        mark: early.or(late),
+        ended,
+        finished: reader.finish(rt, server).is_ok(),
     })
 }
 
@@ -239,30 +270,54 @@ fn all_four<N: Named + Send + Sync, R: Threads + Wait + Sync>(
     })
 }
 
+/// Returns whether the volume that is left is the one after these changes, each answered alike.
+fn is_left(alloc: Global, left: &Volume, taken: &[Taken]) -> Result<bool, Refusal> {
+    let Some(volume) = replayed(alloc, taken)? else {
+        return Ok(false);
+    };
+    let left = format!(in alloc; "{left:?}")?;
+    Ok(left == format!(in alloc; "{volume:?}")?)
+}
+
+/// Returns whether each reader of the query at this place was told what these changes tell it.
+fn are_told(
+    alloc: Global,
+    place: usize,
+    query: &str,
+    taken: &[Taken],
+    logs: &[Log],
+) -> Result<bool, Refusal> {
+    let results = results(alloc, query, taken)?;
+    for log in logs {
+        if log.query == place && !log.is_told(alloc, &results)? {
+            return Ok(false);
+        }
+    }
+    Ok(true)
+}
+
 #[test]
 fn drawn_schedules_tell_what_the_reference_tells(rt: HostRuntime) -> Result<(), Fail> {
     let alloc = rt.alloc();
     for seed in [1, 20, 300] {
         let base = base(alloc, LIMIT)?;
-        let Done {
-            mut taken,
-            logs,
-            retired,
-        } = all_four::<Brand, _>(&rt, alloc, base, seed)?;
-        taken.sort_by_key(|taken| taken.accepted.change)?;
-        assert_eq!(rt; logs.len(), 2 * ROUNDS, "seed {seed}");
-        assert_eq!(rt; retired.changes, taken.len() as u64, "seed {seed}");
-        let volume = replayed(alloc, &taken)?.ok_or("another answer")?;
-        let left = format!(in alloc; "{:?}", retired.volume)?;
-        assert!(rt; left == format!(in alloc; "{volume:?}")?, "seed {seed}");
+        let mut done = all_four::<Brand, _>(&rt, alloc, base, seed)?;
+        done.taken.sort_by_key(|taken| taken.accepted.change)?;
+        assert_eq!(rt; done.logs.len(), 2 * ROUNDS, "seed {seed}");
+        assert_eq!(rt;
+            done.retired.changes,
+            done.taken.len() as u64,
+            "seed {seed}"
+        );
+        assert!(rt;
+            is_left(alloc, &done.retired.volume, &done.taken)?,
+            "seed {seed}"
+        );
         for (place, query) in QUERIES.iter().enumerate() {
-            let results = results(alloc, query, &taken)?;
-            for (row, log) in logs.iter().enumerate() {
-                assert!(rt;
-                    log.query != place || log.is_told(alloc, &results)?,
-                    "seed {seed}, reader {row}"
-                );
-            }
+            assert!(rt;
+                are_told(alloc, place, query, &done.taken, &done.logs)?,
+                "seed {seed}, {query}"
+            );
         }
     }
     Ok(())

@@ -115,32 +115,63 @@ fn lines<'a>(
     let gone = missing(alloc, old, new)?;
     let come = missing(alloc, new, old)?;
     let mut lines = Vec::new(alloc);
-    for entry in &gone {
-        if !moved || with_node(entry.node, &come).is_none() {
+    put_gone(&mut lines, moved, &gone, &come)?;
+    if moved {
+        put_moved(&mut lines, &gone, &come)?;
+    }
+    put_come(&mut lines, moved, &gone, &come)?;
+    Ok(lines)
+}
+
+fn put_gone<'a>(
+    lines: &mut Vec<Line<'a>>,
+    moved: bool,
+    gone: &[&'a Entry],
+    come: &[&'a Entry],
+) -> Result<(), Refusal> {
+    for entry in gone {
+        if !moved || with_node(entry.node, come).is_none() {
             lines.push(Line {
                 gone: Some(*entry),
                 come: None,
             })?;
         }
     }
-    for entry in &gone {
-        let to = with_node(entry.node, &come);
-        if moved && to.is_some() {
+    Ok(())
+}
+
+fn put_moved<'a>(
+    lines: &mut Vec<Line<'a>>,
+    gone: &[&'a Entry],
+    come: &[&'a Entry],
+) -> Result<(), Refusal> {
+    for entry in gone {
+        let to = with_node(entry.node, come);
+        if to.is_some() {
             lines.push(Line {
                 gone: Some(*entry),
                 come: to,
             })?;
         }
     }
-    for entry in &come {
-        if !moved || with_node(entry.node, &gone).is_none() {
+    Ok(())
+}
+
+fn put_come<'a>(
+    lines: &mut Vec<Line<'a>>,
+    moved: bool,
+    gone: &[&'a Entry],
+    come: &[&'a Entry],
+) -> Result<(), Refusal> {
+    for entry in come {
+        if !moved || with_node(entry.node, gone).is_none() {
             lines.push(Line {
                 gone: None,
                 come: Some(*entry),
             })?;
         }
     }
-    Ok(lines)
+    Ok(())
 }
 
 /// Returns whether a message tells this line.

@@ -174,11 +174,21 @@ fn race<N: Named + Send + Sync, R: Threads + Wait + Sync>(
 {
     let server: Server<N> = Server::new(base);
     let mut seat = SeatOf::new(rt, &server)?;
-    let predicate = read(alloc, "name=*")?;
-    let mut reader = seat.open(rt, &server, &predicate, 1024, 1024, false)?;
+    let mut reader = open_all(rt, alloc, &server, &mut seat)?;
     hang_up_beside(rt, alloc, &server, &mut seat, &mut reader)?;
     reader.pump(rt, &server);
     read_out(rt, &mut reader)
+}
+
+/// A reader of every entry.
+fn open_all<N: Named, R: Wait>(
+    rt: &R,
+    alloc: Global,
+    server: &Server<N>,
+    seat: &mut SeatOf<N>,
+) -> Result<ReaderOf<N>, Refusal> {
+    let predicate = read(alloc, "name=*")?;
+    seat.open(rt, server, &predicate, 1024, 1024, false)
 }
 
 fn hang_up_beside<N: Named + Send + Sync, R: Threads + Wait + Sync>(
