@@ -10,7 +10,6 @@ use Rattle.std.proofs.lemmas.List.{append-nil, get_or_at, take_at}
 use Rattle.std.proofs.lemmas.Slice.Eq.{bytes_eq-Decides, starts_is, ends_is}
 use Rattle.std.proofs.lemmas.Str.{IsCharBoundary-start, IsUtf8-take, chars-append, chars-nil, encodes-append, encodes-chars}
 use Rattle.lq_value.specs.declared.element.Element.{Element}
-use Rattle.lq_value.specs.declared.element.Element.TheVariants.{Plain}
 use Rattle.lq_value.specs.declared.starred.Starred.{Starred}
 use Rattle.lq_value.specs.Pattern.{Fits, fits, plain_elements, star_if, starred_elements, with_stars}
 use Rattle.lq_value.proofs.PatternLemmas.{fits-sound, fits-complete}
