@@ -7,15 +7,15 @@ ghost use Rattle.lq_desk.specs.Reply.{answer_of};
 ghost use Rattle.lq_script.specs.Folds.{Rises, fed, fold_at, folds_after, no_folds, with_fold};
 
 use lq_desk::{Read, Reply};
-use lq_update::{Message, Rebuild};
-use lq_value::{Entry, Refusal};
+use lq_update::{IndexedRebuild, Message};
+use lq_value::Refusal;
 use std::alloc::Global;
 
 /// How many slots there are.
 const SLOTS: usize = 64;
 
 /// None for each slot. Refused: `NoMemory`.
-pub fn no_rebuilds(alloc: Global) -> Result<Vec<Option<Rebuild>>, Refusal>
+pub fn no_rebuilds(alloc: Global) -> Result<Vec<Option<IndexedRebuild>>, Refusal>
     ensures refused { IsRefusedBy result None }
     ensures none { IfOk result (λ rebuilds. rebuilds.items ≡ no_folds) }
 {
@@ -32,7 +32,7 @@ pub fn no_rebuilds(alloc: Global) -> Result<Vec<Option<Rebuild>>, Refusal>
 /// Refused: `NoMemory`.
 pub fn note(
     alloc: Global,
-    rebuilds: &mut Vec<Option<Rebuild>>,
+    rebuilds: &mut Vec<Option<IndexedRebuild>>,
     slot: u64,
     reply: &Reply,
 ) -> Result<(), Refusal>
@@ -47,7 +47,7 @@ pub fn note(
             at,
             result: entries,
         } => {
-            let rebuild = Rebuild::new(alloc, *at, copied(alloc, entries)?);
+            let rebuild = IndexedRebuild::new(alloc, *at, entries)?;
             put(rebuilds, *opened, Some(rebuild));
             Ok(())
         }
@@ -67,7 +67,7 @@ pub fn note(
 }
 
 // Puts this in the place of a slot, or drops it where there is none.
-fn put(rebuilds: &mut Vec<Option<Rebuild>>, slot: u64, rebuild: Option<Rebuild>)
+fn put(rebuilds: &mut Vec<Option<IndexedRebuild>>, slot: u64, rebuild: Option<IndexedRebuild>)
     ensures { rebuilds.new.items ≡ with_fold rebuilds.old.items slot rebuild }
 {
     if slot == 0 || slot > rebuilds.len() as u64 {
@@ -77,7 +77,11 @@ fn put(rebuilds: &mut Vec<Option<Rebuild>>, slot: u64, rebuild: Option<Rebuild>)
 }
 
 // What was rebuilt of a slot takes a message.
-fn feed_at(rebuilds: &mut Vec<Option<Rebuild>>, slot: u64, message: &Message) -> Result<(), Refusal>
+fn feed_at(
+    rebuilds: &mut Vec<Option<IndexedRebuild>>,
+    slot: u64,
+    message: &Message,
+) -> Result<(), Refusal>
     ensures ok { OnOk result (rebuilds.new.items ≡ with_fold rebuilds.old.items slot
         (option_map (fed message.now) (fold_at rebuilds.old.items slot))) }
     ensures memory { IfErr result (λ e. e ≡ NoMemory) }
@@ -89,7 +93,7 @@ fn feed_at(rebuilds: &mut Vec<Option<Rebuild>>, slot: u64, message: &Message) ->
 }
 
 // A message that isn't the next one, or doesn't fit, is passed over.
-fn feed(rebuild: &mut Option<Rebuild>, message: &Message) -> Result<(), Refusal>
+fn feed(rebuild: &mut Option<IndexedRebuild>, message: &Message) -> Result<(), Refusal>
     ensures ok { OnOk result (rebuild.new ≡ option_map (fed message.now) rebuild.old) }
     ensures memory { IfErr result (λ e. e ≡ NoMemory) }
 {
@@ -103,27 +107,11 @@ fn feed(rebuild: &mut Option<Rebuild>, message: &Message) -> Result<(), Refusal>
 }
 
 /// What was rebuilt of a slot; `None` where it is free.
-pub fn rebuild_at(rebuilds: &[Option<Rebuild>], slot: u64) -> Option<&Rebuild>
+pub fn rebuild_at(rebuilds: &[Option<IndexedRebuild>], slot: u64) -> Option<&IndexedRebuild>
     ensures { option_map (λ r. r.now) result ≡ fold_at rebuilds.now slot }
 {
     if slot == 0 || slot > rebuilds.len() as u64 {
         return None;
     }
     rebuilds[(slot - 1) as usize].as_ref()
-}
-
-/// The same entries once more. Refused: `NoMemory`.
-pub fn copied(alloc: Global, entries: &[Entry]) -> Result<Vec<Entry>, Refusal>
-    ensures entries { IfOk result (λ copy. copy.items ≡ entries.now) }
-    ensures memory { IfErr result (λ e. e ≡ NoMemory) }
-{
-    let mut copy = Vec::new(alloc);
-    for entry in entries {
-        copy.push(Entry {
-            dir: entry.dir,
-            name: entry.name.copy(alloc)?,
-            node: entry.node,
-        })?;
-    }
-    Ok(copy)
 }

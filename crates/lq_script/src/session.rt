@@ -11,14 +11,14 @@ ghost use Rattle.lq_script.specs.Folds.{fold_at};
 ghost use Rattle.lq_script.specs.Session.{session_with};
 ghost use Rattle.lq_script.specs.Script.{kept_volume};
 
-use crate::rebuilds::{copied, note, rebuild_at};
+use crate::rebuilds::{note, rebuild_at};
 use json::Scratch;
 use lq_desk::{Desk, Event, Reply};
 use lq_lines::Responder;
 use lq_predicate::Predicate;
 use lq_reply::{Response, put_reply};
 use lq_request::{Question, question_in};
-use lq_update::{Rebuild, results_rise};
+use lq_update::{IndexedRebuild, results_rise};
 use lq_value::{Name, Refusal};
 use lq_volume::Volume;
 use std::alloc::Global;
@@ -28,14 +28,14 @@ use std::alloc::Global;
 pub struct Session {
     alloc: Global,
     desk: Desk,
-    rebuilds: Vec<Option<Rebuild>>,
+    rebuilds: Vec<Option<IndexedRebuild>>,
     // What the reading of a line takes, kept from line to line.
     scratch: Scratch,
 }
 
 impl Session {
     /// A session over a desk, and what was rebuilt of each of its slots. It takes no memory.
-    pub fn new(alloc: Global, desk: Desk, rebuilds: Vec<Option<Rebuild>>) -> Session
+    pub fn new(alloc: Global, desk: Desk, rebuilds: Vec<Option<IndexedRebuild>>) -> Session
         ensures desk { result.desk ≡ desk }
         ensures rebuilds { result.rebuilds.items ≡ rebuilds.items }
     {
@@ -78,7 +78,7 @@ impl Session {
             Question::Find { dir, name } => Ok(found_in(self.desk.volume(), *dir, name)),
             Question::Entry { node } => Ok(shown_in(self.desk.volume(), *node)?),
             Question::Fetch { predicate } => Ok(fetched_in(self.desk.volume(), predicate)?),
-            Question::Rebuilt { slot } => Ok(rebuilt_in(self.alloc, &self.rebuilds, *slot)?),
+            Question::Rebuilt { slot } => Ok(rebuilt_in(&self.rebuilds, *slot)?),
         }
     }
 
@@ -150,7 +150,7 @@ fn fetched_in(volume: &Volume, predicate: &Predicate) -> Result<Response, Refusa
 }
 
 // What was rebuilt of a slot.
-fn rebuilt_in(alloc: Global, rebuilds: &[Option<Rebuild>], slot: u64) -> Result<Response, Refusal>
+fn rebuilt_in(rebuilds: &[Option<IndexedRebuild>], slot: u64) -> Result<Response, Refusal>
     ensures response { IfOk result (λ response. response_of response
         ≡ rebuilt (fold_at rebuilds.now slot)) }
     ensures memory { IfErr result (λ e. e ≡ NoMemory) }
@@ -159,7 +159,7 @@ fn rebuilt_in(alloc: Global, rebuilds: &[Option<Rebuild>], slot: u64) -> Result<
         None => Ok(Response::Refused(Refusal::NotOpen)),
         Some(rebuild) => Ok(Response::Rebuilt {
             change: rebuild.last_change(),
-            result: copied(alloc, rebuild.result())?,
+            result: rebuild.entries()?,
             settled: rebuild.is_settled(),
         }),
     }

@@ -1,11 +1,13 @@
 -- Read in this order. Update lists: Lists. What a change tells: ToldLemmas, TouchedLemmas. A set of
--- entries: EntryLemmas, PlaceLemmas. Folding: FoldLemmas (one difference), FoldLaws (many changes),
--- Taking (what a rebuild refuses). Changes that tell nothing: PassingOver. Example has books.
+-- entries: EntryLemmas, PlaceLemmas, LocationLemmas (in a map). Folding: FoldLemmas (one
+-- difference), FoldLaws (many changes), Taking (what a rebuild refuses). Changes that tell
+-- nothing: PassingOver. Example has books.
 pub mod Lists
 pub mod ToldLemmas
 pub mod TouchedLemmas
 pub mod EntryLemmas
 pub mod PlaceLemmas
+pub mod LocationLemmas
 pub mod FoldLemmas
 pub mod FoldLaws
 pub mod Taking

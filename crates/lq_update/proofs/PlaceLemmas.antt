@@ -16,7 +16,7 @@ use Rattle.lq_update.specs.Place.{IsEntryAt, IsTripleAt, IsGapFor}
 use Rattle.lq_update.proofs.EntryLemmas.{Above, entry_at, same-self, same-entry, at-above, has_node-at, has_entry-at, rises-filter, rises-put_in, at-taken_out}
 
 -- each entry of a list above a node is above it
-above-get : (n : ℕ) (es : List Entry) (i : ℕ) (d : Entry) → Above n es → i < length es
+pub above-get : (n : ℕ) (es : List Entry) (i : ℕ) (d : Entry) → Above n es → i < length es
     → n < (get_or es i d).node
 above-get n [] i d h lt = absurd (omega arith)
 above-get n (e ∷ es) zero d h lt = h.0
@@ -120,7 +120,7 @@ pub at-triple : (es : List Entry) (e : Entry) (i : ℕ) → EntriesRise es → I
 at-triple es e i h g = at-place es e.node i e h (triple-place es e i g) ∙ ap Some (g.same e)
 
 -- taking a triple out of entries above its node leaves them all
-taken_out-above : (e : Entry) (es : List Entry) → Above e.node es → taken_out e es ≡ es
+pub taken_out-above : (e : Entry) (es : List Entry) → Above e.node es → taken_out e es ≡ es
 taken_out-above e [] h = refl
 taken_out-above e (f ∷ es) h =
     let low = h.0 in
@@ -154,7 +154,7 @@ remove-triple (f ∷ es) e (suc i) h g =
     grind (arith, nat_tests)
 
 -- a triple put in below all others goes to the front
-put_in-above : (e : Entry) (es : List Entry) → Above e.node es → put_in e es ≡ e ∷ es
+pub put_in-above : (e : Entry) (es : List Entry) → Above e.node es → put_in e es ≡ e ∷ es
 put_in-above e [] h = refl
 put_in-above e (f ∷ es) h = let low = h.0 in grind (arith, nat_tests)
 

@@ -3,4 +3,6 @@ pub mod Updates
 pub mod Touched
 pub mod Fold
 pub mod Place
+pub mod Locations
+pub mod Latest
 pub mod Laws

@@ -6,13 +6,17 @@
 #![tactic(auto)]
 
 mod fold;
+mod indexed_rebuild;
+mod latest;
 mod laws;
+mod locations;
 mod mark;
 mod message;
 mod parcel;
 mod rebuild;
 mod touched;
 
+pub use indexed_rebuild::IndexedRebuild;
 pub use laws::{
     changes_add_steps, changes_pass_over, foldings_follow, folds_give_results, messages_fit_in,
     rebuilds_take_all, results_rise, settled_is_tested, steps_are_few, updates_are_prefixes,

@@ -4,6 +4,7 @@ ghost use Rattle.lq_value.specs.Refusal.{IsRefusedBy, first_refusal};
 ghost use Rattle.lq_update.specs.Fold.{EntriesRise, fold_refusals, folding_after, opened_at};
 
 use crate::fold::fold;
+use crate::latest::Latest;
 use crate::message::Message;
 use lq_value::{Entry, Refusal};
 use std::alloc::Global;
@@ -18,14 +19,6 @@ pub struct Rebuild {
     latest: Latest,
     alloc: Global,
     entries: Vec<Entry>,
-}
-
-// The latest message, or before the first one what the opening stands for.
-#[derive(Clone, Copy, Debug)]
-struct Latest {
-    seq: u64,
-    change: u64,
-    last: bool,
 }
 
 impl Model for Rebuild {
@@ -52,11 +45,7 @@ impl Rebuild {
         ensures { result ≡ opened_at at entries.items }
     {
         Rebuild {
-            latest: Latest {
-                seq: 0,
-                change: at,
-                last: true,
-            },
+            latest: Latest::opening(at),
             alloc,
             entries,
         }
@@ -99,21 +88,11 @@ impl Rebuild {
         ensures ok { OnOk result (self.new ≡ folding_after self.old message.now) }
         ensures err { OnErr result (self.new ≡ self.old) }
     {
-        if message.seq == 0 || message.seq - 1 != self.latest.seq {
-            return Err(Refusal::OutOfStep);
-        }
-        if self.latest.last && message.change <= self.latest.change {
-            return Err(Refusal::OutOfStep);
-        }
-        if !self.latest.last && message.change != self.latest.change {
+        if !self.latest.is_followed_by(message) {
             return Err(Refusal::OutOfStep);
         }
         fold(self.alloc, &mut self.entries, message)?;
-        self.latest = Latest {
-            seq: message.seq,
-            change: message.change,
-            last: message.last,
-        };
+        self.latest = Latest::of(message);
         Ok(())
     }
 }
