@@ -103,9 +103,14 @@ module _ {X : Type 0} (number : X → ℕ) where
           → RisesBy number (cond b (x ∷ y ∷ ys) (y ∷ insert_by number x ys))
       at true is rest =
           let differs = off.0 in
-          let low : number x < number y = grind (arith, nat_tests) in
-          ((low, all_weaker (λ z. number y < number z) (λ z. number x < number z) ys
-              (λ z l. omega arith) h.0), h)
+          let low : number x < number y = grind (arith, nat_tests) in (
+            (
+              low,
+              all_weaker (λ z. number y < number z) (λ z. number x < number z) ys
+                  (λ z l. omega arith) h.0,
+            ),
+            h,
+          )
       at false is rest =
           let low : number y < number x = grind (arith, nat_tests) in
           (all_insert (λ z. number y < number z) x ys low h.0, rest)
@@ -137,22 +142,32 @@ module _ {X : Type 0} (number : X → ℕ) where
   same_items [] (y ∷ ys) h k f g = absurd ((f (λ z. ⊥) tt).0)
   same_items (x ∷ xs) [] h k f g = absurd ((g (λ z. ⊥) tt).0)
   same_items (x ∷ xs) (y ∷ ys) h k f g =
-      let low : number x ≤ number y = (f (λ z. number x ≤ number z) (omega arith,
-      all_weaker (λ z. number x < number z) (λ z. number x ≤ number z) xs (λ z l. omega arith)
-      h.0)).0 in
-      let high : number y ≤ number x = (g (λ z. number y ≤ number z) (omega arith,
-      all_weaker (λ z. number y < number z) (λ z. number y ≤ number z) ys (λ z l. omega arith)
-      k.0)).0 in
-      let first : x ≡ y = sym ((f (λ z. number z ≤ number x → z ≡ x) (λ l. refl,
-      all_weaker (λ z. number x < number z) (λ z. number z ≤ number x → z ≡ x) xs
-      (λ z l m. absurd (omega arith)) h.0)).0 high) in
+      let low : number x ≤ number y = (f (λ z. number x ≤ number z) (
+        omega arith,
+        all_weaker (λ z. number x < number z) (λ z. number x ≤ number z) xs (λ z l. omega arith)
+            h.0,
+      )).0 in
+      let high : number y ≤ number x = (g (λ z. number y ≤ number z) (
+        omega arith,
+        all_weaker (λ z. number y < number z) (λ z. number y ≤ number z) ys (λ z l. omega arith)
+            k.0,
+      )).0 in
+      let first : x ≡ y = sym ((f (λ z. number z ≤ number x → z ≡ x) (
+        λ l. refl,
+        all_weaker (λ z. number x < number z) (λ z. number z ≤ number x → z ≡ x) xs
+            (λ z l m. absurd (omega arith)) h.0,
+      )).0 high) in
       let rest : xs ≡ ys = same_items xs ys h.1 k.1
-          (λ P all. all_both (λ z. number x < number z → P z) (λ z. number y < number z) P ys
-          (λ z p l. p (omega arith)) (f (λ z. number x < number z → P z) (λ l. absurd (omega arith),
-          all_weaker P (λ z. number x < number z → P z) xs (λ z p l. p) all)).1 k.0)
-          (λ P all. all_both (λ z. number y < number z → P z) (λ z. number x < number z) P xs
-          (λ z p l. p (omega arith)) (g (λ z. number y < number z → P z) (λ l. absurd (omega arith),
-          all_weaker P (λ z. number y < number z → P z) ys (λ z p l. p) all)).1 h.0) in
+      (λ P all. all_both (λ z. number x < number z → P z) (λ z. number y < number z) P ys
+      (λ z p l. p (omega arith)) (f (λ z. number x < number z → P z) (
+        λ l. absurd (omega arith),
+        all_weaker P (λ z. number x < number z → P z) xs (λ z p l. p) all,
+      )).1 k.0)
+      (λ P all. all_both (λ z. number y < number z → P z) (λ z. number x < number z) P xs
+      (λ z p l. p (omega arith)) (g (λ z. number y < number z → P z) (
+        λ l. absurd (omega arith),
+        all_weaker P (λ z. number y < number z → P z) ys (λ z p l. p) all,
+      )).1 h.0) in
       λ j. first j ∷ rest j
 
   -- numbers that differ and don't fall rise
@@ -201,8 +216,11 @@ module _ {X : Type 0} (number : X → ℕ) where
       at true is rest =
           let low : number x ≤ number y = grind (arith, nat_tests) in
           let first = insert_by-first x (filter test (y ∷ ys))
-          (all_filter (λ z. number x ≤ number z) test (y ∷ ys) (low, all_weaker
-          (λ z. number y < number z) (λ z. number x ≤ number z) ys (λ z l. omega arith) h.0)) in
+          (all_filter (λ z. number x ≤ number z) test (y ∷ ys) (
+            low,
+            all_weaker
+                (λ z. number y < number z) (λ z. number x ≤ number z) ys (λ z l. omega arith) h.0,
+          )) in
           ap (λ front. cond (test x) front (filter test (y ∷ ys))) (sym first)
       at false is rest =
           let left = filter test ys in

@@ -177,10 +177,7 @@ impl Records {
 }
 
 // The nodes and records of a map, in its order. Refused: `NoMemory`.
-fn pairs_of(
-    stored: &IndexMap<u64, Stored>,
-    alloc: Global,
-) -> Result<Vec<(u64, &Stored)>, Refusal>
+fn pairs_of(stored: &IndexMap<u64, Stored>, alloc: Global) -> Result<Vec<(u64, &Stored)>, Refusal>
     ensures refused { IsRefusedBy result None }
     ensures pairs { IfOk result (λ pairs. map shown_pair pairs.items ≡ stored.now.entries) }
     ensures own { IsDistinct nat_eq (keys_of stored.now.entries) }

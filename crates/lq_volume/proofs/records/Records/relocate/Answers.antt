@@ -19,7 +19,7 @@ returns c = elim c.match-get_mut.branch [
       let there = subst (λ (o : Option Record). IsSome o) w.in-Some.ensures.value refl in
       let end = c.get_mut.follows.holds w.relocate.new.self in
       rw (w.self-inside-is, ← c.self.view_is) (by_node-altered _ _ _ _ _ _ w.relocate.ensures
-          c.self.invariant end.4 w.in-Some.ensures.value (λ n. (end.3 there).0 n))
+      c.self.invariant end.4 w.in-Some.ensures.value (λ n. (end.3 there).0 n))
   | in_default w ↦ rw (w.self-inside-is, c.get_mut.follows.holds-at-none, ← c.self.view_is)
       (by_node-absent c.self.inside.stored.entries c.args.node (at_place c.args.dir c.args.name)
       w.in_default.ensures.value)

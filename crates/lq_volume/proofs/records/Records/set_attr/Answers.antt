@@ -15,7 +15,7 @@ returns-in_err-set_attr-clause-err c =
     let there = subst (λ (o : Option Record). IsSome o) c.in-Some.ensures.value refl in
     let end = c.get_mut.follows.holds c.set_attr.new.self in
     let same = by_node-same _ _ _ _ _ c.in_err-set_attr.ensures.err c.self.invariant end.4
-        c.in-Some.ensures.value (λ n. (end.3 there).0 n) in
+    c.in-Some.ensures.value (λ n. (end.3 there).0 n) in
     rw (← c.self.view_is) (on_err _ same)
 
 pub invariant_of-self-2 : goal.invariant_of-self-2
@@ -31,8 +31,8 @@ returns-clause-ok c = elim c.match-get_mut.branch [
       let there = subst (λ (o : Option Record). IsSome o) w.in-Some.ensures.value refl in
       let end = c.get_mut.follows.holds w.set_attr.new.self in
       rw (w.self-inside-is, ← c.self.view_is) (by_node-altered _ _ _ _ _ _
-          w.in_ok-set_attr.ensures.ok c.self.invariant end.4 w.in-Some.ensures.value
-          (λ n. (end.3 there).0 n))
+      w.in_ok-set_attr.ensures.ok c.self.invariant end.4 w.in-Some.ensures.value
+      (λ n. (end.3 there).0 n))
   | in_default w ↦ rw (w.self-inside-is, c.get_mut.follows.holds-at-none, ← c.self.view_is)
       (by_node-absent c.self.inside.stored.entries c.args.node (setting c.args.attr c.args.value)
       w.in_default.ensures.value)
