@@ -1,5 +1,11 @@
 //! The program's words, with `threads` among them.
-ghost use Rattle.std.specs.Prelude.{◌≡◌, ◌≤◌, false};
+ghost use Rattle.std.specs.Prelude.{◌≡◌, ◌↔◌, ◌⊎◌, ◌≤◌, ℕ, List, false, true, Err};
+ghost use Rattle.lq_formula.specs.Reading.{reading_of};
+ghost use Rattle.lq_lines.specs.Output.{Answered, Stopped};
+ghost use Rattle.lq_script.specs.Script.{script_session, world_rules};
+ghost use Rattle.lq_script.specs.Words.{IsCheckOf, IsFaultOf, IsRun, IsUsage, Prints, PrintsFront, Tells};
+ghost use Rattle.lq_script.specs.Words.{fault_line, refusal_line, texts_of, usage_line};
+ghost use Rattle.lq_threads.specs.Words.{IsOther, IsThreads};
 
 use crate::gate::OpenGate;
 use crate::threads::run_threads;
@@ -25,6 +31,47 @@ pub fn program<T: Threads + Wait + Sync, R: Source, W: Sink, F: Sink>(
     requires writer_works { W.failed writer.old ≡ false }
     requires writer_moves { W.stalled writer.old ≡ false }
     ensures status { result ≤ 2 }
+
+    // 0: a whole script was carried out, or a formula was printed; nothing is told.
+    ensures run_done { IsRun (texts_of words.now) → result ≡ 0 →
+        Answered world_rules script_session
+        (R.left reader.old) (R.left reader.new) (W.written writer.old) (W.written writer.new) }
+    ensures check_done { (formula : List ℕ) → IsCheckOf (texts_of words.now) formula → result ≡ 0 →
+        Prints formula (W.written writer.old) (W.written writer.new) }
+    ensures flushed { ¬ IsThreads (texts_of words.now) → result ≡ 0 → W.flushed writer.new ≡ true }
+    ensures quiet { result ≡ 0 → faults.new ≡ faults.old }
+
+    // 1: what was written is a front of that, and a fault is told.
+    ensures run_stopped { IsRun (texts_of words.now) → result ≡ 1 →
+        Stopped world_rules script_session
+        (R.left reader.old) (R.left reader.new) (W.written writer.old) (W.written writer.new) }
+    ensures check_stopped { (formula : List ℕ) → IsCheckOf (texts_of words.now) formula
+        → result ≡ 1 → (writer.new ≡ writer.old)
+        ⊎ PrintsFront formula (W.written writer.old) (W.written writer.new) }
+    ensures fault { ¬ IsThreads (texts_of words.now) → result ≡ 1 → (fault : RunFault)
+        × (Tells (fault_line fault) (F.written faults.old) (F.written faults.new)
+        (F.failed faults.new) (F.stalled faults.new)
+        × IsFaultOf fault (R.left reader.old) (R.left reader.new) (R.failed reader.new)
+        (W.written writer.old) (W.written writer.new)
+        (W.failed writer.new) (W.stalled writer.new)) }
+
+    // 2: the formula is refused with the place of its fault, or the words are other words.
+    ensures refused { (formula : List ℕ) → IsCheckOf (texts_of words.now) formula → result ≡ 2 →
+        (place : ℕ) × ((reading_of formula ≡ Err place)
+        × Tells (refusal_line place) (F.written faults.old) (F.written faults.new)
+        (F.failed faults.new) (F.stalled faults.new)) }
+    ensures usage { IsUsage (texts_of words.now) → result ≡ 2 →
+        Tells usage_line (F.written faults.old) (F.written faults.new)
+        (F.failed faults.new) (F.stalled faults.new) }
+    ensures writes_nothing { result ≡ 2 → writer.new ≡ writer.old }
+
+    // `run` and `threads` are never refused, other words never done; only a script is read.
+    ensures run_status { IsRun (texts_of words.now) → result ≤ 1 }
+    ensures threads_status { IsThreads (texts_of words.now) → result ≤ 1 }
+    ensures usage_status { IsOther (texts_of words.now) →
+        (1 ≤ result) × (writer.new ≡ writer.old) }
+    ensures reads_nothing { ¬ IsRun (texts_of words.now) → ¬ IsThreads (texts_of words.now)
+        → reader.new ≡ reader.old }
 {
     if !asks_threads(words) {
         return lq_script::program(alloc, words, reader, writer, faults);
@@ -40,7 +87,9 @@ pub fn program<T: Threads + Wait + Sync, R: Source, W: Sink, F: Sink>(
 }
 
 // Whether the words are `threads` alone.
-fn asks_threads(words: &[String]) -> bool {
+fn asks_threads(words: &[String]) -> bool
+    ensures { (result ≡ true) ↔ IsThreads (texts_of words.now) }
+{
     match words {
         [word] => word.as_str() == "threads",
         _ => false,
