@@ -1,7 +1,7 @@
 -- What a setting and a removal make of attributes with names of their own: in a list, and under
 -- numbers.
 use Rattle.std.proofs.Common.{◌≡◌, ◌<◌, ◌+◌, ℕ, zero, suc, List, [], ◌∷◌, ◌++◌, refl, sym, ◌∙◌, subst, arith, ap, Bool, true, false}
-use Rattle.std.specs.Prelude.{filter, not, cond, Option, Some, None, IsSome, slice_get, slice_index_or, map, length, drop}
+use Rattle.std.specs.Prelude.{filter, not, cond, Option, Some, None, IsSome, slice_get, slice_index_or, length, drop}
 use Rattle.std.specs.BTreeMap.{insert_entry, is_at}
 use Rattle.std.specs.List.{AllByRecursion, slice_set, remove}
 use Rattle.std.specs.Map.{lookup, remove_entry, set_value, values_of}

@@ -1,5 +1,5 @@
 -- A lawful change to a state, with what it touches.
-use Rattle.std.specs.Prelude.{◌≡◌, ℕ, Option, Some, IfSome}
+use Rattle.std.specs.Prelude.{◌≡◌, Some, IfSome}
 use Rattle.std.specs.Option.{option_map}
 use Rattle.lq_volume.specs.declared.change.Change.{Change}
 use Rattle.lq_volume.specs.declared.planned.Touched.{Touched}

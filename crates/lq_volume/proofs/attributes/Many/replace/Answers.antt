@@ -1,7 +1,6 @@
-use Rattle.std.proofs.Common.{◌≡◌, ◌∙◌, subst, sym, Some, None}
-use Rattle.std.specs.BTreeMap.{get_by_text, is_at}
-use Rattle.std.specs.Map.{values_of, lookup}
-use Rattle.std.specs.Ordering.{nat_cmp}
+use Rattle.std.proofs.Common.{◌≡◌, subst, sym, Some, None}
+use Rattle.std.specs.BTreeMap.{get_by_text}
+use Rattle.std.specs.Map.{values_of}
 use Rattle.std.specs.Prelude.{IsSome, Option}
 use Rattle.lq_value.specs.declared.value.Value.{Value}
 use Rattle.lq_volume.specs.Attributes.{value_of}

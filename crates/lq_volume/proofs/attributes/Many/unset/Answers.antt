@@ -1,4 +1,4 @@
-use Rattle.std.proofs.Common.{◌≡◌, ◌∙◌, ℕ, List, refl, sym, Some, None, cond}
+use Rattle.std.proofs.Common.{◌≡◌, ℕ, List, refl, sym, Some, None, cond}
 use Rattle.std.proofs.lemmas.Map.Text.{btree_map_updates_text}
 use Rattle.std.specs.BTreeMap.{get_by_text}
 use Rattle.std.specs.Map.{values_of}

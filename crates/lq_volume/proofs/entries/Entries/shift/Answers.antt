@@ -1,6 +1,5 @@
-use Rattle.std.proofs.Common.{◌≡◌, sym, subst, Some, None}
-use Rattle.std.specs.Prelude.{nat_eq, IsSome, Option}
-use Rattle.std.specs.Map.{lookup}
+use Rattle.std.proofs.Common.{sym, subst, None}
+use Rattle.std.specs.Prelude.{IsSome, Option}
 use Rattle.lq_volume.specs.State.{Record}
 use Rattle.lq_volume.specs.Places.{CanMove}
 use Rattle.lq_volume.proofs.PlaceLemmas.{node_in-moved}
