@@ -1,5 +1,6 @@
 pub mod Refusal
 pub mod Name
+pub mod NameOrder
 pub mod Value
 pub mod Number
 pub mod Element

@@ -1,39 +1,48 @@
 //! The name of an entry.
 ghost use Rattle.std.specs.Prelude.{◌≡◌, refl, true, false, Some, None, IfOk, IsTrue, nat_eq, if◌then◌else◌};
-ghost use Rattle.std.specs.Ordering.{nat_cmp};
-ghost use Rattle.std.specs.Cmp.Lexicographic.{pointwise, slice_cmp, nat_list_eq_equiv, nat_list_cmp_total, texts_ties, texts_po};
+ghost use Rattle.std.specs.Cmp.Lexicographic.{pointwise, nat_list_eq_equiv};
 ghost use Rattle.std.specs.Cmp.{partial_equiv_from_equiv};
 ghost use Rattle.lq_value.specs.declared.refusal.Refusal.TheVariants.{BadName};
 ghost use Rattle.lq_value.specs.Refusal.{IsRefusedBy};
 ghost use Rattle.lq_value.specs.Name.{is_name, is_name_byte};
+ghost use Rattle.lq_value.specs.NameOrder.{hash_of, name_cmp, names_total, names_ties, names_po};
 ghost use Rattle.std.specs.List.{list_all};
 
 use crate::refusal::Refusal;
 use std::alloc::Global;
 use std::cmp::Ordering;
 use std::marker::Model;
+use std::sync::ArcStr;
 
 /// The longest name of an entry, in bytes.
 const MAX_NAME: usize = 255;
 
+/// What is kept of a text's hash where another byte follows: 55 bits.
+const KEPT: u64 = 1 << 55;
+
 /// The name of an entry: 1 to 255 bytes of UTF-8 without `/` and NUL, and neither `.` nor `..`.
 ///
-/// Names are ordered by their bytes. A contract sees a name as its bytes.
+/// A contract sees a name as its bytes. A name and its copies share one text, which is counted and
+/// goes with the last of them. Names are ordered by a hash that is kept with them, and by their
+/// bytes where the hashes are the same: so a search loads the texts of few.
 #[derive(Debug, Drop)]
 pub struct Name {
-    text: String,
+    hash: u64,
+    text: ArcStr,
 }
 
 impl Model for Name {
-    ghost use Rattle.std.specs.Prelude.{ℕ, List, IsTrue};
-    ghost use Rattle.std.specs.String.{string_bytes};
+    ghost use Rattle.std.specs.Prelude.{◌≡◌, ℕ, List, IsTrue};
+    ghost use Rattle.std.specs.Arc.{arc_str_bytes};
     ghost use Rattle.lq_value.specs.Name.{is_name};
+    ghost use Rattle.lq_value.specs.NameOrder.{hash_of};
 
     ghost Value = { List ℕ };
 
-    ghost view = { λ name. string_bytes name.text };
+    ghost view = { λ name. arc_str_bytes name.text };
 
-    ghost invariant = { λ name. IsTrue (is_name (string_bytes name.text)) };
+    ghost invariant = { λ name. IsTrue (is_name (arc_str_bytes name.text))
+        × (name.hash ≡ hash_of (arc_str_bytes name.text)) };
 }
 
 impl Name {
@@ -49,7 +58,8 @@ impl Name {
             return Err(Refusal::BadName);
         }
         Ok(Name {
-            text: String::from_str(alloc, text)?,
+            hash: hash_of_bytes(text.as_bytes()),
+            text: ArcStr::from_str(alloc, text)?,
         })
     }
 
@@ -61,13 +71,20 @@ impl Name {
         self.text.as_str()
     }
 
-    /// Another name with the same text. Refused: `NoMemory`.
+    /// Another name with the same text, which the two share: it takes no memory.
+    ///
+    /// Where 2^63 - 1 names share the text, the new name has a text of its own. Refused: `NoMemory`.
     pub fn copy(&self, alloc: Global) -> Result<Name, Refusal>
         ensures refused { IsRefusedBy result None }
         ensures value { IfOk result (λ name. name ≡ self.now) }
     {
+        let text = match self.text.clone() {
+            Ok(text) => text,
+            Err(_) => ArcStr::from_str(alloc, self.text.as_str())?,
+        };
         Ok(Name {
-            text: String::from_str(alloc, self.text.as_str())?,
+            hash: self.hash,
+            text,
         })
     }
 }
@@ -78,7 +95,7 @@ impl PartialEq for Name {
     ghost laws = { partial_equiv_from_equiv nat_list_eq_equiv };
 
     fn eq(&self, other: &Name) -> bool {
-        self.as_str() == other.as_str()
+        self.hash == other.hash && self.as_str() == other.as_str()
     }
 }
 
@@ -87,9 +104,9 @@ impl Eq for Name {
 }
 
 impl PartialOrd for Name {
-    ghost partial_cmp = { λ x y. Some (slice_cmp nat_cmp x y) };
+    ghost partial_cmp = { λ x y. Some (name_cmp x y) };
 
-    ghost laws = { texts_po };
+    ghost laws = { names_po };
 
     fn partial_cmp(&self, other: &Name) -> Option<Ordering> {
         Some(self.cmp(other))
@@ -97,15 +114,18 @@ impl PartialOrd for Name {
 }
 
 impl Ord for Name {
-    ghost cmp = { slice_cmp nat_cmp };
+    ghost cmp = { name_cmp };
 
-    ghost total = { nat_list_cmp_total };
+    ghost total = { names_total };
 
     ghost matches_partial_cmp = { λ x y. refl };
 
-    ghost matches_eq = { texts_ties };
+    ghost matches_eq = { names_ties };
 
     fn cmp(&self, other: &Name) -> Ordering {
+        if self.hash != other.hash {
+            return self.hash.cmp(&other.hash);
+        }
         self.as_str().cmp(other.as_str())
     }
 }
@@ -120,6 +140,17 @@ fn is_name_text(text: &str) -> bool
         return false;
     }
     has_name_bytes(text.as_bytes())
+}
+
+// The hash of a text.
+fn hash_of_bytes(bytes: &[u8]) -> u64
+    ensures { result ≡ hash_of bytes.now }
+{
+    let mut hash = 0;
+    for byte in bytes {
+        hash = hash % KEPT * 257 + *byte as u64;
+    }
+    hash
 }
 
 // Whether no byte is `/` or NUL.

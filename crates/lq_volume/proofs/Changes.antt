@@ -1,10 +1,9 @@
 -- An accepted change keeps the numbers and nodes of a volume.
-use Rattle.std.proofs.Common.{◌≡◌, ℕ, ◌+◌, ◌≤◌, ◌^◌, List, [], ◌∷◌, arith, Bool, false, None, Option, ◌++◌, ◌<◌, ℤ, filter}
+use Rattle.std.proofs.Common.{◌≡◌, ℕ, ◌+◌, ◌≤◌, List, [], ◌∷◌, arith, Bool, false, None, Option, ◌++◌, ◌<◌, filter}
 use Rattle.std.specs.List.{AllByRecursion}
 use Rattle.std.proofs.lemmas.Bool.Decides.{nat_tests}
 use Rattle.lq_value.specs.declared.refusal.Refusal.{Refusal}
 use Rattle.lq_value.specs.Refusal.{first_refusal}
-use Rattle.lq_value.specs.declared.kind.Kind.{Kind}
 use Rattle.lq_volume.specs.declared.change.Change.{Change}
 use Rattle.lq_volume.specs.declared.change.Change.TheVariants.{Create, Remove, Move, Write, SetAttr, RemoveAttr}
 use Rattle.lq_volume.specs.State.{State, Record, IsNumbered}
@@ -16,13 +15,6 @@ pub none_holds : (rows : List (Bool × Refusal)) → first_refusal rows ≡ None
     → AllByRecursion (λ row. row.0 ≡ false) rows
 none_holds [] h = tt
 none_holds (row ∷ rows) h = let k = none_holds rows in grind (arith, nat_tests)
-
--- what a creation that nothing refuses has
-pub accepted_size : (s : State) (dir : ℕ) (name : List ℕ) (kind : Kind) (size : ℕ) (time : ℤ)
-    → refused s (Create dir name kind size time) ≡ None → size < 2 ^ 63
-accepted_size s dir name kind size time h =
-    let rows = none_holds (refusals s (Create dir name kind size time)) h in
-    grind (arith, nat_tests)
 
 -- a change that nothing refuses finds the volume below its limit
 pub accepted_number : (s : State) (c : Change) → refused s c ≡ None → s.number < s.limit
@@ -43,13 +35,6 @@ accepted_number s (SetAttr node attr value) h =
     grind (arith, nat_tests)
 accepted_number s (RemoveAttr node attr) h =
     let rows = none_holds (refusals s (RemoveAttr node attr)) h in
-    grind (arith, nat_tests)
-
--- a write that nothing refuses has a size below 2^63
-pub written_size : (s : State) (node size : ℕ) (time : ℤ)
-    → refused s (Write node size time) ≡ None → size < 2 ^ 63
-written_size s node size time h =
-    let rows = none_holds (refusals s (Write node size time)) h in
     grind (arith, nat_tests)
 
 -- one more change, with a record under the next node

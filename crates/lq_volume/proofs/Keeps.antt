@@ -15,10 +15,9 @@ use Rattle.lq_volume.specs.Kind.{is_folder}
 use Rattle.lq_volume.specs.State.{State, Record, root, record_at, kind_at, is_folder_at, dir_of, reaches, node_in, has_entries, IsTree, IsVolume}
 use Rattle.lq_volume.specs.Change.{refused, refusals, after, node_of, record_left, at_place, written, setting, unsetting, with_attrs, changed, altered, without, other_at, other_than, is_other}
 use Rattle.lq_volume.specs.Places.{CanMove}
-use Rattle.lq_volume.specs.Laws.{ChangesKeepTrees, UntouchedStay, ClobberedGo, PlacesAreOwn}
+use Rattle.lq_volume.specs.Laws.{ChangesKeepTrees, UntouchedStay, ClobberedGo}
 use Rattle.lq_volume.proofs.RecordLemmas.{Entries, All-push, All-filter, All-without, All-kept, lookup-filter, lookup-push, lookup-altered, node_in-some, node_in-none, is_taken-node_in, length-filter_le}
 use Rattle.lq_volume.proofs.AttributeLemmas.{HasOwnNames-with, HasOwnNames-without}
-use Rattle.lq_volume.proofs.PlaceLemmas.{uniq}
 use Rattle.lq_volume.proofs.Climbs.{climbs-sound, climbs-complete, Climb-more}
 use Rattle.lq_volume.proofs.Changes.{none_holds, accepted_number, IsNumbered-create, IsNumbered-filter, IsNumbered-altered}
 use Rattle.lq_volume.proofs.Tree.{IsChildless, childless-from_test, less-folder, IsTree-less, IsTree-moved, IsTree-kept, IsTree-more, dir_of-is, record-of}
@@ -358,7 +357,7 @@ record-left s (RemoveAttr node attr) v =
     let l = lookup-altered s.records node (unsetting attr) node in
     grind (arith, nat_tests)
 
--- the node that a move takes away
+-- the other node at a place is not the node itself
 gone-from : (node : ℕ) (o : Option ℕ) (n : ℕ) → other_than node o ≡ Some n → n ≡ node → ⊥
 gone-from node None n h e = cc
 gone-from node (Some x) n h e = grind (arith, nat_tests)
@@ -377,13 +376,7 @@ clobbered-go s (Move node dir name clobber) n v is =
           (at_place dir name) n in let k = lookup-filter s.records n n in grind (arith, nat_tests)),
     )
 
--- an entry is found at its place
-pub own-places : PlacesAreOwn
-own-places s n r v is =
-    rw (uniq s.records n r (node_in s.records r.dir r.name) v.numbered.rise v.tree.apart is refl)
-    (let same : eqb n n ≡ true = grind (arith, nat_tests) in rw same refl)
-
--- a node that was found at a place has a record
+-- the other node at a place is the one that was found there
 found-at : (node : ℕ) (o : Option ℕ) (x : ℕ) → other_than node o ≡ Some x → o ≡ Some x
 found-at node None x e = cc
 found-at node (Some y) x e = grind (arith, nat_tests)

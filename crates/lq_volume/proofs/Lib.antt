@@ -1,7 +1,7 @@
 -- Read in this order. Records by rising node: RecordLemmas. Lists in order, and the records of a
 -- map in order: OrderLemmas, ByNode. Walks up, and what keeps the tree: Climbs, Tree. What each
--- accepted change keeps: Changes, Keeps, Touches. The index of places: PlaceLemmas. Attributes:
--- AttributeLemmas.
+-- accepted change keeps: Changes, Keeps, Touches. The index of places: PlaceLemmas. Attributes in
+-- a list, and under numbers: AttributeLemmas, NumberedLemmas.
 pub mod OrderLemmas
 pub mod RecordLemmas
 pub mod ByNode
@@ -11,4 +11,5 @@ pub mod Changes
 pub mod Keeps
 pub mod PlaceLemmas
 pub mod AttributeLemmas
+pub mod NumberedLemmas
 pub mod Touches

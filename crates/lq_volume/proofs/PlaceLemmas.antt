@@ -2,20 +2,23 @@
 use Rattle.std.proofs.Common.{◌≡◌, subst, ℕ, List, [], ◌∷◌, ◌++◌, refl, sym, arith, eqb, ap, ◌∙◌, Bool, true, false, inl, inr}
 use Rattle.std.specs.Prelude.{not, filter, cond, nat_eq, Option, Some, None, is_some, length, ◌&&◌, ◌==◌, option_and_then}
 use Rattle.std.specs.BTreeMap.{BTreeMap, get}
-use Rattle.std.specs.Cmp.Lexicographic.{slice_cmp}
 use Rattle.std.specs.List.{list_any}
 use Rattle.std.specs.Map.{lookup, values_of}
 use Rattle.std.specs.Option.{option_map, option_map_or}
-use Rattle.std.specs.Ordering.{nat_cmp}
+use Rattle.std.specs.Ordering.{nat_cmp, is_eq}
 use Rattle.std.specs.Str.{bytes_eq}
 use Rattle.std.proofs.lemmas.Bool.{cases_eq}
 use Rattle.std.proofs.lemmas.Bool.Decides.{nat_tests}
-use Rattle.std.proofs.lemmas.Map.Text.{is_eq-slice_cmp}
 use Rattle.std.proofs.lemmas.Slice.Eq.{bytes_eq-Decides}
+use Rattle.lq_value.specs.NameOrder.{name_cmp, names_ties}
 use Rattle.lq_volume.specs.State.{Record, Rises, node_in}
 use Rattle.lq_volume.specs.Change.{altered, at_place, without, other_than}
 use Rattle.lq_volume.specs.Places.{Places, place_at, has_names, IsIndex, IsApart, CanMove}
 use Rattle.lq_volume.proofs.RecordLemmas.{Entries, lookup-above, lookup-altered, lookup-filter, node_in-some, node_in-none, Rises-altered, Rises-filter, Rises-without, Rises-front}
+
+-- two names are the same in the order of names where their bytes are
+pub is_eq-name_cmp : (x y : List ℕ) → is_eq (name_cmp x y) ≡ bytes_eq x y
+is_eq-name_cmp x y = sym (names_ties x y)
 
 -- a folder without a map, or with an empty one, has no place
 pub place_at-unnamed : (places : Places) (d : ℕ) (n : List ℕ) → has_names places d ≡ false
@@ -24,12 +27,12 @@ place_at-unnamed places d n h = at (get nat_cmp places d) refl h
   where
     at : (o : Option (BTreeMap (List ℕ) ℕ)) → get nat_cmp places d ≡ o
         → option_map_or (λ names. not (length names.entries == 0)) o false ≡ false
-        → option_and_then (λ names. get (slice_cmp nat_cmp) names n) o ≡ None
+        → option_and_then (λ names. get name_cmp names n) o ≡ None
     at None is k = refl
     at (Some names) is k = go names.entries refl k
       where
         go : (es : List (List ℕ × ℕ)) → names.entries ≡ es → not (length es == 0) ≡ false
-            → get (slice_cmp nat_cmp) names n ≡ None
+            → get name_cmp names n ≡ None
         go [] e j = grind (arith)
         go (x ∷ xs) e j = grind (arith, nat_tests)
 
@@ -40,16 +43,16 @@ place_at-named places d h = at (get nat_cmp places d) refl h
   where
     at : (o : Option (BTreeMap (List ℕ) ℕ)) → get nat_cmp places d ≡ o
         → option_map_or (λ names. not (length names.entries == 0)) o false ≡ true → (n : List ℕ)
-        × (is_some (option_and_then (λ names. get (slice_cmp nat_cmp) names n) o) ≡ true)
+        × (is_some (option_and_then (λ names. get name_cmp names n) o) ≡ true)
     at None is k = cc
     at (Some names) is k = go names.entries refl k
       where
         go : (es : List (List ℕ × ℕ)) → names.entries ≡ es → not (length es == 0) ≡ true
-            → (n : List ℕ) × (is_some (get (slice_cmp nat_cmp) names n) ≡ true)
+            → (n : List ℕ) × (is_some (get name_cmp names n) ≡ true)
         go [] e j = cc
         go (x ∷ xs) e j = (
           x.0,
-          let s = is_eq-slice_cmp x.0 x.0 in
+          let s = is_eq-name_cmp x.0 x.0 in
               let b = bytes_eq-Decides x.0 x.0 in grind (arith, nat_tests),
         )
 
@@ -113,7 +116,7 @@ at-false a b x y h k l = let e = (bytes_eq-Decides x y).1 l in grind (arith, nat
 flip-at : (a b : ℕ) (x y : List ℕ) → ((a == b) && bytes_eq x y) ≡ ((b == a) && bytes_eq x y)
 flip-at a b x y = grind (arith, nat_tests)
 
--- one record more, at a place that was free
+-- a place that has a node has it with one record more
 push-some : (es : Entries) (e : ℕ × Record) (d x : ℕ) (n : List ℕ) → node_in es d n ≡ Some x
     → node_in (es ++ e ∷ []) d n ≡ Some x
 push-some [] e d x n h = cc
@@ -139,20 +142,6 @@ node_in-push es k v free d n = go ((d == v.dir) && bytes_eq v.name n) refl (node
         absurd (let was : node_in es d n ≡ None = rw (t.0, ← t.1) free in cc)
     go false h None e = sym (push-none es (k, v) d n e ∙ ap (λ (b : Bool). cond b (Some k) None) h)
     go false h (Some x) e = sym (push-some es (k, v) d x n e)
-
--- a node put at a free place, and taken from it again
-pub node_in-undone : (es : Entries) (k : ℕ) (v : Record) → node_in es v.dir v.name ≡ None
-    → (d : ℕ) (n : List ℕ) → cond ((d == v.dir) && bytes_eq v.name n) None
-    (cond ((d == v.dir) && bytes_eq v.name n) (Some k) (node_in es d n)) ≡ node_in es d n
-node_in-undone es k v free d n = go ((d == v.dir) && bytes_eq v.name n) refl
-  where
-    go : (b : Bool) → ((d == v.dir) && bytes_eq v.name n) ≡ b
-        → cond b None (cond b (Some k) (node_in es d n)) ≡ node_in es d n
-    go true h =
-        let t = at-true d v.dir v.name n h in
-        let was : node_in es d n ≡ None = rw (t.0, ← t.1) free in
-        sym was
-    go false h = refl
 
 -- one record less
 module _ (es : Entries) (k : ℕ) (r : Record) (rise : Rises es) (apart : IsApart es)
@@ -224,13 +213,13 @@ node_in-altered (e ∷ es) k f dirs names d n =
     let b = names e.1 in
     grind (arith, nat_tests, node_in-altered es k f dirs names d n)
 
--- a front of records with places of their own leaves the next one's free
+-- a record found in a front is found in the whole
 lookup-front : (es fs : Entries) (x : ℕ) (r : Record) → lookup (nat_eq x) es ≡ Some r
     → lookup (nat_eq x) (es ++ fs) ≡ Some r
 lookup-front [] fs x r h = cc
 lookup-front (e ∷ es) fs x r h = grind (arith, nat_tests, lookup-front es fs x r)
 
--- a node that the front doesn't have is found behind it
+-- a node that the front doesn't have is found after it
 lookup-next : (es fs : Entries) (e : ℕ × Record) → lookup (nat_eq e.0) es ≡ None
     → lookup (nat_eq e.0) (es ++ e ∷ fs) ≡ Some e.1
 lookup-next [] fs e h = grind (arith, nat_tests)
@@ -312,7 +301,7 @@ module _ (es : Entries) (node dir : ℕ) (name : List ℕ) (other : Option ℕ)
   rises : Rises new
   rises = Rises-altered node (at_place dir name) (without other es) (Rises-without other es rise)
 
-  -- nobody new at another place
+  -- what is at another place than the new one was there before
   none-new : (d : ℕ) (n : List ℕ) (x : ℕ) → (dir ≡ d → name ≡ n → ⊥) → node_in new d n ≡ Some x
       → (v : Record) × (x ≡ node → ⊥) × (lookup (nat_eq x) es ≡ Some v) × (v.dir ≡ d) × (v.name ≡ n)
   none-new d n x off found =

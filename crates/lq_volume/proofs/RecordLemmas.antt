@@ -63,7 +63,7 @@ Rises-filter test (e ∷ es) h =
       | false ↦ Rises-filter test es h.1
     ]
 
--- what a look-up finds after each edit
+-- without a node, a look-up of it finds nothing, and one of another what it found
 pub lookup-filter : (es : Entries) (k n : ℕ) → lookup (nat_eq n) (filter (λ e. not (eqb e.0 k)) es)
     ≡ cond (eqb n k) None (lookup (nat_eq n) es)
 lookup-filter [] k n = grind (arith, nat_tests)
@@ -99,7 +99,7 @@ pub All-altered : (P : ℕ → Type 0) (k : ℕ) (g : Record → Record) (es : E
 All-altered P k g [] h = tt
 All-altered P k g (e ∷ es) h = (h.0, All-altered P k g es h.1)
 
--- what the alteration keeps of each
+-- what an alteration keeps of each entry is so of all of them after it
 pub All-kept : (P : ℕ × Record → Type 0) (k : ℕ) (g : Record → Record) (es : Entries)
     → ((e : ℕ × Record) → P e → P (e.0, g e.1)) → AllByRecursion P es
     → AllByRecursion P (altered k g es)
@@ -114,7 +114,7 @@ pub Rises-altered : (k : ℕ) (g : Record → Record) (es : Entries) → Rises e
 Rises-altered k g [] h = tt
 Rises-altered k g (e ∷ es) h = (All-altered (λ n. e.0 < n) k g es h.0, Rises-altered k g es h.1)
 
--- one that is there makes the others fewer
+-- without a node the entries are no more
 pub length-filter_le : (es : Entries) (k : ℕ)
     → length (filter (λ e. not (eqb e.0 k)) es) ≤ length es
 length-filter_le [] k = omega arith
@@ -166,7 +166,7 @@ Rises-start (e ∷ es) fs h = (front es h.0, Rises-start es fs h.1)
     front [] k = tt
     front (g ∷ gs) k = (k.0, front gs k.1)
 
--- what the search for a place finds
+-- the node that the search for a place finds has a record there
 pub node_in-some : (es : Entries) (dir : ℕ) (name : List ℕ) (x : ℕ) → Rises es
     → node_in es dir name ≡ Some x
     → (r : Record) × (lookup (nat_eq x) es ≡ Some r) × (r.dir ≡ dir) × (r.name ≡ name)

@@ -9,11 +9,10 @@ use Rattle.std.proofs.lemmas.Slice.Eq.{bytes_eq-Decides}
 use Rattle.lq_value.specs.declared.kind.Kind.{Kind}
 use Rattle.lq_value.specs.declared.kind.Kind.TheVariants.{Folder}
 use Rattle.lq_volume.specs.Kind.{is_folder}
-use Rattle.lq_volume.specs.State.{State, Record, root, record_at, kind_at, is_folder_at, dir_of, reaches, has_entries, is_taken, IsNumbered, IsTree, empty_state}
+use Rattle.lq_volume.specs.State.{State, Record, root, record_at, is_folder_at, dir_of, reaches, has_entries, is_taken, IsNumbered, IsTree}
 use Rattle.lq_volume.specs.Change.{at_place, altered}
 use Rattle.lq_volume.proofs.RecordLemmas.{lookup-filter, lookup-altered, lookup-push, lookup-above, fails-lookup}
-use Rattle.lq_volume.proofs.Climbs.{climbs-sound, climbs-complete, Climb-short, Climb-avoid, Climb-more, Climb-childless, Climb-moved, Climb-within}
-use Rattle.lq_volume.specs.Walk.{Climb, ReachesAll}
+use Rattle.lq_volume.proofs.Climbs.{Climb, climbs-sound, climbs-complete, Climb-short, Climb-avoid, Climb-more, Climb-childless, Climb-moved}
 
 -- a folder has a walk to the root
 folder-climb : (s : State) (d : ℕ) → IsTree s → is_folder_at s d ≡ true
@@ -506,28 +505,6 @@ module _ (s : State) (limit number next : ℕ) (v : Record) (n : IsNumbered s) (
           let same = (bytes_eq-Decides r.name v.name).1 f in
           grind (arith, nat_tests)
 
--- a volume before any change is a tree
-pub IsTree-empty : (limit : ℕ) → IsTree (empty_state limit)
-IsTree-empty limit = record {
-  folders = λ n r is. absurd (let no : ⊥ = cc in no);
-  climb = λ n r is. absurd (let no : ⊥ = cc in no);
-  apart = λ m n q r a b e f. absurd (let no : ⊥ = cc in no);
-  sizes = λ n r is. absurd (let no : ⊥ = cc in no);
-  no_root = refl;
-}
-
--- in a tree the bounded walk from a folder finds all that any walk does
-pub reaches-all : ReachesAll
-reaches-all s at to t folder = (
-  (λ h. let c = climbs-sound (length s.records) (dir_of s.records) to at h in (c.0, c.2)),
-  (λ w.
-      let c = folder-climb s at t folder in
-      let top : dir_of s.records root ≡ None = ap (option_map (λ (r : Record). r.dir)) t.no_root in
-      let short = Climb-short c.0 s.records root at top c.1 in
-      let less = Climb-within (dir_of s.records) root to c.0 w.0 at top c.1 w.1 in
-      climbs-complete (length s.records) w.0 (dir_of s.records) to at (omega arith) w.1),
-)
-
 -- no walk comes from a folder to a node that is none, since nothing is in it
 pub reaches-file : (s : State) (node dir : ℕ) → IsTree s → is_folder_at s node ≡ false
     → is_folder_at s dir ≡ true → reaches s dir node ≡ false
@@ -547,12 +524,3 @@ reaches-file s node dir t file folder = at (reaches s dir node) refl
     at true e =
         let c = climbs-sound (length s.records) (dir_of s.records) node dir e in
         absurd (Climb-childless (dir_of s.records) node c.0 dir alone differs c.2)
-
--- a node with a record has its kind
-pub kind_at-record : (s : State) (n : ℕ) (r : Record) → IsTree s → record_at s n ≡ Some r
-    → kind_at s n ≡ Some r.kind
-kind_at-record s n r t is = elim (cases_eq n root) [
-  | inl same ↦ absurd (let a = t.no_root in let b : record_at s root ≡ Some r = rw (← same) is in
-      let no : ⊥ = cc in no)
-  | inr differs ↦ let off : eqb n root ≡ false = grind (arith, nat_tests) in rw (off, is) refl
-]

@@ -2,27 +2,17 @@
 use Rattle.std.specs.Prelude.{◌≡◌, ℕ, ◌+◌, ◌≢◌, Some, None}
 use Rattle.std.specs.List.{AllByRecursion}
 use Rattle.lq_volume.specs.declared.change.Change.{Change}
-use Rattle.lq_volume.specs.State.{State, Record, IsVolume, record_at}
-use Rattle.lq_volume.specs.Change.{after, node_of, record_left, clobbered, other_at, touched_by, IsLawful}
+use Rattle.lq_volume.specs.State.{State, IsVolume, record_at}
+use Rattle.lq_volume.specs.Change.{after, node_of, clobbered, touched_by, IsLawful}
 
 -- the state after an accepted change is a tree again
 abbrev pub ChangesKeepTrees : Type 0
 ChangesKeepTrees = (s : State) (c : Change) → IsVolume s → IsLawful s c → IsVolume (after s c)
 
--- at its own node it leaves the record that the change says
-abbrev pub RecordsLeft : Type 0
-RecordsLeft = (s : State) (c : Change) → IsVolume s
-    → record_at (after s c) (node_of s c) ≡ record_left s c
-
 -- the node that a move takes away is another one, and is gone afterwards
 abbrev pub ClobberedGo : Type 0
 ClobberedGo = (s : State) (c : Change) (n : ℕ) → IsVolume s → clobbered s c ≡ Some n
     → (n ≢ node_of s c) × (record_at (after s c) n ≡ None)
-
--- no other node has the place that an entry has
-abbrev pub PlacesAreOwn : Type 0
-PlacesAreOwn = (s : State) (n : ℕ) (r : Record) → IsVolume s → record_at s n ≡ Some r
-    → other_at s n r.dir r.name ≡ None
 
 -- a node that a change doesn't touch has the record that it had
 abbrev pub UntouchedStay : Type 0

@@ -2,11 +2,11 @@
 -- it.
 use Rattle.std.specs.Prelude.{◌≡◌, ℕ, List, Bool, false, Option, Some, None, IsSome, option_and_then, nat_eq, not, length, ◌==◌, ◌&&◌, if◌then◌else◌}
 use Rattle.std.specs.BTreeMap.{BTreeMap, get}
-use Rattle.std.specs.Cmp.Lexicographic.{slice_cmp}
 use Rattle.std.specs.Map.{lookup}
 use Rattle.std.specs.Option.{option_map_or}
 use Rattle.std.specs.Ordering.{nat_cmp}
 use Rattle.std.specs.Str.{bytes_eq}
+use Rattle.lq_value.specs.NameOrder.{name_cmp}
 use Rattle.lq_volume.specs.State.{Record, node_in}
 use Rattle.lq_volume.specs.Change.{altered, at_place, other_than, without}
 
@@ -17,7 +17,7 @@ Places = BTreeMap ℕ (BTreeMap (List ℕ) ℕ)
 -- the node at a place
 abbrev pub place_at : Places → ℕ → List ℕ → Option ℕ
 place_at places dir name =
-    option_and_then (λ names. get (slice_cmp nat_cmp) names name) (get nat_cmp places dir)
+    option_and_then (λ names. get name_cmp names name) (get nat_cmp places dir)
 
 -- whether a folder has a name
 abbrev pub has_names : Places → ℕ → Bool

@@ -12,6 +12,7 @@ mod checks;
 mod entries;
 mod entry_ref;
 mod laws;
+mod many;
 mod places;
 mod planned;
 mod records;
@@ -22,8 +23,7 @@ mod volume;
 pub use change::{Applied, Change};
 pub use entry_ref::{EntryRef, Listing};
 pub use laws::{
-    accepted_changes_keep_trees, changes_are_counted, changes_leave_their_records,
-    clobbered_nodes_go, places_are_own, untouched_nodes_stay, walks_are_bounded,
+    accepted_changes_keep_trees, changes_are_counted, clobbered_nodes_go, untouched_nodes_stay,
 };
 pub use planned::Planned;
 pub use seen::Seen;

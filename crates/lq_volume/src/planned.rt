@@ -81,13 +81,6 @@ impl<'a> Planned<'a> {
         }
     }
 
-    /// The volume, before the change.
-    pub fn volume(&self) -> &'a Volume
-        ensures { result.now ≡ self.now.before }
-    {
-        self.volume
-    }
-
     /// The change.
     pub fn change(&self) -> &'a Change
         ensures { result.now ≡ self.now.change }

@@ -1,6 +1,6 @@
 use Rattle.std.proofs.Common.{arith}
 use Rattle.std.proofs.lemmas.Grind.{common_steps}
-use Rattle.std.proofs.lemmas.Map.Text.{is_eq-slice_cmp}
+use Rattle.lq_volume.proofs.PlaceLemmas.{is_eq-name_cmp}
 use Rattle.lq_volume.proofs.places.Places.put_first.Goals as goal
 
 pub returns-clause-ok : goal.returns-clause-ok
@@ -9,7 +9,7 @@ returns-clause-ok c = λ d n.
     grind (
       arith,
       common_steps,
-      is_eq-slice_cmp c.args.name n,
+      is_eq-name_cmp c.args.name n,
       c.in_ok-insert.ensures.updates.0 n,
       c.in_ok-insert-2.ensures.updates.0 d,
     )

@@ -20,7 +20,8 @@ returns c = elim c.match-get_mut.branch [
       let there = subst (λ (o : Option Record). IsSome o) w.in-Some.ensures.value refl in
       let end = c.get_mut.follows.holds w.write.new.self in
       rw (w.self-inside-is, ← c.self.view_is) (by_node-altered _ _ _ _ _ _
-      (rw (w.write.ensures, to_z-of_z c.ranges.time) refl) c.self.invariant end.4 w.in-Some.ensures.value (λ n. (end.3 there).0 n))
+      (rw (w.write.ensures, to_z-of_z c.ranges.time) refl) c.self.invariant end.4
+      w.in-Some.ensures.value (λ n. (end.3 there).0 n))
   | in_default w ↦ rw (w.self-inside-is, c.get_mut.follows.holds-at-none, ← c.self.view_is)
       (by_node-absent c.self.inside.stored.entries c.args.node (written c.args.size c.args.time)
       w.in_default.ensures.value)

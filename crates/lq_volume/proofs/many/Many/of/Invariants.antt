@@ -1,6 +1,6 @@
 use Rattle.std.proofs.Common.{◌≡◌, ◌++◌}
 use Rattle.std.specs.Vec.Iter.{into_iter_items}
-use Rattle.lq_volume.proofs.attributes.Many.of.Given as goal
+use Rattle.lq_volume.proofs.many.Many.of.Given as goal
 
 -- the attributes so far, with those that are left
 abbrev pub invariant-loop-attr : goal.invariant-loop-attr

@@ -5,9 +5,10 @@ use Rattle.std.specs.Map.{values_of}
 use Rattle.std.specs.Str.{bytes_eq}
 use Rattle.std.specs.String.{string_bytes}
 use Rattle.lq_volume.specs.Attributes.{value_of}
-use Rattle.lq_volume.proofs.AttributeLemmas.{with_attr-new, remove_entry-next, values_of-push, AreNumbered-push, AreNumbered-same}
-use Rattle.lq_volume.proofs.attributes.Many.add.Goals as goal
-use Rattle.lq_volume.proofs.attributes.Many.add.Goals.{in-Ok, in-Err}
+use Rattle.lq_volume.proofs.AttributeLemmas.{with_attr-new}
+use Rattle.lq_volume.proofs.NumberedLemmas.{remove_entry-next, values_of-push, AreNumbered-push, AreNumbered-same}
+use Rattle.lq_volume.proofs.many.Many.add.Goals as goal
+use Rattle.lq_volume.proofs.many.Many.add.Goals.{in-Ok, in-Err}
 
 pub invariant_of-self-in-Ok : goal.invariant_of-self-in-Ok
 invariant_of-self-in-Ok c =
@@ -27,14 +28,10 @@ invariant_of-self-in-Ok c =
 pub invariant_of-self-in-Err : goal.invariant_of-self-in-Err
 invariant_of-self-in-Err c =
     let es = c.self.inside.list.entries in
-    rw (
-      c.remove_at.ensures,
-      c.in_ok-push_at.ensures.ok,
-      remove_entry-next es _ (
-        c.args.attr,
-        c.args.value,
-      ) c.self.invariant.above,
-    ) (AreNumbered-same c.self.inside.next
+    let gone =
+    remove_entry-next es c.self.inside.next (c.args.attr, c.args.value) c.self.invariant.above in
+    rw (c.remove_at.ensures, c.in_ok-push_at.ensures.ok, gone)
+    (AreNumbered-same c.self.inside.next
     (get_by_text c.self.inside.numbers) (get_by_text c.insert.new.self) es
     (λ q. rw c.in-Err.ensures.err refl) c.self.invariant)
 
@@ -57,10 +54,8 @@ returns-clause-ok c =
 pub returns-clause-err : goal.returns-clause-err
 returns-clause-err c =
     let es = c.self.inside.list.entries in
-    let is = remove_entry-next es c.self.inside.next (
-      c.args.attr,
-      c.args.value,
-    ) c.self.invariant.above in
+    let is =
+    remove_entry-next es c.self.inside.next (c.args.attr, c.args.value) c.self.invariant.above in
     elim c.match-insert.branch [
       | in-Ok w ↦ rw w.result-is tt
       | in-Err w ↦ rw (

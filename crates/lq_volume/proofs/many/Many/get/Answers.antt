@@ -1,8 +1,8 @@
 use Rattle.std.proofs.Common.{◌≡◌, ◌∙◌, ap, sym, Some, None}
 use Rattle.std.specs.BTreeMap.{get_by_text}
 use Rattle.std.specs.Option.{option_map}
-use Rattle.lq_volume.proofs.AttributeLemmas.{at-none, at-number, value_of-none, value_of-number}
-use Rattle.lq_volume.proofs.attributes.Many.get.Goals as goal
+use Rattle.lq_volume.proofs.NumberedLemmas.{at-none, at-number, value_of-none, value_of-number}
+use Rattle.lq_volume.proofs.many.Many.get.Goals as goal
 
 pub returns-in-None : goal.returns-in-None
 returns-in-None c =

@@ -4,8 +4,8 @@ use Rattle.std.specs.Map.{values_of}
 use Rattle.std.specs.Prelude.{IsSome, Option}
 use Rattle.lq_value.specs.declared.value.Value.{Value}
 use Rattle.lq_volume.specs.Attributes.{value_of}
-use Rattle.lq_volume.proofs.AttributeLemmas.{at-none, at-number, found-number, value_of-none, with_attr-number, AreNumbered-set}
-use Rattle.lq_volume.proofs.attributes.Many.replace.Goals as goal
+use Rattle.lq_volume.proofs.NumberedLemmas.{at-none, at-number, found-number, value_of-none, with_attr-number, AreNumbered-set}
+use Rattle.lq_volume.proofs.many.Many.replace.Goals as goal
 
 pub write_at-requires : goal.write_at-requires
 write_at-requires c =

@@ -1,6 +1,6 @@
 use Rattle.std.proofs.Common.{◌≡◌}
 use Rattle.std.specs.Prelude.{slice_get}
-use Rattle.lq_volume.proofs.attributes.Many.at.Given as goal
+use Rattle.lq_volume.proofs.many.Many.at.Given as goal
 
 -- the place is among those that are left
 abbrev pub invariant-loop-pair : goal.invariant-loop-pair

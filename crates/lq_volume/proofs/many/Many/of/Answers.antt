@@ -2,7 +2,7 @@ use Rattle.std.proofs.Common.{◌≡◌, ℕ, List, ◌∷◌, ◌++◌, ◌∙�
 use Rattle.std.specs.Vec.Iter.{into_iter_items}
 use Rattle.lq_value.specs.declared.value.Value.{Value}
 use Rattle.lq_volume.proofs.AttributeLemmas.{with_attr-next, append-one}
-use Rattle.lq_volume.proofs.attributes.Many.of.Goals as goal
+use Rattle.lq_volume.proofs.many.Many.of.Goals as goal
 
 pub loop-attr-preserved : goal.loop-attr-preserved
 loop-attr-preserved c =

@@ -1,5 +1,5 @@
 use Rattle.std.proofs.Common.{◌≡◌, ◌++◌}
-use Rattle.lq_volume.proofs.attributes.Many.list.Given as goal
+use Rattle.lq_volume.proofs.many.Many.list.Given as goal
 
 -- the attributes so far, with those that are left
 abbrev pub invariant-loop-pair : goal.invariant-loop-pair

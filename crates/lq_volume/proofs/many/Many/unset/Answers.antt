@@ -4,8 +4,9 @@ use Rattle.std.specs.BTreeMap.{get_by_text}
 use Rattle.std.specs.Map.{values_of}
 use Rattle.std.specs.Str.{bytes_eq}
 use Rattle.lq_volume.specs.Attributes.{HasOwnNames}
-use Rattle.lq_volume.proofs.AttributeLemmas.{at-none, at-number, value_of-none, without_attr-none, without_attr-number, AreNumbered-removed, AreNumbered-same}
-use Rattle.lq_volume.proofs.attributes.Many.unset.Goals as goal
+use Rattle.lq_volume.proofs.AttributeLemmas.{without_attr-none}
+use Rattle.lq_volume.proofs.NumberedLemmas.{at-none, at-number, value_of-none, without_attr-number, AreNumbered-removed, AreNumbered-same}
+use Rattle.lq_volume.proofs.many.Many.unset.Goals as goal
 
 pub invariant_of-self : goal.invariant_of-self
 invariant_of-self c =
