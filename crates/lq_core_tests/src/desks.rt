@@ -34,8 +34,8 @@ fn tell(alloc: Global, sub: &mut Sub, volume: &mut Volume, name: &str) -> Result
         time: 0,
     };
     let _ = volume.changes();
-    let planned = volume.plan(&change)?;
-    sub.ready(&planned)?;
+    volume.check(&change)?;
+    sub.ready(volume, &change)?;
     let _ = volume.make(&change)?;
     sub.commit();
     Ok(())

@@ -1,9 +1,9 @@
 -- What a desk keeps, what it answers each event, and which worlds it shows.
-use Rattle.std.specs.Prelude.{◌≡◌, ◌⊎◌, ℕ, ◌+◌, ◌-◌, ◌*◌, ◌≤◌, List, [], ◌∷◌, length, map, Bool, not, ◌&&◌, ◌==◌, nat_le, nat_lt, Option, Some, None, slice_get, slice_set, if◌then◌else◌}
+use Rattle.std.specs.Prelude.{◌≡◌, ◌⊎◌, ℕ, ◌+◌, ◌-◌, ◌*◌, ◌≤◌, List, [], ◌∷◌, length, map, ◌==◌, nat_le, nat_lt, Option, Some, None, slice_get, slice_set, if◌then◌else◌}
 use Rattle.std.specs.Option.{option_map, option_flatten}
 use Rattle.std.specs.List.{AllByRecursion}
 use Rattle.lq_value.specs.declared.refusal.Refusal.{Refusal}
-use Rattle.lq_value.specs.declared.refusal.Refusal.TheVariants.{BadPort, BadBacklog, NoSlot, NotOpen, Exhausted, NoMemory}
+use Rattle.lq_value.specs.declared.refusal.Refusal.TheVariants.{NotOpen, NoMemory}
 use Rattle.lq_value.specs.Refusal.{first_refusal}
 use Rattle.lq_volume.specs.declared.change.Change.{Change as Change_}
 use Rattle.lq_volume.specs.State.{State}
@@ -14,7 +14,7 @@ use Rattle.lq_update.specs.declared.mark.Mark.{Mark}
 use Rattle.lq_world.specs.World.{World, Sub, End, told, waiting, in_port}
 use Rattle.lq_world.specs.declared.event.Event.{Event}
 use Rattle.lq_world.specs.declared.event.Event.TheVariants.{Change, Open, At}
-use Rattle.lq_world.specs.Events.{Answer, Changed, Opened, Refused}
+use Rattle.lq_world.specs.Events.{Answer, Changed, Opened, Refused, opening_refusals}
 use Rattle.lq_world.specs.Fair.{IsFairWorld}
 use Rattle.lq_desk.specs.Held.{Held}
 use Rattle.lq_desk.specs.Slot.{KeptSlot, fresh_slot, slot_after}
@@ -50,18 +50,12 @@ first_free [] = 0
 first_free (None ∷ slots) = 0
 first_free (Some s ∷ slots) = first_free slots + 1
 
--- the tests of an opening, and what each that holds refuses it with
-abbrev pub opening_refusals : Kept → ℕ → ℕ → List (Bool × Refusal)
-opening_refusals k port backlog =
-    (not (nat_le 1 port && nat_le port 1024), BadPort)
-    ∷ (not (nat_le backlog 65536), BadBacklog)
-    ∷ (nat_le (length k.slots) (first_free k.slots), NoSlot)
-    ∷ (nat_le k.volume.limit k.openings, Exhausted)
-    ∷ []
-
--- the first of them that holds
+-- why an opening is refused: the first that fits
 abbrev pub opening_refusal : Kept → ℕ → ℕ → Option Refusal
-opening_refusal k port backlog = first_refusal (opening_refusals k port backlog)
+opening_refusal k port backlog =
+    first_refusal
+    (opening_refusals (nat_le (length k.slots) (first_free k.slots)) k.openings k.volume.limit port
+    backlog)
 
 -- what is kept after an opening: the first free slot is taken
 abbrev pub opened : Kept → KeptSlot → Kept

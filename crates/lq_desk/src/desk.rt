@@ -49,9 +49,17 @@ impl Model for Desk {
 
     ghost coded = { Prim.hlevel (codes, coded_query) };
 
-    ghost view = { λ d. record { volume = d.volume; openings = d.openings; slots = map (option_map slot_of) d.slots } };
+    ghost view = { λ d. record {
+      volume = d.volume;
+      openings = d.openings;
+      slots = map (option_map slot_of) d.slots;
+    } };
 
-    ghost invariant = { λ d. IsDesk (record { volume = d.volume; openings = d.openings; slots = map (option_map slot_of) d.slots }) };
+    ghost invariant = { λ d. IsDesk (record {
+      volume = d.volume;
+      openings = d.openings;
+      slots = map (option_map slot_of) d.slots;
+    }) };
 }
 
 impl Desk {
@@ -101,7 +109,8 @@ impl Desk {
         ensures kept { KeptStep self.old event.now (answer_of result) self.new }
         ensures world { (w : World) → Shows self.old w →
             Moves self.new w event.now (answer_of result) }
-        ensures refused { (refusal : Refusal) → answer_of result ≡ Refused refusal → self.new ≡ self.old }
+        ensures refused { (refusal : Refusal) → answer_of result ≡ Refused refusal
+            → self.new ≡ self.old }
     {
         updates_join();
         changes_are_counted();
@@ -161,8 +170,10 @@ impl Desk {
     // the change, and then the messages are told.
     fn change(&mut self, change: &Change) -> Result<Applied, Refusal>
         ensures refused { IsRefusedBy result (refused self.old.volume change.now) }
-        ensures value { IfOk result (λ applied. applied ≡
-            record { change = self.old.volume.number + 1; node = node_of self.old.volume change.now }) }
+        ensures value { IfOk result (λ applied. applied ≡ record {
+          change = self.old.volume.number + 1;
+          node = node_of self.old.volume change.now;
+        }) }
         ensures ok { OnOk result (self.new ≡ changed self.old change.now) }
         ensures err { OnErr result (self.new ≡ self.old) }
     {
@@ -188,7 +199,8 @@ impl Desk {
     ) -> Result<Reply, Refusal>
         ensures refused { IsRefusedBy result (opening_refusal self.old port backlog) }
         ensures reply { IfOk result (λ reply. answer_of reply ≡
-            Opened (kept.first_free self.old.slots + 1) self.old.volume.number (result_of predicate.now self.old.volume)) }
+            Opened (kept.first_free self.old.slots + 1) self.old.volume.number
+            (result_of predicate.now self.old.volume)) }
         ensures ok { OnOk result (self.new ≡ opened self.old
             (fresh_slot predicate.now moved self.old.volume.number port backlog)) }
         ensures err { OnErr result (self.new ≡ self.old) }

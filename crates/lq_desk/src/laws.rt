@@ -26,8 +26,8 @@ pub fn kept_turns_show_worlds()
     kept_shows_worlds();
 }
 
-/// What was taken of a subscription, then what is in its port, then what is held for it, then a mark
-/// that hasn't gone out, is its whole list.
+/// What was taken of a subscription, then what is in its port, then what is held for it, then a
+/// mark that hasn't gone out, is its whole list.
 pub fn kept_passes_lists_on()
     ensures { KeptPassesListsOn }
 {

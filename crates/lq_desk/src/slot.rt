@@ -38,7 +38,12 @@ impl Model for Slot {
 
     ghost coded = { Prim.hlevel (codes, coded_query) };
 
-    ghost view = { λ s. record { sub = s.sub; port = s.port; queue = s.queue.items; hang_up_asked = s.hang_up_asked } };
+    ghost view = { λ s. record {
+      sub = s.sub;
+      port = s.port;
+      queue = s.queue.items;
+      hang_up_asked = s.hang_up_asked;
+    } };
 
     ghost invariant = { λ s. s.port ≤ deque_capacity s.queue };
 }
@@ -60,7 +65,8 @@ impl Slot {
         moved: bool,
     ) -> Result<Slot, Refusal>
         ensures refused { IsRefusedBy result None }
-        ensures value { IfOk result (λ s. slot_of s ≡ fresh_slot predicate.now moved at port backlog) }
+        ensures value { IfOk result (λ s.
+            slot_of s ≡ fresh_slot predicate.now moved at port backlog) }
     {
         Ok(Slot {
             sub: Sub::new(alloc, predicate, at, backlog, moved)?,
@@ -79,7 +85,7 @@ impl Slot {
         ensures err { OnErr result (slot_of self.new ≡ slot_of self.old) }
     {
         if self.sub.is_live() {
-            self.sub.ready(planned)?;
+            self.sub.ready_planned(planned)?;
         }
         Ok(())
     }
@@ -169,7 +175,8 @@ impl Slot {
     /// Ends it where that was asked for, and tells whether it did.
     pub fn notice(&mut self, number: u64) -> bool
         requires { self.old.sub.held.sent < 2 ^ 63 }
-        ensures does { (Noticed result, Some (slot_of self.new)) ≡ notice_slot number (slot_of self.old) }
+        ensures does { (Noticed result, Some (slot_of self.new))
+            ≡ notice_slot number (slot_of self.old) }
         ensures slot { slot_of self.new ≡ noticed number (slot_of self.old) }
     {
         let ends = self.sub.is_live() && self.hang_up_asked;
@@ -212,7 +219,8 @@ impl Slot {
 /// Does an act at a slot that may be free.
 pub fn act_at(slot: &mut Option<Slot>, act: Act, number: u64) -> Reply
     requires { IsFew (2 ^ 63 - 1) (option_map slot_of slot.old) }
-    ensures { (answer_of result, option_map slot_of slot.new) ≡ outcome_at number act (option_map slot_of slot.old) }
+    ensures { (answer_of result, option_map slot_of slot.new)
+        ≡ outcome_at number act (option_map slot_of slot.old) }
 {
     let Some(there) = slot else {
         return Reply::Refused(Refusal::NotOpen);
@@ -247,7 +255,8 @@ pub fn act_at(slot: &mut Option<Slot>, act: Act, number: u64) -> Reply
 pub fn notice_at(slot: &mut Option<Slot>, may_end: bool, number: u64)
     requires few { IsFew (2 ^ 63 - 1) (option_map slot_of slot.old) }
     requires ends { passes is_ending (option_map slot_of slot.old) ≡ true → may_end ≡ true }
-    ensures { option_map slot_of slot.new ≡ option_map (noticed number) (option_map slot_of slot.old) }
+    ensures { option_map slot_of slot.new
+        ≡ option_map (noticed number) (option_map slot_of slot.old) }
 {
     if !may_end {
         return;

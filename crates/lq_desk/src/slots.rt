@@ -313,8 +313,8 @@ fn fill_in(slots: &mut Vec<Option<Slot>>, place: usize, may_move: bool)
 // Whether the subscription at a place is live, and its end was asked for.
 fn is_ending_in(slots: &Vec<Option<Slot>>, place: usize) -> bool
     requires { place < length slots.now.items }
-    ensures { result ≡
-        passes is_ending (option_flatten (slice_get (map (option_map slot_of) slots.now.items) place)) }
+    ensures { result ≡ passes is_ending
+        (option_flatten (slice_get (map (option_map slot_of) slots.now.items) place)) }
 {
     is_ending_at(&slots[place])
 }
@@ -322,8 +322,8 @@ fn is_ending_in(slots: &Vec<Option<Slot>>, place: usize) -> bool
 // Whether a parcel could move into the port of the slot at a place.
 fn can_move_in(slots: &Vec<Option<Slot>>, place: usize) -> bool
     requires { place < length slots.now.items }
-    ensures { result ≡
-        passes can_move (option_flatten (slice_get (map (option_map slot_of) slots.now.items) place)) }
+    ensures { result ≡ passes can_move
+        (option_flatten (slice_get (map (option_map slot_of) slots.now.items) place)) }
 {
     can_move_at(&slots[place])
 }

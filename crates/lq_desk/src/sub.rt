@@ -3,12 +3,13 @@ ghost use Rattle.std.specs.Prelude.{◌≡◌, ◌+◌, ◌<◌, ◌≤◌, ◌^
 ghost use Rattle.std.specs.VecDeque.{deque_len, deque_capacity};
 ghost use Rattle.lq_value.specs.Refusal.{IsRefusedBy};
 ghost use Rattle.lq_predicate.specs.Names.{names_of};
+ghost use Rattle.lq_volume.specs.Change.{IsLawful};
 ghost use Rattle.lq_desk.specs.Passing.{is_among, passes_over};
 
 use lq_predicate::{Predicate, names, truth_goes_by_names};
-use lq_update::{Cause, Mark, Message, Parcel, changes_pass_over, step};
+use lq_update::{Cause, Mark, Message, Parcel, changes_pass_over, step_planned};
 use lq_value::{AttrName, Refusal};
-use lq_volume::{Change, Planned};
+use lq_volume::{Change, Planned, Volume};
 use std::alloc::Global;
 use std::collections::VecDeque;
 use std::marker::Model;
@@ -45,9 +46,25 @@ impl Model for Sub {
 
     ghost coded = { Prim.hlevel (codes, coded_query) };
 
-    ghost view = { λ s. record { held = record { query = s.predicate; moved = s.moved; opened = s.opened; backlog = s.backlog; sent = s.sent; messages = s.messages.items; mark = s.mark; mark_out = s.mark_out }; ready = s.ready.items; before = s.before; lent = s.lent } };
+    ghost view = { λ s. record {
+      held = record {
+        query = s.predicate;
+        moved = s.moved;
+        opened = s.opened;
+        backlog = s.backlog;
+        sent = s.sent;
+        messages = s.messages.items;
+        mark = s.mark;
+        mark_out = s.mark_out;
+      };
+      ready = s.ready.items;
+      before = s.before;
+      lent = s.lent;
+    } };
 
-    ghost invariant = { λ s. (deque_len s.messages + vec_len s.ready + (if s.lent then 1 else 0) ≤ deque_capacity s.messages) × (s.names.items ≡ names_of s.predicate) };
+    ghost invariant = { λ s. (deque_len s.messages + vec_len s.ready
+        + (if s.lent then 1 else 0) ≤ deque_capacity s.messages)
+        × (s.names.items ≡ names_of s.predicate) };
 }
 
 impl Sub {
@@ -114,11 +131,29 @@ impl Sub {
         self.mark
     }
 
-    /// Makes the messages of a change, and room for them; it holds what it held.
+    /// Makes the messages of an accepted change to a volume, and room for them; it holds what it
+    /// held.
+    ///
+    /// Refused: `NoMemory`, and then nothing has changed, nor has what was made ready before. One
+    /// who has planned the change calls `ready_planned`, which doesn't check it again.
+    pub fn ready(&mut self, volume: &Volume, change: &Change) -> Result<(), Refusal>
+        requires few { self.old.held.sent < 2 ^ 63 }
+        requires live { IsTrue (is_live self.old.held) }
+        requires lawful { IsLawful volume.now change.now }
+        ensures refused { IsRefusedBy result None }
+        ensures ok { OnOk result (self.new ≡ prepared volume.now change.now self.old) }
+        ensures err { OnErr result (self.new ≡ self.old) }
+    {
+        let planned = volume.plan(change)?;
+        Ok(self.ready_planned(&planned)?)
+    }
+
+    /// Makes the messages of a change that was planned: as `ready` on the volume and the change of
+    /// the plan.
     ///
     /// It passes over a change of values alone that the predicate doesn't look at. Refused:
     /// `NoMemory`, and then nothing has changed, nor has what was made ready before.
-    pub fn ready(&mut self, planned: &Planned<'_>) -> Result<(), Refusal>
+    pub fn ready_planned(&mut self, planned: &Planned<'_>) -> Result<(), Refusal>
         requires few { self.old.held.sent < 2 ^ 63 }
         requires live { IsTrue (is_live self.old.held) }
         ensures refused { IsRefusedBy result None }
@@ -135,7 +170,7 @@ impl Sub {
             return Ok(());
         }
         let first = self.sent + 1;
-        let step = step(self.alloc, &self.predicate, planned, first, self.moved)?;
+        let step = step_planned(self.alloc, &self.predicate, planned, first, self.moved)?;
         if step.is_empty() {
             self.ready = step;
             self.before = before;

@@ -2,7 +2,7 @@
 //! and the places of faults.
 use crate::act::Act;
 use lq_predicate::{Predicate, read};
-use lq_update::{Message, Rebuild, step};
+use lq_update::{Message, Rebuild, step_planned};
 use lq_value::{Entry, Refusal};
 use lq_volume::{Change, Volume};
 use std::alloc::Global;
@@ -70,7 +70,7 @@ fn tell(
     change: &Change,
 ) -> Result<u32, Refusal> {
     let planned = volume.plan(change)?;
-    let messages = again!(step(alloc, predicate, &planned, u64::from(seq), true))?;
+    let messages = again!(step_planned(alloc, predicate, &planned, u64::from(seq), true))?;
     fold(rebuild, &messages)?;
     Ok(seq.saturating_add(messages.len() as u32))
 }

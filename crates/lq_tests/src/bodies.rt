@@ -1,10 +1,10 @@
-//! Both bodies of `step` over worked examples and drawn changes.
+//! Both bodies of `step_planned` over worked examples and drawn changes.
 ghost use Rattle.lq_volume.specs.Change.{IsLawful};
 
 use crate::act::{Act, Draws};
 use crate::plain;
 use lq_predicate::{Predicate, read};
-use lq_update::{Message, Opcode, step};
+use lq_update::{Message, Opcode, step_planned};
 use lq_value::Refusal;
 use lq_volume::{Change, Volume};
 use std::alloc::Global;
@@ -100,7 +100,7 @@ fn compare(
 {
     let planned = volume.plan(change)?;
     for moved in [false, true] {
-        let fast = step(alloc, predicate, &planned, 7, moved)?;
+        let fast = step_planned(alloc, predicate, &planned, 7, moved)?;
         let plain = plain::step(alloc, predicate, volume, change, 7, moved)?;
         tally.messages = tally.messages.saturating_add(plain.len() as u64);
         if !are_same(&fast, &plain) {

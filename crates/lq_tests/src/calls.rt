@@ -43,11 +43,12 @@ fn messages(
     change: &Change,
 ) -> Result<Vec<Message>, Refusal> {
     let query = read(alloc, query)?;
-    let planned = volume.plan(change)?;
-    step(alloc, &query, &planned, 1, false)
+    volume.check(change)?;
+    step(alloc, &query, volume, change, 1, false)
 }
 
-/// Returns whether `size>100` tells a change that creates one entry as one message, and the change is taken.
+/// Returns whether `size>100` tells a change that creates one entry as one message, and the change
+/// is taken.
 fn is_told(alloc: Global, volume: &mut Volume) -> Result<bool, Refusal> {
     let change = creation(alloc, "a")?;
     let count = messages(alloc, "size>100", volume, &change)?.len();

@@ -1,6 +1,6 @@
 -- What a query's result loses between two states that differ at two nodes alone.
 use Rattle.std.proofs.Common.{◌≡◌, ◌≢◌, ℕ, suc, ◌+◌, ◌<◌, ◌≤◌, length, List, [], ◌∷◌, ◌++◌, refl, sym, arith, ap, ◌∙◌, Bool, true, false, eqb, inl, inr, append-nil}
-use Rattle.std.specs.Prelude.{nat_lt, not, filter, map, cond, ◌&&◌, ◌==◌, Option, Some, None, option_and_then}
+use Rattle.std.specs.Prelude.{nat_lt, not, filter, map, cond, ◌&&◌, ◌==◌, Option, Some, None, is_some, option_and_then}
 use Rattle.std.specs.Option.{option_map_or, option_to_list}
 use Rattle.std.specs.List.{AllByRecursion, list_any}
 use Rattle.std.specs.Str.{bytes_eq}
@@ -447,3 +447,16 @@ module _ (q : Query) (moved : Bool) (s : State) (c : Change) (seq number : ℕ)
   told-high x other is high other_is =
       let below : nat_lt x (node_of s c) ≡ false = grind (arith, nat_tests) in
       told _ (rw (is, below, removed_is, other_is) refl)
+
+-- an option that has no value
+pub none-of : {A : Type 0} (o : Option A) → is_some o ≡ false → o ≡ None
+none-of None h = refl
+none-of (Some x) h = cc
+
+-- where a node neither left nor came, nothing is told of it
+pub told-nothing : (moved : Bool) (old new : Option Entry) → old ≡ None → new ≡ None
+    → (None ≡ told_first moved old new) × (None ≡ told_last moved old new)
+told-nothing true None None h k = (refl, refl)
+told-nothing false None None h k = (refl, refl)
+told-nothing moved None (Some f) h k = cc
+told-nothing moved (Some e) new h k = cc

@@ -52,7 +52,8 @@ fn take(entries: &mut Vec<Entry>, message: &Message) -> Result<(), Refusal>
     requires { EntriesRise entries.old.items }
     ensures refused { IsRefusedBy result
         (if has_entry (entry_in message.now) entries.old.items then None else Some Mismatch) }
-    ensures ok { OnOk result (entries.new.items ≡ taken_out (entry_in message.now) entries.old.items) }
+    ensures ok { OnOk result
+        (entries.new.items ≡ taken_out (entry_in message.now) entries.old.items) }
     ensures err { OnErr result (entries.new.items ≡ entries.old.items) }
     ensures rise { EntriesRise entries.new.items }
 {

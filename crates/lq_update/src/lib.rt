@@ -26,4 +26,4 @@ pub use mark::{Cause, Mark};
 pub use message::{Message, Opcode};
 pub use parcel::Parcel;
 pub use rebuild::Rebuild;
-pub use touched::step;
+pub use touched::{step, step_planned};

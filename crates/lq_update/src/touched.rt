@@ -2,7 +2,7 @@
 ghost use Rattle.std.specs.Prelude.{◌≡◌, ℕ, ◌+◌, ◌<◌, ◌≤◌, ◌^◌, ◌++◌, None, IfOk, OnOk, map, option_and_then, vec_len};
 ghost use Rattle.std.specs.Option.{option_copied, option_to_list};
 ghost use Rattle.lq_value.specs.Refusal.{IsRefusedBy};
-ghost use Rattle.lq_volume.specs.Change.{after, node_of};
+ghost use Rattle.lq_volume.specs.Change.{after, node_of, IsLawful};
 ghost use Rattle.lq_volume.specs.Result.{entry_if};
 ghost use Rattle.lq_update.specs.declared.message.Opcode.TheVariants.{Removed, Moved};
 ghost use Rattle.lq_update.specs.Updates.{numbered, step_of};
@@ -12,7 +12,8 @@ use crate::message::{Message, Opcode};
 use lq_predicate::{Predicate, holds};
 use lq_value::{Entry, Refusal};
 use lq_volume::{
-    Planned, Seen, accepted_changes_keep_trees, clobbered_nodes_go, untouched_nodes_stay,
+    Change, Planned, Seen, Volume, accepted_changes_keep_trees, clobbered_nodes_go,
+    untouched_nodes_stay,
 };
 use std::alloc::Global;
 
@@ -21,9 +22,33 @@ use std::alloc::Global;
 /// The removed entries by rising node, then the moved ones, then the created ones; with `moved`
 /// one moved message stands in place of a removed and a created one of the same node, without it
 /// there is none. `change` is the number of this change, `seq` counts from `first_seq`, and `last`
-/// is true on the final message. It looks only at the entries that the plan has, searches for
-/// none, and takes memory for its messages alone. Refused: `NoMemory`. It changes nothing.
+/// is true on the final message. Refused: `NoMemory`. It changes nothing. One who has planned the
+/// change calls `step_planned`, which doesn't check it again.
 pub fn step(
+    alloc: Global,
+    predicate: &Predicate,
+    before: &Volume,
+    change: &Change,
+    first_seq: u64,
+    moved: bool,
+) -> Result<Vec<Message>, Refusal>
+    requires lawful { IsLawful before.now change.now }
+    requires room { first_seq + 2 < 2 ^ 64 }
+    ensures refused { IsRefusedBy result None }
+    ensures messages { IfOk result (λ messages. messages.items
+        ≡ step_of predicate.now moved before.now change.now first_seq) }
+    ensures few { IfOk result (λ messages. vec_len messages ≤ 3) }
+{
+    let planned = before.plan(change)?;
+    Ok(step_planned(alloc, predicate, &planned, first_seq, moved)?)
+}
+
+/// What a change that was planned tells a query: as `step` on the volume and the change of the
+/// plan.
+///
+/// It looks only at the entries that the plan has, searches for none, and takes memory for its
+/// messages alone. Refused: `NoMemory`. It changes nothing.
+pub fn step_planned(
     alloc: Global,
     predicate: &Predicate,
     planned: &Planned<'_>,
@@ -41,7 +66,12 @@ pub fn step(
     clobbered_nodes_go();
     let made = planned.applied();
     let number = made.change;
-    let (left, came) = difference(alloc, predicate, planned)?;
+    let (left, came) = difference(predicate, planned);
+    if left.is_none() && came.is_none() && planned.clobbered().is_none() {
+        return Ok(Vec::new(alloc));
+    }
+    let left = copied(alloc, left, made.node)?;
+    let came = copied(alloc, came, made.node)?;
     let (removed, last) = join(moved, left, came);
     let Some((other, seen)) = planned.clobbered() else {
         return Ok(tell(alloc, removed, None, last, number, first_seq)?);
@@ -55,26 +85,22 @@ pub fn step(
 }
 
 // What left the result at the change's own node, and what came into it there.
-fn difference(
-    alloc: Global,
+fn difference<'s, 'a>(
     predicate: &Predicate,
-    planned: &Planned<'_>,
-) -> Result<(Option<Entry>, Option<Entry>), Refusal>
-    ensures refused { IsRefusedBy result None }
-    ensures removed { IfOk result (λ both. both.0 ≡ left_at predicate.now
-        planned.now.before (after planned.now.before planned.now.change)
-        (node_of planned.now.before planned.now.change)) }
-    ensures created { IfOk result (λ both. both.1 ≡ left_at predicate.now
-        (after planned.now.before planned.now.change) planned.now.before
-        (node_of planned.now.before planned.now.change)) }
+    planned: &'s Planned<'a>,
+) -> (Option<&'s Seen<'a>>, Option<&'s Seen<'a>>)
+    ensures removed { entry_at (node_of planned.entry.now.before planned.entry.now.change)
+        (option_copied result.0) ≡ left_at predicate.now planned.entry.now.before
+        (after planned.entry.now.before planned.entry.now.change)
+        (node_of planned.entry.now.before planned.entry.now.change) }
+    ensures created { entry_at (node_of planned.entry.now.before planned.entry.now.change)
+        (option_copied result.1) ≡ left_at predicate.now
+        (after planned.entry.now.before planned.entry.now.change) planned.entry.now.before
+        (node_of planned.entry.now.before planned.entry.now.change) }
 {
-    let node = planned.applied().node;
     let old = matching(predicate, planned.seen_before());
     let new = matching(predicate, planned.seen_after());
-    let (left, came) = split(old, new);
-    let removed = copied(alloc, left, node)?;
-    let created = copied(alloc, came, node)?;
-    Ok((removed, created))
+    split(old, new)
 }
 
 // What is seen, where the predicate holds of it.

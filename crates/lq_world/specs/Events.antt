@@ -1,5 +1,5 @@
 -- What each event (`src/event.rt`) is answered, and the world after it.
-use Rattle.std.specs.Prelude.{ℕ, ◌+◌, ◌-◌, List, [], ◌∷◌, length, map, Bool, true, false, not, ◌&&◌, nat_le, Option, Some, None, if◌then◌else◌}
+use Rattle.std.specs.Prelude.{ℕ, ◌+◌, ◌-◌, List, [], ◌∷◌, ◌++◌, length, map, Bool, true, false, not, ◌&&◌, nat_le, Option, Some, None, if◌then◌else◌}
 use Rattle.std.specs.Option.{option_map}
 use Rattle.lq_value.specs.declared.refusal.Refusal.{Refusal}
 use Rattle.lq_value.specs.declared.refusal.Refusal.TheVariants.{BadPort, BadBacklog, NoSlot, NotOpen, StillOpen, Exhausted}
@@ -64,18 +64,25 @@ opened_now w q port backlog moved = record {
   end = None;
 }
 
--- the tests of an opening in their order: its port and backlog, then a
--- free slot, and as many openings as the volume takes changes
-abbrev pub opening_refusals : World → ℕ → ℕ → List (Bool × Refusal)
-opening_refusals w port backlog =
+-- the tests of an opening by its port and backlog alone, and what each that holds refuses it with
+abbrev pub size_refusals : ℕ → ℕ → List (Bool × Refusal)
+size_refusals port backlog =
     (not (nat_le 1 port && nat_le port 1024), BadPort)
     ∷ (not (nat_le backlog 65536), BadBacklog)
-    ∷ (nat_le (length w.slots) (taken_before_free w.slots), NoSlot)
-    ∷ (nat_le (state_of w.book).limit w.openings, Exhausted)
     ∷ []
 
+-- all of them in their order: after these whether no slot is free, and whether there were as many
+-- openings as the volume takes changes
+abbrev pub opening_refusals : Bool → ℕ → ℕ → ℕ → ℕ → List (Bool × Refusal)
+opening_refusals full openings limit port backlog =
+    size_refusals port backlog ++ (full, NoSlot) ∷ (nat_le limit openings, Exhausted) ∷ []
+
+-- the first that fits an opening in a world
 abbrev pub open_refusal : World → ℕ → ℕ → Option Refusal
-open_refusal w port backlog = first_refusal (opening_refusals w port backlog)
+open_refusal w port backlog =
+    first_refusal
+    (opening_refusals (nat_le (length w.slots) (taken_before_free w.slots)) w.openings
+    (state_of w.book).limit port backlog)
 
 -- with a subscription in the lowest free slot
 abbrev pub with_sub : World → Sub → World

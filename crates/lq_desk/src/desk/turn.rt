@@ -109,7 +109,8 @@ impl Desk {
 
     // Moves parcels into a slot's port until nothing moves.
     fn fill(&mut self, slot: u64)
-        ensures { self.new ≡ kept_after self.old (puts slot (places_at (kept_ports self.old) slot)) }
+        ensures { self.new
+            ≡ kept_after self.old (puts slot (places_at (kept_ports self.old) slot)) }
     {
         updates_join();
         changes_are_counted();

@@ -1,4 +1,4 @@
-use Rattle.std.proofs.Common.{ℕ, ◌+◌, ◌*◌, ◌≤◌, Bool, true, false, pos, arith}
+use Rattle.std.proofs.Common.{◌+◌, ◌*◌, ◌≤◌, Bool, true, false, pos, arith}
 use Rattle.lq_value.specs.declared.kind.Kind.TheVariants.{File}
 use Rattle.lq_volume.specs.declared.change.Change.{Change}
 use Rattle.lq_volume.specs.declared.change.Change.TheVariants.{Create}
@@ -23,9 +23,8 @@ returns c =
     rw (
       c.commit.ensures,
       c.in_ok-ready.ensures.ok,
-      c.in_ok-planned.ensures.value,
       c.in_ok-make.ensures.ok,
       c.changes_are_counted.ensures,
     )
     (few-told c.steps_are_few.ensures c.args.volume.now change c.args.sub.now.held _
-    c.changes.ensures.volume c.in_ok-planned.ensures.ok c.requires.few)
+    c.changes.ensures.volume c.in_ok-check.ensures.ok c.requires.few)

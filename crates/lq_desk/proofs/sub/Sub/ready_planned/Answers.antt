@@ -5,7 +5,7 @@ use Rattle.lq_update.specs.Updates.{step_of}
 use Rattle.lq_desk.specs.Held.{Prepared}
 use Rattle.lq_desk.specs.Passing.{passes_over}
 use Rattle.lq_desk.proofs.PassingLemmas.{step-empty}
-use Rattle.lq_desk.proofs.sub.Sub.ready.Goals as goal
+use Rattle.lq_desk.proofs.sub.Sub.ready_planned.Goals as goal
 
 pub returns-then-passes_over-clause-ok : goal.returns-then-passes_over-clause-ok
 returns-then-passes_over-clause-ok c =
