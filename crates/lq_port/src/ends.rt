@@ -20,8 +20,8 @@ const MAX_PLACES: u64 = 1_024;
 /// The end of a port for puts.
 ///
 /// It knows all that was put, and a front of what was taken. It keeps a receiving end of its
-/// own, so a port whose `PortOut` was dropped fills up and is then full. After 2^61 puts each
-/// further one waits for ever.
+/// own, so a port whose `PortOut` was dropped fills up and is then full, as tests show. After 2^61
+/// puts each further one waits for ever, as the code says.
 #[derive(Drop)]
 pub struct PortIn<T: Follows + Drop> {
     sender: PortSender<T>,
@@ -138,9 +138,9 @@ fn make_at<T: Follows + Drop>(
 impl<T: Follows + Drop> PortIn<T> {
     /// Puts an item at the back.
     ///
-    /// It comes back only where the port was full at a moment of the call, so only where this end
-    /// knows of as many items that wait as the port has places. The end is then as it was.
-    /// It may wait for a step of the other end, but not for a place, and takes no memory.
+    /// It comes back only where this end knows of as many items that wait as the port has places,
+    /// and the end is then as it was. That the port was full at a moment of the call no clause
+    /// says. It may wait for a step of the other end, but not for a place, and takes no memory.
     pub fn put<R: Wait>(&mut self, rt: &R, item: T) -> Result<(), T>
         requires follows { T.follows (all_put self.old) self.old.floor item }
         ensures ok { OnOk result (Gains self.old item self.new) }
@@ -161,8 +161,8 @@ impl<T: Follows + Drop> PortIn<T> {
 impl<T: Follows + Drop> PortOut<T> {
     /// Takes the item at the front.
     ///
-    /// `None` only where the port was empty at a moment of the call, so never while this end
-    /// knows that something waits. The end is then as it was. It may wait for a step of the
+    /// `None` never while this end knows that something waits, and the end is then as it was. That
+    /// the port was empty at a moment of the call no clause says. It may wait for a step of the
     /// other end, but not for an item, and takes no memory.
     pub fn take<R: Wait>(&mut self, rt: &R) -> Option<T>
         ensures some { IfSome result (λ item. Loses self.old item self.new) }
@@ -183,8 +183,8 @@ impl<T: Follows + Drop> PortOut<T> {
 
     /// Takes the item at the front, and waits for one where there is none.
     ///
-    /// `None` only where the port was empty at a moment of the call, and where its `PortIn` is
-    /// gone, which no clause says. The end is then as it was. It takes no memory.
+    /// `None` never while this end knows that something waits, and the end is then as it was. That
+    /// its `PortIn` is gone then, tests show. It takes no memory.
     pub fn take_waiting<R: Wait>(&mut self, rt: &R) -> Option<T>
         ensures some { IfSome result (λ item. Loses self.old item self.new) }
         ensures follows { IfSome result (λ item. T.follows self.old.taken self.old.floor item) }

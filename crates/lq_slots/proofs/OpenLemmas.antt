@@ -1,8 +1,7 @@
 -- A subscription that was just made.
-use Rattle.std.proofs.Common.{◌≡◌, ℕ, ◌+◌, ◌-◌, ◌<◌, ◌≤◌, ◌++◌, take, drop, append-nil, Bool, true, false, true≢false, List, [], length, Option, Some, None, sym, ap, ◌∙◌, subst, arith, length-set, get_or-set_same, get_or-set_other, slice_set}
+use Rattle.std.proofs.Common.{◌≡◌, ℕ, ◌+◌, ◌-◌, ◌<◌, ◌≤◌, Bool, true, false, List, [], length, Option, Some, None, sym, ap, ◌∙◌, subst, arith, length-set, get_or-set_same, get_or-set_other, slice_set}
 use Rattle.lq_formula.specs.Query.{Query}
-use Rattle.lq_volume.specs.declared.change.Change.{Change}
-use Rattle.lq_volume.specs.Book.{Book, Extends, state_of, state_at}
+use Rattle.lq_volume.specs.Book.{Book, state_of}
 use Rattle.lq_volume.specs.Result.{result_of}
 use Rattle.lq_board.specs.declared.views.Slot.{Slot as Known}
 use Rattle.lq_board.specs.Book.{IsFullBook}
@@ -10,84 +9,41 @@ use Rattle.lq_board.specs.Slot.{slot_at, unused, gone_out, counted}
 use Rattle.lq_board.specs.Token.{KeeperToken}
 use Rattle.lq_update.specs.declared.message.Message.{Message}
 use Rattle.lq_update.specs.Fold.{opened_at}
-use Rattle.lq_update.specs.Updates.{updates_from}
 use Rattle.lq_desk.specs.Held.{Held, opened_with}
-use Rattle.lq_port.specs.End.{End, all_put}
+use Rattle.lq_port.specs.End.{End}
 use Rattle.lq_subscription.specs.declared.delivery.Delivery.{Delivery}
 use Rattle.lq_subscription.specs.declared.delivery.Opening.{Opening}
 use Rattle.lq_subscription.specs.declared.identity.Identity.{Identity}
 use Rattle.lq_subscription.specs.declared.identity.Shut.{Shut}
 use Rattle.lq_subscription.specs.declared.identity.Shut.TheVariants.{Never}
 use Rattle.lq_subscription.specs.declared.subscription.Subscription.{Subscription}
-use Rattle.lq_subscription.specs.Rule.{floor_of, query_of, messages_in, mark_in}
-use Rattle.lq_subscription.specs.LegalList.{known_by}
-use Rattle.lq_subscription.specs.Updates.{updates}
+use Rattle.lq_subscription.specs.Rule.{floor_of, query_of}
 use Rattle.lq_subscription.specs.Marking.{hung_mark}
 use Rattle.lq_subscription.specs.Identity.{identity_of}
 use Rattle.lq_subscription.specs.Reading.{ReadingHold}
-use Rattle.lq_subscription.specs.Standing.{Stands, StandsAt, given}
+use Rattle.lq_subscription.specs.Standing.{Stands, StandsAt}
+use Rattle.lq_subscription.specs.Laws.{NewSubscriptionsStand}
 use Rattle.lq_slots.specs.Slots.{SlotStands, asks_of, slot_in, AllStand, OnlyAt}
 use Rattle.lq_slots.specs.Opening.{IsBegun}
 use Rattle.lq_slots.proofs.SlotLemmas.{all_stand-set, only_counted, counted_here}
 use Rattle.lq_slots.proofs.SyncLemmas.{only_trans}
 
--- no change has no updates
-updates-none : (q : Query) (mv : Bool) (b : Book) (m : ℕ) → updates q mv b m m ≡ []
-unfolding updates
-updates-none q mv b m =
-    let none : m - m ≡ 0 = omega arith in
-    ap (λ (n : ℕ).
-    updates_from q mv (state_at b m) (take n (drop (m - b.start.number) b.changes)) 1) none
-
--- a book extends itself
-extends_self : (b : Book) → Extends b b
-extends_self b =
-    let with : List Change → Book = λ cs. record { start = b.start; changes = cs } in
-    ([], ap with (sym (append-nil b.changes)))
-
--- a subscription that was just made stands over the book of its opening
-stands_new : (q : Query) (mv : Bool) (backlog : ℕ) (e : End Delivery Opening) (places : ℕ)
-    (book : Book) → e.taken ≡ [] → e.ahead ≡ [] → floor_of e.floor ≡ book → query_of e.floor ≡ q
-    → e.floor.moved ≡ mv → e.floor.opened ≡ length book.changes → e.places ≡ places
-    → IsFullBook book
-    → Stands (opened_with q mv (length book.changes) backlog) e places Never book
-stands_new q mv backlog e places book taken ahead floor query moves opening port full =
-    let put : all_put e ≡ [] = λ i. taken i ++ ahead i in
-    let none : given (opened_with q mv (length book.changes) backlog) e ≡ [] =
-    λ i. messages_in (put i) ++ [] in
-    record {
-      query = query;
-      moves = moves;
-      opening = opening;
-      port = port;
-      full = full;
-      later = subst (Extends book) (sym (ap (known_by e.floor) put ∙ floor)) (extends_self book);
-      list = none ∙ sym (updates-none q mv book (length book.changes));
-      sent = sym (ap (length {A = Message}) none);
-      few = omega arith;
-      opened = omega arith;
-      mark = tt;
-      out = ap mark_in put;
-      done = λ f. absurd (true≢false (sym f));
-      shut = tt;
-      overrun = tt;
-    }
-
 -- a subscription that was just made, and the end that reads
-pub begun_new : (s : Subscription) (r : ReadingHold) (book : Book) (q : Query) (mv : Bool)
-    (port backlog at : ℕ) (g : Opening) → s.sub.held ≡ opened_with q mv at backlog
+pub begun_new : NewSubscriptionsStand → (s : Subscription) (r : ReadingHold) (book : Book)
+    (q : Query) (mv : Bool) (port backlog at : ℕ) (g : Opening)
+    → s.sub.held ≡ opened_with q mv at backlog
     → at ≡ length book.changes → s.places ≡ port → s.shut ≡ Never
     → s.input.places ≡ port → s.input.floor ≡ g → query_of g ≡ q → g.moved ≡ mv → g.opened ≡ at
     → floor_of g ≡ book → s.input.taken ≡ [] → s.input.ahead ≡ [] → IsFullBook book
     → r.port ≡ s.input → r.hand ≡ None → r.result ≡ opened_at at (result_of q (state_of book))
     → IsBegun s r book q mv port backlog
-begun_new s r book q mv port backlog at g held number places shut ports opening_at query moved
+begun_new stand s r book q mv port backlog at g held number places shut ports opening_at query moved
     opened floor taken ahead full end hand result =
     let now : s.sub.held ≡ opened_with q mv (length book.changes) backlog = held
     ∙ ap (λ (n : ℕ). opened_with q mv n backlog) number in
     let stands : Stands (opened_with q mv (length book.changes) backlog) s.input s.places Never book
     =
-    stands_new q mv backlog s.input s.places book taken ahead (ap floor_of opening_at ∙ floor)
+    stand q mv backlog s.input s.places book taken ahead (ap floor_of opening_at ∙ floor)
     (ap query_of opening_at ∙ query) (ap (λ (f : Opening). f.moved) opening_at ∙ moved)
     (ap (λ (f : Opening). f.opened) opening_at ∙ opened ∙ number) (ports ∙ sym places) full in
     record {

@@ -1,14 +1,15 @@
 -- What an opening makes, and the name that goes with a slot's seat.
-use Rattle.std.specs.Prelude.{◌≡◌, ◌⊎◌, ℕ, ◌<◌, ◌+◌, Bool, true, false, not, ◌&&◌, nat_le, List, [], ◌∷◌, length, Option, Some, None, IsSomeAnd}
+use Rattle.std.specs.Prelude.{◌≡◌, ◌⊎◌, ℕ, ◌<◌, ◌+◌, Bool, true, false, [], length, Option, Some, None, IsSomeAnd}
 use base.Stored.{gnil}
 use Rattle.atomic_table.specs.Seated.{TableId}
 use Rattle.lq_value.specs.declared.refusal.Refusal.{Refusal}
-use Rattle.lq_value.specs.declared.refusal.Refusal.TheVariants.{BadPort, BadBacklog, NoSlot, Exhausted, NoMemory}
+use Rattle.lq_value.specs.declared.refusal.Refusal.TheVariants.{NoSlot, Exhausted, NoMemory}
 use Rattle.lq_value.specs.Refusal.{first_refusal}
 use Rattle.lq_formula.specs.Query.{Query, And, no_more}
 use Rattle.lq_volume.specs.Book.{Book, state_of}
 use Rattle.lq_volume.specs.Result.{result_of}
 use Rattle.lq_update.specs.Fold.{opened_at}
+use Rattle.lq_world.specs.Events.{size_refusals}
 use Rattle.lq_port.specs.End.{End}
 use Rattle.lq_subscription.specs.declared.identity.Identity.{Identity}
 use Rattle.lq_subscription.specs.declared.identity.Shut.TheVariants.{Never}
@@ -83,20 +84,7 @@ pub record IsOpened (o : Opened) (board : TableId) (book : Book) (q : Query) (mv
 
 -- why an opening is refused by its numbers alone: the first that fits
 abbrev pub opening_refusal : ℕ → ℕ → Option Refusal
-opening_refusal port backlog =
-    first_refusal
-    ((not (nat_le 1 port && nat_le port 1024), BadPort)
-    ∷ (not (nat_le backlog 65536), BadBacklog)
-    ∷ [])
-
--- why an opening is refused, all but memory, in order
-abbrev pub opening_refusals : Bool → ℕ → ℕ → ℕ → ℕ → List (Bool × Refusal)
-opening_refusals full openings limit port backlog =
-    (not (nat_le 1 port && nat_le port 1024), BadPort)
-    ∷ (not (nat_le backlog 65536), BadBacklog)
-    ∷ (full, NoSlot)
-    ∷ (nat_le limit openings, Exhausted)
-    ∷ []
+opening_refusal port backlog = first_refusal (size_refusals port backlog)
 
 -- what else may refuse one: no slot is free, as many openings were made as the volume takes
 -- changes, or memory

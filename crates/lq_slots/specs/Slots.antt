@@ -77,6 +77,13 @@ SlotsStand s book =
     AllStand s.keeper s.subscriptions.items s.openings book
     × IsListed s.taken.items s.subscriptions.items
 
+-- what the keeper knows, what is in the slots, which are taken, and how often one was opened
+pub record AreUnchanged (old new : Slots) : Type 0 where
+  pub keeper : new.keeper ≡ old.keeper
+  pub subscriptions : new.subscriptions ≡ old.subscriptions
+  pub taken : new.taken.items ≡ old.taken.items
+  pub openings : new.openings ≡ old.openings
+
 -- what is known of the other slots stays
 pub record OnlyAt (old new : List (Known Identity)) (place : ℕ) : Type 0 where
   pub wide : length new ≡ length old

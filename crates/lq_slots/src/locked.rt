@@ -2,7 +2,7 @@
 ghost use Rattle.std.specs.Prelude.{◌≡◌, ◌<◌, [], ◌∷◌, length, IfOk, IfErr, OnOk, OnErr, IfSome, IfNone, IsSome, IsSomeAnd, is_some, Some, None, Err, unwrap_or};
 ghost use Rattle.lq_value.specs.declared.refusal.Refusal.TheVariants.{NoMemory, NoSeat};
 ghost use Rattle.lq_value.specs.Refusal.{IsRefusedBy, first_refusal};
-ghost use Rattle.lq_volume.specs.Book.{Extends, state_of};
+ghost use Rattle.lq_volume.specs.Book.{Extends, grown, state_of};
 ghost use Rattle.lq_volume.specs.Change.{refused};
 ghost use Rattle.lq_volume.specs.Result.{result_of};
 ghost use Rattle.lq_volume.specs.State.{record_at, node_in};
@@ -87,7 +87,8 @@ impl<N: Named> Locked<N> {
         }
     }
 
-    /// A seat that knows the book. Refused: `NoSeat` where 16 are out. It takes no memory.
+    /// A seat that knows the book. Refused: `NoSeat`, as tests show just where 16 are out. It takes
+    /// no memory.
     pub fn seat(&mut self, board: &Board<Identity>) -> Result<Seat<Identity>, Refusal>
         requires { board.now ≡ N.board }
         ensures same { self.new ≡ self.old }
@@ -217,7 +218,8 @@ impl<N: Named> Locked<N> {
     /// Makes a change, and tells the subscriptions. The seat then knows the book.
     ///
     /// First each subscription whose reader asked ends as hung up. Refused as the volume refuses
-    /// it, or `NoMemory`; then the book stays, but the ports are still filled.
+    /// it, or `NoMemory`; then the book stays, but the ports are still filled, as the code of
+    /// `change_in` says.
     pub fn apply<R: Wait>(
         &mut self,
         rt: &R,
@@ -228,6 +230,8 @@ impl<N: Named> Locked<N> {
         requires { (board.now ≡ N.board) × (seat.old.board ≡ N.board) × (seat.old.slot ≡ 0) }
         ensures seat { (seat.new.board ≡ N.board) × (seat.new.slot ≡ 0) }
         ensures book { seat.new.book ≡ self.new }
+        ensures grown { OnOk result (self.new ≡ grown self.old (change.now ∷ [])) }
+        ensures same { OnErr result (self.new ≡ self.old) }
         ensures later { Extends seat.new.book seat.old.book }
         ensures ok { IfOk result (λ a. IsAdded seat.old.book seat.new.book a change.now) }
         ensures err { IfErr result (λ e.
@@ -244,7 +248,8 @@ impl<N: Named> Locked<N> {
     /// `port` is how many parcels its port holds, 1 to 1,024, and `backlog` how many messages may
     /// be held before it, at most 65,536; `moved` asks for entries that moved too. Refused, the
     /// first that fits: `BadPort`, `BadBacklog`, `NoSlot` where 64 are open, `Exhausted` where as
-    /// many were opened as the volume takes changes; or else `NoMemory`.
+    /// many were opened as the volume takes changes; or else `NoMemory`. Which of the last three it
+    /// is, and that a refused opening isn't counted, are clauses of `open_in`.
     pub fn open(
         &mut self,
         board: &Board<Identity>,

@@ -2,19 +2,22 @@
 ghost use Rattle.std.specs.Prelude.{◌≡◌, ◌+◌, ◌<◌, ◌≤◌, length, ℕ, IfOk, IfErr, OnOk, OnErr, IfSome, IfNone, IsSome, is_none, Some, None, Err, false};
 ghost use Rattle.lq_value.specs.Refusal.{IsRefusedBy, first_refusal};
 ghost use Rattle.lq_volume.specs.Book.{state_of};
+ghost use Rattle.lq_world.specs.Events.{opening_refusals};
 ghost use Rattle.lq_board.specs.Book.{IsFullBook};
 ghost use Rattle.lq_board.specs.Slot.{slot_at, gone_out};
 ghost use Rattle.lq_subscription.specs.Identity.{identity_of};
 ghost use Rattle.lq_subscription.specs.declared.identity.Identity.{Identity as IdentityOf};
-ghost use Rattle.lq_slots.specs.Slots.{SlotsStand, is_full, slot_in};
-ghost use Rattle.lq_slots.specs.Opening.{IsBegun, IsOpened, IsOpeningRefused, opening_refusal, opening_refusals};
+ghost use Rattle.lq_slots.specs.Slots.{AreUnchanged, SlotsStand, is_full, slot_in};
+ghost use Rattle.lq_slots.specs.Opening.{IsBegun, IsOpened, IsOpeningRefused, opening_refusal};
 
 use crate::slots::{PLACES, Slots};
 use lq_board::{Board, Keeper, Seat};
 use lq_desk::Sub;
 use lq_port::make;
 use lq_predicate::Predicate;
-use lq_subscription::{Delivery, Identity, Opening, Reading, Shut, Subscription};
+use lq_subscription::{
+    Delivery, Identity, Opening, Reading, Shut, Subscription, new_subscriptions_stand,
+};
 use lq_update::{Rebuild, results_rise};
 use lq_value::Refusal;
 use lq_volume::Volume;
@@ -76,6 +79,7 @@ fn begin(
         asked.now.predicate.now asked.now.moved asked.now.port asked.now.backlog) }
 {
     results_rise();
+    new_subscriptions_stand();
     let at = volume.changes();
     let entries = volume.fetch(asked.predicate)?;
     let sub = Sub::new(alloc, asked.predicate, at, asked.backlog, asked.moved)?;
@@ -150,7 +154,8 @@ fn sit(
     sit_named(board, keeper, slot, place)
 }
 
-// Puts a subscription into a free place, which has a seat then.
+// Puts a subscription into a free place, which has a seat then. All growth comes first, so that
+// want of memory leaves the slots as they were.
 fn settle(
     board: &Board<Identity>,
     slots: &mut Slots,
@@ -166,7 +171,7 @@ fn settle(
         slot.sub.held.moved slot.places slot.sub.held.backlog }
     requires holding { SlotsStand slots.old slots.old.keeper.book }
     ensures refused { IsRefusedBy result None }
-    ensures err { OnErr result (slots.new.openings ≡ slots.old.openings) }
+    ensures err { OnErr result (AreUnchanged slots.old slots.new) }
     ensures board { slots.new.keeper.board ≡ slots.old.keeper.board }
     ensures book { slots.new.keeper.book ≡ slots.old.keeper.book }
     ensures openings { OnOk result (slots.new.openings ≡ slots.old.openings + 1) }
@@ -176,7 +181,8 @@ fn settle(
         slot.sub.held.query slot.sub.held.moved slot.places slot.sub.held.backlog) }
 {
     // There is room for all places since the start, so this takes no memory.
-    slots.taken.push(place)?;
+    slots.taken.reserve(1)?;
+    slots.taken.push_reserved(place);
     let asks = board.asks(&mut slots.keeper, place as u64);
     slot.asks = asks;
     let seat = sit(board, &mut slots.keeper, &slot, place as u64);
@@ -192,7 +198,8 @@ fn settle(
 /// Opens a live query in the lowest free slot.
 ///
 /// Refused, the first that fits: `BadPort`, `BadBacklog`, `NoSlot` where no slot is free,
-/// `Exhausted` where as many were opened as the volume takes changes; or else `NoMemory`.
+/// `Exhausted` where as many were opened as the volume takes changes; or else `NoMemory`. A refused
+/// opening changes nothing, and isn't counted among those.
 pub(crate) fn open_in(
     alloc: Global,
     board: &Board<Identity>,
@@ -208,6 +215,8 @@ pub(crate) fn open_in(
     ensures board { slots.new.keeper.board ≡ slots.old.keeper.board }
     ensures book { slots.new.keeper.book ≡ slots.old.keeper.book }
     ensures limit { slots.new.openings ≤ volume.now.limit }
+    ensures openings { OnOk result (slots.new.openings ≡ slots.old.openings + 1) }
+    ensures err { OnErr result (AreUnchanged slots.old slots.new) }
     ensures holding { SlotsStand slots.new slots.new.keeper.book }
     ensures opened { IfOk result (λ o. IsOpened o slots.old.keeper.board slots.old.keeper.book
         asked.now.predicate.now asked.now.moved asked.now.port asked.now.backlog) }

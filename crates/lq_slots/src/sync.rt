@@ -1,13 +1,12 @@
 //! What a reader does under the lock.
-ghost use Rattle.std.specs.Prelude.{◌≡◌, ◌+◌, ◌<◌, ◌≤◌, ◌≢◌, length, IfOk, IsSome, IsSomeAnd, Some, None, true, is_ok, is_some};
+ghost use Rattle.std.specs.Prelude.{◌≡◌, ◌<◌, ◌≤◌, length, IsSome, IsSomeAnd, Some, true, is_some};
 ghost use Rattle.lq_volume.specs.Book.{Extends};
 ghost use Rattle.lq_board.specs.Slot.{slot_at};
-ghost use Rattle.lq_subscription.specs.Marking.{first_close};
 ghost use Rattle.lq_subscription.specs.Identity.{identity_of};
 ghost use Rattle.lq_subscription.specs.Standing.{SameButHeld};
 ghost use Rattle.lq_subscription.specs.declared.subscription.Subscription.{Subscription as SubscriptionOf};
 ghost use Rattle.lq_subscription.specs.declared.identity.Identity.{Identity as IdentityOf};
-ghost use Rattle.lq_slots.specs.Slots.{IsTaken, SlotStands, SlotsStand, OnlyAt, asks_of, slot_in};
+ghost use Rattle.lq_slots.specs.Slots.{IsTaken, SlotStands, SlotsStand, OnlyAt, asks_of};
 ghost use Rattle.lq_slots.specs.Opening.{IdentityFits};
 ghost use Rattle.lq_slots.specs.Progress.{ShowsProgress};
 
@@ -15,7 +14,6 @@ use crate::slots::{Slots, notice_slot};
 use lq_board::{Board, Keeper, Seat};
 use lq_subscription::{Identity, Reading, Subscription, drain};
 use lq_update::Mark;
-use lq_value::Refusal;
 use std::sync::Wait;
 
 /// How far a subscription is: the changes so far, the parcels in its port, the messages held, its

@@ -19,7 +19,7 @@ use Rattle.lq_subscription.specs.declared.subscription.Subscription.{Subscriptio
 use Rattle.lq_subscription.specs.Updates.{updates}
 use Rattle.lq_subscription.specs.Rule.{book_of, floor_of, query_of, message_of, mark_or, messages_in, mark_in, IsMark, Tells, MayFollow}
 use Rattle.lq_subscription.specs.LegalList.{known_by}
-use Rattle.lq_subscription.specs.Standing.{given, upto, moved_mark, Stands, StandsAt, SameHeld, SameButPuts, mark_left, left_of, IsOut, IsOverrun}
+use Rattle.lq_subscription.specs.Standing.{given, upto, moved_mark, Stands, SameHeld, SameButPuts, mark_left, left_of, IsOut, IsOverrun}
 use Rattle.lq_subscription.proofs.Books.{extends_self}
 use Rattle.lq_subscription.proofs.UpdateLemmas.{updates-front}
 use Rattle.lq_subscription.proofs.PortLemmas.{prefix_trans, messages_in-snoc, mark_in-append, last_book-snoc}
@@ -290,11 +290,3 @@ alike_trans s t u a b = record {
   shut = b.shut ∙ a.shut;
   given_same = b.given_same ∙ a.given_same;
 }
-
--- while a message is held, no mark was put
-pub held_unmarked : (h : Held) (e : End Delivery Opening) (places : ℕ) (answer : Shut) (book : Book)
-    → Stands h e places answer book → 0 < length h.messages → mark_in (all_put e) ≡ None
-held_unmarked h e places answer book stands some =
-    stands.out ∙ not_moved h.mark_out h.mark
-    (λ out. let none : length h.messages ≡ 0 =
-    ap (length {A = Message}) (stands.done out).0 in absurd (omega arith))

@@ -1,5 +1,5 @@
 -- The update list of a book, and of a longer one.
-use Rattle.std.proofs.Common.{◌≡◌, ℕ, ◌+◌, ◌-◌, ◌≤◌, Bool, List, [], ◌∷◌, ◌++◌, length, take, drop, refl, sym, ap, ◌∙◌, arith, append_assoc, append-nil, add-zero, length-append, length-drop}
+use Rattle.std.proofs.Common.{◌≡◌, ℕ, ◌+◌, ◌-◌, ◌≤◌, Bool, List, [], ◌∷◌, ◌++◌, length, take, drop, sym, ap, ◌∙◌, arith, append_assoc, append-nil, add-zero, length-append, length-drop}
 use Rattle.std.proofs.lemmas.List.{take_all, take-append-le, take-take, take-append-drop, drop-append-le}
 use mathlib.Core.List.{IsPrefix}
 use Rattle.lq_formula.specs.Query.{Query}
@@ -8,7 +8,7 @@ use Rattle.lq_volume.specs.State.{State}
 use Rattle.lq_volume.specs.Change.{after}
 use Rattle.lq_volume.specs.Book.{Book, Extends, grown, after_all, state_of, state_at}
 use Rattle.lq_update.specs.declared.message.Message.{Message}
-use Rattle.lq_update.specs.Updates.{step_of, updates_from, updates_of}
+use Rattle.lq_update.specs.Updates.{step_of, updates_from}
 use Rattle.lq_subscription.specs.Updates.{updates}
 use Rattle.lq_subscription.proofs.Books.{after_all-append}
 
@@ -107,9 +107,3 @@ updates-none q mv b m =
     let none : m - m ≡ 0 = omega arith in
     ap (λ (n : ℕ). updates_from q mv (state_at b m) (take n (drop (m - b.start.number) b.changes))
     1) none
-
--- `updates` is the update list of lq_update
-pub updates-are : (q : Query) (moved : Bool) (b : Book) (m n : ℕ)
-    → updates q moved b m n ≡ updates_of q moved b m n
-unfolding updates
-updates-are q moved b m n = refl

@@ -19,8 +19,9 @@ use std::sync::Wait;
 
 /// Puts the first held message, or the mark after the last, and tells whether it did.
 ///
-/// `false` only where nothing is left to put or the port was full at a moment of the call; it is
-/// then as it was. It may wait for a step of the other end, and takes no memory.
+/// `false` only where nothing is left to put or as many parcels are known to wait as the port has
+/// places; the port's end is then as it was. It may wait for a step of the other end, and takes no
+/// memory.
 pub fn put_one<R: Wait>(rt: &R, keeper: &Keeper<Identity>, slot: &mut Subscription) -> bool
     requires { StandsAt slot.old keeper.now.book }
     ensures stands { StandsAt slot.new keeper.now.book }
@@ -65,7 +66,7 @@ fn offer<R: Wait>(
     }
 }
 
-/// Puts until nothing is left to put or the port was full at a moment of the call.
+/// Puts until nothing is left to put or as many parcels are known to wait as the port has places.
 ///
 /// It may wait for a step of the other end, and takes no memory.
 pub fn pump<R: Wait>(rt: &R, keeper: &Keeper<Identity>, slot: &mut Subscription)

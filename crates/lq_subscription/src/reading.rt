@@ -151,8 +151,7 @@ impl Reading {
 
     /// Takes the next parcel, and folds it where it is a message.
     ///
-    /// `Empty` only where the port was empty at a moment of the call, so never while something is
-    /// known to wait; `Ended` after the mark and only then. Refused: `NoMemory`; the message then
+    /// `Empty` never while something is known to wait; `Ended` after the mark and only then. Refused: `NoMemory`; the message then
     /// stays in hand, and is what the next read begins with. It may wait for a step of the other
     /// end, but not for a parcel.
     pub fn read<R: Wait>(&mut self, rt: &R) -> Result<Read, Refusal>

@@ -44,7 +44,7 @@ pub fn ready(slot: &mut Subscription, planned: &Planned<'_>) -> Result<(), Refus
     if !slot.sub.is_live() {
         return Ok(());
     }
-    slot.sub.ready(planned)
+    slot.sub.ready_planned(planned)
 }
 
 /// Holds the messages that `ready` made for this change, or ends with an overrun where they are

@@ -21,8 +21,9 @@ returns-clause-begun c =
     (state_of book) = c.in_ok-entries.ensures.entries
     ∙ ap (result_of c.args.asked.now.predicate.now) c.requires.volume in
     let reading = c.new-reading.ensures in
-    begun_new _ c.new-reading.result book c.args.asked.now.predicate.now c.args.asked.now.moved
-    c.args.asked.now.port c.args.asked.now.backlog c.changes-at.result
+    begun_new c.new_subscriptions_stand.ensures _ c.new-reading.result book
+    c.args.asked.now.predicate.now c.args.asked.now.moved c.args.asked.now.port
+    c.args.asked.now.backlog c.changes-at.result
     (record {
       query = c.of.result;
       moved = c.args.asked.now.moved;

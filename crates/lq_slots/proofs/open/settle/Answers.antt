@@ -1,4 +1,4 @@
-use Rattle.std.proofs.Common.{◌≡◌, ◌+◌, List, ℕ, refl, sym, ap, ◌∙◌, subst, slice_set, Some}
+use Rattle.std.proofs.Common.{◌≡◌, ◌+◌, ◌++◌, List, [], ◌∷◌, ℕ, refl, sym, ap, ◌∙◌, subst, slice_set, Some}
 use Rattle.lq_volume.specs.Book.{Book}
 use Rattle.lq_board.specs.Token.{KeeperToken}
 use Rattle.lq_subscription.specs.declared.identity.Identity.{Identity}
@@ -32,7 +32,8 @@ returns-clause-holding c =
           (ap (λ (k : KeeperToken Identity). k.slots) c.asks-asks.ensures.keeper)
           c.asks-asks.ensures.idle c.sit-seat.ensures.slots refl b.stands b.messages b.live),
       subst (λ (t : List ℕ). IsListed t (slice_set was.subscriptions.items place (Some s)))
-          (sym c.in_ok-push.ensures.items)
+          (sym (c.push_reserved.ensures.items
+          ∙ ap (λ (t : List ℕ). t ++ place ∷ []) c.in_ok-reserve.ensures.items))
           (listed-add was.taken.items was.subscriptions.items place s c.requires.holding.1 h.wide
           c.requires.place.0 c.requires.place.1 c.requires.free),
     )
