@@ -17,13 +17,13 @@ pub ended_cut : (bytes : List ℕ) (b : ℕ) (rest : List ℕ) → IsUnbroken by
 ended_cut [] b rest u e = rw e refl
 ended_cut (a ∷ bytes) b rest u e = rw u.0 (ap (before_ended a) (ended_cut bytes b rest u.1 e))
 
--- with no LF there is one line at most
+-- bytes without an LF are one line
 pub lines_one : (a : ℕ) (bytes : List ℕ) → IsUnbroken (a ∷ bytes)
     → lines_of (a ∷ bytes) ≡ (a ∷ bytes) ∷ []
 lines_one a [] u = rw u.0 refl
 lines_one a (b ∷ bytes) u = rw u.0 (ap (with_front a) (lines_one b bytes u.1))
 
--- and none that is ended
+-- and no line that LF ended
 pub ended_none : (bytes : List ℕ) → IsUnbroken bytes → ended_lines bytes ≡ []
 ended_none [] u = refl
 ended_none (a ∷ bytes) u = rw u.0 (ap (before_ended a) (ended_none bytes u.1))
@@ -42,7 +42,7 @@ unbroken_append : (bytes more : List ℕ) → IsUnbroken bytes → IsUnbroken mo
 unbroken_append [] more u v = v
 unbroken_append (a ∷ bytes) more u v = (u.0, unbroken_append bytes more u.1 v)
 
--- before the first LF there is none
+-- what is not true is false
 not_true : (b : Bool) → (b ≡ true → ⊥) → b ≡ false
 not_true true h = absurd (h refl)
 not_true false h = refl
@@ -141,23 +141,3 @@ output_cut rules state given lines bytes c =
     ap (replies_to rules state) (cut_lines given lines bytes c) ∙ replies_append rules state lines
     (lines_of bytes) ∙ ap (λ l. replies_to rules state lines ++ l)
     (last_reply rules (state_after_all rules state lines) bytes c.unbroken)
-
--- a byte before the lines leaves the lines that have ended
-front_stays : (b : ℕ) (xs ys rest : List (List ℕ)) → ys ≡ xs ++ rest
-    → (rest' : List (List ℕ)) × (with_front b ys ≡ before_ended b xs ++ rest')
-front_stays b [] ys rest h = (with_front b ys, refl)
-front_stays b (x ∷ xs) ys rest h = (rest, ap (with_front b) h)
-
--- one byte more in front leaves the lines that have ended, whatever follows them
-byte_stays : (b : ℕ) (bs more : List ℕ) (c : Bool)
-    → (b == 10) ≡ c → (rest : List (List ℕ)) × (lines_of (bs ++ more) ≡ ended_lines bs ++ rest)
-    → (rest : List (List ℕ)) × (lines_of (b ∷ (bs ++ more)) ≡ ended_lines (b ∷ bs) ++ rest)
-byte_stays b bs more true e h = rw e (h.0, ap (λ l. [] ∷ l) h.1)
-byte_stays b bs more false e h =
-    rw e (front_stays b (ended_lines bs) (lines_of (bs ++ more)) h.0 h.1)
-
--- lines that LF ended stay, whatever follows
-pub ended_stay : (bs more : List ℕ)
-    → (rest : List (List ℕ)) × (lines_of (bs ++ more) ≡ ended_lines bs ++ rest)
-ended_stay [] more = (lines_of more, refl)
-ended_stay (b ∷ bs) more = byte_stays b bs more (b == 10) refl (ended_stay bs more)

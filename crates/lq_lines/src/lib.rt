@@ -8,7 +8,6 @@
 
 mod devices;
 mod intake;
-mod laws;
 mod over_lines;
 mod pieces;
 mod responder;
@@ -17,7 +16,6 @@ mod writing;
 
 pub use devices::{Failed, Host, Sink, Source};
 pub use intake::Intake;
-pub use laws::{a_last_line_needs_no_lf, a_line_ends_at_the_first_lf, ended_lines_stay};
 pub use over_lines::run_lines;
 pub use pieces::take_piece;
 pub use responder::Responder;
