@@ -1,18 +1,14 @@
 -- Walks up a tree: what a bounded walk finds, that it needs no more steps than there are records,
 -- and what an edit leaves of it.
-use Rattle.std.proofs.Common.{◌≡◌, ℕ, zero, suc, ◌<◌, ◌≤◌, refl, sym, arith, eqb, ap, ◌∙◌, true, false, Some, None, length, inl, inr}
+use Rattle.std.proofs.Common.{◌≡◌, subst, ℕ, zero, suc, ◌<◌, ◌≤◌, refl, sym, arith, eqb, ap, ◌∙◌, true, false, Some, None, length, inl, inr}
 use Rattle.std.specs.Prelude.{not, filter, nat_eq, Option}
 use Rattle.std.specs.Option.{option_map, option_map_or}
 use Rattle.std.specs.Map.{lookup}
 use Rattle.std.proofs.lemmas.Bool.Decides.{nat_tests}
 use Rattle.std.proofs.lemmas.Bool.{cases_eq}
 use Rattle.lq_volume.specs.State.{Record, climbs, dir_of}
+use Rattle.lq_volume.specs.Walk.{Climb}
 use Rattle.lq_volume.proofs.RecordLemmas.{Entries, lookup-filter, length-filter_lt}
-
--- that many steps up from a node come to another
-abbrev pub Climb : (ℕ → Option ℕ) → ℕ → ℕ → ℕ → Type 0
-Climb up to zero at = at ≡ to
-Climb up to (suc k) at = (d : ℕ) × (up at ≡ Some d) × Climb up to k d
 
 -- what a bounded walk finds, some number of steps within the bound comes to
 pub climbs-sound : (f : ℕ) (up : ℕ → Option ℕ) (to at : ℕ) → climbs f up to at ≡ true
@@ -154,3 +150,14 @@ Climb-moved up new to x (suc k) at same from c =
       | inl e ↦ rw e from
       | inr differs ↦ (suc rest.0, (c.0, same at differs ∙ c.1, rest.1))
     ]
+
+-- no walk goes past the root
+pub Climb-within : (up : ℕ → Option ℕ) (to x k j at : ℕ) → up to ≡ None → Climb up to k at
+    → Climb up x j at → j ≤ k
+Climb-within up to x k zero at none c d = omega arith
+Climb-within up to x zero (suc j) at none c d =
+    absurd (let e = d.1 in let f : up to ≡ Some d.0 = rw (← c) e in let no : ⊥ = cc in no)
+Climb-within up to x (suc k) (suc j) at none c d =
+    let e = c.1 in let f = d.1 in let same : d.0 ≡ c.0 = cc in
+    let rest = Climb-within up to x k j c.0 none c.2 (subst (λ (n : ℕ). Climb up x j n) same d.2) in
+    omega arith

@@ -12,7 +12,8 @@ use Rattle.lq_volume.specs.Kind.{is_folder}
 use Rattle.lq_volume.specs.State.{State, Record, root, record_at, is_folder_at, dir_of, reaches, has_entries, is_taken, IsNumbered, IsTree}
 use Rattle.lq_volume.specs.Change.{at_place, altered}
 use Rattle.lq_volume.proofs.RecordLemmas.{lookup-filter, lookup-altered, lookup-push, lookup-above, fails-lookup}
-use Rattle.lq_volume.proofs.Climbs.{Climb, climbs-sound, climbs-complete, Climb-short, Climb-avoid, Climb-more, Climb-childless, Climb-moved}
+use Rattle.lq_volume.proofs.Climbs.{climbs-sound, climbs-complete, Climb-short, Climb-avoid, Climb-more, Climb-childless, Climb-moved, Climb-within}
+use Rattle.lq_volume.specs.Walk.{Climb, ReachesAll}
 
 -- a folder has a walk to the root
 folder-climb : (s : State) (d : ℕ) → IsTree s → is_folder_at s d ≡ true
@@ -504,6 +505,18 @@ module _ (s : State) (limit number next : ℕ) (v : Record) (n : IsNumbered s) (
           (λ u. (u.dir == v.dir) && bytes_eq u.name v.name) s.records k r free is in
           let same = (bytes_eq-Decides r.name v.name).1 f in
           grind (arith, nat_tests)
+
+-- in a tree the bounded walk from a folder finds all that any walk does
+pub reaches-all : ReachesAll
+reaches-all s at to t folder = (
+  (λ h. let c = climbs-sound (length s.records) (dir_of s.records) to at h in (c.0, c.2)),
+  (λ w.
+      let c = folder-climb s at t folder in
+      let top : dir_of s.records root ≡ None = ap (option_map (λ (r : Record). r.dir)) t.no_root in
+      let short = Climb-short c.0 s.records root at top c.1 in
+      let less = Climb-within (dir_of s.records) root to c.0 w.0 at top c.1 w.1 in
+      climbs-complete (length s.records) w.0 (dir_of s.records) to at (omega arith) w.1),
+)
 
 -- no walk comes from a folder to a node that is none, since nothing is in it
 pub reaches-file : (s : State) (node dir : ℕ) → IsTree s → is_folder_at s node ≡ false

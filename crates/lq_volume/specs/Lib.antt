@@ -1,6 +1,7 @@
 pub mod Attributes
 pub mod Kind
 pub mod State
+pub mod Walk
 pub mod Change
 pub mod Plan
 pub mod Order

@@ -1,5 +1,11 @@
 //! Laws of trees and changes: each is the contract of a function with no body.
 ghost use Rattle.lq_volume.specs.Laws.{ChangesCount, ChangesKeepTrees, UntouchedStay, ClobberedGo};
+ghost use Rattle.lq_volume.specs.Walk.{ReachesAll};
+
+/// A node is found to be within another just where some walk up leads there.
+pub fn walks_are_bounded()
+    ensures { ReachesAll }
+{}
 
 /// The state after an accepted change is a tree within its limit again.
 pub fn accepted_changes_keep_trees()
