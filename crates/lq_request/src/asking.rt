@@ -7,9 +7,10 @@ ghost use Rattle.lq_request.specs.Request.{asks_set, value_for, asked_in, asked_
 
 use crate::question::Question;
 use crate::request::{Request, request_in};
-use json::{Scratch, Value};
+use crate::scratch::{RecentAttrs, Scratch};
+use json::Value;
 use lq_predicate::read;
-use lq_value::{AttrName, Name, Refusal, View};
+use lq_value::{Name, Refusal, View};
 use lq_volume::Change;
 use lq_world::Event;
 use std::alloc::Global;
@@ -24,14 +25,14 @@ pub fn question_in(alloc: Global, scratch: &mut Scratch, line: &[u8]) -> Result<
     ensures value { IfOk result (λ question. question_in line.now ≡ Ok question) }
     ensures refused { IfErr result (λ e. (e ≡ NoMemory) ⊎ (question_in line.now ≡ Err e)) }
 {
-    let value = value_in(alloc, scratch, line)?;
-    Ok(question_of(alloc, &value)?)
+    let value = value_in(alloc, &mut scratch.json, line)?;
+    Ok(question_of(alloc, &mut scratch.attrs, &value)?)
 }
 
 // The JSON value that a line writes.
 fn value_in<'a>(
     alloc: Global,
-    scratch: &'a mut Scratch,
+    scratch: &'a mut json::Scratch,
     line: &'a [u8],
 ) -> Result<Value<'a>, Refusal>
     ensures value { IfOk result (λ value. asked_in line.now ≡ asked_or (asked_of (view value))) }
@@ -44,7 +45,11 @@ fn value_in<'a>(
 }
 
 // What a line's JSON value asks.
-fn question_of(alloc: Global, value: &Value<'_>) -> Result<Question, Refusal>
+fn question_of(
+    alloc: Global,
+    attrs: &mut RecentAttrs,
+    value: &Value<'_>,
+) -> Result<Question, Refusal>
     ensures value { IfOk result (λ question.
         question_from (asked_or (asked_of (view value.now))) ≡ Ok question) }
     ensures refused { IfErr result (λ e. (e ≡ NoMemory)
@@ -52,12 +57,16 @@ fn question_of(alloc: Global, value: &Value<'_>) -> Result<Question, Refusal>
 {
     match request_in(value) {
         None => Err(Refusal::BadLine),
-        Some(request) => Ok(question_for(alloc, &request)?),
+        Some(request) => Ok(question_for(alloc, attrs, &request)?),
     }
 }
 
 // What a request asks, its values read.
-fn question_for(alloc: Global, request: &Request<'_>) -> Result<Question, Refusal>
+fn question_for(
+    alloc: Global,
+    attrs: &mut RecentAttrs,
+    request: &Request<'_>,
+) -> Result<Question, Refusal>
     ensures value { IfOk result (λ question. question_for (asked request.now) ≡ Ok question) }
     ensures refused { IfErr result (λ e. (e ≡ NoMemory) ⊎ (question_for (asked request.now) ≡ Err e)) }
 {
@@ -92,10 +101,10 @@ fn question_for(alloc: Global, request: &Request<'_>) -> Result<Question, Refusa
             size: *size,
             time: *time,
         })),
-        Request::Set { node, attr, value } => Ok(setting(alloc, *node, attr, *value)?),
+        Request::Set { node, attr, value } => Ok(setting(alloc, attrs, *node, attr, *value)?),
         Request::Unset { node, attr } => Ok(change(Change::RemoveAttr {
             node: *node,
-            attr: AttrName::read(alloc, attr)?,
+            attr: attrs.read(alloc, attr)?,
         })),
         Request::Open {
             query,
@@ -132,13 +141,19 @@ fn change(change: Change) -> Question
 }
 
 // The question that sets an attribute, its name read before its value.
-fn setting(alloc: Global, node: u64, attr: &str, value: View<'_>) -> Result<Question, Refusal>
+fn setting(
+    alloc: Global,
+    attrs: &mut RecentAttrs,
+    node: u64,
+    attr: &str,
+    value: View<'_>,
+) -> Result<Question, Refusal>
     ensures value { IfOk result (λ question.
         question_for (asks_set node attr.now (given value.entry)) ≡ Ok question) }
     ensures refused { IfErr result (λ e. (e ≡ NoMemory)
         ⊎ (question_for (asks_set node attr.now (given value.entry)) ≡ Err e)) }
 {
-    let attr = AttrName::read(alloc, attr)?;
+    let attr = attrs.read(alloc, attr)?;
     let value = typed(alloc, value)?;
     Ok(change(Change::SetAttr { node, attr, value }))
 }

@@ -7,6 +7,8 @@
 mod asking;
 mod question;
 mod request;
+mod scratch;
 
 pub use asking::question_in;
 pub use question::Question;
+pub use scratch::Scratch;

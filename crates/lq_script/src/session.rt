@@ -12,12 +12,11 @@ ghost use Rattle.lq_script.specs.Session.{session_with};
 ghost use Rattle.lq_script.specs.Script.{kept_volume};
 
 use crate::rebuilds::{note, rebuild_at};
-use json::Scratch;
 use lq_desk::{Desk, Event, Reply};
 use lq_lines::Responder;
 use lq_predicate::Predicate;
 use lq_reply::{Response, put_reply};
-use lq_request::{Question, question_in};
+use lq_request::{Question, Scratch, question_in};
 use lq_update::{IndexedRebuild, results_rise};
 use lq_value::{Name, Refusal};
 use lq_volume::Volume;

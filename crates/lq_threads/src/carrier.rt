@@ -1,11 +1,10 @@
 //! What lines are given to, and carries them out.
 use crate::gate::Gate;
 use crate::session::Session;
-use json::Scratch;
 use lq_desk::{Act, Event};
 use lq_lines::{Failed, RunFault, Sink, write_all};
 use lq_reply::{Response, put_reply};
-use lq_request::{Question, question_in};
+use lq_request::{Question, Scratch, question_in};
 use lq_server::Named;
 use lq_value::Refusal;
 use memchr::memchr;

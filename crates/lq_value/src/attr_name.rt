@@ -8,28 +8,30 @@ ghost use Rattle.lq_value.specs.Name.{is_attr_name};
 use crate::refusal::Refusal;
 use std::alloc::Global;
 use std::marker::Model;
+use std::sync::ArcStr;
 
 /// The longest name of an attribute, in bytes.
 const MAX_ATTR_NAME: usize = 255;
 
 /// The name of an attribute: 1 to 255 bytes of UTF-8 without NUL.
 ///
-/// A contract sees it as its bytes.
+/// A contract sees it as its bytes. A name and its copies share one text, which is counted and goes
+/// with the last of them.
 #[derive(Debug, Drop)]
 pub struct AttrName {
-    text: String,
+    text: ArcStr,
 }
 
 impl Model for AttrName {
     ghost use Rattle.std.specs.Prelude.{ℕ, List, IsTrue};
-    ghost use Rattle.std.specs.String.{string_bytes};
+    ghost use Rattle.std.specs.Arc.{arc_str_bytes};
     ghost use Rattle.lq_value.specs.Name.{is_attr_name};
 
     ghost Value = { List ℕ };
 
-    ghost view = { λ name. string_bytes name.text };
+    ghost view = { λ name. arc_str_bytes name.text };
 
-    ghost invariant = { λ name. IsTrue (is_attr_name (string_bytes name.text)) };
+    ghost invariant = { λ name. IsTrue (is_attr_name (arc_str_bytes name.text)) };
 }
 
 impl AttrName {
@@ -46,7 +48,7 @@ impl AttrName {
             return Err(Refusal::BadName);
         }
         Ok(AttrName {
-            text: String::from_str(alloc, text)?,
+            text: ArcStr::from_str(alloc, text)?,
         })
     }
 
@@ -58,15 +60,19 @@ impl AttrName {
         self.text.as_str()
     }
 
-    /// Another name with the same text. Refused: `NoMemory`.
+    /// Another name with the same text, which the two share: it takes no memory.
+    ///
+    /// Where 2^63 - 1 names share the text, the new name has a text of its own. Refused: `NoMemory`.
     pub fn copy(&self, alloc: Global) -> Result<AttrName, Refusal>
         ensures refused { IsRefusedBy result None }
         ensures value { IfOk result (λ name. name ≡ self.now) }
         ensures valid { IfOk result (λ name. IsTrue (is_attr_name name)) }
     {
-        Ok(AttrName {
-            text: String::from_str(alloc, self.text.as_str())?,
-        })
+        let text = match self.text.clone() {
+            Ok(text) => text,
+            Err(_) => ArcStr::from_str(alloc, self.text.as_str())?,
+        };
+        Ok(AttrName { text })
     }
 }
 

@@ -1,0 +1,88 @@
+//! What the reading of lines keeps from line to line.
+ghost use Rattle.std.specs.Prelude.{◌≡◌, Some, None, IfOk, IfSome, IsTrue, if◌then◌else◌};
+ghost use Rattle.lq_value.specs.declared.refusal.Refusal.TheVariants.{BadName};
+ghost use Rattle.lq_value.specs.Name.{is_attr_name};
+ghost use Rattle.lq_value.specs.Refusal.{IsRefusedBy};
+
+use lq_value::{AttrName, Refusal};
+use std::alloc::Global;
+
+/// How many names of attributes are kept.
+const RECENT: usize = 16;
+
+/// What the reading of a line takes. One that is kept from line to line spares memory, and changes
+/// no answer.
+#[derive(Drop)]
+pub struct Scratch {
+    pub(crate) json: json::Scratch,
+    pub(crate) attrs: RecentAttrs,
+}
+
+impl Scratch {
+    /// One in which nothing is kept. It takes no memory.
+    pub fn new(alloc: Global) -> Scratch {
+        Scratch {
+            json: json::Scratch::new(alloc),
+            attrs: RecentAttrs {
+                names: Vec::new(alloc),
+                oldest: 0,
+            },
+        }
+    }
+}
+
+// The names of attributes that lines named last: a name that is read again shares its text.
+#[derive(Drop)]
+pub(crate) struct RecentAttrs {
+    names: Vec<AttrName>,
+    // Where the next is put once all places are taken.
+    oldest: usize,
+}
+
+impl RecentAttrs {
+    // The attribute's name with this text, as `AttrName::read` reads it.
+    pub(crate) fn read(&mut self, alloc: Global, text: &str) -> Result<AttrName, Refusal>
+        ensures refused { IsRefusedBy result
+            (if is_attr_name text.now then None else Some BadName) }
+        ensures value { IfOk result (λ name. name ≡ text.now) }
+    {
+        if let Some(name) = self.known(text) {
+            return name.copy(alloc);
+        }
+        let name = AttrName::read(alloc, text)?;
+        self.keep(name.copy(alloc)?)?;
+        Ok(name)
+    }
+
+    // The name with this text, if it is kept.
+    fn known(&self, text: &str) -> Option<&AttrName>
+        ensures text { IfSome result (λ name. name.now ≡ text.now) }
+        ensures valid { IfSome result (λ name. IsTrue (is_attr_name text.now)) }
+    {
+        for name in &self.names {
+            if name.as_str() == text {
+                return Some(name);
+            }
+        }
+        None
+    }
+
+    // Keeps a name, in place of the oldest where all places are taken. Refused: `NoMemory`.
+    fn keep(&mut self, name: AttrName) -> Result<(), Refusal>
+        ensures refused { IsRefusedBy result None }
+    {
+        if self.names.len() < RECENT {
+            self.names.push(name)?;
+            return Ok(());
+        }
+        if let Some(kept) = self.names.get_mut(self.oldest) {
+            *kept = name;
+        }
+        self.oldest = if self.oldest < RECENT - 1 {
+            self.oldest + 1
+        } else {
+            0
+        };
+        Ok(())
+    }
+}
