@@ -1,5 +1,5 @@
 -- The changes that a subscription may pass over, since they tell it nothing.
-use Rattle.std.specs.Prelude.{ℕ, List, Bool, false, not, Option, Some, None}
+use Rattle.std.specs.Prelude.{ℕ, List, [], ◌∷◌, Bool, false, codes, not, Option, Some, None}
 use Rattle.std.specs.List.{list_any}
 use Rattle.std.specs.Str.{bytes_eq}
 use Rattle.lq_volume.specs.declared.change.Change.{Change}
@@ -13,6 +13,10 @@ is_among names name = list_any (bytes_eq name) names
 abbrev pub are_apart : List (List ℕ) → Option (List (List ℕ)) → Bool
 are_apart names None = false
 are_apart names (Some altered) = not (list_any (is_among names) altered)
+
+-- whether a write alters what an entry shows under one of these names
+abbrev pub are_written : List (List ℕ) → Bool
+are_written names = list_any (is_among names) (codes "size" ∷ codes "last_modified" ∷ [])
 
 -- a change of values alone, and of none under these names
 abbrev pub passes_over : List (List ℕ) → Change → Bool

@@ -4,7 +4,7 @@ ghost use Rattle.std.specs.VecDeque.{deque_len, deque_capacity};
 ghost use Rattle.lq_value.specs.Refusal.{IsRefusedBy};
 ghost use Rattle.lq_predicate.specs.Names.{names_of};
 ghost use Rattle.lq_volume.specs.Change.{IsLawful};
-ghost use Rattle.lq_desk.specs.Passing.{is_among, passes_over};
+ghost use Rattle.lq_desk.specs.Passing.{are_written, is_among, passes_over};
 
 use lq_predicate::{Predicate, names, truth_goes_by_names};
 use lq_update::{Cause, Mark, Message, Parcel, changes_pass_over, step_planned};
@@ -22,6 +22,8 @@ pub struct Sub {
     alloc: Global,
     predicate: Predicate,
     names: Vec<AttrName>,
+    // Whether a write alters what one of these names shows.
+    sees_writes: bool,
     moved: bool,
     opened: u64,
     backlog: u64,
@@ -39,6 +41,7 @@ impl Model for Sub {
     ghost use Rattle.lq_predicate.specs.Names.{names_of};
     ghost use Rattle.std.specs.VecDeque.{deque_len, deque_capacity};
     ghost use Rattle.lq_desk.specs.Held.{Prepared};
+    ghost use Rattle.lq_desk.specs.Passing.{are_written};
     ghost use Rattle.std.specs.Coded.{codes};
     ghost use Rattle.lq_predicate.specs.QueryCode.{coded_query};
 
@@ -64,7 +67,8 @@ impl Model for Sub {
 
     ghost invariant = { λ s. (deque_len s.messages + vec_len s.ready
         + (if s.lent then 1 else 0) ≤ deque_capacity s.messages)
-        × (s.names.items ≡ names_of s.predicate) };
+        × (s.names.items ≡ names_of s.predicate)
+        × (s.sees_writes ≡ are_written (names_of s.predicate)) };
 }
 
 impl Sub {
@@ -86,10 +90,13 @@ impl Sub {
           lent = false;
         }) }
     {
+        let names = names(alloc, predicate)?;
+        let sees_writes = are_written(&names);
         Ok(Sub {
             alloc,
             predicate: predicate.copy(alloc)?,
-            names: names(alloc, predicate)?,
+            names,
+            sees_writes,
             moved,
             opened: at,
             backlog,
@@ -188,9 +195,7 @@ impl Sub {
     {
         match change {
             Change::Create { .. } | Change::Remove { .. } | Change::Move { .. } => false,
-            Change::Write { .. } => {
-                !(is_among(&self.names, "size") || is_among(&self.names, "last_modified"))
-            }
+            Change::Write { .. } => !self.sees_writes,
             Change::SetAttr { attr, .. } | Change::RemoveAttr { attr, .. } => {
                 !is_among(&self.names, attr.as_str())
             }
@@ -308,6 +313,13 @@ fn append(messages: &mut VecDeque<Message>, ready: Vec<Message>)
     for message in ready {
         messages.push_back_reserved(message);
     }
+}
+
+// Whether a write alters what an entry shows under one of these names.
+fn are_written(names: &[AttrName]) -> bool
+    ensures { result ≡ are_written names.now }
+{
+    is_among(names, "size") || is_among(names, "last_modified")
 }
 
 // Whether a name is one of these.
