@@ -47,7 +47,7 @@ name_by g s n (Some name) h e = (
 -- where an operand is awaited, a name leads the gauge as it leads the machine
 pub name_read : (g : Gauge) (s : State) (raw : List ℕ) (n : ℕ)
     → Shows g s → Some n ≡ option_map name_bytes (name_of raw)
-    → IsStepAt operand s (word raw) (Ok (gauge g.below g.top (awaits.AfterAttr n) g.room))
+    → IsStepAt operand s (word raw) (Ok tt) (gauge g.below g.top (awaits.AfterAttr n) g.room)
 name_read g s raw n h e = let r = name_by g s n (name_of raw) h e in (r.0, r.1, refl, r.2)
 
 -- where there is no name, there is no state
@@ -57,9 +57,9 @@ no_name_by f None e = refl
 no_name_by f (Some name) e = absurd (let no : ⊥ = cc in no)
 
 -- where an operand is awaited, a word that is no name is refused
-pub no_name : (s : State) (raw : List ℕ) → None ≡ option_map name_bytes (name_of raw)
-    → IsStepAt operand s (word raw) (Err None)
-no_name s raw e = (
+pub no_name : (g : Gauge) (s : State) (raw : List ℕ) → None ≡ option_map name_bytes (name_of raw)
+    → IsStepAt operand s (word raw) (Err None) g
+no_name g s raw e = (
   no_name_by
       (λ name. record { below = s.below; top = s.top; place = after_attr name; room = s.room })
       (name_of raw) e,
@@ -77,7 +77,7 @@ left_room g s h some = let e = h.room in omega (arith, e, some)
 -- `(` leads the gauge as it leads the machine
 pub opened : (g : Gauge) (s : State) (below : ArrayVec Outline) (top : Outline) → Shows g s
     → (g.room ≡ 0 → ⊥) → below.items ≡ g.below.items ++ g.top ∷ [] → top ≡ outline_of empty_frame
-    → IsStepAt operand s opens (Ok (gauge below top awaits.Operand (g.room - 1)))
+    → IsStepAt operand s opens (Ok tt) (gauge below top awaits.Operand (g.room - 1))
 opened g s below top h some push new = (
   record { below = s.top ∷ s.below; top = empty_frame; place = operand; room = g.room - 1 },
   deeper_some s.room (g.room - 1) _ (left_room g s h some),
@@ -110,9 +110,9 @@ never_full g s h light some full =
 -- `!` leads the gauge as it leads the machine
 pub banged : (g : Gauge) (s : State) (n : ℕ) → Shows g s → weight s ≤ 64 → (g.room ≡ 0 → ⊥)
     → n ≡ capped (g.top.bangs + 1)
-    → IsStepAt operand s bang (Ok (gauge g.below
+    → IsStepAt operand s bang (Ok tt) (gauge g.below
     (record { or_parts = g.top.or_parts; and_parts = g.top.and_parts; bangs = n })
-    awaits.Operand (g.room - 1)))
+    awaits.Operand (g.room - 1))
 banged g s n h light some new = (
   record {
     below = s.below;
@@ -143,7 +143,7 @@ banged g s n h light some new = (
 
 -- an operator leads the gauge as it leads the machine
 pub op_read : (g : Gauge) (s : State) (a : List ℕ) (n : ℕ) (o : Op) → Shows g s → n ≡ name_bytes a
-    → IsStepAt (after_attr a) s (op o) (Ok (gauge g.below g.top (awaits.AfterOp n o) g.room))
+    → IsStepAt (after_attr a) s (op o) (Ok tt) (gauge g.below g.top (awaits.AfterOp n o) g.room)
 op_read g s a n o h e = (
   record { below = s.below; top = s.top; place = after_op a o; room = s.room },
   refl,
@@ -193,24 +193,18 @@ pub literal_read : (g : Gauge) (s : State) (a : List ℕ) (o : Op) (raw : List �
     → ((literal : Literal) → n ≡ literal_bytes literal
     → b ≡ capped (length (canonical (Compare a o literal))))
     → Completes g' (record { depth = 1; bytes = b }) g.below g.top g.room
-    → IsStepAt (after_op a o) s (word raw) (Ok g')
+    → IsStepAt (after_op a o) s (word raw) (Ok tt) g'
 literal_read g s a o raw n b g' h light e fine size done =
     let r = literal_by g s a o n b g' (literal_of o raw) h light e size done in
     (r.0, r.1, fine, r.2)
-
--- after an operator, a word that is no literal is refused at its fault
-pub bad_literal : (s : State) (a : List ℕ) (o : Op) (raw : List ℕ) (k : ℕ) → literal_of o raw ≡ None
-    → literal_fault o raw ≡ Some k → IsStepAt (after_op a o) s (word raw) (Err (Some k))
-bad_literal s a o raw k none fault =
-    (ap (option_map (λ literal. completed (Compare a o literal) s.below s.top s.room)) none, fault)
 
 -- ---- behind an operand
 
 -- `&&` leads the gauge as it leads the machine
 pub ands_read : (g : Gauge) (s : State) → Shows g s
-    → IsStepAt after_operand s ands (Ok (gauge g.below
+    → IsStepAt after_operand s ands (Ok tt) (gauge g.below
     (record { or_parts = g.top.or_parts; and_parts = g.top.and_parts; bangs = 0 })
-    awaits.Operand g.room))
+    awaits.Operand g.room)
 ands_read g s h = (
   record {
     below = s.below;
@@ -231,7 +225,7 @@ ands_read g s h = (
 -- `||` leads the gauge as it leads the machine
 pub ors_read : (g : Gauge) (s : State) (top : Outline)
     → Shows g s → top ≡ outline_of (behind_or s.top)
-    → IsStepAt after_operand s ors (Ok (gauge g.below top awaits.Operand g.room))
+    → IsStepAt after_operand s ors (Ok tt) (gauge g.below top awaits.Operand g.room)
 ors_read g s top h new = (
   record { below = s.below; top = behind_or s.top; place = operand; room = s.room },
   refl,
@@ -258,7 +252,7 @@ closed_by s b o part room g g' (f ∷ fs) is light e same done =
 pub closed : (g : Gauge) (s : State) (b : ArrayVec Outline) (o : Outline) (part : Extent) (room : ℕ)
     (g' : Gauge) → Shows g s → weight s ≤ 64 → g.below.items ≡ b.items ++ o ∷ []
     → part ≡ extent_of (said_by s.top) → room ≡ capped (g.room + 1) → Completes g' part b o room
-    → IsStepAt after_operand s closes (Ok g')
+    → IsStepAt after_operand s closes (Ok tt) g'
 closed g s b o part room g' h light pop e new done =
     let is = sym (reverse-append b.items (o ∷ [])) ∙ sym (ap reverse pop) ∙ h.below in
     let was = h.room in

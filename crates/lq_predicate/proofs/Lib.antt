@@ -1,7 +1,7 @@
 -- Read in this order. Canonical texts, a piece at a time: PartLemmas, CanonicalLemmas, SizeLemmas,
 -- ExtentLemmas, FitLemmas, DepthLemmas, StarredLemmas. Names and truth: NameLemmas, TruthLemmas.
 -- The stack: StackLemmas. Reading: WeightLemmas, GaugeLemmas, PlaceLemmas, SoFarLemmas,
--- LimitLemmas, ReadLemmas.
+-- LimitLemmas, ReadLemmas, MachineLemmas.
 pub mod PartLemmas
 pub mod NameLemmas
 pub mod TruthLemmas
@@ -18,3 +18,4 @@ pub mod ReadLemmas
 pub mod ExtentLemmas
 pub mod GaugeLemmas
 pub mod StarredLemmas
+pub mod MachineLemmas

@@ -1,28 +1,26 @@
 -- The reading of a whole text, by the limits on its query.
 use Rattle.std.proofs.Common.{◌≡◌, ◌≤◌, ◌<◌, ◌+◌, ◌^◌, ◌∷◌, ◌⊎◌, ℕ, Bool, true, false, Option, None, refl, sym, ◌&&◌, List, length, Some, ap, ◌∙◌, arith, inl, inr}
-use Rattle.std.specs.Prelude.{nat_le, if◌then◌else◌, IfSome, MatchOption, Result, Ok, Err, unwrap_or}
+use Rattle.std.specs.Prelude.{nat_le, if◌then◌else◌, IfSome, IsSome, MatchOption, Result, Ok, Err}
 use Rattle.std.proofs.lemmas.Bool.{le-leb, lt-leb}
-use Rattle.lq_value.specs.declared.refusal.Refusal.{Refusal}
-use Rattle.lq_value.specs.declared.refusal.Refusal.TheVariants.{BadQuery, NoMemory}
 use Rattle.lq_formula.specs.Query.{Query}
 use Rattle.lq_formula.specs.Canonical.{canonical, depth}
-use Rattle.lq_formula.specs.Faults.{most_bytes, IsFaulty}
+use Rattle.lq_formula.specs.Faults.{most_bytes, most_depth}
 use Rattle.lq_formula.specs.Machine.{State, step}
 use Rattle.lq_formula.specs.Tokens.{Placed, Yields, tokens_from}
 use Rattle.lq_formula.specs.Reading.{finished, reading_of}
-use Rattle.lq_formula.specs.Laws.{FormulasAreRead, FaultsAreFound}
+use Rattle.lq_formula.specs.Laws.{FormulasAreRead}
 use Rattle.lq_formula.specs.Capped.{capped}
 use Rattle.lq_predicate.specs.declared.extent.Extent.{Extent}
 use Rattle.lq_predicate.specs.Gauge.{extent_of}
 use Rattle.lq_predicate.specs.Limits.{is_predicate}
-use Rattle.lq_predicate.specs.Refusals.{fault_of, refusal_of}
+use Rattle.lq_predicate.specs.Refusals.{fault_of}
 use Rattle.lq_predicate.specs.MachineView.{pattern_fault}
 use Rattle.lq_predicate.specs.PlainPlace.{plain_place}
-use Rattle.lq_predicate.proofs.SoFarLemmas.{SoFar, place_fits, stops_here, stops_within}
+use Rattle.lq_predicate.proofs.SoFarLemmas.{SoFar, passes, place_fits, stops_here, stops_within}
 use Rattle.lq_predicate.proofs.LimitLemmas.{reads_predicate}
 
 -- a whole query within the limits is what the text is read as
-pub finished_whole : (text : List ℕ) (q : Query) (size : ℕ)
+finished_whole : (text : List ℕ) (q : Query) (size : ℕ)
     → reading_of text ≡ finished (length text) (Some q) → nat_le (depth q) 64 ≡ true
     → size ≡ capped (length (canonical q)) → size ≤ 4096 → reading_of text ≡ Ok q
 finished_whole text q size e deep is h =
@@ -35,25 +33,23 @@ pub read_predicate : FormulasAreRead → (text : List ℕ) (q : Query) → readi
     → is_predicate q ≡ true
 read_predicate law text q e = reads_predicate text q ((law text q).0 e)
 
--- a refusal with a place is that of a reading that is this place
-fault_by : (r : Result Query ℕ) (e : Refusal) (place : ℕ)
-    → e ≡ unwrap_or (refusal_of r) NoMemory → e ≡ BadQuery place → r ≡ Err place
-fault_by (Ok q) e place why is = absurd (let no : ⊥ = cc in no)
-fault_by (Err at) e place why is = let same : at ≡ place = cc in ap (λ p. Err p) same
+-- a fault that is found is what the text reads as
+pub reads_fault : (r : Result Query ℕ) (place : ℕ) → Some place ≡ fault_of r → r ≡ Err place
+reads_fault (Ok q) place e = absurd (let no : ⊥ = cc in no)
+reads_fault (Err at) place e = let same : at ≡ place = cc in ap (λ p. Err p) same
 
--- the place that is refused is the leftmost fault's
-pub fault_found : FaultsAreFound → (text : List ℕ) (e : Refusal)
-    → e ≡ unwrap_or (refusal_of (reading_of text)) NoMemory → (place : ℕ) → e ≡ BadQuery place
-    → IsFaulty text place
-fault_found law text e why place is = (law text place).0 (fault_by (reading_of text) e place why is)
+-- the query of a text that ends here, if it reads without a fault
+pub ends_whole : (end : ℕ) (o : Option Query) → fault_of (finished end o) ≡ None → IsSome o
+ends_whole end None fine = absurd (let no : ⊥ = cc in no)
+ends_whole end (Some q) fine = refl
+
+-- it is what the text reads as
+pub reads_whole : (end : ℕ) (q : Query) → fault_of (finished end (Some q)) ≡ None
+    → finished end (Some q) ≡ Ok q
+reads_whole end q fine = ap (λ b. if b then Ok q else Err end)
+    (passes (nat_le (depth q) most_depth && nat_le (length (canonical q)) most_bytes) (Ok q) end fine)
 
 -- ---- without memory
-
--- a reading that is refused with a place has its fault there
-pub fault_is : (r : Result Query ℕ) (place : ℕ) → refusal_of r ≡ Some (BadQuery place)
-    → Some place ≡ fault_of r
-fault_is (Ok q) place e = absurd (let no : ⊥ = cc in no)
-fault_is (Err at) place e = let same : at ≡ place = cc in ap (λ p. Some p) (sym same)
 
 -- a reading that ends with no whole query has its fault at the end
 pub fault_of-none : (end : ℕ) (r : Result Query ℕ) → r ≡ finished end None → Some end ≡ fault_of r
@@ -112,7 +108,6 @@ pub token_stops : (text : List ℕ) (place : ℕ) (rest : List ℕ) (s : State) 
     → MatchOption o (p ≡ plain_place (length text) t) (λ k. p ≡ t.raw_place + k)
     → Some p ≡ fault_of (reading_of text)
 token_stops text place rest s count h t ts None p e none fault is =
-    fault_is (reading_of text) p (stops_here text place rest s count h t ts p e none fault is)
+    stops_here text place rest s count h t ts p e none fault is
 token_stops text place rest s count h t ts (Some k) p e none fault is =
-    fault_is (reading_of text) p (stops_within text place rest s count h t ts k e none fault
-    ∙ ap (λ n. Some (BadQuery n)) (sym is))
+    ap (λ n. Some n) is ∙ stops_within text place rest s count h t ts k e none fault

@@ -1,19 +1,18 @@
 -- What is known while a formula is read.
-use Rattle.std.proofs.Common.{◌≡◌, ◌≤◌, ◌<◌, ◌+◌, ◌^◌, ℕ, List, [], ◌∷◌, ◌++◌, append_assoc, IsUtf8, length, Option, Some, None, refl, sym, ap, ◌∙◌, subst, arith}
-use Rattle.std.specs.Prelude.{if◌then◌else◌, Result, Err}
-use Rattle.std.proofs.lemmas.Bool.{lt-leb, le-leb}
+use Rattle.std.proofs.Common.{◌≡◌, ◌≤◌, ◌<◌, ◌+◌, ◌^◌, ℕ, Bool, true, false, List, [], ◌∷◌, ◌++◌, append_assoc, IsUtf8, length, Option, Some, None, refl, sym, ap, ◌∙◌, subst, arith}
+use Rattle.std.specs.Prelude.{if◌then◌else◌, IsSome, nat_le, Result, Err}
+use Rattle.std.proofs.lemmas.Bool.{lt-leb, le-leb, leb-true}
 use Rattle.std.proofs.lemmas.List.{append-nil}
 use Rattle.lq_formula.specs.Words.{WordIs, WordsAre}
-use Rattle.lq_value.specs.declared.refusal.Refusal.TheVariants.{BadQuery}
 use Rattle.lq_formula.specs.Tokens.{Placed, Yields, bare, tokens_from, tokens_of}
 use Rattle.lq_formula.specs.Query.{Query}
 use Rattle.lq_formula.specs.Grammar.{nesting}
-use Rattle.lq_formula.specs.Machine.{Frame, State, empty_frame, operand, start, step, whole, weight}
+use Rattle.lq_formula.specs.Machine.{State, start, step, whole, weight}
 use Rattle.lq_formula.specs.Faults.{most_bytes, most_comparisons}
 use Rattle.lq_formula.specs.Reading.{after_token, fault_place, finished, read_tokens, reading_of, word_count}
 use Rattle.lq_predicate.specs.MachineView.{pattern_fault}
 use Rattle.lq_predicate.specs.PlainPlace.{plain_place}
-use Rattle.lq_predicate.specs.Refusals.{refusal_of}
+use Rattle.lq_predicate.specs.Refusals.{fault_of}
 use Rattle.lq_predicate.proofs.PlaceLemmas.{fault_place-plain, fault_place-pattern, pattern_place-bound}
 use Rattle.lq_predicate.proofs.WeightLemmas.{step_weight}
 
@@ -37,12 +36,6 @@ starts text s h e = record {
   short = h;
   room = omega arith;
 }
-
--- nothing is begun
-pub begun : (below : List Frame) (top : Frame) → below ≡ [] → top ≡ empty_frame
-    → record { below = below; top = top; place = operand; room = 64 } ≡ start nesting
-begun below top e f = ap (λ b. record { below = b; top = top; place = operand; room = 64 }) e
-    ∙ ap (λ t. record { below = []; top = t; place = operand; room = 64 }) f
 
 -- one token, and the others behind it
 one_token : (end : ℕ) (s : State) (count : ℕ) (t : Placed) (ts : List Placed)
@@ -87,40 +80,39 @@ module _ (text : List ℕ) (place : ℕ) (rest : List ℕ) (s : State) (count : 
     room = room ∙ h.room;
   }
 
-  -- where the machine refuses the next token, the reading is refused at its fault
+  -- where the machine refuses the next token, the reading has the token's fault
   stops : (t : Placed) (ts : List Placed) (p : ℕ) → tokens_from place rest ≡ t ∷ ts
       → step s t.token ≡ None → p ≡ fault_place (length text) s.place t
-      → refusal_of (reading_of text) ≡ Some (BadQuery p)
-  stops t ts p e k is = ap refusal_of (reads_on t ts e
+      → Some p ≡ fault_of (reading_of text)
+  stops t ts p e k is = ap (λ x. Some x) is ∙ sym (ap fault_of (reads_on t ts e
       ∙ ap (λ o. after_token (fault_place (length text) s.place t) t o (count + word_count t.token)
-      (λ x. read_tokens (length text) x (count + word_count t.token) ts)) k)
-      ∙ ap (λ x. Some (BadQuery x)) (sym is)
+      (λ x. read_tokens (length text) x (count + word_count t.token) ts)) k))
 
   -- the token can't stand here
   pub stops_here : (t : Placed) (ts : List Placed) (p : ℕ) → tokens_from place rest ≡ t ∷ ts
       → step s t.token ≡ None → pattern_fault s.place t.token ≡ None
-      → p ≡ plain_place (length text) t → refusal_of (reading_of text) ≡ Some (BadQuery p)
+      → p ≡ plain_place (length text) t → Some p ≡ fault_of (reading_of text)
   stops_here t ts p e k f is =
       stops t ts p e k (is ∙ sym (fault_place-plain (length text) s.place t f))
 
   -- its pattern has a fault
   pub stops_within : (t : Placed) (ts : List Placed) (k : ℕ) → tokens_from place rest ≡ t ∷ ts
       → step s t.token ≡ None → pattern_fault s.place t.token ≡ Some k
-      → refusal_of (reading_of text) ≡ Some (BadQuery (t.raw_place + k))
+      → Some (t.raw_place + k) ≡ fault_of (reading_of text)
   stops_within t ts k e none f =
       stops t ts (t.raw_place + k) e none (sym (fault_place-pattern (length text) s.place t k f))
 
   -- it is a word too many
   pub one_too_many : (t : Placed) (ts : List Placed) (s' : State) (n : ℕ)
       → tokens_from place rest ≡ t ∷ ts → step s t.token ≡ Some s' → n ≡ count + word_count t.token
-      → 512 < n → refusal_of (reading_of text) ≡ Some (BadQuery t.place)
+      → 512 < n → Some t.place ≡ fault_of (reading_of text)
   one_too_many t ts s' n e k same many =
       let others : State → Result Query ℕ =
       λ x. read_tokens (length text) x (count + word_count t.token) ts in
-      ap refusal_of (reads_on t ts e ∙ ap (λ o.
+      sym (ap fault_of (reads_on t ts e ∙ ap (λ o.
       after_token (fault_place (length text) s.place t) t o (count + word_count t.token) others) k
       ∙ ap (λ b. if b then others s' else Err t.place) (lt-leb (count + word_count t.token)
-      (most_comparisons + most_comparisons) (subst (λ m. 512 < m) same many)))
+      (most_comparisons + most_comparisons) (subst (λ m. 512 < m) same many))))
 
   -- the text ends here
   pub ends : (o : Option Query) → tokens_from place rest ≡ [] → whole s ≡ o
@@ -135,6 +127,51 @@ module _ (text : List ℕ) (place : ℕ) (rest : List ℕ) (s : State) (count : 
   place_fits t next behind k y total f =
       let bound = pattern_place-bound place rest t next behind s.place k y total f in
       omega (arith, bound, h.room, h.short)
+
+-- ---- a text that reads as a query
+
+-- a reading without a fault passes its test
+pub passes : (b : Bool) (r : Result Query ℕ) (place : ℕ)
+    → fault_of (if b then r else Err place) ≡ None → b ≡ true
+passes true r place fine = refl
+passes false r place fine = cc
+
+-- it takes its token
+taken_by : (fault : ℕ) (t : Placed) (o : Option State) (n : ℕ) (others : State → Result Query ℕ)
+    → fault_of (after_token fault t o n others) ≡ None → IsSome o
+taken_by fault t None n others fine = cc
+taken_by fault t (Some s) n others fine = refl
+
+-- a text that reads isn't too long
+pub reads_short : (text : List ℕ) → fault_of (reading_of text) ≡ None → length text ≤ 4096
+reads_short text fine = leb-true (length text) most_bytes (passes (nat_le (length text) most_bytes)
+    (read_tokens (length text) (start nesting) 0 (tokens_of text)) most_bytes fine)
+
+module _ (text : List ℕ) (place : ℕ) (rest : List ℕ) (s : State) (count : ℕ)
+    (h : SoFar text place rest s count) (fine : fault_of (reading_of text) ≡ None) where
+  -- the next token can be taken
+  pub takes : (t : Placed) (ts : List Placed) → tokens_from place rest ≡ t ∷ ts
+      → IsSome (step s t.token)
+  takes t ts e = taken_by (fault_place (length text) s.place t) t (step s t.token)
+      (count + word_count t.token)
+      (λ x. read_tokens (length text) x (count + word_count t.token) ts)
+      (sym (ap fault_of (reads_on text place rest s count h t ts e)) ∙ fine)
+
+  -- and the text reads on behind it
+  pub reads_further : (t : Placed) (next : ℕ) (behind : List ℕ) (s' : State)
+      → tokens_from place rest ≡ t ∷ tokens_from next behind → step s t.token ≡ Some s'
+      → next + length behind ≡ place + length rest
+      → SoFar text next behind s' (count + word_count t.token)
+  reads_further t next behind s' e k room =
+      let n = count + word_count t.token in
+      let others : State → Result Query ℕ =
+      λ x. read_tokens (length text) x n (tokens_from next behind) in
+      let on = reads_on text place rest s count h t (tokens_from next behind) e
+      ∙ ap (λ o. after_token (fault_place (length text) s.place t) t o n others) k in
+      let few = passes (nat_le n (most_comparisons + most_comparisons)) (others s') t.place
+      (sym (ap fault_of on) ∙ fine) in
+      goes_on text place rest s count h t next behind s' n e k refl
+      (leb-true n (most_comparisons + most_comparisons) few) room
 
 -- ---- the words that are read are texts
 

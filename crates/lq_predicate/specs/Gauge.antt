@@ -1,5 +1,5 @@
 -- What the machine without memory knows of what the machine has read.
-use Rattle.std.specs.Prelude.{◌≡◌, ◌++◌, ℕ, List, [], ◌∷◌, length, map, reverse, Option, None, Some, Result, Ok, Err}
+use Rattle.std.specs.Prelude.{◌≡◌, ◌++◌, ℕ, List, [], ◌∷◌, length, map, reverse, Option, None, Some, Result, Ok, Err, ⊤}
 use Rattle.lq_formula.specs.Canonical.{canonical, depth}
 use Rattle.lq_formula.specs.Capped.{capped}
 use Rattle.lq_formula.specs.Machine.{Frame, Place, operand, after_attr, after_op, after_operand, State, step_at, whole}
@@ -47,13 +47,13 @@ pub record Shows (g : Gauge) (s : State) : Type 0 where
   pub room : g.room ≡ s.room
 
 -- the gauge shows the state behind the token; or none is behind it, and this is its pattern's fault
-abbrev pub IsStepAt : Place → State → Token → Result Gauge (Option ℕ) → Type 0
-IsStepAt p s t (Ok g) =
+abbrev pub IsStepAt : Place → State → Token → Result ⊤ (Option ℕ) → Gauge → Type 0
+IsStepAt p s t (Ok done) g =
     (s' : State) × (step_at p s t ≡ Some s') × (pattern_fault p t ≡ None) × Shows g s'
-IsStepAt p s t (Err k) = (step_at p s t ≡ None) × (pattern_fault p t ≡ k)
+IsStepAt p s t (Err k) g = (step_at p s t ≡ None) × (pattern_fault p t ≡ k)
 
-abbrev pub IsStepOf : State → Token → Result Gauge (Option ℕ) → Type 0
-IsStepOf s t r = IsStepAt s.place s t r
+abbrev pub IsStepOf : State → Token → Result ⊤ (Option ℕ) → Gauge → Type 0
+IsStepOf s t r g = IsStepAt s.place s t r g
 
 -- how great the query is that the state is whole with
 abbrev pub IsEndOf : State → Option Extent → Type 0

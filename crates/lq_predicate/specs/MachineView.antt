@@ -22,13 +22,12 @@ place_of (spots.AfterAttr a) = after_attr a
 place_of (spots.AfterOp a o) = after_op a o
 place_of spots.AfterOperand = after_operand
 
+abbrev pub state_at : Vec Begun Global → Begun → Place → ℕ → State
+state_at below top place room =
+    record { below = below_of below; top = frame_of top; place = place; room = room }
+
 abbrev pub state_of : Machine → State
-state_of m = record {
-  below = below_of m.below;
-  top = frame_of m.top;
-  place = place_of m.spot;
-  room = m.room;
-}
+state_of m = state_at m.below m.top (place_of m.spot) m.room
 
 -- the place in a token where its pattern has a fault, if it is a literal that is read as a pattern
 abbrev pub pattern_fault : Place → Token → Option ℕ

@@ -1,7 +1,7 @@
 -- Why a formula is refused.
-use Rattle.std.specs.Prelude.{◌≡◌, ◌⊎◌, ℕ, Option, Some, None, Result, Ok, Err, IfErr}
+use Rattle.std.specs.Prelude.{ℕ, Option, Some, None, Result, Ok, Err}
 use Rattle.lq_value.specs.declared.refusal.Refusal.{Refusal}
-use Rattle.lq_value.specs.declared.refusal.Refusal.TheVariants.{BadQuery, NoMemory}
+use Rattle.lq_value.specs.declared.refusal.Refusal.TheVariants.{BadQuery}
 use Rattle.lq_formula.specs.Query.{Query}
 
 -- the refusal of a reading: none of a query, and of a fault its place
@@ -13,7 +13,3 @@ refusal_of (Err place) = Some (BadQuery place)
 abbrev pub fault_of : Result Query ℕ → Option ℕ
 fault_of (Ok q) = None
 fault_of (Err place) = Some place
-
--- A refusal of the call is that one, or memory ran out.
-abbrev pub IsRefusedOrFails : {T : Type 0} → Result T Refusal → Option Refusal → Type 0
-IsRefusedOrFails result refusal = IfErr result (λ e. (e ≡ NoMemory) ⊎ (refusal ≡ Some e))

@@ -6,10 +6,18 @@ ghost use Rattle.lq_predicate.specs.PlainPlace.{plain_place};
 ghost use Rattle.lq_predicate.specs.Refusals.{fault_of};
 
 use crate::extent::new_outline;
-use crate::gauge::{Awaited, Gauge, gauge_end, gauge_token};
-use crate::reader::{MOST_BYTES, MOST_DEPTH, MOST_WORDS, NESTING, plain_place, words_of};
+use crate::gauge::{Awaited, Gauge, NESTING, gauge_end, gauge_token};
 use arrayvec::ArrayVec;
-use lq_formula::{Left, Placed, next_token};
+use lq_formula::{Left, Placed, Token, next_token};
+
+/// The most bytes of a formula, and of a predicate's canonical text.
+const MOST_BYTES: usize = 4096;
+
+/// How deep a predicate may be.
+const MOST_DEPTH: usize = 64;
+
+/// The most words: each comparison has two.
+const MOST_WORDS: usize = 512;
 
 // The byte place of a formula's leftmost fault; none where it reads as a query.
 pub(crate) fn fault_place(formula: &str) -> Option<u64>
@@ -38,17 +46,17 @@ fn fault_within(text: &str) -> Option<u64>
     };
     let mut words = 0;
     while let Some((placed, behind)) = next_token(left) {
-        gauge = match gauge_token(gauge, &placed.token) {
-            Ok(next) => next,
+        match gauge_token(&mut gauge, &placed.token) {
+            Ok(()) => {}
             Err(pattern) => return Some(token_place(text.len(), &placed, pattern)),
-        };
+        }
         words += words_of(&placed.token);
         if words > MOST_WORDS {
             return Some(placed.place as u64);
         }
         left = behind;
     }
-    let Some(whole) = gauge_end(gauge) else {
+    let Some(whole) = gauge_end(&gauge) else {
         return Some(text.len() as u64);
     };
     if whole.depth > MOST_DEPTH || whole.bytes > MOST_BYTES {
@@ -66,5 +74,26 @@ fn token_place(end: usize, placed: &Placed, pattern: Option<u64>) -> u64
     match pattern {
         None => plain_place(end, placed) as u64,
         Some(k) => placed.raw_place as u64 + k,
+    }
+}
+
+// Where the fault of a token lies that has no pattern with a fault.
+fn plain_place(end: usize, placed: &Placed) -> usize
+    ensures { result ≡ plain_place end (placed_of placed.now) }
+{
+    match placed.token {
+        Token::Cut => end,
+        _ => placed.place,
+    }
+}
+
+// Whether a token is a word, as a number.
+fn words_of(token: &Token) -> usize
+    ensures value { result ≡ word_count (token_of token.now) }
+    ensures bound { result ≤ 1 }
+{
+    match token {
+        Token::Word(_) => 1,
+        _ => 0,
     }
 }

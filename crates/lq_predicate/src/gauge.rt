@@ -1,5 +1,4 @@
-//! Reading tokens from the left as the machine does, without memory: what is read isn't kept, only
-//! how great it is.
+//! Reading tokens from the left without memory: what is read isn't kept, only how great it is.
 ghost use Rattle.std.specs.Prelude.{◌≡◌, ◌≤◌, ◌+◌, ℕ, List, map, reverse};
 ghost use Rattle.lq_formula.specs.Machine.{Frame, Place, State, after_attr, after_op, after_operand, completed, operand, weight};
 ghost use Rattle.lq_formula.specs.Query.{Query};
@@ -8,10 +7,12 @@ ghost use Rattle.lq_formula.specs.TokenView.{token_of};
 ghost use Rattle.lq_predicate.specs.Gauge.{IsEndOf, IsStepAt, IsStepOf, Shows, behind_or, extent_of, outline_of};
 
 use crate::extent::{Extent, Outline, negated, new_outline, said, together, with_part};
-use crate::reader::NESTING;
 use arrayvec::ArrayVec;
 use lq_formula::{Token, joined_size, raw_literal_size, raw_name_size};
 use lq_value::Op;
+
+/// How deep parentheses and `!` may nest.
+pub(crate) const NESTING: usize = 64;
 
 // What is awaited; of an attribute, how many bytes its name has as canonical text.
 #[derive(Clone, Copy)]
@@ -33,9 +34,9 @@ pub(crate) struct Gauge {
 }
 
 // One token more; else the place in it of its pattern's fault, if that is why.
-pub(crate) fn gauge_token(gauge: Gauge, token: &Token) -> Result<Gauge, Option<u64>>
-    ensures { (s : State) → Shows gauge s → weight s ≤ 64
-        → IsStepOf s (token_of token.now) result }
+pub(crate) fn gauge_token(gauge: &mut Gauge, token: &Token) -> Result<(), Option<u64>>
+    ensures { (s : State) → Shows gauge.old s → weight s ≤ 64
+        → IsStepOf s (token_of token.now) result gauge.new }
 {
     match gauge.awaited {
         Awaited::Operand => at_operand(gauge, token),
@@ -45,16 +46,16 @@ pub(crate) fn gauge_token(gauge: Gauge, token: &Token) -> Result<Gauge, Option<u
     }
 }
 
-fn at_operand(mut gauge: Gauge, token: &Token) -> Result<Gauge, Option<u64>>
-    ensures { (s : State) → Shows gauge s → weight s ≤ 64
-        → IsStepAt operand s (token_of token.now) result }
+fn at_operand(gauge: &mut Gauge, token: &Token) -> Result<(), Option<u64>>
+    ensures { (s : State) → Shows gauge.old s → weight s ≤ 64
+        → IsStepAt operand s (token_of token.now) result gauge.new }
 {
     match token {
         Token::Word(raw) => match raw_name_size(raw) {
             None => Err(None),
             Some(attr) => {
                 gauge.awaited = Awaited::AfterAttr(attr);
-                Ok(gauge)
+                Ok(())
             }
         },
         Token::Opens => {
@@ -68,7 +69,7 @@ fn at_operand(mut gauge: Gauge, token: &Token) -> Result<Gauge, Option<u64>>
             gauge.top = new_outline();
             gauge.awaited = Awaited::Operand;
             gauge.room -= 1;
-            Ok(gauge)
+            Ok(())
         }
         Token::Bang => {
             if gauge.room == 0 {
@@ -77,29 +78,29 @@ fn at_operand(mut gauge: Gauge, token: &Token) -> Result<Gauge, Option<u64>>
             gauge.top.bangs = gauge.top.bangs.saturating_add(1);
             gauge.awaited = Awaited::Operand;
             gauge.room -= 1;
-            Ok(gauge)
+            Ok(())
         }
         _ => Err(None),
     }
 }
 
-fn behind_attr(mut gauge: Gauge, attr: usize, token: &Token) -> Result<Gauge, Option<u64>>
-    ensures { (s : State) (name : List ℕ) → Shows gauge s → attr ≡ name_bytes name
-        → IsStepAt (after_attr name) s (token_of token.now) result }
+fn behind_attr(gauge: &mut Gauge, attr: usize, token: &Token) -> Result<(), Option<u64>>
+    ensures { (s : State) (name : List ℕ) → Shows gauge.old s → attr ≡ name_bytes name
+        → IsStepAt (after_attr name) s (token_of token.now) result gauge.new }
 {
     match token {
         Token::Is(op) => {
             gauge.awaited = Awaited::AfterOp(attr, *op);
-            Ok(gauge)
+            Ok(())
         }
         _ => Err(None),
     }
 }
 
-fn behind_op(gauge: Gauge, attr: usize, op: Op, token: &Token) -> Result<Gauge, Option<u64>>
-    ensures { (s : State) (name : List ℕ) → Shows gauge s → weight s ≤ 64
+fn behind_op(gauge: &mut Gauge, attr: usize, op: Op, token: &Token) -> Result<(), Option<u64>>
+    ensures { (s : State) (name : List ℕ) → Shows gauge.old s → weight s ≤ 64
         → attr ≡ name_bytes name
-        → IsStepAt (after_op name op) s (token_of token.now) result }
+        → IsStepAt (after_op name op) s (token_of token.now) result gauge.new }
 {
     match token {
         Token::Word(raw) => match raw_literal_size(op, raw) {
@@ -108,7 +109,8 @@ fn behind_op(gauge: Gauge, attr: usize, op: Op, token: &Token) -> Result<Gauge, 
                     depth: 1,
                     bytes: joined_size(attr, op, literal),
                 };
-                Ok(complete(part, gauge.below, gauge.top, gauge.room))
+                complete(gauge, part);
+                Ok(())
             }
             Err(place) => Err(Some(place)),
         },
@@ -116,27 +118,29 @@ fn behind_op(gauge: Gauge, attr: usize, op: Op, token: &Token) -> Result<Gauge, 
     }
 }
 
-fn behind_operand(mut gauge: Gauge, token: &Token) -> Result<Gauge, Option<u64>>
-    ensures { (s : State) → Shows gauge s → weight s ≤ 64
-        → IsStepAt after_operand s (token_of token.now) result }
+fn behind_operand(gauge: &mut Gauge, token: &Token) -> Result<(), Option<u64>>
+    ensures { (s : State) → Shows gauge.old s → weight s ≤ 64
+        → IsStepAt after_operand s (token_of token.now) result gauge.new }
 {
     match token {
         Token::Ands => {
             gauge.top.bangs = 0;
             gauge.awaited = Awaited::Operand;
-            Ok(gauge)
+            Ok(())
         }
         Token::Ors => {
             gauge.top = with_or(gauge.top);
             gauge.awaited = Awaited::Operand;
-            Ok(gauge)
+            Ok(())
         }
         Token::Closes => match gauge.below.pop() {
             None => Err(None),
             Some(outline) => {
                 let part = said(gauge.top);
-                let room = gauge.room.saturating_add(1);
-                Ok(complete(part, gauge.below, outline, room))
+                gauge.top = outline;
+                gauge.room = gauge.room.saturating_add(1);
+                complete(gauge, part);
+                Ok(())
             }
         },
         _ => Err(None),
@@ -154,25 +158,22 @@ fn with_or(outline: Outline) -> Outline
 }
 
 // The operand that was awaited is done.
-fn complete(part: Extent, below: ArrayVec<Outline, NESTING>, mut top: Outline, room: usize) -> Gauge
+fn complete(gauge: &mut Gauge, part: Extent)
     ensures { (q : Query) (frames : List Frame) (f : Frame) → part ≡ extent_of q
-        → reverse below.items ≡ map outline_of frames → top ≡ outline_of f → room + f.bangs ≤ 64
-        → Shows result (completed q frames f room) }
+        → reverse gauge.old.below.items ≡ map outline_of frames → gauge.old.top ≡ outline_of f
+        → gauge.old.room + f.bangs ≤ 64
+        → Shows gauge.new (completed q frames f gauge.old.room) }
 {
-    let bangs = top.bangs;
-    top.and_parts = with_part(top.and_parts, negated(part, bangs));
-    top.bangs = 0;
-    Gauge {
-        below,
-        top,
-        awaited: Awaited::AfterOperand,
-        room: room.saturating_add(bangs),
-    }
+    let bangs = gauge.top.bangs;
+    gauge.top.and_parts = with_part(gauge.top.and_parts, negated(part, bangs));
+    gauge.top.bangs = 0;
+    gauge.awaited = Awaited::AfterOperand;
+    gauge.room = gauge.room.saturating_add(bangs);
 }
 
 // How great the query is, where the formula may end here.
-pub(crate) fn gauge_end(gauge: Gauge) -> Option<Extent>
-    ensures { (s : State) → Shows gauge s → IsEndOf s result }
+pub(crate) fn gauge_end(gauge: &Gauge) -> Option<Extent>
+    ensures { (s : State) → Shows gauge.now s → IsEndOf s result }
 {
     match gauge.awaited {
         Awaited::AfterOperand if gauge.below.is_empty() => Some(said(gauge.top)),

@@ -19,12 +19,10 @@ mod laws;
 mod machine;
 mod operand;
 mod predicate;
-mod raw;
 mod reader;
 mod stack;
 mod stack_comparison;
 mod stack_op;
-mod step_fault;
 mod tree;
 mod truth;
 

@@ -1,16 +1,16 @@
-//! Reading tokens from the left, with a stack of what is begun.
-ghost use Rattle.std.specs.Prelude.{◌≡◌, ◌≤◌, ◌<◌, ◌+◌, ◌^◌, ℕ, None, Some, IfOk, IfErr, OnOk};
-ghost use Rattle.lq_formula.specs.Machine.{at_end, at_operand, completed, empty_frame as no_parts, after_operand, open_weight, operand, said_by, step, weight, whole};
-ghost use Rattle.lq_formula.specs.Reading.{pattern_fault_of_word};
+//! Building what a formula says: from its tokens, from the left, with a stack of what is begun. The
+//! formula is known to read, so each token can be taken, and for want of memory alone none is.
+ghost use Rattle.std.specs.Prelude.{◌≡◌, ◌≤◌, ◌<◌, ◌+◌, ◌^◌, None, Some, IfOk, IsSome};
+ghost use Rattle.lq_formula.specs.Machine.{at_end, at_operand, completed, empty_frame as no_parts, after_operand, operand, said_by, start, step, weight, whole};
+ghost use Rattle.lq_formula.specs.Grammar.{nesting};
 ghost use Rattle.lq_formula.specs.TokenView.{token_of};
-ghost use Rattle.lq_predicate.specs.MachineView.{below_of, frame_of, pattern_fault, place_of, state_of};
-ghost use Rattle.lq_predicate.specs.declared.step_fault.StepFault.TheVariants.{Pattern as AtPattern, Refused};
+ghost use Rattle.lq_value.specs.Refusal.{IsRefusedBy};
+ghost use Rattle.lq_predicate.specs.MachineView.{below_of, frame_of, state_at, state_of};
 
-use crate::raw::{read_literal, read_name};
-use crate::step_fault::StepFault;
+use crate::gauge::NESTING;
 use crate::tree::Tree;
-use lq_formula::Token;
-use lq_value::{AttrName, Op};
+use lq_formula::{Token, read_literal, read_name};
+use lq_value::{AttrName, Op, Refusal};
 use std::alloc::{AllocError, Global};
 
 // A formula that is begun: the parts of its or that are done, those of its last and, and the `!`
@@ -40,7 +40,18 @@ pub(crate) struct Machine {
     pub(crate) room: usize,
 }
 
-pub(crate) fn new_frame(alloc: Global) -> Begun
+pub(crate) fn new_machine(alloc: Global) -> Machine
+    ensures { state_of result ≡ start nesting }
+{
+    Machine {
+        below: Vec::new(alloc),
+        top: new_frame(alloc),
+        spot: Spot::Operand,
+        room: NESTING,
+    }
+}
+
+fn new_frame(alloc: Global) -> Begun
     ensures { frame_of result ≡ no_parts }
 {
     Begun {
@@ -87,21 +98,12 @@ fn read_operand(
     mut top: Begun,
     room: usize,
     token: &Token,
-) -> Result<Machine, StepFault>
-    requires { room + (top.bangs + open_weight (below_of below)) ≤ 64 }
-    ensures ok { IfOk result (λ m. at_operand (record {
-      below = below_of below;
-      top = frame_of top;
-      place = operand;
-      room = room;
-    }) (token_of token.now) ≡ Some (state_of m)) }
-    ensures err { IfErr result (λ e. e ≡ Refused → at_operand (record {
-      below = below_of below;
-      top = frame_of top;
-      place = operand;
-      room = room;
-    }) (token_of token.now) ≡ None) }
-    ensures never { IfErr result (λ e. (k : ℕ) → e ≡ AtPattern k → ⊥) }
+) -> Result<Machine, Refusal>
+    requires light { weight (state_at below top operand room) ≤ 64 }
+    requires taken { IsSome (at_operand (state_at below top operand room) (token_of token.now)) }
+    ensures value { IfOk result (λ m. at_operand (state_at below top operand room)
+        (token_of token.now) ≡ Some (state_of m)) }
+    ensures refused { IsRefusedBy result None }
 {
     match token {
         Token::Word(word) => {
@@ -114,9 +116,6 @@ fn read_operand(
             })
         }
         Token::Opens => {
-            if room == 0 {
-                return Err(StepFault::Refused);
-            }
             below.push(top)?;
             Ok(Machine {
                 below,
@@ -126,9 +125,6 @@ fn read_operand(
             })
         }
         Token::Bang => {
-            if room == 0 {
-                return Err(StepFault::Refused);
-            }
             top.bangs += 1;
             Ok(Machine {
                 below,
@@ -137,7 +133,7 @@ fn read_operand(
                 room: room - 1,
             })
         }
-        _ => Err(StepFault::Refused),
+        _ => unreachable!(),
     }
 }
 
@@ -147,21 +143,12 @@ fn read_behind_operand(
     mut top: Begun,
     room: usize,
     token: &Token,
-) -> Result<Machine, StepFault>
-    requires { room + (top.bangs + open_weight (below_of below)) ≤ 64 }
-    ensures ok { IfOk result (λ m. at_end (record {
-      below = below_of below;
-      top = frame_of top;
-      place = after_operand;
-      room = room;
-    }) (token_of token.now) ≡ Some (state_of m)) }
-    ensures err { IfErr result (λ e. e ≡ Refused → at_end (record {
-      below = below_of below;
-      top = frame_of top;
-      place = after_operand;
-      room = room;
-    }) (token_of token.now) ≡ None) }
-    ensures never { IfErr result (λ e. (k : ℕ) → e ≡ AtPattern k → ⊥) }
+) -> Result<Machine, Refusal>
+    requires light { weight (state_at below top after_operand room) ≤ 64 }
+    requires taken { IsSome (at_end (state_at below top after_operand room) (token_of token.now)) }
+    ensures value { IfOk result (λ m. at_end (state_at below top after_operand room)
+        (token_of token.now) ≡ Some (state_of m)) }
+    ensures refused { IsRefusedBy result None }
 {
     match token {
         Token::Ands => {
@@ -191,33 +178,24 @@ fn read_behind_operand(
                 room,
             })
         }
-        Token::Closes => match below.pop() {
-            None => Err(StepFault::Refused),
-            Some(frame) => {
-                let tree = said(top)?;
-                Ok(complete(alloc, tree, below, frame, room + 1)?)
-            }
-        },
-        _ => Err(StepFault::Refused),
+        Token::Closes => {
+            let Some(frame) = below.pop() else {
+                unreachable!()
+            };
+            let tree = said(top)?;
+            Ok(complete(alloc, tree, below, frame, room + 1)?)
+        }
+        _ => unreachable!(),
     }
 }
 
 // One token more.
-pub(crate) fn read_token(
-    alloc: Global,
-    machine: Machine,
-    token: &Token,
-) -> Result<Machine, StepFault>
-    requires { weight (state_of machine) ≤ 64 }
-    ensures ok { IfOk result
+pub(crate) fn read_token(alloc: Global, machine: Machine, token: &Token) -> Result<Machine, Refusal>
+    requires light { weight (state_of machine) ≤ 64 }
+    requires taken { IsSome (step (state_of machine) (token_of token.now)) }
+    ensures value { IfOk result
         (λ m. step (state_of machine) (token_of token.now) ≡ Some (state_of m)) }
-    ensures fine { OnOk result (pattern_fault (place_of machine.spot) (token_of token.now) ≡ None) }
-    ensures err { IfErr result (λ e. e ≡ Refused
-        → (step (state_of machine) (token_of token.now) ≡ None)
-        × (pattern_fault (place_of machine.spot) (token_of token.now) ≡ None)) }
-    ensures pattern { IfErr result (λ e. (k : ℕ) → e ≡ AtPattern k
-        → (step (state_of machine) (token_of token.now) ≡ None)
-        × (pattern_fault (place_of machine.spot) (token_of token.now) ≡ Some k)) }
+    ensures refused { IsRefusedBy result None }
 {
     let Machine {
         below,
@@ -227,40 +205,30 @@ pub(crate) fn read_token(
     } = machine;
     match spot {
         Spot::Operand => read_operand(alloc, below, top, room, token),
-        Spot::AfterAttr(attr) => match token {
-            Token::Is(op) => Ok(Machine {
+        Spot::AfterAttr(attr) => {
+            let Token::Is(op) = token else { unreachable!() };
+            Ok(Machine {
                 below,
                 top,
                 spot: Spot::AfterOp(attr, *op),
                 room,
-            }),
-            _ => Err(StepFault::Refused),
-        },
-        Spot::AfterOp(attr, op) => match token {
-            Token::Word(word) => {
-                let literal = read_literal(alloc, op, word)?;
-                let tree = Tree::compare(attr, op, literal);
-                Ok(complete(alloc, tree, below, top, room)?)
-            }
-            _ => Err(StepFault::Refused),
-        },
+            })
+        }
+        Spot::AfterOp(attr, op) => {
+            let Token::Word(word) = token else {
+                unreachable!()
+            };
+            let tree = Tree::compare(attr, op, read_literal(alloc, op, word)?);
+            Ok(complete(alloc, tree, below, top, room)?)
+        }
         Spot::AfterOperand => read_behind_operand(alloc, below, top, room, token),
     }
 }
 
-// The query, where the formula may end here.
-pub(crate) fn end_of(machine: Machine) -> Result<Tree, StepFault>
-    ensures ok { IfOk result (λ tree. whole (state_of machine) ≡ Some tree) }
-    ensures err { IfErr result (λ e. e ≡ Refused → whole (state_of machine) ≡ None) }
+// The query, where the formula ends.
+pub(crate) fn end_of(machine: Machine) -> Result<Tree, AllocError>
+    requires { IsSome (whole (state_of machine)) }
+    ensures { IfOk result (λ tree. whole (state_of machine) ≡ Some tree) }
 {
-    let Machine {
-        below,
-        top,
-        spot,
-        room: _,
-    } = machine;
-    match spot {
-        Spot::AfterOperand if below.is_empty() => Ok(said(top)?),
-        _ => Err(StepFault::Refused),
-    }
+    said(machine.top)
 }

@@ -2,7 +2,7 @@ use Rattle.std.proofs.Common.{arith, refl, reverse, ap, ◌+◌}
 use Rattle.lq_formula.specs.Grammar.{nesting}
 use Rattle.lq_formula.specs.Machine.{start}
 use Rattle.lq_formula.specs.TokenView.{placed_of}
-use Rattle.lq_predicate.proofs.ReadLemmas.{fault_is, fault_of-none, fits, token_fits, token_stops, too_great}
+use Rattle.lq_predicate.proofs.ReadLemmas.{fault_of-none, fits, token_fits, token_stops, too_great}
 use Rattle.lq_predicate.proofs.SoFarLemmas.{starts, goes_on, one_too_many, ends}
 use Rattle.lq_predicate.proofs.fault_place.fault_within.Goals as goal
 
@@ -36,9 +36,8 @@ pub returns-then-words-gt-MOST_WORDS : goal.returns-then-words-gt-MOST_WORDS
 returns-then-words-gt-MOST_WORDS c =
     let i = c.loop-placed.invariant in
     let h = c.in-Ok.ensures i.0 i.1 i.2.small in
-    fault_is _ _
-    (one_too_many _ _ _ _ _ i.2 (placed_of c.in-Some.placed) _ _ _ c.in-Some.ensures.first h.1 (ap
-    (λ n. c.loop-placed.words + n) c.words_of-words.ensures.value) c.if-words-gt-MOST_WORDS.true)
+    one_too_many _ _ _ _ _ i.2 (placed_of c.in-Some.placed) _ _ _ c.in-Some.ensures.first h.1
+    (ap (λ n. c.loop-placed.words + n) c.words_of-words.ensures.value) c.if-words-gt-MOST_WORDS.true
 
 pub loop-placed-preserved : goal.loop-placed-preserved
 loop-placed-preserved c =

@@ -3,4 +3,4 @@ use Rattle.lq_predicate.proofs.gauge.behind_attr.Goals as goal
 
 pub returns-in-Is : goal.returns-in-Is
 returns-in-Is c =
-    λ s name h is. rw c.in-Is.is (op_read c.args.gauge s name c.args.attr c.in-Is.op h is)
+    λ s name h is. rw c.in-Is.is (op_read c.args.gauge.now s name c.args.attr c.in-Is.op h is)

@@ -2,13 +2,13 @@ use Rattle.lq_predicate.proofs.GaugeLemmas.{ands_read, ors_read, closed}
 use Rattle.lq_predicate.proofs.gauge.behind_operand.Goals as goal
 
 pub returns-in-Ands : goal.returns-in-Ands
-returns-in-Ands c = λ s h light. rw c.in-Ands.is (ands_read c.args.gauge s h)
+returns-in-Ands c = λ s h light. rw c.in-Ands.is (ands_read c.args.gauge.now s h)
 
 pub returns-in-Ors : goal.returns-in-Ors
 returns-in-Ors c =
-    λ s h light. rw c.in-Ors.is (ors_read c.args.gauge s _ h (c.with_or-gauge.ensures s.top h.top))
+    λ s h light. rw c.in-Ors.is (ors_read c.args.gauge.now s _ h (c.with_or-gauge.ensures s.top h.top))
 
 pub returns-in-Some : goal.returns-in-Some
-returns-in-Some c = λ s h light. rw c.in-Closes.is (closed c.args.gauge s c.pop.new.self
+returns-in-Some c = λ s h light. rw c.in-Closes.is (closed c.args.gauge.now s c.pop.new.self
     c.in-Some.outline c.said-part.result _ _ h light c.in-Some.ensures.items
-    (c.said-part.ensures s.top h.top) c.saturating_add-room.ensures c.complete.ensures)
+    (c.said-part.ensures s.top h.top) c.saturating_add-gauge.ensures c.complete.ensures)

@@ -1,11 +1,11 @@
-use Rattle.std.proofs.Common.{length}
+use Rattle.std.proofs.Common.{ℕ, length}
 use Rattle.lq_predicate.specs.MachineView.{state_of}
 use Rattle.lq_predicate.proofs.SoFarLemmas.{SoFar, TextsSoFar}
-use Rattle.lq_predicate.proofs.reader.read_whole.Given as goal
+use Rattle.lq_predicate.proofs.reader.build.Given as goal
 
 abbrev pub invariant-loop-placed : goal.invariant-loop-placed
 invariant-loop-placed l = record {
-  so_far : SoFar l.text l.left.place l.left.rest.now (state_of l.machine) l.words;
+  so_far : (count : ℕ) × SoFar l.text l.left.place l.left.rest.now (state_of l.machine) count;
   texts : TextsSoFar l.text l.left.place l.left.rest.now;
 }
 
