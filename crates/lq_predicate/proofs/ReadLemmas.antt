@@ -47,7 +47,8 @@ ends_whole end (Some q) fine = refl
 pub reads_whole : (end : ℕ) (q : Query) → fault_of (finished end (Some q)) ≡ None
     → finished end (Some q) ≡ Ok q
 reads_whole end q fine = ap (λ b. if b then Ok q else Err end)
-    (passes (nat_le (depth q) most_depth && nat_le (length (canonical q)) most_bytes) (Ok q) end fine)
+    (passes (nat_le (depth q) most_depth && nat_le (length (canonical q)) most_bytes)
+    (Ok q) end fine)
 
 -- ---- without memory
 

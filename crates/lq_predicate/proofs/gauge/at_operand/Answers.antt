@@ -2,11 +2,13 @@ use Rattle.lq_predicate.proofs.GaugeLemmas.{no_name, name_read, never_full, open
 use Rattle.lq_predicate.proofs.gauge.at_operand.Goals as goal
 
 pub returns-in-None : goal.returns-in-None
-returns-in-None c = λ s h light. rw c.in-Word.is (no_name c.args.gauge.now s c.in-Word.raw.now c.in-None.ensures)
+returns-in-None c = λ s h light.
+    rw c.in-Word.is (no_name c.args.gauge.now s c.in-Word.raw.now c.in-None.ensures)
 
 pub returns-in-Some : goal.returns-in-Some
 returns-in-Some c = λ s h light.
-    rw c.in-Word.is (name_read c.args.gauge.now s c.in-Word.raw.now c.in-Some.attr h c.in-Some.ensures)
+    rw c.in-Word.is
+    (name_read c.args.gauge.now s c.in-Word.raw.now c.in-Some.attr h c.in-Some.ensures)
 
 pub returns-in_default-try_push : goal.returns-in_default-try_push
 returns-in_default-try_push c = λ s h light. absurd

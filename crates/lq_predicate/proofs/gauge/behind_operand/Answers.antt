@@ -6,7 +6,8 @@ returns-in-Ands c = λ s h light. rw c.in-Ands.is (ands_read c.args.gauge.now s 
 
 pub returns-in-Ors : goal.returns-in-Ors
 returns-in-Ors c =
-    λ s h light. rw c.in-Ors.is (ors_read c.args.gauge.now s _ h (c.with_or-gauge.ensures s.top h.top))
+    λ s h light. rw c.in-Ors.is (ors_read c.args.gauge.now s _ h
+    (c.with_or-gauge.ensures s.top h.top))
 
 pub returns-in-Some : goal.returns-in-Some
 returns-in-Some c = λ s h light. rw c.in-Closes.is (closed c.args.gauge.now s c.pop.new.self
