@@ -15,7 +15,7 @@ use Rattle.lq_volume.specs.Laws.{ChangesCount}
 use Rattle.lq_volume.specs.Book.{Book, grown, number_of, state_of, state_at}
 use Rattle.lq_update.specs.Updates.{updates_of, updates_from}
 use Rattle.lq_update.specs.Laws.{UpdatesJoin}
-use Rattle.lq_world.specs.World.{World, Sub, told, slot_at, after_change, taken_before_free}
+use Rattle.lq_world.specs.World.{World, Sub, updates_due, slot_at, after_change, taken_before_free}
 use Rattle.lq_world.specs.declared.event.Event.{Event}
 use Rattle.lq_world.specs.declared.event.Event.TheVariants.{Change, Open, At}
 use Rattle.lq_world.specs.declared.event.Act.TheVariants as act
@@ -136,11 +136,11 @@ module _ (count : ChangesCount) where
       ≡ slot_for w.book (opened_now w q port backlog moved)
   fresh-same w q port backlog moved =
       let s = opened_now w q port backlog moved in
-      let none : [] ≡ told w.book s = sym (nothing_told q moved w.book (number_of w.book)) in
+      let none : [] ≡ updates_due w.book s = sym (nothing_told q moved w.book (number_of w.book)) in
       ap (λ n. fresh_slot q moved n port backlog) (numbered w.book)
-      ∙ kept_alike s 0 (length (told w.book s)) []
-      (told w.book s) None None false (nat_lt (length (told w.book s)) 0) [] []
-      (ap length none) none refl (not-below (length (told w.book s))) refl
+      ∙ kept_alike s 0 (length (updates_due w.book s)) []
+      (updates_due w.book s) None None false (nat_lt (length (updates_due w.book s)) 0) [] []
+      (ap length none) none refl (not-below (length (updates_due w.book s))) refl
 
   -- an opening is answered alike
   opening-same : (w : World) (q : Query) (port backlog : ℕ) (moved : Bool) (r : Option Refusal)

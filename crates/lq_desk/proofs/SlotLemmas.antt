@@ -13,10 +13,10 @@ use Rattle.lq_update.specs.declared.parcel.Parcel.{Parcel}
 use Rattle.lq_update.specs.declared.parcel.Parcel.TheVariants.{Update, Fin}
 use Rattle.lq_update.specs.Updates.{updates_of, step_of}
 use Rattle.lq_update.specs.Laws.{UpdatesJoin}
-use Rattle.lq_world.specs.World.{Sub, End, covered_by, covered, told, mark_behind, whole, is_live, is_over, with_end, one_more_put, first_in_port, overruns, overrun_if, after_change}
+use Rattle.lq_world.specs.World.{Sub, End, covered_by, covered, updates_due, mark_behind, whole, is_live, is_over, with_end, one_more_put, first_in_port, overruns, overrun_if, after_change}
 use Rattle.lq_world.specs.Events.{Moved, Read, Ended, Empty, Noticed, Shut, putting_if, putting, reading_if, reading, hanging_up, noticing_if, noticing, closing_if, closing, finishing_if, finishing}
 use Rattle.lq_world.specs.Fair.{IsFair}
-use Rattle.lq_desk.specs.Held.{Held, next_of, without, ended_by, told_if, with_messages, next_parcel}
+use Rattle.lq_desk.specs.Held.{Held, next_of, without, ended_by, after_messages_by, with_messages, next_parcel}
 use Rattle.lq_desk.specs.Held as h
 use Rattle.lq_desk.specs.Slot.{KeptSlot, slot_after, put_if, put_slot, is_read, read_if, read_slot, ask_slot, notice_if, notice_slot, close_if, close_slot, finish_if, finish_slot}
 use Rattle.lq_desk.specs.Kept.{mark_of, held_for, slot_for}
@@ -72,7 +72,7 @@ next-at (u ∷ us) n (suc i) o =
 
 -- the same, of a subscription in a world
 pub next-same : (b : Book) (s : Sub) → next_parcel (held_for b s) ≡ slice_get (whole b s) s.put
-next-same b s = next-at (told b s) (length (told b s)) s.put s.end
+next-same b s = next-at (updates_due b s) (length (updates_due b s)) s.put s.end
 
 -- a message of the list is among the updates, a mark behind them
 message-at : (us : List Message) (n i : ℕ) (o : Option End) (m : Message)
@@ -101,12 +101,13 @@ held_alike h ms ns x y p q = cc
 pub without-same : (b : Book) (s : Sub) (p : Parcel) → slice_get (whole b s) s.put ≡ Some p
     → without (held_for b s) (Some p) ≡ held_for b (one_more_put s)
 without-same b s (Update m) at =
-    let inside = message-at (told b s) (length (told b s)) s.put s.end m at in
-    held_alike (held_for b s) _ _ _ _ (drop-one_more s.put (told b s)) (grind (arith, nat_tests))
+    let inside = message-at (updates_due b s) (length (updates_due b s)) s.put s.end m at in
+    held_alike (held_for b s) _ _ _ _ (drop-one_more s.put (updates_due b s))
+    (grind (arith, nat_tests))
 without-same b s (Fin m) at =
-    let behind = mark-at (told b s) (length (told b s)) s.put s.end m at in
-    held_alike (held_for b s) _ _ _ _ (drop-all s.put (told b s) (omega arith)
-    ∙ sym (drop-all (s.put + 1) (told b s) (omega arith))) (grind (arith, nat_tests))
+    let behind = mark-at (updates_due b s) (length (updates_due b s)) s.put s.end m at in
+    held_alike (held_for b s) _ _ _ _ (drop-all s.put (updates_due b s) (omega arith)
+    ∙ sym (drop-all (s.put + 1) (updates_due b s) (omega arith))) (grind (arith, nat_tests))
 
 -- ---- the port
 
@@ -165,9 +166,11 @@ read-alike t p l k n (Some e) put list taken wait = grind (arith, nat_tests)
 -- all is read in the slot just where it is over in the world
 pub is_read-same : (b : Book) (s : Sub) → IsFair b s → is_read (slot_for b s) ≡ is_over b s
 is_read-same b s f =
-    read-alike (length (told b s)) s.put (length (whole b s)) s.taken _ s.end f.put
-    (length-append (parcels (told b s)) (mark_behind (length (told b s)) s.end) ∙ ap (λ n. n
-    + length (mark_behind (length (told b s)) s.end)) (length-map (λ m. Update m) (told b s)))
+    read-alike (length (updates_due b s)) s.put (length (whole b s)) s.taken _ s.end f.put
+    (length-append (parcels (updates_due b s)) (mark_behind (length (updates_due b s)) s.end)
+    ∙ ap (λ n. n
+    + length (mark_behind (length (updates_due b s)) s.end))
+    (length-map (λ m. Update m) (updates_due b s)))
     f.taken (queue-length b s f)
 
 -- a read is answered alike, of a parcel or of none
@@ -211,22 +214,23 @@ live-same n None = refl
 live-same n (Some e) = refl
 
 -- one that hasn't ended is told its messages alone
-whole-live : (b : Book) (s : Sub) → s.end ≡ None → whole b s ≡ parcels (told b s)
+whole-live : (b : Book) (s : Sub) → s.end ≡ None → whole b s ≡ parcels (updates_due b s)
 whole-live b s live =
-    ap (λ o. parcels (told b s) ++ mark_behind (length (told b s)) o) live ∙ append-nil _
+    ap (λ o. parcels (updates_due b s) ++ mark_behind (length (updates_due b s)) o) live
+    ∙ append-nil _
 
 -- and those are all up to the book's number
 told-live : (b : Book) (s : Sub) → s.end ≡ None
-    → told b s ≡ updates_of s.query s.moved b s.opened (number_of b)
+    → updates_due b s ≡ updates_of s.query s.moved b s.opened (number_of b)
 told-live b s live = ap (λ o. updates_of s.query s.moved b s.opened (covered_by b o)) live
 
 -- one that ends, where its list up to its end is what it was told
 end-same : (b d : Book) (s : Sub) (cause : Cause) (n : ℕ) → IsFair b s → s.end ≡ None
-    → updates_of s.query s.moved d s.opened n ≡ told b s
+    → updates_of s.query s.moved d s.opened n ≡ updates_due b s
     → record (slot_for b s) { held = ended_by (held_for b s) cause n }
     ≡ slot_for d (with_end s cause n)
 end-same b d s cause n f live same =
-    let us = told b s in
+    let us = updates_due b s in
     let e : End = record { cause = cause; change = n } in
     let inside : s.put ≤ length (parcels us) =
     omega (arith, f.put, ap length (whole-live b s live)) in
@@ -243,7 +247,7 @@ end-same b d s cause n f live same =
 pub notice-same : (b : Book) (s : Sub) → IsFair b s → notice_slot (number_of b) (slot_for b s)
     ≡ ((noticing b s).0, option_map (slot_for b) (noticing b s).1)
 notice-same b s f = ap (λ x. notice_if (number_of b) (slot_for b s) (x && s.hang_up_asked))
-    (live-same (length (told b s)) s.end) ∙ by (is_live s && s.hang_up_asked) refl
+    (live-same (length (updates_due b s)) s.end) ∙ by (is_live s && s.hang_up_asked) refl
   where
     by : (x : Bool) → (is_live s && s.hang_up_asked) ≡ x → notice_if (number_of b) (slot_for b s) x
         ≡ ((noticing_if b s x).0, option_map (slot_for b) (noticing_if b s x).1)
@@ -256,7 +260,8 @@ notice-same b s f = ap (λ x. notice_if (number_of b) (slot_for b s) (x && s.han
 -- a closing is answered alike
 pub close-same : (b : Book) (s : Sub) → IsFair b s → close_slot (number_of b) (slot_for b s)
     ≡ ((closing b s).0, option_map (slot_for b) (closing b s).1)
-close-same b s f = ap (close_if (number_of b) (slot_for b s)) (live-same (length (told b s)) s.end)
+close-same b s f = ap (close_if (number_of b) (slot_for b s))
+    (live-same (length (updates_due b s)) s.end)
     ∙ by (is_live s) refl
   where
     by : (x : Bool) → is_live s ≡ x → close_if (number_of b) (slot_for b s) x
@@ -281,12 +286,12 @@ module _ (join : UpdatesJoin) (b : Book) (c : Change_) (s : Sub) (f : IsFair b s
       → slot_after (state_of b) c (slot_for b s) ≡ slot_for after (after_change b c s)
   ended-same e is =
       let to : covered b s ≡ e.change = ap (covered_by b) is in
-      let told_same : told after s ≡ told b s =
+      let told_same : updates_due after s ≡ updates_due b s =
       ap (λ o. updates_of s.query s.moved after s.opened (covered_by after o)) is
       ∙ (updates_of-stays s.query s.moved b (c ∷ []) s.opened e.change f.begun
       (omega (arith, f.opened, to)) (omega (arith, f.covered, to))
       ∙ ap (λ o. updates_of s.query s.moved b s.opened (covered_by b o)) (sym is)) in
-      ap (λ o. if is_none (option_map (mark_of (length (told b s))) o)
+      ap (λ o. if is_none (option_map (mark_of (length (updates_due b s))) o)
       then record (slot_for b s) { held = h.held_after (state_of b) c (held_for b s) }
       else slot_for b s) is
       ∙ (sym
@@ -297,19 +302,24 @@ module _ (join : UpdatesJoin) (b : Book) (c : Change_) (s : Sub) (f : IsFair b s
   module _ (live : s.end ≡ None) where
     -- the messages of that change
     abbrev step : List Message
-    step = step_of s.query s.moved (state_of b) c (length (told b s) + 1)
+    step = step_of s.query s.moved (state_of b) c (length (updates_due b s) + 1)
 
     -- no more was put than it was told
-    put_inside : s.put ≤ length (told b s)
+    put_inside : s.put ≤ length (updates_due b s)
     put_inside =
-        omega (arith, f.put, ap length (whole-live b s live), length-map (λ m. Update m) (told b s))
+        omega (
+          arith,
+          f.put,
+          ap length (whole-live b s live),
+          length-map (λ m. Update m) (updates_due b s),
+        )
 
     -- it was opened by the book's number
     opened_before : s.opened ≤ number_of b
     opened_before = omega (arith, f.opened, ap (covered_by b) live)
 
     -- it is told the messages of that change too
-    told-after : told after s ≡ told b s ++ step
+    told-after : updates_due after s ≡ updates_due b s ++ step
     told-after =
         told-live after s live
         ∙ (updates_of-change join s.query s.moved b c s.opened opened_before
@@ -319,7 +329,7 @@ module _ (join : UpdatesJoin) (b : Book) (c : Change_) (s : Sub) (f : IsFair b s
     -- if they are held, the slot is what it leaves after the change
     goes-on : record (slot_for b s) { held = with_messages (held_for b s) step } ≡ slot_for after s
     goes-on =
-        let us = told b s in
+        let us = updates_due b s in
         let inside : s.put ≤ length (parcels us) =
         omega (arith, f.put, ap length (whole-live b s live)) in
         let front : take s.put (whole b s) ≡ take s.put (whole after s) =
@@ -329,19 +339,20 @@ module _ (join : UpdatesJoin) (b : Book) (c : Change_) (s : Sub) (f : IsFair b s
         ∙ ap (take s.put) (sym (whole-live after s live)))) in
         let out : nat_lt (length us) s.put ≡ nat_lt (length us + length step) s.put =
         grind (arith, nat_tests, put_inside) in
-        let size : length us + length step ≡ length (told after s) = sym (length-append us step)
+        let size : length us + length step ≡ length (updates_due after s)
+        = sym (length-append us step)
         ∙ ap length (sym told-after) in
         kept_alike s _ _ _ _ _ _ _ _ _ _ size
         (sym (drop-inside s.put us step put_inside) ∙ ap (drop s.put) (sym told-after))
         (ap (option_map (mark_of (length us))) live
-        ∙ sym (ap (option_map (mark_of (length (told after s)))) live))
+        ∙ sym (ap (option_map (mark_of (length (updates_due after s)))) live))
         (out ∙ ap (λ n. nat_lt n s.put) size)
         (ap (drop s.taken) front)
 
     -- a live one's slot after the change is what it leaves then
     live-same_after : slot_after (state_of b) c (slot_for b s) ≡ slot_for after (after_change b c s)
     live-same_after =
-        ap (λ o. if is_none (option_map (mark_of (length (told b s))) o)
+        ap (λ o. if is_none (option_map (mark_of (length (updates_due b s))) o)
         then record (slot_for b s) { held = h.held_after (state_of b) c (held_for b s) }
         else slot_for b s) live
         ∙ (by (overruns b c s)
@@ -349,7 +360,7 @@ module _ (join : UpdatesJoin) (b : Book) (c : Change_) (s : Sub) (f : IsFair b s
       where
         by : (x : Bool) → record (slot_for b s) {
           held =
-              told_if (held_for b s) step (state_of b).number x;
+              after_messages_by (held_for b s) step (state_of b).number x;
         } ≡ slot_for after (overrun_if b s x)
         by true =
             ap (λ n. record (slot_for b s) { held = ended_by (held_for b s) Overrun n }) numbered

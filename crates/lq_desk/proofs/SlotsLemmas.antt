@@ -18,7 +18,7 @@ use Rattle.lq_value.specs.declared.refusal.Refusal.TheVariants.{NotOpen}
 use Rattle.lq_world.specs.declared.event.Event.TheVariants.{At}
 use Rattle.lq_world.specs.declared.event.Act.{Act}
 use Rattle.lq_world.specs.declared.event.Act.TheVariants as act
-use Rattle.lq_desk.specs.Held.{Held, is_live, held_after, committed, ended_by, told, told_if, overruns}
+use Rattle.lq_desk.specs.Held.{Held, is_live, held_after, committed, ended_by, after_messages, after_messages_by, overruns}
 use Rattle.lq_desk.specs.Slot.{KeptSlot, PreparedSlot, slot_of, prepared_slot, committed_slot, slot_after, put_if, read_if, notice_if, close_if, finish_if, done_at, filled, has_ready, is_ending, noticed}
 use Rattle.lq_desk.specs.Act.{act_of, outcome_at, outcome_in}
 use Rattle.lq_desk.specs.Kept.{Kept, IsFew, kept_at, at_place, kept_outcome}
@@ -177,13 +177,14 @@ held-none h sent messages p q = ap (λ n. record h { sent = n; messages = messag
     ∙ ap (λ ms. record h { messages = ms }) q
 
 -- where there are no messages, none are told
-told-none : (h : Held) (ready : List Message) (before : ℕ) → ready ≡ [] → told h ready before ≡ h
-told-none h ready before none = ap (λ ms. told h ms before) none
+told-none : (h : Held) (ready : List Message) (before : ℕ) → ready ≡ []
+    → after_messages h ready before ≡ h
+told-none h ready before none = ap (λ ms. after_messages h ms before) none
     ∙ held-none h (h.sent + 0) (h.messages ++ []) (omega arith) (append-nil h.messages)
 
 -- and the slot is as before
 committed-none : (p : PreparedSlot) → p.sub.ready ≡ [] → record p { sub = committed p.sub } ≡ p
-committed-none p none = same (told p.sub.held p.sub.ready p.sub.before) []
+committed-none p none = same (after_messages p.sub.held p.sub.ready p.sub.before) []
     (told-none p.sub.held p.sub.ready p.sub.before none) (sym none)
   where
     same : (h : Held) (ms : List Message) → h ≡ p.sub.held → ms ≡ p.sub.ready
@@ -214,7 +215,8 @@ committed-ends p is = by (is_live p.sub.held) refl is
         → is_ending (slot_of (if x then record p { sub = committed p.sub } else p)) ≡ true
         → is_ending (slot_of p) ≡ true
     by true live is = ap (λ x. x && p.hang_up_asked) live
-        ∙ (both-true (is_live (told p.sub.held p.sub.ready p.sub.before)) p.hang_up_asked is).1
+        ∙ (both-true (is_live (after_messages p.sub.held p.sub.ready p.sub.before))
+        p.hang_up_asked is).1
     by false live is = is
 
 -- ---- how many messages were made
@@ -222,7 +224,8 @@ committed-ends p is = by (is_live p.sub.held) refl is
 -- a change makes at most three messages of a subscription
 pub few-told : StepsAreFew → (s : State) (c : Change_) (h : Held) (x : Bool) → IsVolume s
     → IsLawful s c → h.sent ≤ 3 * s.number
-    → (told_if h (step_of h.query h.moved s c (h.sent + 1)) s.number x).sent ≤ 3 * (s.number + 1)
+    → (after_messages_by h (step_of h.query h.moved s c (h.sent + 1)) s.number x).sent
+    ≤ 3 * (s.number + 1)
 few-told steps s c h true v lawful le = omega (arith, le)
 few-told steps s c h false v lawful le =
     omega (arith, le, steps h.query h.moved s c (h.sent + 1) v lawful)

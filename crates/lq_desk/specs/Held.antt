@@ -66,17 +66,17 @@ overruns h messages =
     nat_lt 0 (length messages) && nat_lt h.backlog (length h.messages + length messages)
 
 -- they are held, or it ends before their change
-abbrev pub told_if : Held → List Message → ℕ → Bool → Held
-told_if h messages before true = ended_by h Overrun before
-told_if h messages before false = with_messages h messages
+abbrev pub after_messages_by : Held → List Message → ℕ → Bool → Held
+after_messages_by h messages before true = ended_by h Overrun before
+after_messages_by h messages before false = with_messages h messages
 
 -- with the messages of a change held, or ended before it if they are too many
-abbrev pub told : Held → List Message → ℕ → Held
-told h messages before = told_if h messages before (overruns h messages)
+abbrev pub after_messages : Held → List Message → ℕ → Held
+after_messages h messages before = after_messages_by h messages before (overruns h messages)
 
 -- after a change to the state, of a live one
 abbrev pub held_after : State → Change → Held → Held
-held_after s c h = told h (step_of h.query h.moved s c (h.sent + 1)) s.number
+held_after s c h = after_messages h (step_of h.query h.moved s c (h.sent + 1)) s.number
 
 -- with the messages of the change made
 abbrev pub prepared : State → Change → Prepared → Prepared
@@ -85,7 +85,7 @@ prepared s c p =
 
 -- with those messages told
 abbrev pub committed : Prepared → Prepared
-committed p = record p { held = told p.held p.ready p.before; ready = [] }
+committed p = record p { held = after_messages p.held p.ready p.before; ready = [] }
 
 -- as it is held, without the messages that are made
 abbrev pub held_of : Prepared → Held

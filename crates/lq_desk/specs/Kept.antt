@@ -11,7 +11,7 @@ use Rattle.lq_volume.specs.Change.{after, refused, node_of}
 use Rattle.lq_volume.specs.Result.{result_of}
 use Rattle.lq_volume.specs.Book.{Book, state_of}
 use Rattle.lq_update.specs.declared.mark.Mark.{Mark}
-use Rattle.lq_world.specs.World.{World, Sub, End, told, waiting, in_port}
+use Rattle.lq_world.specs.World.{World, Sub, End, updates_due, waiting, in_port}
 use Rattle.lq_world.specs.declared.event.Event.{Event}
 use Rattle.lq_world.specs.declared.event.Event.TheVariants.{Change, Open, At}
 use Rattle.lq_world.specs.Events.{Answer, Changed, Opened, Refused, opening_refusals}
@@ -121,10 +121,10 @@ held_for b s = record {
   moved = s.moved;
   opened = s.opened;
   backlog = s.backlog;
-  sent = length (told b s);
+  sent = length (updates_due b s);
   messages = waiting b s;
-  mark = option_map (mark_of (length (told b s))) s.end;
-  mark_out = nat_lt (length (told b s)) s.put;
+  mark = option_map (mark_of (length (updates_due b s))) s.end;
+  mark_out = nat_lt (length (updates_due b s)) s.put;
 }
 
 -- what a world's subscription has in its slot

@@ -8,14 +8,14 @@ use Rattle.lq_formula.specs.Machine.{Frame, operand, after_attr, after_operand, 
 
 -- a state that awaits an operand, and one behind an operand
 abbrev pub awaiting : List Frame → Frame → ℕ → State
-awaiting below f n = record { below = below; top = f; place = operand; room = n }
+awaiting below f n = record { below = below; top = f; expected = operand; room = n }
 
 -- a state after an operand: these parts of the or, these of its last and, and this room
 abbrev pub behind : List Frame → List Query → List Query → ℕ → State
 behind below os xs n = record {
   below = below;
   top = record { or_parts = os; and_parts = xs; bangs = 0 };
-  place = after_operand;
+  expected = after_operand;
   room = n;
 }
 
@@ -125,7 +125,7 @@ comparison_runs : (n : ℕ) → Takes n IsComparison
 comparison_runs n a q h below f rest =
     ap (λ l. run (awaiting below f n) (l ++ rest)) h.5
     ∙ ap (λ r. option_and_then (λ s. run s (op h.1 ∷ word h.2 ∷ rest)) (option_map
-    (λ name. record { below = below; top = f; place = after_attr name; room = n }) r)) h.6
+    (λ name. record { below = below; top = f; expected = after_attr name; room = n }) r)) h.6
     ∙ ap (λ r. option_and_then (λ s. run s rest)
     (option_map (λ literal. completed (Compare h.3 h.1 literal) below f n) r)) h.7
     ∙ ap (λ p. run (completed p below f n) rest) (sym h.8)
@@ -151,7 +151,7 @@ bang_runs n takes a q h below f rest =
     ∙ ap (λ m. run (record {
       below = below;
       top = frame_with (Not q) f;
-      place = after_operand;
+      expected = after_operand;
       room = m;
     }) rest) same
 

@@ -5,17 +5,17 @@ use Rattle.lq_formula.specs.Tokens.{Token, opens, closes, bang, ands, ors, op, w
 use Rattle.lq_formula.specs.Literals.{name_of, literal_of}
 use Rattle.lq_formula.specs.Query.{Query, Compare}
 use Rattle.lq_formula.specs.Grammar.{IsFormula, nesting, IsBegun}
-use Rattle.lq_formula.specs.Machine.{Frame, Place, operand, after_attr, after_op, after_operand, State, start, deeper, empty_frame, said_by, completed, step, run, steps}
+use Rattle.lq_formula.specs.Machine.{Frame, Expected, operand, after_attr, after_op, after_operand, State, start, deeper, empty_frame, said_by, completed, step, run, steps}
 use Rattle.lq_formula.proofs.CompleteLemmas.{formula_runs}
 use Rattle.lq_formula.proofs.StopLemmas.{begun, steps_push}
 
 -- a state by its parts
-abbrev pub at : Place → List Frame → Frame → ℕ → State
-at p below f n = record { below = below; top = f; place = p; room = n }
+abbrev pub at : Expected → List Frame → Frame → ℕ → State
+at p below f n = record { below = below; top = f; expected = p; room = n }
 
 -- the same state with more room
 abbrev pub wider : ℕ → State → State
-wider k s = at s.place s.below s.top (s.room + k)
+wider k s = at s.expected s.below s.top (s.room + k)
 
 -- nothing is both None and Some
 fails : {A : Type 0} {X : Type 0} (x : A) → None ≡ Some x → X
@@ -32,7 +32,7 @@ neither None f g s e h = fails s h
 neither (Some x) f g s e h = taken_fails (f x) e
 
 -- a token that is refused, and taken with more room, is `(` or `!`
-refused : (p : Place) (below : List Frame) (f : Frame) (n m : ℕ) (t : Token) (s : State)
+refused : (p : Expected) (below : List Frame) (f : Frame) (n m : ℕ) (t : Token) (s : State)
     → step (at p below f n) t ≡ None → step (at p below f m) t ≡ Some s → (t ≡ opens) ⊎ (t ≡ bang)
 refused operand below f n m opens s e h = inl refl
 refused (after_attr a) below f n m opens s e h = inl refl
@@ -101,7 +101,7 @@ completed_wider q below f n k =
     ap (λ m. at after_operand below (completed q below f n).top m) (room_over n k f.bangs)
 
 -- a token that is taken is taken with more room, and that much is left over
-step_wider : (p : Place) (below : List Frame) (f : Frame) (n k : ℕ) (t : Token) (s : State)
+step_wider : (p : Expected) (below : List Frame) (f : Frame) (n k : ℕ) (t : Token) (s : State)
     → step (at p below f n) t ≡ Some s → step (at p below f (n + k)) t ≡ Some (wider k s)
 step_wider operand below f zero k opens s e = fails s e
 step_wider operand below f (suc n) k opens s e = some_wider k _ s _ e
@@ -170,7 +170,7 @@ pub steps_wider : (k : ℕ) (ts : List Token) (x s : State) → steps x ts ≡ S
     → steps (wider k x) ts ≡ Some (wider k s)
 steps_wider k [] x s e = some_wider k x s (Some (wider k x)) e refl
 steps_wider k (t ∷ ts) x s e = wider_then k (step x t) (step (wider k x) t) ts s
-    (λ y h. step_wider x.place x.below x.top x.room k t y h) (λ y h. steps_wider k ts y s h) e
+    (λ y h. step_wider x.expected x.below x.top x.room k t y h) (λ y h. steps_wider k ts y s h) e
 
 -- what runs on has come to a state
 pub record Comes (x : State) (ts : List Token) : Type 0 where
@@ -198,7 +198,7 @@ by_step : (r : Option State) (s : State) (k : ℕ) (ts : List Token) (t : Token)
     → r ≡ step s t → steps (start nesting) ts ≡ Some s → (IsBegun (ts ++ t ∷ []) → ⊥)
     → step (wider k s) t ≡ Some y → (t ≡ opens) ⊎ (t ≡ bang)
 by_step None s k ts t y e there stops h =
-    refused s.place s.below s.top s.room (s.room + k) t y (sym e) h
+    refused s.expected s.below s.top s.room (s.room + k) t y (sym e) h
 by_step (Some z) s k ts t y e there stops h =
     absurd (stops (begun (ts ++ t ∷ []) z (steps_push ts t (start nesting) s there ∙ sym e)))
 

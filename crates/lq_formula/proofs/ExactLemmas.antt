@@ -8,7 +8,7 @@ use Rattle.lq_value.specs.declared.op.Op.TheVariants.{Eq}
 use Rattle.lq_formula.specs.Tokens.{Token, opens, closes, bang, ands, ors, op, word, lone, cut, Placed, HasTokens, bare, tokens_of}
 use Rattle.lq_formula.specs.Query.{Query, Compare}
 use Rattle.lq_formula.specs.Grammar.{IsFormula, nesting}
-use Rattle.lq_formula.specs.Machine.{Frame, Place, operand, after_attr, after_op, after_operand, State, completed, run, start, step, steps, whole}
+use Rattle.lq_formula.specs.Machine.{Frame, Expected, operand, after_attr, after_op, after_operand, State, completed, run, start, step, steps, whole}
 use Rattle.lq_formula.specs.Canonical.{canonical, depth}
 use Rattle.lq_formula.specs.Faults.{AreFine, AwaitsAttr, CanStand, IsFaultOf, stray, cut_off, alone, too_deep, bad_name, one_more, bad_pattern, IsFaulty, too_long, at_token, ends_early, too_much, kind_of, most_bytes, most_comparisons, most_depth}
 use Rattle.lq_formula.specs.Reading.{after_token, fault_place, fault_place_of, finished, place_with, read_tokens, reading_of, word_count}
@@ -32,17 +32,18 @@ unfolding read_tokens
 taken_on end s s' count t rest e k =
     let more = count + word_count t.token in
     let others : State → Result Query ℕ = λ x. read_tokens end x more rest in
-    ap (λ o. after_token (fault_place end s.place t) t o more others) e
+    ap (λ o. after_token (fault_place end s.expected t) t o more others) e
     ∙ ap (λ b. if b then others s' else Err t.place) k
 
 -- where the machine refuses a token, the reading is the place of its fault
 refused_here : (end : ℕ) (s : State) (count : ℕ) (t : Placed) (rest : List Placed)
-    → step s t.token ≡ None → read_tokens end s count (t ∷ rest) ≡ Err (fault_place end s.place t)
+    → step s t.token ≡ None
+    → read_tokens end s count (t ∷ rest) ≡ Err (fault_place end s.expected t)
 unfolding read_tokens
 refused_here end s count t rest e =
     let more = count + word_count t.token in
     let others : State → Result Query ℕ = λ x. read_tokens end x more rest in
-    ap (λ o. after_token (fault_place end s.place t) t o more others) e
+    ap (λ o. after_token (fault_place end s.expected t) t o more others) e
 
 -- where a token is one word too many, the reading is its place
 over_here : (end : ℕ) (s s' : State) (count : ℕ) (t : Placed) (rest : List Placed)
@@ -53,7 +54,7 @@ unfolding read_tokens
 over_here end s s' count t rest e k =
     let more = count + word_count t.token in
     let others : State → Result Query ℕ = λ x. read_tokens end x more rest in
-    ap (λ o. after_token (fault_place end s.place t) t o more others) e
+    ap (λ o. after_token (fault_place end s.expected t) t o more others) e
     ∙ ap (λ b. if b then others s' else Err t.place) k
 
 -- at the end of the text the reading is whether a whole query stands there
@@ -106,7 +107,8 @@ takes_one : (end : ℕ) (seen : List Placed) (t : Placed) (ts : List Placed) (s 
     → Takes end ((seen ++ t ∷ []) ++ ts))
     → Takes end (seen ++ t ∷ ts)
 takes_one end seen t ts s count None fine h g e ih = absurd
-    (fine seen t ts (fault_place end s.place t) refl (refused_fault end (bare seen) s t h.goes e))
+    (fine seen t ts (fault_place end s.expected t) refl
+    (refused_fault end (bare seen) s t h.goes e))
 takes_one end seen t ts s count (Some s') fine h g e ih = takes_few end seen t ts s s' count
     (nat_le (count + word_count t.token) (most_comparisons + most_comparisons)) fine h g e refl
     (ih s')
@@ -129,7 +131,7 @@ takes_all end ts fine = takes end ts [] (start nesting) 0 fine
 -- ---- a fault has one place
 
 -- the fault's place is the token's own, but for a cut text and for a bad literal
-plain_place : (end : ℕ) (q : Place) (t : Token) (here : Placed)
+plain_place : (end : ℕ) (q : Expected) (t : Token) (here : Placed)
     → (t ≡ cut → ⊥) → ((a : List ℕ) (o : Op) (w : List ℕ) → q ≡ after_op a o → t ≡ word w → ⊥)
     → fault_place_of end q t here ≡ here.place
 plain_place end q opens here h k = refl
@@ -166,7 +168,7 @@ literal_stands ts a o below f n w e =
 
 -- an operator's literal may be any word, as far as the grammar goes
 word_stands : (ts : List Token) (s : State) (t : Token) (a : List ℕ) (o : Op) (w : List ℕ)
-    → steps (start nesting) ts ≡ Some s → s.place ≡ after_op a o → t ≡ word w
+    → steps (start nesting) ts ≡ Some s → s.expected ≡ after_op a o → t ≡ word w
     → CanStand (ts ++ t ∷ [])
 word_stands ts s t a o w e h k =
     subst (λ u. CanStand (ts ++ u ∷ [])) (sym k) (literal_stands ts a o s.below s.top s.room w
@@ -174,7 +176,7 @@ word_stands ts s t a o w e h k =
 
 -- where the name of an attribute is awaited, no literal is
 not_literal : (ts : List Token) (s : State) (a : List ℕ) (o : Op)
-    → steps (start nesting) ts ≡ Some s → AwaitsAttr ts → s.place ≡ after_op a o → ⊥
+    → steps (start nesting) ts ≡ Some s → AwaitsAttr ts → s.expected ≡ after_op a o → ⊥
 not_literal ts s a o e h k =
     let d = stands_outline nesting ts (word [] ∷ op Eq ∷ []) s e h in
     no_outline d.0 (subst (λ q.
@@ -185,22 +187,23 @@ fails : {X : Type 0} (s : State) → None ≡ Some s → X
 fails s e = cc
 
 -- a state that took an operator awaits its literal
-op_place : (p : Place) (below : List Frame) (f : Frame) (n : ℕ) (o : Op) (s : State)
-    → step (at p below f n) (op o) ≡ Some s → (a : List ℕ) × (s.place ≡ after_op a o)
+op_place : (p : Expected) (below : List Frame) (f : Frame) (n : ℕ) (o : Op) (s : State)
+    → step (at p below f n) (op o) ≡ Some s → (a : List ℕ) × (s.expected ≡ after_op a o)
 op_place operand below f n o s e = fails s e
 op_place (after_attr a) below f n o s e =
     let same : s ≡ at (after_op a o) below f n = cc in
-    (a, ap (λ x. x.place) same)
+    (a, ap (λ x. x.expected) same)
 op_place (after_op a u) below f n o s e = fails s e
 op_place after_operand below f n o s e = fails s e
 
 -- tokens that end with an operator lead to a state that awaits its literal
 behind_op : (front : List Token) (o : Op) (s : State)
-    → steps (start nesting) (front ++ op o ∷ []) ≡ Some s → (a : List ℕ) × (s.place ≡ after_op a o)
+    → steps (start nesting) (front ++ op o ∷ []) ≡ Some s
+    → (a : List ℕ) × (s.expected ≡ after_op a o)
 behind_op front o s e =
     let d = split_steps front (op o ∷ []) (start nesting) s e in
     let y = d.0 in
-    op_place y.place y.below y.top y.room o s
+    op_place y.expected y.below y.top y.room o s
     (sym (steps_push front (op o) (start nesting) y d.1) ∙ e)
 
 -- a word is no cut token
@@ -209,18 +212,20 @@ no_cut_word w e = cc
 
 -- the place of a fault is where the machine has it
 fault_is : (end : ℕ) (ts : List Token) (here : Placed) (s : State) (p : ℕ)
-    → steps (start nesting) ts ≡ Some s → IsFaultOf end ts here p → fault_place end s.place here ≡ p
-fault_is end ts here s p e (stray h k at) = plain_place end s.place here.token here k
+    → steps (start nesting) ts ≡ Some s → IsFaultOf end ts here p
+    → fault_place end s.expected here ≡ p
+fault_is end ts here s p e (stray h k at) = plain_place end s.expected here.token here k
     (λ a o w x y. h (word_stands ts s here.token a o w e x y)) ∙ sym at
-fault_is end ts here s p e (cut_off h at) = ap (λ t. fault_place_of end s.place t here) h ∙ sym at
-fault_is end ts here s p e (alone h at) = ap (λ t. fault_place_of end s.place t here) h ∙ sym at
+fault_is end ts here s p e (cut_off h at) = ap (λ t. fault_place_of end s.expected t here) h
+    ∙ sym at
+fault_is end ts here s p e (alone h at) = ap (λ t. fault_place_of end s.expected t here) h ∙ sym at
 fault_is end ts here s p e (too_deep (inl h) d at) =
-    ap (λ t. fault_place_of end s.place t here) h ∙ sym at
+    ap (λ t. fault_place_of end s.expected t here) h ∙ sym at
 fault_is end ts here s p e (too_deep (inr h) d at) =
-    ap (λ t. fault_place_of end s.place t here) h ∙ sym at
-fault_is end ts here s p e (bad_name w h a n at) = plain_place end s.place here.token here
+    ap (λ t. fault_place_of end s.expected t here) h ∙ sym at
+fault_is end ts here s p e (bad_name w h a n at) = plain_place end s.expected here.token here
     (λ x. no_cut_word w (sym h ∙ x)) (λ b o v x y. not_literal ts s b o e a x) ∙ sym at
-fault_is end ts here s p e (one_more w h a m at) = plain_place end s.place here.token here
+fault_is end ts here s p e (one_more w h a m at) = plain_place end s.expected here.token here
     (λ x. no_cut_word w (sym h ∙ x)) (λ b o v x y. not_literal ts s b o e a x) ∙ sym at
 fault_is end ts here s p e (bad_pattern front o w k split h i at) =
     let d = behind_op front o s (subst (λ l. steps (start nesting) l ≡ Some s) split e) in
@@ -234,7 +239,7 @@ over_is : (end : ℕ) (ts : List Token) (here : Placed) (s s' : State) (p : ℕ)
     → here.place ≡ p
 over_is end ts here s s' p e g (stray h k at) = sym at
 over_is end ts here s s' p e g (cut_off h at) =
-    absurd (never_cut s.place s.below s.top s.room s' (subst (λ t. step s t ≡ Some s') h g))
+    absurd (never_cut s.expected s.below s.top s.room s' (subst (λ t. step s t ≡ Some s') h g))
 over_is end ts here s s' p e g (alone h at) = sym at
 over_is end ts here s s' p e g (too_deep h d at) = sym at
 over_is end ts here s s' p e g (bad_name w h a n at) = sym at

@@ -10,7 +10,7 @@ use Rattle.lq_formula.specs.Tokens.{Token, opens, closes, bang, ands, ors, op, w
 use Rattle.lq_formula.specs.Literals.{bad_place, literal_fault, literal_of, name_of, pattern_literal}
 use Rattle.lq_formula.specs.Query.{Query, Compare}
 use Rattle.lq_formula.specs.Grammar.{IsFormula, nesting}
-use Rattle.lq_formula.specs.Machine.{Frame, Place, operand, after_attr, after_op, after_operand, State, completed, start, step, steps}
+use Rattle.lq_formula.specs.Machine.{Frame, Expected, operand, after_attr, after_op, after_operand, State, completed, start, step, steps}
 use Rattle.lq_formula.specs.Faults.{AreFine, AwaitsAttr, IsFaultOf, stray, cut_off, alone, too_deep, bad_name, one_more, bad_pattern, kind_of, most_comparisons, op_count, operators}
 use Rattle.lq_formula.specs.Reading.{fault_place, fault_place_of, place_with, word_count}
 use Rattle.lq_formula.proofs.SoundLemmas.{run_reads}
@@ -68,21 +68,21 @@ first_then (Some x) ts s e = (x, refl)
 pub begun_at : (n : ℕ) (ts : List Token) (s : State) → steps (start n) ts ≡ Some s
     → (rest : List Token) × (q : Query) × IsFormula n (ts ++ rest) q
 begun_at n ts s e =
-    let h = leads_on s.place s.below s.top s.room in
+    let h = leads_on s.expected s.below s.top s.room in
     (h.rest, h.q, run_reads n (ts ++ h.rest) h.q (steps_run ts (start n) s h.rest e ∙ h.runs))
 
 -- ---- the last token before a literal
 
 -- the operator whose literal is awaited at a place
-abbrev op_of_place : Place → Option Op
-op_of_place operand = None
-op_of_place (after_attr a) = None
-op_of_place (after_op a o) = Some o
-op_of_place after_operand = None
+abbrev op_of_expected : Expected → Option Op
+op_of_expected operand = None
+op_of_expected (after_attr a) = None
+op_of_expected (after_op a o) = Some o
+op_of_expected after_operand = None
 
 -- the operator whose literal is awaited in a state
 abbrev op_of : State → Option Op
-op_of s = op_of_place s.place
+op_of s = op_of_expected s.expected
 
 -- the operator that a token is
 abbrev op_in : Token → Option Op
@@ -103,7 +103,7 @@ none_mapped None f s h e = fails s e
 none_mapped (Some x) f s h e = ap Some (sym (h x)) ∙ ap (option_map op_of) e
 
 -- behind a step stands the operator of its token
-step_op : (p : Place) (below : List Frame) (f : Frame) (n : ℕ) (t : Token) (s : State)
+step_op : (p : Expected) (below : List Frame) (f : Frame) (n : ℕ) (t : Token) (s : State)
     → step (at p below f n) t ≡ Some s → Some (op_in t) ≡ Some (op_of s)
 step_op operand below f zero opens s e = fails s e
 step_op operand below f (suc n) opens s e = ap (option_map op_of) e
@@ -172,7 +172,7 @@ EndsWith ts x o =
 ends_by : (x y : State) (t : Token) (ts : List Token) (o : Op) → step x t ≡ Some y → EndsWith ts y o
     → EndsWith (t ∷ ts) x o
 ends_by x y t ts o e (inl h) =
-    let same : Some (op_in t) ≡ Some (op_of y) = step_op x.place x.below x.top x.room t y e in
+    let same : Some (op_in t) ≡ Some (op_of y) = step_op x.expected x.below x.top x.room t y e in
     let this : op_in t ≡ op_of y = cc in
     inr ([], ap (λ us. t ∷ us) h.0 ∙ ap (λ u. u ∷ []) (is_op t o (this ∙ h.1)))
 ends_by x y t ts o e (inr h) = inr (t ∷ h.0, ap (λ us. t ∷ us) h.1)
@@ -266,7 +266,7 @@ pattern_at end ts a o below f n place raw w e h =
     (ap (λ r. place_with r (here_of place raw (word w))) k.1)
 
 -- a token that is refused is at fault
-refused_at : (p : Place) (below : List Frame) (f : Frame) (n : ℕ) (t : Token) (end : ℕ)
+refused_at : (p : Expected) (below : List Frame) (f : Frame) (n : ℕ) (t : Token) (end : ℕ)
     (ts : List Token) (place raw : ℕ)
     → steps (start nesting) ts ≡ Some (at p below f n) → step (at p below f n) t ≡ None
     → IsFaultOf end ts (here_of place raw t) (fault_place_of end p t (here_of place raw t))
@@ -340,28 +340,28 @@ refused_at after_operand below f n cut end ts place raw e h = cut_off refl refl
 -- a token that the machine refuses is at fault, at the place that the reading says
 pub refused_fault : (end : ℕ) (ts : List Token) (s : State) (here : Placed)
     → steps (start nesting) ts ≡ Some s → step s here.token ≡ None
-    → IsFaultOf end ts here (fault_place end s.place here)
+    → IsFaultOf end ts here (fault_place end s.expected here)
 refused_fault end ts s here e h =
-    refused_at s.place s.below s.top s.room here.token end ts here.place here.raw_place e h
+    refused_at s.expected s.below s.top s.room here.token end ts here.place here.raw_place e h
 
 -- ---- words and operators
 
 -- a word whose operator is awaited, and an operator whose literal is
-abbrev extra_word : Place → ℕ
+abbrev extra_word : Expected → ℕ
 extra_word operand = 0
 extra_word (after_attr a) = 1
 extra_word (after_op a o) = 0
 extra_word after_operand = 0
 
 -- an operator whose literal is awaited
-abbrev extra_op : Place → ℕ
+abbrev extra_op : Expected → ℕ
 extra_op operand = 0
 extra_op (after_attr a) = 0
 extra_op (after_op a o) = 1
 extra_op after_operand = 0
 
 -- from one place to another by so many words and operators
-abbrev Balances : Place → ℕ → ℕ → Place → Type 0
+abbrev Balances : Expected → ℕ → ℕ → Expected → Type 0
 Balances p m n p' = m + extra_op p' + extra_word p ≡ n + n + extra_word p' + extra_op p
 
 -- what holds of a state holds of one that is the same
@@ -375,20 +375,21 @@ carried_by P None f s e h = fails s e
 carried_by P (Some x) f s e h = carried P (f x) s e (h x)
 
 -- a step over a token keeps two words for each operator, but for what is still awaited
-step_balances : (p : Place) (below : List Frame) (f : Frame) (n : ℕ) (t : Token) (s : State)
-    → step (at p below f n) t ≡ Some s → Balances p (word_count t) (op_count t) s.place
+step_balances : (p : Expected) (below : List Frame) (f : Frame) (n : ℕ) (t : Token) (s : State)
+    → step (at p below f n) t ≡ Some s → Balances p (word_count t) (op_count t) s.expected
 step_balances operand below f zero opens s e = fails s e
 step_balances operand below f (suc n) opens s e =
-    carried (λ x. Balances operand (word_count opens) (op_count opens) x.place) _ s e refl
+    carried (λ x. Balances operand (word_count opens) (op_count opens) x.expected) _ s e refl
 step_balances operand below f n closes s e = fails s e
 step_balances operand below f zero bang s e = fails s e
 step_balances operand below f (suc n) bang s e =
-    carried (λ x. Balances operand (word_count bang) (op_count bang) x.place) _ s e refl
+    carried (λ x. Balances operand (word_count bang) (op_count bang) x.expected) _ s e refl
 step_balances operand below f n ands s e = fails s e
 step_balances operand below f n ors s e = fails s e
 step_balances operand below f n (op u) s e = fails s e
 step_balances operand below f n (word w) s e =
-    carried_by (λ x. Balances operand (word_count (word w)) (op_count (word w)) x.place) (name_of w)
+    carried_by (λ x. Balances operand (word_count (word w)) (op_count (word w)) x.expected)
+    (name_of w)
     (λ name. at (after_attr name) below f n) s e (λ x. refl)
 step_balances operand below f n lone s e = fails s e
 step_balances operand below f n cut s e = fails s e
@@ -398,7 +399,8 @@ step_balances (after_attr a) below f n bang s e = fails s e
 step_balances (after_attr a) below f n ands s e = fails s e
 step_balances (after_attr a) below f n ors s e = fails s e
 step_balances (after_attr a) below f n (op u) s e =
-    carried (λ x. Balances (after_attr a) (word_count (op u)) (op_count (op u)) x.place) _ s e refl
+    carried (λ x. Balances (after_attr a) (word_count (op u)) (op_count (op u)) x.expected)
+    _ s e refl
 step_balances (after_attr a) below f n (word w) s e = fails s e
 step_balances (after_attr a) below f n lone s e = fails s e
 step_balances (after_attr a) below f n cut s e = fails s e
@@ -409,48 +411,49 @@ step_balances (after_op a o) below f n ands s e = fails s e
 step_balances (after_op a o) below f n ors s e = fails s e
 step_balances (after_op a o) below f n (op u) s e = fails s e
 step_balances (after_op a o) below f n (word w) s e =
-    carried_by (λ x. Balances (after_op a o) (word_count (word w)) (op_count (word w)) x.place)
+    carried_by (λ x. Balances (after_op a o) (word_count (word w)) (op_count (word w)) x.expected)
     (literal_of o w) (λ literal. completed (Compare a o literal) below f n) s e (λ x. refl)
 step_balances (after_op a o) below f n lone s e = fails s e
 step_balances (after_op a o) below f n cut s e = fails s e
 step_balances after_operand below f n opens s e = fails s e
 step_balances after_operand [] f n closes s e = fails s e
 step_balances after_operand (g ∷ gs) f n closes s e =
-    carried (λ x. Balances after_operand (word_count closes) (op_count closes) x.place) _ s e refl
+    carried (λ x. Balances after_operand (word_count closes) (op_count closes) x.expected)
+    _ s e refl
 step_balances after_operand below f n bang s e = fails s e
 step_balances after_operand below f n ands s e =
-    carried (λ x. Balances after_operand (word_count ands) (op_count ands) x.place) _ s e refl
+    carried (λ x. Balances after_operand (word_count ands) (op_count ands) x.expected) _ s e refl
 step_balances after_operand below f n ors s e =
-    carried (λ x. Balances after_operand (word_count ors) (op_count ors) x.place) _ s e refl
+    carried (λ x. Balances after_operand (word_count ors) (op_count ors) x.expected) _ s e refl
 step_balances after_operand below f n (op u) s e = fails s e
 step_balances after_operand below f n (word w) s e = fails s e
 step_balances after_operand below f n lone s e = fails s e
 step_balances after_operand below f n cut s e = fails s e
 
 -- two stretches that keep the balance keep it together
-one_step : (p p' p'' : Place) (m n k l : ℕ) → Balances p m n p' → Balances p' k l p''
+one_step : (p p' p'' : Expected) (m n k l : ℕ) → Balances p m n p' → Balances p' k l p''
     → Balances p (m + k) (n + l) p''
 one_step p p' p'' m n k l g h = omega arith
 
 -- `balanced` for what a first step has led to
 balance_then : (r : Option State) (x : State) (t : Token) (ts : List Token) (s : State)
     → step x t ≡ r
-    → ((y : State) → steps y ts ≡ Some s → Balances y.place (words ts) (operators ts) s.place)
+    → ((y : State) → steps y ts ≡ Some s → Balances y.expected (words ts) (operators ts) s.expected)
     → option_and_then (λ y. steps y ts) r ≡ Some s
-    → Balances x.place (word_count t + words ts) (op_count t + operators ts) s.place
+    → Balances x.expected (word_count t + words ts) (op_count t + operators ts) s.expected
 balance_then None x t ts s f ih e = fails s e
 balance_then (Some y) x t ts s f ih e =
-    one_step x.place y.place s.place (word_count t) (op_count t) (words ts) (operators ts)
-    (step_balances x.place x.below x.top x.room t y f) (ih y e)
+    one_step x.expected y.expected s.expected (word_count t) (op_count t) (words ts) (operators ts)
+    (step_balances x.expected x.below x.top x.room t y f) (ih y e)
 
 -- steps keep two words for each operator, but for what is still awaited
 balanced : (ts : List Token) (x s : State) → steps x ts ≡ Some s
-    → Balances x.place (words ts) (operators ts) s.place
-balanced [] x s e = carried (λ y. Balances x.place 0 0 y.place) x s e (omega arith)
+    → Balances x.expected (words ts) (operators ts) s.expected
+balanced [] x s e = carried (λ y. Balances x.expected 0 0 y.expected) x s e (omega arith)
 balanced (t ∷ ts) x s e = balance_then (step x t) x t ts s refl (λ y h. balanced ts y s h) e
 
 -- a word that is taken behind so many: of the 257th comparison
-full_at : (p : Place) (below : List Frame) (f : Frame) (n : ℕ) (w : List ℕ) (s : State)
+full_at : (p : Expected) (below : List Frame) (f : Frame) (n : ℕ) (w : List ℕ) (s : State)
     (ts : List Token) → steps (start nesting) ts ≡ Some (at p below f n)
     → words ts ≡ most_comparisons + most_comparisons → step (at p below f n) (word w) ≡ Some s
     → AwaitsAttr ts × (operators ts ≡ most_comparisons)
@@ -469,13 +472,13 @@ pub full : (end : ℕ) (ts : List Token) (s s' : State) (here : Placed) (w : Lis
     → here.token ≡ word w → step s here.token ≡ Some s' → IsFaultOf end ts here here.place
 full end ts s s' here w e m h g =
     let k =
-    full_at s.place s.below s.top s.room w s' ts e m (subst (λ t. step s t ≡ Some s') h g) in
+    full_at s.expected s.below s.top s.room w s' ts e m (subst (λ t. step s t ≡ Some s') h g) in
     one_more w h k.0 k.1 refl
 
 -- ---- what is taken
 
 -- a text that is cut in a quoted word is never taken
-pub never_cut : (p : Place) (below : List Frame) (f : Frame) (n : ℕ) (s : State)
+pub never_cut : (p : Expected) (below : List Frame) (f : Frame) (n : ℕ) (s : State)
     → step (at p below f n) cut ≡ Some s → ⊥
 never_cut operand below f n s e = fails s e
 never_cut (after_attr a) below f n s e = fails s e
@@ -483,7 +486,7 @@ never_cut (after_op a o) below f n s e = fails s e
 never_cut after_operand below f n s e = fails s e
 
 -- a lone `&`, `|` or `=` is never taken
-never_lone : (p : Place) (below : List Frame) (f : Frame) (n : ℕ) (s : State)
+never_lone : (p : Expected) (below : List Frame) (f : Frame) (n : ℕ) (s : State)
     → step (at p below f n) lone ≡ Some s → ⊥
 never_lone operand below f n s e = fails s e
 never_lone (after_attr a) below f n s e = fails s e
@@ -500,7 +503,7 @@ mapped_none : {A : Type 0} (r : Option A) (f : A → State) (s : State)
 mapped_none r f s h e = fails s (sym (ap (option_map f) h) ∙ e)
 
 -- a name is taken only where it is one, if an attribute is awaited
-never_nameless : (p : Place) (below : List Frame) (f : Frame) (n : ℕ) (w : List ℕ) (s : State)
+never_nameless : (p : Expected) (below : List Frame) (f : Frame) (n : ℕ) (w : List ℕ) (s : State)
     → step (at p below f n) (word w) ≡ Some s → name_of w ≡ None → (o : Outline)
     → outline_steps (outline_of (at p below f n)) (word [] ∷ op Eq ∷ []) ≡ Some o → ⊥
 never_nameless operand below f n w s e h o k =
@@ -528,7 +531,7 @@ no_literal Gt w k e = no_place k e
 no_literal Ge w k e = no_place k e
 
 -- after an operator, a word with a bad place is not taken
-never_bad_at : (p : Place) (below : List Frame) (f : Frame) (n : ℕ) (o : Op) (w : List ℕ) (k : ℕ)
+never_bad_at : (p : Expected) (below : List Frame) (f : Frame) (n : ℕ) (o : Op) (w : List ℕ) (k : ℕ)
     (s s' : State) → step (at p below f n) (op o) ≡ Some s → step s (word w) ≡ Some s'
     → literal_fault o w ≡ Some k → ⊥
 never_bad_at operand below f n o w k s s' e g h = fails s e
@@ -546,11 +549,11 @@ pub never_bad : (front : List Token) (o : Op) (w : List ℕ) (k : ℕ) (s s' : S
 never_bad front o w k s s' e g h =
     let d = split_steps front (op o ∷ []) (start nesting) s e in
     let y = d.0 in
-    never_bad_at y.place y.below y.top y.room o w k s s'
+    never_bad_at y.expected y.below y.top y.room o w k s s'
     (sym (steps_push front (op o) (start nesting) y d.1) ∙ e) g h
 
 -- where a name is awaited and a word more is allowed, there are not the most comparisons
-never_full : (p : Place) (below : List Frame) (f : Frame) (n : ℕ) (w : List ℕ) (s : State)
+never_full : (p : Expected) (below : List Frame) (f : Frame) (n : ℕ) (w : List ℕ) (s : State)
     (ts : List Token) → steps (start nesting) ts ≡ Some (at p below f n)
     → step (at p below f n) (word w) ≡ Some s → operators ts ≡ most_comparisons
     → words (ts ++ word w ∷ []) ≤ most_comparisons + most_comparisons → (o : Outline)
@@ -579,17 +582,18 @@ taken_fine end front here s s' p e g few (stray h i j) =
       formula = b.2;
     })
 taken_fine end front here s s' p e g few (cut_off h j) =
-    never_cut s.place s.below s.top s.room s' (subst (λ t. step s t ≡ Some s') h g)
+    never_cut s.expected s.below s.top s.room s' (subst (λ t. step s t ≡ Some s') h g)
 taken_fine end front here s s' p e g few (alone h j) =
-    never_lone s.place s.below s.top s.room s' (subst (λ t. step s t ≡ Some s') h g)
+    never_lone s.expected s.below s.top s.room s' (subst (λ t. step s t ≡ Some s') h g)
 taken_fine end front here s s' p e g few (too_deep h d j) =
     d.1 (begun (front ++ here.token ∷ []) s' (steps_push front here.token (start nesting) s e ∙ g))
 taken_fine end front here s s' p e g few (bad_name w h a n j) =
     let o = stands_outline nesting front (word [] ∷ op Eq ∷ []) s e a in
-    never_nameless s.place s.below s.top s.room w s' (subst (λ t. step s t ≡ Some s') h g) n o.0 o.1
+    never_nameless s.expected s.below s.top s.room w s' (subst (λ t. step s t ≡ Some s') h g)
+    n o.0 o.1
 taken_fine end front here s s' p e g few (one_more w h a m j) =
     let o = stands_outline nesting front (word [] ∷ op Eq ∷ []) s e a in
-    never_full s.place s.below s.top s.room w s' front e (subst (λ t. step s t ≡ Some s') h g) m
+    never_full s.expected s.below s.top s.room w s' front e (subst (λ t. step s t ≡ Some s') h g) m
     (subst (λ t. words (front ++ t ∷ []) ≤ most_comparisons + most_comparisons) h few) o.0 o.1
 taken_fine end front here s s' p e g few (bad_pattern f o w k split h i j) =
     never_bad f o w k s s' (subst (λ ts. steps (start nesting) ts ≡ Some s) split e)

@@ -5,48 +5,48 @@ use Rattle.std.proofs.lemmas.List.{map-append}
 use Rattle.lq_formula.specs.Tokens.{Token, opens, closes, bang, ands, ors, op, word, lone, cut}
 use Rattle.lq_formula.specs.Literals.{name_of, literal_of}
 use Rattle.lq_formula.specs.Query.{Compare}
-use Rattle.lq_formula.specs.Machine.{Frame, Place, operand, after_attr, after_op, after_operand, State, start, completed, step, steps}
+use Rattle.lq_formula.specs.Machine.{Frame, Expected, operand, after_attr, after_op, after_operand, State, start, completed, step, steps}
 use Rattle.lq_formula.specs.Faults.{CanStand, kind_of}
 use Rattle.lq_formula.proofs.CompleteLemmas.{formula_runs}
 use Rattle.lq_formula.proofs.DepthLemmas.{at, comes}
 
--- what is awaited, and how many parentheses are open
-pub data Spot : Type 0 where
-  some_operand : Spot
-  an_op : Spot
-  a_literal : Spot
-  behind : Spot
+-- what is expected, without its name and operator
+pub data ExpectedKind : Type 0 where
+  some_operand : ExpectedKind
+  an_op : ExpectedKind
+  a_literal : ExpectedKind
+  behind : ExpectedKind
 
--- what is awaited, and how many parentheses are open
+-- what is expected, and how many parentheses are open
 pub record Outline : Type 0 where
-  pub spot : Spot
+  pub expected : ExpectedKind
   pub parens : ℕ
 
--- what is awaited at a place, without its name and operator
-abbrev spot_of : Place → Spot
-spot_of operand = some_operand
-spot_of (after_attr a) = an_op
-spot_of (after_op a o) = a_literal
-spot_of after_operand = behind
+-- what is expected, without its name and operator
+abbrev kind_expected : Expected → ExpectedKind
+kind_expected operand = some_operand
+kind_expected (after_attr a) = an_op
+kind_expected (after_op a o) = a_literal
+kind_expected after_operand = behind
 
 -- the outline of a state
 abbrev pub outline_of : State → Outline
-outline_of s = record { spot = spot_of s.place; parens = length s.below }
+outline_of s = record { expected = kind_expected s.expected; parens = length s.below }
 
 -- one parenthesis less is open, if one was
 abbrev closed : ℕ → Option Outline
 closed zero = None
-closed (suc n) = Some (record { spot = behind; parens = n })
+closed (suc n) = Some (record { expected = behind; parens = n })
 
--- where an operand is awaited: the outline after a token
+-- where an operand is expected: the outline after a token
 abbrev operand_then : ℕ → Token → Option Outline
-operand_then n opens = Some (record { spot = some_operand; parens = suc n })
+operand_then n opens = Some (record { expected = some_operand; parens = suc n })
 operand_then n closes = None
-operand_then n bang = Some (record { spot = some_operand; parens = n })
+operand_then n bang = Some (record { expected = some_operand; parens = n })
 operand_then n ands = None
 operand_then n ors = None
 operand_then n (op u) = None
-operand_then n (word w) = Some (record { spot = an_op; parens = n })
+operand_then n (word w) = Some (record { expected = an_op; parens = n })
 operand_then n lone = None
 operand_then n cut = None
 
@@ -57,7 +57,7 @@ attr_then n closes = None
 attr_then n bang = None
 attr_then n ands = None
 attr_then n ors = None
-attr_then n (op u) = Some (record { spot = a_literal; parens = n })
+attr_then n (op u) = Some (record { expected = a_literal; parens = n })
 attr_then n (word w) = None
 attr_then n lone = None
 attr_then n cut = None
@@ -70,7 +70,7 @@ op_then n bang = None
 op_then n ands = None
 op_then n ors = None
 op_then n (op u) = None
-op_then n (word w) = Some (record { spot = behind; parens = n })
+op_then n (word w) = Some (record { expected = behind; parens = n })
 op_then n lone = None
 op_then n cut = None
 
@@ -79,15 +79,15 @@ abbrev behind_then : ℕ → Token → Option Outline
 behind_then n opens = None
 behind_then n closes = closed n
 behind_then n bang = None
-behind_then n ands = Some (record { spot = some_operand; parens = n })
-behind_then n ors = Some (record { spot = some_operand; parens = n })
+behind_then n ands = Some (record { expected = some_operand; parens = n })
+behind_then n ors = Some (record { expected = some_operand; parens = n })
 behind_then n (op u) = None
 behind_then n (word w) = None
 behind_then n lone = None
 behind_then n cut = None
 
--- the outline after a token, by what is awaited
-abbrev outline_at : Spot → ℕ → Token → Option Outline
+-- the outline after a token, by what is expected
+abbrev outline_at : ExpectedKind → ℕ → Token → Option Outline
 outline_at some_operand n t = operand_then n t
 outline_at an_op n t = attr_then n t
 outline_at a_literal n t = op_then n t
@@ -95,7 +95,7 @@ outline_at behind n t = behind_then n t
 
 -- the outline after a token
 abbrev pub outline_step : Outline → Token → Option Outline
-outline_step o t = outline_at o.spot o.parens t
+outline_step o t = outline_at o.expected o.parens t
 
 -- the outline after some tokens
 abbrev pub outline_steps : Outline → List Token → Option Outline
@@ -113,7 +113,7 @@ mapped None f s y h e = fails s e
 mapped (Some x) f s y h e = ap Some (sym (h x)) ∙ ap (option_map outline_of) e
 
 -- a step of the machine, in outline
-step_outline : (p : Place) (below : List Frame) (f : Frame) (n : ℕ) (t : Token) (s : State)
+step_outline : (p : Expected) (below : List Frame) (f : Frame) (n : ℕ) (t : Token) (s : State)
     → step (at p below f n) t ≡ Some s
     → outline_step (outline_of (at p below f n)) (kind_of t) ≡ Some (outline_of s)
 step_outline operand below f zero opens s e = fails s e
@@ -175,7 +175,7 @@ pub steps_outline : (ts : List Token) (x s : State) → steps x ts ≡ Some s
 steps_outline [] x s e = ap (option_map outline_of) e
 steps_outline (t ∷ ts) x s e =
     outlined_then (step x t) (outline_step (outline_of x) (kind_of t)) ts s
-    (λ y h. step_outline x.place x.below x.top x.room t y h) (λ y h. steps_outline ts y s h) e
+    (λ y h. step_outline x.expected x.below x.top x.room t y h) (λ y h. steps_outline ts y s h) e
 
 -- `outline_on` for what a first step has led to
 on_then : (r : Option Outline) (ts us : List Token) (o' : Outline)

@@ -73,7 +73,7 @@ read_runs end [] s count q e =
     let h = finished_ok end (whole s) q e in
     record { runs = h.0; few = λ k. omega arith; small = h.1 }
 read_runs end (t ∷ ts) s count q e =
-    let h = after_ok (fault_place end s.place t) (count + word_count t.token) t (step s t.token)
+    let h = after_ok (fault_place end s.expected t) (count + word_count t.token) t (step s t.token)
     (λ s'. read_tokens end s' (count + word_count t.token) ts) q e in
     let r = read_runs end ts h.0 (count + word_count t.token) q h.3 in
     let few = r.few h.2 in
@@ -119,7 +119,7 @@ run_is_read end (t ∷ ts) s count q e few small =
     let others : State → Result Query ℕ = λ s'. read_tokens end s' more ts in
     let k : more ≤ most_comparisons + most_comparisons = omega arith in
     let rest : more + words (bare ts) ≤ most_comparisons + most_comparisons = omega arith in
-    ap (λ o. after_token (fault_place end s.place t) t o more others) h.1
+    ap (λ o. after_token (fault_place end s.expected t) t o more others) h.1
     ∙ ap (λ b. if b then others h.0 else Err t.place) (test_true _ _ k)
     ∙ run_is_read end ts h.0 more q h.2 rest small
 

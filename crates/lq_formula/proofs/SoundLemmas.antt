@@ -7,7 +7,7 @@ use Rattle.lq_value.specs.declared.literal.Literal.{Literal}
 use Rattle.lq_formula.specs.Literals.{name_of, literal_of}
 use Rattle.lq_formula.specs.Query.{Query, Compare, Not, both_of, either_of}
 use Rattle.lq_formula.specs.Grammar.{Follows, IsAnd, IsOr, IsNot, IsFormula}
-use Rattle.lq_formula.specs.Machine.{Frame, Place, operand, after_attr, after_op, after_operand, State, empty_frame, start, negate, frame_with, completed, said_by, run}
+use Rattle.lq_formula.specs.Machine.{Frame, Expected, operand, after_attr, after_op, after_operand, State, empty_frame, start, negate, frame_with, completed, said_by, run}
 
 -- The tokens end a frame behind an operand: more parts of its
 -- and, more parts of its or, and then what K takes.
@@ -63,15 +63,15 @@ pub record AwaitsLiteral (below : List Frame) (f : Frame) (n : ℕ) (attr : List
       (n + f.bangs) q b
 
 -- the tokens end a formula from a place on
-abbrev pub EndsAt : Place → List Frame → Frame → ℕ → Query → List Token → Type 0
+abbrev pub EndsAt : Expected → List Frame → Frame → ℕ → Query → List Token → Type 0
 EndsAt operand below f n q ts = Awaits below f n q ts
 EndsAt (after_attr a) below f n q ts = AwaitsOp below f n a q ts
 EndsAt (after_op a o) below f n q ts = AwaitsLiteral below f n a o q ts
 EndsAt after_operand below f n q ts = After below f.or_parts f.and_parts n q ts
 
 -- a state by its parts
-abbrev at : Place → List Frame → Frame → ℕ → State
-at p below f n = record { below = below; top = f; place = p; room = n }
+abbrev at : Expected → List Frame → Frame → ℕ → State
+at p below f n = record { below = below; top = f; expected = p; room = n }
 
 -- ---- one token more, at the front
 
@@ -239,7 +239,7 @@ taken None f ts q e = fails q e
 taken (Some x) f ts q e = record { value = x; is = refl; goes = e }
 
 -- the tokens that the machine runs over to a query end a formula, as the grammar reads it
-pub sound : (ts : List Token) (p : Place) (below : List Frame) (f : Frame) (n : ℕ) (q : Query)
+pub sound : (ts : List Token) (p : Expected) (below : List Frame) (f : Frame) (n : ℕ) (q : Query)
     → run (at p below f n) ts ≡ Some q → EndsAt p below f n q ts
 sound [] operand below f n q e = fails q e
 sound [] (after_attr a) below f n q e = fails q e

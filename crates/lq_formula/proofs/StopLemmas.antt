@@ -12,7 +12,7 @@ use Rattle.lq_formula.specs.Tokens.{Token, closes, op, word}
 use Rattle.lq_formula.specs.Literals.{pattern_literal, literal_of}
 use Rattle.lq_formula.specs.Query.{Query, Compare}
 use Rattle.lq_formula.specs.Grammar.{IsFormula, nesting, IsBegun}
-use Rattle.lq_formula.specs.Machine.{Frame, Place, operand, after_attr, after_op, after_operand, State, start, frame_with, completed, said_by, step, run, whole, steps}
+use Rattle.lq_formula.specs.Machine.{Frame, Expected, operand, after_attr, after_op, after_operand, State, start, frame_with, completed, said_by, step, run, whole, steps}
 use Rattle.lq_formula.proofs.CompleteLemmas.{formula_runs}
 use Rattle.lq_formula.proofs.SoundLemmas.{run_reads}
 
@@ -24,7 +24,7 @@ pub record Leads (s : State) : Type 0 where
 
 -- after an operand, as many `)` as frames are open lead to a formula
 leads_behind : (below : List Frame) (f : Frame) (n : ℕ)
-    → Leads (record { below = below; top = f; place = after_operand; room = n })
+    → Leads (record { below = below; top = f; expected = after_operand; room = n })
 leads_behind [] f n = record { rest = []; q = said_by f; runs = refl }
 leads_behind (g ∷ gs) f n =
     let h = leads_behind gs (frame_with (said_by f) g) (suc n + g.bangs) in
@@ -46,14 +46,14 @@ empty_literal Ge = (Plain [], refl)
 
 -- after an operator, the empty word completes a comparison
 literal_runs : (a : List ℕ) (o : Op) (below : List Frame) (f : Frame) (n : ℕ) (rest : List Token)
-    → run (record { below = below; top = f; place = after_op a o; room = n }) (word [] ∷ rest)
+    → run (record { below = below; top = f; expected = after_op a o; room = n }) (word [] ∷ rest)
     ≡ run (completed (Compare a o (empty_literal o).0) below f n) rest
 literal_runs a o below f n rest = ap (λ r. option_and_then (λ s. run s rest)
     (option_map (λ literal. completed (Compare a o literal) below f n) r)) (empty_literal o).1
 
 -- each state leads to a formula: a name, `=` and an empty word are put where they lack
-pub leads_on : (p : Place) (below : List Frame) (f : Frame) (n : ℕ)
-    → Leads (record { below = below; top = f; place = p; room = n })
+pub leads_on : (p : Expected) (below : List Frame) (f : Frame) (n : ℕ)
+    → Leads (record { below = below; top = f; expected = p; room = n })
 leads_on operand below f n =
     let h =
     leads_behind below (frame_with (Compare (97 ∷ []) Eq (empty_literal Eq).0) f) (n + f.bangs) in
@@ -110,7 +110,7 @@ steps_push (u ∷ ts) t s s' e = steps_then (step s u) ts t s' (λ x h. steps_pu
 -- tokens that are taken begin a formula
 pub begun : (ts : List Token) (s : State) → steps (start nesting) ts ≡ Some s → IsBegun ts
 begun ts s e =
-    let h = leads_on s.place s.below s.top s.room in (
+    let h = leads_on s.expected s.below s.top s.room in (
       h.rest,
       h.q,
       run_reads nesting (ts ++ h.rest) h.q (steps_run ts (start nesting) s h.rest e ∙ h.runs),

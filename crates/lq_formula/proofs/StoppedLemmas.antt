@@ -127,13 +127,14 @@ after_by : (end : ℕ) (seen : List Placed) (t : Placed) (ts all : List Placed) 
     → all ≡ seen ++ t ∷ ts → Seen seen s count → step s t.token ≡ o
     → ((s' : State) → Seen (seen ++ t ∷ []) s' (count + word_count t.token)
     → others s' ≡ Err p → Stops end all p)
-    → after_token (fault_place end s.place t) t o (count + word_count t.token) others ≡ Err p
+    → after_token (fault_place end s.expected t) t o (count + word_count t.token) others ≡ Err p
     → Stops end all p
 after_by end seen t ts all s count p others None a h e ih f =
-    let fault : IsFaultOf end (bare seen) t (fault_place end s.place t) =
+    let fault : IsFaultOf end (bare seen) t (fault_place end s.expected t) =
     refused_fault end (bare seen) s t h.goes e in
     at_one seen t ts a (seen_fine end seen s count h) (subst (IsFaultOf end (bare seen) t)
-    (sym (same_place (fault_place end s.place t) p (Err (fault_place end s.place t)) refl f)) fault)
+    (sym (same_place (fault_place end s.expected t) p (Err (fault_place end s.expected t))
+    refl f)) fault)
 after_by end seen t ts all s count p others (Some s') a h e ih f =
     count_by end seen t ts all s s' count p others
     (nat_le (count + word_count t.token) (most_comparisons + most_comparisons)) a h e (ih s') refl f

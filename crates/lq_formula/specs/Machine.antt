@@ -12,36 +12,36 @@ pub record Frame : Type 0 where
   pub and_parts : List Query
   pub bangs : ℕ
 
-pub data Place : Type 0 where
-  operand : Place
-  after_attr : List ℕ → Place
-  after_op : List ℕ → Op → Place
-  after_operand : Place
+pub data Expected : Type 0 where
+  operand : Expected
+  after_attr : List ℕ → Expected
+  after_op : List ℕ → Op → Expected
+  after_operand : Expected
 
 pub record State : Type 0 where
   pub below : List Frame
   pub top : Frame
-  pub place : Place
+  pub expected : Expected
   pub room : ℕ
 
 abbrev pub empty_frame : Frame
 empty_frame = record { or_parts = []; and_parts = []; bangs = 0 }
 
 abbrev pub start : ℕ → State
-start n = record { below = []; top = empty_frame; place = operand; room = n }
+start n = record { below = []; top = empty_frame; expected = operand; room = n }
 
 abbrev pub negate : ℕ → Query → Query
 negate zero q = q
 negate (suc n) q = negate n (Not q)
 
--- the operand that was awaited is done
+-- the operand that was expected is done
 abbrev pub frame_with : Query → Frame → Frame
 frame_with q f =
     record { or_parts = f.or_parts; and_parts = f.and_parts ++ negate f.bangs q ∷ []; bangs = 0 }
 
 abbrev pub completed : Query → List Frame → Frame → ℕ → State
 completed q below f room =
-    record { below = below; top = frame_with q f; place = after_operand; room = room + f.bangs }
+    record { below = below; top = frame_with q f; expected = after_operand; room = room + f.bangs }
 
 -- what a frame says, once it is whole
 abbrev pub said_by : Frame → Query
@@ -58,15 +58,15 @@ close (g ∷ gs) f room = Some (completed (said_by f) gs g (suc room))
 
 abbrev pub at_operand : State → Token → Option State
 at_operand s opens = deeper s.room
-    (λ n. record { below = s.top ∷ s.below; top = empty_frame; place = operand; room = n })
+    (λ n. record { below = s.top ∷ s.below; top = empty_frame; expected = operand; room = n })
 at_operand s bang = deeper s.room (λ n. record {
   below = s.below;
   top = record { or_parts = s.top.or_parts; and_parts = s.top.and_parts; bangs = suc s.top.bangs };
-  place = operand;
+  expected = operand;
   room = n;
 })
 at_operand s (word a) = option_map (λ name.
-    record { below = s.below; top = s.top; place = after_attr name; room = s.room }) (name_of a)
+    record { below = s.below; top = s.top; expected = after_attr name; room = s.room }) (name_of a)
 at_operand s closes = None
 at_operand s ands = None
 at_operand s ors = None
@@ -76,7 +76,7 @@ at_operand s cut = None
 
 abbrev pub at_attr : State → List ℕ → Token → Option State
 at_attr s a (op o) =
-    Some (record { below = s.below; top = s.top; place = after_op a o; room = s.room })
+    Some (record { below = s.below; top = s.top; expected = after_op a o; room = s.room })
 at_attr s a opens = None
 at_attr s a closes = None
 at_attr s a bang = None
@@ -102,7 +102,7 @@ abbrev pub at_end : State → Token → Option State
 at_end s ands = Some (record {
   below = s.below;
   top = record { or_parts = s.top.or_parts; and_parts = s.top.and_parts; bangs = 0 };
-  place = operand;
+  expected = operand;
   room = s.room;
 })
 at_end s ors = Some (record {
@@ -112,7 +112,7 @@ at_end s ors = Some (record {
     and_parts = [];
     bangs = 0;
   };
-  place = operand;
+  expected = operand;
   room = s.room;
 })
 at_end s closes = close s.below s.top s.room
@@ -123,7 +123,7 @@ at_end s (word w) = None
 at_end s lone = None
 at_end s cut = None
 
-abbrev pub step_at : Place → State → Token → Option State
+abbrev pub step_at : Expected → State → Token → Option State
 step_at operand s t = at_operand s t
 step_at (after_attr a) s t = at_attr s a t
 step_at (after_op a o) s t = at_op s a o t
@@ -131,9 +131,9 @@ step_at after_operand s t = at_end s t
 
 -- None: the token can't stand here, or would nest too deep
 abbrev pub step : State → Token → Option State
-step s t = step_at s.place s t
+step s t = step_at s.expected s t
 
-abbrev pub whole_at : Place → List Frame → Frame → Option Query
+abbrev pub whole_at : Expected → List Frame → Frame → Option Query
 whole_at after_operand [] f = Some (said_by f)
 whole_at after_operand (g ∷ gs) f = None
 whole_at operand below f = None
@@ -142,7 +142,7 @@ whole_at (after_op a o) below f = None
 
 -- the query, where the formula may end here
 abbrev pub whole : State → Option Query
-whole s = whole_at s.place s.below s.top
+whole s = whole_at s.expected s.below s.top
 
 abbrev pub run : State → List Token → Option Query
 run s [] = whole s

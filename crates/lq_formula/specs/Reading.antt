@@ -6,13 +6,13 @@ use Rattle.lq_formula.specs.Query.{Query}
 use Rattle.lq_formula.specs.Grammar.{nesting}
 use Rattle.lq_formula.specs.Literals.{literal_fault}
 use Rattle.lq_formula.specs.Canonical.{canonical, depth}
-use Rattle.lq_formula.specs.Machine.{Place, operand, after_attr, after_op, after_operand, State, start, step, whole}
+use Rattle.lq_formula.specs.Machine.{Expected, operand, after_attr, after_op, after_operand, State, start, step, whole}
 use Rattle.lq_formula.specs.Faults.{most_bytes, most_comparisons, most_depth}
 
 -- ---- where a token that is refused has its fault
 
 -- the place in a word where its pattern has a fault, if it is a literal that is read as a pattern
-abbrev pub pattern_fault_of_word : Place → List ℕ → Option ℕ
+abbrev pub pattern_fault_of_word : Expected → List ℕ → Option ℕ
 pattern_fault_of_word operand raw = None
 pattern_fault_of_word (after_attr a) raw = None
 pattern_fault_of_word (after_op a o) raw = literal_fault o raw
@@ -22,7 +22,7 @@ abbrev pub place_with : Option ℕ → Placed → ℕ
 place_with None t = t.place
 place_with (Some k) t = t.raw_place + k
 
-abbrev pub fault_place_of : ℕ → Place → Token → Placed → ℕ
+abbrev pub fault_place_of : ℕ → Expected → Token → Placed → ℕ
 fault_place_of end p opens t = t.place
 fault_place_of end p closes t = t.place
 fault_place_of end p bang t = t.place
@@ -34,7 +34,7 @@ fault_place_of end p lone t = t.place
 fault_place_of end p cut t = end
 
 -- the place of the fault of a token that can't be taken: a cut text has it at the end of all
-abbrev pub fault_place : ℕ → Place → Placed → ℕ
+abbrev pub fault_place : ℕ → Expected → Placed → ℕ
 fault_place end p t = fault_place_of end p t.token t
 
 -- ---- the reading
@@ -69,7 +69,7 @@ finished end (Some q) =
 -- words before them, where the text ends at `end`
 unfoldable pub read_tokens : ℕ → State → ℕ → List Placed → Result Query ℕ
 read_tokens end s count [] = finished end (whole s)
-read_tokens end s count (t ∷ ts) = after_token (fault_place end s.place t) t (step s t.token)
+read_tokens end s count (t ∷ ts) = after_token (fault_place end s.expected t) t (step s t.token)
     (count + word_count t.token) (λ s'. read_tokens end s' (count + word_count t.token) ts)
 
 abbrev pub reading_of : List ℕ → Result Query ℕ

@@ -8,22 +8,22 @@ ghost use Rattle.lq_formula.specs.TokenView.{placed_of, token_of};
 
 use crate::count::count_spaces;
 use crate::piece::first_piece;
-use crate::token::{Left, Placed};
+use crate::token::{Cursor, Placed};
 
 /// The next token of a text with its places, and what is left behind it.
 ///
 /// None where only white space is left. It takes no memory, and the token borrows the text.
 /// The tokens are this project's own.
 #[tactic(auto, using(crate::proofs::TokenLemmas::tokens_from_yields, crate::proofs::TokenLemmas::tokens_from_none))]
-pub fn next_token<'a>(left: Left<'a>) -> Option<(Placed<'a>, Left<'a>)>
-    requires { left.place + length left.rest.now < 2 ^ 64 }
-    ensures none { IfNone result (trimmed left.entry.rest.now ≡ []) }
-    ensures some { IfSome result (λ r. Yields left.entry.place left.entry.rest.now
+pub fn next_token<'a>(cursor: Cursor<'a>) -> Option<(Placed<'a>, Cursor<'a>)>
+    requires { cursor.place + length cursor.rest.now < 2 ^ 64 }
+    ensures none { IfNone result (trimmed cursor.entry.rest.now ≡ []) }
+    ensures some { IfSome result (λ r. Yields cursor.entry.place cursor.entry.rest.now
         (placed_of r.0) r.1.place r.1.rest.now) }
 
     // The same on the list of all tokens.
-    ensures last { IfNone result (tokens_from left.entry.place left.entry.rest.now ≡ []) }
-    ensures first { IfSome result (λ r. tokens_from left.entry.place left.entry.rest.now
+    ensures last { IfNone result (tokens_from cursor.entry.place cursor.entry.rest.now ≡ []) }
+    ensures first { IfSome result (λ r. tokens_from cursor.entry.place cursor.entry.rest.now
         ≡ placed_of r.0 ∷ tokens_from r.1.place r.1.rest.now) }
 
     // A word is a text.
@@ -31,14 +31,14 @@ pub fn next_token<'a>(left: Left<'a>) -> Option<(Placed<'a>, Left<'a>)>
 
     // What is left is the end of the same text, and shorter.
     ensures place { IfSome result (λ r. r.1.place + length r.1.rest.now
-        ≡ left.entry.place + length left.entry.rest.now) }
-    ensures shorter { IfSome result (λ r. length r.1.rest.now < length left.entry.rest.now) }
+        ≡ cursor.entry.place + length cursor.entry.rest.now) }
+    ensures shorter { IfSome result (λ r. length r.1.rest.now < length cursor.entry.rest.now) }
 {
-    let (space, rest) = trim(left.rest);
+    let (space, rest) = trim(cursor.rest);
     if rest.is_empty() {
         return None;
     }
-    let place = left.place + space;
+    let place = cursor.place + space;
     let piece = first_piece(rest);
     let (_, after) = rest.split_at(piece.size);
     Some((
@@ -47,7 +47,7 @@ pub fn next_token<'a>(left: Left<'a>) -> Option<(Placed<'a>, Left<'a>)>
             raw_place: place + piece.inside,
             token: piece.token,
         },
-        Left {
+        Cursor {
             place: place + piece.size,
             rest: after,
         },

@@ -26,5 +26,5 @@ pub use lexer::next_token;
 pub use raw::{is_name, read_literal, read_name};
 pub use raw_size::{joined_size, raw_literal_size, raw_name_size};
 pub use size::{characters_size, comparison_size, comparison_size_with, pattern_size, plain_size};
-pub use token::{Left, Placed, Token};
+pub use token::{Cursor, Placed, Token};
 pub use writing::put_comparison;

@@ -34,7 +34,7 @@ pub struct Placed<'a> {
 
 /// What is left of a text, and the byte place where it begins.
 #[derive(Clone, Copy, Debug)]
-pub struct Left<'a> {
+pub struct Cursor<'a> {
     pub place: usize,
     pub rest: &'a str,
 }

@@ -8,7 +8,7 @@ use crate::intake::Intake;
 use crate::pieces::{finish, take_piece};
 use crate::responder::Responder;
 use crate::run_fault::RunFault;
-use crate::writing::{close, hand};
+use crate::writing::{write_and_flush, write_replies};
 use std::alloc::Global;
 
 /// The bytes that one read asks for.
@@ -46,7 +46,7 @@ fn take_block<S: Responder, W: Sink>(
         Ok(()) => Ok(()),
         Err(RunFault::Write) => Err(RunFault::Write),
         Err(fault) => {
-            close(out, writer)?;
+            write_and_flush(out, writer)?;
             Err(fault)
         }
     }
@@ -96,9 +96,9 @@ pub fn run_lines<R: Source, W: Sink, S: Responder>(
     let mut intake = Intake::new(alloc);
     let mut out = Vec::new(alloc);
     loop {
-        hand(&mut out, writer)?;
+        write_replies(&mut out, writer)?;
         let Ok(count) = reader.read(&mut block) else {
-            close(&mut out, writer)?;
+            write_and_flush(&mut out, writer)?;
             return Err(RunFault::Read);
         };
         if count == 0 {

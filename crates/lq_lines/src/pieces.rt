@@ -9,7 +9,7 @@ use crate::devices::{Failed, Sink};
 use crate::intake::{Intake, MAX_BYTES, MAX_LINES};
 use crate::responder::Responder;
 use crate::run_fault::RunFault;
-use crate::writing::{close, hand};
+use crate::writing::{write_and_flush, write_replies};
 use memchr::memchr;
 
 /// The bytes of replies from which on they are written.
@@ -47,7 +47,7 @@ fn end_line<S: Responder, W: Sink>(
     if out.len() < GATHERED {
         return Ok(());
     }
-    hand(out, writer)
+    write_replies(out, writer)
 }
 
 /// Takes a piece of the input, and answers each line that ends in it.
@@ -133,10 +133,10 @@ pub fn finish<S: Responder, W: Sink>(
         (W.flushed writer.new ≡ true) ⊎ (W.failed writer.new ≡ true) }
 {
     if intake.answer(responder, out).is_err() {
-        close(out, writer)?;
+        write_and_flush(out, writer)?;
         return Err(RunFault::Memory);
     }
-    hand(out, writer)?;
+    write_replies(out, writer)?;
     match writer.flush() {
         Ok(()) => Ok(()),
         Err(Failed) => Err(RunFault::Write),

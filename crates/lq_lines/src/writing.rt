@@ -6,7 +6,7 @@ use crate::devices::{Failed, Sink};
 use crate::run_fault::RunFault;
 
 /// Writes the replies that wait. After a fault none waits either.
-pub fn hand<W: Sink>(out: &mut Vec<u8>, writer: &mut W) -> Result<(), RunFault>
+pub fn write_replies<W: Sink>(out: &mut Vec<u8>, writer: &mut W) -> Result<(), RunFault>
     ensures ok { OnOk result
         (Appends (W.written writer.old) (W.written writer.new) out.old.items) }
     ensures empty { out.new.items ≡ [] }
@@ -27,7 +27,7 @@ pub fn hand<W: Sink>(out: &mut Vec<u8>, writer: &mut W) -> Result<(), RunFault>
 
 /// Writes the replies that wait, and flushes once after another fault, which goes before one
 /// of this flush.
-pub fn close<W: Sink>(out: &mut Vec<u8>, writer: &mut W) -> Result<(), RunFault>
+pub fn write_and_flush<W: Sink>(out: &mut Vec<u8>, writer: &mut W) -> Result<(), RunFault>
     ensures ok { OnOk result
         (Appends (W.written writer.old) (W.written writer.new) out.old.items) }
     ensures empty { out.new.items ≡ [] }
@@ -39,7 +39,7 @@ pub fn close<W: Sink>(out: &mut Vec<u8>, writer: &mut W) -> Result<(), RunFault>
     ensures fault { IfErr result (λ e. e ≡ RunFault.Write) }
     ensures cause { OnErr result ((W.failed writer.new ≡ true) ⊎ (W.stalled writer.new ≡ true)) }
 {
-    hand(out, writer)?;
+    write_replies(out, writer)?;
     match writer.flush() {
         Ok(()) | Err(Failed) => Ok(()),
     }

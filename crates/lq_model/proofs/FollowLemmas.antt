@@ -38,7 +38,7 @@ updates_are q mv b m n = refl
 
 -- what a name has to do with its reader
 abbrev Fits : ReaderHold → Identity → Type 0
-Fits r t = IdentityFits t r.reading.port × (r.seat.asks ≡ asks_after t.asks r.asked)
+Fits r t = IdentityFits t r.reading.port × (r.seat.asks ≡ asks_after t.asks r.hang_up_asked)
     × (t.asks < 1000000000000)
 
 -- readers under one name are of one query
@@ -60,7 +60,7 @@ pub followed : (q : Query) (board : TableId) (begun : Book) (port backlog : ℕ)
         reading = new.reading;
         seat = one;
         slot = new.slot;
-        asked = new.asked;
+        hang_up_asked = new.hang_up_asked;
       };
       synced = x;
       retired = z;

@@ -1,7 +1,7 @@
 -- Read in this order. Canonical texts, a piece at a time: PartLemmas, CanonicalLemmas, SizeLemmas,
--- ExtentLemmas, FitLemmas, DepthLemmas, StarredLemmas. Names and truth: NameLemmas, TruthLemmas.
--- The stack: StackLemmas. Reading: WeightLemmas, GaugeLemmas, PlaceLemmas, SoFarLemmas,
--- LimitLemmas, ReadLemmas, MachineLemmas.
+-- QuerySizeLemmas, FitLemmas, DepthLemmas, StarredLemmas. Names and truth: NameLemmas, TruthLemmas.
+-- The stack: StackLemmas. Reading: WeightLemmas, ValidatorLemmas, PlaceLemmas, SoFarLemmas,
+-- LimitLemmas, ReadLemmas, ParserLemmas.
 pub mod PartLemmas
 pub mod NameLemmas
 pub mod TruthLemmas
@@ -15,7 +15,7 @@ pub mod SizeLemmas
 pub mod FitLemmas
 pub mod LimitLemmas
 pub mod ReadLemmas
-pub mod ExtentLemmas
-pub mod GaugeLemmas
+pub mod QuerySizeLemmas
+pub mod ValidatorLemmas
 pub mod StarredLemmas
-pub mod MachineLemmas
+pub mod ParserLemmas

@@ -10,15 +10,15 @@ use Rattle.lq_value.specs.Source.{Pieces, whole, stuck, pieces_of, element_at, e
 use Rattle.lq_formula.specs.Tokens.{Token, opens, closes, bang, ands, ors, op, word, lone, cut, Placed, Front, fixed, begins_with, longer, quoted_front, word_front, is_symbol, symbol_front, front, front_at, Yields, trimmed}
 use Rattle.lq_formula.specs.Bytes.{spaces, quoted_bytes, word_bytes}
 use Rattle.lq_formula.specs.Literals.{bad_place, literal_fault}
-use Rattle.lq_formula.specs.Machine.{Place, operand, after_attr, after_op, after_operand}
+use Rattle.lq_formula.specs.Machine.{Expected, operand, after_attr, after_op, after_operand}
 use Rattle.lq_formula.specs.Reading.{fault_place, fault_place_of, place_with, pattern_fault_of_word}
-use Rattle.lq_predicate.specs.MachineView.{pattern_fault}
+use Rattle.lq_predicate.specs.ParserView.{pattern_fault}
 use Rattle.lq_predicate.specs.PlainPlace.{place_or_end, plain_place}
 
 -- ---- the place itself
 
 -- a token whose pattern is not bad has its fault where it stands, or at the end
-plain_by : (end : ℕ) (p : Place) (u : Token) (t : Placed) → pattern_fault p u ≡ None
+plain_by : (end : ℕ) (p : Expected) (u : Token) (t : Placed) → pattern_fault p u ≡ None
     → fault_place_of end p u t ≡ place_or_end end t.place u
 plain_by end p opens t e = refl
 plain_by end p closes t e = refl
@@ -31,12 +31,12 @@ plain_by end p lone t e = refl
 plain_by end p cut t e = refl
 
 -- the same at the token's own place
-pub fault_place-plain : (end : ℕ) (p : Place) (t : Placed) → pattern_fault p t.token ≡ None
+pub fault_place-plain : (end : ℕ) (p : Expected) (t : Placed) → pattern_fault p t.token ≡ None
     → fault_place end p t ≡ plain_place end t
 fault_place-plain end p t e = plain_by end p t.token t e
 
 -- a token whose pattern is bad has its fault that far within it
-pattern_by : (end : ℕ) (p : Place) (u : Token) (t : Placed) (k : ℕ) → pattern_fault p u ≡ Some k
+pattern_by : (end : ℕ) (p : Expected) (u : Token) (t : Placed) (k : ℕ) → pattern_fault p u ≡ Some k
     → fault_place_of end p u t ≡ t.raw_place + k
 pattern_by end p (word raw) t k e = ap (λ f. place_with f t) e
 pattern_by end p opens t k e = cc
@@ -49,7 +49,7 @@ pattern_by end p lone t k e = cc
 pattern_by end p cut t k e = cc
 
 -- the same at the token's own place
-pub fault_place-pattern : (end : ℕ) (p : Place) (t : Placed) (k : ℕ)
+pub fault_place-pattern : (end : ℕ) (p : Expected) (t : Placed) (k : ℕ)
     → pattern_fault p t.token ≡ Some k → fault_place end p t ≡ t.raw_place + k
 fault_place-pattern end p t k e = pattern_by end p t.token t k e
 
@@ -85,7 +85,7 @@ literal_within Gt raw k e = cc
 literal_within Ge raw k e = cc
 
 -- the place where a word is bad lies within it
-word_within : (p : Place) (raw : List ℕ) (k : ℕ) → pattern_fault_of_word p raw ≡ Some k
+word_within : (p : Expected) (raw : List ℕ) (k : ℕ) → pattern_fault_of_word p raw ≡ Some k
     → k ≤ length raw
 word_within operand raw k e = cc
 word_within (after_attr a) raw k e = cc
@@ -93,7 +93,7 @@ word_within (after_op a o) raw k e = literal_within o raw k e
 word_within after_operand raw k e = cc
 
 -- the place where a token is bad lies within its text
-fault_within : (p : Place) (u : Token) (k : ℕ) → pattern_fault p u ≡ Some k → k ≤ raw_length u
+fault_within : (p : Expected) (u : Token) (k : ℕ) → pattern_fault p u ≡ Some k → k ≤ raw_length u
 fault_within p (word raw) k e = word_within p raw k e
 fault_within p opens k e = cc
 fault_within p closes k e = cc
@@ -164,7 +164,8 @@ front_at_small [] = (omega arith, omega arith)
 front_at_small (b ∷ bs) = front_small b bs
 
 -- the place of the fault of a pattern is no more than one past twice the text
-pub pattern_place-bound : (at : ℕ) (bs : List ℕ) (t : Placed) (next : ℕ) (rest : List ℕ) (p : Place)
+pub pattern_place-bound : (at : ℕ) (bs : List ℕ) (t : Placed) (next : ℕ) (rest : List ℕ)
+    (p : Expected)
     (k : ℕ) → Yields at bs t next rest → next + length rest ≡ at + length bs
     → pattern_fault p t.token ≡ Some k → t.raw_place + k ≤ suc ((at + length bs) + length bs)
 pattern_place-bound at bs t next rest p k y total e =

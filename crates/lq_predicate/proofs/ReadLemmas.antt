@@ -10,11 +10,11 @@ use Rattle.lq_formula.specs.Tokens.{Placed, Yields, tokens_from}
 use Rattle.lq_formula.specs.Reading.{finished, reading_of}
 use Rattle.lq_formula.specs.Laws.{FormulasAreRead}
 use Rattle.lq_formula.specs.Capped.{capped}
-use Rattle.lq_predicate.specs.declared.extent.Extent.{Extent}
-use Rattle.lq_predicate.specs.Gauge.{extent_of}
+use Rattle.lq_predicate.specs.declared.query_size.QuerySize.{QuerySize}
+use Rattle.lq_predicate.specs.Validator.{query_size}
 use Rattle.lq_predicate.specs.Limits.{is_predicate}
 use Rattle.lq_predicate.specs.Refusals.{fault_of}
-use Rattle.lq_predicate.specs.MachineView.{pattern_fault}
+use Rattle.lq_predicate.specs.ParserView.{pattern_fault}
 use Rattle.lq_predicate.specs.PlainPlace.{plain_place}
 use Rattle.lq_predicate.proofs.SoFarLemmas.{SoFar, passes, place_fits, stops_here, stops_within}
 use Rattle.lq_predicate.proofs.LimitLemmas.{reads_predicate}
@@ -63,9 +63,9 @@ limits_by : (end : ℕ) (q : Query) (a b : Bool)
 limits_by end q a b deep long over = ap (λ t. fault_of (if t then Ok q else Err end)) (sym
     (ap (λ t. t && nat_le (length (canonical q)) most_bytes) deep ∙ ap (λ t. a && t) long ∙ over))
 
--- a query whose extent is above a limit has its fault at the end
-pub too_great : (text : List ℕ) (q : Query) (e : Extent)
-    → reading_of text ≡ finished (length text) (Some q) → e ≡ extent_of q
+-- a query whose size is above a limit has its fault at the end
+pub too_great : (text : List ℕ) (q : Query) (e : QuerySize)
+    → reading_of text ≡ finished (length text) (Some q) → e ≡ query_size q
     → (64 < e.depth) ⊎ ((e.depth ≤ 64) × (4096 < e.bytes))
     → Some (length text) ≡ fault_of (reading_of text)
 too_great text q e is same (inl deep) =
@@ -83,9 +83,9 @@ too_great text q e is same (inr (shallow, long)) =
     and_false true end q h = ap (λ t. fault_of (if t then Ok q else Err end)) (sym h)
     and_false false end q h = refl
 
--- a query whose extent is within the limits has no fault
-pub fits : (text : List ℕ) (q : Query) (e : Extent)
-    → reading_of text ≡ finished (length text) (Some q) → e ≡ extent_of q → e.depth ≤ 64
+-- a query whose size is within the limits has no fault
+pub fits : (text : List ℕ) (q : Query) (e : QuerySize)
+    → reading_of text ≡ finished (length text) (Some q) → e ≡ query_size q → e.depth ≤ 64
     → e.bytes ≤ 4096 → None ≡ fault_of (reading_of text)
 fits text q e is same deep long =
     let d : e.depth ≡ capped (depth q) = ap (λ x. x.depth) same in
@@ -97,7 +97,7 @@ fits text q e is same deep long =
 pub token_fits : (text : List ℕ) (place : ℕ) (rest : List ℕ) (s : State) (count : ℕ)
     → SoFar text place rest s count → (t : Placed) (next : ℕ) (behind : List ℕ) (o : Option ℕ)
     → Yields place rest t next behind → next + length behind ≡ place + length rest
-    → pattern_fault s.place t.token ≡ o → IfSome o (λ k. t.raw_place + k < 2 ^ 64)
+    → pattern_fault s.expected t.token ≡ o → IfSome o (λ k. t.raw_place + k < 2 ^ 64)
 token_fits text place rest s count h t next behind None y total e = tt
 token_fits text place rest s count h t next behind (Some k) y total e =
     place_fits text place rest s count h t next behind k y total e
@@ -105,7 +105,7 @@ token_fits text place rest s count h t next behind (Some k) y total e =
 -- the token can't be taken
 pub token_stops : (text : List ℕ) (place : ℕ) (rest : List ℕ) (s : State) (count : ℕ)
     → SoFar text place rest s count → (t : Placed) (ts : List Placed) (o : Option ℕ) (p : ℕ)
-    → tokens_from place rest ≡ t ∷ ts → step s t.token ≡ None → pattern_fault s.place t.token ≡ o
+    → tokens_from place rest ≡ t ∷ ts → step s t.token ≡ None → pattern_fault s.expected t.token ≡ o
     → MatchOption o (p ≡ plain_place (length text) t) (λ k. p ≡ t.raw_place + k)
     → Some p ≡ fault_of (reading_of text)
 token_stops text place rest s count h t ts None p e none fault is =

@@ -10,7 +10,7 @@ use Rattle.lq_formula.specs.Grammar.{nesting}
 use Rattle.lq_formula.specs.Machine.{State, start, step, whole, weight}
 use Rattle.lq_formula.specs.Faults.{most_bytes, most_comparisons}
 use Rattle.lq_formula.specs.Reading.{after_token, fault_place, finished, read_tokens, reading_of, word_count}
-use Rattle.lq_predicate.specs.MachineView.{pattern_fault}
+use Rattle.lq_predicate.specs.ParserView.{pattern_fault}
 use Rattle.lq_predicate.specs.PlainPlace.{plain_place}
 use Rattle.lq_predicate.specs.Refusals.{fault_of}
 use Rattle.lq_predicate.proofs.PlaceLemmas.{fault_place-plain, fault_place-pattern, pattern_place-bound}
@@ -39,7 +39,8 @@ starts text s h e = record {
 
 -- one token, and the others behind it
 one_token : (end : ℕ) (s : State) (count : ℕ) (t : Placed) (ts : List Placed)
-    → read_tokens end s count (t ∷ ts) ≡ after_token (fault_place end s.place t) t (step s t.token)
+    → read_tokens end s count (t ∷ ts)
+    ≡ after_token (fault_place end s.expected t) t (step s t.token)
     (count + word_count t.token) (λ s'. read_tokens end s' (count + word_count t.token) ts)
 unfolding read_tokens
 one_token end s count t ts = refl
@@ -53,7 +54,7 @@ module _ (text : List ℕ) (place : ℕ) (rest : List ℕ) (s : State) (count : 
     (h : SoFar text place rest s count) where
   -- where a token is next, the reading goes on from what the machine makes of it
   reads_on : (t : Placed) (ts : List Placed) → tokens_from place rest ≡ t ∷ ts
-      → reading_of text ≡ after_token (fault_place (length text) s.place t) t (step s t.token)
+      → reading_of text ≡ after_token (fault_place (length text) s.expected t) t (step s t.token)
       (count + word_count t.token)
       (λ s'. read_tokens (length text) s' (count + word_count t.token) ts)
   reads_on t ts e =
@@ -68,7 +69,7 @@ module _ (text : List ℕ) (place : ℕ) (rest : List ℕ) (s : State) (count : 
     reads =
         let others : State → Result Query ℕ =
         λ x. read_tokens (length text) x (count + word_count t.token) (tokens_from next behind) in
-        let fault = fault_place (length text) s.place t in
+        let fault = fault_place (length text) s.expected t in
         ap (λ m. read_tokens (length text) s' m (tokens_from next behind)) same
         ∙ sym (reads_on t (tokens_from next behind) e
         ∙ ap (λ o. after_token fault t o (count + word_count t.token) others) k
@@ -82,25 +83,26 @@ module _ (text : List ℕ) (place : ℕ) (rest : List ℕ) (s : State) (count : 
 
   -- where the machine refuses the next token, the reading has the token's fault
   stops : (t : Placed) (ts : List Placed) (p : ℕ) → tokens_from place rest ≡ t ∷ ts
-      → step s t.token ≡ None → p ≡ fault_place (length text) s.place t
+      → step s t.token ≡ None → p ≡ fault_place (length text) s.expected t
       → Some p ≡ fault_of (reading_of text)
   stops t ts p e k is = ap (λ x. Some x) is ∙ sym (ap fault_of (reads_on t ts e
-      ∙ ap (λ o. after_token (fault_place (length text) s.place t) t o (count + word_count t.token)
+      ∙ ap (λ o. after_token (fault_place (length text) s.expected t) t o
+      (count + word_count t.token)
       (λ x. read_tokens (length text) x (count + word_count t.token) ts)) k))
 
   -- the token can't stand here
   pub stops_here : (t : Placed) (ts : List Placed) (p : ℕ) → tokens_from place rest ≡ t ∷ ts
-      → step s t.token ≡ None → pattern_fault s.place t.token ≡ None
+      → step s t.token ≡ None → pattern_fault s.expected t.token ≡ None
       → p ≡ plain_place (length text) t → Some p ≡ fault_of (reading_of text)
   stops_here t ts p e k f is =
-      stops t ts p e k (is ∙ sym (fault_place-plain (length text) s.place t f))
+      stops t ts p e k (is ∙ sym (fault_place-plain (length text) s.expected t f))
 
   -- its pattern has a fault
   pub stops_within : (t : Placed) (ts : List Placed) (k : ℕ) → tokens_from place rest ≡ t ∷ ts
-      → step s t.token ≡ None → pattern_fault s.place t.token ≡ Some k
+      → step s t.token ≡ None → pattern_fault s.expected t.token ≡ Some k
       → Some (t.raw_place + k) ≡ fault_of (reading_of text)
   stops_within t ts k e none f =
-      stops t ts (t.raw_place + k) e none (sym (fault_place-pattern (length text) s.place t k f))
+      stops t ts (t.raw_place + k) e none (sym (fault_place-pattern (length text) s.expected t k f))
 
   -- it is a word too many
   pub one_too_many : (t : Placed) (ts : List Placed) (s' : State) (n : ℕ)
@@ -110,7 +112,8 @@ module _ (text : List ℕ) (place : ℕ) (rest : List ℕ) (s : State) (count : 
       let others : State → Result Query ℕ =
       λ x. read_tokens (length text) x (count + word_count t.token) ts in
       sym (ap fault_of (reads_on t ts e ∙ ap (λ o.
-      after_token (fault_place (length text) s.place t) t o (count + word_count t.token) others) k
+      after_token (fault_place (length text) s.expected t) t o (count + word_count t.token)
+      others) k
       ∙ ap (λ b. if b then others s' else Err t.place) (lt-leb (count + word_count t.token)
       (most_comparisons + most_comparisons) (subst (λ m. 512 < m) same many))))
 
@@ -123,9 +126,9 @@ module _ (text : List ℕ) (place : ℕ) (rest : List ℕ) (s : State) (count : 
   -- the place of a pattern's fault is a number of 64 bits
   pub place_fits : (t : Placed) (next : ℕ) (behind : List ℕ) (k : ℕ)
       → Yields place rest t next behind → next + length behind ≡ place + length rest
-      → pattern_fault s.place t.token ≡ Some k → t.raw_place + k < 2 ^ 64
+      → pattern_fault s.expected t.token ≡ Some k → t.raw_place + k < 2 ^ 64
   place_fits t next behind k y total f =
-      let bound = pattern_place-bound place rest t next behind s.place k y total f in
+      let bound = pattern_place-bound place rest t next behind s.expected k y total f in
       omega (arith, bound, h.room, h.short)
 
 -- ---- a text that reads as a query
@@ -152,7 +155,7 @@ module _ (text : List ℕ) (place : ℕ) (rest : List ℕ) (s : State) (count : 
   -- the next token can be taken
   pub takes : (t : Placed) (ts : List Placed) → tokens_from place rest ≡ t ∷ ts
       → IsSome (step s t.token)
-  takes t ts e = taken_by (fault_place (length text) s.place t) t (step s t.token)
+  takes t ts e = taken_by (fault_place (length text) s.expected t) t (step s t.token)
       (count + word_count t.token)
       (λ x. read_tokens (length text) x (count + word_count t.token) ts)
       (sym (ap fault_of (reads_on text place rest s count h t ts e)) ∙ fine)
@@ -167,7 +170,7 @@ module _ (text : List ℕ) (place : ℕ) (rest : List ℕ) (s : State) (count : 
       let others : State → Result Query ℕ =
       λ x. read_tokens (length text) x n (tokens_from next behind) in
       let on = reads_on text place rest s count h t (tokens_from next behind) e
-      ∙ ap (λ o. after_token (fault_place (length text) s.place t) t o n others) k in
+      ∙ ap (λ o. after_token (fault_place (length text) s.expected t) t o n others) k in
       let few = passes (nat_le n (most_comparisons + most_comparisons)) (others s') t.place
       (sym (ap fault_of on) ∙ fine) in
       goes_on text place rest s count h t next behind s' n e k refl

@@ -4,7 +4,7 @@ use Rattle.std.specs.Prelude.{option_map}
 use Rattle.lq_formula.specs.Tokens.{Token, opens, closes, bang, ands, ors, op, word, lone, cut}
 use Rattle.lq_formula.specs.Literals.{name_of, literal_of}
 use Rattle.lq_formula.specs.Query.{Compare}
-use Rattle.lq_formula.specs.Machine.{Frame, Place, operand, after_attr, after_op, after_operand, State, completed, step, open_weight, weight}
+use Rattle.lq_formula.specs.Machine.{Frame, Expected, operand, after_attr, after_op, after_operand, State, completed, step, open_weight, weight}
 
 -- nothing is both None and Some
 fails : {A : Type 0} {X : Type 0} (x : A) → None ≡ Some x → X
@@ -21,11 +21,11 @@ mapped_light None f s n h e = fails s e
 mapped_light (Some x) f s n h e = light (f x) s n e (h x)
 
 -- a step from a state leads to none that weighs more
-lighter : (p : Place) (below : List Frame) (f : Frame) (n : ℕ) (t : Token) (s : State)
-    → step (record { below = below; top = f; place = p; room = n }) t ≡ Some s
+lighter : (p : Expected) (below : List Frame) (f : Frame) (n : ℕ) (t : Token) (s : State)
+    → step (record { below = below; top = f; expected = p; room = n }) t ≡ Some s
     → weight s ≤ n + (f.bangs + open_weight below)
 lighter operand below f n (word a) s e = mapped_light (name_of a)
-    (λ name. record { below = below; top = f; place = after_attr name; room = n }) s
+    (λ name. record { below = below; top = f; expected = after_attr name; room = n }) s
     (n + (f.bangs + open_weight below)) (λ x. omega arith) e
 lighter operand below f n lone s e = fails s e
 lighter operand below f n cut s e = fails s e
@@ -72,5 +72,5 @@ lighter after_operand below f n opens s e = fails s e
 pub step_weight : (s : State) (t : Token) (s' : State) (n : ℕ) → step s t ≡ Some s' → weight s ≤ n
     → weight s' ≤ n
 step_weight s t s' n e h =
-    let l : weight s' ≤ weight s = lighter s.place s.below s.top s.room t s' e in
+    let l : weight s' ≤ weight s = lighter s.expected s.below s.top s.room t s' e in
     omega arith

@@ -2,7 +2,7 @@ pub mod QueryCode
 pub mod Limits
 pub mod Tree
 pub mod TreeFalls
-pub mod MachineView
+pub mod ParserView
 pub mod PlainPlace
 pub mod Refusals
 pub mod Field
@@ -12,4 +12,4 @@ pub mod Laws
 pub mod Operand
 pub mod Stacked
 pub mod Stack
-pub mod Gauge
+pub mod Validator

@@ -5,10 +5,10 @@ ghost use Rattle.lq_formula.specs.TokenView.{placed_of, token_of};
 ghost use Rattle.lq_predicate.specs.PlainPlace.{plain_place};
 ghost use Rattle.lq_predicate.specs.Refusals.{fault_of};
 
-use crate::extent::new_outline;
-use crate::gauge::{Awaited, Gauge, NESTING, gauge_end, gauge_token};
+use crate::query_size::new_size_frame;
+use crate::validator::{Expected, NESTING, Validator, size_at_end, validate_token};
 use arrayvec::ArrayVec;
-use lq_formula::{Left, Placed, Token, next_token};
+use lq_formula::{Cursor, Placed, Token, next_token};
 
 /// The most bytes of a formula, and of a predicate's canonical text.
 const MOST_BYTES: usize = 4096;
@@ -34,19 +34,19 @@ fn fault_within(text: &str) -> Option<u64>
     requires { length text.now ≤ 4096 }
     ensures { result ≡ fault_of (reading_of text.now) }
 {
-    let mut gauge = Gauge {
+    let mut validator = Validator {
         below: ArrayVec::new(),
-        top: new_outline(),
-        awaited: Awaited::Operand,
+        top: new_size_frame(),
+        expected: Expected::Operand,
         room: NESTING,
     };
-    let mut left = Left {
+    let mut cursor = Cursor {
         place: 0,
         rest: text,
     };
     let mut words = 0;
-    while let Some((placed, behind)) = next_token(left) {
-        match gauge_token(&mut gauge, &placed.token) {
+    while let Some((placed, behind)) = next_token(cursor) {
+        match validate_token(&mut validator, &placed.token) {
             Ok(()) => {}
             Err(pattern) => return Some(token_place(text.len(), &placed, pattern)),
         }
@@ -54,9 +54,9 @@ fn fault_within(text: &str) -> Option<u64>
         if words > MOST_WORDS {
             return Some(placed.place as u64);
         }
-        left = behind;
+        cursor = behind;
     }
-    let Some(whole) = gauge_end(&gauge) else {
+    let Some(whole) = size_at_end(&validator) else {
         return Some(text.len() as u64);
     };
     if whole.depth > MOST_DEPTH || whole.bytes > MOST_BYTES {

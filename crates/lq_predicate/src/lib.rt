@@ -9,22 +9,22 @@
 mod attributes;
 mod canonical;
 mod column;
-mod extent;
 mod fault_place;
 mod field;
 mod fitting;
-mod gauge;
 mod item;
 mod laws;
-mod machine;
 mod operand;
+mod parser;
 mod predicate;
+mod query_size;
 mod reader;
 mod stack;
 mod stack_comparison;
 mod stack_op;
 mod tree;
 mod truth;
+mod validator;
 
 pub use attributes::names;
 pub use canonical::write;

@@ -10,10 +10,10 @@ ghost use Rattle.lq_value.specs.Refusal.{IsRefusedBy};
 ghost use Rattle.lq_predicate.specs.Refusals.{fault_of, refusal_of};
 
 use crate::fault_place::fault_place;
-use crate::machine::{end_of, new_machine, read_token};
+use crate::parser::{end_of, new_parser, read_token};
 use crate::predicate::Predicate;
 use crate::tree::Tree;
-use lq_formula::{Left, faults_are_found, formulas_are_read, next_token, read_is_good};
+use lq_formula::{Cursor, faults_are_found, formulas_are_read, next_token, read_is_good};
 use lq_value::Refusal;
 use std::alloc::Global;
 
@@ -51,15 +51,15 @@ fn build(alloc: Global, text: &str) -> Result<Tree, Refusal>
     ensures texts { OnOk result (WordsAre IsUtf8 (bare (tokens_of text.now))) }
     ensures refused { IsRefusedBy result None }
 {
-    let mut machine = new_machine(alloc);
-    let mut left = Left {
+    let mut parser = new_parser(alloc);
+    let mut cursor = Cursor {
         place: 0,
         rest: text,
     };
-    while let Some((placed, behind)) = next_token(left) {
-        machine = read_token(alloc, machine, &placed.token)?;
-        left = behind;
+    while let Some((placed, behind)) = next_token(cursor) {
+        parser = read_token(alloc, parser, &placed.token)?;
+        cursor = behind;
     }
-    let tree = end_of(machine)?;
+    let tree = end_of(parser)?;
     Ok(tree)
 }

@@ -122,7 +122,8 @@ moved_mark-is_some false o f = refl
 -- s is what the lock shows of the subscription of a reader, before and after a sync
 module _ (s : Subscription) (old new : ReaderHold) (l : Progress)
     (lv : ShowsProgress s old.seat new.seat old.reading new.reading l)
-    (same : (new.slot ≡ old.slot) × (new.asked ≡ old.asked)) (r : IsTold old.reading)
+    (same : (new.slot ≡ old.slot) × (new.hang_up_asked ≡ old.hang_up_asked))
+    (r : IsTold old.reading)
     (own : IsOwn old) where
   -- the reader's end of the port before the sync
   abbrev d : End Delivery Opening
@@ -137,17 +138,17 @@ module _ (s : Subscription) (old new : ReaderHold) (l : Progress)
   name_is = sym (ap (λ (m : SeatToken Identity). m.name) lv.seat) ∙ lv.identity
 
   -- so what an own reader has of its name it has of the subscription
-  mine : IdentityFits (identity_of s) d × (old.seat.asks ≡ asks_after s.asks old.asked)
+  mine : IdentityFits (identity_of s) d × (old.seat.asks ≡ asks_after s.asks old.hang_up_asked)
       × (s.asks < 1000000000000)
   mine =
       subst
       (λ o. IsSomeAnd o (λ t.
-      IdentityFits t d × (old.seat.asks ≡ asks_after t.asks old.asked)
+      IdentityFits t d × (old.seat.asks ≡ asks_after t.asks old.hang_up_asked)
       × (t.asks < 1000000000000)))
       name_is own.name
 
   -- the seat asked as often as the reader
-  asks_is : new.seat.asks ≡ asks_after s.asks old.asked
+  asks_is : new.seat.asks ≡ asks_after s.asks old.hang_up_asked
   asks_is = ap (λ (m : SeatToken Identity). m.asks) lv.seat ∙ mine.1
 
   -- what was received stays
@@ -336,7 +337,7 @@ module _ (s : Subscription) (old new : ReaderHold) (l : Progress)
           slot = ap (λ (m : SeatToken Identity). m.slot) lv.seat ∙ own.slot ∙ sym same.0;
           name = subst
               (λ o. IsSomeAnd o (λ t.
-              IdentityFits t e × (new.seat.asks ≡ asks_after t.asks new.asked)
+              IdentityFits t e × (new.seat.asks ≡ asks_after t.asks new.hang_up_asked)
               × (t.asks < 1000000000000)))
               (sym lv.identity) (
                 record {
@@ -351,7 +352,7 @@ module _ (s : Subscription) (old new : ReaderHold) (l : Progress)
               );
         };
         slot = same.0;
-        asked = same.1;
+        hang_up_asked = same.1;
         port = lv.port;
         taken = lv.taken;
         hand = lv.hand;
@@ -388,9 +389,11 @@ module _ (s : Subscription) (old new : ReaderHold) (l : Progress)
         };
         full = λ some. full_at (omega (arith, h)) wait;
         ended = λ is.
-            subst IsSome (sym mk) (lv.ended (asks_above s.asks old.asked new.seat.asks asks_is is));
+            subst IsSome (sym mk) (lv.ended (asks_above s.asks old.hang_up_asked new.seat.asks
+            asks_is is));
         hung = λ hu.
-            asked_by s.asks old.asked new.seat.asks asks_is (lv.hung (subst hung_mark mk hu));
+            asked_by s.asks old.hang_up_asked new.seat.asks asks_is
+            (lv.hung (subst hung_mark mk hu));
         read = λ some. mk ∙ read_mark (mark_in d.taken) refl some;
         shut =
             subst (λ o. IsSomeAnd o (λ t. ShutFits t.shut x.mark)) (sym name_is)

@@ -9,4 +9,4 @@ pub record ReaderHold : Type 0 where
   pub reading : ReadingHold
   pub seat : SeatToken Identity
   pub slot : ℕ
-  pub asked : Bool
+  pub hang_up_asked : Bool

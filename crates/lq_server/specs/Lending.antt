@@ -9,7 +9,8 @@ use Rattle.lq_server.specs.contracts.reader.Reader as reader
 
 -- the reader with another seat
 abbrev pub with_seat : ReaderHold → SeatToken Identity → ReaderHold
-with_seat r s = record { reading = r.reading; seat = s; slot = r.slot; asked = r.asked }
+with_seat r s =
+    record { reading = r.reading; seat = s; slot = r.slot; hang_up_asked = r.hang_up_asked }
 
 -- the reader ends with the last seat that s has
 abbrev pub LendsSeat : MutBor ReaderHold → MutBor (SeatToken Identity) → Fml

@@ -16,5 +16,5 @@ opened_of r = record { reading = r.reading; seat = r.seat; slot = r.slot }
 pub record IsNewReader (r : ReaderHold) (board : TableId) (book : Book) (q : Query) (mv : Bool)
     (port backlog : ℕ) : Type 0 where
   pub own : IsOwn r
-  pub asked : r.asked ≡ false
+  pub hang_up_asked : r.hang_up_asked ≡ false
   pub opened : IsOpened (opened_of r) board book q mv port backlog

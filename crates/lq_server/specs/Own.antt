@@ -9,5 +9,5 @@ pub record IsOwn (r : ReaderHold) : Type 0 where
   pub high : r.slot < 65
   pub slot : r.seat.slot ≡ r.slot
   pub name : IsSomeAnd r.seat.name (λ t.
-      IdentityFits t r.reading.port × (r.seat.asks ≡ asks_after t.asks r.asked)
+      IdentityFits t r.reading.port × (r.seat.asks ≡ asks_after t.asks r.hang_up_asked)
       × (t.asks < 1000000000000))

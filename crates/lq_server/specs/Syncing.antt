@@ -39,7 +39,7 @@ pub record IsListed (r : ReaderHold) (x : Synced) (w h : List Message) : Type 0 
 pub record IsSynced (old new : ReaderHold) (x : Synced) : Type 0 where
   pub own : IsOwn new
   pub slot : new.slot ≡ old.slot
-  pub asked : new.asked ≡ old.asked
+  pub hang_up_asked : new.hang_up_asked ≡ old.hang_up_asked
   pub port : IsSamePort old.reading.port new.reading.port
   pub taken : new.reading.port.taken ≡ old.reading.port.taken
   pub hand : new.reading.hand ≡ old.reading.hand
@@ -54,8 +54,8 @@ pub record IsSynced (old new : ReaderHold) (x : Synced) : Type 0 where
   pub h : List Message
   pub lists : IsListed new x w h
   pub full : 0 < x.held → new.reading.port.places ≤ x.waiting
-  pub ended : old.asked ≡ true → IsSome x.mark
-  pub hung : hung_mark x.mark → old.asked ≡ true
+  pub ended : old.hang_up_asked ≡ true → IsSome x.mark
+  pub hung : hung_mark x.mark → old.hang_up_asked ≡ true
   pub read : IsSome (mark_read old.reading) → x.mark ≡ mark_read old.reading
   pub shut : IsSomeAnd old.seat.name (λ t. ShutFits t.shut x.mark)
   pub overrun : IsSomeAnd old.seat.name (λ t. IfSome x.mark (λ k.

@@ -29,7 +29,7 @@ pub struct Reader {
     pub(crate) reading: Reading,
     pub(crate) seat: Seat<Identity>,
     pub(crate) slot: u64,
-    pub(crate) asked: bool,
+    pub(crate) hang_up_asked: bool,
 }
 
 impl Model for Reader {
@@ -48,7 +48,7 @@ impl Model for Reader {
       reading = r.reading;
       seat = r.seat;
       slot = r.slot;
-      asked = r.asked;
+      hang_up_asked = r.hang_up_asked;
     } };
 }
 
@@ -59,14 +59,14 @@ impl Reader {
           reading = opened.reading;
           seat = opened.seat;
           slot = opened.slot;
-          asked = false;
+          hang_up_asked = false;
         } }
     {
         Reader {
             reading: opened.reading,
             seat: opened.seat,
             slot: opened.slot,
-            asked: false,
+            hang_up_asked: false,
         }
     }
 
@@ -103,15 +103,15 @@ impl Reader {
         requires board { self.old.seat.board ≡ N.board }
         requires own { IsOwn self.old }
         ensures own { IsOwn self.new }
-        ensures asked { self.new.asked ≡ true }
+        ensures hang_up_asked { self.new.hang_up_asked ≡ true }
         ensures reading { self.new.reading ≡ self.old.reading }
         ensures slot { self.new.slot ≡ self.old.slot }
         ensures seat { self.new.seat ≡ record self.old.seat { asks = self.new.seat.asks } }
-        ensures again { self.old.asked ≡ true → self.new ≡ self.old }
+        ensures again { self.old.hang_up_asked ≡ true → self.new ≡ self.old }
     {
-        if !self.asked {
+        if !self.hang_up_asked {
             server.board.ask(&mut self.seat);
-            self.asked = true;
+            self.hang_up_asked = true;
         }
     }
 

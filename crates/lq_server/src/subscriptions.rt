@@ -135,9 +135,11 @@ impl<N: Named> Server<N> {
             reading: _,
             seat,
             slot,
-            asked,
+            hang_up_asked,
         } = reader;
-        self.state.lock(rt).free(&self.board, slot, seat, asked);
+        self.state
+            .lock(rt)
+            .free(&self.board, slot, seat, hang_up_asked);
         Ok(())
     }
 }

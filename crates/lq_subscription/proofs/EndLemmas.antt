@@ -14,7 +14,7 @@ use Rattle.lq_update.specs.declared.mark.Cause.TheVariants.{Closed, HungUp, Over
 use Rattle.lq_update.specs.Updates.{step_of}
 use Rattle.lq_volume.specs.Change.{IsLawful}
 use Rattle.lq_update.specs.Laws.{StepsAreFew}
-use Rattle.lq_desk.specs.Held.{Held, Prepared, prepared, committed, opened_with, with_messages, ended_by, overruns, told_if, told}
+use Rattle.lq_desk.specs.Held.{Held, Prepared, prepared, committed, opened_with, with_messages, ended_by, overruns, after_messages_by, after_messages}
 use Rattle.lq_port.specs.End.{End, all_put}
 use Rattle.lq_subscription.specs.declared.delivery.Delivery.{Delivery}
 use Rattle.lq_subscription.specs.declared.delivery.Opening.{Opening}
@@ -252,7 +252,7 @@ module _ (h : Held) (e : End Delivery Opening) (places : ℕ) (shut : Shut) (boo
 
         -- the subscription stands after the change, by whether it overruns
         by_test : (b : Bool) → overruns h more ≡ b
-            → Stands (told_if h more (length book.changes) b) e places shut book'
+            → Stands (after_messages_by h more (length book.changes) b) e places shut book'
         by_test true test =
             let t = both_true _ _ test in
             ends book' Overrun shut (c ∷ [], refl) full'
@@ -263,7 +263,7 @@ module _ (h : Held) (e : End Delivery Opening) (places : ℕ) (shut : Shut) (boo
         by_test false test = goes_on
 
         -- after each change, the subscription stands over the longer book
-        pub told_stands : Stands (told h more (length book.changes)) e places shut book'
+        pub told_stands : Stands (after_messages h more (length book.changes)) e places shut book'
         told_stands = by_test (overruns h more) refl
 
 -- a new one
@@ -335,9 +335,9 @@ committed_stands p q e places shut book c live is few filled s ready lawful full
     let three =
     few p.held.query p.held.moved (state_of book) c (p.held.sent + 1) s.full.state lawful in
     let t : Stands
-    (told p.held (step_of p.held.query p.held.moved (state_of book) c (p.held.sent + 1))
+    (after_messages p.held (step_of p.held.query p.held.moved (state_of book) c (p.held.sent + 1))
     (length book.changes)) e places shut (grown book (c ∷ [])) =
     told_stands p.held e places shut book s live c full three filled in
     subst (λ (h : Held). Stands h e places shut (grown book (c ∷ [])))
     (sym (ap (λ (z : Prepared). z.held) is
-    ∙ (λ i. told p.held (r.0 i) ((r.1 ∙ s.full.number) i)))) t
+    ∙ (λ i. after_messages p.held (r.0 i) ((r.1 ∙ s.full.number) i)))) t

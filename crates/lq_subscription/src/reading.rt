@@ -151,9 +151,9 @@ impl Reading {
 
     /// Takes the next parcel, and folds it where it is a message.
     ///
-    /// `Empty` never while something is known to wait; `Ended` after the mark and only then. Refused: `NoMemory`; the message then
-    /// stays in hand, and is what the next read begins with. It may wait for a step of the other
-    /// end, but not for a parcel.
+    /// `Empty` never while something is known to wait; `Ended` after the mark and only then.
+    /// Refused: `NoMemory`; the message then stays in hand, and is what the next read begins with.
+    /// It may wait for a step of the other end, but not for a parcel.
     pub fn read<R: Wait>(&mut self, rt: &R) -> Result<Read, Refusal>
         ensures refused { IsRefusedBy result None }
         ensures same { IsSamePort self.old.port self.new.port }

@@ -76,7 +76,7 @@ pub fn commit(slot: &mut Subscription, change: &Change)
 ///
 /// `number` is how many changes there are, and `asked` whether the reader asked. Without that it
 /// stays as it is, and so does one that has ended. It takes no memory.
-pub fn notice(slot: &mut Subscription, asked: bool, number: u64)
+pub fn notice(slot: &mut Subscription, hang_up_asked: bool, number: u64)
     requires few { slot.old.sub.held.sent < 2 ^ 63 }
     ensures stands { (book : Book) → StandsAt slot.old book → number ≡ length book.changes
         → StandsAt slot.new book }
@@ -84,12 +84,12 @@ pub fn notice(slot: &mut Subscription, asked: bool, number: u64)
     ensures shut { slot.new.shut ≡ slot.old.shut }
     ensures messages { slot.new.sub.held.messages ≡ slot.old.sub.held.messages }
     ensures hung { hung_mark slot.new.sub.held.mark
-        → (asked ≡ true) ⊎ hung_mark slot.old.sub.held.mark }
-    ensures ended { asked ≡ true → IsSome slot.new.sub.held.mark }
+        → (hang_up_asked ≡ true) ⊎ hung_mark slot.old.sub.held.mark }
+    ensures ended { hang_up_asked ≡ true → IsSome slot.new.sub.held.mark }
     ensures still { IsSome slot.old.sub.held.mark
         → slot.new.sub.held.mark ≡ slot.old.sub.held.mark }
 {
-    if !asked {
+    if !hang_up_asked {
         return;
     }
     if !slot.sub.is_live() {

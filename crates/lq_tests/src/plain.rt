@@ -5,7 +5,7 @@ ghost use Rattle.lq_value.specs.Refusal.{IsRefusedBy};
 ghost use Rattle.lq_volume.specs.Change.{after, IsLawful};
 ghost use Rattle.lq_volume.specs.Result.{result_of};
 ghost use Rattle.lq_update.specs.declared.message.Opcode.TheVariants.{Created, Moved, Removed};
-ghost use Rattle.lq_update.specs.Diff.{alone, has_node, missing, moves, same_entry, told};
+ghost use Rattle.lq_update.specs.Diff.{alone, has_node, missing, messages_of, moves, same_entry};
 ghost use Rattle.lq_update.specs.Updates.{numbered, step_of};
 
 use lq_predicate::Predicate;
@@ -111,7 +111,7 @@ fn told(
     come: &[Entry],
 ) -> Result<Vec<(Opcode, Entry)>, Refusal>
     ensures refused { IsRefusedBy result None }
-    ensures value { IfOk result (λ all. all.items ≡ told moved gone.now come.now) }
+    ensures value { IfOk result (λ all. all.items ≡ messages_of moved gone.now come.now) }
 {
     let mut all = Vec::new(alloc);
     put_removed(alloc, &mut all, moved, gone, come)?;

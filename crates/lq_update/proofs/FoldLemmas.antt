@@ -10,7 +10,7 @@ use Rattle.lq_value.specs.declared.entry.Entry.{Entry}
 use Rattle.lq_update.specs.declared.message.Opcode.{Opcode}
 use Rattle.lq_update.specs.declared.message.Opcode.TheVariants.{Created, Removed, Moved}
 use Rattle.lq_update.specs.declared.message.Message.{Message}
-use Rattle.lq_update.specs.Diff.{same_entry, missing, has_node, alone, moves, told}
+use Rattle.lq_update.specs.Diff.{same_entry, missing, has_node, alone, moves, messages_of}
 use Rattle.lq_update.specs.Touched.{left, told_first}
 use Rattle.lq_update.specs.Updates.{numbered}
 use Rattle.lq_update.specs.Fold.{EntriesRise, taken_out, old_entry, folded_by, fits_by, folded, folded_one, fits_in}
@@ -522,13 +522,13 @@ module _ (moved : Bool) (es fs : List Entry) (h : EntriesRise es) (k : EntriesRi
       (left (entry_at n fs) (entry_at n es)))) (at-second n) ∙ (turn n).end))
 
   -- folding the difference over the first list gives the second
-  pub told-folds : ops_folded es (told moved (missing es fs) (missing fs es)) ≡ fs
+  pub told-folds : ops_folded es (messages_of moved (missing es fs) (missing fs es)) ≡ fs
   told-folds = ops_folded-append es (removed_ops ++ moved_ops) created_ops
       ∙ (ap (λ r. ops_folded r created_ops) (ops_folded-append es removed_ops moved_ops)
       ∙ entries-same _ fs third_phase.rise k at-third)
 
   -- the messages of the difference fit, one after another
-  pub told-fits : OpsFit es (told moved (missing es fs) (missing fs es))
+  pub told-fits : OpsFit es (messages_of moved (missing es fs) (missing fs es))
   told-fits =
       let both : OpsFit es (removed_ops ++ moved_ops) =
       fit-append es removed_ops moved_ops first_phase.fit second_phase.fit in

@@ -12,9 +12,9 @@ use Rattle.lq_predicate.specs.Truth.{truth}
 use Rattle.lq_volume.specs.declared.change.Change.TheVariants.{Create, Remove, Move, Write, SetAttr, RemoveAttr}
 use Rattle.lq_volume.specs.Attributes.{Attributes, value_of, with_attr, without_attr}
 use Rattle.lq_volume.specs.State.{State, Record, IsVolume}
-use Rattle.lq_volume.specs.Change.{after, altered, written, setting, unsetting}
+use Rattle.lq_volume.specs.Change.{after, altered, written, set_attr, remove_attr}
 use Rattle.lq_volume.specs.Result.{result_of, entry_of, shown}
-use Rattle.lq_update.specs.Diff.{missing, told, diff}
+use Rattle.lq_update.specs.Diff.{missing, messages_of, diff}
 use Rattle.lq_update.specs.Fold.{EntriesRise}
 use Rattle.lq_update.specs.Laws.{ChangesPassOver}
 use Rattle.lq_update.proofs.EntryLemmas.{entry_at, entries-same, rises-filter}
@@ -76,14 +76,14 @@ shown-written : (size : ℕ) (time : ℤ) (r : Record) (name : List ℕ)
 shown-written size time r name p q = rw (p, q) refl
 
 -- a setting leaves what a record shows under every other name
-shown-setting : (attr : List ℕ) (value : Value) (r : Record) (name : List ℕ)
-    → bytes_eq name attr ≡ false → shown (setting attr value r) name ≡ shown r name
-shown-setting attr value r name off = rw (value_of-with_other r.attrs attr name value off) refl
+shown-set_attr : (attr : List ℕ) (value : Value) (r : Record) (name : List ℕ)
+    → bytes_eq name attr ≡ false → shown (set_attr attr value r) name ≡ shown r name
+shown-set_attr attr value r name off = rw (value_of-with_other r.attrs attr name value off) refl
 
 -- and so does a removal
-shown-unsetting : (attr : List ℕ) (r : Record) (name : List ℕ) → bytes_eq name attr ≡ false
-    → shown (unsetting attr r) name ≡ shown r name
-shown-unsetting attr r name off = rw (value_of-without_other r.attrs attr name off) refl
+shown-remove_attr : (attr : List ℕ) (r : Record) (name : List ℕ) → bytes_eq name attr ≡ false
+    → shown (remove_attr attr r) name ≡ shown r name
+shown-remove_attr attr r name off = rw (value_of-without_other r.attrs attr name off) refl
 
 -- a change of records that keeps their places and the truth of the query keeps the result
 module _ (test : Record → Bool) (node : ℕ) (f : Record → Record)
@@ -120,7 +120,7 @@ missing-self es h = entries-same (missing es es) [] (rises-missing es h) tt
     (λ n. missing-at n es es h h ∙ left-same (entry_at n es))
 
 -- where nothing left and nothing came, nothing is told
-told-nothing : (moved : Bool) → told moved [] [] ≡ []
+told-nothing : (moved : Bool) → messages_of moved [] [] ≡ []
 told-nothing true = refl
 told-nothing false = refl
 
@@ -128,7 +128,7 @@ told-nothing false = refl
 diff-same : (q : Query) (moved : Bool) (s t : State) → IsVolume s → result_of q t ≡ result_of q s
     → diff q moved s t ≡ []
 diff-same q moved s t v same =
-    ap (λ r. told moved (missing (result_of q s) r) (missing r (result_of q s))) same
+    ap (λ r. messages_of moved (missing (result_of q s) r) (missing r (result_of q s))) same
     ∙ (rw (missing-self (result_of q s) (results-rise q s v)) (told-nothing moved))
 
 -- what is in an option, or the value given
@@ -157,15 +157,15 @@ changes-pass q moved s (SetAttr node attr value) names altered v by is off =
     let off_one = subst (AllByRecursion (λ name. list_any (bytes_eq name) names ≡ false))
     (sym (some-inside is)) off in
     diff-same q moved s (after s (SetAttr node attr value)) v
-    (altered-passes (λ r. truth q (shown r)) node (setting attr value)
-    (λ r. by (shown (setting attr value r)) (shown r) (λ name among.
-    shown-setting attr value r name (same-name names name attr among off_one.0)))
+    (altered-passes (λ r. truth q (shown r)) node (set_attr attr value)
+    (λ r. by (shown (set_attr attr value r)) (shown r) (λ name among.
+    shown-set_attr attr value r name (same-name names name attr among off_one.0)))
     (λ n r. refl) s.records)
 changes-pass q moved s (RemoveAttr node attr) names altered v by is off =
     let off_one = subst (AllByRecursion (λ name. list_any (bytes_eq name) names ≡ false))
     (sym (some-inside is)) off in
     diff-same q moved s (after s (RemoveAttr node attr)) v
-    (altered-passes (λ r. truth q (shown r)) node (unsetting attr)
-    (λ r. by (shown (unsetting attr r)) (shown r) (λ name among.
-    shown-unsetting attr r name (same-name names name attr among off_one.0)))
+    (altered-passes (λ r. truth q (shown r)) node (remove_attr attr)
+    (λ r. by (shown (remove_attr attr r)) (shown r) (λ name among.
+    shown-remove_attr attr r name (same-name names name attr among off_one.0)))
     (λ n r. refl) s.records)

@@ -8,7 +8,7 @@ use Rattle.std.proofs.lemmas.Grind.{flat_map-append}
 use Rattle.std.proofs.lemmas.List.Elements.{filter-append}
 use Rattle.lq_value.specs.declared.entry.Entry.{Entry}
 use Rattle.lq_update.specs.declared.message.Opcode.TheVariants.{Created, Removed, Moved}
-use Rattle.lq_update.specs.Diff.{alone, moves, told, has_node}
+use Rattle.lq_update.specs.Diff.{alone, moves, messages_of, has_node}
 use Rattle.lq_update.specs.Touched.{told_first, told_last}
 
 -- the entry, if there is one, has the node
@@ -98,7 +98,7 @@ same_node e f at = grind (arith, nat_tests)
 -- what is told where one entry came, among removed ones of other nodes
 pub told-among : (moved : Bool) (n : ℕ) (o c : Option Entry) (es fs : List Entry) → Has n o
     → Has n c → Lacks n es → Lacks n fs
-    → told moved (es ++ option_to_list o ++ fs) (option_to_list c)
+    → messages_of moved (es ++ option_to_list o ++ fs) (option_to_list c)
     ≡ map (λ e. (Removed, e)) (es ++ option_to_list (told_first moved o c) ++ fs)
     ++ option_to_list (told_last moved o c)
 told-among false n o c es fs p q off end =

@@ -31,8 +31,8 @@ moves gone come =
     flat_map (λ e. map (λ f. (Moved e.dir e.name, f)) (filter (λ f. f.node == e.node) come)) gone
 
 -- the messages of the entries that left and of those that came
-abbrev pub told : Bool → List Entry → List Entry → List (Opcode × Entry)
-told moved gone come =
+abbrev pub messages_of : Bool → List Entry → List Entry → List (Opcode × Entry)
+messages_of moved gone come =
     map (λ e. (Removed, e)) (alone moved gone come)
     ++ (if moved then moves gone come else [])
     ++ map (λ e. (Created, e)) (alone moved come gone)
@@ -41,4 +41,5 @@ told moved gone come =
 -- rising node.
 abbrev pub diff : Query → Bool → State → State → List (Opcode × Entry)
 diff q moved s t =
-    told moved (missing (result_of q s) (result_of q t)) (missing (result_of q t) (result_of q s))
+    messages_of moved (missing (result_of q s) (result_of q t))
+    (missing (result_of q t) (result_of q s))

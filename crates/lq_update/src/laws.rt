@@ -94,7 +94,7 @@ pub fn rebuilds_take_all()
 }
 
 /// A write tells nothing to a predicate that names neither `size` nor `last_modified`, nor does a
-/// setting or unsetting of an attribute that it doesn't name: the passing-over law.
+/// setting or removal of an attribute that it doesn't name: the passing-over law.
 ///
 /// It is stated over any list of names that the truth of the predicate goes by, as it goes by its
 /// `names` (`truth_goes_by_names` of lq_predicate).

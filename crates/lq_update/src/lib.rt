@@ -14,7 +14,7 @@ mod mark;
 mod message;
 mod parcel;
 mod rebuild;
-mod touched;
+mod stepping;
 
 pub use indexed_rebuild::IndexedRebuild;
 pub use laws::{
@@ -26,4 +26,4 @@ pub use mark::{Cause, Mark};
 pub use message::{Message, Opcode};
 pub use parcel::Parcel;
 pub use rebuild::Rebuild;
-pub use touched::{step, step_planned};
+pub use stepping::{step, step_planned};

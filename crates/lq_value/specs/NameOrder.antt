@@ -1,5 +1,5 @@
--- The order of names: by a hash of each, and by their bytes where the hashes are the same. It shows in
--- no answer: it only decides which names a search compares byte by byte.
+-- The order of names: by a hash of each, and by their bytes where the hashes are the same. It
+-- shows in no answer: it only decides which names a search compares byte by byte.
 use Rattle.std.specs.Prelude.{◌≡◌, ℕ, List, [], ◌∷◌, ◌+◌, ◌*◌, ◌%◌, ◌^◌, Bool, true, false, ◌&&◌, Some, nat_eq}
 use Rattle.std.specs.Cmp.{IsPartialOrder, IsTotalOrder, po, on_total, then_total, nat_cmp_total, both_tied, unsigned_ties}
 use Rattle.std.specs.Cmp.Lexicographic.{pointwise, slice_cmp, nat_list_cmp_total, texts_ties, bytes_decides}

@@ -13,7 +13,7 @@ use Rattle.lq_volume.specs.declared.change.Change.TheVariants.{Create, Remove, M
 use Rattle.lq_volume.specs.Attributes.{Attributes, HasOwnNames, with_attr, without_attr}
 use Rattle.lq_volume.specs.Kind.{is_folder}
 use Rattle.lq_volume.specs.State.{State, Record, root, record_at, kind_at, is_folder_at, dir_of, reaches, node_in, has_entries, IsTree, IsVolume}
-use Rattle.lq_volume.specs.Change.{refused, refusals, after, node_of, record_left, at_place, written, setting, unsetting, with_attrs, changed, altered, without, other_at, other_than, is_other}
+use Rattle.lq_volume.specs.Change.{refused, refusals, after, node_of, record_left, at_place, written, set_attr, remove_attr, with_attrs, changed, altered, without, other_at, other_than, is_other}
 use Rattle.lq_volume.specs.Places.{CanMove}
 use Rattle.lq_volume.specs.Laws.{ChangesKeepTrees, UntouchedStay, ClobberedGo}
 use Rattle.lq_volume.proofs.RecordLemmas.{Entries, All-push, All-filter, All-without, All-kept, lookup-filter, lookup-push, lookup-altered, node_in-some, node_in-none, is_taken-node_in, length-filter_le}
@@ -322,11 +322,11 @@ untouched-all s (Write node size time) n v h off =
     let differs = off.0 in
     grind (arith, nat_tests)
 untouched-all s (SetAttr node attr value) n v h off =
-    let l = lookup-altered s.records node (setting attr value) n in
+    let l = lookup-altered s.records node (set_attr attr value) n in
     let differs = off.0 in
     grind (arith, nat_tests)
 untouched-all s (RemoveAttr node attr) n v h off =
-    let l = lookup-altered s.records node (unsetting attr) n in
+    let l = lookup-altered s.records node (remove_attr attr) n in
     let differs = off.0 in
     grind (arith, nat_tests)
 
@@ -351,10 +351,10 @@ record-left s (Write node size time) v =
     let l = lookup-altered s.records node (written size time) node in
     grind (arith, nat_tests)
 record-left s (SetAttr node attr value) v =
-    let l = lookup-altered s.records node (setting attr value) node in
+    let l = lookup-altered s.records node (set_attr attr value) node in
     grind (arith, nat_tests)
 record-left s (RemoveAttr node attr) v =
-    let l = lookup-altered s.records node (unsetting attr) node in
+    let l = lookup-altered s.records node (remove_attr attr) node in
     grind (arith, nat_tests)
 
 -- the other node at a place is not the node itself

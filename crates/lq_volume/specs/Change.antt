@@ -163,12 +163,12 @@ with_attrs attrs r = record {
 }
 
 -- a record where one attribute is set
-abbrev pub setting : List ℕ → Value → Record → Record
-setting attr value r = with_attrs (with_attr r.attrs attr value) r
+abbrev pub set_attr : List ℕ → Value → Record → Record
+set_attr attr value r = with_attrs (with_attr r.attrs attr value) r
 
 -- a record where one attribute is removed
-abbrev pub unsetting : List ℕ → Record → Record
-unsetting attr r = with_attrs (without_attr r.attrs attr) r
+abbrev pub remove_attr : List ℕ → Record → Record
+remove_attr attr r = with_attrs (without_attr r.attrs attr) r
 
 -- one change more, and other records
 abbrev pub changed : State → List (ℕ × Record) → State
@@ -193,8 +193,8 @@ after s (Remove node) = changed s (filter (λ e. not (e.0 == node)) s.records)
 after s (Move node dir name clobber) =
     changed s (altered node (at_place dir name) (without (other_at s node dir name) s.records))
 after s (Write node size time) = changed s (altered node (written size time) s.records)
-after s (SetAttr node attr value) = changed s (altered node (setting attr value) s.records)
-after s (RemoveAttr node attr) = changed s (altered node (unsetting attr) s.records)
+after s (SetAttr node attr value) = changed s (altered node (set_attr attr value) s.records)
+after s (RemoveAttr node attr) = changed s (altered node (remove_attr attr) s.records)
 
 -- the node that a change creates or names
 abbrev pub node_of : State → Change → ℕ
@@ -225,5 +225,5 @@ record_left s (Create dir name kind size time) =
 record_left s (Remove node) = None
 record_left s (Move node dir name clobber) = option_map (at_place dir name) (record_at s node)
 record_left s (Write node size time) = option_map (written size time) (record_at s node)
-record_left s (SetAttr node attr value) = option_map (setting attr value) (record_at s node)
-record_left s (RemoveAttr node attr) = option_map (unsetting attr) (record_at s node)
+record_left s (SetAttr node attr value) = option_map (set_attr attr value) (record_at s node)
+record_left s (RemoveAttr node attr) = option_map (remove_attr attr) (record_at s node)

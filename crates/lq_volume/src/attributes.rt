@@ -110,12 +110,12 @@ impl Attributes {
     }
 
     /// Takes an attribute out.
-    pub fn unset(&mut self, attr: &AttrName)
+    pub fn remove(&mut self, attr: &AttrName)
         ensures { self.new ≡ without_attr self.old attr.now }
     {
         match &mut self.many {
             None => take_out(&mut self.few, attr),
-            Some(many) => many.unset(attr),
+            Some(many) => many.remove(attr),
         }
     }
 

@@ -39,7 +39,7 @@ impl Model for Entries {
 
 impl Entries {
     ghost use Rattle.lq_volume.specs.State.{climbs, dir_of, node_in};
-    ghost use Rattle.lq_volume.specs.Change.{without, altered, at_place, written, setting, unsetting};
+    ghost use Rattle.lq_volume.specs.Change.{without, altered, at_place, written, set_attr, remove_attr};
     ghost use Rattle.lq_volume.specs.Places.{IsApart, CanMove};
     ghost use Rattle.lq_volume.specs.Result.{shown, entry_of};
 
@@ -149,7 +149,7 @@ impl Entries {
     pub fn set_attr(&mut self, node: u64, attr: &AttrName, value: &Value) -> Result<(), Refusal>
         ensures refused { IsRefusedBy result None }
         ensures ok { OnOk result
-            (self.new ≡ altered node (setting attr.now value.now) self.old) }
+            (self.new ≡ altered node (set_attr attr.now value.now) self.old) }
         ensures err { OnErr result (self.new ≡ self.old) }
     {
         let attr = attr.copy(self.alloc)?;
@@ -159,10 +159,10 @@ impl Entries {
     }
 
     /// Takes an attribute of a node out.
-    pub fn unset_attr(&mut self, node: u64, attr: &AttrName)
-        ensures { self.new ≡ altered node (unsetting attr.now) self.old }
+    pub fn remove_attr(&mut self, node: u64, attr: &AttrName)
+        ensures { self.new ≡ altered node (remove_attr attr.now) self.old }
     {
-        self.records.unset_attr(node, attr);
+        self.records.remove_attr(node, attr);
     }
 
     /// The entries that the predicate holds of. Refused: `NoMemory`.

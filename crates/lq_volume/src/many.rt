@@ -151,7 +151,7 @@ impl Many {
     }
 
     /// Takes an attribute out.
-    pub fn unset(&mut self, attr: &AttrName)
+    pub fn remove(&mut self, attr: &AttrName)
         requires { HasOwnNames self.old }
         ensures { self.new ≡ without_attr self.old attr.now }
     {

@@ -39,7 +39,7 @@ impl Model for Records {
 
 impl Records {
     ghost use Rattle.lq_volume.specs.State.{Rises, climbs, dir_of};
-    ghost use Rattle.lq_volume.specs.Change.{without, altered, at_place, written, setting, unsetting};
+    ghost use Rattle.lq_volume.specs.Change.{without, altered, at_place, written, set_attr, remove_attr};
 
     /// No records. It takes no memory.
     pub fn new(alloc: Global) -> Records
@@ -157,7 +157,7 @@ impl Records {
     /// Sets an attribute of a node. Refused: `NoMemory`, and then nothing changes.
     pub fn set_attr(&mut self, node: u64, attr: AttrName, value: Value) -> Result<(), Refusal>
         ensures refused { IsRefusedBy result None }
-        ensures ok { OnOk result (self.new ≡ altered node (setting attr value) self.old) }
+        ensures ok { OnOk result (self.new ≡ altered node (set_attr attr value) self.old) }
         ensures err { OnErr result (self.new ≡ self.old) }
     {
         if let Some(record) = self.stored.get_mut(&node) {
@@ -167,11 +167,11 @@ impl Records {
     }
 
     /// Takes an attribute of a node out.
-    pub fn unset_attr(&mut self, node: u64, attr: &AttrName)
-        ensures { self.new ≡ altered node (unsetting attr.now) self.old }
+    pub fn remove_attr(&mut self, node: u64, attr: &AttrName)
+        ensures { self.new ≡ altered node (remove_attr attr.now) self.old }
     {
         if let Some(record) = self.stored.get_mut(&node) {
-            record.unset_attr(attr);
+            record.remove_attr(attr);
         }
     }
 }

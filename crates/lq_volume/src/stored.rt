@@ -41,7 +41,7 @@ impl Model for Stored {
 impl Stored {
     ghost use Rattle.lq_volume.specs.Kind.{is_folder};
     ghost use Rattle.lq_volume.specs.State.{Record};
-    ghost use Rattle.lq_volume.specs.Change.{at_place, written, setting, unsetting, with_attrs};
+    ghost use Rattle.lq_volume.specs.Change.{at_place, written, set_attr, remove_attr, with_attrs};
     ghost use Rattle.lq_volume.specs.Seen.{attrs_after};
 
     /// A record without attributes.
@@ -135,7 +135,7 @@ impl Stored {
     /// Sets an attribute. Refused: `NoMemory`, and then nothing changes.
     pub fn set_attr(&mut self, attr: AttrName, value: Value) -> Result<(), Refusal>
         ensures refused { IsRefusedBy result None }
-        ensures ok { OnOk result (self.new ≡ setting attr value self.old) }
+        ensures ok { OnOk result (self.new ≡ set_attr attr value self.old) }
         ensures err { OnErr result (self.new ≡ self.old) }
     {
         self.attrs.set(attr, value)?;
@@ -143,10 +143,10 @@ impl Stored {
     }
 
     /// Takes an attribute out.
-    pub fn unset_attr(&mut self, attr: &AttrName)
-        ensures { self.new ≡ unsetting attr.now self.old }
+    pub fn remove_attr(&mut self, attr: &AttrName)
+        ensures { self.new ≡ remove_attr attr.now self.old }
     {
-        self.attrs.unset(attr);
+        self.attrs.remove(attr);
     }
 
     /// What a predicate sees of it, but for a difference.

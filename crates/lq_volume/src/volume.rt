@@ -246,7 +246,7 @@ impl Volume {
                 Ok(applied)
             }
             Change::RemoveAttr { node, attr } => {
-                self.entries.unset_attr(*node, attr);
+                self.entries.remove_attr(*node, attr);
                 self.changes += 1;
                 Ok(applied)
             }

@@ -7,7 +7,7 @@ use Rattle.lq_volume.specs.Change.{refused as refused_by}
 use Rattle.lq_volume.specs.Book.{Book, state_of}
 use Rattle.lq_update.specs.declared.message.Message.{Message}
 use Rattle.lq_update.specs.declared.parcel.Parcel.{Parcel}
-use Rattle.lq_world.specs.World.{World, Sub, in_port, to_come, told, mark_behind, whole, is_live, is_over, can_put, first_in_port, slot_at, with_slot}
+use Rattle.lq_world.specs.World.{World, Sub, in_port, to_come, updates_due, mark_behind, whole, is_live, is_over, can_put, first_in_port, slot_at, with_slot}
 use Rattle.lq_world.specs.declared.event.Event.TheVariants.{Change, Open, At}
 use Rattle.lq_world.specs.declared.event.Act.TheVariants as act
 use Rattle.lq_world.specs.Events.{Answer, Refused, changing, opening, opened_now, open_refusal, putting, putting_if, reading, reading_if, hanging_up, noticing, noticing_if, closing, closing_if, finishing, finishing_if, at_slot}
@@ -37,7 +37,8 @@ drop-both (u ∷ us) ms (suc n) = drop-both us ms n ∙ ap (λ k. parcels (drop 
 
 -- what is to come is the whole list without what was put
 pub to_come-is : (b : Book) (s : Sub) → to_come b s ≡ drop s.put (whole b s)
-to_come-is b s = sym (drop-both (told b s) (mark_behind (length (told b s)) s.end) s.put)
+to_come-is b s = sym (drop-both (updates_due b s) (mark_behind (length (updates_due b s)) s.end)
+    s.put)
 
 -- a list is passed on whole: taken, in the port, and to come
 pub lists-passed : ListsArePassedOn

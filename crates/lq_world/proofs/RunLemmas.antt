@@ -10,7 +10,7 @@ use Rattle.lq_update.specs.declared.parcel.Parcel.{Parcel}
 use Rattle.lq_update.specs.declared.parcel.Parcel.TheVariants.{Update, Fin}
 use Rattle.lq_update.specs.Updates.{updates_of, IsPrefixOf}
 use Rattle.lq_update.specs.Laws.{UpdatesJoin, UpdatesGrow}
-use Rattle.lq_world.specs.World.{World, Sub, End, covered, covered_by, told, mark_behind, whole}
+use Rattle.lq_world.specs.World.{World, Sub, End, covered, covered_by, updates_due, mark_behind, whole}
 use Rattle.lq_world.specs.declared.event.Event.{Event}
 use Rattle.lq_world.specs.declared.event.Event.TheVariants.{Change, Open, At}
 use Rattle.lq_world.specs.declared.event.Act.TheVariants as act
@@ -65,14 +65,14 @@ parcels_in-append (x ∷ xs) ys = ap (λ ps. parcel_in x ++ ps) (parcels_in-appe
 -- all that is told of one that has ended ends with the mark
 over-marked : (b : Book) (s : Sub) → IsOver b s → IsMarked (take s.taken (whole b s) ++ [])
 over-marked b s o =
-    let us = parcels (told b s) in
+    let us = parcels (updates_due b s) in
     let m : Mark =
-    record { seq = length (told b s) + 1; change = o.0.change; cause = o.0.cause } in (
+    record { seq = length (updates_due b s) + 1; change = o.0.change; cause = o.0.cause } in (
       m,
       us,
       append-nil (take s.taken (whole b s))
           ∙ (take-all s.taken (whole b s) (omega (arith, o.2))
-          ∙ ap (λ e. us ++ mark_behind (length (told b s)) e) o.1),
+          ∙ ap (λ e. us ++ mark_behind (length (updates_due b s)) e) o.1),
     )
 
 -- one event answers one read at most
@@ -306,11 +306,12 @@ pub ran-reads : UpdatesGrow → (b : Book) (s : Sub) (d : Book) (reads : List An
 ran-reads grow b s d reads none ran =
     let t = ran.sub in
     let us = updates_of s.query s.moved d s.opened (covered d t) in
-    let list : told d t ≡ us = alike d t s (covered d t) ran.same in
+    let list : updates_due d t ≡ us = alike d t s (covered d t) ran.same in
     let given : parcels_in reads ≡ take t.taken (whole d t) =
     ap (λ n. take n (whole b s) ++ parcels_in reads) (sym none) ∙ ran.front in
     let all : updates_in reads ≡ take t.taken us = ap updates_among given
-    ∙ (updates_among-take (told d t) t.taken (length (told d t)) t.end ∙ ap (take t.taken) list) in
+    ∙ (updates_among-take (updates_due d t) t.taken (length (updates_due d t)) t.end
+    ∙ ap (take t.taken) list) in
     let end : covered d t + (number_of d - covered d t) ≡ number_of d =
     omega (arith, ran.fair.covered) in
     let longer : IsPrefixOf us (updates_of s.query s.moved d s.opened (number_of d)) =
@@ -328,7 +329,8 @@ ran-reads grow b s d reads none ran =
           (sym (parcels_in-append front (Read (Fin m) ∷ rest)) ∙ (ap parcels_in (sym is) ∙ given))
           ∙ take-drop t.taken (whole d t)) in
           let place =
-          mark-place (told d t) (length (told d t)) t.end (parcels_in front) _ m parts in
+          mark-place (updates_due d t) (length (updates_due d t)) t.end
+          (parcels_in front) _ m parts in
           let to : covered d t ≡ m.change = ap (covered_by d) place.1.1
           ∙ sym (ap (λ (n : Mark). n.change) place.1.2) in (
             omega (arith, ran.fair.opened, ran.same.opened, to),

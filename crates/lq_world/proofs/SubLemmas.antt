@@ -13,7 +13,7 @@ use Rattle.lq_update.specs.declared.parcel.Parcel.{Parcel}
 use Rattle.lq_update.specs.declared.parcel.Parcel.TheVariants.{Update, Fin}
 use Rattle.lq_update.specs.Updates.{updates_of, step_of}
 use Rattle.lq_update.specs.Laws.{UpdatesJoin}
-use Rattle.lq_world.specs.World.{Sub, End, covered_by, covered, told, mark_behind, whole, held, is_live, is_over, with_end, with_hang_up_asked, one_more_put, one_more_taken, can_put, first_in_port, news, overruns, overrun_if, after_change}
+use Rattle.lq_world.specs.World.{Sub, End, covered_by, covered, updates_due, mark_behind, whole, held, is_live, is_over, with_end, with_hang_up_asked, one_more_put, one_more_taken, can_put, first_in_port, news, overruns, overrun_if, after_change}
 use Rattle.lq_world.specs.Events.{Answer, Read, Ended, Empty, putting_if, putting, reading_if, reading, hanging_up, noticing_if, noticing, closing_if, closing}
 use Rattle.lq_world.specs.Fair.{IsFair}
 use Rattle.lq_world.specs.Headline.{parcels_in}
@@ -104,7 +104,7 @@ whole-live b s live = ap (λ o. parcels (updates_to b s (covered_by b o))
     ++ mark_behind (length (updates_to b s (covered_by b o))) o) live ∙ append-nil _
 
 -- what a live subscription is told is its updates up to now
-pub told-live : (b : Book) (s : Sub) → s.end ≡ None → told b s ≡ updates_to b s (number_of b)
+pub told-live : (b : Book) (s : Sub) → s.end ≡ None → updates_due b s ≡ updates_to b s (number_of b)
 told-live b s live = ap (λ o. updates_to b s (covered_by b o)) live
 
 -- ---- what keeps it
@@ -142,7 +142,7 @@ pub keeps-ended : (b : Book) (cs : List Change_) (s : Sub) (e : End) → IsFair 
     → Keeps b s (grown b cs) s
 keeps-ended b cs s e h is =
     let to : covered b s ≡ e.change = ap (covered_by b) is in
-    let told_same : told (grown b cs) s ≡ told b s =
+    let told_same : updates_due (grown b cs) s ≡ updates_due b s =
     ap (λ o. updates_to (grown b cs) s (covered_by (grown b cs) o)) is
     ∙ (updates_of-stays s.query s.moved b cs s.opened e.change h.begun (omega (arith, h.opened, to))
     (omega (arith, h.covered, to))
@@ -227,8 +227,8 @@ module _ (join : UpdatesJoin) where
       let news_is : news b c s ≡ length step =
       ap (λ ms. length (step_of s.query s.moved (state_of b) c (length ms + 1)))
       (told-live b s live) in
-      let before : length (told b s) ≡ length us = ap length (told-live b s live) in
-      let after : length (told d s) ≡ length us + length step =
+      let before : length (updates_due b s) ≡ length us = ap length (told-live b s live) in
+      let after : length (updates_due d s) ≡ length us + length step =
       ap length (told-live d s live ∙ told_more) ∙ length-append us step in
       record {
         same = record { query = refl; moved = refl; opened = refl };
@@ -251,8 +251,8 @@ module _ (join : UpdatesJoin) where
                 after,
                 news_is,
                 list,
-                length-drop s.put (told b s),
-                length-drop s.put (told d s),
+                length-drop s.put (updates_due b s),
+                length-drop s.put (updates_due d s),
               ));
         };
         more = parcels step;
@@ -342,8 +342,8 @@ putting-leaves b s h = by (can_put b s) refl
           held = λ live. omega (
             arith,
             h.held live,
-            length-drop s.put (told b s),
-            length-drop (s.put + 1) (told b s),
+            length-drop s.put (updates_due b s),
+            length-drop (s.put + 1) (updates_due b s),
           );
         }))
     by false is = leaves b s s h refl (keeps-self b s h)
@@ -457,7 +457,7 @@ reading-leaves b s h = by (first_in_port b s) refl
             over = λ o. absurd (omega (arith, o.2, more.1));
             marked = λ m same.
                 let mark : p ≡ Fin m = cc in
-                let last = mark-last (told b s) (length (told b s)) s.taken s.end m
+                let last = mark-last (updates_due b s) (length (updates_due b s)) s.taken s.end m
                 (at.1 ∙ ap (λ q. Some q) mark) in
                 (last.0, last.1, last.2);
             shown = λ no. absurd (let never : ⊥ = cc in never);

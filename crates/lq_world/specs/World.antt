@@ -52,8 +52,8 @@ abbrev pub covered : Book → Sub → ℕ
 covered b s = covered_by b s.end
 
 -- its updates, from its opening to the last change that it covers
-abbrev pub told : Book → Sub → List Message
-told b s = updates_of s.query s.moved b s.opened (covered b s)
+abbrev pub updates_due : Book → Sub → List Message
+updates_due b s = updates_of s.query s.moved b s.opened (covered b s)
 
 -- the mark behind so many updates, of one that has ended
 abbrev pub mark_behind : ℕ → Option End → List Parcel
@@ -62,7 +62,7 @@ mark_behind n (Some e) = Fin (record { seq = n + 1; change = e.change; cause = e
 
 -- all that it is told: its updates, and once it has ended the mark
 abbrev pub whole : Book → Sub → List Parcel
-whole b s = map (λ m. Update m) (told b s) ++ mark_behind (length (told b s)) s.end
+whole b s = map (λ m. Update m) (updates_due b s) ++ mark_behind (length (updates_due b s)) s.end
 
 -- what is in its port: what was put and isn't taken
 abbrev pub in_port : Book → Sub → List Parcel
@@ -70,7 +70,7 @@ in_port b s = drop s.taken (take s.put (whole b s))
 
 -- the updates that are held, since they aren't put into the port yet, and how many they are
 abbrev pub waiting : Book → Sub → List Message
-waiting b s = drop s.put (told b s)
+waiting b s = drop s.put (updates_due b s)
 
 abbrev pub held : Book → Sub → ℕ
 held b s = length (waiting b s)
@@ -78,7 +78,7 @@ held b s = length (waiting b s)
 -- what is still to be put: those, and then the mark, if it has ended and the mark isn't put
 abbrev pub to_come : Book → Sub → List Parcel
 to_come b s = map (λ m. Update m) (waiting b s)
-    ++ drop (s.put - length (told b s)) (mark_behind (length (told b s)) s.end)
+    ++ drop (s.put - length (updates_due b s)) (mark_behind (length (updates_due b s)) s.end)
 
 abbrev pub is_live : Sub → Bool
 is_live s = is_none s.end
@@ -111,7 +111,7 @@ first_in_port b s = if nat_lt s.taken s.put then slice_get (whole b s) s.taken e
 
 -- how many messages a lawful change has for it
 abbrev pub news : Book → Change_ → Sub → ℕ
-news b c s = length (step_of s.query s.moved (state_of b) c (length (told b s) + 1))
+news b c s = length (step_of s.query s.moved (state_of b) c (length (updates_due b s) + 1))
 
 -- whether they are more than its backlog has room for
 abbrev pub overruns : Book → Change_ → Sub → Bool

@@ -6,13 +6,13 @@ use Rattle.lq_volume.specs.State.{State, IsVolume}
 use Rattle.lq_volume.specs.Change.{IsLawful}
 use Rattle.lq_update.specs.Updates.{step_of}
 use Rattle.lq_update.specs.Laws.{StepsAreFew}
-use Rattle.lq_desk.specs.Held.{Held, told_if}
+use Rattle.lq_desk.specs.Held.{Held, after_messages_by}
 use Rattle.lq_core_tests.proofs.desks.tell.Goals as goal
 
 -- a change makes at most three messages of a subscription
 few-told : StepsAreFew → (s : State) (c : Change) (h : Held) (x : Bool) → IsVolume s
     → IsLawful s c → h.sent ≤ 3 * s.number
-    → (told_if h (step_of h.query h.moved s c (h.sent + 1)) s.number x).sent ≤ 3 * (s.number + 1)
+    → (after_messages_by h (step_of h.query h.moved s c (h.sent + 1)) s.number x).sent ≤ 3 * (s.number + 1)
 few-told steps s c h true v lawful le = omega (arith, le)
 few-told steps s c h false v lawful le =
     omega (arith, le, steps h.query h.moved s c (h.sent + 1) v lawful)

@@ -19,19 +19,20 @@ loop-out-init g c = record {
   writer_moves = c.requires.writer_moves;
 }
 
-pub returns-in_err-hand-clause-err : goal.returns-in_err-hand-clause-err
-returns-in_err-hand-clause-err g c = on_err_any c.from_residual.result (
+pub returns-in_err-write_replies-clause-err : goal.returns-in_err-write_replies-clause-err
+returns-in_err-write_replies-clause-err g c = on_err_any c.from_residual.result (
     let i = c.loop-out.invariant in
-    let part = c.in_err-hand.ensures.err in
+    let part = c.in_err-write_replies.ensures.err in
     run_stopped g.S.Responder.rules _ _ _ _ i.given _ i.consumed (fronts_handed g.S.Responder.rules
     _ i.given _ _ _ part.0 (stands_stops g.S.Responder.rules _ i.given _ _ _ _ i.stands) part.1))
 
-pub returns-in_err-close-clause-err : goal.returns-in_err-close-clause-err
-returns-in_err-close-clause-err g c = on_err_any c.from_residual-in_err-close.result (
+pub returns-in_err-write_and_flush-clause-err : goal.returns-in_err-write_and_flush-clause-err
+returns-in_err-write_and_flush-clause-err g c =
+    on_err_any c.from_residual-in_err-write_and_flush.result (
     let i = c.loop-out.invariant in
     let stood = stands_empty g.S.Responder.rules _ i.given _ _ _ _ _ _ i.stands
-    c.in_ok-hand.ensures.ok c.hand.ensures.empty in
-    let part = c.in_err-close.ensures.err in
+    c.in_ok-write_replies.ensures.ok c.write_replies.ensures.empty in
+    let part = c.in_err-write_and_flush.ensures.err in
     run_stopped g.S.Responder.rules _ _ _ _ i.given _
     (Consumes-kept _ _ _ _ i.consumed c.in_default.ensures.bytes)
     (fronts_handed g.S.Responder.rules _ i.given _ _ _ part.0
@@ -41,26 +42,26 @@ pub returns-in_default-clause-err : goal.returns-in_default-clause-err
 returns-in_default-clause-err g c =
     let i = c.loop-out.invariant in
     let stood = stands_empty g.S.Responder.rules _ i.given _ _ _ _ _ _ i.stands
-    c.in_ok-hand.ensures.ok c.hand.ensures.empty in
+    c.in_ok-write_replies.ensures.ok c.write_replies.ensures.empty in
     run_stopped g.S.Responder.rules _ _ _ _ i.given _
     (Consumes-kept _ _ _ _ i.consumed c.in_default.ensures.bytes)
     (fronts_all g.S.Responder.rules _ i.given _ _ _
-    (stands_stops g.S.Responder.rules _ i.given _ _ _ _ stood) c.in_ok-close.ensures.ok)
+    (stands_stops g.S.Responder.rules _ i.given _ _ _ _ stood) c.in_ok-write_and_flush.ensures.ok)
 
 pub returns-in_default-clause-read : goal.returns-in_default-clause-read
 returns-in_default-clause-read g c = λ _.
     let i = c.loop-out.invariant in
     let stood = stands_empty g.S.Responder.rules _ i.given _ _ _ _ _ _ i.stands
-    c.in_ok-hand.ensures.ok c.hand.ensures.empty in
+    c.in_ok-write_replies.ensures.ok c.write_replies.ensures.empty in
     run_ended g.S.Responder.rules _ _ _ _ i.given _ _
     (Consumes-kept _ _ _ _ i.consumed c.in_default.ensures.bytes)
-    (stands_handed g.S.Responder.rules _ i.given _ _ _ _ _ stood c.in_ok-close.ensures.ok)
+    (stands_handed g.S.Responder.rules _ i.given _ _ _ _ _ stood c.in_ok-write_and_flush.ensures.ok)
 
 pub returns-then-count-eq0-clause-ok : goal.returns-then-count-eq0-clause-ok
 returns-then-count-eq0-clause-ok g c =
     let i = c.loop-out.invariant in
     let stood = stands_empty g.S.Responder.rules _ i.given _ _ _ _ _ _ i.stands
-    c.in_ok-hand.ensures.ok c.hand.ensures.empty in
+    c.in_ok-write_replies.ensures.ok c.write_replies.ensures.empty in
     let read = c.in-Ok.ensures.bytes in
     on_ok_weaker c.finish.result (λ says. run_answered g.S.Responder.rules _ _ _ _ _ i.given _ _ _
     (read_none _ _ _ i.given _ c.in-Ok.count c.if-count-eq0.true i.consumed read.0)
@@ -70,7 +71,7 @@ pub returns-then-count-eq0-clause-err : goal.returns-then-count-eq0-clause-err
 returns-then-count-eq0-clause-err g c =
     let i = c.loop-out.invariant in
     let stood = stands_empty g.S.Responder.rules _ i.given _ _ _ _ _ _ i.stands
-    c.in_ok-hand.ensures.ok c.hand.ensures.empty in
+    c.in_ok-write_replies.ensures.ok c.write_replies.ensures.empty in
     on_err_weaker c.finish.result (λ says. run_stopped g.S.Responder.rules _ _ _ _ i.given _
     (read_none _ _ _ i.given _ c.in-Ok.count c.if-count-eq0.true i.consumed c.in-Ok.ensures.bytes.0)
     (says _ i.given stood)) c.finish.ensures.err
@@ -79,7 +80,7 @@ pub loop-out-smaller : goal.loop-out-smaller
 loop-out-smaller g c =
     let i = c.loop-out.invariant in
     let stood = stands_empty g.S.Responder.rules _ i.given _ _ _ _ _ _ i.stands
-    c.in_ok-hand.ensures.ok c.hand.ensures.empty in
+    c.in_ok-write_replies.ensures.ok c.write_replies.ensures.empty in
     let more = c.in_ok-take_block.ensures.ok _ i.given stood in
     less_left _ _ c.in-Ok.count _ c.if-count-eq0.false c.in-Ok.ensures.bound
     c.in_ok-take_block.ensures.bytes more.bytes_within
@@ -88,22 +89,24 @@ pub loop-out-preserved : goal.loop-out-preserved
 loop-out-preserved g c =
     let i = c.loop-out.invariant in
     let stood = stands_empty g.S.Responder.rules _ i.given _ _ _ _ _ _ i.stands
-    c.in_ok-hand.ensures.ok c.hand.ensures.empty in record {
+    c.in_ok-write_replies.ensures.ok c.write_replies.ensures.empty in record {
       given = _;
       consumed = run_reads _ _ _ i.given _ _ i.consumed c.in-Ok.ensures.bytes.0 refl;
       stands = c.in_ok-take_block.ensures.ok _ i.given stood;
       reader_works = c.in-Ok.ensures.works ∙ i.reader_works;
       writer_works =
-          c.in_ok-take_block.ensures.works.0 ∙ c.in_ok-hand.ensures.works.0 ∙ i.writer_works;
+          c.in_ok-take_block.ensures.works.0 ∙ c.in_ok-write_replies.ensures.works.0
+          ∙ i.writer_works;
       writer_moves =
-          c.in_ok-take_block.ensures.works.1 ∙ c.in_ok-hand.ensures.works.1 ∙ i.writer_moves;
+          c.in_ok-take_block.ensures.works.1 ∙ c.in_ok-write_replies.ensures.works.1
+          ∙ i.writer_moves;
     }
 
 pub returns-in_err-take_block-clause-err : goal.returns-in_err-take_block-clause-err
 returns-in_err-take_block-clause-err g c = on_err_any c.from_residual-in_err-take_block.result (
     let i = c.loop-out.invariant in
     let stood = stands_empty g.S.Responder.rules _ i.given _ _ _ _ _ _ i.stands
-    c.in_ok-hand.ensures.ok c.hand.ensures.empty in
+    c.in_ok-write_replies.ensures.ok c.write_replies.ensures.empty in
     run_stopped g.S.Responder.rules _ _ _ _ _ _ (run_reads _ _ _ i.given _ _ i.consumed
     c.in-Ok.ensures.bytes.0 refl) (c.in_err-take_block.ensures.err _ i.given stood))
 
@@ -112,6 +115,6 @@ returns-in_err-take_block-clause-limit g c = λ limit.
     let is : c.in_err-take_block.field-0.0 ≡ Limit = search rules in
     let i = c.loop-out.invariant in
     let stood = stands_empty g.S.Responder.rules _ i.given _ _ _ _ _ _ i.stands
-    c.in_ok-hand.ensures.ok c.hand.ensures.empty in
+    c.in_ok-write_replies.ensures.ok c.write_replies.ensures.empty in
     run_passed g.S.Responder.rules _ _ _ _ _ i.given _ _ _ _ i.consumed c.in-Ok.ensures.bytes.0 refl
     (c.in_err-take_block.ensures.limit (ap Err is) _ i.given stood)

@@ -17,14 +17,15 @@ returns-in_err-answer-clause-err g c = on_err_any c.from_residual.result (λ res
     (stands_fronts g.S.Responder.rules began _ _ _ _ _ (10 ∷ rest) s))
 
 pub returns-clause-ok : goal.returns-clause-ok
-returns-clause-ok g c = on_ok_weaker c.hand.result (λ written. λ began given s.
-    rw c.hand.ensures.empty (stands_handed g.S.Responder.rules began (given ++ 10 ∷ []) _ _ _ _ _
+returns-clause-ok g c = on_ok_weaker c.write_replies.result (λ written. λ began given s.
+    rw c.write_replies.ensures.empty (stands_handed g.S.Responder.rules began (given ++ 10 ∷ [])
+    _ _ _ _ _
     (stands_line g.S.Responder.rules began given _ _ _ c.args.intake.now _ _ _ 10 s refl
     c.in_ok-answer.ensures.ok c.in_ok-answer.ensures.after refl c.clear.ensures.items refl refl
-    c.requires.lines c.requires.bytes) written)) c.hand.ensures.ok
+    c.requires.lines c.requires.bytes) written)) c.write_replies.ensures.ok
 
 pub returns-clause-err : goal.returns-clause-err
-returns-clause-err g c = on_err_weaker c.hand.result (λ part. λ rest began given s.
+returns-clause-err g c = on_err_weaker c.write_replies.result (λ part. λ rest began given s.
     let stood = stands_line g.S.Responder.rules began given _ _ _ c.args.intake.now (record {
       line = c.clear.new.self;
       long = false;
@@ -33,7 +34,8 @@ returns-clause-err g c = on_err_weaker c.hand.result (λ part. λ rest began giv
     })
     _ _ 10 s refl c.in_ok-answer.ensures.ok c.in_ok-answer.ensures.after refl c.clear.ensures.items
     refl refl c.requires.lines c.requires.bytes in
-    rw c.hand.ensures.empty (subst (λ l. Fronts g.S.Responder.rules began l
-    (g.W.Sink.written c.hand.new.writer) []) (append_assoc given (10 ∷ []) rest)
+    rw c.write_replies.ensures.empty (subst (λ l. Fronts g.S.Responder.rules began l
+    (g.W.Sink.written c.write_replies.new.writer) []) (append_assoc given (10 ∷ []) rest)
     (fronts_handed g.S.Responder.rules began _ _ _ _ part.0
-    (stands_fronts g.S.Responder.rules began _ _ _ _ _ rest stood) part.1))) c.hand.ensures.err
+    (stands_fronts g.S.Responder.rules began _ _ _ _ _ rest stood) part.1)))
+    c.write_replies.ensures.err

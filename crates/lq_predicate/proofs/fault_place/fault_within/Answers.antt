@@ -11,8 +11,8 @@ loop-placed-init c = (
   start nesting,
   record {
     below = ap reverse c.new.ensures;
-    top = c.new_outline.ensures;
-    awaited = refl;
+    top = c.new_size_frame.ensures;
+    expected = refl;
     room = refl;
   },
   starts c.args.text.now (start nesting) c.requires refl,
@@ -50,22 +50,22 @@ loop-placed-preserved c =
           (omega (arith, c.if-words-gt-MOST_WORDS.false)) c.in-Some.ensures.place,
     )
 
-pub returns-in_default-gauge_end : goal.returns-in_default-gauge_end
-returns-in_default-gauge_end c =
+pub returns-in_default-size_at_end : goal.returns-in_default-size_at_end
+returns-in_default-size_at_end c =
     let i = c.loop-placed.invariant in
     fault_of-none _ _
-    (ends _ _ _ _ _ i.2 _ c.in_default.ensures.last (c.in_default-gauge_end.ensures i.0 i.1))
+    (ends _ _ _ _ _ i.2 _ c.in_default.ensures.last (c.in_default-size_at_end.ensures i.0 i.1))
 
 pub returns-then-whole-gt-MOST_DEPTH : goal.returns-then-whole-gt-MOST_DEPTH
 returns-then-whole-gt-MOST_DEPTH c =
     let i = c.loop-placed.invariant in
-    let w = c.in-Some-gauge_end.ensures i.0 i.1 in
-    too_great _ w.0 c.in-Some-gauge_end.whole
+    let w = c.in-Some-size_at_end.ensures i.0 i.1 in
+    too_great _ w.0 c.in-Some-size_at_end.whole
     (ends _ _ _ _ _ i.2 _ c.in_default.ensures.last w.1) w.2 c.then-whole-gt-MOST_DEPTH.either
 
 pub returns : goal.returns
 returns c =
     let i = c.loop-placed.invariant in
-    let w = c.in-Some-gauge_end.ensures i.0 i.1 in
-    fits _ w.0 c.in-Some-gauge_end.whole (ends _ _ _ _ _ i.2 _ c.in_default.ensures.last w.1) w.2
+    let w = c.in-Some-size_at_end.ensures i.0 i.1 in
+    fits _ w.0 c.in-Some-size_at_end.whole (ends _ _ _ _ _ i.2 _ c.in_default.ensures.last w.1) w.2
     c.if-whole-gt-MOST_DEPTH.false c.if-whole-gt-MOST_BYTES.false

@@ -9,7 +9,7 @@ pub loop-placed-init : goal.loop-placed-init
 loop-placed-init c = record {
   so_far = (
     0,
-    starts c.args.text.now _ (reads_short c.args.text.now c.requires) c.new_machine-machine.ensures,
+    starts c.args.text.now _ (reads_short c.args.text.now c.requires) c.new_parser-parser.ensures,
   );
   texts = no_texts c.args.text.now;
 }
@@ -29,7 +29,7 @@ loop-placed-preserved c =
       so_far = (
         _,
         reads_further _ _ _ _ _ i.1 c.requires (placed_of c.in-Some.placed) _ _ _
-            c.in-Some.ensures.first c.in_ok-machine.ensures.value c.in-Some.ensures.place,
+            c.in-Some.ensures.first c.in_ok-parser.ensures.value c.in-Some.ensures.place,
       );
       texts = one_text _ _ _ c.loop-placed.invariant.texts
           (placed_of c.in-Some.placed) _ _ c.in-Some.ensures.first c.in-Some.ensures.text;

@@ -14,7 +14,7 @@ waiting-waiting-requires-clause-few g c =
     let v = c.sync-progress.ensures.progress in
     let i = c.reader.inside in
     let old : ReaderHold =
-    record { reading = i.reading; seat = i.seat; slot = i.slot; asked = i.asked } in
+    record { reading = i.reading; seat = i.seat; slot = i.slot; hang_up_asked = i.hang_up_asked } in
     let new : ReaderHold = record old {
       reading = c.sync-progress.new.reading;
       seat = c.sync-progress.new.seat;
@@ -28,7 +28,7 @@ waiting-waiting-requires-clause-marks g c =
     let v = c.sync-progress.ensures.progress in
     let i = c.reader.inside in
     let old : ReaderHold =
-    record { reading = i.reading; seat = i.seat; slot = i.slot; asked = i.asked } in
+    record { reading = i.reading; seat = i.seat; slot = i.slot; hang_up_asked = i.hang_up_asked } in
     let new : ReaderHold = record old {
       reading = c.sync-progress.new.reading;
       seat = c.sync-progress.new.seat;
@@ -45,7 +45,7 @@ returns g c =
     let v = c.sync-progress.ensures.progress in
     let i = c.reader.inside in
     let old : ReaderHold =
-    record { reading = i.reading; seat = i.seat; slot = i.slot; asked = i.asked } in
+    record { reading = i.reading; seat = i.seat; slot = i.slot; hang_up_asked = i.hang_up_asked } in
     let new : ReaderHold = record old {
       reading = c.sync-progress.new.reading;
       seat = c.sync-progress.new.seat;

@@ -1,6 +1,6 @@
 use Rattle.std.proofs.Common.{refl, subst}
 use Rattle.std.specs.Prelude.{IsSome, Option}
-use Rattle.lq_volume.specs.Change.{setting}
+use Rattle.lq_volume.specs.Change.{set_attr}
 use Rattle.lq_volume.specs.State.{Record}
 use Rattle.lq_volume.proofs.RecordLemmas.{on_err}
 use Rattle.lq_volume.proofs.ByNode.{by_node-absent, by_node-altered, by_node-same, Rises-by_node}
@@ -34,6 +34,6 @@ returns-clause-ok c = elim c.match-get_mut.branch [
       w.in_ok-set_attr.ensures.ok c.self.invariant end.4 w.in-Some.ensures.value
       (λ n. (end.3 there).0 n))
   | in_default w ↦ rw (w.self-inside-is, c.get_mut.follows.holds-at-none, ← c.self.view_is)
-      (by_node-absent c.self.inside.stored.entries c.args.node (setting c.args.attr c.args.value)
+      (by_node-absent c.self.inside.stored.entries c.args.node (set_attr c.args.attr c.args.value)
       w.in_default.ensures.value)
 ]

@@ -82,5 +82,5 @@ pub invariant_of-self-in-RemoveAttr : goal.invariant_of-self-in-RemoveAttr
 invariant_of-self-in-RemoveAttr c =
     let may = subst (λ (s : State). refused s c.args.change.now ≡ None)
     (sym c.self.view_is) c.requires in
-    rw c.unset_attr.ensures
+    rw c.remove_attr.ensures
     (keeps-all _ (RemoveAttr _ _) c.self.invariant (rw c.in-RemoveAttr.is at may))

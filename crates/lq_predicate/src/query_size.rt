@@ -1,0 +1,91 @@
+//! How great what is read so far is, where it isn't kept.
+ghost use Rattle.std.specs.Prelude.{◌≡◌, ◌++◌, ◌∷◌, [], List};
+ghost use Rattle.lq_formula.specs.Machine.{Frame, empty_frame, negate, said_by};
+ghost use Rattle.lq_formula.specs.Query.{Query, both_of, either_of};
+ghost use Rattle.lq_predicate.specs.Validator.{query_size, size_frame, parts_of};
+
+// How deep a query is, and how many bytes its canonical text has; the greatest usize for more.
+#[derive(Clone, Copy)]
+pub(crate) struct QuerySize {
+    pub(crate) depth: usize,
+    pub(crate) bytes: usize,
+}
+
+// Queries in a list: none, the only one, or all of them as one And or Or.
+#[derive(Clone, Copy)]
+pub(crate) enum Parts {
+    Empty,
+    One(QuerySize),
+    More(QuerySize),
+}
+
+// A formula that is begun, as the parser has it, of its parts no more than their sizes.
+#[derive(Clone, Copy)]
+pub(crate) struct SizeFrame {
+    pub(crate) or_parts: Parts,
+    pub(crate) and_parts: Parts,
+    pub(crate) bangs: usize,
+}
+
+impl Default for SizeFrame {
+    fn default() -> SizeFrame {
+        new_size_frame()
+    }
+}
+
+pub(crate) fn new_size_frame() -> SizeFrame
+    ensures { result ≡ size_frame empty_frame }
+{
+    SizeFrame {
+        or_parts: Parts::Empty,
+        and_parts: Parts::Empty,
+        bangs: 0,
+    }
+}
+
+// One part more.
+pub(crate) fn with_part(parts: Parts, part: QuerySize) -> Parts
+    ensures { (qs : List Query) (q : Query) → parts ≡ parts_of qs → part ≡ query_size q
+        → result ≡ parts_of (qs ++ q ∷ []) }
+{
+    match parts {
+        Parts::Empty => Parts::One(part),
+        Parts::One(only) => Parts::More(QuerySize {
+            depth: only.depth.max(part.depth).saturating_add(1),
+            bytes: only.bytes.saturating_add(part.bytes).saturating_add(4),
+        }),
+        Parts::More(whole) => Parts::More(QuerySize {
+            depth: whole.depth.max(part.depth.saturating_add(1)),
+            bytes: whole.bytes.saturating_add(part.bytes).saturating_add(2),
+        }),
+    }
+}
+
+// What they make together: one part is itself.
+pub(crate) fn together(parts: Parts) -> QuerySize
+    ensures both { (qs : List Query) → parts ≡ parts_of qs → result ≡ query_size (both_of qs) }
+    ensures either { (qs : List Query) → parts ≡ parts_of qs
+        → result ≡ query_size (either_of qs) }
+{
+    match parts {
+        Parts::Empty => QuerySize { depth: 1, bytes: 2 },
+        Parts::One(size) | Parts::More(size) => size,
+    }
+}
+
+// With so many `!` before it.
+pub(crate) fn negated(part: QuerySize, bangs: usize) -> QuerySize
+    ensures { (q : Query) → part ≡ query_size q → result ≡ query_size (negate bangs q) }
+{
+    QuerySize {
+        depth: part.depth.saturating_add(bangs),
+        bytes: part.bytes.saturating_add(bangs),
+    }
+}
+
+// What a formula says, once it is whole.
+pub(crate) fn said(frame: SizeFrame) -> QuerySize
+    ensures { (f : Frame) → frame ≡ size_frame f → result ≡ query_size (said_by f) }
+{
+    together(with_part(frame.or_parts, together(frame.and_parts)))
+}

@@ -1,7 +1,0 @@
-use Rattle.std.proofs.Common.{◌∙◌, refl, sym}
-use Rattle.lq_volume.proofs.PlaceLemmas.{node_in-altered}
-use Rattle.lq_volume.proofs.entries.Entries.unset_attr.Goals as goal
-
-pub invariant_of-self : goal.invariant_of-self
-invariant_of-self c = rw c.unset_attr.ensures (λ d n. c.self.invariant d n
-    ∙ sym (node_in-altered _ _ _ (λ r. refl) (λ r. refl) d n))
