@@ -4,7 +4,7 @@ use Rattle.std.specs.Prelude.{nat_lt, if◌then◌else◌}
 use Rattle.std.specs.Option.{option_map, option_to_list}
 use Rattle.lq_value.specs.declared.refusal.Refusal.{Refusal}
 use Rattle.lq_update.specs.declared.parcel.Parcel.TheVariants.{Update, Fin}
-use Rattle.lq_world.specs.World.{World, Sub, End, updates_due, whole, in_port, waiting, to_come, mark_behind}
+use Rattle.lq_world.specs.World.{World, Subscribed, End, updates_due, whole, in_port, waiting, to_come, mark_behind}
 use Rattle.lq_world.specs.declared.event.Event.{Event}
 use Rattle.lq_world.specs.Events.{Answer, Refused}
 use Rattle.lq_world.specs.Runs.{Step}
@@ -41,7 +41,7 @@ mark-drop n i o = by (nat_lt n i) refl
         ap (λ j. drop j (mark_behind n o)) none ∙ all o
 
 -- what is to come in the world is what is held, and a mark that hasn't gone out
-to_come-kept : (w : World) (s : Sub) → to_come w.book s
+to_come-kept : (w : World) (s : Subscribed) → to_come w.book s
     ≡ map (λ m. Update m) (held_for w.book s).messages ++ mark_left (held_for w.book s)
 to_come-kept w s = ap (λ ps. map (λ m. Update m) (waiting w.book s) ++ ps)
     (mark-drop (length (updates_due w.book s)) s.put s.end)

@@ -15,7 +15,7 @@ use Rattle.lq_volume.specs.Laws.{ChangesCount}
 use Rattle.lq_volume.specs.Book.{Book, grown, number_of, state_of, state_at}
 use Rattle.lq_update.specs.Updates.{updates_of, updates_from}
 use Rattle.lq_update.specs.Laws.{UpdatesJoin}
-use Rattle.lq_world.specs.World.{World, Sub, updates_due, slot_at, after_change, taken_before_free}
+use Rattle.lq_world.specs.World.{World, Subscribed, updates_due, slot_at, after_change, taken_before_free}
 use Rattle.lq_world.specs.declared.event.Event.{Event}
 use Rattle.lq_world.specs.declared.event.Event.TheVariants.{Change, Open, At}
 use Rattle.lq_world.specs.declared.event.Act.TheVariants as act
@@ -45,7 +45,7 @@ pub kept_at-same : (w : World) (slot : ℕ)
     → kept_at (kept_of w) slot ≡ option_map (slot_for w.book) (slot_at w slot)
 kept_at-same w slot = by (slot == 0)
   where
-    f : Sub → KeptSlot
+    f : Subscribed → KeptSlot
     f = slot_for w.book
 
     by : (x : Bool) → (if x then None
@@ -57,11 +57,12 @@ kept_at-same w slot = by (slot == 0)
         ∙ flatten-map (slot_for w.book) (slice_get w.slots (slot - 1))
 
 -- a subscription in a slot stands at its place
-pub slot-found : (w : World) (slot : ℕ) (s : Sub) → slot_at w slot ≡ Some s
+pub slot-found : (w : World) (slot : ℕ) (s : Subscribed) → slot_at w slot ≡ Some s
     → slice_get w.slots (slot - 1) ≡ Some (Some s)
 slot-found w slot s is = by (slot == 0) (slice_get w.slots (slot - 1)) is
   where
-    by : (x : Bool) (o : Option (Option Sub)) → (if x then None else option_flatten o) ≡ Some s
+    by : (x : Bool) (o : Option (Option Subscribed))
+        → (if x then None else option_flatten o) ≡ Some s
         → o ≡ Some (Some s)
     by true o is = absurd (let no : ⊥ = cc in no)
     by false None is = absurd (let no : ⊥ = cc in no)
@@ -70,15 +71,16 @@ slot-found w slot s is = by (slot == 0) (slice_get w.slots (slot - 1)) is
 
 -- an event at a slot is answered alike, if it is at each subscription
 at-same : (w : World) → IsFairWorld w
-    → (slot : ℕ) (event : Sub → Answer × Option Sub) (does : KeptSlot → Answer × Option KeptSlot)
-    → ((s : Sub) → IsFair w.book s
+    → (slot : ℕ) (event : Subscribed → Answer × Option Subscribed)
+    (does : KeptSlot → Answer × Option KeptSlot)
+    → ((s : Subscribed) → IsFair w.book s
     → does (slot_for w.book s) ≡ ((event s).0, option_map (slot_for w.book) (event s).1))
     → at_kept (kept_of w) slot does
     ≡ ((at_slot w slot (slot_at w slot) event).0, kept_of (at_slot w slot (slot_at w slot) event).1)
 at-same w fair slot event does same = ap (λ o. at_place (kept_of w) (slot - 1) o does)
     (kept_at-same w slot) ∙ by (slot_at w slot) refl
   where
-    by : (o : Option Sub)
+    by : (o : Option Subscribed)
         → slot_at w slot ≡ o → at_place (kept_of w) (slot - 1) (option_map (slot_for w.book) o) does
         ≡ ((at_slot w slot o event).0, kept_of (at_slot w slot o event).1)
     by None is = refl
@@ -95,7 +97,7 @@ at-same w fair slot event does same = ap (λ o. at_place (kept_of w) (slot - 1) 
 -- ---- an opening
 
 -- the first free slot of the desk is that of the world
-free-same : (b : Book) (os : List (Option Sub))
+free-same : (b : Book) (os : List (Option Subscribed))
     → first_free (map (option_map (slot_for b)) os) ≡ taken_before_free os
 free-same b [] = refl
 free-same b (None ∷ os) = refl
@@ -180,7 +182,7 @@ module _ (count : ChangesCount) where
   -- and update lists join
   module _ (join : UpdatesJoin) where
     -- a change leaves in each slot what the world's subscriptions leave after it
-    changed-slots : (b : Book) (c : Change_) (os : List (Option Sub))
+    changed-slots : (b : Book) (c : Change_) (os : List (Option Subscribed))
         → AllByRecursion (IsFairSlot b) os
         → map (option_map (slot_after (state_of b) c)) (map (option_map (slot_for b)) os)
         ≡ map (option_map (slot_for (grown b (c ∷ [])))) (map (option_map (after_change b c)) os)

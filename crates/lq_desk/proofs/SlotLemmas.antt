@@ -13,7 +13,7 @@ use Rattle.lq_update.specs.declared.parcel.Parcel.{Parcel}
 use Rattle.lq_update.specs.declared.parcel.Parcel.TheVariants.{Update, Fin}
 use Rattle.lq_update.specs.Updates.{updates_of, step_of}
 use Rattle.lq_update.specs.Laws.{UpdatesJoin}
-use Rattle.lq_world.specs.World.{Sub, End, covered_by, covered, updates_due, mark_behind, whole, is_live, is_over, with_end, one_more_put, first_in_port, overruns, overrun_if, after_change}
+use Rattle.lq_world.specs.World.{Subscribed, End, covered_by, covered, updates_due, mark_behind, whole, is_live, is_over, with_end, one_more_put, first_in_port, overruns, overrun_if, after_change}
 use Rattle.lq_world.specs.Events.{Moved, Read, Ended, Empty, Noticed, Shut, putting_if, putting, reading_if, reading, hanging_up, noticing_if, noticing, closing_if, closing, finishing_if, finishing}
 use Rattle.lq_world.specs.Fair.{IsFair}
 use Rattle.lq_desk.specs.Held.{Held, next_of, without, ended_by, after_messages_by, with_messages, next_parcel}
@@ -28,7 +28,7 @@ abbrev parcels : List Message → List Parcel
 parcels messages = map (λ m. Update m) messages
 
 -- a subscription's slot with these parts
-abbrev pub kept_with : Sub → ℕ → List Message → Option Mark → Bool → List Parcel → KeptSlot
+abbrev pub kept_with : Subscribed → ℕ → List Message → Option Mark → Bool → List Parcel → KeptSlot
 kept_with s n messages mark mark_out queue = record {
   held = record {
     query = s.query;
@@ -46,13 +46,13 @@ kept_with s n messages mark mark_out queue = record {
 }
 
 -- slots with the same parts are the same
-pub kept_alike : (s : Sub) (m n : ℕ) (ms ns : List Message) (o p : Option Mark) (x y : Bool)
+pub kept_alike : (s : Subscribed) (m n : ℕ) (ms ns : List Message) (o p : Option Mark) (x y : Bool)
     (ps qs : List Parcel) → m ≡ n → ms ≡ ns → o ≡ p → x ≡ y → ps ≡ qs
     → kept_with s m ms o x ps ≡ kept_with s n ns p y qs
 kept_alike s m n ms ns o p x y ps qs a b c d e = cc
 
 -- what is kept for a subscription with these updates, this list and this end
-abbrev slot_with : Sub → List Message → List Parcel → Option End → KeptSlot
+abbrev slot_with : Subscribed → List Message → List Parcel → Option End → KeptSlot
 slot_with s us ws o = kept_with s (length us) (drop s.put us) (option_map (mark_of (length us)) o)
     (nat_lt (length us) s.put) (drop s.taken (take s.put ws))
 
@@ -71,7 +71,8 @@ next-at (u ∷ us) n (suc i) o =
     ap (next_of (drop i us) (option_map (mark_of n) o)) (lt-suc (length us) i) ∙ next-at us n i o
 
 -- the same, of a subscription in a world
-pub next-same : (b : Book) (s : Sub) → next_parcel (held_for b s) ≡ slice_get (whole b s) s.put
+pub next-same : (b : Book) (s : Subscribed)
+    → next_parcel (held_for b s) ≡ slice_get (whole b s) s.put
 next-same b s = next-at (updates_due b s) (length (updates_due b s)) s.put s.end
 
 -- a message of the list is among the updates, a mark behind them
@@ -98,7 +99,7 @@ held_alike : (h : Held) (ms ns : List Message) (x y : Bool) → ms ≡ ns → x 
 held_alike h ms ns x y p q = cc
 
 -- without the next parcel it is held as after one more put
-pub without-same : (b : Book) (s : Sub) (p : Parcel) → slice_get (whole b s) s.put ≡ Some p
+pub without-same : (b : Book) (s : Subscribed) (p : Parcel) → slice_get (whole b s) s.put ≡ Some p
     → without (held_for b s) (Some p) ≡ held_for b (one_more_put s)
 without-same b s (Update m) at =
     let inside = message-at (updates_due b s) (length (updates_due b s)) s.put s.end m at in
@@ -112,7 +113,7 @@ without-same b s (Fin m) at =
 -- ---- the port
 
 -- as many parcels are in the port as were put and not taken
-queue-length : (b : Book) (s : Sub) → IsFair b s
+queue-length : (b : Book) (s : Subscribed) → IsFair b s
     → length (drop s.taken (take s.put (whole b s))) ≡ s.put - s.taken
 queue-length b s f =
     omega (arith, length-drop s.taken (take s.put (whole b s)), take-length s.put (whole b s) f.put)
@@ -130,7 +131,7 @@ slot_alike : (k : KeptSlot) (g h : Held) (ps qs : List Parcel) → g ≡ h → p
 slot_alike k g h ps qs p q = cc
 
 -- a put is answered alike, where the port has room or not
-put-if : (b : Book) (s : Sub) → IsFair b s → (x : Bool) (o : Option Parcel)
+put-if : (b : Book) (s : Subscribed) → IsFair b s → (x : Bool) (o : Option Parcel)
     → slice_get (whole b s) s.put ≡ o
     → put_if (slot_for b s) x o
     ≡ ((putting_if s (x && is_some o)).0, option_map (slot_for b) (putting_if s (x && is_some o)).1)
@@ -142,7 +143,7 @@ put-if b s f false None at = refl
 put-if b s f false (Some p) at = refl
 
 -- a put is answered alike
-pub put-same : (b : Book) (s : Sub) → IsFair b s
+pub put-same : (b : Book) (s : Subscribed) → IsFair b s
     → put_slot (slot_for b s) ≡ ((putting b s).0, option_map (slot_for b) (putting b s).1)
 put-same b s f =
     ap (λ n. put_if (slot_for b s) (nat_lt n s.port) (next_parcel (held_for b s)))
@@ -164,7 +165,7 @@ read-alike t p l k n None put list taken wait = grind (arith, nat_tests)
 read-alike t p l k n (Some e) put list taken wait = grind (arith, nat_tests)
 
 -- all is read in the slot just where it is over in the world
-pub is_read-same : (b : Book) (s : Sub) → IsFair b s → is_read (slot_for b s) ≡ is_over b s
+pub is_read-same : (b : Book) (s : Subscribed) → IsFair b s → is_read (slot_for b s) ≡ is_over b s
 is_read-same b s f =
     read-alike (length (updates_due b s)) s.put (length (whole b s)) s.taken _ s.end f.put
     (length-append (parcels (updates_due b s)) (mark_behind (length (updates_due b s)) s.end)
@@ -174,7 +175,7 @@ is_read-same b s f =
     f.taken (queue-length b s f)
 
 -- a read is answered alike, of a parcel or of none
-read-if : (b : Book) (s : Sub) → IsFair b s → (o : Option Parcel)
+read-if : (b : Book) (s : Subscribed) → IsFair b s → (o : Option Parcel)
     → read_if (slot_for b s) o
     ≡ ((reading_if b s o).0, option_map (slot_for b) (reading_if b s o).1)
 read-if b s f None =
@@ -183,18 +184,18 @@ read-if b s f (Some p) = ap (λ ps. (Read p, Some (record (slot_for b s) { queue
     (drop-one_more s.taken (take s.put (whole b s)))
 
 -- a read is answered alike
-pub read-same : (b : Book) (s : Sub) → IsFair b s
+pub read-same : (b : Book) (s : Subscribed) → IsFair b s
     → read_slot (slot_for b s) ≡ ((reading b s).0, option_map (slot_for b) (reading b s).1)
 read-same b s f = ap (read_if (slot_for b s)) (get-between s.taken s.put (whole b s))
     ∙ read-if b s f (first_in_port b s)
 
 -- asking for the end is answered alike
-pub ask-same : (b : Book) (s : Sub)
+pub ask-same : (b : Book) (s : Subscribed)
     → ask_slot (slot_for b s) ≡ ((hanging_up s).0, option_map (slot_for b) (hanging_up s).1)
 ask-same b s = refl
 
 -- a finishing is answered alike
-pub finish-same : (b : Book) (s : Sub) → IsFair b s
+pub finish-same : (b : Book) (s : Subscribed) → IsFair b s
     → finish_slot (slot_for b s) ≡ ((finishing b s).0, option_map (slot_for b) (finishing b s).1)
 finish-same b s f = ap (finish_if (slot_for b s)) (is_read-same b s f) ∙ by (is_over b s)
   where
@@ -214,18 +215,18 @@ live-same n None = refl
 live-same n (Some e) = refl
 
 -- one that hasn't ended is told its messages alone
-whole-live : (b : Book) (s : Sub) → s.end ≡ None → whole b s ≡ parcels (updates_due b s)
+whole-live : (b : Book) (s : Subscribed) → s.end ≡ None → whole b s ≡ parcels (updates_due b s)
 whole-live b s live =
     ap (λ o. parcels (updates_due b s) ++ mark_behind (length (updates_due b s)) o) live
     ∙ append-nil _
 
 -- and those are all up to the book's number
-told-live : (b : Book) (s : Sub) → s.end ≡ None
+told-live : (b : Book) (s : Subscribed) → s.end ≡ None
     → updates_due b s ≡ updates_of s.query s.moved b s.opened (number_of b)
 told-live b s live = ap (λ o. updates_of s.query s.moved b s.opened (covered_by b o)) live
 
 -- one that ends, where its list up to its end is what it was told
-end-same : (b d : Book) (s : Sub) (cause : Cause) (n : ℕ) → IsFair b s → s.end ≡ None
+end-same : (b d : Book) (s : Subscribed) (cause : Cause) (n : ℕ) → IsFair b s → s.end ≡ None
     → updates_of s.query s.moved d s.opened n ≡ updates_due b s
     → record (slot_for b s) { held = ended_by (held_for b s) cause n }
     ≡ slot_for d (with_end s cause n)
@@ -244,7 +245,8 @@ end-same b d s cause n f live same =
     ∙ sym (ap (λ vs. slot_with s vs (parcels vs ++ mark_behind (length vs) (Some e)) (Some e)) same)
 
 -- a noticing is answered alike
-pub notice-same : (b : Book) (s : Sub) → IsFair b s → notice_slot (number_of b) (slot_for b s)
+pub notice-same : (b : Book) (s : Subscribed) → IsFair b s
+    → notice_slot (number_of b) (slot_for b s)
     ≡ ((noticing b s).0, option_map (slot_for b) (noticing b s).1)
 notice-same b s f = ap (λ x. notice_if (number_of b) (slot_for b s) (x && s.hang_up_asked))
     (live-same (length (updates_due b s)) s.end) ∙ by (is_live s && s.hang_up_asked) refl
@@ -258,7 +260,7 @@ notice-same b s f = ap (λ x. notice_if (number_of b) (slot_for b s) (x && s.han
     by false is = refl
 
 -- a closing is answered alike
-pub close-same : (b : Book) (s : Sub) → IsFair b s → close_slot (number_of b) (slot_for b s)
+pub close-same : (b : Book) (s : Subscribed) → IsFair b s → close_slot (number_of b) (slot_for b s)
     ≡ ((closing b s).0, option_map (slot_for b) (closing b s).1)
 close-same b s f = ap (close_if (number_of b) (slot_for b s))
     (live-same (length (updates_due b s)) s.end)
@@ -275,7 +277,7 @@ close-same b s f = ap (close_if (number_of b) (slot_for b s))
 -- ---- a change
 
 -- after one more change to the book of a fair subscription
-module _ (join : UpdatesJoin) (b : Book) (c : Change_) (s : Sub) (f : IsFair b s)
+module _ (join : UpdatesJoin) (b : Book) (c : Change_) (s : Subscribed) (f : IsFair b s)
     (numbered : (state_of b).number ≡ number_of b) where
   -- the book with that change
   abbrev after : Book

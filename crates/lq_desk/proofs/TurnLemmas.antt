@@ -8,7 +8,7 @@ use Rattle.lq_volume.specs.declared.change.Change.{Change as Change_}
 use Rattle.lq_volume.specs.State.{State}
 use Rattle.lq_volume.specs.Book.{Book}
 use Rattle.lq_volume.specs.Change.{refused}
-use Rattle.lq_world.specs.World.{World, Sub}
+use Rattle.lq_world.specs.World.{World, Subscribed}
 use Rattle.lq_world.specs.declared.event.Event.{Event}
 use Rattle.lq_world.specs.declared.event.Event.TheVariants.{Change, Open, At}
 use Rattle.lq_world.specs.declared.event.Act.{Act}
@@ -560,9 +560,9 @@ module _ (alike : KeptShowsWorlds) where
       after-shows (kept_outcome k e).1 (next w e) es (alike k w e shows).1
 
   -- the ports of the desk are the world's
-  ports-shown : (b : Book) (slots : List (Option Sub))
+  ports-shown : (b : Book) (slots : List (Option Subscribed))
       → map (option_map slot_port) (map (option_map (slot_for b)) slots)
-      ≡ map (option_map (λ (s : Sub). s.port)) slots
+      ≡ map (option_map (λ (s : Subscribed). s.port)) slots
   ports-shown b [] = refl
   ports-shown b (None ∷ slots) = ap (λ ps. None ∷ ps) (ports-shown b slots)
   ports-shown b (Some s ∷ slots) = ap (λ ps. Some s.port ∷ ps) (ports-shown b slots)

@@ -11,7 +11,7 @@ use Rattle.lq_volume.specs.Change.{after, refused, node_of}
 use Rattle.lq_volume.specs.Result.{result_of}
 use Rattle.lq_volume.specs.Book.{Book, state_of}
 use Rattle.lq_update.specs.declared.mark.Mark.{Mark}
-use Rattle.lq_world.specs.World.{World, Sub, End, updates_due, waiting, in_port}
+use Rattle.lq_world.specs.World.{World, Subscribed, End, updates_due, waiting, in_port}
 use Rattle.lq_world.specs.declared.event.Event.{Event}
 use Rattle.lq_world.specs.declared.event.Event.TheVariants.{Change, Open, At}
 use Rattle.lq_world.specs.Events.{Answer, Changed, Opened, Refused, opening_refusals}
@@ -115,7 +115,7 @@ abbrev pub mark_of : ℕ → End → Mark
 mark_of n e = record { seq = n + 1; change = e.change; cause = e.cause }
 
 -- what a world's subscription leaves with the desk
-abbrev pub held_for : Book → Sub → Held
+abbrev pub held_for : Book → Subscribed → Held
 held_for b s = record {
   query = s.query;
   moved = s.moved;
@@ -128,7 +128,7 @@ held_for b s = record {
 }
 
 -- what a world's subscription has in its slot
-abbrev pub slot_for : Book → Sub → KeptSlot
+abbrev pub slot_for : Book → Subscribed → KeptSlot
 slot_for b s = record {
   held = held_for b s;
   port = s.port;

@@ -3,7 +3,7 @@ use Rattle.std.specs.Prelude.{◌≡◌, ℕ, List, [], ◌++◌, map, take, Som
 use Rattle.std.specs.Option.{option_to_list}
 use Rattle.lq_update.specs.declared.parcel.Parcel.{Parcel}
 use Rattle.lq_update.specs.declared.parcel.Parcel.TheVariants.{Update, Fin}
-use Rattle.lq_world.specs.World.{World, Sub, whole, slot_at}
+use Rattle.lq_world.specs.World.{World, Subscribed, whole, slot_at}
 use Rattle.lq_world.specs.declared.event.Event.{Event}
 use Rattle.lq_world.specs.Events.{answer, next}
 use Rattle.lq_world.specs.Turns.{turn_outcome}
@@ -35,7 +35,7 @@ mark_left h = if h.mark_out then [] else map (λ mark. Fin mark) (option_to_list
 -- Of each subscription of a world that it shows: what was taken, then what is in the port, then the
 -- messages held, then a mark that hasn't gone out, is all that the subscription is told.
 abbrev pub KeptPassesListsOn : Type 0
-KeptPassesListsOn = (k : Kept) (w : World) (slot : ℕ) (s : Sub) → Shows k w
+KeptPassesListsOn = (k : Kept) (w : World) (slot : ℕ) (s : Subscribed) → Shows k w
     → slot_at w slot ≡ Some s →
     (c : KeptSlot) × (kept_at k slot ≡ Some c)
     × (take s.taken (whole w.book s)

@@ -24,7 +24,7 @@ use std::marker::Model;
 const MAX_PORT: u64 = 1024;
 
 /// The largest backlog, in messages.
-const MAX_BACKLOG: u64 = 65_536;
+pub const MAX_BACKLOG: u64 = 65_536;
 
 /// The volume and its live queries with their ports, one event at a time.
 ///

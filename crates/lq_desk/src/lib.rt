@@ -14,10 +14,11 @@ mod slots;
 mod sub;
 mod word;
 
-pub use desk::Desk;
+pub use desk::{Desk, MAX_BACKLOG};
 pub use laws::{
     kept_passes_lists_on, kept_shows_worlds, kept_turns_show_worlds, putting_back_undoes,
 };
 pub use lq_world::{Act, Event};
 pub use reply::{Read, Reply};
+pub use slots::SLOTS;
 pub use sub::Sub;

@@ -7,7 +7,7 @@ ghost use Rattle.lq_formula.specs.Tokens.{Yields, tokens_from, trimmed};
 ghost use Rattle.lq_formula.specs.TokenView.{placed_of, token_of};
 
 use crate::count::count_spaces;
-use crate::piece::first_piece;
+use crate::piece::read_piece;
 use crate::token::{Cursor, Placed};
 
 /// The next token of a text with its places, and what is left behind it.
@@ -39,7 +39,7 @@ pub fn next_token<'a>(cursor: Cursor<'a>) -> Option<(Placed<'a>, Cursor<'a>)>
         return None;
     }
     let place = cursor.place + space;
-    let piece = first_piece(rest);
+    let piece = read_piece(rest);
     let (_, after) = rest.split_at(piece.size);
     Some((
         Placed {

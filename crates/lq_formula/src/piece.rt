@@ -127,7 +127,7 @@ fn word<'a>(rest: &'a str) -> Piece<'a>
 }
 
 // The token that a text begins with.
-pub(crate) fn first_piece<'a>(rest: &'a str) -> Piece<'a>
+pub(crate) fn read_piece<'a>(rest: &'a str) -> Piece<'a>
     requires { 0 < length rest.now }
     ensures value { front_of result ≡ front_at rest.entry.now }
     ensures boundary { IsCharBoundary rest.entry.now result.size }

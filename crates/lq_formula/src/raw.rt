@@ -6,11 +6,8 @@ ghost use Rattle.lq_formula.specs.Limits.{IsGoodBehind};
 ghost use Rattle.lq_formula.specs.Literals.{has_no_nul, literal_of, literal_refusal, name_of, name_refusal, takes_pattern as patterned, unescaped};
 
 use crate::laws::patterns_are_good;
-use lq_value::{AttrName, Literal, Op, Pattern, Refusal, Text};
+use lq_value::{AttrName, Literal, MAX_ATTR_NAME, Op, Pattern, Refusal, Text};
 use std::alloc::Global;
-
-/// The longest name of an attribute, in bytes.
-pub(crate) const MAX_NAME: usize = 255;
 
 /// Whether a raw text is an attribute's name: with each `\` before a character taken off, it has
 /// 1 to 255 bytes and no NUL. It takes no memory. The limits are our own.
@@ -19,7 +16,7 @@ pub fn is_name(raw: &str) -> bool
 {
     match count_unescaped(raw.as_bytes()) {
         None => false,
-        Some(count) => count > 0 && count <= MAX_NAME,
+        Some(count) => count > 0 && count <= MAX_ATTR_NAME,
     }
 }
 

@@ -8,11 +8,11 @@ ghost use Rattle.lq_formula.specs.Query.{Compare};
 ghost use Rattle.lq_formula.specs.Sizes.{literal_bytes, name_bytes};
 ghost use Rattle.lq_value.specs.declared.literal.Literal.{Literal};
 
-use crate::raw::{MAX_NAME, count_unescaped, takes_pattern};
+use crate::raw::{count_unescaped, takes_pattern};
 use crate::size::op_size;
 use crate::source_size::source_size;
 use crate::writing::is_bare_byte;
-use lq_value::Op;
+use lq_value::{MAX_ATTR_NAME, Op};
 
 /// How many bytes the attribute's name that a raw text is has as canonical text, or the greatest
 /// usize where there are more; `None` where it is no such name. It takes no memory.
@@ -21,7 +21,7 @@ pub fn raw_name_size(raw: &str) -> Option<usize>
 {
     let bytes = raw.as_bytes();
     let count = count_unescaped(bytes)?;
-    if count == 0 || count > MAX_NAME {
+    if count == 0 || count > MAX_ATTR_NAME {
         return None;
     }
     if is_unescaped_bare(bytes) {

@@ -15,7 +15,7 @@ use std::marker::{Brand, Model};
 use std::sync::Wait;
 
 /// The most items that a port holds.
-const MAX_PLACES: u64 = 1_024;
+pub const MAX_PLACES: u64 = 1_024;
 
 /// The end of a port for puts.
 ///

@@ -11,5 +11,5 @@ mod follows;
 mod rule;
 mod steps;
 
-pub use ends::{PortIn, PortOut, make};
+pub use ends::{MAX_PLACES, PortIn, PortOut, make};
 pub use follows::Follows;

@@ -5,14 +5,14 @@ use Rattle.std.proofs.lemmas.Bool.Decides.{nat_tests}
 use Rattle.std.proofs.lemmas.List.{reverse-append, length-reverse, drop_at, take-append-drop}
 use Rattle.lq_value.specs.Pattern.{plain_elements}
 use Rattle.lq_value.specs.declared.element.Element.TheVariants.{Plain}
-use Rattle.lq_predicate.specs.declared.item.Item.{Item}
+use Rattle.lq_predicate.specs.declared.stack_item.StackItem.{StackItem}
 use Rattle.lq_predicate.specs.declared.stack_op.StackOp.{StackOp}
 use Rattle.lq_predicate.specs.declared.stack_op.StackOp.TheVariants.{Eq, Ne, Gt, Ge, Lt, Le, Contains, BeginsWith, EndsWith, And, Or, Not}
 use Rattle.lq_predicate.specs.Stacked.{Stacked}
 use Rattle.lq_predicate.specs.Stack.{pushed, after_op, after_comparison, refusal_at}
 
 -- one item in place of the last ones, seen from the top
-pub replaced : (xs ys : List Item) (count : ℕ) (item : Item) → count ≤ length xs
+pub replaced : (xs ys : List StackItem) (count : ℕ) (item : StackItem) → count ≤ length xs
     → ys ≡ take (length xs - count) xs ++ item ∷ [] → reverse ys ≡ item ∷ drop count (reverse xs)
 replaced xs ys count item there is =
     let kept = length xs - count in
@@ -25,24 +25,25 @@ replaced xs ys count item there is =
     ap (drop count) turned ∙ drop_at (reverse (drop kept xs)) (reverse (take kept xs)) count few in
     ap reverse is ∙ reverse-append (take kept xs) (item ∷ []) ∙ ap (λ r. item ∷ r) (sym rest)
   where
-    dropped : (xs : List Item) (count : ℕ) → count ≤ length xs
+    dropped : (xs : List StackItem) (count : ℕ) → count ≤ length xs
         → length (drop (length xs - count) xs) ≡ count
     dropped xs count there = omega (arith, there, length-drop (length xs - count) xs)
 
 -- the stack after one item is put in place of the last ones
-abbrev IsReplaced : List Item → ℕ → ℕ → Item → Stacked → Type 0
+abbrev IsReplaced : List StackItem → ℕ → ℕ → StackItem → Stacked → Type 0
 IsReplaced new place count item s =
     s.pushes + 1 < 2 ^ 64 → count ≤ length s.items → pushed s (item ∷ drop count s.items)
     ≡ Some (record { items = reverse new; pushes = place + 1 })
 
 -- a push that can be counted gives the items and one push more
-counted : (place : ℕ) (items items' : List Item) → items ≡ items' → place + 1 < 2 ^ 64
+counted : (place : ℕ) (items items' : List StackItem) → items ≡ items' → place + 1 < 2 ^ 64
     → pushed (record { items = []; pushes = place }) items
     ≡ Some (record { items = items'; pushes = place + 1 })
 counted place items items' is room = rw is (grind (arith, nat_tests))
 
 -- an item that takes the place of some on top is one push
-pub replaced_view : (stack : Stacked) (inside new : List Item) (place count : ℕ) (item : Item)
+pub replaced_view : (stack : Stacked) (inside new : List StackItem) (place count : ℕ)
+    (item : StackItem)
     → record { items = reverse inside; pushes = place } ≡ stack → stack.pushes + 1 < 2 ^ 64
     → count ≤ length stack.items → new ≡ take (length inside - count) inside ++ item ∷ []
     → pushed stack (item ∷ drop count stack.items)
@@ -67,7 +68,7 @@ map-same [] = refl
 map-same (c ∷ cs) = ap (λ ds. c ∷ ds) (map-same cs)
 
 -- every other operator compares
-pub after_op-comparison : (op : StackOp) (items : List Item) → op ≢ And → op ≢ Or → op ≢ Not
+pub after_op-comparison : (op : StackOp) (items : List StackItem) → op ≢ And → op ≢ Or → op ≢ Not
     → after_op op items ≡ after_comparison op items
 after_op-comparison Eq items a o n = refl
 after_op-comparison Ne items a o n = refl
@@ -83,7 +84,7 @@ after_op-comparison Or items a o n = absurd (o refl)
 after_op-comparison Not items a o n = absurd (n refl)
 
 -- where the push can be counted, it is refused just where there is nothing to push
-pub refusal-pushed : (stack : Stacked) (place : ℕ) (o : Option (List Item))
+pub refusal-pushed : (stack : Stacked) (place : ℕ) (o : Option (List StackItem))
     → stack.pushes + 1 < 2 ^ 64
     → refusal_at place (option_and_then (pushed stack) o) ≡ refusal_at place o
 refusal-pushed stack place None room = refl

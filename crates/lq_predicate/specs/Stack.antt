@@ -15,13 +15,13 @@ use Rattle.lq_formula.specs.Query.{Query, Compare, Not, And, Or, Queries, querie
 use Rattle.lq_predicate.specs.Limits.{is_within}
 use Rattle.lq_predicate.specs.Operand.{pattern_in}
 use Rattle.lq_predicate.specs.Stacked.{Stacked}
-use Rattle.lq_predicate.specs.declared.item.Item.{Item}
-use Rattle.lq_predicate.specs.declared.item.Item.TheVariants.{Attr, Value, Part}
+use Rattle.lq_predicate.specs.declared.stack_item.StackItem.{StackItem}
+use Rattle.lq_predicate.specs.declared.stack_item.StackItem.TheVariants.{Attr, Value, Part}
 use Rattle.lq_predicate.specs.declared.stack_op.StackOp.{StackOp}
 use Rattle.lq_predicate.specs.declared.stack_op.StackOp.TheVariants as stack_op
 
 -- the stack with these items, by one push more that is accepted; the count is one of 64 bits
-abbrev pub pushed : Stacked → List Item → Option Stacked
+abbrev pub pushed : Stacked → List StackItem → Option Stacked
 pushed stack items =
     if nat_lt (stack.pushes + 1) (2 ^ 64)
     then Some (record { items = items; pushes = stack.pushes + 1 })
@@ -76,26 +76,26 @@ if_within None = None
 if_within (Some q) = if is_within q then Some q else None
 
 -- the query in place of what it is made of, if it is within the limits
-abbrev pub in_place : Option Query → List Item → Option (List Item)
+abbrev pub in_place : Option Query → List StackItem → Option (List StackItem)
 in_place query rest = option_map (λ q. Part q ∷ rest) (if_within query)
 
 -- a value on top and an attribute below it
-abbrev pub after_comparison : StackOp → List Item → Option (List Item)
+abbrev pub after_comparison : StackOp → List StackItem → Option (List StackItem)
 after_comparison op (Value text ∷ Attr attr ∷ rest) = in_place (compared op attr text) rest
 after_comparison op items = None
 
 -- two predicates, the lower one first
-abbrev pub after_join : (Queries → Query) → List Item → Option (List Item)
+abbrev pub after_join : (Queries → Query) → List StackItem → Option (List StackItem)
 after_join join (Part upper ∷ Part lower ∷ rest) =
     in_place (Some (join (queries (lower ∷ upper ∷ [])))) rest
 after_join join items = None
 
-abbrev pub after_not : List Item → Option (List Item)
+abbrev pub after_not : List StackItem → Option (List StackItem)
 after_not (Part q ∷ rest) = in_place (Some (Not q)) rest
 after_not items = None
 
 -- the items after an operator
-abbrev pub after_op : StackOp → List Item → Option (List Item)
+abbrev pub after_op : StackOp → List StackItem → Option (List StackItem)
 after_op stack_op.Eq items = after_comparison stack_op.Eq items
 after_op stack_op.Ne items = after_comparison stack_op.Ne items
 after_op stack_op.Gt items = after_comparison stack_op.Gt items
@@ -115,7 +115,7 @@ op_pushed op stack = option_and_then (pushed stack) (after_op op stack.items)
 -- ---- the end
 
 -- the predicate, where it is all that the stack holds
-abbrev pub only_part : List Item → Option Query
+abbrev pub only_part : List StackItem → Option Query
 only_part (Part q ∷ []) = Some q
 only_part items = None
 

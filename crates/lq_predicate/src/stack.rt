@@ -7,13 +7,13 @@ ghost use Rattle.lq_formula.specs.Limits.{IsProper};
 ghost use Rattle.lq_predicate.specs.Limits.{is_predicate};
 ghost use Rattle.lq_predicate.specs.Stacked.{Stacked, new_stack};
 ghost use Rattle.lq_predicate.specs.Stack.{pushed, attr_pushed, text_pushed, op_pushed, after_comparison, after_join, after_not, only_part, refusal_at};
-ghost use Rattle.lq_predicate.specs.declared.item.Item.TheVariants.{Part};
+ghost use Rattle.lq_predicate.specs.declared.stack_item.StackItem.TheVariants.{Part};
 
 use crate::fitting::{fit_joined, fits_not};
-use crate::item::Item;
 use crate::operand::Operand;
 use crate::predicate::Predicate;
 use crate::stack_comparison::compared;
+use crate::stack_item::StackItem;
 use crate::stack_op::StackOp;
 use crate::tree::Tree;
 use itoa::Buffer;
@@ -31,7 +31,7 @@ const MAX_TEXT: usize = 4096;
 /// new.
 #[derive(Drop)]
 pub struct Stack {
-    items: Vec<Item>,
+    items: Vec<StackItem>,
     pushes: u64,
 }
 
@@ -73,7 +73,7 @@ impl Stack {
             return Err(self.misfit());
         }
         match AttrName::read(*self.items.allocator(), name) {
-            Ok(name) => self.push(Item::Attr(name)),
+            Ok(name) => self.push(StackItem::Attr(name)),
             Err(Refusal::NoMemory) => Err(Refusal::NoMemory),
             Err(_) => Err(self.misfit()),
         }
@@ -96,7 +96,7 @@ impl Stack {
             return Err(self.misfit());
         }
         let operand = Operand::read(*self.items.allocator(), text)?;
-        self.push(Item::Value(operand))
+        self.push(StackItem::Value(operand))
     }
 
     /// The decimal text of a number, on top. Refused as `push_text`.
@@ -204,7 +204,7 @@ impl Stack {
             return Err(self.misfit());
         }
         match self.items.take_last() {
-            Item::Part(predicate) => {
+            StackItem::Part(predicate) => {
                 self.pushes = 0;
                 Ok(predicate)
             }
@@ -223,7 +223,7 @@ impl Stack {
     }
 
     // An item more.
-    fn push(&mut self, item: Item) -> Result<(), Refusal>
+    fn push(&mut self, item: StackItem) -> Result<(), Refusal>
         requires { self.old.pushes + 1 < 2 ^ 64 }
         ensures ok { OnOk result (pushed self.old (item ∷ self.old.items) ≡ Some self.new) }
         ensures refused { IsRefusedBy result None }
@@ -242,12 +242,12 @@ impl Stack {
         ensures { pushed self.old (Part predicate ∷ drop count self.old.items) ≡ Some self.new }
     {
         self.items.truncate(self.items.len() - count);
-        self.items.push_reserved(Item::Part(predicate));
+        self.items.push_reserved(StackItem::Part(predicate));
         self.pushes += 1;
     }
 
     // The two items on top, the upper one first.
-    fn top_two(&self) -> Option<(&Item, &Item)>
+    fn top_two(&self) -> Option<(&StackItem, &StackItem)>
         ensures some { IfSome result
             (λ r. self.now.items ≡ r.0.now ∷ r.1.now ∷ drop 2 self.now.items) }
         ensures none { IfNone result (length self.now.items < 2) }
@@ -267,7 +267,7 @@ impl Stack {
         ensures there { OnOk result (0 < length self.now.items) }
     {
         let alloc = *self.items.allocator();
-        let Some(Item::Part(part)) = self.items.last() else {
+        let Some(StackItem::Part(part)) = self.items.last() else {
             return Err(self.misfit());
         };
         let tree = part.tree();
@@ -294,7 +294,7 @@ impl Stack {
         ensures there { OnOk result (2 ≤ length self.now.items) }
     {
         let alloc = *self.items.allocator();
-        let Some((Item::Part(upper), Item::Part(lower))) = self.top_two() else {
+        let Some((StackItem::Part(upper), StackItem::Part(lower))) = self.top_two() else {
             return Err(self.misfit());
         };
         let (lower, upper) = (lower.tree(), upper.tree());
@@ -316,7 +316,7 @@ impl Stack {
         ensures there { OnOk result (2 ≤ length self.now.items) }
     {
         let alloc = *self.items.allocator();
-        let Some((Item::Value(operand), Item::Attr(attr))) = self.top_two() else {
+        let Some((StackItem::Value(operand), StackItem::Attr(attr))) = self.top_two() else {
             return Err(self.misfit());
         };
         compared(alloc, self.pushes, op, attr, operand)

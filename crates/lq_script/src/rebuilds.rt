@@ -6,13 +6,10 @@ ghost use Rattle.lq_value.specs.Refusal.{IsRefusedBy};
 ghost use Rattle.lq_desk.specs.Reply.{answer_of};
 ghost use Rattle.lq_script.specs.Folds.{Rises, fed, fold_at, folds_after, no_folds, with_fold};
 
-use lq_desk::{Read, Reply};
+use lq_desk::{Read, Reply, SLOTS};
 use lq_update::{IndexedRebuild, Message};
 use lq_value::Refusal;
 use std::alloc::Global;
-
-/// How many slots there are.
-const SLOTS: usize = 64;
 
 /// None for each slot. Refused: `NoMemory`.
 pub fn no_rebuilds(alloc: Global) -> Result<Vec<Option<IndexedRebuild>>, Refusal>

@@ -8,11 +8,8 @@ use crate::rebuilds::no_rebuilds;
 use crate::session::Session;
 use lq_desk::{Desk, kept_turns_show_worlds};
 use lq_lines::{Failed, RunFault, Sink, Source, run_lines};
-use lq_volume::Volume;
+use lq_volume::{MAX_CHANGES, Volume};
 use std::alloc::Global;
-
-/// The most changes that a script's volume accepts.
-const MAX_CHANGES: u64 = 1_000_000_000_000;
 
 /// Carries out a script: reads lines to the end of the input, and writes a reply to each.
 ///

@@ -12,8 +12,8 @@ ghost use Rattle.lq_slots.specs.Opening.{IsBegun, IsOpened, IsOpeningRefused, op
 
 use crate::slots::{PLACES, Slots};
 use lq_board::{Board, Keeper, Seat};
-use lq_desk::Sub;
-use lq_port::make;
+use lq_desk::{MAX_BACKLOG, Sub};
+use lq_port::{MAX_PLACES, make};
 use lq_predicate::Predicate;
 use lq_subscription::{
     Delivery, Identity, Opening, Reading, Shut, Subscription, new_subscriptions_stand,
@@ -23,12 +23,6 @@ use lq_value::Refusal;
 use lq_volume::Volume;
 use lq_witness::Witness;
 use std::alloc::Global;
-
-/// The most parcels that a port holds.
-const MAX_PLACES: u64 = 1_024;
-
-/// The largest backlog, in messages.
-const MAX_BACKLOG: u64 = 65_536;
 
 /// A subscription that was just opened: its reading, the seat of its slot, and its slot, 1 to 64.
 #[derive(Drop)]

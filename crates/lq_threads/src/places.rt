@@ -1,11 +1,9 @@
 //! The readers of the slots.
 use crate::held::Held;
+use lq_desk::SLOTS;
 use lq_server::Named;
 use lq_value::Refusal;
 use std::alloc::Global;
-
-/// How many slots there are.
-const SLOTS: usize = 64;
 
 /// The readers of the slots 1 to 64; none of a slot that is free.
 #[derive(Drop)]

@@ -7,14 +7,11 @@ use crate::lines::Lines;
 use crate::session::Session;
 use lq_lines::{Failed, RunFault, Sink, Source};
 use lq_server::{Base, Named, Server};
-use lq_volume::Volume;
+use lq_volume::{MAX_CHANGES, Volume};
 use std::alloc::Global;
 use std::marker::Brand;
 use std::sync::Wait;
 use std::thread::Threads;
-
-/// The most changes that a script's volume accepts.
-const MAX_CHANGES: u64 = 1_000_000_000_000;
 
 /// Carries out a script as lq_script's `run` does, its reads in threads.
 pub fn run_threads<T: Threads + Wait + Sync, R: Source, W: Sink, G: Gate + Sync>(

@@ -11,7 +11,7 @@ use std::marker::Model;
 use std::sync::ArcStr;
 
 /// The longest name of an attribute, in bytes.
-const MAX_ATTR_NAME: usize = 255;
+pub const MAX_ATTR_NAME: usize = 255;
 
 /// The name of an attribute: 1 to 255 bytes of UTF-8 without NUL.
 ///

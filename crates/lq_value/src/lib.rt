@@ -28,7 +28,7 @@ mod value;
 mod value_text;
 mod view;
 
-pub use attr_name::AttrName;
+pub use attr_name::{AttrName, MAX_ATTR_NAME};
 pub use element::{Element, Item, Items};
 pub use entry::Entry;
 pub use kind::Kind;

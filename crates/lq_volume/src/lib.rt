@@ -27,4 +27,4 @@ pub use laws::{
 };
 pub use planned::Planned;
 pub use seen::Seen;
-pub use volume::Volume;
+pub use volume::{MAX_CHANGES, Volume};

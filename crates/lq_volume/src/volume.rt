@@ -15,6 +15,9 @@ use std::marker::Model;
 /// The node of the root, which is a folder and no entry.
 pub(crate) const ROOT: u64 = 1;
 
+/// The most changes that a volume can be made to take.
+pub const MAX_CHANGES: u64 = 1_000_000_000_000;
+
 /// A tree of entries below one root, and the number of changes that it took.
 ///
 /// It accepts at most `limit` changes. Nodes count from 2 and are never used again. A contract

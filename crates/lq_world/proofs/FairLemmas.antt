@@ -13,7 +13,7 @@ use Rattle.lq_volume.specs.Change.{refused as refused_by}
 use Rattle.lq_volume.specs.Book.{Book, grown, number_of, state_of, state_at}
 use Rattle.lq_update.specs.Updates.{updates_of, updates_from}
 use Rattle.lq_update.specs.Laws.{UpdatesJoin}
-use Rattle.lq_world.specs.World.{World, Sub, slot_at, taken_before_free, after_change}
+use Rattle.lq_world.specs.World.{World, Subscribed, slot_at, taken_before_free, after_change}
 use Rattle.lq_world.specs.declared.event.Event.{Event}
 use Rattle.lq_world.specs.declared.event.Event.TheVariants.{Change, Open, At}
 use Rattle.lq_world.specs.declared.event.Act.TheVariants as act
@@ -101,11 +101,12 @@ opened-fair w q port backlog moved may = record {
 }
 
 -- what is in a slot is at its place
-pub slot-found : (w : World) (slot : ℕ) (s : Sub) → slot_at w slot ≡ Some s
+pub slot-found : (w : World) (slot : ℕ) (s : Subscribed) → slot_at w slot ≡ Some s
     → slice_get w.slots (slot - 1) ≡ Some (Some s)
 slot-found w slot s is = by (slot == 0) (slice_get w.slots (slot - 1)) is
   where
-    by : (x : Bool) (o : Option (Option Sub)) → (if x then None else option_flatten o) ≡ Some s
+    by : (x : Bool) (o : Option (Option Subscribed))
+        → (if x then None else option_flatten o) ≡ Some s
         → o ≡ Some (Some s)
     by true o is = absurd (let no : ⊥ = cc in no)
     by false None is = absurd (let no : ⊥ = cc in no)
@@ -113,20 +114,22 @@ slot-found w slot s is = by (slot == 0) (slice_get w.slots (slot - 1)) is
     by false (Some (Some t)) is = cc
 
 -- what an event leaves of a subscription is fair
-left-fair : (b : Book) (s : Sub) (reads : List Answer) (o : Option Sub) → Leaves b s reads o
+left-fair : (b : Book) (s : Subscribed) (reads : List Answer) (o : Option Subscribed)
+    → Leaves b s reads o
     → IsFairSlot b o
-left-fair b s reads o l = subst (λ (p : Option Sub). IsFairSlot b p) (sym l.is) l.does.keeps.fair
+left-fair b s reads o l = subst (λ (p : Option Subscribed). IsFairSlot b p)
+    (sym l.is) l.does.keeps.fair
 
 -- an event in one slot leaves a fair world fair, if it leaves that slot fair
-at_slot-fair : (w : World) (slot : ℕ) (event : Sub → Answer × Option Sub)
-    → ((s : Sub) → IsFair w.book s → IsFairSlot w.book (event s).1) → IsFairWorld w
-    → (o : Option Sub) → slot_at w slot ≡ o → IsFairWorld (at_slot w slot o event).1
+at_slot-fair : (w : World) (slot : ℕ) (event : Subscribed → Answer × Option Subscribed)
+    → ((s : Subscribed) → IsFair w.book s → IsFairSlot w.book (event s).1) → IsFairWorld w
+    → (o : Option Subscribed) → slot_at w slot ≡ o → IsFairWorld (at_slot w slot o event).1
 at_slot-fair w slot event keeps h None is = h
 at_slot-fair w slot event keeps h (Some s) is = all-set (IsFairSlot w.book) w.slots (slot - 1) _ h
     (keeps s (all-get (IsFairSlot w.book) w.slots (slot - 1) (Some s) h (slot-found w slot s is)))
 
 -- a subscription that finishes leaves its slot free, one that is refused as it was
-finishing-fair : (b : Book) (s : Sub) → IsFair b s → IsFairSlot b (finishing b s).1
+finishing-fair : (b : Book) (s : Subscribed) → IsFair b s → IsFairSlot b (finishing b s).1
 finishing-fair b s h = by (is_over b s)
   where
     by : (x : Bool) → IsFairSlot b (finishing_if s x).1
@@ -135,7 +138,7 @@ finishing-fair b s h = by (is_over b s)
 
 module _ (join : UpdatesJoin) where
   -- a change leaves each slot fair
-  changed-fair : (b : Book) (c : Change_) (o : Option Sub) → IsFairSlot b o
+  changed-fair : (b : Book) (c : Change_) (o : Option Subscribed) → IsFairSlot b o
       → IsFairSlot (grown b (c ∷ [])) (option_map (after_change b c) o)
   changed-fair b c None h = tt
   changed-fair b c (Some s) h = (keeps-change join b c s h).fair
@@ -148,7 +151,7 @@ module _ (join : UpdatesJoin) where
       (option_map (after_change w.book c)) w.slots (changed-fair w.book c) h
 
   -- an opening, accepted or refused, leaves a fair world fair
-  opening-fair : (w : World) (s : Sub) (r : Option Refusal)
+  opening-fair : (w : World) (s : Subscribed) (r : Option Refusal)
       → (r ≡ None → IsFair w.book s) → IsFairWorld w → IsFairWorld (opening w s r).1
   opening-fair w s (Some e) fair h = h
   opening-fair w s None fair h = all-set (IsFairSlot w.book) w.slots _ (Some s) h (fair refl)

@@ -8,7 +8,7 @@ use Rattle.lq_volume.specs.Change.{refused as refused_by}
 use Rattle.lq_value.specs.declared.refusal.Refusal.{Refusal}
 use Rattle.lq_volume.specs.Book.{Book, state_of}
 use Rattle.lq_update.specs.Laws.{UpdatesJoin}
-use Rattle.lq_world.specs.World.{World, Sub, slot_at, can_put, after_change, overrun_if, overruns, is_live, whole}
+use Rattle.lq_world.specs.World.{World, Subscribed, slot_at, can_put, after_change, overrun_if, overruns, is_live, whole}
 use Rattle.lq_world.specs.declared.event.Event.{Event}
 use Rattle.lq_world.specs.declared.event.Event.TheVariants.{Change, At}
 use Rattle.lq_world.specs.declared.event.Act.TheVariants as act
@@ -33,45 +33,45 @@ nat_eq_or (suc m) (suc n) = by (nat_eq_or m n)
 -- ---- one slot
 
 -- how many parcels its port has room for
-abbrev gap_of : Sub → ℕ
+abbrev gap_of : Subscribed → ℕ
 gap_of s = s.port - (s.put - s.taken)
 
 -- how many parcels the port of a slot has room for
-abbrev gap_in : Option Sub → ℕ
+abbrev gap_in : Option Subscribed → ℕ
 gap_in None = 0
 gap_in (Some s) = gap_of s
 
 -- how many places the port has, if the slot is taken
-abbrev port_in : Option Sub → ℕ
-port_in o = places_in (option_map (λ (s : Sub). s.port) o)
+abbrev port_in : Option Subscribed → ℕ
+port_in o = places_in (option_map (λ (s : Subscribed). s.port) o)
 
 -- what a put leaves of it
-abbrev put_once : Book → Option Sub → Option Sub
+abbrev put_once : Book → Option Subscribed → Option Subscribed
 put_once b None = None
 put_once b (Some s) = (putting b s).1
 
 -- what some puts leave of a slot
-abbrev puts_left : Book → ℕ → Option Sub → Option Sub
+abbrev puts_left : Book → ℕ → Option Subscribed → Option Subscribed
 puts_left b zero o = o
 puts_left b (suc n) o = puts_left b n (put_once b o)
 
 -- nothing can be put
-abbrev StillIn : Book → Option Sub → Type 0
+abbrev StillIn : Book → Option Subscribed → Type 0
 StillIn b None = Unit {0}
 StillIn b (Some s) = can_put b s ≡ false
 
 -- no more was taken than was put
-abbrev InOrder : Option Sub → Type 0
+abbrev InOrder : Option Subscribed → Type 0
 InOrder None = Unit {0}
 InOrder (Some s) = s.taken ≤ s.put
 
 -- a port has room for no more parcels than its places
-gap-port : (o : Option Sub) → gap_in o ≤ port_in o
+gap-port : (o : Option Subscribed) → gap_in o ≤ port_in o
 gap-port None = omega arith
 gap-port (Some s) = omega arith
 
 -- where the port has no room, the slot is still
-no-gap : (b : Book) (o : Option Sub) → gap_in o ≤ 0 → StillIn b o
+no-gap : (b : Book) (o : Option Subscribed) → gap_in o ≤ 0 → StillIn b o
 no-gap b None h = tt
 no-gap b (Some s) h = by (nat_lt (s.put - s.taken) s.port) refl
   where
@@ -81,18 +81,18 @@ no-gap b (Some s) h = by (nat_lt (s.put - s.taken) s.port) refl
     by true is = absurd (omega (arith, lt-true (s.put - s.taken) s.port is, h))
 
 -- a put leaves a slot that is still as it is
-still-stays : (b : Book) (o : Option Sub) → StillIn b o → put_once b o ≡ o
+still-stays : (b : Book) (o : Option Subscribed) → StillIn b o → put_once b o ≡ o
 still-stays b None h = refl
 still-stays b (Some s) h = ap (λ x. (putting_if s x).1) h
 
 -- any number of puts leaves a slot that is still, still
-still-left : (b : Book) (n : ℕ) (o : Option Sub) → StillIn b o → StillIn b (puts_left b n o)
+still-left : (b : Book) (n : ℕ) (o : Option Subscribed) → StillIn b o → StillIn b (puts_left b n o)
 still-left b zero o h = h
-still-left b (suc n) o h = subst (λ (p : Option Sub). StillIn b (puts_left b n p))
+still-left b (suc n) o h = subst (λ (p : Option Subscribed). StillIn b (puts_left b n p))
     (sym (still-stays b o h)) (still-left b n o h)
 
 -- a put keeps the counts of a slot in order
-put-order : (b : Book) (o : Option Sub) → InOrder o → InOrder (put_once b o)
+put-order : (b : Book) (o : Option Subscribed) → InOrder o → InOrder (put_once b o)
 put-order b None h = tt
 put-order b (Some s) h = by (can_put b s)
   where
@@ -101,14 +101,14 @@ put-order b (Some s) h = by (can_put b s)
     by false = h
 
 -- a put moves a parcel, and leaves less room, or nothing can be put
-put-fills : (b : Book) (n : ℕ) (s : Sub) → s.taken ≤ s.put → gap_of s ≤ suc n → (x : Bool)
+put-fills : (b : Book) (n : ℕ) (s : Subscribed) → s.taken ≤ s.put → gap_of s ≤ suc n → (x : Bool)
     → can_put b s ≡ x → (gap_in (putting_if s x).1 ≤ n) ⊎ (can_put b s ≡ false)
 put-fills b n s order h true is =
     inl (omega (arith, order, h, lt-true (s.put - s.taken) s.port (both-true _ _ is).0))
 put-fills b n s order h false is = inr is
 
 -- so many puts fill it
-puts-fill : (b : Book) (n : ℕ) (o : Option Sub) → InOrder o → gap_in o ≤ n
+puts-fill : (b : Book) (n : ℕ) (o : Option Subscribed) → InOrder o → gap_in o ≤ n
     → StillIn b (puts_left b n o)
 puts-fill b zero o order h = no-gap b o h
 puts-fill b (suc n) None order h = still-left b (suc n) None tt
@@ -124,12 +124,13 @@ puts-fill b (suc n) (Some s) order h = by (put-fills b n s order h (can_put b s)
 -- ---- an event of one slot, in a world
 
 -- what an event leaves of a slot, if it is taken
-abbrev after_event : (Sub → Answer × Option Sub) → Option Sub → Option Sub
+abbrev after_event : (Subscribed → Answer × Option Subscribed) → Option Subscribed
+    → Option Subscribed
 after_event event None = None
 after_event event (Some s) = (event s).1
 
 -- slot 0 is none
-some-slot : (w : World) (k : ℕ) (s : Sub) → slot_at w k ≡ Some s → (k == 0) ≡ false
+some-slot : (w : World) (k : ℕ) (s : Subscribed) → slot_at w k ≡ Some s → (k == 0) ≡ false
 some-slot w k s is = by (k == 0) is
   where
     by : (x : Bool)
@@ -146,7 +147,8 @@ no-slot : (w : World) (k : ℕ) → (k == 0) ≡ true → slot_at w k ≡ None
 no-slot w k h = ap (λ (x : Bool). if x then None else option_flatten (slice_get w.slots (k - 1))) h
 
 -- an event in a slot leaves there what it makes of the subscription
-at-here : (w : World) (k : ℕ) (event : Sub → Answer × Option Sub) (o : Option Sub) → slot_at w k ≡ o
+at-here : (w : World) (k : ℕ) (event : Subscribed → Answer × Option Subscribed)
+    (o : Option Subscribed) → slot_at w k ≡ o
     → slot_at (at_slot w k o event).1 k ≡ after_event event o
 at-here w k event None is = is
 at-here w k event (Some s) is = by (k == 0) (some-slot w k s is)
@@ -154,11 +156,12 @@ at-here w k event (Some s) is = by (k == 0) (some-slot w k s is)
     by : (x : Bool) → x ≡ false → (if x then None else option_flatten
         (slice_get (slice_set w.slots (k - 1) (event s).1) (k - 1))) ≡ (event s).1
     by true here = absurd (let no : ⊥ = cc in no)
-    by false here = ap (λ (o : Option (Option Sub)). option_flatten o)
+    by false here = ap (λ (o : Option (Option Subscribed)). option_flatten o)
         (slice_get-set_here w.slots (k - 1) (Some s) (event s).1 (slot-found w k s is))
 
 -- an event in another slot leaves this one
-at-other : (w : World) (k j : ℕ) (event : Sub → Answer × Option Sub) (o : Option Sub)
+at-other : (w : World) (k j : ℕ) (event : Subscribed → Answer × Option Subscribed)
+    (o : Option Subscribed)
     → k ≢ j → slot_at w j ≡ o → slot_at (at_slot w j o event).1 k ≡ slot_at w k
 at-other w k j event None ne is = refl
 at-other w k j event (Some s) ne is = by (k == 0) refl
@@ -167,12 +170,13 @@ at-other w k j event (Some s) ne is = by (k == 0) refl
         else option_flatten (slice_get (slice_set w.slots (j - 1) (event s).1) (k - 1)))
         ≡ (if x then None else option_flatten (slice_get w.slots (k - 1)))
     by true e = refl
-    by false e = ap (λ (o : Option (Option Sub)). option_flatten o)
+    by false e = ap (λ (o : Option (Option Subscribed)). option_flatten o)
         (slice_get-set_other w.slots (k - 1) (j - 1) (event s).1
         (λ same. ne (omega (arith, not-zero k e, not-zero j (some-slot w j s is), same))))
 
 -- an event in one slot leaves the book
-at-book : (w : World) (j : ℕ) (event : Sub → Answer × Option Sub) (o : Option Sub)
+at-book : (w : World) (j : ℕ) (event : Subscribed → Answer × Option Subscribed)
+    (o : Option Subscribed)
     → (at_slot w j o event).1.book ≡ w.book
 at-book w j event None = refl
 at-book w j event (Some s) = refl
@@ -183,7 +187,7 @@ at-book w j event (Some s) = refl
 put-here : (w : World) (k : ℕ) → slot_at (next w (At k act.Put)) k ≡ put_once w.book (slot_at w k)
 put-here w k = at-here w k (putting w.book) (slot_at w k) refl ∙ by (slot_at w k)
   where
-    by : (o : Option Sub) → after_event (putting w.book) o ≡ put_once w.book o
+    by : (o : Option Subscribed) → after_event (putting w.book) o ≡ put_once w.book o
     by None = refl
     by (Some s) = refl
 
@@ -222,7 +226,8 @@ Still w k = StillIn w.book (slot_at w k)
 still-answers : (w : World) (k : ℕ) → Still w k → IsStill w k
 still-answers w k h = by (slot_at w k) h
   where
-    by : (o : Option Sub) → StillIn w.book o → (at_slot w k o (putting w.book)).0 ≡ Moved true → ⊥
+    by : (o : Option Subscribed) → StillIn w.book o
+        → (at_slot w k o (putting w.book)).0 ≡ Moved true → ⊥
     by None h is = let no : ⊥ = cc in no
     by (Some s) h is =
         let moved : (putting_if s (can_put w.book s)).0 ≡ Moved true = is in
@@ -300,8 +305,8 @@ each-fills (p ∷ ports) n (suc i) k w at order h =
 -- ---- ports stay
 
 -- the places of a port in the list of ports are those of the slot
-ports-places : (slots : List (Option Sub)) (i : ℕ)
-    → places_in (option_flatten (slice_get (map (option_map (λ (s : Sub). s.port)) slots) i))
+ports-places : (slots : List (Option Subscribed)) (i : ℕ)
+    → places_in (option_flatten (slice_get (map (option_map (λ (s : Subscribed). s.port)) slots) i))
     ≡ port_in (option_flatten (slice_get slots i))
 ports-places [] i = refl
 ports-places (None ∷ slots) zero = refl
@@ -318,15 +323,16 @@ places-port w k = by (k == 0)
     by false = ports-places w.slots (k - 1)
 
 -- an event of a slot that leaves its port as it is
-abbrev KeepsPort : (Sub → Answer × Option Sub) → Type 0
-KeepsPort event = (s : Sub) → port_in (event s).1 ≡ s.port
+abbrev KeepsPort : (Subscribed → Answer × Option Subscribed) → Type 0
+KeepsPort event = (s : Subscribed) → port_in (event s).1 ≡ s.port
 
 -- an event that keeps the size of a port keeps that of each slot's port
-event-port : (w : World) (k j : ℕ) (event : Sub → Answer × Option Sub) → KeepsPort event
+event-port : (w : World) (k j : ℕ) (event : Subscribed → Answer × Option Subscribed)
+    → KeepsPort event
     → port_in (slot_at (at_slot w j (slot_at w j) event).1 k) ≡ port_in (slot_at w k)
 event-port w k j event keeps = by (nat_eq_or k j)
   where
-    same : (o : Option Sub) → port_in (after_event event o) ≡ port_in o
+    same : (o : Option Subscribed) → port_in (after_event event o) ≡ port_in o
     same None = refl
     same (Some s) = keeps s
 
@@ -375,7 +381,7 @@ notices-port (p ∷ ports) w k j =
     ∙ (notices-port ports v k (j + 1) ∙ slot-notice-port w k j p)
 
 -- a change keeps the size of a subscription's port
-after-port : (b : Book) (c : Change_) (s : Sub) → (after_change b c s).port ≡ s.port
+after-port : (b : Book) (c : Change_) (s : Subscribed) → (after_change b c s).port ≡ s.port
 after-port b c s = by (is_live s && overruns b c s)
   where
     by : (x : Bool) → (overrun_if b s x).port ≡ s.port
@@ -383,7 +389,7 @@ after-port b c s = by (is_live s && overruns b c s)
     by false = refl
 
 -- a change keeps the sizes of the ports of all slots
-changed-ports : (b : Book) (c : Change_) (slots : List (Option Sub)) (i : ℕ)
+changed-ports : (b : Book) (c : Change_) (slots : List (Option Subscribed)) (i : ℕ)
     → port_in (option_flatten (slice_get (map (option_map (after_change b c)) slots) i))
     ≡ port_in (option_flatten (slice_get slots i))
 changed-ports b c [] i = refl
@@ -410,7 +416,8 @@ change-port w c k = by (refused_by (state_of w.book) c)
 -- ---- turns
 
 -- in a fair world the counts of each slot are in order
-slot-order : (w : World) (k : ℕ) → IsFairWorld w → (o : Option Sub) → slot_at w k ≡ o → InOrder o
+slot-order : (w : World) (k : ℕ) → IsFairWorld w → (o : Option Subscribed) → slot_at w k ≡ o
+    → InOrder o
 slot-order w k fair None is = tt
 slot-order w k fair (Some s) is =
     (all-get (IsFairSlot w.book) w.slots (k - 1) (Some s) fair (slot-found w k s is)).taken

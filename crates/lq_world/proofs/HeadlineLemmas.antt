@@ -13,7 +13,7 @@ use Rattle.lq_update.specs.declared.message.Message.{Message}
 use Rattle.lq_update.specs.Updates.{updates_of, IsPrefixOf}
 use Rattle.lq_update.specs.Fold.{folded}
 use Rattle.lq_update.specs.Laws.{FoldsGiveResults, UpdatesJoin, UpdatesGrow, WholeFoldsGiveResults}
-use Rattle.lq_world.specs.World.{World, Sub, taken_before_free}
+use Rattle.lq_world.specs.World.{World, Subscribed, taken_before_free}
 use Rattle.lq_world.specs.declared.event.Event.{Event}
 use Rattle.lq_world.specs.declared.event.Event.TheVariants.{Open}
 use Rattle.lq_world.specs.Events.{Answer, Opened, opening, opened_now, open_refusal, with_sub}
@@ -61,7 +61,7 @@ slice_get-set_within (x ∷ xs) zero y h = refl
 slice_get-set_within (x ∷ xs) (suc i) y h = slice_get-set_within xs i y (omega arith)
 
 -- the slot, the number and the result of an opening, and the world that it leaves
-pub record IsOpened (w : World) (s : Sub) (slot at : ℕ) (first : List Entry)
+pub record IsOpened (w : World) (s : Subscribed) (slot at : ℕ) (first : List Entry)
     (v : World) : Type 0 where
   pub slot_is : slot ≡ taken_before_free w.slots + 1
   pub may : MayOpen w s.port s.backlog
@@ -70,7 +70,7 @@ pub record IsOpened (w : World) (s : Sub) (slot at : ℕ) (first : List Entry)
   pub world : v ≡ with_sub w s
 
 -- an opening that answers a slot has opened there, in the world that it leaves
-opened_facts : (w : World) (s : Sub) (r : Option Refusal) (slot at : ℕ) (first : List Entry)
+opened_facts : (w : World) (s : Subscribed) (r : Option Refusal) (slot at : ℕ) (first : List Entry)
     (v : World) → (r ≡ None → MayOpen w s.port s.backlog) → Opened slot at first ≡ (opening w s r).0
     → v ≡ (opening w s r).1 → IsOpened w s slot at first v
 opened_facts w s (Some e) slot at first v may told is = absurd (let no : ⊥ = cc in no)

@@ -7,7 +7,7 @@ use Rattle.lq_volume.specs.Change.{refused as refused_by}
 use Rattle.lq_volume.specs.Book.{Book, state_of}
 use Rattle.lq_update.specs.declared.message.Message.{Message}
 use Rattle.lq_update.specs.declared.parcel.Parcel.{Parcel}
-use Rattle.lq_world.specs.World.{World, Sub, in_port, to_come, updates_due, mark_behind, whole, is_live, is_over, can_put, first_in_port, slot_at, with_slot}
+use Rattle.lq_world.specs.World.{World, Subscribed, in_port, to_come, updates_due, mark_behind, whole, is_live, is_over, can_put, first_in_port, slot_at, with_slot}
 use Rattle.lq_world.specs.declared.event.Event.TheVariants.{Change, Open, At}
 use Rattle.lq_world.specs.declared.event.Act.TheVariants as act
 use Rattle.lq_world.specs.Events.{Answer, Refused, changing, opening, opened_now, open_refusal, putting, putting_if, reading, reading_if, hanging_up, noticing, noticing_if, closing, closing_if, finishing, finishing_if, at_slot}
@@ -36,7 +36,7 @@ drop-both (u ∷ us) ms (suc n) = drop-both us ms n ∙ ap (λ k. parcels (drop 
     (let e : n - length us ≡ suc n - length (u ∷ us) = omega arith in e)
 
 -- what is to come is the whole list without what was put
-pub to_come-is : (b : Book) (s : Sub) → to_come b s ≡ drop s.put (whole b s)
+pub to_come-is : (b : Book) (s : Subscribed) → to_come b s ≡ drop s.put (whole b s)
 to_come-is b s = sym (drop-both (updates_due b s) (mark_behind (length (updates_due b s)) s.end)
     s.put)
 
@@ -59,12 +59,14 @@ slice_set-same (y ∷ xs) zero x h = cc
 slice_set-same (y ∷ xs) (suc i) x h = ap (λ ys. y ∷ ys) (slice_set-same xs i x h)
 
 -- an event of a slot that is refused leaves what is there
-abbrev RefusesAlone : (Sub → Answer × Option Sub) → Type 0
-RefusesAlone event = (s : Sub) (r : Refusal) → (event s).0 ≡ Refused r → (event s).1 ≡ Some s
+abbrev RefusesAlone : (Subscribed → Answer × Option Subscribed) → Type 0
+RefusesAlone event = (s : Subscribed) (r : Refusal) → (event s).0 ≡ Refused r → (event s).1 ≡ Some s
 
 -- an event that is refused in a slot leaves the world
-at_slot-refused : (w : World) (k : ℕ) (event : Sub → Answer × Option Sub) (r : Refusal)
-    → RefusesAlone event → (o : Option Sub) → slot_at w k ≡ o → (at_slot w k o event).0 ≡ Refused r
+at_slot-refused : (w : World) (k : ℕ) (event : Subscribed → Answer × Option Subscribed)
+    (r : Refusal)
+    → RefusesAlone event → (o : Option Subscribed) → slot_at w k ≡ o
+    → (at_slot w k o event).0 ≡ Refused r
     → (at_slot w k o event).1 ≡ w
 at_slot-refused w k event r alone None at is = refl
 at_slot-refused w k event r alone (Some s) at is =
@@ -123,7 +125,7 @@ changing-refused w c (Some e) r is = refl
 changing-refused w c None r is = absurd (let no : ⊥ = cc in no)
 
 -- an opening that is refused leaves the world
-opening-refused : (w : World) (s : Sub) (o : Option Refusal) (r : Refusal)
+opening-refused : (w : World) (s : Subscribed) (o : Option Refusal) (r : Refusal)
     → (opening w s o).0 ≡ Refused r → (opening w s o).1 ≡ w
 opening-refused w s (Some e) r is = refl
 opening-refused w s None r is = absurd (let no : ⊥ = cc in no)

@@ -10,7 +10,7 @@ use Rattle.lq_volume.specs.declared.change.Change.{Change as Change_}
 use Rattle.lq_volume.specs.Change.{refused as refused_by}
 use Rattle.lq_volume.specs.Book.{Book, grown, state_of}
 use Rattle.lq_update.specs.Laws.{UpdatesJoin}
-use Rattle.lq_world.specs.World.{World, Sub, is_over, slot_at, taken_before_free, with_slot, after_change}
+use Rattle.lq_world.specs.World.{World, Subscribed, is_over, slot_at, taken_before_free, with_slot, after_change}
 use Rattle.lq_world.specs.declared.event.Event.{Event}
 use Rattle.lq_world.specs.declared.event.Event.TheVariants.{Change, Open, At}
 use Rattle.lq_world.specs.declared.event.Act.TheVariants as act
@@ -34,12 +34,13 @@ changing-book w c (Some e) = same_book w.book
 changing-book w c None = refl
 
 -- an opening leaves the book
-opening-book : (w : World) (s : Sub) (r : Option Refusal) → (opening w s r).1.book ≡ w.book
+opening-book : (w : World) (s : Subscribed) (r : Option Refusal) → (opening w s r).1.book ≡ w.book
 opening-book w s (Some e) = refl
 opening-book w s None = refl
 
 -- an event in one slot leaves the book
-at_slot-book : (w : World) (k : ℕ) (o : Option Sub) (event : Sub → Answer × Option Sub)
+at_slot-book : (w : World) (k : ℕ) (o : Option Subscribed)
+    (event : Subscribed → Answer × Option Subscribed)
     → (at_slot w k o event).1.book ≡ w.book
 at_slot-book w k None event = refl
 at_slot-book w k (Some s) event = refl
@@ -84,27 +85,29 @@ run-book w (e ∷ events) (a ∷ answers) end run =
 -- ---- one event
 
 -- the subscription stands at this place
-pub record Stands (w : World) (i : ℕ) (s : Sub) : Type 0 where
+pub record Stands (w : World) (i : ℕ) (s : Subscribed) : Type 0 where
   pub here : slice_get w.slots i ≡ Some (Some s)
   pub fair : IsFair w.book s
 
 -- from w to v it goes on at its place, and these reads were answered
-pub record Goes (w : World) (i : ℕ) (s : Sub) (reads : List Answer) (v : World) : Type 0 where
-  pub sub : Sub
+pub record Goes (w : World) (i : ℕ) (s : Subscribed) (reads : List Answer)
+    (v : World) : Type 0 where
+  pub sub : Subscribed
   pub here : slice_get v.slots i ≡ Some (Some sub)
   pub does : Reads w.book s v.book sub reads
 
 -- it goes on, or it was over and its slot is free
-abbrev pub Passes : World → ℕ → Sub → Event → Answer → World → Type 0
+abbrev pub Passes : World → ℕ → Subscribed → Event → Answer → World → Type 0
 Passes w i s e a v = ((frees (i + 1) e a ≡ true) × IsOver w.book s)
     ⊎ ((frees (i + 1) e a ≡ false) × Goes w i s (read_by (i + 1) e a) v)
 
 -- an event that leaves the world leaves the subscription in its slot
-rests : (w : World) (i : ℕ) (s : Sub) → Stands w i s → Goes w i s [] w
+rests : (w : World) (i : ℕ) (s : Subscribed) → Stands w i s → Goes w i s [] w
 rests w i s h = record { sub = s; here = h.here; does = reads-self w.book s h.fair }
 
 -- the slot with this number is the place before it in the list
-slot_here : (w : World) (i : ℕ) (s : Sub) (k : ℕ) → slice_get w.slots i ≡ Some (Some s) → k ≡ i + 1
+slot_here : (w : World) (i : ℕ) (s : Subscribed) (k : ℕ) → slice_get w.slots i ≡ Some (Some s)
+    → k ≡ i + 1
     → slot_at w k ≡ Some s
 slot_here w i s k here own =
     let some : (k == 0) ≡ false = grind (arith, nat_tests) in
@@ -113,7 +116,7 @@ slot_here w i s k here own =
     ∙ ap option_flatten (ap (slice_get w.slots) place ∙ here)
 
 -- a slot that is set holds what was set
-set_here : (w : World) (i : ℕ) (s : Sub) (k : ℕ) (o : Option Sub) (t : Sub)
+set_here : (w : World) (i : ℕ) (s : Subscribed) (k : ℕ) (o : Option Subscribed) (t : Subscribed)
     → slice_get w.slots i ≡ Some (Some s) → k ≡ i + 1 → o ≡ Some t
     → slice_get (slice_set w.slots (k - 1) o) i ≡ Some (Some t)
 set_here w i s k o t here own is =
@@ -122,11 +125,12 @@ set_here w i s k o t here own is =
     ∙ (slice_get-set_here w.slots i (Some s) o here ∙ ap (λ p. Some p) is)
 
 -- an event of its slot
-own_event : (w : World) (i : ℕ) (s : Sub) (k : ℕ) (event : Sub → Answer × Option Sub)
+own_event : (w : World) (i : ℕ) (s : Subscribed) (k : ℕ)
+    (event : Subscribed → Answer × Option Subscribed)
     (reads : List Answer) → Stands w i s → k ≡ i + 1 → Leaves w.book s reads (event s).1
     → Goes w i s reads (at_slot w k (slot_at w k) event).1
 own_event w i s k event reads h own l =
-    subst (λ (o : Option Sub). Goes w i s reads (at_slot w k o event).1)
+    subst (λ (o : Option Subscribed). Goes w i s reads (at_slot w k o event).1)
     (sym (slot_here w i s k h.here own))
     (record {
       sub = l.sub;
@@ -135,16 +139,17 @@ own_event w i s k event reads h own l =
     })
 
 -- an event of another slot
-other_event : (w : World) (i : ℕ) (s : Sub) (k : ℕ) (event : Sub → Answer × Option Sub)
+other_event : (w : World) (i : ℕ) (s : Subscribed) (k : ℕ)
+    (event : Subscribed → Answer × Option Subscribed)
     → Stands w i s → k ≢ i + 1 → Goes w i s [] (at_slot w k (slot_at w k) event).1
 other_event w i s k event h other = elim (cases_eq k 0) [
   | inl none ↦
       let free : None ≡ slot_at w k = grind (arith, nat_tests) in
-      subst (λ (o : Option Sub). Goes w i s [] (at_slot w k o event).1) free (rests w i s h)
+      subst (λ (o : Option Subscribed). Goes w i s [] (at_slot w k o event).1) free (rests w i s h)
   | inr some ↦ by (slot_at w k) some
 ]
   where
-    by : (o : Option Sub) → k ≢ 0 → Goes w i s [] (at_slot w k o event).1
+    by : (o : Option Subscribed) → k ≢ 0 → Goes w i s [] (at_slot w k o event).1
     by None some = rests w i s h
     by (Some t) some =
         let apart : i ≢ k - 1 = omega (arith, other, some) in
@@ -155,7 +160,8 @@ other_event w i s k event h other = elim (cases_eq k 0) [
         }
 
 -- an event in some slot that reads nothing leaves this slot's reads
-slot_event : (w : World) (i : ℕ) (s : Sub) (k : ℕ) (event : Sub → Answer × Option Sub)
+slot_event : (w : World) (i : ℕ) (s : Subscribed) (k : ℕ)
+    (event : Subscribed → Answer × Option Subscribed)
     → Stands w i s → Leaves w.book s [] (event s).1
     → Goes w i s [] (at_slot w k (slot_at w k) event).1
 slot_event w i s k event h l = elim (cases_eq k (i + 1)) [
@@ -164,7 +170,7 @@ slot_event w i s k event h l = elim (cases_eq k (i + 1)) [
 ]
 
 -- the lowest free place is no taken one
-free_is_free : (slots : List (Option Sub)) (s : Sub)
+free_is_free : (slots : List (Option Subscribed)) (s : Subscribed)
     → slice_get slots (taken_before_free slots) ≡ Some (Some s) → ⊥
 free_is_free [] s h = cc
 free_is_free (None ∷ slots) s h = cc
@@ -173,7 +179,8 @@ free_is_free (Some t ∷ slots) s h =
     free_is_free slots s (ap (slice_get (Some t ∷ slots)) e ∙ h)
 
 -- an opening leaves this slot's reads
-opening-goes : (w : World) (i : ℕ) (s : Sub) (t : Sub) (r : Option Refusal) → Stands w i s
+opening-goes : (w : World) (i : ℕ) (s : Subscribed) (t : Subscribed) (r : Option Refusal)
+    → Stands w i s
     → Goes w i s [] (opening w t r).1
 opening-goes w i s t (Some e) h = rests w i s h
 opening-goes w i s t None h =
@@ -200,7 +207,7 @@ read_other slot k a other =
     ap (λ x. if x then a ∷ [] else []) e
 
 -- a read gives this slot's reads its answer, if it is of this slot
-reading-goes : (w : World) (i : ℕ) (s : Sub) (k : ℕ) → Stands w i s
+reading-goes : (w : World) (i : ℕ) (s : Subscribed) (k : ℕ) → Stands w i s
     → Goes w i s (read_by (i + 1) (At k act.Read) (at_slot w k (slot_at w k) (reading w.book)).0)
     (at_slot w k (slot_at w k) (reading w.book)).1
 reading-goes w i s k h = elim (cases_eq k (i + 1)) [
@@ -234,12 +241,14 @@ frees_other slot k Finished other = grind (arith, nat_tests)
 frees_other slot k (Refused r) other = refl
 
 -- a finish leaves this slot's reads, or frees the slot
-finishing-goes : (w : World) (i : ℕ) (s : Sub) (k : ℕ) → Stands w i s
+finishing-goes : (w : World) (i : ℕ) (s : Subscribed) (k : ℕ) → Stands w i s
     → Passes w i s (At k act.Finish) (at_slot w k (slot_at w k) (finishing w.book)).0
     (at_slot w k (slot_at w k) (finishing w.book)).1
 finishing-goes w i s k h = elim (cases_eq k (i + 1)) [
   | inl own ↦
-      subst (λ (o : Option Sub). Passes w i s (At k act.Finish) (at_slot w k o (finishing w.book)).0
+      subst
+      (λ (o : Option Subscribed).
+      Passes w i s (At k act.Finish) (at_slot w k o (finishing w.book)).0
       (at_slot w k o (finishing w.book)).1) (sym (slot_here w i s k h.here own))
       (by own (is_over w.book s) refl)
   | inr other ↦ inr (frees_other (i + 1) k _ other, other_event w i s k (finishing w.book) h other)
@@ -260,7 +269,8 @@ finishing-goes w i s k h = elim (cases_eq k (i + 1)) [
 
 module _ (join : UpdatesJoin) where
   -- a change leaves this slot's reads
-  changing-goes : (w : World) (i : ℕ) (s : Sub) (c : Change_) (r : Option Refusal) → Stands w i s
+  changing-goes : (w : World) (i : ℕ) (s : Subscribed) (c : Change_) (r : Option Refusal)
+      → Stands w i s
       → Goes w i s [] (changing w c r).1
   changing-goes w i s c (Some e) h = rests w i s h
   changing-goes w i s c None h = record {
@@ -272,7 +282,7 @@ module _ (join : UpdatesJoin) where
   }
 
   -- each event leaves this slot's reads, gives one more, or frees the slot
-  outcome-goes : (w : World) (i : ℕ) (s : Sub) (e : Event) → Stands w i s
+  outcome-goes : (w : World) (i : ℕ) (s : Subscribed) (e : Event) → Stands w i s
       → Passes w i s e (outcome w e).0 (outcome w e).1
   outcome-goes w i s (Change c) h =
       inr (refl, changing-goes w i s c (refused_by (state_of w.book) c) h)
@@ -292,7 +302,7 @@ module _ (join : UpdatesJoin) where
   outcome-goes w i s (At k act.Finish) h = finishing-goes w i s k h
 
   -- each step leaves this slot's reads, gives one more, or frees the slot
-  pub step-goes : (w : World) (i : ℕ) (s : Sub) (e : Event) (a : Answer) (v : World)
+  pub step-goes : (w : World) (i : ℕ) (s : Subscribed) (e : Event) (a : Answer) (v : World)
       → Stands w i s → Step w e a v → Passes w i s e a v
   step-goes w i s e a v h (inl done) =
       subst (λ (b : Answer). Passes w i s e b v) (sym done.0)

@@ -10,7 +10,7 @@ use Rattle.lq_update.specs.declared.parcel.Parcel.{Parcel}
 use Rattle.lq_update.specs.declared.parcel.Parcel.TheVariants.{Update, Fin}
 use Rattle.lq_update.specs.Updates.{updates_of, IsPrefixOf}
 use Rattle.lq_update.specs.Laws.{UpdatesJoin, UpdatesGrow}
-use Rattle.lq_world.specs.World.{World, Sub, End, covered, covered_by, updates_due, mark_behind, whole}
+use Rattle.lq_world.specs.World.{World, Subscribed, End, covered, covered_by, updates_due, mark_behind, whole}
 use Rattle.lq_world.specs.declared.event.Event.{Event}
 use Rattle.lq_world.specs.declared.event.Event.TheVariants.{Change, Open, At}
 use Rattle.lq_world.specs.declared.event.Act.TheVariants as act
@@ -27,8 +27,8 @@ abbrev IsMarked : List Parcel → Type 0
 IsMarked ps = (m : Mark) × (front : List Parcel) × (ps ≡ front ++ Fin m ∷ [])
 
 -- what the reads were answered, from one point of a subscription to another
-pub record Ran (b : Book) (s : Sub) (d : Book) (reads : List Answer) : Type 0 where
-  pub sub : Sub
+pub record Ran (b : Book) (s : Subscribed) (d : Book) (reads : List Answer) : Type 0 where
+  pub sub : Subscribed
   pub same : IsSame s sub
   pub fair : IsFair d sub
   pub front : take s.taken (whole b s) ++ parcels_in reads ≡ take sub.taken (whole d sub)
@@ -44,7 +44,8 @@ no_place [] rest x is = cc
 no_place (y ∷ front) rest x is = cc
 
 -- a run that reads nothing has read nothing
-ran-nothing : (b : Book) (s : Sub) (d : Book) (t : Sub) → Reads b s d t [] → Ran b s d []
+ran-nothing : (b : Book) (s : Subscribed) (d : Book) (t : Subscribed) → Reads b s d t []
+    → Ran b s d []
 ran-nothing b s d t r = record {
   sub = t;
   same = r.keeps.same;
@@ -63,7 +64,7 @@ parcels_in-append (x ∷ xs) ys = ap (λ ps. parcel_in x ++ ps) (parcels_in-appe
     ∙ sym (append_assoc (parcel_in x) (parcels_in xs) (parcels_in ys))
 
 -- all that is told of one that has ended ends with the mark
-over-marked : (b : Book) (s : Sub) → IsOver b s → IsMarked (take s.taken (whole b s) ++ [])
+over-marked : (b : Book) (s : Subscribed) → IsOver b s → IsMarked (take s.taken (whole b s) ++ [])
 over-marked b s o =
     let us = parcels (updates_due b s) in
     let m : Mark =
@@ -93,7 +94,7 @@ read_shape slot (At k act.Close) a = inl refl
 read_shape slot (At k act.Finish) a = inl refl
 
 -- one read, or none, and then a run of reads are a run
-ran-more : (b c d : Book) (s t : Sub) (xs ys : List Answer)
+ran-more : (b c d : Book) (s t : Subscribed) (xs ys : List Answer)
     → (xs ≡ []) ⊎ ((x : Answer) × (xs ≡ x ∷ [])) → Reads b s c t xs → Ran c t d ys
     → Ran b s d (xs ++ ys)
 ran-more b c d s t xs ys shape r ran = record {
@@ -163,7 +164,7 @@ ran-more b c d s t xs ys shape r ran = record {
 
 module _ (join : UpdatesJoin) where
   -- over a whole run
-  pub run-ran : (w : World) (i : ℕ) (s : Sub) (events : List Event) (answers : List Answer)
+  pub run-ran : (w : World) (i : ℕ) (s : Subscribed) (events : List Event) (answers : List Answer)
       (end : World) → Stands w i s → Run w events answers end
       → Ran w.book s end.book (reads_of (i + 1) events answers)
   run-ran w i s [] [] end h run = subst (λ (v : World). Ran w.book s v.book []) (sym run)
@@ -174,7 +175,7 @@ module _ (join : UpdatesJoin) where
       by (λ t stands. run-ran run.0 i t events answers end stands run.2)
       (step-goes join w i s e a run.0 h run.1)
     where
-      by : ((t : Sub) → Stands run.0 i t
+      by : ((t : Subscribed) → Stands run.0 i t
           → Ran run.0.book t end.book (reads_of (i + 1) events answers))
           → Passes w i s e a run.0
           → Ran w.book s end.book (reads_of (i + 1) (e ∷ events) (a ∷ answers))
@@ -301,7 +302,8 @@ pub record AreTold (b : Book) (q : Query) (moved : Bool) (at : ℕ)
   pub ended : (front rest : List Answer) → reads ≡ front ++ Ended ∷ rest → HasMark front
 
 -- what a subscription reads over a run, from its first read, is what the book tells
-pub ran-reads : UpdatesGrow → (b : Book) (s : Sub) (d : Book) (reads : List Answer) → s.taken ≡ 0
+pub ran-reads : UpdatesGrow → (b : Book) (s : Subscribed) (d : Book) (reads : List Answer)
+    → s.taken ≡ 0
     → Ran b s d reads → AreTold d s.query s.moved s.opened reads
 ran-reads grow b s d reads none ran =
     let t = ran.sub in
@@ -344,6 +346,6 @@ ran-reads grow b s d reads none ran =
           (h.0, h.1, ap (λ n. take n (whole b s) ++ parcels_in front) (sym none) ∙ h.2));
     }
   where
-    alike : (d : Book) (t s : Sub) (n : ℕ) → IsSame s t
+    alike : (d : Book) (t s : Subscribed) (n : ℕ) → IsSame s t
         → updates_of t.query t.moved d t.opened n ≡ updates_of s.query s.moved d s.opened n
     alike d t s n same = rw (same.query, same.moved, same.opened) refl

@@ -13,7 +13,7 @@ use Rattle.lq_update.specs.declared.parcel.Parcel.{Parcel}
 use Rattle.lq_update.specs.declared.parcel.Parcel.TheVariants.{Update, Fin}
 use Rattle.lq_update.specs.Updates.{updates_of, step_of}
 use Rattle.lq_update.specs.Laws.{UpdatesJoin}
-use Rattle.lq_world.specs.World.{Sub, End, covered_by, covered, updates_due, mark_behind, whole, held, is_live, is_over, with_end, with_hang_up_asked, one_more_put, one_more_taken, can_put, first_in_port, news, overruns, overrun_if, after_change}
+use Rattle.lq_world.specs.World.{Subscribed, End, covered_by, covered, updates_due, mark_behind, whole, held, is_live, is_over, with_end, with_hang_up_asked, one_more_put, one_more_taken, can_put, first_in_port, news, overruns, overrun_if, after_change}
 use Rattle.lq_world.specs.Events.{Answer, Read, Ended, Empty, putting_if, putting, reading_if, reading, hanging_up, noticing_if, noticing, closing_if, closing}
 use Rattle.lq_world.specs.Fair.{IsFair}
 use Rattle.lq_world.specs.Headline.{parcels_in}
@@ -21,14 +21,14 @@ use Rattle.lq_world.proofs.ListLemmas.{take-inside, take-one_more, map-append, l
 use Rattle.lq_world.proofs.WorldLemmas.{updates_of-stays, updates_of-change}
 
 -- one subscription at two points
-pub record IsSame (s t : Sub) : Type 0 where
+pub record IsSame (s t : Subscribed) : Type 0 where
   pub query : t.query ≡ s.query
   pub moved : t.moved ≡ s.moved
   pub opened : t.opened ≡ s.opened
 
 -- From a book to one that extends it, it goes on and is fair, and its list
 -- grows at the end; one that has ended stays ended, with its list.
-pub record Keeps (b : Book) (s : Sub) (d : Book) (t : Sub) : Type 0 where
+pub record Keeps (b : Book) (s : Subscribed) (d : Book) (t : Subscribed) : Type 0 where
   pub same : IsSame s t
   pub fair : IsFair d t
   pub more : List Parcel
@@ -36,7 +36,7 @@ pub record Keeps (b : Book) (s : Sub) (d : Book) (t : Sub) : Type 0 where
   pub ended : (e : End) → s.end ≡ Some e → (t.end ≡ Some e) × (more ≡ [])
 
 -- it has ended, and all was taken
-abbrev pub IsOver : Book → Sub → Type 0
+abbrev pub IsOver : Book → Subscribed → Type 0
 IsOver b s = (e : End) × (s.end ≡ Some e) × (s.taken ≡ length (whole b s))
 
 -- an answer that a list has ended
@@ -44,7 +44,8 @@ abbrev pub IsEnded : Answer → Type 0
 IsEnded a = a ≡ Ended
 
 -- it goes on, and these reads were answered
-pub record Reads (b : Book) (s : Sub) (d : Book) (t : Sub) (reads : List Answer) : Type 0 where
+pub record Reads (b : Book) (s : Subscribed) (d : Book) (t : Subscribed)
+    (reads : List Answer) : Type 0 where
   pub keeps : Keeps b s d t
   pub front : take s.taken (whole b s) ++ parcels_in reads ≡ take t.taken (whole d t)
   pub over : IsOver b s → IsOver d t × AllByRecursion IsEnded reads
@@ -52,8 +53,9 @@ pub record Reads (b : Book) (s : Sub) (d : Book) (t : Sub) (reads : List Answer)
   pub shown : reads ≡ Ended ∷ [] → IsOver b s
 
 -- an event of its slot leaves it there, and these reads were answered
-pub record Leaves (b : Book) (s : Sub) (reads : List Answer) (o : Option Sub) : Type 0 where
-  pub sub : Sub
+pub record Leaves (b : Book) (s : Subscribed) (reads : List Answer)
+    (o : Option Subscribed) : Type 0 where
+  pub sub : Subscribed
   pub is : o ≡ Some sub
   pub does : Reads b s b sub reads
 
@@ -70,7 +72,7 @@ live-none None h = refl
 live-none (Some e) h = absurd (let no : ⊥ = cc in no)
 
 -- one that is over passes the test
-pub over-true : (b : Book) (s : Sub) → IsOver b s → is_over b s ≡ true
+pub over-true : (b : Book) (s : Subscribed) → IsOver b s → is_over b s ≡ true
 over-true b s h = by s.end (s.taken) (length (whole b s)) h.0 h.1 h.2
   where
     by : (o : Option End) (m n : ℕ) (e : End) → o ≡ Some e → m ≡ n
@@ -79,7 +81,7 @@ over-true b s h = by s.end (s.taken) (length (whole b s)) h.0 h.1 h.2
     by (Some d) m n e is eq = grind (arith, nat_tests)
 
 -- one that passes the test is over
-pub over-from : (b : Book) (s : Sub) → is_over b s ≡ true → IsOver b s
+pub over-from : (b : Book) (s : Subscribed) → is_over b s ≡ true → IsOver b s
 over-from b s h = by s.end (s.taken) (length (whole b s)) h
   where
     by : (o : Option End) (m n : ℕ) → (if is_none o then false else m == n) ≡ true
@@ -90,7 +92,7 @@ over-from b s h = by s.end (s.taken) (length (whole b s)) h
 -- ---- its list
 
 -- the updates of a subscription up to a number
-abbrev pub updates_to : Book → Sub → ℕ → List Message
+abbrev pub updates_to : Book → Subscribed → ℕ → List Message
 updates_to b s n = updates_of s.query s.moved b s.opened n
 
 -- messages as parcels
@@ -98,19 +100,20 @@ abbrev pub parcels : List Message → List Parcel
 parcels messages = map (λ m. Update m) messages
 
 -- the whole list of a live subscription is its updates up to now
-pub whole-live : (b : Book) (s : Sub) → s.end ≡ None
+pub whole-live : (b : Book) (s : Subscribed) → s.end ≡ None
     → whole b s ≡ parcels (updates_to b s (number_of b))
 whole-live b s live = ap (λ o. parcels (updates_to b s (covered_by b o))
     ++ mark_behind (length (updates_to b s (covered_by b o))) o) live ∙ append-nil _
 
 -- what a live subscription is told is its updates up to now
-pub told-live : (b : Book) (s : Sub) → s.end ≡ None → updates_due b s ≡ updates_to b s (number_of b)
+pub told-live : (b : Book) (s : Subscribed) → s.end ≡ None
+    → updates_due b s ≡ updates_to b s (number_of b)
 told-live b s live = ap (λ o. updates_to b s (covered_by b o)) live
 
 -- ---- what keeps it
 
 -- an end keeps what a fair subscription was told
-keeps-end : (b : Book) (s : Sub) (cause : Cause) → IsFair b s → s.end ≡ None
+keeps-end : (b : Book) (s : Subscribed) (cause : Cause) → IsFair b s → s.end ≡ None
     → Keeps b s b (with_end s cause (number_of b))
 keeps-end b s cause h live =
     let n = number_of b in
@@ -138,7 +141,8 @@ keeps-end b s cause h live =
     }
 
 -- changes keep what a subscription that has ended was told
-pub keeps-ended : (b : Book) (cs : List Change_) (s : Sub) (e : End) → IsFair b s → s.end ≡ Some e
+pub keeps-ended : (b : Book) (cs : List Change_) (s : Subscribed) (e : End) → IsFair b s
+    → s.end ≡ Some e
     → Keeps b s (grown b cs) s
 keeps-ended b cs s e h is =
     let to : covered b s ≡ e.change = ap (covered_by b) is in
@@ -170,7 +174,7 @@ keeps-ended b cs s e h is =
     }
 
 -- what two steps keep, they keep together
-keeps-more : (b c d : Book) (s t u : Sub) → Keeps b s c t → Keeps c t d u → Keeps b s d u
+keeps-more : (b c d : Book) (s t u : Subscribed) → Keeps b s c t → Keeps c t d u → Keeps b s d u
 keeps-more b c d s t u k l = record {
   same = record {
     query = l.same.query ∙ k.same.query;
@@ -186,7 +190,7 @@ keeps-more b c d s t u k l = record {
 }
 
 -- an event that leaves its end, its query and its opening
-keeps-same : (b : Book) (s : Sub) (t : Sub)
+keeps-same : (b : Book) (s : Subscribed) (t : Subscribed)
     → IsSame s t → t.end ≡ s.end → whole b t ≡ whole b s → IsFair b t → Keeps b s b t
 keeps-same b s t same end list fair = record {
   same = same;
@@ -197,7 +201,7 @@ keeps-same b s t same end list fair = record {
 }
 
 -- nothing that happens keeps what was told
-pub keeps-self : (b : Book) (s : Sub) → IsFair b s → Keeps b s b s
+pub keeps-self : (b : Book) (s : Subscribed) → IsFair b s → Keeps b s b s
 keeps-self b s h =
     keeps-same b s s (record { query = refl; moved = refl; opened = refl }) refl refl h
 
@@ -211,7 +215,7 @@ fits h k n backlog room old is = elim (not-both (nat_lt 0 k) (nat_lt backlog (h 
 
 module _ (join : UpdatesJoin) where
   -- a change that doesn't end it
-  keeps-told : (b : Book) (c : Change_) (s : Sub)
+  keeps-told : (b : Book) (c : Change_) (s : Subscribed)
       → IsFair b s → s.end ≡ None → overruns b c s ≡ false → Keeps b s (grown b (c ∷ [])) s
   keeps-told b c s h live room =
       let d = grown b (c ∷ []) in
@@ -261,7 +265,7 @@ module _ (join : UpdatesJoin) where
       }
 
   -- a change
-  pub keeps-change : (b : Book) (c : Change_) (s : Sub) → IsFair b s
+  pub keeps-change : (b : Book) (c : Change_) (s : Subscribed) → IsFair b s
       → Keeps b s (grown b (c ∷ [])) (after_change b c s)
   keeps-change b c s h = by (is_live s && overruns b c s) refl
     where
@@ -279,7 +283,8 @@ module _ (join : UpdatesJoin) where
       ]
 
 -- a change leaves how much was taken
-pub after_change-taken : (b : Book) (c : Change_) (s : Sub) → (after_change b c s).taken ≡ s.taken
+pub after_change-taken : (b : Book) (c : Change_) (s : Subscribed)
+    → (after_change b c s).taken ≡ s.taken
 after_change-taken b c s = by (is_live s && overruns b c s)
   where
     by : (x : Bool) → (overrun_if b s x).taken ≡ s.taken
@@ -289,7 +294,7 @@ after_change-taken b c s = by (is_live s && overruns b c s)
 -- ---- what was read
 
 -- no read
-pub reads-nothing : (b : Book) (s : Sub) (d : Book) (t : Sub)
+pub reads-nothing : (b : Book) (s : Subscribed) (d : Book) (t : Subscribed)
     → s.taken ≤ length (whole b s) → t.taken ≡ s.taken → Keeps b s d t → Reads b s d t []
 reads-nothing b s d t within taken k = record {
   keeps = k;
@@ -305,21 +310,22 @@ reads-nothing b s d t within taken k = record {
 }
 
 -- no more is taken than the whole list has
-pub taken_within : (b : Book) (s : Sub) → IsFair b s → s.taken ≤ length (whole b s)
+pub taken_within : (b : Book) (s : Subscribed) → IsFair b s → s.taken ≤ length (whole b s)
 taken_within b s h = omega (arith, h.taken, h.put)
 
 -- nothing that happens reads nothing
-pub reads-self : (b : Book) (s : Sub) → IsFair b s → Reads b s b s []
+pub reads-self : (b : Book) (s : Subscribed) → IsFair b s → Reads b s b s []
 reads-self b s h = reads-nothing b s b s (taken_within b s h) refl (keeps-self b s h)
 
 -- an event that reads nothing and keeps what was told leaves the reads
-leaves : (b : Book) (s : Sub) (t : Sub) → IsFair b s → t.taken ≡ s.taken → Keeps b s b t
+leaves : (b : Book) (s : Subscribed) (t : Subscribed) → IsFair b s → t.taken ≡ s.taken
+    → Keeps b s b t
     → Leaves b s [] (Some t)
 leaves b s t h taken k =
     record { sub = t; is = refl; does = reads-nothing b s b t (taken_within b s h) taken k }
 
 -- a put leaves the reads of a fair subscription
-pub putting-leaves : (b : Book) (s : Sub) → IsFair b s → Leaves b s [] (putting b s).1
+pub putting-leaves : (b : Book) (s : Subscribed) → IsFair b s → Leaves b s [] (putting b s).1
 putting-leaves b s h = by (can_put b s) refl
   where
     by : (x : Bool) → can_put b s ≡ x → Leaves b s [] (putting_if s x).1
@@ -349,7 +355,7 @@ putting-leaves b s h = by (can_put b s) refl
     by false is = leaves b s s h refl (keeps-self b s h)
 
 -- a hang-up leaves the reads of a fair subscription
-pub hanging_up-leaves : (b : Book) (s : Sub) → IsFair b s → Leaves b s [] (hanging_up s).1
+pub hanging_up-leaves : (b : Book) (s : Subscribed) → IsFair b s → Leaves b s [] (hanging_up s).1
 hanging_up-leaves b s h = leaves b s (with_hang_up_asked s) h refl
     (keeps-same b s (with_hang_up_asked s)
     (record { query = refl; moved = refl; opened = refl }) refl refl (record {
@@ -366,7 +372,7 @@ hanging_up-leaves b s h = leaves b s (with_hang_up_asked s) h refl
     }))
 
 -- noticing a hang-up leaves the reads of a fair subscription
-pub noticing-leaves : (b : Book) (s : Sub) → IsFair b s → Leaves b s [] (noticing b s).1
+pub noticing-leaves : (b : Book) (s : Subscribed) → IsFair b s → Leaves b s [] (noticing b s).1
 noticing-leaves b s h = by (is_live s && s.hang_up_asked) refl
   where
     by : (x : Bool) → (is_live s && s.hang_up_asked) ≡ x → Leaves b s [] (noticing_if b s x).1
@@ -375,7 +381,7 @@ noticing-leaves b s h = by (is_live s && s.hang_up_asked) refl
     by false is = leaves b s s h refl (keeps-self b s h)
 
 -- a close leaves the reads of a fair subscription
-pub closing-leaves : (b : Book) (s : Sub) → IsFair b s → Leaves b s [] (closing b s).1
+pub closing-leaves : (b : Book) (s : Subscribed) → IsFair b s → Leaves b s [] (closing b s).1
 closing-leaves b s h = by (is_live s) refl
   where
     by : (x : Bool) → is_live s ≡ x → Leaves b s [] (closing_if b s x).1
@@ -402,7 +408,7 @@ in_port true o p is = (refl, is)
 in_port false o p is = absurd (let no : ⊥ = cc in no)
 
 -- a read gives the reads of a fair subscription its answer
-pub reading-leaves : (b : Book) (s : Sub) → IsFair b s
+pub reading-leaves : (b : Book) (s : Subscribed) → IsFair b s
     → Leaves b s ((reading b s).0 ∷ []) (reading b s).1
 reading-leaves b s h = by (first_in_port b s) refl
   where

@@ -17,7 +17,7 @@ use Rattle.lq_world.specs.declared.event.Event.{Event}
 use Rattle.lq_world.specs.declared.event.Event.TheVariants.{Change, Open, At}
 use Rattle.lq_world.specs.declared.event.Act.{Act}
 use Rattle.lq_world.specs.declared.event.Act.TheVariants as act
-use Rattle.lq_world.specs.World.{World, Sub, with_end, with_hang_up_asked, one_more_put, one_more_taken, can_put, first_in_port, is_live, is_over, after_change, slot_at, taken_before_free, with_slot}
+use Rattle.lq_world.specs.World.{World, Subscribed, with_end, with_hang_up_asked, one_more_put, one_more_taken, can_put, first_in_port, is_live, is_over, after_change, slot_at, taken_before_free, with_slot}
 
 -- what an event may be answered
 pub data Answer : Type 0 where
@@ -51,7 +51,7 @@ changing w c None = (
 
 -- ---- an opening
 
-abbrev pub opened_now : World → Query → ℕ → ℕ → Bool → Sub
+abbrev pub opened_now : World → Query → ℕ → ℕ → Bool → Subscribed
 opened_now w q port backlog moved = record {
   query = q;
   moved = moved;
@@ -85,11 +85,11 @@ open_refusal w port backlog =
     (state_of w.book).limit port backlog)
 
 -- with a subscription in the lowest free slot
-abbrev pub with_sub : World → Sub → World
+abbrev pub with_sub : World → Subscribed → World
 with_sub w s =
     with_slot (record w { openings = w.openings + 1 }) (taken_before_free w.slots) (Some s)
 
-abbrev pub opening : World → Sub → Option Refusal → Answer × World
+abbrev pub opening : World → Subscribed → Option Refusal → Answer × World
 opening w s (Some e) = (Refused e, w)
 opening w s None = (
   Opened (taken_before_free w.slots + 1) (number_of w.book) (result_of s.query (state_of w.book)),
@@ -100,51 +100,51 @@ opening w s None = (
 -- the answer and what is in the slot then
 
 -- the next parcel moves into the port
-abbrev pub putting_if : Sub → Bool → Answer × Option Sub
+abbrev pub putting_if : Subscribed → Bool → Answer × Option Subscribed
 putting_if s true = (Moved true, Some (one_more_put s))
 putting_if s false = (Moved false, Some s)
 
-abbrev pub putting : Book → Sub → Answer × Option Sub
+abbrev pub putting : Book → Subscribed → Answer × Option Subscribed
 putting b s = putting_if s (can_put b s)
 
 -- the first parcel in the port is read
-abbrev pub reading_if : Book → Sub → Option Parcel → Answer × Option Sub
+abbrev pub reading_if : Book → Subscribed → Option Parcel → Answer × Option Subscribed
 reading_if b s (Some p) = (Read p, Some (one_more_taken s))
 reading_if b s None = (if is_over b s then Ended else Empty, Some s)
 
-abbrev pub reading : Book → Sub → Answer × Option Sub
+abbrev pub reading : Book → Subscribed → Answer × Option Subscribed
 reading b s = reading_if b s (first_in_port b s)
 
 -- its end is asked for
-abbrev pub hanging_up : Sub → Answer × Option Sub
+abbrev pub hanging_up : Subscribed → Answer × Option Subscribed
 hanging_up s = (Asked, Some (with_hang_up_asked s))
 
 -- it ends where that was asked for
-abbrev pub noticing_if : Book → Sub → Bool → Answer × Option Sub
+abbrev pub noticing_if : Book → Subscribed → Bool → Answer × Option Subscribed
 noticing_if b s true = (Noticed true, Some (with_end s HungUp (number_of b)))
 noticing_if b s false = (Noticed false, Some s)
 
-abbrev pub noticing : Book → Sub → Answer × Option Sub
+abbrev pub noticing : Book → Subscribed → Answer × Option Subscribed
 noticing b s = noticing_if b s (is_live s && s.hang_up_asked)
 
 -- it ends, unless it has
-abbrev pub closing_if : Book → Sub → Bool → Answer × Option Sub
+abbrev pub closing_if : Book → Subscribed → Bool → Answer × Option Subscribed
 closing_if b s true = (Shut (number_of b), Some (with_end s Closed (number_of b)))
 closing_if b s false = (Refused NotOpen, Some s)
 
-abbrev pub closing : Book → Sub → Answer × Option Sub
+abbrev pub closing : Book → Subscribed → Answer × Option Subscribed
 closing b s = closing_if b s (is_live s)
 
 -- its slot is free, where its mark was read
-abbrev pub finishing_if : Sub → Bool → Answer × Option Sub
+abbrev pub finishing_if : Subscribed → Bool → Answer × Option Subscribed
 finishing_if s true = (Finished, None)
 finishing_if s false = (Refused StillOpen, Some s)
 
-abbrev pub finishing : Book → Sub → Answer × Option Sub
+abbrev pub finishing : Book → Subscribed → Answer × Option Subscribed
 finishing b s = finishing_if s (is_over b s)
 
 -- what an act does at a taken slot
-abbrev pub acting : Book → Act → Sub → Answer × Option Sub
+abbrev pub acting : Book → Act → Subscribed → Answer × Option Subscribed
 acting b act.Put = putting b
 acting b act.Read = reading b
 acting b act.HangUp = hanging_up
@@ -153,7 +153,8 @@ acting b act.Close = closing b
 acting b act.Finish = finishing b
 
 -- such an act at a slot, where that is taken
-abbrev pub at_slot : World → ℕ → Option Sub → (Sub → Answer × Option Sub) → Answer × World
+abbrev pub at_slot : World → ℕ → Option Subscribed → (Subscribed → Answer × Option Subscribed)
+    → Answer × World
 at_slot w slot None does = (Refused NotOpen, w)
 at_slot w slot (Some s) does = ((does s).0, with_slot w (slot - 1) (does s).1)
 

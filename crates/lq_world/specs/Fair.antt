@@ -2,9 +2,9 @@
 use Rattle.std.specs.Prelude.{◌≡◌, ◌+◌, ◌≤◌, length, true, Option, Some, None}
 use Rattle.std.specs.List.{AllByRecursion}
 use Rattle.lq_volume.specs.Book.{Book, number_of}
-use Rattle.lq_world.specs.World.{World, Sub, covered, whole, held, is_live}
+use Rattle.lq_world.specs.World.{World, Subscribed, covered, whole, held, is_live}
 
-pub record IsFair (b : Book) (s : Sub) : Type 0 where
+pub record IsFair (b : Book) (s : Subscribed) : Type 0 where
   -- the book's start, its opening, the last change that it
   -- covers, and the book's last change stand in this order
   pub begun : b.start.number ≤ s.opened
@@ -21,7 +21,7 @@ pub record IsFair (b : Book) (s : Sub) : Type 0 where
   -- while it is live, no more than its backlog is held
   pub held : is_live s ≡ true → held b s ≤ s.backlog
 
-abbrev pub IsFairSlot : Book → Option Sub → Type 0
+abbrev pub IsFairSlot : Book → Option Subscribed → Type 0
 IsFairSlot b None = Unit {0}
 IsFairSlot b (Some s) = IsFair b s
 

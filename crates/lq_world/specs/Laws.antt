@@ -3,7 +3,7 @@ use Rattle.std.specs.Prelude.{◌≡◌, ℕ, List, ◌++◌, take, true}
 use Rattle.lq_value.specs.declared.refusal.Refusal.{Refusal}
 use Rattle.lq_volume.specs.declared.change.Change.{Change as Change_}
 use Rattle.lq_volume.specs.Book.{Book, state_of}
-use Rattle.lq_world.specs.World.{World, Sub, first_world, whole, in_port, to_come}
+use Rattle.lq_world.specs.World.{World, Subscribed, first_world, whole, in_port, to_come}
 use Rattle.lq_world.specs.declared.event.Event.{Event}
 use Rattle.lq_world.specs.declared.event.Event.TheVariants.{Change, At}
 use Rattle.lq_world.specs.declared.event.Act.TheVariants as act
@@ -30,7 +30,7 @@ RefusalsLeaveWorlds =
 -- what was taken, then what is in the port, then what is
 -- held, then a mark not yet put, is the whole list
 abbrev pub ListsArePassedOn : Type 0
-ListsArePassedOn = (b : Book) (s : Sub) → IsFair b s
+ListsArePassedOn = (b : Book) (s : Subscribed) → IsFair b s
     → take s.taken (whole b s) ++ (in_port b s ++ to_come b s) ≡ whole b s
 
 -- nothing moves into the port of a slot

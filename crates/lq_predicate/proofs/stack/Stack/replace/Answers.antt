@@ -1,5 +1,5 @@
 use Rattle.std.proofs.Common.{◌≡◌, ◌∷◌, ◌++◌, [], ◌-◌, take, length, rules}
-use Rattle.lq_predicate.specs.declared.item.Item.TheVariants.{Part}
+use Rattle.lq_predicate.specs.declared.stack_item.StackItem.TheVariants.{Part}
 use Rattle.lq_predicate.proofs.StackLemmas.{replaced_view}
 use Rattle.lq_predicate.proofs.stack.Stack.replace.Goals as goal
 

@@ -5,7 +5,7 @@ use lq_value::AttrName;
 
 /// An item of a stack: an attribute, a value's text, or a predicate.
 #[derive(Drop)]
-pub enum Item {
+pub enum StackItem {
     Attr(AttrName),
     Value(Operand),
     Part(Predicate),

@@ -1,6 +1,6 @@
 use Rattle.std.proofs.Common.{subst, get_or, pred, ◌<◌, length, ap, arith}
 use Rattle.lq_formula.proofs.CutLemmas.{boundary_behind}
-use Rattle.lq_formula.proofs.piece.first_piece.Goals as goal
+use Rattle.lq_formula.proofs.piece.read_piece.Goals as goal
 
 pub returns-in-Some-clause-boundary : goal.returns-in-Some-clause-boundary
 returns-in-Some-clause-boundary c =
