@@ -1,5 +1,5 @@
 //! What no clause says: calls with memory succeed.
-ghost use Rattle.std.specs.Prelude.{◌≡◌, ◌≤◌, ◌*◌, IfOk, OnOk, IsTrue};
+ghost use Rattle.std.specs.Prelude.{◌≡◌, ◌<◌, ◌≤◌, ◌*◌, ◌^◌, IfOk, OnOk, IsTrue};
 ghost use Rattle.lq_desk.specs.Held.{is_live};
 
 use lq_desk::Sub;
@@ -18,27 +18,56 @@ fn opened(alloc: Global) -> Result<Sub, Refusal>
     Ok(Sub::new(alloc, &predicate, 0, 2, false)?)
 }
 
-// Makes a file in the root, and tells the subscription.
-fn tell(alloc: Global, sub: &mut Sub, volume: &mut Volume, name: &str) -> Result<(), Refusal>
+// Makes a change of a volume, and tells the subscription.
+fn tell(sub: &mut Sub, volume: &mut Volume, change: &Change) -> Result<(), Refusal>
     requires few { sub.old.held.sent ≤ 3 * volume.old.number }
     requires live { IsTrue (is_live sub.old.held) }
     ensures { OnOk result (sub.new.held.sent ≤ 3 * volume.new.number) }
 {
     steps_are_few();
     changes_are_counted();
-    let change = Change::Create {
+    let _ = volume.changes();
+    volume.check(change)?;
+    sub.ready(volume, change)?;
+    let _ = volume.make(change)?;
+    sub.commit();
+    Ok(())
+}
+
+fn file(alloc: Global, name: &str) -> Result<Change, Refusal> {
+    Ok(Change::Create {
         dir: 1,
         name: Name::read(alloc, name)?,
         kind: Kind::File,
         size: 0,
         time: 0,
-    };
+    })
+}
+
+// Makes a file in the root, and tells the subscription.
+fn tell_file(alloc: Global, sub: &mut Sub, volume: &mut Volume, name: &str) -> Result<(), Refusal>
+    requires few { sub.old.held.sent ≤ 3 * volume.old.number }
+    requires live { IsTrue (is_live sub.old.held) }
+    ensures { OnOk result (sub.new.held.sent ≤ 3 * volume.new.number) }
+{
+    let change = file(alloc, name)?;
+    tell(sub, volume, &change)
+}
+
+// Makes two files; whether the subscription is live then.
+fn tell_two(alloc: Global, sub: &mut Sub, volume: &mut Volume) -> Result<bool, Refusal>
+    requires { (sub.old.held.sent ≡ 0) × IsTrue (is_live sub.old.held) }
+    ensures few { OnOk result (sub.new.held.sent < 2 ^ 63) }
+    ensures live { IfOk result (λ live. live ≡ is_live sub.new.held) }
+{
+    tell_file(alloc, sub, volume, "a")?;
     let _ = volume.changes();
-    volume.check(&change)?;
-    sub.ready(volume, &change)?;
-    let _ = volume.make(&change)?;
-    sub.commit();
-    Ok(())
+    if !sub.is_live() {
+        return Ok(false);
+    }
+    tell_file(alloc, sub, volume, "b")?;
+    let _ = volume.changes();
+    Ok(sub.is_live())
 }
 
 // The number of a message or a mark, and 0 of nothing.
@@ -50,39 +79,40 @@ fn seq_of(parcel: &Option<Parcel>) -> u64 {
     }
 }
 
-#[test]
-fn scenario_subscription_queue(rt: HostRuntime) -> Result<(), Fail> {
-    let alloc = rt.alloc();
-    let mut volume = Volume::new(alloc, 10);
-    let mut sub = opened(alloc)?;
-    tell(alloc, &mut sub, &mut volume, "a")?;
-    assert!(rt; sub.is_live());
-    tell(alloc, &mut sub, &mut volume, "b")?;
-    assert!(rt; sub.is_live());
+// The number of what comes next, which is put back.
+fn peek(sub: &mut Sub) -> u64 {
     let first = sub.next();
-    assert_eq!(rt; seq_of(&first), 1);
+    let seq = seq_of(&first);
     if let Some(parcel) = first {
         sub.put_back(parcel);
     }
-    for seq in [1, 2, 0] {
-        assert_eq!(rt; seq_of(&sub.next()), seq);
-    }
+    seq
+}
+
+// The numbers of the next four.
+fn four(sub: &mut Sub) -> [u64; 4] {
+    let first = seq_of(&sub.next());
+    let second = seq_of(&sub.next());
+    let third = seq_of(&sub.next());
+    [first, second, third, seq_of(&sub.next())]
+}
+
+#[test]
+fn scenario_subscription_queue(rt: HostRuntime) -> Result<(), Fail> {
+    let mut volume = Volume::new(rt.alloc(), 10);
+    let mut sub = opened(rt.alloc())?;
+    assert!(rt; tell_two(rt.alloc(), &mut sub, &mut volume)?);
+    assert_eq!(rt; peek(&mut sub), 1);
+    assert_eq!(rt; four(&mut sub), [1, 2, 0, 0]);
     Ok(())
 }
 
 #[test]
 fn scenario_subscription_queue_at_its_end(rt: HostRuntime) -> Result<(), Fail> {
-    let alloc = rt.alloc();
-    let mut volume = Volume::new(alloc, 10);
-    let mut sub = opened(alloc)?;
-    tell(alloc, &mut sub, &mut volume, "a")?;
-    assert!(rt; sub.is_live());
-    tell(alloc, &mut sub, &mut volume, "b")?;
-    assert!(rt; sub.is_live());
-    let _ = volume.changes();
+    let mut volume = Volume::new(rt.alloc(), 10);
+    let mut sub = opened(rt.alloc())?;
+    assert!(rt; tell_two(rt.alloc(), &mut sub, &mut volume)?);
     sub.finish_with(Cause::Closed, 2);
-    for seq in [1, 2, 3, 0] {
-        assert_eq!(rt; seq_of(&sub.next()), seq);
-    }
+    assert_eq!(rt; four(&mut sub), [1, 2, 3, 0]);
     Ok(())
 }

@@ -17,19 +17,34 @@ fn message(alloc: Global, seq: u64, change: u64, op: Opcode) -> Result<Message, 
     })
 }
 
+// What a rebuilt result answers to a message.
+fn fold(
+    alloc: Global,
+    rebuild: &mut Rebuild,
+    seq: u64,
+    change: u64,
+    op: Opcode,
+    last: bool,
+) -> Result<(), Refusal> {
+    let mut message = message(alloc, seq, change, op)?;
+    message.last = last;
+    rebuild.apply(&message)
+}
+
 #[test]
 fn scenario_fold_refusals(rt: HostRuntime) -> Result<(), Fail> {
-    let mut rebuild = Rebuild::new(rt.alloc(), 0, Vec::new(rt.alloc()));
-    let ahead = message(rt.alloc(), 2, 1, Opcode::Removed)?;
-    assert_eq!(rt; rebuild.apply(&ahead), Err(Refusal::OutOfStep));
-    let absent = message(rt.alloc(), 1, 1, Opcode::Removed)?;
-    assert_eq!(rt; rebuild.apply(&absent), Err(Refusal::Mismatch));
-    let mut created = message(rt.alloc(), 1, 1, Opcode::Created)?;
-    created.last = false;
-    assert_eq!(rt; rebuild.apply(&created), Ok(()));
-    assert_eq!(rt; rebuild.is_settled(), false);
-    let late = message(rt.alloc(), 2, 2, Opcode::Removed)?;
-    assert_eq!(rt; rebuild.apply(&late), Err(Refusal::OutOfStep));
+    let alloc = rt.alloc();
+    let mut rebuild = Rebuild::new(alloc, 0, Vec::new(alloc));
+    let ahead = fold(alloc, &mut rebuild, 2, 1, Opcode::Removed, true);
+    let absent = fold(alloc, &mut rebuild, 1, 1, Opcode::Removed, true);
+    let created = fold(alloc, &mut rebuild, 1, 1, Opcode::Created, false);
+    let is_settled = rebuild.is_settled();
+    let late = fold(alloc, &mut rebuild, 2, 2, Opcode::Removed, true);
+    assert_eq!(rt; ahead, Err(Refusal::OutOfStep));
+    assert_eq!(rt; absent, Err(Refusal::Mismatch));
+    assert_eq!(rt; created, Ok(()));
+    assert_eq!(rt; is_settled, false);
+    assert_eq!(rt; late, Err(Refusal::OutOfStep));
     Ok(())
 }
 

@@ -2,7 +2,7 @@
 use crate::held::{ReaderOf, SeatOf};
 use lq_desk::Read;
 use lq_predicate::read;
-use lq_server::{Named, Server, Synced};
+use lq_server::{Found, Named, Retired, Server, Synced};
 use lq_update::{Cause, Mark};
 use lq_value::{AttrName, Entry, Kind, Name, Refusal, Value};
 use lq_volume::Change;
@@ -13,7 +13,7 @@ use std::sync::Wait;
 pub type Row = (&'static str, u64);
 
 /// One call. A change is of an entry in the root, and its attribute is `x`.
-#[derive(Clone, Copy, Debug)]
+#[derive(Clone, Copy)]
 pub enum Act {
     Create(&'static str),
     Remove(u64),
@@ -98,6 +98,12 @@ impl<N: Named> Party<N> {
         Ok(Party { seat, reader: None })
     }
 
+    /// Retires the server by the seat, and drops the reader.
+    pub fn retire<R: Wait>(self, rt: &R, server: Server<N>) -> Retired {
+        let Party { seat, reader: _ } = self;
+        seat.retire(rt, server)
+    }
+
     /// Gives the calls of a table one after another, up to one that isn't answered as is wanted.
     pub fn play<R: Wait>(
         &mut self,
@@ -136,14 +142,26 @@ impl<N: Named> Party<N> {
     fn tell_once<R: Wait>(&mut self, rt: &R, alloc: Global, server: &Server<N>, act: Act) -> Told {
         let told = match act {
             Act::Open(query, port, backlog) => {
-                self.open(rt, alloc, server, query, port, backlog, false)
+                let asked = Asked {
+                    query,
+                    port,
+                    backlog,
+                    moved: false,
+                };
+                self.open(rt, alloc, server, &asked)
             }
             Act::OpenMoved(query, port, backlog) => {
-                self.open(rt, alloc, server, query, port, backlog, true)
+                let asked = Asked {
+                    query,
+                    port,
+                    backlog,
+                    moved: true,
+                };
+                self.open(rt, alloc, server, &asked)
             }
-            Act::Fetch(query, rows) => self.fetch(rt, alloc, server, query, rows),
-            Act::Find(name) => self.find(rt, alloc, server, name),
-            Act::Listing(node, name) => self.listing(rt, server, node, name),
+            Act::Fetch(query, rows) => fetch(rt, alloc, server, &mut self.seat, query, rows),
+            Act::Find(name) => find(rt, alloc, server, &mut self.seat, name),
+            Act::Listing(node, name) => listing(rt, server, &mut self.seat, node, name),
             Act::Latest => Ok(Told::Number(self.seat.latest(server))),
             Act::Finish => Ok(self.finish(rt, server)),
             Act::Create(_)
@@ -151,7 +169,7 @@ impl<N: Named> Party<N> {
             | Act::Move(_, _)
             | Act::Write(_, _)
             | Act::SetAttr(_, _)
-            | Act::RemoveAttr(_) => self.apply(rt, alloc, server, act),
+            | Act::RemoveAttr(_) => apply(rt, alloc, server, &mut self.seat, act),
             _ => match &mut self.reader {
                 Some(reader) => tell_reader(rt, server, reader, &mut self.seat, act),
                 None => Ok(Told::NoReader),
@@ -160,71 +178,17 @@ impl<N: Named> Party<N> {
         told.unwrap_or_else(Told::Refused)
     }
 
-    fn apply<R: Wait>(
-        &mut self,
-        rt: &R,
-        alloc: Global,
-        server: &Server<N>,
-        act: Act,
-    ) -> Result<Told, Refusal> {
-        let change = change(alloc, act)?;
-        let accepted = self.seat.apply(rt, server, &change)?;
-        Ok(Told::Changed(accepted.change, accepted.node))
-    }
-
     fn open<R: Wait>(
         &mut self,
         rt: &R,
         alloc: Global,
         server: &Server<N>,
-        query: &str,
-        port: u64,
-        backlog: u64,
-        moved: bool,
+        asked: &Asked<'_>,
     ) -> Result<Told, Refusal> {
-        let predicate = read(alloc, query)?;
-        let reader = self
-            .seat
-            .open(rt, server, &predicate, port, backlog, moved)?;
+        let reader = open(rt, alloc, server, &mut self.seat, asked)?;
         let slot = reader.slot();
         self.reader = Some(reader);
         Ok(Told::Number(slot))
-    }
-
-    fn fetch<R: Wait>(
-        &mut self,
-        rt: &R,
-        alloc: Global,
-        server: &Server<N>,
-        query: &str,
-        rows: &[Row],
-    ) -> Result<Told, Refusal> {
-        let predicate = read(alloc, query)?;
-        let found = self.seat.fetch(rt, server, &predicate)?;
-        Ok(Told::Found(found.at, are_entries(&found.entries, rows)))
-    }
-
-    fn find<R: Wait>(
-        &mut self,
-        rt: &R,
-        alloc: Global,
-        server: &Server<N>,
-        name: &str,
-    ) -> Result<Told, Refusal> {
-        let name = Name::read(alloc, name)?;
-        let node = self.seat.find(rt, server, 1, &name)?;
-        Ok(Told::Number(node))
-    }
-
-    fn listing<R: Wait>(
-        &mut self,
-        rt: &R,
-        server: &Server<N>,
-        node: u64,
-        name: &str,
-    ) -> Result<Told, Refusal> {
-        let listing = self.seat.listing(rt, server, node)?;
-        Ok(Told::Is(listing.dir == 1 && listing.name.as_str() == name))
     }
 
     fn finish<R: Wait>(&mut self, rt: &R, server: &Server<N>) -> Told {
@@ -239,6 +203,92 @@ impl<N: Named> Party<N> {
             }
         }
     }
+}
+
+/// What an opening asks for.
+#[derive(Clone, Copy)]
+pub struct Asked<'a> {
+    pub query: &'a str,
+    pub port: u64,
+    pub backlog: u64,
+    pub moved: bool,
+}
+
+/// Opens a query that is read from its text.
+pub fn open<N: Named, R: Wait>(
+    rt: &R,
+    alloc: Global,
+    server: &Server<N>,
+    seat: &mut SeatOf<N>,
+    asked: &Asked<'_>,
+) -> Result<ReaderOf<N>, Refusal> {
+    let predicate = read(alloc, asked.query)?;
+    seat.open(
+        rt,
+        server,
+        &predicate,
+        asked.port,
+        asked.backlog,
+        asked.moved,
+    )
+}
+
+fn apply<N: Named, R: Wait>(
+    rt: &R,
+    alloc: Global,
+    server: &Server<N>,
+    seat: &mut SeatOf<N>,
+    act: Act,
+) -> Result<Told, Refusal> {
+    let change = change(alloc, act)?;
+    let accepted = seat.apply(rt, server, &change)?;
+    Ok(Told::Changed(accepted.change, accepted.node))
+}
+
+fn find_all<N: Named, R: Wait>(
+    rt: &R,
+    alloc: Global,
+    server: &Server<N>,
+    seat: &mut SeatOf<N>,
+    query: &str,
+) -> Result<Found, Refusal> {
+    let predicate = read(alloc, query)?;
+    seat.fetch(rt, server, &predicate)
+}
+
+fn fetch<N: Named, R: Wait>(
+    rt: &R,
+    alloc: Global,
+    server: &Server<N>,
+    seat: &mut SeatOf<N>,
+    query: &str,
+    rows: &[Row],
+) -> Result<Told, Refusal> {
+    let found = find_all(rt, alloc, server, seat, query)?;
+    Ok(Told::Found(found.at, are_entries(&found.entries, rows)))
+}
+
+fn find<N: Named, R: Wait>(
+    rt: &R,
+    alloc: Global,
+    server: &Server<N>,
+    seat: &mut SeatOf<N>,
+    name: &str,
+) -> Result<Told, Refusal> {
+    let name = Name::read(alloc, name)?;
+    let node = seat.find(rt, server, 1, &name)?;
+    Ok(Told::Number(node))
+}
+
+fn listing<N: Named, R: Wait>(
+    rt: &R,
+    server: &Server<N>,
+    seat: &mut SeatOf<N>,
+    node: u64,
+    name: &str,
+) -> Result<Told, Refusal> {
+    let listing = seat.listing(rt, server, node)?;
+    Ok(Told::Is(listing.dir == 1 && listing.name.as_str() == name))
 }
 
 fn tell_reader<N: Named, R: Wait>(

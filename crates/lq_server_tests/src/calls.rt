@@ -1,9 +1,9 @@
 //! Each call of a server and of a reader, and why an opening or a seat is refused.
 ghost use Rattle.std.specs.Prelude.{◌≡◌};
 
-use crate::acts::{Act, Party, Told, Tries};
+use crate::acts::{Act, Asked, Party, Told, Tries, open};
 use crate::held::SeatOf;
-use crate::stage::{Stop, base, play};
+use crate::stage::{Stop, base, party, play};
 use lq_server::{Base, Named, Server};
 use lq_update::Cause;
 use lq_value::Refusal;
@@ -86,21 +86,30 @@ fn fill<N: Named, R: Wait>(rt: &R, alloc: Global, base: Base) -> Result<(), Stop
     requires { base ≡ N.board }
 {
     let server: Server<N> = Server::new(base);
-    let mut party = Party::new(rt, &server).map_err(Stop::Refused)?;
+    let mut party = party(rt, &server)?;
+    fill_by(rt, alloc, &server, &mut party)
+}
+
+fn fill_by<N: Named, R: Wait>(
+    rt: &R,
+    alloc: Global,
+    server: &Server<N>,
+    party: &mut Party<N>,
+) -> Result<(), Stop> {
     party
-        .play(rt, alloc, &server, Tries::One, &NUMBERS)
+        .play(rt, alloc, server, Tries::One, &NUMBERS)
         .map_err(Stop::Before)?;
     for slot in 1..=64 {
         let opening = [(Act::Open("size>0", 1024, 65536), Told::Number(slot))];
         party
-            .play(rt, alloc, &server, Tries::One, &opening)
+            .play(rt, alloc, server, Tries::One, &opening)
             .map_err(Stop::First)?;
     }
     party
-        .play(rt, alloc, &server, Tries::One, &FULL)
+        .play(rt, alloc, server, Tries::One, &FULL)
         .map_err(Stop::Second)?;
     party
-        .play(rt, alloc, &server, Tries::One, &NUMBERS)
+        .play(rt, alloc, server, Tries::One, &NUMBERS)
         .map_err(Stop::After)
 }
 
@@ -111,11 +120,11 @@ fn openings_are_refused_in_order(rt: HostRuntime) -> Result<(), Fail> {
     Ok(())
 }
 
-/// Whether a call of `seat` gave one: the first 16, the next, one after a seat was given back, and
-/// one after that was dropped.
+/// How many seats there were beside two, and whether a call of `seat` gave one: the next, one after
+/// a seat was given back, and one after that was dropped.
 #[derive(Debug, PartialEq, Eq, Drop)]
 struct Seated {
-    first: usize,
+    others: usize,
     next: Option<Refusal>,
     given_back: bool,
     dropped: Option<Refusal>,
@@ -125,23 +134,66 @@ fn seats<N: Named, R: Wait>(rt: &R, alloc: Global, base: Base) -> Result<Seated,
     requires { base ≡ N.board }
 {
     let server: Server<N> = Server::new(base);
-    let mut seats: Vec<SeatOf<N>> = Vec::new(alloc);
-    for _ in 0..16 {
-        seats.push(SeatOf::new(rt, &server)?)?;
-    }
-    let first = seats.len();
+    let mut one = SeatOf::new(rt, &server)?;
+    use_seats(rt, alloc, &server, &mut one)?;
+    let others = take_seats(rt, alloc, &server)?;
     let next = SeatOf::new(rt, &server).err();
-    if let Some(seat) = seats.pop() {
-        seat.give_back(rt, &server);
-    }
+    one.give_back(rt, &server);
     let given_back = SeatOf::new(rt, &server).is_ok();
     let dropped = SeatOf::new(rt, &server).err();
     Ok(Seated {
-        first,
+        others,
         next,
         given_back,
         dropped,
     })
+}
+
+/// Takes seats until none is left, and drops them; how many there were.
+fn take_seats<N: Named, R: Wait>(
+    rt: &R,
+    alloc: Global,
+    server: &Server<N>,
+) -> Result<usize, Refusal> {
+    let mut seats: Vec<SeatOf<N>> = Vec::new(alloc);
+    for _ in 0..100 {
+        let Ok(seat) = SeatOf::new(rt, server) else {
+            break;
+        };
+        seats.push(seat)?;
+    }
+    Ok(seats.len())
+}
+
+/// Calls that hold the lock and give no seat back. It takes a seat, and drops it.
+fn use_seats<N: Named, R: Wait>(
+    rt: &R,
+    alloc: Global,
+    server: &Server<N>,
+    one: &mut SeatOf<N>,
+) -> Result<(), Refusal> {
+    let mut two = SeatOf::new(rt, server)?;
+    one.meet(rt, server, &mut two);
+    read_beside(rt, alloc, server, one, &mut two)
+}
+
+fn read_beside<N: Named, R: Wait>(
+    rt: &R,
+    alloc: Global,
+    server: &Server<N>,
+    one: &mut SeatOf<N>,
+    two: &mut SeatOf<N>,
+) -> Result<(), Refusal> {
+    let asked = Asked {
+        query: "size>0",
+        port: 1,
+        backlog: 1,
+        moved: false,
+    };
+    let mut reader = open(rt, alloc, server, one, &asked)?;
+    reader.sync(rt, server);
+    reader.meet(rt, server, two);
+    Ok(())
 }
 
 #[test]
@@ -149,7 +201,7 @@ fn seats_run_out(rt: HostRuntime) -> Result<(), Fail> {
     let base = base(rt.alloc(), 9)?;
     let seated = seats::<Brand, _>(&rt, rt.alloc(), base)?;
     let wanted = Seated {
-        first: 16,
+        others: 14,
         next: Some(Refusal::NoSeat),
         given_back: true,
         dropped: Some(Refusal::NoSeat),

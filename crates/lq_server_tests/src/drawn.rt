@@ -2,15 +2,15 @@
 //! closes. What each reader was told is compared afterwards (`reference`).
 ghost use Rattle.std.specs.Prelude.{◌≡◌};
 
+use crate::acts::{Asked, open};
 use crate::draws::Draws;
 use crate::held::{ReaderOf, SeatOf};
-use crate::reference::{LIMIT, Log, Taken, copy_of, replayed, results};
-use crate::stage::base;
+use crate::reference::{Heard, LIMIT, Log, Taken, copy_of, replayed, results};
+use crate::stage::{base, both};
 use lq_desk::Read;
-use lq_predicate::read;
 use lq_server::{Base, Named, Retired, Server};
 use lq_update::{Mark, Message};
-use lq_value::{Entry, Refusal};
+use lq_value::Refusal;
 use lq_volume::Volume;
 use std::alloc::Global;
 use std::marker::Brand;
@@ -42,15 +42,6 @@ struct Done {
     retired: Retired,
 }
 
-/// What a reader was told up to its end, the result then, and whether it could be finished.
-#[derive(Drop)]
-struct Heard {
-    messages: Vec<Message>,
-    mark: Option<Mark>,
-    ended: Vec<Entry>,
-    finished: bool,
-}
-
 /// Applies drawn changes; those that were accepted.
 fn apply_drawn<N: Named, R: Wait>(
     rt: &R,
@@ -65,17 +56,29 @@ fn apply_drawn<N: Named, R: Wait>(
     };
     let mut taken = Vec::new(alloc);
     for _ in 0..CHANGES {
-        let change = draws.change(alloc)?;
-        match seat.apply(rt, server, &change) {
-            Ok(accepted) => {
-                draws.newest = draws.newest.max(accepted.node);
-                taken.push(Taken { accepted, change })?;
-            }
-            Err(Refusal::NoMemory) => return Err(Refusal::NoMemory),
-            Err(_) => {}
-        }
+        apply_next(rt, alloc, server, seat, &mut draws, &mut taken)?;
     }
     Ok(taken)
+}
+
+/// Applies the next change, and keeps it where it was accepted.
+fn apply_next<N: Named, R: Wait>(
+    rt: &R,
+    alloc: Global,
+    server: &Server<N>,
+    seat: &mut SeatOf<N>,
+    draws: &mut Draws,
+    taken: &mut Vec<Taken>,
+) -> Result<(), Refusal> {
+    let change = draws.change(alloc)?;
+    match seat.apply(rt, server, &change) {
+        Ok(accepted) => {
+            draws.newest = draws.newest.max(accepted.node);
+            Ok(taken.push(Taken { accepted, change })?)
+        }
+        Err(Refusal::NoMemory) => Err(Refusal::NoMemory),
+        Err(_) => Ok(()),
+    }
 }
 
 /// Opens and ends one subscription after another while changes come.
@@ -108,35 +111,27 @@ fn follow<N: Named, R: Wait>(
     draws: &mut Draws,
 ) -> Result<Log, Refusal> {
     let query = draws.below(3) as usize;
-    let moved = draws.below(2) == 1;
-    let port = draws.below(9) + 1;
-    let backlog = draws.below(20);
-    let text = QUERIES.get(query).copied().unwrap_or("");
-    let predicate = read(alloc, text)?;
+    let asked = Asked {
+        query: QUERIES.get(query).copied().unwrap_or(""),
+        port: draws.below(9) + 1,
+        backlog: draws.below(20),
+        moved: draws.below(2) == 1,
+    };
     let from = seat.latest(server);
-    let reader = seat.open(rt, server, &predicate, port, backlog, moved)?;
+    let reader = open(rt, alloc, server, seat, &asked)?;
     let to = seat.latest(server);
     let begun = copy_of(alloc, reader.result())?;
-    let Heard {
-        messages,
-        mark,
-        ended,
-        finished,
-    } = hear_out(rt, alloc, server, reader, ending, draws)?;
     Ok(Log {
         query,
-        moved,
+        moved: asked.moved,
         from,
         to,
         begun,
-        messages,
-        mark,
-        ended,
-        finished,
+        heard: hear_out(rt, alloc, server, reader, ending, draws)?,
     })
 }
 
-/// Reads some, ends the subscription, and reads the rest.
+/// Hears a reader to its end, and finishes it.
 fn hear_out<N: Named, R: Wait>(
     rt: &R,
     alloc: Global,
@@ -145,8 +140,33 @@ fn hear_out<N: Named, R: Wait>(
     ending: Ending,
     draws: &mut Draws,
 ) -> Result<Heard, Refusal> {
+    let mut heard = hear(rt, alloc, server, &mut reader, ending, draws)?;
+    heard.finished = reader.finish(rt, server).is_ok();
+    Ok(heard)
+}
+
+/// Reads some, ends the subscription, and reads the rest.
+fn hear<N: Named, R: Wait>(
+    rt: &R,
+    alloc: Global,
+    server: &Server<N>,
+    reader: &mut ReaderOf<N>,
+    ending: Ending,
+    draws: &mut Draws,
+) -> Result<Heard, Refusal> {
     let mut messages = Vec::new(alloc);
-    let early = read_some(rt, server, &mut reader, draws, &mut messages)?;
+    let early = read_some(rt, server, reader, draws, &mut messages)?;
+    end(rt, server, reader, ending);
+    let late = read_out(rt, server, reader, &mut messages)?;
+    Ok(Heard {
+        messages,
+        mark: early.or(late),
+        ended: copy_of(alloc, reader.result())?,
+        finished: false,
+    })
+}
+
+fn end<N: Named, R: Wait>(rt: &R, server: &Server<N>, reader: &mut ReaderOf<N>, ending: Ending) {
     match ending {
         Ending::HangUp => reader.hang_up(server),
         // Refused where an overrun ended it before.
@@ -154,14 +174,6 @@ fn hear_out<N: Named, R: Wait>(
             let _ = reader.close(rt, server);
         }
     }
-    let late = read_out(rt, server, &mut reader, &mut messages)?;
-    let ended = copy_of(alloc, reader.result())?;
-    Ok(Heard {
-        messages,
-        mark: early.or(late),
-        ended,
-        finished: reader.finish(rt, server).is_ok(),
-    })
 }
 
 /// Reads a drawn number of times, some of them after a pump; the mark where it came.
@@ -216,11 +228,7 @@ fn apply_both<N: Named + Send + Sync, R: Threads + Wait + Sync>(
         || apply_drawn(rt, alloc, server, one, seed),
         || apply_drawn(rt, alloc, server, two, seed ^ 1),
     );
-    let mut taken = a?;
-    for accepted in b? {
-        taken.push(accepted)?;
-    }
-    Ok(taken)
+    both(a, b)
 }
 
 /// Two threads with readers.
@@ -237,11 +245,7 @@ fn subscribe_both<N: Named + Send + Sync, R: Threads + Wait + Sync>(
         || subscribe_drawn(rt, alloc, server, one, Ending::HangUp, seed ^ 2),
         || subscribe_drawn(rt, alloc, server, two, Ending::Close, seed ^ 3),
     );
-    let mut logs = a?;
-    for log in b? {
-        logs.push(log)?;
-    }
-    Ok(logs)
+    both(a, b)
 }
 
 /// The two and the two, side by side.
@@ -255,19 +259,31 @@ fn all_four<N: Named + Send + Sync, R: Threads + Wait + Sync>(
 {
     let server: Server<N> = Server::new(base);
     let mut a = SeatOf::new(rt, &server)?;
-    let mut b = SeatOf::new(rt, &server)?;
-    let mut c = SeatOf::new(rt, &server)?;
-    let mut d = SeatOf::new(rt, &server)?;
-    let (taken, logs) = join(
-        rt,
-        || apply_both(rt, alloc, &server, &mut a, &mut b, seed),
-        || subscribe_both(rt, alloc, &server, &mut c, &mut d, seed),
-    );
+    let (taken, logs) = beside(rt, alloc, &server, &mut a, seed)?;
     Ok(Done {
-        taken: taken?,
-        logs: logs?,
+        taken,
+        logs,
         retired: a.retire(rt, server),
     })
+}
+
+/// Three more seats, and the four threads at work.
+fn beside<N: Named + Send + Sync, R: Threads + Wait + Sync>(
+    rt: &R,
+    alloc: Global,
+    server: &Server<N>,
+    a: &mut SeatOf<N>,
+    seed: u64,
+) -> Result<(Vec<Taken>, Vec<Log>), Refusal> {
+    let mut b = SeatOf::new(rt, server)?;
+    let mut c = SeatOf::new(rt, server)?;
+    let mut d = SeatOf::new(rt, server)?;
+    let (taken, logs) = join(
+        rt,
+        || apply_both(rt, alloc, server, a, &mut b, seed),
+        || subscribe_both(rt, alloc, server, &mut c, &mut d, seed),
+    );
+    Ok((taken?, logs?))
 }
 
 /// Returns whether the volume that is left is the one after these changes, each answered alike.

@@ -17,7 +17,7 @@ pub struct Taken {
 }
 
 /// One subscription: the place of its query, the numbers of changes known before and after its
-/// opening, the result that it began with, what it was told, and the result that it ended with.
+/// opening, the result that it began with, and what it was told.
 #[derive(Drop)]
 pub struct Log {
     pub query: usize,
@@ -25,6 +25,12 @@ pub struct Log {
     pub from: u64,
     pub to: u64,
     pub begun: Vec<Entry>,
+    pub heard: Heard,
+}
+
+/// What a reader was told up to its end, the result then, and whether it could be finished.
+#[derive(Drop)]
+pub struct Heard {
     pub messages: Vec<Message>,
     pub mark: Option<Mark>,
     pub ended: Vec<Entry>,
@@ -199,12 +205,12 @@ impl Log {
     /// Returns whether the subscription was told what it had to be up to its mark, from an opening
     /// on between those numbers.
     pub fn is_told(&self, alloc: Global, results: &[Vec<Entry>]) -> Result<bool, Refusal> {
-        let Some(mark) = self.mark else {
+        let Some(mark) = self.heard.mark else {
             return Ok(false);
         };
         for opened in self.from..=self.to {
             if self.is_told_from(alloc, results, opened, mark)? {
-                return Ok(self.finished);
+                return Ok(self.heard.finished);
             }
         }
         Ok(false)
@@ -218,7 +224,7 @@ impl Log {
         mark: Mark,
     ) -> Result<bool, Refusal> {
         if !is_result(results, opened, &self.begun)
-            || !is_result(results, mark.change, &self.ended)
+            || !is_result(results, mark.change, &self.heard.ended)
         {
             return Ok(false);
         }
@@ -229,7 +235,7 @@ impl Log {
             };
             told = count;
         }
-        Ok(self.messages.len() == told && mark.seq == (told as u64).saturating_add(1))
+        Ok(self.heard.messages.len() == told && mark.seq == (told as u64).saturating_add(1))
     }
 
     /// How many messages there were with the change after this one, where these are those that it
@@ -248,7 +254,7 @@ impl Log {
         let lines = lines(alloc, self.moved, old, new)?;
         let mut count = told;
         for line in &lines {
-            let Some(message) = self.messages.get(count) else {
+            let Some(message) = self.heard.messages.get(count) else {
                 return Ok(None);
             };
             count = count.saturating_add(1);

@@ -40,6 +40,23 @@ pub fn base(alloc: Global, limit: u64) -> Result<Base, Refusal>
     }
 }
 
+/// All that two threads have, of one and then of the other.
+pub fn both<T: Drop>(
+    a: Result<Vec<T>, Refusal>,
+    b: Result<Vec<T>, Refusal>,
+) -> Result<Vec<T>, Refusal> {
+    let mut all = a?;
+    for item in b? {
+        all.push(item)?;
+    }
+    Ok(all)
+}
+
+/// A party with a seat and no reader.
+pub fn party<N: Named, R: Wait>(rt: &R, server: &Server<N>) -> Result<Party<N>, Stop> {
+    Party::new(rt, server).map_err(Stop::Refused)
+}
+
 /// Plays one table at a server, and then retires it.
 pub fn play<N: Named, R: Wait>(
     rt: &R,
@@ -50,12 +67,9 @@ pub fn play<N: Named, R: Wait>(
     requires { base ≡ N.board }
 {
     let server: Server<N> = Server::new(base);
-    let mut party = Party::new(rt, &server).map_err(Stop::Refused)?;
-    party
-        .play(rt, alloc, &server, Tries::One, rows)
-        .map_err(Stop::After)?;
-    let Party { seat, reader: _ } = party;
-    Ok(seat.retire(rt, server))
+    let mut party = party(rt, &server)?;
+    play_after(rt, alloc, &server, &mut party, Tries::One, rows)?;
+    Ok(party.retire(rt, server))
 }
 
 /// Plays a scenario with two threads, and then retires the server.
@@ -69,15 +83,50 @@ pub fn stage<N: Named + Send + Sync, R: Threads + Wait + Sync>(
     requires { base ≡ N.board }
 {
     let server: Server<N> = Server::new(base);
-    let mut one = Party::new(rt, &server).map_err(Stop::Refused)?;
-    let mut two = Party::new(rt, &server).map_err(Stop::Refused)?;
-    two.play(rt, alloc, &server, tries, scenario.before)
+    let mut one = party(rt, &server)?;
+    play_by(rt, alloc, &server, &mut one, tries, scenario)?;
+    Ok(one.retire(rt, server))
+}
+
+fn play_by<N: Named + Send + Sync, R: Threads + Wait + Sync>(
+    rt: &R,
+    alloc: Global,
+    server: &Server<N>,
+    one: &mut Party<N>,
+    tries: Tries,
+    scenario: &Scenario,
+) -> Result<(), Stop> {
+    let mut two = party(rt, server)?;
+    play_three(rt, alloc, server, one, &mut two, tries, scenario)
+}
+
+// The table before, the two tables side by side, and the table after.
+fn play_three<N: Named + Send + Sync, R: Threads + Wait + Sync>(
+    rt: &R,
+    alloc: Global,
+    server: &Server<N>,
+    one: &mut Party<N>,
+    two: &mut Party<N>,
+    tries: Tries,
+    scenario: &Scenario,
+) -> Result<(), Stop> {
+    two.play(rt, alloc, server, tries, scenario.before)
         .map_err(Stop::Before)?;
-    side_by_side(rt, alloc, &server, &mut one, &mut two, tries, scenario)?;
-    two.play(rt, alloc, &server, tries, scenario.after)
-        .map_err(Stop::After)?;
-    let Party { seat, reader: _ } = one;
-    Ok(seat.retire(rt, server))
+    side_by_side(rt, alloc, server, one, two, tries, scenario)?;
+    play_after(rt, alloc, server, two, tries, scenario.after)
+}
+
+fn play_after<N: Named, R: Wait>(
+    rt: &R,
+    alloc: Global,
+    server: &Server<N>,
+    party: &mut Party<N>,
+    tries: Tries,
+    rows: &[(Act, Told)],
+) -> Result<(), Stop> {
+    party
+        .play(rt, alloc, server, tries, rows)
+        .map_err(Stop::After)
 }
 
 // The second party may wait for the first, so it has the thread that is made: if none can be made

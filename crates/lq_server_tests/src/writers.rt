@@ -1,11 +1,10 @@
 //! Two threads that write, and one that writes while another hangs up.
 ghost use Rattle.std.specs.Prelude.{◌≡◌};
 
-use crate::acts::file;
+use crate::acts::{Asked, file, open};
 use crate::held::{ReaderOf, SeatOf};
-use crate::stage::base;
+use crate::stage::{base, both};
 use lq_desk::Read;
-use lq_predicate::read;
 use lq_server::{Base, Named, Server};
 use lq_update::{Cause, Mark};
 use lq_value::Refusal;
@@ -46,10 +45,22 @@ fn write<N: Named, R: Wait>(
 ) -> Result<Vec<u64>, Refusal> {
     let mut numbers = Vec::new(alloc);
     for k in 0..100 {
-        let change = change(alloc, writing, k)?;
-        numbers.push(seat.apply(rt, server, &change)?.change)?;
+        numbers.push(write_one(rt, alloc, server, seat, writing, k)?)?;
     }
     Ok(numbers)
+}
+
+fn write_one<N: Named, R: Wait>(
+    rt: &R,
+    alloc: Global,
+    server: &Server<N>,
+    seat: &mut SeatOf<N>,
+    writing: Writing,
+    k: u64,
+) -> Result<u64, Refusal> {
+    let change = change(alloc, writing, k)?;
+    let accepted = seat.apply(rt, server, &change)?;
+    Ok(accepted.change)
 }
 
 fn change(alloc: Global, writing: Writing, k: u64) -> Result<Change, Refusal> {
@@ -78,18 +89,32 @@ fn write_side_by_side<N: Named + Send + Sync, R: Threads + Wait + Sync>(
 {
     let server: Server<N> = Server::new(base);
     let mut one = SeatOf::new(rt, &server)?;
-    let mut two = SeatOf::new(rt, &server)?;
+    let mut written = write_beside(rt, alloc, &server, &mut one, first, second)?;
+    written.changes = one.retire(rt, server).changes;
+    Ok(written)
+}
+
+/// One more seat, and the two threads at work. The changes at the end aren't known yet.
+fn write_beside<N: Named + Send + Sync, R: Threads + Wait + Sync>(
+    rt: &R,
+    alloc: Global,
+    server: &Server<N>,
+    one: &mut SeatOf<N>,
+    first: Writing,
+    second: Writing,
+) -> Result<Written, Refusal> {
     if let Writing::Writes = first {
-        one.apply(rt, &server, &file(alloc, "a")?)?;
+        write_one(rt, alloc, server, one, Writing::Creates("a"), 0)?;
     }
-    let numbers = both_write(rt, alloc, &server, &mut one, &mut two, first, second)?;
-    let met = one.meet(rt, &server, &mut two);
+    let mut two = SeatOf::new(rt, server)?;
+    let numbers = both_write(rt, alloc, server, one, &mut two, first, second)?;
+    let met = one.meet(rt, server, &mut two);
     Ok(Written {
         numbers,
         met,
-        one: one.latest(&server),
-        two: two.latest(&server),
-        changes: one.retire(rt, server).changes,
+        one: one.latest(server),
+        two: two.latest(server),
+        changes: 0,
     })
 }
 
@@ -107,10 +132,7 @@ fn both_write<N: Named + Send + Sync, R: Threads + Wait + Sync>(
         || write(rt, alloc, server, one, first),
         || write(rt, alloc, server, two, second),
     );
-    let mut numbers = a?;
-    for number in b? {
-        numbers.push(number)?;
-    }
+    let mut numbers = both(a, b)?;
     numbers.sort()?;
     Ok(numbers)
 }
@@ -143,6 +165,14 @@ struct Raced {
     mark: Option<Mark>,
 }
 
+/// An opening of every entry.
+const EVERY: Asked<'static> = Asked {
+    query: "name=*",
+    port: 1024,
+    backlog: 1024,
+    moved: false,
+};
+
 /// Reads up to the mark, 1,000 times at most.
 fn read_out<N: Named, R: Wait>(rt: &R, reader: &mut ReaderOf<N>) -> Result<Raced, Refusal> {
     let mut updates = 0;
@@ -174,21 +204,19 @@ fn race<N: Named + Send + Sync, R: Threads + Wait + Sync>(
 {
     let server: Server<N> = Server::new(base);
     let mut seat = SeatOf::new(rt, &server)?;
-    let mut reader = open_all(rt, alloc, &server, &mut seat)?;
-    hang_up_beside(rt, alloc, &server, &mut seat, &mut reader)?;
-    reader.pump(rt, &server);
-    read_out(rt, &mut reader)
+    race_by(rt, alloc, &server, &mut seat)
 }
 
-/// A reader of every entry.
-fn open_all<N: Named, R: Wait>(
+fn race_by<N: Named + Send + Sync, R: Threads + Wait + Sync>(
     rt: &R,
     alloc: Global,
     server: &Server<N>,
     seat: &mut SeatOf<N>,
-) -> Result<ReaderOf<N>, Refusal> {
-    let predicate = read(alloc, "name=*")?;
-    seat.open(rt, server, &predicate, 1024, 1024, false)
+) -> Result<Raced, Refusal> {
+    let mut reader = open(rt, alloc, server, seat, &EVERY)?;
+    hang_up_beside(rt, alloc, server, seat, &mut reader)?;
+    reader.pump(rt, server);
+    read_out(rt, &mut reader)
 }
 
 fn hang_up_beside<N: Named + Send + Sync, R: Threads + Wait + Sync>(

@@ -15,7 +15,7 @@ use Rattle.std.proofs.Crossing.{crosses}
 use Rattle.lq_server.proofs.Crossing.{server_sync}
 use Rattle.lq_volume.proofs.change.Change.TheSendSync as found_change
 use Rattle.lq_server_tests.proofs.held.SeatOf.TheSendSync as found_seat
-use Rattle.lq_server_tests.proofs.drawn.all_four.Goals as goal
+use Rattle.lq_server_tests.proofs.drawn.beside.Goals as goal
 
 -- what the first closure takes: the runtime, the allocator, the server, a seat, a seat, a number
 taken : (ν : Sym) (ℓ ℓ₁ ℓ₂ ℓ₃ ℓ₄ ℓ₅ : NamedLft) (N R : RattleType) (g : Ghosts N.Denot)
