@@ -8,7 +8,7 @@ use std::alloc::Global;
 use std::marker::Model;
 
 /// One item of a set: a character, or the characters from one to another, both among them.
-#[derive(Clone, Copy, Debug, PartialEq, Eq)]
+#[derive(Clone, Copy, PartialEq, Eq)]
 pub enum Item {
     One(char),
     Range(char, char),
@@ -29,7 +29,7 @@ impl Item {
 /// The items of a set, in the order of its source.
 ///
 /// A contract sees them as their list.
-#[derive(Debug, Drop)]
+#[derive(Drop)]
 pub struct Items {
     items: Vec<Item>,
 }
@@ -95,7 +95,7 @@ impl Items {
 }
 
 /// One element of a pattern, and what part of a text it fits.
-#[derive(Debug, Drop)]
+#[derive(Drop)]
 pub enum Element {
     /// Any run of characters, also the empty one.
     Star,

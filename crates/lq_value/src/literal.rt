@@ -12,7 +12,7 @@ use std::alloc::Global;
 
 /// What an attribute is compared with: a pattern for `Eq` and `Ne`, a plain text for the
 /// operators of order.
-#[derive(Debug, Drop)]
+#[derive(Drop)]
 pub enum Literal {
     Pattern(Pattern),
     Plain(Text),

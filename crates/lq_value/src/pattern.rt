@@ -21,13 +21,19 @@ use std::marker::Model;
 /// A pattern: a list of elements, read from the left, that a whole text fits or doesn't.
 ///
 /// A contract sees it as its list of elements. The patterns are this project's own.
-#[derive(Debug, Drop)]
 pub struct Pattern {
     form: Form,
 }
 
+// One call takes it apart, wherever one is dropped.
+impl Drop for Pattern {
+    fn drop(self) {
+        let Pattern { form: _ } = self;
+    }
+}
+
 // How the elements are kept.
-#[derive(Debug, Drop)]
+#[derive(Drop)]
 pub(crate) enum Form {
     // The text of plain elements, which compares by its bytes, and the number that it writes.
     PlainText {

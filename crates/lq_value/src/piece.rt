@@ -7,7 +7,7 @@ ghost use Rattle.lq_value.specs.Source.{element_at, set_at};
 use crate::sign::{Sign, first_sign};
 
 /// What stands first where an element of a pattern is looked for, and the source behind it.
-#[derive(Clone, Copy, Debug)]
+#[derive(Clone, Copy)]
 pub enum FirstPiece<'a> {
     /// The end of the source.
     End,

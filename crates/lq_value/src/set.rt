@@ -10,7 +10,7 @@ use crate::sign::{Sign, first_sign};
 use std::alloc::Global;
 
 /// What stands first where an item of a set is looked for, and the text behind it.
-#[derive(Clone, Copy, Debug)]
+#[derive(Clone, Copy)]
 pub enum FirstItem<'a> {
     /// The `]` that ends the set.
     End(&'a str),

@@ -5,7 +5,7 @@ ghost use Rattle.lq_value.specs.Sign.{signs_of};
 use crate::first::first_char;
 
 /// A character of a pattern's source, with the `\` before it if it has one.
-#[derive(Clone, Copy, Debug)]
+#[derive(Clone, Copy)]
 pub(crate) enum Sign {
     /// A character without a `\` before it.
     Bare(char),

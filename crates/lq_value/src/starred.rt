@@ -9,7 +9,7 @@ use crate::refusal::Refusal;
 use std::alloc::Global;
 
 /// The plain text of a pattern, and whether a star stands before it and behind it.
-#[derive(Debug, Drop)]
+#[derive(Drop)]
 pub(crate) struct Starred {
     pub(crate) text: String,
     pub(crate) before: bool,
