@@ -89,12 +89,14 @@ fn peek(sub: &mut Sub) -> u64 {
     seq
 }
 
+// The number of what comes next, which is out then.
+fn take(sub: &mut Sub) -> u64 {
+    seq_of(&sub.next())
+}
+
 // The numbers of the next four.
 fn four(sub: &mut Sub) -> [u64; 4] {
-    let first = seq_of(&sub.next());
-    let second = seq_of(&sub.next());
-    let third = seq_of(&sub.next());
-    [first, second, third, seq_of(&sub.next())]
+    [take(sub), take(sub), take(sub), take(sub)]
 }
 
 #[test]

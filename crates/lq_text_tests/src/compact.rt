@@ -1,5 +1,6 @@
 //! Of lq_compact: texts with escapes, numbers at their limits, and each call once with memory.
 use lq_compact::{put_bytes, put_signed, put_text, put_truth, put_unsigned};
+use std::alloc::AllocError;
 use std::test::Fail;
 
 // text | what is put for it; a row ends with a semicolon
@@ -61,13 +62,17 @@ fn a_number_has_its_digits(rt: HostRuntime) -> Result<(), Fail> {
     Ok(())
 }
 
+fn put_pieces(out: &mut Vec<u8>) -> Result<(), AllocError> {
+    put_unsigned(out, b"{\"node\":", 7)?;
+    put_truth(out, b",\"last\":", true)?;
+    put_truth(out, b",\"settled\":", false)?;
+    put_bytes(out, b"}")
+}
+
 #[test]
 fn pieces_stand_behind_one_another(rt: HostRuntime) -> Result<(), Fail> {
     let mut out = Vec::from_slice(rt.alloc(), b"\n")?;
-    put_unsigned(&mut out, b"{\"node\":", 7)?;
-    put_truth(&mut out, b",\"last\":", true)?;
-    put_truth(&mut out, b",\"settled\":", false)?;
-    put_bytes(&mut out, b"}")?;
+    put_pieces(&mut out)?;
     let wanted = "\n{\"node\":7,\"last\":true,\"settled\":false}";
     assert_eq!(rt; out.as_slice(), wanted.as_bytes());
     Ok(())

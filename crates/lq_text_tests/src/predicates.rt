@@ -12,15 +12,19 @@ const LENGTHS: [(usize, Option<Refusal>); 2] = [
 ];
 
 // The scenario with a pattern that is found and two comparisons joined.
-fn size_and_name(alloc: Global) -> Result<Stack, Refusal> {
-    let mut stack = Stack::new(alloc);
+fn push_both(stack: &mut Stack) -> Result<(), Refusal> {
     stack.push_attr("size")?;
     stack.push_int32(10)?;
     stack.push_op(StackOp::Gt)?;
     stack.push_attr("name")?;
     stack.push_text("oo")?;
     stack.push_op(StackOp::Contains)?;
-    stack.push_op(StackOp::And)?;
+    stack.push_op(StackOp::And)
+}
+
+fn size_and_name(alloc: Global) -> Result<Stack, Refusal> {
+    let mut stack = Stack::new(alloc);
+    push_both(&mut stack)?;
     Ok(stack)
 }
 
@@ -102,14 +106,22 @@ fn scenario_moved_pushes(rt: HostRuntime) -> Result<(), Fail> {
     Ok(())
 }
 
+// Why a comparison with this text is refused.
+fn push_comparison(stack: &mut Stack, text: &str) -> Result<Option<Refusal>, Refusal> {
+    stack.push_attr("a")?;
+    stack.push_text(text)?;
+    Ok(stack.push_op(StackOp::Lt).err())
+}
+
+fn push_letters(alloc: Global, length: usize) -> Result<Option<Refusal>, Refusal> {
+    let text = "x".repeat(alloc, length)?;
+    push_comparison(&mut Stack::new(alloc), text.as_str())
+}
+
 #[test]
 fn a_canonical_text_has_4096_bytes_at_most(rt: HostRuntime) -> Result<(), Fail> {
     for (length, refused) in LENGTHS {
-        let text = "x".repeat(rt.alloc(), length)?;
-        let mut stack = Stack::new(rt.alloc());
-        stack.push_attr("a")?;
-        stack.push_text(text.as_str())?;
-        assert_eq!(rt; stack.push_op(StackOp::Lt).err(), refused);
+        assert_eq!(rt; push_letters(rt.alloc(), length)?, refused);
     }
     Ok(())
 }
