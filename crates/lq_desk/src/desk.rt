@@ -29,12 +29,23 @@ pub const MAX_BACKLOG: u64 = 65_536;
 /// The volume and its live queries with their ports, one event at a time.
 ///
 /// A contract sees it as what it keeps, which shows a world.
-#[derive(Debug, Drop)]
 pub struct Desk {
     volume: Volume,
     openings: u64,
     alloc: Global,
     slots: Slots,
+}
+
+// One call takes it apart, wherever one is dropped.
+impl Drop for Desk {
+    fn drop(self) {
+        let Desk {
+            volume: _,
+            openings: _,
+            alloc: _,
+            slots: _,
+        } = self;
+    }
 }
 
 impl Model for Desk {

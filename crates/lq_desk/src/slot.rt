@@ -19,7 +19,7 @@ use std::collections::VecDeque;
 use std::marker::Model;
 
 /// A subscription, its port with room for all its places, and whether its end was asked for.
-#[derive(Debug, Drop)]
+#[derive(Drop)]
 pub struct Slot {
     sub: Sub,
     port: u64,

@@ -28,7 +28,7 @@ pub const SLOTS: usize = 64;
 ///
 /// A word has a bit for each slot that may be ending, and one for each whose port may take a
 /// parcel: a slot whose bit is clear isn't looked at.
-#[derive(Debug, Drop)]
+#[derive(Drop)]
 pub struct Slots {
     stored: Vec<Option<Slot>>,
     ending: u64,

@@ -17,7 +17,6 @@ use std::mem::replace;
 
 /// One subscription: its query and the names in it, the messages that it holds, and those of a
 /// change that isn't made yet, for which there is always room.
-#[derive(Debug, Drop)]
 pub struct Sub {
     alloc: Global,
     predicate: Predicate,
@@ -34,6 +33,28 @@ pub struct Sub {
     ready: Vec<Message>,
     before: u64,
     lent: bool,
+}
+
+// One call takes it apart, wherever one is dropped.
+impl Drop for Sub {
+    fn drop(self) {
+        let Sub {
+            alloc: _,
+            predicate: _,
+            names: _,
+            sees_writes: _,
+            moved: _,
+            opened: _,
+            backlog: _,
+            sent: _,
+            messages: _,
+            mark: _,
+            mark_out: _,
+            ready: _,
+            before: _,
+            lent: _,
+        } = self;
+    }
 }
 
 impl Model for Sub {

@@ -2,7 +2,7 @@
 use lq_value::Op;
 
 /// A token of a formula.
-#[derive(Clone, Copy, Debug)]
+#[derive(Clone, Copy)]
 pub enum Token<'a> {
     /// `(`.
     Opens,
@@ -25,7 +25,7 @@ pub enum Token<'a> {
 }
 
 /// A token with the byte place of its first byte and that of its raw text.
-#[derive(Clone, Copy, Debug)]
+#[derive(Clone, Copy)]
 pub struct Placed<'a> {
     pub place: usize,
     pub raw_place: usize,
@@ -33,7 +33,7 @@ pub struct Placed<'a> {
 }
 
 /// What is left of a text, and the byte place where it begins.
-#[derive(Clone, Copy, Debug)]
+#[derive(Clone, Copy)]
 pub struct Cursor<'a> {
     pub place: usize,
     pub rest: &'a str,

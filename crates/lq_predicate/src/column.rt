@@ -12,7 +12,7 @@ use std::marker::Model;
 ///
 /// The field is found once, when the comparison is made, so that no row has to compare texts for
 /// it. A contract sees a column as the bytes of its name.
-#[derive(Debug, Drop)]
+#[derive(Drop)]
 pub struct Column {
     name: AttrName,
     field: Field,

@@ -1,7 +1,7 @@
 //! The fields that a name may stand for.
 
 /// What a name stands for: one of the three fields that each entry has, or an attribute.
-#[derive(Clone, Copy, Debug)]
+#[derive(Clone, Copy)]
 pub enum Field {
     Name,
     Size,

@@ -15,9 +15,15 @@ use std::marker::Model;
 /// comparison has depth 1, every other predicate 1 more than its deepest part), it has at most 256
 /// comparisons, and its canonical text has at most 4,096 bytes and reads as it. A contract sees it
 /// as a `Query`.
-#[derive(Debug, Drop)]
 pub struct Predicate {
     tree: Tree,
+}
+
+// One call takes it apart, wherever one is dropped.
+impl Drop for Predicate {
+    fn drop(self) {
+        let Predicate { tree: _ } = self;
+    }
 }
 
 impl Model for Predicate {

@@ -1,7 +1,7 @@
 //! The operators of a postfix stack.
 
 /// What takes items from the top of a stack and leaves a predicate there, as in BQuery.
-#[derive(Clone, Copy, Debug, PartialEq, Eq)]
+#[derive(Clone, Copy, PartialEq, Eq)]
 pub enum StackOp {
     /// The text as a pattern fits.
     Eq,

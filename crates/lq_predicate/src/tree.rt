@@ -19,13 +19,13 @@ use std::marker::Model;
 
 // A query of any depth and size. A contract sees it as a `Query`.
 #[cycle(tree)]
-#[derive(Debug, Drop)]
+#[derive(Drop)]
 pub(crate) struct Tree {
     node: TreeNode,
 }
 
 #[cycle(tree)]
-#[derive(Debug, Drop)]
+#[derive(Drop)]
 enum TreeNode {
     Compare(Column, Op, Literal),
     Not(Box<Tree>),

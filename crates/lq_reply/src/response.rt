@@ -4,7 +4,7 @@ use lq_value::{Entry, Refusal};
 use lq_volume::Listing;
 
 /// The core's reply to an event, what a look at the volume shows, a rebuilt result, or a refusal.
-#[derive(Debug, Drop)]
+#[derive(Drop)]
 pub enum Response {
     /// The core's reply to an event of this slot, which is 0 where the event names none.
     Reply {

@@ -5,7 +5,7 @@ use lq_world::Event;
 
 /// What a line asks, its values read: an event of the core, a look at the volume, or the result of
 /// a slot.
-#[derive(Debug, Drop)]
+#[derive(Drop)]
 pub enum Question {
     /// The core carries out an event.
     Event(Event),

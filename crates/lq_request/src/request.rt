@@ -13,7 +13,7 @@ use lq_value::{Kind, View};
 use lq_world::Act;
 
 /// What a line asks for, its texts borrowed from the line's JSON value.
-#[derive(Debug, Drop)]
+#[derive(Drop)]
 pub enum Request<'a> {
     Create {
         dir: u64,

@@ -23,13 +23,24 @@ use lq_volume::Volume;
 use std::alloc::Global;
 
 /// A desk, and what was rebuilt of each slot, that answer the lines of a script.
-#[derive(Drop)]
 pub struct Session {
     alloc: Global,
     desk: Desk,
     rebuilds: Vec<Option<IndexedRebuild>>,
     // What the reading of a line takes, kept from line to line.
     scratch: Scratch,
+}
+
+// One call takes it apart, wherever one is dropped.
+impl Drop for Session {
+    fn drop(self) {
+        let Session {
+            alloc: _,
+            desk: _,
+            rebuilds: _,
+            scratch: _,
+        } = self;
+    }
 }
 
 impl Session {

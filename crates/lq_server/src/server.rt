@@ -40,10 +40,16 @@ pub struct Retired {
 /// A lock round a volume and its subscriptions, with the board beside it.
 ///
 /// Threads share it by reference. Contracts see which board it has, which is the one that N names.
-#[derive(Drop)]
 pub struct Server<N: Named> {
     pub(crate) state: Mutex<Locked<N>>,
     pub(crate) board: Board<Identity>,
+}
+
+// One call takes it apart, wherever one is dropped.
+impl<N: Named> Drop for Server<N> {
+    fn drop(self) {
+        let Server { state: _, board: _ } = self;
+    }
 }
 
 impl<N: Named> Model for Server<N> {

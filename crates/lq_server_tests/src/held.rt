@@ -12,10 +12,16 @@ use std::marker::{Model, PhantomData};
 use std::sync::Wait;
 
 /// A seat of N's server, which is no reader's.
-#[derive(Drop)]
 pub struct SeatOf<N: Named> {
     seat: Seat<Identity>,
     of: PhantomData<N>,
+}
+
+// One call takes it apart, wherever one is dropped.
+impl<N: Named> Drop for SeatOf<N> {
+    fn drop(self) {
+        let SeatOf { seat: _, of: _ } = self;
+    }
 }
 
 impl<N: Named> Model for SeatOf<N> {
@@ -32,10 +38,16 @@ impl<N: Named> Model for SeatOf<N> {
 }
 
 /// A reader of N's server, whose seat is its own.
-#[derive(Drop)]
 pub struct ReaderOf<N: Named> {
     reader: Reader,
     of: PhantomData<N>,
+}
+
+// One call takes it apart, wherever one is dropped.
+impl<N: Named> Drop for ReaderOf<N> {
+    fn drop(self) {
+        let ReaderOf { reader: _, of: _ } = self;
+    }
 }
 
 impl<N: Named> Model for ReaderOf<N> {

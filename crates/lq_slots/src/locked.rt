@@ -35,20 +35,32 @@ use std::sync::Wait;
 const MAX_SEATS: u64 = 16;
 
 /// The entries that a predicate holds of after `at` changes, by rising node.
-#[derive(Debug, Drop)]
+#[derive(Drop)]
 pub struct Found {
     pub at: u64,
     pub entries: Vec<Entry>,
 }
 
 /// The volume, the subscriptions and the keeper of N's board. A contract sees the keeper's book.
-#[derive(Drop)]
 pub struct Locked<N: Named> {
     slots: Slots,
     volume: Volume,
     seats: u64,
     alloc: Global,
     of: PhantomData<N>,
+}
+
+// One call takes it apart, wherever one is dropped.
+impl<N: Named> Drop for Locked<N> {
+    fn drop(self) {
+        let Locked {
+            slots: _,
+            volume: _,
+            seats: _,
+            alloc: _,
+            of: _,
+        } = self;
+    }
 }
 
 impl<N: Named> Model for Locked<N> {

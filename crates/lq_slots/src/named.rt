@@ -27,12 +27,23 @@ impl Named for Brand {
 /// A volume with a new board and its keeper, and no subscriptions.
 ///
 /// A contract sees which board it is.
-#[derive(Drop)]
 pub struct Base {
     board: Board<Identity>,
     slots: Slots,
     volume: Volume,
     alloc: Global,
+}
+
+// One call takes it apart, wherever one is dropped.
+impl Drop for Base {
+    fn drop(self) {
+        let Base {
+            board: _,
+            slots: _,
+            volume: _,
+            alloc: _,
+        } = self;
+    }
 }
 
 impl Model for Base {

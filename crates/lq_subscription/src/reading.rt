@@ -27,13 +27,25 @@ use std::sync::Wait;
 ///
 /// A contract sees it as a `ReadingHold`: the port, the result so far, and a message in hand,
 /// which was taken and for want of memory not folded yet.
-#[derive(Drop)]
 pub struct Reading {
     output: PortOut<Delivery>,
     rebuild: Rebuild,
     hand: Option<Message>,
     ended: bool,
     opened: u64,
+}
+
+// One call takes it apart, wherever one is dropped.
+impl Drop for Reading {
+    fn drop(self) {
+        let Reading {
+            output: _,
+            rebuild: _,
+            hand: _,
+            ended: _,
+            opened: _,
+        } = self;
+    }
 }
 
 impl Model for Reading {

@@ -16,7 +16,6 @@ use lq_value::Refusal;
 use lq_volume::{Change, Planned};
 
 /// A subscription with the end of its port for puts, as a lock has it.
-#[derive(Drop)]
 pub struct Subscription {
     /// The query, what is held, and the mark.
     pub sub: Sub,
@@ -28,6 +27,19 @@ pub struct Subscription {
     pub asks: u64,
     /// What its first close answered.
     pub shut: Shut,
+}
+
+// One call takes it apart, wherever one is dropped.
+impl Drop for Subscription {
+    fn drop(self) {
+        let Subscription {
+            sub: _,
+            input: _,
+            places: _,
+            asks: _,
+            shut: _,
+        } = self;
+    }
 }
 
 /// Makes the messages of a lawful change that isn't made yet, where the subscription is live.

@@ -10,10 +10,16 @@ use std::marker::{Model, PhantomData};
 use std::sync::Wait;
 
 /// A seat of no slot, of N's board.
-#[derive(Drop)]
 pub struct Caller<N: Named> {
     seat: Seat<Identity>,
     of: PhantomData<N>,
+}
+
+// One call takes it apart, wherever one is dropped.
+impl<N: Named> Drop for Caller<N> {
+    fn drop(self) {
+        let Caller { seat: _, of: _ } = self;
+    }
 }
 
 impl<N: Named> Model for Caller<N> {
@@ -99,10 +105,16 @@ impl<N: Named> Caller<N> {
 }
 
 /// A reader of N's board, whose seat is that of its slot.
-#[derive(Drop)]
 pub struct Held<N: Named> {
     reader: Reader,
     of: PhantomData<N>,
+}
+
+// One call takes it apart, wherever one is dropped.
+impl<N: Named> Drop for Held<N> {
+    fn drop(self) {
+        let Held { reader: _, of: _ } = self;
+    }
 }
 
 impl<N: Named> Model for Held<N> {

@@ -15,7 +15,7 @@ use std::marker::Model;
 /// the entries, wherever its node stands among them, and there is no slice of the entries.
 ///
 /// A contract sees it as a `Folding`, as it sees a `Rebuild`.
-#[derive(Debug, Drop)]
+#[derive(Drop)]
 pub struct IndexedRebuild {
     latest: Latest,
     alloc: Global,

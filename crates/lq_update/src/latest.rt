@@ -8,7 +8,7 @@ use crate::message::Message;
 ///
 /// `seq` is its number, 0 before the first, `change` the change that it told of, and `last` whether
 /// it was the last of that change.
-#[derive(Clone, Copy, Debug)]
+#[derive(Clone, Copy)]
 pub struct Latest {
     pub seq: u64,
     pub change: u64,

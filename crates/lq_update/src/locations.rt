@@ -12,7 +12,7 @@ use std::alloc::Global;
 use std::collections::BTreeMap;
 
 /// Where an entry is: the folder that it is in, and its name.
-#[derive(Debug, Drop)]
+#[derive(Drop)]
 pub struct Location {
     dir: u64,
     name: Name,

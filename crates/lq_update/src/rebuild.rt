@@ -14,7 +14,7 @@ use std::marker::Model;
 ///
 /// A contract sees it as a `Folding`: how many messages it has taken, whether the latest was the
 /// last of its change, that change, and the entries by rising node.
-#[derive(Debug, Drop)]
+#[derive(Drop)]
 pub struct Rebuild {
     latest: Latest,
     alloc: Global,

@@ -9,7 +9,7 @@ use std::alloc::Global;
 use std::marker::Model;
 
 /// One entry of a volume, borrowed. A contract sees it as its `Record`.
-#[derive(Debug, Drop)]
+#[derive(Drop)]
 pub struct EntryRef<'a> {
     stored: &'a Stored,
 }

@@ -19,7 +19,7 @@ use std::marker::Model;
 ///
 /// A contract sees it as a `Plan` (`specs/Plan`): the state before, and the change, which is
 /// lawful there. It borrows the volume and the change. No call here takes memory.
-#[derive(Debug, Drop)]
+#[derive(Drop)]
 pub struct Planned<'a> {
     volume: &'a Volume,
     change: &'a Change,
@@ -40,7 +40,7 @@ impl<'a> Model for Planned<'a> {
 }
 
 /// What a change touches: its own node, before and after, and the other node that goes.
-#[derive(Debug, Drop)]
+#[derive(Drop)]
 pub struct Touched<'a> {
     pub node: u64,
     pub before: Option<Seen<'a>>,

@@ -12,7 +12,7 @@ use std::alloc::Global;
 use std::marker::Model;
 
 /// What a change would make of the attributes of an entry.
-#[derive(Clone, Copy, Debug)]
+#[derive(Clone, Copy)]
 pub enum Difference<'a> {
     None,
     Set {
@@ -27,7 +27,7 @@ pub enum Difference<'a> {
 /// An entry as it is, or as a change leaves it, borrowed: what a predicate looks at.
 ///
 /// A contract sees it as its `Record`. Its size is at most that of an `i64`.
-#[derive(Debug, Drop)]
+#[derive(Drop)]
 pub struct Seen<'a> {
     pub(crate) dir: u64,
     pub(crate) name: &'a Name,

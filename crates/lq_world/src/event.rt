@@ -3,7 +3,7 @@ use lq_predicate::Predicate;
 use lq_volume::Change;
 
 /// One event of the core.
-#[derive(Debug, Drop)]
+#[derive(Drop)]
 pub enum Event {
     /// A change of the volume.
     Change(Change),
@@ -22,7 +22,7 @@ pub enum Event {
 }
 
 /// What may be done at one slot.
-#[derive(Clone, Copy, Debug)]
+#[derive(Clone, Copy)]
 pub enum Act {
     /// The next parcel moves into the port.
     Put,
