@@ -8,7 +8,7 @@ ghost use Rattle.lq_desk.specs.Passing.{are_written, is_among, passes_over};
 
 use lq_predicate::{Predicate, names, truth_goes_by_names};
 use lq_update::{Cause, Mark, Message, Parcel, changes_pass_over, step_planned};
-use lq_value::{AttrName, Refusal};
+use lq_value::{AttrName, Refusal, same_text};
 use lq_volume::{Change, Planned, Volume};
 use std::alloc::Global;
 use std::collections::VecDeque;
@@ -193,21 +193,29 @@ impl Sub {
         truth_goes_by_names();
         let before = planned.applied().change - 1;
         if self.passes_over(planned.change()) {
-            self.ready = Vec::new(self.alloc);
-            self.before = before;
+            self.forget_ready(before);
             return Ok(());
         }
         let first = self.sent + 1;
         let step = step_planned(self.alloc, &self.predicate, planned, first, self.moved)?;
         if step.is_empty() {
-            self.ready = step;
-            self.before = before;
+            self.forget_ready(before);
             return Ok(());
         }
         self.messages.reserve(step.len() + 1)?;
         self.ready = step;
         self.before = before;
         Ok(())
+    }
+
+    // No message of the change after that many is told.
+    fn forget_ready(&mut self, before: u64)
+        ensures { self.new ≡ record self.old { ready = []; before = before } }
+    {
+        if !self.ready.is_empty() {
+            self.ready = Vec::new(self.alloc);
+        }
+        self.before = before;
     }
 
     // Whether a change tells the query nothing, by the names that it alters.
@@ -347,5 +355,5 @@ fn are_written(names: &[AttrName]) -> bool
 fn is_among(names: &[AttrName], name: &str) -> bool
     ensures { result ≡ is_among names.now name.now }
 {
-    names.iter().any(|other| name == other.as_str())
+    names.iter().any(|other| same_text(name, other.as_str()))
 }

@@ -1,16 +1,38 @@
 //! The fields of an object, and what they hold.
 ghost use Rattle.std.specs.Prelude.{◌≡◌, option_and_then, option_map};
+ghost use Rattle.json.specs.Find.{get_member};
+ghost use Rattle.json.specs.Value.{members_view, value_view};
 ghost use Rattle.serde_json.specs.Find.{as_bool, as_i64, as_number, as_str, as_u64, get};
 ghost use Rattle.lq_json.specs.Data.{view};
 
 use crate::number::number_in;
 use json::Value;
+use lq_value::same_text;
 
 /// The field of that key, of equal keys the last; `None` where there is none, or no object.
 pub fn field<'v, 'a>(value: &'v Value<'a>, key: &str) -> Option<&'v Value<'a>>
     ensures { option_map (λ v. view v.now) result ≡ get key.now (view value.now) }
 {
-    value.get(key)
+    match value {
+        Value::Object(members) => member(members.as_slice(), key),
+        _ => None,
+    }
+}
+
+// The member of that key, of equal keys the last.
+fn member<'v, 'a>(members: &'v [(&'a str, Value<'a>)], key: &str) -> Option<&'v Value<'a>>
+    ensures { option_map (λ v. value_view v.now) result
+        ≡ get_member key.now (members_view members.now) }
+{
+    let mut left = members.len();
+    while left > 0 {
+        left -= 1;
+        let member = &members[left];
+        if same_text(member.0, key) {
+            return Some(&member.1);
+        }
+    }
+    None
 }
 
 /// The text of the field of that key; `None` where there is none.

@@ -75,6 +75,7 @@ pub fn request_in<'a>(value: &Value<'a>) -> Option<Request<'a>>
     ensures { option_map asked result ≡ asked_of (view value.now) }
 {
     match text_in(value, "do")? {
+        "read" => act_in(value, Act::Read),
         "create" => create_in(value),
         "remove" => remove_in(value),
         "move" => move_in(value),
@@ -82,7 +83,6 @@ pub fn request_in<'a>(value: &Value<'a>) -> Option<Request<'a>>
         "set" => set_in(value),
         "unset" => unset_in(value),
         "open" => open_in(value),
-        "read" => act_in(value, Act::Read),
         "hang_up" => act_in(value, Act::HangUp),
         "close" => act_in(value, Act::Close),
         "finish" => act_in(value, Act::Finish),

@@ -4,7 +4,7 @@ ghost use Rattle.lq_value.specs.declared.refusal.Refusal.TheVariants.{BadName};
 ghost use Rattle.lq_value.specs.Name.{is_attr_name};
 ghost use Rattle.lq_value.specs.Refusal.{IsRefusedBy};
 
-use lq_value::{AttrName, Refusal};
+use lq_value::{AttrName, Refusal, same_text};
 use std::alloc::Global;
 
 /// How many names of attributes are kept.
@@ -60,7 +60,7 @@ impl RecentAttrs {
         ensures valid { IfSome result (λ name. IsTrue (is_attr_name text.now)) }
     {
         for name in &self.names {
-            if name.as_str() == text {
+            if same_text(name.as_str(), text) {
                 return Some(name);
             }
         }

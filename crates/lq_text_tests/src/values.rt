@@ -1,6 +1,6 @@
 //! Of lq_value: display texts, outside values, and each call once with memory.
 use lq_value::{
-    AttrName, Literal, Name, Op, Pattern, Refusal, Text, Value, ValueText, View, compare,
+    AttrName, Literal, Name, Op, Pattern, Refusal, Text, Value, ValueText, View, compare, same_text,
 };
 use std::alloc::{AllocError, Global};
 use std::cmp::Ordering;
@@ -128,6 +128,21 @@ a|a|yes
 *aab|aaab|yes
 ?*?|a|no
 ?*?|ab|yes";
+
+// two texts, and whether they are the same; a bar between them
+const PAIRS: &str = r"||same
+|a|other
+a||other
+a|a|same
+a|b|other
+ab|ac|other
+ab|a|other
+a|ab|other
+é|é|same
+é|è|other
+é|Ã|other
+name|name|same
+name|same|other";
 
 // text | the number that it writes as a pattern and as a plain text, or none
 const NUMBERS: &str = r"0|0
@@ -285,6 +300,16 @@ fn a_value_shows_what_it_holds(rt: HostRuntime) -> Result<(), Fail> {
     assert!(rt; shows(alloc, &Value::UInt32(u32::MAX), "UInt32(4294967295)")?);
     let most = "UInt64(18446744073709551615)";
     assert!(rt; shows(alloc, &Value::UInt64(u64::MAX), most)?);
+    Ok(())
+}
+
+#[test]
+fn texts_are_told_apart(rt: HostRuntime) -> Result<(), Fail> {
+    for row in PAIRS.lines() {
+        let (one, rest) = fields(row)?;
+        let (other, wanted) = fields(rest)?;
+        assert!(rt; same_text(one, other) == (wanted == "same"), "{row}");
+    }
     Ok(())
 }
 

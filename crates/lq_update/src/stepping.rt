@@ -64,12 +64,46 @@ pub fn step_planned(
     accepted_changes_keep_trees();
     untouched_nodes_stay();
     clobbered_nodes_go();
-    let made = planned.applied();
-    let number = made.change;
+    // For its clauses `lawful` and `volume`.
+    let _ = planned.applied();
     let (left, came) = difference(predicate, planned);
     if left.is_none() && came.is_none() && planned.clobbered().is_none() {
         return Ok(Vec::new(alloc));
     }
+    Ok(tell_difference(alloc, predicate, planned, left, came, first_seq, moved)?)
+}
+
+// What is told where something left at the change's own node, came into it there, or was
+// clobbered. It stands apart: most changes tell most queries nothing.
+#[inline(never)]
+fn tell_difference<'s, 'a>(
+    alloc: Global,
+    predicate: &Predicate,
+    planned: &'s Planned<'a>,
+    left: Option<&'s Seen<'a>>,
+    came: Option<&'s Seen<'a>>,
+    first_seq: u64,
+    moved: bool,
+) -> Result<Vec<Message>, Refusal>
+    requires room { first_seq + 2 < 2 ^ 64 }
+    requires removed { entry_at (node_of planned.now.before planned.now.change)
+        (option_copied left) ≡ left_at predicate.now planned.now.before
+        (after planned.now.before planned.now.change)
+        (node_of planned.now.before planned.now.change) }
+    requires created { entry_at (node_of planned.now.before planned.now.change)
+        (option_copied came) ≡ left_at predicate.now
+        (after planned.now.before planned.now.change) planned.now.before
+        (node_of planned.now.before planned.now.change) }
+    ensures refused { IsRefusedBy result None }
+    ensures messages { IfOk result (λ messages. messages.items ≡ step_of predicate.now moved
+        planned.now.before planned.now.change first_seq) }
+    ensures few { IfOk result (λ messages. vec_len messages ≤ 3) }
+{
+    accepted_changes_keep_trees();
+    untouched_nodes_stay();
+    clobbered_nodes_go();
+    let made = planned.applied();
+    let number = made.change;
     let left = copied(alloc, left, made.node)?;
     let came = copied(alloc, came, made.node)?;
     let (removed, last) = join(moved, left, came);

@@ -40,7 +40,7 @@ pub use pattern::{Elements, Pattern};
 pub use piece::{FirstPiece, first_piece};
 pub use refusal::Refusal;
 pub use set::{FirstItem, first_item};
-pub use text::Text;
+pub use text::{Text, same_text};
 pub use value::Value;
 pub use value_text::ValueText;
 pub use view::View;

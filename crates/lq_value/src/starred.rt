@@ -1,5 +1,6 @@
 //! Plain text with a star before it, behind it or both, which is sought as text.
-ghost use Rattle.std.specs.Prelude.{◌≡◌, ◌++◌, None, IfOk};
+ghost use Rattle.std.specs.Prelude.{◌≡◌, ◌++◌, None, IfOk, nat_eq};
+ghost use Rattle.std.specs.List.{starts_with};
 ghost use Rattle.std.specs.Str.{chars};
 ghost use Rattle.lq_value.specs.Refusal.{IsRefusedBy};
 ghost use Rattle.lq_value.specs.Pattern.{fits, star_if, starred_elements};
@@ -26,7 +27,7 @@ impl Starred {
         let plain = self.text.as_str();
         match (self.before, self.behind) {
             (false, false) => plain == text,
-            (false, true) => text.starts_with(plain),
+            (false, true) => begins(text, plain),
             (true, false) => text.ends_with(plain),
             (true, true) => text.contains(plain),
         }
@@ -42,6 +43,16 @@ impl Starred {
             before: self.before,
             behind: self.behind,
         })
+    }
+}
+
+// Whether a text begins with a plain one. Most that don't differ in their first byte.
+fn begins(text: &str, plain: &str) -> bool
+    ensures { result ≡ starts_with nat_eq text.now plain.now }
+{
+    match (text.as_bytes().first(), plain.as_bytes().first()) {
+        (Some(a), Some(b)) if *a != *b => false,
+        _ => text.starts_with(plain),
     }
 }
 

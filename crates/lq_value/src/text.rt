@@ -1,5 +1,6 @@
 //! A text that contracts see as its bytes.
 ghost use Rattle.std.specs.Prelude.{◌≡◌, None, IfOk};
+ghost use Rattle.std.specs.Str.{bytes_eq};
 ghost use Rattle.lq_value.specs.Refusal.{IsRefusedBy};
 ghost use Rattle.lq_value.specs.Number.{number_of};
 
@@ -73,5 +74,18 @@ impl Text {
         ensures { result ≡ number_of self.now }
     {
         self.number
+    }
+}
+
+/// Whether two texts are the same. It takes no memory.
+///
+/// Most texts that are sought among others differ from them in their first byte: that one is
+/// looked at first.
+pub fn same_text(one: &str, other: &str) -> bool
+    ensures { result ≡ bytes_eq one.now other.now }
+{
+    match (one.as_bytes().first(), other.as_bytes().first()) {
+        (Some(a), Some(b)) if *a != *b => false,
+        _ => one == other,
     }
 }

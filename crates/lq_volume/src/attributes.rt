@@ -6,7 +6,7 @@ ghost use Rattle.lq_value.specs.Refusal.{IsRefusedBy};
 ghost use Rattle.lq_volume.specs.Attributes.{HasOwnNames, value_of, with_attr, without_attr};
 
 use crate::many::Many;
-use lq_value::{AttrName, Refusal, Value};
+use lq_value::{AttrName, Refusal, Value, same_text};
 use std::alloc::Global;
 use std::marker::Model;
 
@@ -158,7 +158,7 @@ fn find<'a>(list: &'a [(AttrName, Value)], attr: &AttrName) -> Option<&'a Value>
     ensures { option_copied result ≡ value_of list.now attr.now }
 {
     for pair in list {
-        if attr.as_str() == pair.0.as_str() {
+        if same_text(attr.as_str(), pair.0.as_str()) {
             return Some(&pair.1);
         }
     }
@@ -173,7 +173,7 @@ fn place_of(list: &[(AttrName, Value)], attr: &AttrName) -> Option<usize>
 {
     let mut place = 0;
     for pair in list {
-        if attr.as_str() == pair.0.as_str() {
+        if same_text(attr.as_str(), pair.0.as_str()) {
             return Some(place);
         }
         place += 1;

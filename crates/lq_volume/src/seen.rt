@@ -7,7 +7,7 @@ ghost use Rattle.lq_volume.specs.Seen.{attrs_of};
 
 use crate::attributes::Attributes;
 use lq_predicate::{Column, Field, Row};
-use lq_value::{AttrName, Entry, Kind, Name, Refusal, Value, View};
+use lq_value::{AttrName, Entry, Kind, Name, Refusal, Value, View, same_text};
 use std::alloc::Global;
 use std::marker::Model;
 
@@ -111,14 +111,14 @@ impl<'a> Seen<'a> {
         match self.difference {
             Difference::None => kept(self.attrs, asked),
             Difference::Set { attr, value } => {
-                if asked.as_str() == attr.as_str() {
+                if same_text(asked.as_str(), attr.as_str()) {
                     Some(value)
                 } else {
                     kept(self.attrs, asked)
                 }
             }
             Difference::Unset { attr } => {
-                if asked.as_str() == attr.as_str() {
+                if same_text(asked.as_str(), attr.as_str()) {
                     None
                 } else {
                     kept(self.attrs, asked)

@@ -3,11 +3,11 @@ use Rattle.std.specs.Str.{bytes_eq}
 use Rattle.lq_volume.proofs.AttributeLemmas.{value_of-drop}
 use Rattle.lq_volume.proofs.attributes.find.Goals as goal
 
-pub returns-then-eq : goal.returns-then-eq
-returns-then-eq c =
+pub returns-then-same_text : goal.returns-then-same_text
+returns-then-same_text c =
     let same : bytes_eq c.args.attr.now c.pair-item.result.0 ≡ true =
-    rw (← c.as_str.ensures.value, ← c.as_str-in-loop-pair.ensures.value) (sym c.eq.ensures
-    ∙ c.if-eq.true) in
+    rw (← c.as_str.ensures.value, ← c.as_str-in-loop-pair.ensures.value) (sym c.same_text.ensures
+    ∙ c.if-same_text.true) in
     let is = rw same at
     (value_of-drop c.args.list.now c.loop-pair.pair-index c.args.attr.now c.pair-item.result
     c.loop-pair-test.true c.pair-item.is) in
@@ -16,8 +16,8 @@ returns-then-eq c =
 pub loop-pair-preserved : goal.loop-pair-preserved
 loop-pair-preserved c =
     let differs : bytes_eq c.args.attr.now c.pair-item.result.0 ≡ false =
-    rw (← c.as_str.ensures.value, ← c.as_str-in-loop-pair.ensures.value) (sym c.eq.ensures
-    ∙ c.if-eq.false) in
+    rw (← c.as_str.ensures.value, ← c.as_str-in-loop-pair.ensures.value) (sym c.same_text.ensures
+    ∙ c.if-same_text.false) in
     let is = rw differs at
     (value_of-drop c.args.list.now c.loop-pair.pair-index c.args.attr.now c.pair-item.result
     c.loop-pair-test.true c.pair-item.is) in

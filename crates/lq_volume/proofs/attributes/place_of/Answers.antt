@@ -6,11 +6,11 @@ use Rattle.std.proofs.lemmas.Slice.Eq.{bytes_eq-Decides}
 use Rattle.lq_volume.proofs.AttributeLemmas.{value_of-drop}
 use Rattle.lq_volume.proofs.attributes.place_of.Goals as goal
 
-pub returns-then-eq-clause-found : goal.returns-then-eq-clause-found
-returns-then-eq-clause-found c =
+pub returns-then-same_text-clause-found : goal.returns-then-same_text-clause-found
+returns-then-same_text-clause-found c =
     let same : bytes_eq c.args.attr.now c.pair-item.result.0 ≡ true =
-    rw (← c.as_str.ensures.value, ← c.as_str-in-loop-pair.ensures.value) (sym c.eq.ensures
-    ∙ c.if-eq.true) in
+    rw (← c.as_str.ensures.value, ← c.as_str-in-loop-pair.ensures.value) (sym c.same_text.ensures
+    ∙ c.if-same_text.true) in
     let is : c.args.attr.now ≡ c.pair-item.result.0 = (bytes_eq-Decides _ _).0 same in
     let there : slice_get c.args.list.now c.loop-pair.pair-index ≡ Some c.pair-item.result =
     slice_get_read _ _ _ _ refl c.loop-pair-test.true c.pair-item.is in
@@ -19,8 +19,8 @@ returns-then-eq-clause-found c =
 pub loop-pair-preserved : goal.loop-pair-preserved
 loop-pair-preserved c =
     let differs : bytes_eq c.args.attr.now c.pair-item.result.0 ≡ false =
-    rw (← c.as_str.ensures.value, ← c.as_str-in-loop-pair.ensures.value) (sym c.eq.ensures
-    ∙ c.if-eq.false) in
+    rw (← c.as_str.ensures.value, ← c.as_str-in-loop-pair.ensures.value) (sym c.same_text.ensures
+    ∙ c.if-same_text.false) in
     let is = rw differs at
     (value_of-drop c.args.list.now c.loop-pair.pair-index c.args.attr.now c.pair-item.result
     c.loop-pair-test.true c.pair-item.is) in

@@ -21,11 +21,8 @@ returns-then-passes_over-clause-ok c =
     let p = c.args.self.now in
     let before : c.applied-before.result.change - 1 ≡ s.number =
     omega (arith, ap (λ (a : Applied). a.change) c.applied-before.ensures.value) in
-    ap (λ (v : Prepared). record v {
-      ready = c.new.result.items;
-      before = c.applied-before.result.change - 1;
-    }) c.self.view_is
+    c.forget_ready.ensures
     ∙ (ap (λ messages. record p { ready = messages; before = c.applied-before.result.change - 1 })
-    (c.new.ensures.items ∙ sym none)
+    (sym none)
     ∙ ap
     (λ n. record p { ready = step_of h.query h.moved s change (h.sent + 1); before = n }) before)

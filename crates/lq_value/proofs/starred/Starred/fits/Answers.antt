@@ -1,5 +1,5 @@
 use Rattle.std.proofs.Common.{◌∙◌}
-use Rattle.std.proofs.lemmas.Str.Pattern.{contains_text, ends_text, starts_text}
+use Rattle.std.proofs.lemmas.Str.Pattern.{contains_text, ends_text}
 use Rattle.lq_value.proofs.StarredLemmas.{tells-back, tells-front, tells-inside, tells-same, tells-starred}
 use Rattle.lq_value.proofs.starred.Starred.fits.Goals as goal
 
@@ -23,9 +23,8 @@ pub returns-in-false-true : goal.returns-in-false-true
 returns-in-false-true c =
     let x = c.as_str-plain.result.now in
     let t = c.args.text.now in
-    let is = starts_text c.starts_with.result x t c.starts_with.ensures.cases in
     tells-starred _ c.args.self.now _ x _ t c.in-false-true.is-0 c.as_str-plain.ensures.value
-    c.in-false-true.is-1 (tells-front _ x t c.as_str-plain.utf8 c.utf8.text is)
+    c.in-false-true.is-1 (tells-front _ x t c.as_str-plain.utf8 c.utf8.text c.begins.ensures)
 
 pub returns-in-false-false : goal.returns-in-false-false
 returns-in-false-false c =
