@@ -1,38 +1,32 @@
 //! The attributes of an entry.
-ghost use Rattle.std.specs.Prelude.{◌≡◌, [], length, slice_get, Some, None, IfOk, IfSome, IfNone, OnOk, OnErr};
+ghost use Rattle.std.specs.Prelude.{◌≡◌, [], length, slice_get, None, IfOk, OnOk, OnErr};
 ghost use Rattle.std.specs.Map.Iter.{deref_pair};
 ghost use Rattle.std.specs.Option.{option_copied, option_map};
 ghost use Rattle.lq_value.specs.Refusal.{IsRefusedBy};
-ghost use Rattle.lq_volume.specs.Attributes.{HasOwnNames, value_of, with_attr, without_attr};
 
-use crate::many::Many;
-use lq_value::{AttrName, Refusal, Value, same_text};
+use crate::attr_table::AttrTable;
+use lq_value::{AttrName, Refusal, Value};
 use std::alloc::Global;
 use std::marker::Model;
 
-/// A list with this many attributes becomes maps before the next is set.
-const FEW: usize = 16;
-
 /// The attributes of an entry, in the order in which they were first set.
 ///
-/// A contract sees them as the list of their names and values.
+/// Most entries have none: they take no memory, and 8 bytes where they stand. A contract sees them
+/// as the list of their names and values.
 #[derive(Debug, Drop)]
 pub struct Attributes {
     alloc: Global,
-    // A list that is searched; it is empty where there are many.
-    few: Vec<(AttrName, Value)>,
-    many: Option<Box<Many>>,
+    table: Option<Box<AttrTable>>,
 }
 
 impl Model for Attributes {
+    ghost use Rattle.std.specs.Prelude.{[]};
     ghost use Rattle.std.specs.Option.{option_map_or};
-    ghost use Rattle.lq_volume.specs.Attributes.{Attributes as List, HasOwnNames};
+    ghost use Rattle.lq_volume.specs.Attributes.{Attributes as List};
 
     ghost Value = { List };
 
-    ghost view = { λ a. option_map_or (λ m. m.value) a.many a.few.items };
-
-    ghost invariant = { λ a. HasOwnNames (option_map_or (λ m. m.value) a.many a.few.items) };
+    ghost view = { λ a. option_map_or (λ t. t.value) a.table [] };
 }
 
 impl Attributes {
@@ -42,20 +36,16 @@ impl Attributes {
     pub fn new(alloc: Global) -> Attributes
         ensures { result ≡ [] }
     {
-        Attributes {
-            alloc,
-            few: Vec::new(alloc),
-            many: None,
-        }
+        Attributes { alloc, table: None }
     }
 
     /// How many there are.
     pub fn len(&self) -> usize
         ensures { result ≡ length self.now }
     {
-        match &self.many {
-            None => self.few.len(),
-            Some(many) => many.len(),
+        match &self.table {
+            None => 0,
+            Some(table) => table.len(),
         }
     }
 
@@ -63,9 +53,9 @@ impl Attributes {
     pub fn get(&self, attr: &AttrName) -> Option<&Value>
         ensures { option_copied result ≡ value_of self.now attr.now }
     {
-        match &self.many {
-            None => find(&self.few, attr),
-            Some(many) => many.get(attr),
+        match &self.table {
+            None => None,
+            Some(table) => table.get(attr),
         }
     }
 
@@ -73,12 +63,9 @@ impl Attributes {
     pub fn at(&self, place: usize) -> Option<(&AttrName, &Value)>
         ensures { option_map deref_pair result ≡ slice_get self.now place }
     {
-        match &self.many {
-            None => match self.few.get(place) {
-                None => None,
-                Some(pair) => Some((&pair.0, &pair.1)),
-            },
-            Some(many) => many.at(place),
+        match &self.table {
+            None => None,
+            Some(table) => table.at(place),
         }
     }
 
@@ -88,23 +75,13 @@ impl Attributes {
         ensures ok { OnOk result (self.new ≡ with_attr self.old attr value) }
         ensures err { OnErr result (self.new ≡ self.old) }
     {
-        self.spread()?;
-        match &mut self.many {
-            None => put(&mut self.few, attr, value)?,
-            Some(many) => many.set(attr, value)?,
-        }
-        Ok(())
-    }
-
-    // Turns a list that is no longer short into maps. Refused: `NoMemory`.
-    fn spread(&mut self) -> Result<(), Refusal>
-        ensures refused { IsRefusedBy result None }
-        ensures same { self.new ≡ self.old }
-    {
-        if self.many.is_none() && self.few.len() >= FEW {
-            let many = Many::of(self.alloc, copied(self.alloc, &self.few)?)?;
-            self.many = Some(Box::new(self.alloc, many)?);
-            self.few = Vec::new(self.alloc);
+        match &mut self.table {
+            None => {
+                let mut table = AttrTable::new(self.alloc);
+                table.set(attr, value)?;
+                self.table = Some(Box::new(self.alloc, table)?);
+            }
+            Some(table) => table.set(attr, value)?,
         }
         Ok(())
     }
@@ -113,9 +90,8 @@ impl Attributes {
     pub fn remove(&mut self, attr: &AttrName)
         ensures { self.new ≡ without_attr self.old attr.now }
     {
-        match &mut self.many {
-            None => take_out(&mut self.few, attr),
-            Some(many) => many.remove(attr),
+        if let Some(table) = &mut self.table {
+            table.remove(attr);
         }
     }
 
@@ -124,18 +100,13 @@ impl Attributes {
         ensures refused { IsRefusedBy result None }
         ensures value { IfOk result (λ copy. copy ≡ self.now) }
     {
-        match &self.many {
-            None => Ok(Attributes {
-                alloc,
-                few: copied(alloc, &self.few)?,
-                many: None,
-            }),
-            Some(many) => {
-                let copy = Many::of(alloc, many.list(alloc)?)?;
+        match &self.table {
+            None => Ok(Attributes::new(alloc)),
+            Some(table) => {
+                let copy = table.copy(alloc)?;
                 Ok(Attributes {
                     alloc,
-                    few: Vec::new(alloc),
-                    many: Some(Box::new(alloc, copy)?),
+                    table: Some(Box::new(alloc, copy)?),
                 })
             }
         }
@@ -146,76 +117,9 @@ impl Attributes {
         ensures refused { IsRefusedBy result None }
         ensures value { IfOk result (λ list. list.items ≡ self.now) }
     {
-        match &self.many {
-            None => copied(alloc, &self.few),
-            Some(many) => many.list(alloc),
+        match &self.table {
+            None => Ok(Vec::new(alloc)),
+            Some(table) => table.list(alloc),
         }
     }
-}
-
-// The value of an attribute of a list.
-fn find<'a>(list: &'a [(AttrName, Value)], attr: &AttrName) -> Option<&'a Value>
-    ensures { option_copied result ≡ value_of list.now attr.now }
-{
-    for pair in list {
-        if same_text(attr.as_str(), pair.0.as_str()) {
-            return Some(&pair.1);
-        }
-    }
-    None
-}
-
-// The place of an attribute in a list, counted from 0.
-fn place_of(list: &[(AttrName, Value)], attr: &AttrName) -> Option<usize>
-    ensures found { IfSome result (λ place.
-        option_map (λ a. a.0) (slice_get list.now place) ≡ Some attr.now) }
-    ensures none { IfNone result (value_of list.now attr.now ≡ None) }
-{
-    let mut place = 0;
-    for pair in list {
-        if same_text(attr.as_str(), pair.0.as_str()) {
-            return Some(place);
-        }
-        place += 1;
-    }
-    None
-}
-
-// Sets an attribute in a list. Refused: `NoMemory`, and then nothing changes.
-fn put(list: &mut Vec<(AttrName, Value)>, attr: AttrName, value: Value) -> Result<(), Refusal>
-    requires { HasOwnNames list.old.items }
-    ensures refused { IsRefusedBy result None }
-    ensures ok { OnOk result (list.new.items ≡ with_attr list.old.items attr value) }
-    ensures err { OnErr result (list.new.items ≡ list.old.items) }
-{
-    match place_of(list, &attr) {
-        None => {
-            list.reserve_exact(1)?;
-            list.push((attr, value))?;
-        }
-        Some(place) => list[place] = (attr, value),
-    }
-    Ok(())
-}
-
-// Takes an attribute out of a list.
-fn take_out(list: &mut Vec<(AttrName, Value)>, attr: &AttrName)
-    requires { HasOwnNames list.old.items }
-    ensures { list.new.items ≡ without_attr list.old.items attr.now }
-{
-    if let Some(place) = place_of(list, attr) {
-        list.remove(place);
-    }
-}
-
-// The names and values of a list, copied. Refused: `NoMemory`.
-fn copied(alloc: Global, list: &[(AttrName, Value)]) -> Result<Vec<(AttrName, Value)>, Refusal>
-    ensures refused { IsRefusedBy result None }
-    ensures value { IfOk result (λ copy. copy.items ≡ list.now) }
-{
-    let mut copy = Vec::with_capacity(alloc, list.len())?;
-    for pair in list {
-        copy.push((pair.0.copy(alloc)?, pair.1.copy(alloc)?))?;
-    }
-    Ok(copy)
 }

@@ -6,6 +6,7 @@
 //! `change`, then `volume`.
 #![tactic(auto)]
 
+mod attr_table;
 mod attributes;
 mod change;
 mod checks;

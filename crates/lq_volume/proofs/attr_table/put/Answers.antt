@@ -1,6 +1,6 @@
 use Rattle.std.proofs.Common.{sym}
 use Rattle.lq_volume.proofs.AttributeLemmas.{with_attr-at, with_attr-new}
-use Rattle.lq_volume.proofs.attributes.put.Goals as goal
+use Rattle.lq_volume.proofs.attr_table.put.Goals as goal
 
 pub returns-in_ok-push-in-None-clause-ok : goal.returns-in_ok-push-in-None-clause-ok
 returns-in_ok-push-in-None-clause-ok c =

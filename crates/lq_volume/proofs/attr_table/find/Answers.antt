@@ -1,7 +1,7 @@
 use Rattle.std.proofs.Common.{◌≡◌, ◌∙◌, sym, true, false}
 use Rattle.std.specs.Str.{bytes_eq}
 use Rattle.lq_volume.proofs.AttributeLemmas.{value_of-drop}
-use Rattle.lq_volume.proofs.attributes.find.Goals as goal
+use Rattle.lq_volume.proofs.attr_table.find.Goals as goal
 
 pub returns-then-same_text : goal.returns-then-same_text
 returns-then-same_text c =

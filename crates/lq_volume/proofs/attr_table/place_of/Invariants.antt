@@ -1,6 +1,6 @@
 use Rattle.std.proofs.Common.{◌≡◌, drop}
 use Rattle.lq_volume.specs.Attributes.{value_of}
-use Rattle.lq_volume.proofs.attributes.place_of.Given as goal
+use Rattle.lq_volume.proofs.attr_table.place_of.Given as goal
 
 -- the value is among those that are left
 abbrev pub invariant-loop-pair : goal.invariant-loop-pair

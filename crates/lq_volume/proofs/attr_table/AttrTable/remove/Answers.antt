@@ -1,6 +1,6 @@
 use Rattle.lq_volume.specs.Attributes.{HasOwnNames}
 use Rattle.lq_volume.proofs.AttributeLemmas.{HasOwnNames-without}
-use Rattle.lq_volume.proofs.attributes.Attributes.remove.Goals as goal
+use Rattle.lq_volume.proofs.attr_table.AttrTable.remove.Goals as goal
 
 pub invariant_of-self : goal.invariant_of-self
 invariant_of-self c =

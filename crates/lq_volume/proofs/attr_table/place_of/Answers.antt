@@ -4,7 +4,7 @@ use Rattle.std.specs.Prelude.{slice_get}
 use Rattle.std.proofs.lemmas.Option.{slice_get_read}
 use Rattle.std.proofs.lemmas.Slice.Eq.{bytes_eq-Decides}
 use Rattle.lq_volume.proofs.AttributeLemmas.{value_of-drop}
-use Rattle.lq_volume.proofs.attributes.place_of.Goals as goal
+use Rattle.lq_volume.proofs.attr_table.place_of.Goals as goal
 
 pub returns-then-same_text-clause-found : goal.returns-then-same_text-clause-found
 returns-then-same_text-clause-found c =

@@ -1,6 +1,6 @@
 use Rattle.std.proofs.Common.{◌∙◌, sym}
 use Rattle.lq_volume.proofs.AttributeLemmas.{without_attr-at, without_attr-none}
-use Rattle.lq_volume.proofs.attributes.take_out.Goals as goal
+use Rattle.lq_volume.proofs.attr_table.take_out.Goals as goal
 
 pub returns-in-Some : goal.returns-in-Some
 returns-in-Some c =

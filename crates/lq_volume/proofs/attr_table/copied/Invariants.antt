@@ -1,5 +1,5 @@
 use Rattle.std.proofs.Common.{◌≡◌, take}
-use Rattle.lq_volume.proofs.attributes.copied.Given as goal
+use Rattle.lq_volume.proofs.attr_table.copied.Given as goal
 
 -- the attributes so far
 abbrev pub invariant-loop-pair : goal.invariant-loop-pair
