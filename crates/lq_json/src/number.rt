@@ -1,21 +1,60 @@
 //! The number that a text of JSON writes.
-ghost use Rattle.std.specs.Prelude.{◌≡◌, ◌==◌, ◌<◌, IsTrue, false, length, option_map, slice_index, true};
+ghost use Rattle.std.specs.Prelude.{◌≡◌, ◌==◌, ◌+◌, ◌*◌, ◌<◌, ◌≤◌, ◌^◌, IfSome, IsTrue, None, Some, false, length, option_map, slice_index, true, if◌then◌else◌};
+ghost use Rattle.std.specs.Char.{digit_value, is_ascii_digit};
+ghost use Rattle.std.specs.List.{list_all};
+ghost use Rattle.std.specs.Str.Parse.{digits_value};
 ghost use Rattle.serde_json.specs.Read.{float_of, number_from, number_of};
 ghost use Rattle.serde_json.specs.View.{number_view};
 
 use fast_float::Numeral;
 use serde_json::Number;
 
+/// The most digits that are read one by one: what they write has less than 64 bits.
+const MAX_DIGITS: usize = 18;
+
 /// A whole number of 64 bits, else the nearest double; `None` where that is infinite.
 pub(crate) fn number_in(text: &str) -> Option<Number>
     ensures { option_map number_view result ≡ number_of text.now }
 {
     let bytes = text.as_bytes();
+    if let Some(whole) = digits_in(bytes) {
+        return Some(Number::from(whole));
+    }
     if has_minus(bytes) {
         negative(&Numeral::scan(&bytes[1..]))
     } else {
         unsigned(&Numeral::scan(bytes))
     }
+}
+
+// The number that the bytes write, where they are 1 to 18 digits alone, as in most numbers.
+fn digits_in(bytes: &[u8]) -> Option<u64>
+    ensures some { IfSome result (λ n. 0 < length bytes.now) }
+    ensures few { IfSome result (λ n. length bytes.now ≤ 18) }
+    ensures digits { IfSome result (λ n. IsTrue (list_all is_ascii_digit bytes.now)) }
+    ensures value { IfSome result (λ n. n ≡ digits_value 10 bytes.now) }
+{
+    if bytes.is_empty() || bytes.len() > MAX_DIGITS {
+        return None;
+    }
+    let mut value: u64 = 0;
+    for byte in bytes {
+        value = with_digit(value, *byte as u32)?;
+    }
+    Some(value)
+}
+
+// The number with one more digit behind it; `None` where the code is no digit's.
+#[inline(always)]
+fn with_digit(value: u64, code: u32) -> Option<u64>
+    requires { value < 10 ^ 18 }
+    ensures { result ≡
+        (if is_ascii_digit code then Some (value * 10 + digit_value code) else None) }
+{
+    if code < 48 || code > 57 {
+        return None;
+    }
+    Some(value * 10 + (code - 48) as u64)
 }
 
 fn has_minus(bytes: &[u8]) -> bool

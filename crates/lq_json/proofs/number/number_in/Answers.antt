@@ -1,7 +1,19 @@
-use Rattle.std.proofs.Common.{◌≡◌, drop, get_or, true, false, ◌==◌, sym, ap, ◌∙◌, arith, take_all, length-drop}
+use Rattle.std.proofs.Common.{◌≡◌, Some, drop, get_or, true, false, ◌==◌, sym, ap, ◌∙◌, arith, take_all, length-drop}
+use Rattle.std.specs.Str.Parse.{digits_value}
 use Rattle.fast_float.specs.Text.{scan}
+use Rattle.serde_json.specs.Data.{unsigned}
 use Rattle.serde_json.specs.Read.{number_of, number_from}
+use Rattle.lq_json.proofs.NumberLemmas.{all_digits, number_of-digits}
 use Rattle.lq_json.proofs.number.number_in.Goals as goal
+
+pub returns-in-Some : goal.returns-in-Some
+returns-in-Some c =
+    let s = c.as_bytes-bytes.result.now in
+    let read : number_of s ≡ Some (unsigned (digits_value 10 s)) =
+    number_of-digits s c.in-Some.ensures.some (all_digits s c.in-Some.ensures.digits)
+    c.in-Some.ensures.few in
+    ap Some c.from.ensures ∙ ap (λ n. Some (unsigned n)) c.in-Some.ensures.value ∙ sym read
+    ∙ ap number_of c.as_bytes-bytes.ensures.value
 
 pub returns-then-has_minus : goal.returns-then-has_minus
 unfolding number_of
