@@ -14,3 +14,4 @@ pub mod Written
 pub mod Laws
 pub mod Reading
 pub mod Piece
+pub mod SmallText

@@ -6,9 +6,9 @@ ghost use Rattle.lq_value.specs.Refusal.{IsRefusedBy};
 ghost use Rattle.lq_value.specs.Name.{is_attr_name};
 
 use crate::refusal::Refusal;
+use crate::shared_text::SharedText;
 use std::alloc::Global;
 use std::marker::Model;
-use std::sync::ArcStr;
 
 /// The longest name of an attribute, in bytes.
 pub const MAX_ATTR_NAME: usize = 255;
@@ -19,19 +19,18 @@ pub const MAX_ATTR_NAME: usize = 255;
 /// with the last of them.
 #[derive(Debug, Drop)]
 pub struct AttrName {
-    text: ArcStr,
+    text: SharedText,
 }
 
 impl Model for AttrName {
     ghost use Rattle.std.specs.Prelude.{ℕ, List, IsTrue};
-    ghost use Rattle.std.specs.Arc.{arc_str_bytes};
     ghost use Rattle.lq_value.specs.Name.{is_attr_name};
 
     ghost Value = { List ℕ };
 
-    ghost view = { λ name. arc_str_bytes name.text };
+    ghost view = { λ name. name.text };
 
-    ghost invariant = { λ name. IsTrue (is_attr_name (arc_str_bytes name.text)) };
+    ghost invariant = { λ name. IsTrue (is_attr_name name.text) };
 }
 
 impl AttrName {
@@ -48,7 +47,7 @@ impl AttrName {
             return Err(Refusal::BadName);
         }
         Ok(AttrName {
-            text: ArcStr::from_str(alloc, text)?,
+            text: SharedText::new(alloc, text)?,
         })
     }
 
@@ -68,11 +67,9 @@ impl AttrName {
         ensures value { IfOk result (λ name. name ≡ self.now) }
         ensures valid { IfOk result (λ name. IsTrue (is_attr_name name)) }
     {
-        let text = match self.text.clone() {
-            Ok(text) => text,
-            Err(_) => ArcStr::from_str(alloc, self.text.as_str())?,
-        };
-        Ok(AttrName { text })
+        Ok(AttrName {
+            text: self.text.copy(alloc)?,
+        })
     }
 }
 

@@ -9,10 +9,10 @@ ghost use Rattle.lq_value.specs.NameOrder.{hash_of, name_cmp, names_total, names
 ghost use Rattle.std.specs.List.{list_all};
 
 use crate::refusal::Refusal;
+use crate::shared_text::SharedText;
 use std::alloc::Global;
 use std::cmp::Ordering;
 use std::marker::Model;
-use std::sync::ArcStr;
 
 /// The longest name of an entry, in bytes.
 const MAX_NAME: usize = 255;
@@ -28,21 +28,20 @@ const KEPT: u64 = 1 << 55;
 #[derive(Debug, Drop)]
 pub struct Name {
     hash: u64,
-    text: ArcStr,
+    text: SharedText,
 }
 
 impl Model for Name {
     ghost use Rattle.std.specs.Prelude.{◌≡◌, ℕ, List, IsTrue};
-    ghost use Rattle.std.specs.Arc.{arc_str_bytes};
     ghost use Rattle.lq_value.specs.Name.{is_name};
     ghost use Rattle.lq_value.specs.NameOrder.{hash_of};
 
     ghost Value = { List ℕ };
 
-    ghost view = { λ name. arc_str_bytes name.text };
+    ghost view = { λ name. name.text };
 
-    ghost invariant = { λ name. IsTrue (is_name (arc_str_bytes name.text))
-        × (name.hash ≡ hash_of (arc_str_bytes name.text)) };
+    ghost invariant = { λ name. IsTrue (is_name name.text)
+        × (name.hash ≡ hash_of name.text) };
 }
 
 impl Name {
@@ -59,7 +58,7 @@ impl Name {
         }
         Ok(Name {
             hash: hash_of_bytes(text.as_bytes()),
-            text: ArcStr::from_str(alloc, text)?,
+            text: SharedText::new(alloc, text)?,
         })
     }
 
@@ -78,13 +77,9 @@ impl Name {
         ensures refused { IsRefusedBy result None }
         ensures value { IfOk result (λ name. name ≡ self.now) }
     {
-        let text = match self.text.clone() {
-            Ok(text) => text,
-            Err(_) => ArcStr::from_str(alloc, self.text.as_str())?,
-        };
         Ok(Name {
             hash: self.hash,
-            text,
+            text: self.text.copy(alloc)?,
         })
     }
 }

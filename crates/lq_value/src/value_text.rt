@@ -4,6 +4,7 @@ ghost use Rattle.lq_value.specs.Refusal.{IsRefusedBy};
 ghost use Rattle.lq_value.specs.Value.{text_refusal};
 
 use crate::refusal::Refusal;
+use crate::small_text::SmallText;
 use std::alloc::Global;
 use std::marker::Model;
 
@@ -15,18 +16,17 @@ const MAX_VALUE_TEXT: usize = 4096;
 /// A contract sees it as its bytes.
 #[derive(Debug, Drop)]
 pub struct ValueText {
-    text: String,
+    text: SmallText,
 }
 
 impl Model for ValueText {
     ghost use Rattle.std.specs.Prelude.{ℕ, List, length, ◌≤◌};
-    ghost use Rattle.std.specs.String.{string_bytes};
 
     ghost Value = { List ℕ };
 
-    ghost view = { λ value. string_bytes value.text };
+    ghost view = { λ value. value.text };
 
-    ghost invariant = { λ value. length (string_bytes value.text) ≤ 4096 };
+    ghost invariant = { λ value. length value.text ≤ 4096 };
 }
 
 impl ValueText {
@@ -42,7 +42,7 @@ impl ValueText {
             return Err(Refusal::TooLong);
         }
         Ok(ValueText {
-            text: String::from_str(alloc, text)?,
+            text: SmallText::new(alloc, text)?,
         })
     }
 
@@ -60,7 +60,7 @@ impl ValueText {
         ensures value { IfOk result (λ value. value ≡ self.now) }
     {
         Ok(ValueText {
-            text: String::from_str(alloc, self.text.as_str())?,
+            text: SmallText::new(alloc, self.text.as_str())?,
         })
     }
 }

@@ -1,0 +1,58 @@
+//! A text that takes no memory of its own where it is short.
+ghost use Rattle.std.specs.Prelude.{◌≡◌, None, IfOk};
+ghost use Rattle.lq_value.specs.Refusal.{IsRefusedBy};
+
+use crate::refusal::Refusal;
+use arrayvec::ArrayString;
+use std::alloc::Global;
+use std::marker::Model;
+
+/// The longest text that stands in its place, in bytes. A `String` takes as much there.
+const MAX_SHORT: usize = 16;
+
+/// A text of UTF-8, which up to 16 bytes takes no memory of its own.
+///
+/// A contract sees it as its bytes.
+#[derive(Debug, Drop)]
+pub(crate) struct SmallText {
+    kept: Kept,
+}
+
+#[derive(Debug, Drop)]
+pub(crate) enum Kept {
+    Here(ArrayString<MAX_SHORT>),
+    Apart(String),
+}
+
+impl Model for SmallText {
+    ghost use Rattle.std.specs.Prelude.{ℕ, List};
+    ghost use Rattle.lq_value.specs.SmallText.{kept_bytes};
+
+    ghost Value = { List ℕ };
+
+    ghost view = { λ small. kept_bytes small.kept };
+}
+
+impl SmallText {
+    /// The text with these bytes. Refused: `NoMemory`.
+    pub fn new(alloc: Global, text: &str) -> Result<SmallText, Refusal>
+        ensures refused { IsRefusedBy result None }
+        ensures value { IfOk result (λ small. small ≡ text.now) }
+    {
+        let kept = match ArrayString::from(text) {
+            Ok(short) => Kept::Here(short),
+            Err(_) => Kept::Apart(String::from_str(alloc, text)?),
+        };
+        Ok(SmallText { kept })
+    }
+
+    /// The bytes as a `str`. It takes no memory.
+    pub fn as_str(&self) -> &str
+        ensures { result.now ≡ self.now }
+    {
+        match &self.kept {
+            Kept::Here(text) => text.as_str(),
+            Kept::Apart(text) => text.as_str(),
+        }
+    }
+}
