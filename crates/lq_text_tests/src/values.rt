@@ -142,7 +142,10 @@ a|ab|other
 é|è|other
 é|Ã|other
 name|name|same
-name|same|other";
+name|same|other
+from|when|other
+name|node|other
+status|stutus|other";
 
 // text | the number that it writes as a pattern and as a plain text, or none
 const NUMBERS: &str = r"0|0
@@ -336,6 +339,22 @@ fn a_copy_has_its_text(rt: HostRuntime) -> Result<(), Fail> {
     assert_eq!(rt; is_name_copied(rt.alloc(), ".."), Err(Refusal::BadName));
     assert_eq!(rt; is_attr_copied(rt.alloc(), "a/b"), Ok(true));
     assert_eq!(rt; is_attr_copied(rt.alloc(), ""), Err(Refusal::BadName));
+    Ok(())
+}
+
+// Up to 16 bytes stand in their place, and a longer text in memory of its own.
+#[test]
+fn a_text_of_each_length_is_kept(rt: HostRuntime) -> Result<(), Fail> {
+    let alloc = rt.alloc();
+    for length in [1, 15, 16, 17, 255] {
+        let text = repeated(alloc, "a", length, "")?;
+        assert_eq!(rt; is_name_copied(alloc, &text), Ok(true));
+        assert_eq!(rt; is_attr_copied(alloc, &text), Ok(true));
+        assert_eq!(rt; is_text_copied(alloc, &text), Ok(true));
+    }
+    assert_eq!(rt; is_text_copied(alloc, ""), Ok(true));
+    assert_eq!(rt; is_name_copied(alloc, "fifteen letters"), Ok(true));
+    assert_eq!(rt; is_name_copied(alloc, "fifteen letters\u{e9}"), Ok(true));
     Ok(())
 }
 

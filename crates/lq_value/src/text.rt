@@ -79,12 +79,16 @@ impl Text {
 
 /// Whether two texts are the same. It takes no memory.
 ///
-/// Most texts that are sought among others differ from them in their first byte: that one is
-/// looked at first.
+/// Most texts that are sought among others differ from them in their first byte, or, as names that
+/// begin with one word do, in their last: these two are looked at first.
 pub fn same_text(one: &str, other: &str) -> bool
     ensures { result ≡ bytes_eq one.now other.now }
 {
     match (one.as_bytes().first(), other.as_bytes().first()) {
+        (Some(a), Some(b)) if *a != *b => return false,
+        _ => {}
+    }
+    match (one.as_bytes().last(), other.as_bytes().last()) {
         (Some(a), Some(b)) if *a != *b => false,
         _ => one == other,
     }
