@@ -342,19 +342,19 @@ fn a_copy_has_its_text(rt: HostRuntime) -> Result<(), Fail> {
     Ok(())
 }
 
-// Up to 16 bytes stand in their place, and a longer text in memory of its own.
+// A name of up to 14 bytes and a value of up to 30 stand in their place, a longer text apart.
 #[test]
 fn a_text_of_each_length_is_kept(rt: HostRuntime) -> Result<(), Fail> {
     let alloc = rt.alloc();
-    for length in [1, 15, 16, 17, 255] {
+    for length in [1, 14, 15, 30, 31, 255] {
         let text = repeated(alloc, "a", length, "")?;
         assert_eq!(rt; is_name_copied(alloc, &text), Ok(true));
         assert_eq!(rt; is_attr_copied(alloc, &text), Ok(true));
         assert_eq!(rt; is_text_copied(alloc, &text), Ok(true));
     }
     assert_eq!(rt; is_text_copied(alloc, ""), Ok(true));
-    assert_eq!(rt; is_name_copied(alloc, "fifteen letters"), Ok(true));
-    assert_eq!(rt; is_name_copied(alloc, "fifteen letters\u{e9}"), Ok(true));
+    assert_eq!(rt; is_name_copied(alloc, "twelve bytes\u{e9}"), Ok(true));
+    assert_eq!(rt; is_name_copied(alloc, "thirteen byte\u{e9}"), Ok(true));
     Ok(())
 }
 

@@ -1,6 +1,6 @@
 pub mod Refusal
 pub mod Name
-pub mod NameOrder
+pub mod NameHash
 pub mod Value
 pub mod Number
 pub mod Element
@@ -14,4 +14,4 @@ pub mod Written
 pub mod Laws
 pub mod Reading
 pub mod Piece
-pub mod SmallText
+pub mod Kept

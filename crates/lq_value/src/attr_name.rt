@@ -17,9 +17,16 @@ pub const MAX_ATTR_NAME: usize = 255;
 ///
 /// A contract sees it as its bytes. A name and its copies share one text, which is counted and goes
 /// with the last of them.
-#[derive(Debug, Drop)]
+#[derive(Debug)]
 pub struct AttrName {
     text: SharedText,
+}
+
+// One call takes it apart, wherever one is dropped.
+impl Drop for AttrName {
+    fn drop(self) {
+        let AttrName { text: _ } = self;
+    }
 }
 
 impl Model for AttrName {

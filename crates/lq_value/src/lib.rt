@@ -15,6 +15,7 @@ mod laws;
 mod literal;
 mod matching;
 mod name;
+mod name_text;
 mod op;
 mod pattern;
 mod piece;

@@ -1,15 +1,17 @@
 //! The name of an entry.
-ghost use Rattle.std.specs.Prelude.{◌≡◌, refl, true, false, Some, None, IfOk, IsTrue, nat_eq, if◌then◌else◌};
-ghost use Rattle.std.specs.Cmp.Lexicographic.{pointwise, nat_list_eq_equiv};
+ghost use Rattle.std.specs.Prelude.{◌≡◌, refl, Some, None, IfOk, IsTrue, nat_eq, if◌then◌else◌};
+ghost use Rattle.std.specs.Cmp.Lexicographic.{pointwise, slice_cmp, nat_list_eq_equiv, nat_list_cmp_total, texts_po, texts_ties};
 ghost use Rattle.std.specs.Cmp.{partial_equiv_from_equiv};
+ghost use Rattle.std.specs.Ordering.{nat_cmp};
 ghost use Rattle.lq_value.specs.declared.refusal.Refusal.TheVariants.{BadName};
 ghost use Rattle.lq_value.specs.Refusal.{IsRefusedBy};
 ghost use Rattle.lq_value.specs.Name.{is_name, is_name_byte};
-ghost use Rattle.lq_value.specs.NameOrder.{hash_of, name_cmp, names_total, names_ties, names_po};
+ghost use Rattle.lq_value.specs.NameHash.{hash_of};
 ghost use Rattle.std.specs.List.{list_all};
 
+use crate::name_text::NameText;
 use crate::refusal::Refusal;
-use crate::shared_text::SharedText;
+use crate::text::same_text;
 use std::alloc::Global;
 use std::cmp::Ordering;
 use std::marker::Model;
@@ -22,26 +24,29 @@ const KEPT: u64 = 1 << 55;
 
 /// The name of an entry: 1 to 255 bytes of UTF-8 without `/` and NUL, and neither `.` nor `..`.
 ///
-/// A contract sees a name as its bytes. A name and its copies share one text, which is counted and
-/// goes with the last of them. Names are ordered by a hash that is kept with them, and by their
-/// bytes where the hashes are the same: so a search loads the texts of few.
-#[derive(Debug, Drop)]
+/// A contract sees a name as its bytes, by which names are ordered. Up to 14 of them stand in the
+/// name itself; a longer name and its copies share one text, which goes with the last of them.
+#[derive(Debug)]
 pub struct Name {
-    hash: u64,
-    text: SharedText,
+    text: NameText,
+}
+
+// One call takes it apart, wherever one is dropped.
+impl Drop for Name {
+    fn drop(self) {
+        let Name { text: _ } = self;
+    }
 }
 
 impl Model for Name {
-    ghost use Rattle.std.specs.Prelude.{◌≡◌, ℕ, List, IsTrue};
+    ghost use Rattle.std.specs.Prelude.{ℕ, List, IsTrue};
     ghost use Rattle.lq_value.specs.Name.{is_name};
-    ghost use Rattle.lq_value.specs.NameOrder.{hash_of};
 
     ghost Value = { List ℕ };
 
     ghost view = { λ name. name.text };
 
-    ghost invariant = { λ name. IsTrue (is_name name.text)
-        × (name.hash ≡ hash_of name.text) };
+    ghost invariant = { λ name. IsTrue (is_name name.text) };
 }
 
 impl Name {
@@ -57,8 +62,7 @@ impl Name {
             return Err(Refusal::BadName);
         }
         Ok(Name {
-            hash: hash_of_bytes(text.as_bytes()),
-            text: SharedText::new(alloc, text)?,
+            text: NameText::new(alloc, text)?,
         })
     }
 
@@ -70,15 +74,22 @@ impl Name {
         self.text.as_str()
     }
 
-    /// Another name with the same text, which the two share: it takes no memory.
+    /// A number that tells most names apart: names with the same text have the same. It takes no
+    /// memory.
+    pub fn hash(&self) -> u64
+        ensures { result ≡ hash_of self.now }
+    {
+        hash_of_bytes(self.as_str().as_bytes())
+    }
+
+    /// Another name with the same text: it takes no memory.
     ///
-    /// Where 2^63 - 1 names share the text, the new name has a text of its own. Refused: `NoMemory`.
+    /// Where 2^63 - 1 names share a text, the new name has a text of its own. Refused: `NoMemory`.
     pub fn copy(&self, alloc: Global) -> Result<Name, Refusal>
         ensures refused { IsRefusedBy result None }
         ensures value { IfOk result (λ name. name ≡ self.now) }
     {
         Ok(Name {
-            hash: self.hash,
             text: self.text.copy(alloc)?,
         })
     }
@@ -90,7 +101,7 @@ impl PartialEq for Name {
     ghost laws = { partial_equiv_from_equiv nat_list_eq_equiv };
 
     fn eq(&self, other: &Name) -> bool {
-        self.hash == other.hash && self.as_str() == other.as_str()
+        same_text(self.as_str(), other.as_str())
     }
 }
 
@@ -99,9 +110,9 @@ impl Eq for Name {
 }
 
 impl PartialOrd for Name {
-    ghost partial_cmp = { λ x y. Some (name_cmp x y) };
+    ghost partial_cmp = { λ x y. Some (slice_cmp nat_cmp x y) };
 
-    ghost laws = { names_po };
+    ghost laws = { texts_po };
 
     fn partial_cmp(&self, other: &Name) -> Option<Ordering> {
         Some(self.cmp(other))
@@ -109,18 +120,15 @@ impl PartialOrd for Name {
 }
 
 impl Ord for Name {
-    ghost cmp = { name_cmp };
+    ghost cmp = { slice_cmp nat_cmp };
 
-    ghost total = { names_total };
+    ghost total = { nat_list_cmp_total };
 
     ghost matches_partial_cmp = { λ x y. refl };
 
-    ghost matches_eq = { names_ties };
+    ghost matches_eq = { texts_ties };
 
     fn cmp(&self, other: &Name) -> Ordering {
-        if self.hash != other.hash {
-            return self.hash.cmp(&other.hash);
-        }
         self.as_str().cmp(other.as_str())
     }
 }

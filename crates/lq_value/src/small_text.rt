@@ -3,14 +3,14 @@ ghost use Rattle.std.specs.Prelude.{◌≡◌, None, IfOk};
 ghost use Rattle.lq_value.specs.Refusal.{IsRefusedBy};
 
 use crate::refusal::Refusal;
-use arrayvec::ArrayString;
+use lq_short_text::ShortText;
 use std::alloc::Global;
 use std::marker::Model;
 
 /// The longest text that stands in its place, in bytes. A `String` takes as much there.
-const MAX_SHORT: usize = 16;
+const MAX_SHORT: usize = 30;
 
-/// A text of UTF-8, which up to 16 bytes takes no memory of its own.
+/// A text of UTF-8, which up to 30 bytes takes no memory of its own.
 ///
 /// A contract sees it as its bytes.
 #[derive(Debug, Drop)]
@@ -20,17 +20,17 @@ pub(crate) struct SmallText {
 
 #[derive(Debug, Drop)]
 pub(crate) enum Kept {
-    Here(ArrayString<MAX_SHORT>),
+    Here(ShortText<MAX_SHORT>),
     Apart(String),
 }
 
 impl Model for SmallText {
     ghost use Rattle.std.specs.Prelude.{ℕ, List};
-    ghost use Rattle.lq_value.specs.SmallText.{kept_bytes};
+    ghost use Rattle.lq_value.specs.Kept.{small_bytes};
 
     ghost Value = { List ℕ };
 
-    ghost view = { λ small. kept_bytes small.kept };
+    ghost view = { λ small. small_bytes small.kept };
 }
 
 impl SmallText {
@@ -39,9 +39,9 @@ impl SmallText {
         ensures refused { IsRefusedBy result None }
         ensures value { IfOk result (λ small. small ≡ text.now) }
     {
-        let kept = match ArrayString::from(text) {
-            Ok(short) => Kept::Here(short),
-            Err(_) => Kept::Apart(String::from_str(alloc, text)?),
+        let kept = match ShortText::new(text) {
+            Some(short) => Kept::Here(short),
+            None => Kept::Apart(String::from_str(alloc, text)?),
         };
         Ok(SmallText { kept })
     }

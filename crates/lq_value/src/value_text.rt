@@ -14,9 +14,16 @@ const MAX_VALUE_TEXT: usize = 4096;
 /// The text of a value: at most 4,096 bytes of UTF-8.
 ///
 /// A contract sees it as its bytes.
-#[derive(Debug, Drop)]
+#[derive(Debug)]
 pub struct ValueText {
     text: SmallText,
+}
+
+// One call takes it apart, wherever one is dropped.
+impl Drop for ValueText {
+    fn drop(self) {
+        let ValueText { text: _ } = self;
+    }
 }
 
 impl Model for ValueText {

@@ -10,6 +10,7 @@ pub mod Tree
 pub mod Changes
 pub mod Keeps
 pub mod PlaceLemmas
+pub mod IndexLemmas
 pub mod AttributeLemmas
 pub mod NumberedLemmas
 pub mod Touches

@@ -1,63 +1,26 @@
 -- The index of places: what an edit of the records makes of each place.
 use Rattle.std.proofs.Common.{◌≡◌, subst, ℕ, List, [], ◌∷◌, ◌++◌, refl, sym, arith, eqb, ap, ◌∙◌, Bool, true, false, inl, inr}
-use Rattle.std.specs.Prelude.{not, filter, cond, nat_eq, Option, Some, None, is_some, length, ◌&&◌, ◌==◌, option_and_then}
-use Rattle.std.specs.BTreeMap.{BTreeMap, get}
+use Rattle.std.specs.Prelude.{not, filter, cond, nat_eq, Option, Some, None, is_some, ◌&&◌, ◌==◌}
 use Rattle.std.specs.List.{list_any}
 use Rattle.std.specs.Map.{lookup, values_of}
-use Rattle.std.specs.Option.{option_map, option_map_or}
+use Rattle.std.specs.Option.{option_map}
 use Rattle.std.specs.Ordering.{nat_cmp, is_eq}
 use Rattle.std.specs.Str.{bytes_eq}
 use Rattle.std.proofs.lemmas.Bool.{cases_eq}
 use Rattle.std.proofs.lemmas.Bool.Decides.{nat_tests}
 use Rattle.std.proofs.lemmas.Slice.Eq.{bytes_eq-Decides}
-use Rattle.lq_value.specs.NameOrder.{name_cmp, names_ties}
+use Rattle.std.specs.Cmp.Lexicographic.{slice_cmp, texts_ties}
 use Rattle.lq_volume.specs.State.{Record, Rises, node_in}
 use Rattle.lq_volume.specs.Change.{altered, at_place, without, other_than}
-use Rattle.lq_volume.specs.Places.{Places, place_at, has_names, IsIndex, IsApart, CanMove}
+use Rattle.lq_volume.specs.Places.{IsApart, CanMove}
 use Rattle.lq_volume.proofs.RecordLemmas.{Entries, lookup-above, lookup-altered, lookup-filter, node_in-some, node_in-none, Rises-altered, Rises-filter, Rises-without, Rises-front}
 
--- two names are the same in the order of names where their bytes are
-pub is_eq-name_cmp : (x y : List ℕ) → is_eq (name_cmp x y) ≡ bytes_eq x y
-is_eq-name_cmp x y = sym (names_ties x y)
-
--- a folder without a map, or with an empty one, has no place
-pub place_at-unnamed : (places : Places) (d : ℕ) (n : List ℕ) → has_names places d ≡ false
-    → place_at places d n ≡ None
-place_at-unnamed places d n h = at (get nat_cmp places d) refl h
-  where
-    at : (o : Option (BTreeMap (List ℕ) ℕ)) → get nat_cmp places d ≡ o
-        → option_map_or (λ names. not (length names.entries == 0)) o false ≡ false
-        → option_and_then (λ names. get name_cmp names n) o ≡ None
-    at None is k = refl
-    at (Some names) is k = go names.entries refl k
-      where
-        go : (es : List (List ℕ × ℕ)) → names.entries ≡ es → not (length es == 0) ≡ false
-            → get name_cmp names n ≡ None
-        go [] e j = grind (arith)
-        go (x ∷ xs) e j = grind (arith, nat_tests)
-
--- a folder with a map that isn't empty has a place
-pub place_at-named : (places : Places) (d : ℕ) → has_names places d ≡ true
-    → (n : List ℕ) × (is_some (place_at places d n) ≡ true)
-place_at-named places d h = at (get nat_cmp places d) refl h
-  where
-    at : (o : Option (BTreeMap (List ℕ) ℕ)) → get nat_cmp places d ≡ o
-        → option_map_or (λ names. not (length names.entries == 0)) o false ≡ true → (n : List ℕ)
-        × (is_some (option_and_then (λ names. get name_cmp names n) o) ≡ true)
-    at None is k = cc
-    at (Some names) is k = go names.entries refl k
-      where
-        go : (es : List (List ℕ × ℕ)) → names.entries ≡ es → not (length es == 0) ≡ true
-            → (n : List ℕ) × (is_some (get name_cmp names n) ≡ true)
-        go [] e j = cc
-        go (x ∷ xs) e j = (
-          x.0,
-          let s = is_eq-name_cmp x.0 x.0 in
-              let b = bytes_eq-Decides x.0 x.0 in grind (arith, nat_tests),
-        )
+-- two names are the same in the order of their bytes where these are
+pub is_eq-name_cmp : (x y : List ℕ) → is_eq (slice_cmp nat_cmp x y) ≡ bytes_eq x y
+is_eq-name_cmp x y = sym (texts_ties x y)
 
 -- an entry in a folder has a place there
-any-named : (es : Entries) (dir : ℕ) → list_any (λ r. r.dir == dir) (values_of es) ≡ true
+pub any-named : (es : Entries) (dir : ℕ) → list_any (λ r. r.dir == dir) (values_of es) ≡ true
     → (n : List ℕ) × (is_some (node_in es dir n) ≡ true)
 any-named [] dir h = cc
 any-named (e ∷ es) dir h = elim (cases_eq e.1.dir dir) [
@@ -68,31 +31,10 @@ any-named (e ∷ es) dir h = elim (cases_eq e.1.dir dir) [
 ]
 
 -- a folder in which a name is found has an entry
-named-any : (es : Entries) (dir : ℕ) (n : List ℕ) → is_some (node_in es dir n) ≡ true
+pub named-any : (es : Entries) (dir : ℕ) (n : List ℕ) → is_some (node_in es dir n) ≡ true
     → list_any (λ r. r.dir == dir) (values_of es) ≡ true
 named-any [] dir n h = cc
 named-any (e ∷ es) dir n h = grind (arith, nat_tests, named-any es dir n)
-
--- a folder has names just where an entry is in it
-pub has_names-is : (places : Places) (es : Entries) (dir : ℕ) → IsIndex places es
-    → has_names places dir ≡ list_any (λ r. r.dir == dir) (values_of es)
-has_names-is places es dir index =
-    go (has_names places dir) refl (list_any (λ r. r.dir == dir) (values_of es)) refl
-  where
-    go : (a : Bool) → has_names places dir ≡ a → (b : Bool)
-        → list_any (λ r. r.dir == dir) (values_of es) ≡ b → a ≡ b
-    go true h true k = refl
-    go false h false k = refl
-    go true h false k =
-        let w = place_at-named places dir h in
-        let there : is_some (node_in es dir w.0) ≡ true = ap is_some (sym (index dir w.0)) ∙ w.1 in
-        let any = named-any es dir w.0 there in
-        cc
-    go false h true k =
-        let w = any-named es dir k in
-        let none = place_at-unnamed places dir w.0 h in
-        let there : is_some (place_at places dir w.0) ≡ true = ap is_some (index dir w.0) ∙ w.1 in
-        cc
 
 -- where no two share a place, the search finds each record at its own
 pub uniq : (fs : Entries) (x : ℕ) (v : Record) (o : Option ℕ) → Rises fs → IsApart fs
@@ -103,17 +45,17 @@ uniq fs x v (Some y) h apart is found =
     ap Some (sym (apart x y v w.0 is w.1 (sym w.2) (sym w.3)))
 
 -- if the test of a place holds, folder and name are the same
-at-true : (a b : ℕ) (x y : List ℕ) → ((a == b) && bytes_eq x y) ≡ true → (a ≡ b) × (x ≡ y)
+pub at-true : (a b : ℕ) (x y : List ℕ) → ((a == b) && bytes_eq x y) ≡ true → (a ≡ b) × (x ≡ y)
 at-true a b x y h =
     let e = bytes_eq-Decides x y in
     (grind (arith, nat_tests), grind (arith, nat_tests))
 
 -- if the test of a place fails, folder or name differs
-at-false : (a b : ℕ) (x y : List ℕ) → ((a == b) && bytes_eq x y) ≡ false → a ≡ b → x ≡ y → ⊥
+pub at-false : (a b : ℕ) (x y : List ℕ) → ((a == b) && bytes_eq x y) ≡ false → a ≡ b → x ≡ y → ⊥
 at-false a b x y h k l = let e = (bytes_eq-Decides x y).1 l in grind (arith, nat_tests)
 
 -- a place is tested in the same way from both sides
-flip-at : (a b : ℕ) (x y : List ℕ) → ((a == b) && bytes_eq x y) ≡ ((b == a) && bytes_eq x y)
+pub flip-at : (a b : ℕ) (x y : List ℕ) → ((a == b) && bytes_eq x y) ≡ ((b == a) && bytes_eq x y)
 flip-at a b x y = grind (arith, nat_tests)
 
 -- a place that has a node has it with one record more
@@ -251,17 +193,17 @@ module _ (es : Entries) (node dir : ℕ) (name : List ℕ) (other : Option ℕ)
   new = altered node (at_place dir name) (without other es)
 
   -- the other node at a place isn't the node itself
-  other-differs : (o : Option ℕ) → other_than node o ≡ Some node → ⊥
+  pub other-differs : (o : Option ℕ) → other_than node o ≡ Some node → ⊥
   other-differs None h = cc
   other-differs (Some x) h = grind (arith, nat_tests)
 
   -- the other node at a place is the one found there
-  other-there : (o : Option ℕ) (x : ℕ) → other_than node o ≡ Some x → o ≡ Some x
+  pub other-there : (o : Option ℕ) (x : ℕ) → other_than node o ≡ Some x → o ≡ Some x
   other-there None x h = cc
   other-there (Some y) x h = grind (arith, nat_tests)
 
   -- a node that isn't taken away keeps its record
-  look-without : (p : Option ℕ) (x : ℕ) → (p ≡ Some x → ⊥)
+  pub look-without : (p : Option ℕ) (x : ℕ) → (p ≡ Some x → ⊥)
       → lookup (nat_eq x) (without p es) ≡ lookup (nat_eq x) es
   look-without None x off = refl
   look-without (Some y) x off =
@@ -276,7 +218,7 @@ module _ (es : Entries) (node dir : ℕ) (name : List ℕ) (other : Option ℕ)
   back-without (Some y) x v h = let l = lookup-filter es y x in grind (arith, nat_tests)
 
   -- the node that moves has its record, at the new place
-  new-here : lookup (nat_eq node) new ≡ Some (at_place dir name r)
+  pub new-here : lookup (nat_eq node) new ≡ Some (at_place dir name r)
   new-here =
       let l = lookup-altered (without other es) node (at_place dir name) node in
       let k : lookup (nat_eq node) (without other es) ≡ Some r = look-without other node
@@ -286,7 +228,7 @@ module _ (es : Entries) (node dir : ℕ) (name : List ℕ) (other : Option ℕ)
       grind (arith, nat_tests)
 
   -- each other node has the record that it has without the one taken away
-  new-other : (x : ℕ) → (x ≡ node → ⊥)
+  pub new-other : (x : ℕ) → (x ≡ node → ⊥)
       → lookup (nat_eq x) new ≡ lookup (nat_eq x) (without other es)
   new-other x differs =
       let l = lookup-altered (without other es) node (at_place dir name) x in
@@ -298,7 +240,7 @@ module _ (es : Entries) (node dir : ℕ) (name : List ℕ) (other : Option ℕ)
   new-old x v differs h = back-without other x v (sym (new-other x differs) ∙ h)
 
   -- the nodes still rise
-  rises : Rises new
+  pub rises : Rises new
   rises = Rises-altered node (at_place dir name) (without other es) (Rises-without other es rise)
 
   -- what is at another place than the new one was there before

@@ -65,7 +65,10 @@ impl Entries {
     pub fn node_in(&self, dir: u64, name: &Name) -> Option<u64>
         ensures { result ≡ node_in self.now dir name.now }
     {
-        self.places.node_at(dir, name)
+        match self.places.first(dir, name.hash()) {
+            Some(node) if self.records.is_named(node, name) => Some(node),
+            _ => self.places.other(dir, name),
+        }
     }
 
     /// Whether an entry is in the folder.
@@ -90,14 +93,18 @@ impl Entries {
         ensures ok { OnOk result (self.new ≡ self.old ++ (node, stored) ∷ []) }
         ensures err { OnErr result (self.new ≡ self.old) }
     {
-        // What grows first is taken back without memory.
-        self.places.put(stored.dir(), stored.name(), node)?;
+        let dir = stored.dir();
+        let name = stored.name().copy(self.alloc)?;
         match self.records.add(node, stored) {
-            Ok(()) => Ok(()),
-            Err(stored) => {
-                self.places.take(stored.dir(), stored.name());
-                Err(Refusal::NoMemory)
-            }
+            Err(_) => Err(Refusal::NoMemory),
+            Ok(()) => match self.places.put(dir, &name, node, None) {
+                Ok(()) => Ok(()),
+                // What grew first is taken back without memory.
+                Err(refusal) => {
+                    self.records.remove(node);
+                    Err(refusal)
+                }
+            },
         }
     }
 
@@ -107,7 +114,8 @@ impl Entries {
         ensures { self.new ≡ filter (λ e. not (e.0 == node)) self.old }
     {
         if let Some(record) = self.records.get(node) {
-            self.places.take(record.dir(), record.name());
+            let was_first = self.places.is_first(record.dir(), record.name(), node);
+            self.places.take(record.dir(), record.name(), was_first);
         }
         self.records.remove(node);
     }
@@ -128,9 +136,12 @@ impl Entries {
     {
         // What grows comes first, so that nothing is undone.
         let kept = name.copy(self.alloc)?;
-        self.places.put(dir, name, node)?;
         if let Some(record) = self.records.get(node) {
-            self.places.leave(record, dir, name);
+            if !record.is_at(dir, name) {
+                let was_first = self.places.is_first(record.dir(), record.name(), node);
+                self.places.put(dir, name, node, other)?;
+                self.places.take(record.dir(), record.name(), was_first);
+            }
         }
         self.records.remove_if(other);
         self.records.relocate(node, dir, kept);

@@ -1,31 +1,41 @@
 //! The node at each place of a volume.
-ghost use Rattle.std.specs.Prelude.{◌≡◌, ℕ, List, None, OnOk, OnErr, IsSome, ◌==◌, ◌&&◌, not, if◌then◌else◌};
+ghost use Rattle.std.specs.Prelude.{◌≡◌, ℕ, List, OnOk, OnErr, IsSome, None};
 ghost use Rattle.std.specs.BTreeMap.{get};
 ghost use Rattle.std.specs.Ordering.{nat_cmp};
-ghost use Rattle.std.specs.Str.{bytes_eq};
 ghost use Rattle.lq_value.specs.Refusal.{IsRefusedBy};
 
-use crate::stored::Stored;
 use lq_value::{Name, Refusal};
 use std::alloc::Global;
 use std::collections::BTreeMap;
 
+/// The nodes of a folder's entries, by their names.
+///
+/// A node stands under the hash of its name, where its record alone has the name. Where another
+/// name had that hash before, it stands among the others, under its name.
+#[derive(Debug, Drop)]
+pub(crate) struct Names {
+    pub(crate) first: BTreeMap<u64, u64>,
+    pub(crate) others: BTreeMap<Name, u64>,
+}
+
 /// The node at each place, by folder and then by name.
 ///
-/// The names of a folder stand in a map of their own, which comes with the first of them and
-/// goes with the last.
+/// A hash is sought among numbers that stand in the index, and a name is compared with one. Names
+/// that are made to share a hash cost a search among them that is logarithmic. The names of a
+/// folder come with the first of them and go with the last.
 #[derive(Debug, Drop)]
 pub struct Places {
     alloc: Global,
-    pub(crate) folders: BTreeMap<u64, BTreeMap<Name, u64>>,
+    pub(crate) folders: BTreeMap<u64, Names>,
 }
 
 impl Places {
-    ghost use Rattle.lq_volume.specs.Places.{place_at, has_names, Puts, Takes, SamePlaces};
+    ghost use Rattle.lq_volume.specs.Places.{first_in, other_in, has_names, is_first, is_open, Puts, PutsFirst, PutsOther, Takes, SamePlaces};
 
     /// No places. It takes no memory.
     pub fn new(alloc: Global) -> Places
-        ensures { (d : ℕ) (n : List ℕ) → place_at result.folders d n ≡ None }
+        ensures first { (d h : ℕ) → first_in result.folders d h ≡ None }
+        ensures others { (d : ℕ) (n : List ℕ) → other_in result.folders d n ≡ None }
     {
         Places {
             alloc,
@@ -33,13 +43,23 @@ impl Places {
         }
     }
 
-    /// The node at a place.
-    pub fn node_at(&self, dir: u64, name: &Name) -> Option<u64>
-        ensures { result ≡ place_at self.now.folders dir name.now }
+    /// The node that stands under a hash.
+    pub fn first(&self, dir: u64, hash: u64) -> Option<u64>
+        ensures { result ≡ first_in self.now.folders dir hash }
     {
         match self.folders.get(&dir) {
             None => None,
-            Some(names) => names.get(name).copied(),
+            Some(names) => names.first.get(&hash).copied(),
+        }
+    }
+
+    /// The node that stands under a name.
+    pub fn other(&self, dir: u64, name: &Name) -> Option<u64>
+        ensures { result ≡ other_in self.now.folders dir name.now }
+    {
+        match self.folders.get(&dir) {
+            None => None,
+            Some(names) => names.others.get(name).copied(),
         }
     }
 
@@ -49,84 +69,112 @@ impl Places {
     {
         match self.folders.get(&dir) {
             None => false,
-            Some(names) => !names.is_empty(),
+            Some(names) => !names.first.is_empty() || !names.others.is_empty(),
         }
     }
 
-    /// Puts a node at a place. Refused: `NoMemory`, and then no place changes.
-    pub fn put(&mut self, dir: u64, name: &Name, node: u64) -> Result<(), Refusal>
-        ensures refused { IsRefusedBy result None }
-        ensures ok { OnOk result (Puts self.old.folders self.new.folders dir name.now node) }
-        ensures err { OnErr result (SamePlaces self.new.folders self.old.folders) }
+    /// Whether it is this node that stands under the hash of a name.
+    pub fn is_first(&self, dir: u64, name: &Name, node: u64) -> bool
+        ensures { result ≡ is_first self.now.folders dir name.now node }
     {
-        let name = name.copy(self.alloc)?;
-        if self.folders.contains_key(&dir) {
-            self.put_beside(dir, name, node)
-        } else {
-            self.put_first(dir, name, node)
+        match self.first(dir, name.hash()) {
+            None => false,
+            Some(there) => there == node,
         }
     }
 
-    // Puts a node at a place of a folder that has names.
-    fn put_beside(&mut self, dir: u64, name: Name, node: u64) -> Result<(), Refusal>
+    /// Puts a node at a place. Under the hash a node stays that is there, but `over`, which goes.
+    ///
+    /// Refused: `NoMemory`, and then no place changes.
+    pub fn put(
+        &mut self,
+        dir: u64,
+        name: &Name,
+        node: u64,
+        over: Option<u64>,
+    ) -> Result<(), Refusal>
+        ensures refused { IsRefusedBy result None }
+        ensures ok { OnOk result (Puts self.old.folders self.new.folders dir name.now node over) }
+        ensures err { OnErr result (SamePlaces self.old.folders self.new.folders) }
+    {
+        let hash = name.hash();
+        let is_open = match self.first(dir, hash) {
+            None => true,
+            Some(there) => over == Some(there),
+        };
+        self.open_folder(dir)?;
+        if is_open {
+            self.put_first(dir, hash, node)
+        } else {
+            self.put_other(dir, name.copy(self.alloc)?, node)
+        }
+    }
+
+    // Makes room for the names of a folder that has none.
+    fn open_folder(&mut self, dir: u64) -> Result<(), Refusal>
+        ensures refused { IsRefusedBy result None }
+        ensures ok { OnOk result (IsSome (get nat_cmp self.new.folders dir)) }
+        ensures same { SamePlaces self.old.folders self.new.folders }
+    {
+        if !self.folders.contains_key(&dir) {
+            let names = Names {
+                first: BTreeMap::new(self.alloc),
+                others: BTreeMap::new(self.alloc),
+            };
+            self.folders.insert(dir, names)?;
+        }
+        Ok(())
+    }
+
+    fn put_first(&mut self, dir: u64, hash: u64, node: u64) -> Result<(), Refusal>
         requires { IsSome (get nat_cmp self.old.folders dir) }
         ensures refused { IsRefusedBy result None }
-        ensures ok { OnOk result (Puts self.old.folders self.new.folders dir name node) }
-        ensures err { OnErr result (SamePlaces self.new.folders self.old.folders) }
+        ensures ok { OnOk result (PutsFirst self.old.folders self.new.folders dir hash node) }
+        ensures err { OnErr result (SamePlaces self.old.folders self.new.folders) }
     {
         if let Some(names) = self.folders.get_mut(&dir) {
-            names.insert(name, node)?;
+            names.first.insert(hash, node)?;
         }
         Ok(())
     }
 
-    // Puts a node at the first place of a folder.
-    fn put_first(&mut self, dir: u64, name: Name, node: u64) -> Result<(), Refusal>
-        requires { get nat_cmp self.old.folders dir ≡ None }
+    fn put_other(&mut self, dir: u64, name: Name, node: u64) -> Result<(), Refusal>
+        requires { IsSome (get nat_cmp self.old.folders dir) }
         ensures refused { IsRefusedBy result None }
-        ensures ok { OnOk result (Puts self.old.folders self.new.folders dir name node) }
-        ensures err { OnErr result (SamePlaces self.new.folders self.old.folders) }
+        ensures ok { OnOk result (PutsOther self.old.folders self.new.folders dir name node) }
+        ensures err { OnErr result (SamePlaces self.old.folders self.new.folders) }
     {
-        let mut names = BTreeMap::new(self.alloc);
-        names.insert(name, node)?;
-        self.folders.insert(dir, names)?;
+        if let Some(names) = self.folders.get_mut(&dir) {
+            names.others.insert(name, node)?;
+        }
         Ok(())
     }
 
-    /// Empties a place.
-    pub fn take(&mut self, dir: u64, name: &Name)
-        ensures { Takes self.old.folders self.new.folders dir name.now }
+    /// Empties a place, under the hash too where its node was the first.
+    pub fn take(&mut self, dir: u64, name: &Name, was_first: bool)
+        ensures { Takes self.old.folders self.new.folders dir name.now was_first }
     {
-        self.take_name(dir, name);
+        self.take_name(dir, name, was_first);
         self.drop_if_empty(dir);
     }
 
-    fn take_name(&mut self, dir: u64, name: &Name)
-        ensures { Takes self.old.folders self.new.folders dir name.now }
+    fn take_name(&mut self, dir: u64, name: &Name, was_first: bool)
+        ensures { Takes self.old.folders self.new.folders dir name.now was_first }
     {
         if let Some(names) = self.folders.get_mut(&dir) {
-            names.remove(name);
+            if was_first {
+                names.first.remove(&name.hash());
+            }
+            names.others.remove(name);
         }
     }
 
-    // Drops the map of a folder that has no names.
+    // Drops what a folder has for names where it has none.
     fn drop_if_empty(&mut self, dir: u64)
-        ensures { SamePlaces self.new.folders self.old.folders }
+        ensures { SamePlaces self.old.folders self.new.folders }
     {
         if !self.has_names(dir) {
             self.folders.remove(&dir);
-        }
-    }
-
-    /// Empties the place that an entry has, unless it is the new one.
-    pub fn leave(&mut self, stored: &Stored, dir: u64, name: &Name)
-        ensures { (d : ℕ) (n : List ℕ) → place_at self.new.folders d n
-            ≡ (if (stored.now.dir == d) && bytes_eq stored.now.name n
-            && not ((dir == d) && bytes_eq name.now n)
-            then None else place_at self.old.folders d n) }
-    {
-        if !stored.is_at(dir, name) {
-            self.take(stored.dir(), stored.name());
         }
     }
 }

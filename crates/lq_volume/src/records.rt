@@ -39,6 +39,7 @@ impl Model for Records {
 
 impl Records {
     ghost use Rattle.lq_volume.specs.State.{Rises, climbs, dir_of};
+    ghost use Rattle.lq_volume.specs.Places.{is_named};
     ghost use Rattle.lq_volume.specs.Change.{without, altered, at_place, written, set_attr, remove_attr};
 
     /// No records. It takes no memory.
@@ -56,6 +57,16 @@ impl Records {
         ensures rise { Rises self.now }
     {
         self.stored.get(&node)
+    }
+
+    /// Whether the record of a node has a name.
+    pub fn is_named(&self, node: u64, name: &Name) -> bool
+        ensures { result ≡ is_named self.now name.now node }
+    {
+        match self.get(node) {
+            None => false,
+            Some(record) => record.name() == name,
+        }
     }
 
     /// Whether a walk up by the folders comes from one node to another.

@@ -14,7 +14,8 @@ returns-then-same_text c =
     let name = c.args.key.now in
     let next : c.loop-left.left ≡ i + 1 = omega arith in
     let front : take c.loop-left.left xs ≡ take i xs ++ m ∷ [] = ap (λ k. take k xs) next
-    ∙ take_more xs i m (omega arith) ∙ ap (λ y. take i xs ++ y ∷ []) (sym c.index-members-left.is) in
+    ∙ take_more xs i m (omega arith)
+    ∙ ap (λ y. take i xs ++ y ∷ []) (sym c.index-members-left.is) in
     let step = c.loop-left.invariant.0 ∙ ap (λ ys. get_member name (members_view ys)) front
     ∙ get_member-push name (take i xs) m in
     let pick = λ (b : Bool).
@@ -30,7 +31,8 @@ loop-left-preserved c =
     let name = c.args.key.now in
     let next : c.loop-left.left ≡ i + 1 = omega arith in
     let front : take c.loop-left.left xs ≡ take i xs ++ m ∷ [] = ap (λ k. take k xs) next
-    ∙ take_more xs i m (omega arith) ∙ ap (λ y. take i xs ++ y ∷ []) (sym c.index-members-left.is) in
+    ∙ take_more xs i m (omega arith)
+    ∙ ap (λ y. take i xs ++ y ∷ []) (sym c.index-members-left.is) in
     let step = c.loop-left.invariant.0 ∙ ap (λ ys. get_member name (members_view ys)) front
     ∙ get_member-push name (take i xs) m in
     let pick = λ (b : Bool).

@@ -1,6 +1,6 @@
 use Rattle.std.proofs.Common.{refl, sym, ◌∙◌, arith}
 use Rattle.std.proofs.lemmas.List.{at_drop_more, at_drop_all}
-use Rattle.lq_value.specs.NameOrder.{hash_of, hash_after}
+use Rattle.lq_value.specs.NameHash.{hash_of, hash_after}
 use Rattle.lq_value.proofs.name.hash_of_bytes.Goals as goal
 
 pub loop-byte-init : goal.loop-byte-init

@@ -1,5 +1,5 @@
 use Rattle.std.proofs.Common.{◌≡◌, drop}
-use Rattle.lq_value.specs.NameOrder.{hash_of, hash_after}
+use Rattle.lq_value.specs.NameHash.{hash_of, hash_after}
 use Rattle.lq_value.proofs.name.hash_of_bytes.Given as goal
 
 -- the hash so far, with the bytes that are left behind it

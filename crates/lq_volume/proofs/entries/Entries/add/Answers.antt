@@ -1,12 +1,24 @@
-use Rattle.lq_volume.proofs.PlaceLemmas.{node_in-push}
+use Rattle.std.proofs.Common.{◌∙◌, ◌<◌}
+use Rattle.std.specs.List.{AllByRecursion}
+use Rattle.lq_volume.proofs.IndexLemmas.{index-same, index-added, filter-added}
 use Rattle.lq_volume.proofs.entries.Entries.add.Goals as goal
 
-pub invariant_of-self-in-Ok : goal.invariant_of-self-in-Ok
-invariant_of-self-in-Ok c = λ d n. rw (
-  c.in_ok-put.ensures.ok d n,
-  c.self.invariant d n,
-  c.dir.ensures,
-  c.name.ensures,
-  c.in-Ok.ensures.ok,
-)
-    (node_in-push _ _ _ (rw c.self.view_is c.requires.free) d n)
+pub invariant_of-self-in-Ok-put : goal.invariant_of-self-in-Ok-put
+invariant_of-self-in-Ok-put c =
+    let puts = rw (c.dir-dir.ensures, c.in_ok-name.ensures.value, c.name.ensures)
+    at c.in-Ok-put.ensures.ok in
+    rw c.in-Ok.ensures.ok (index-added _ _ _ _ _ c.self.invariant
+    (rw c.self.view_is c.requires.last) (rw c.self.view_is c.requires.free) puts)
+
+pub invariant_of-self-in-Err-put : goal.invariant_of-self-in-Err-put
+invariant_of-self-in-Err-put c =
+    let last : AllByRecursion (λ e. e.0 < c.args.node) c.self.inside.records =
+    rw c.self.view_is c.requires.last in
+    rw (c.remove.ensures.left, c.in-Ok.ensures.ok, filter-added _ _ _ last)
+    (index-same _ _ _ c.in-Err-put.ensures.err c.self.invariant)
+
+pub returns-clause-err : goal.returns-clause-err
+returns-clause-err c =
+    let last : AllByRecursion (λ e. e.0 < c.args.node) c.self.inside.records =
+    rw c.self.view_is c.requires.last in
+    rw (c.remove.ensures.left, c.in-Ok.ensures.ok) (filter-added _ _ _ last ∙ c.self.view_is)

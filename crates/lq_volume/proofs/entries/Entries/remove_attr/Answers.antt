@@ -1,7 +1,7 @@
-use Rattle.std.proofs.Common.{◌∙◌, refl, sym}
-use Rattle.lq_volume.proofs.PlaceLemmas.{node_in-altered}
+use Rattle.std.proofs.Common.{refl}
+use Rattle.lq_volume.proofs.IndexLemmas.{index-altered}
 use Rattle.lq_volume.proofs.entries.Entries.remove_attr.Goals as goal
 
 pub invariant_of-self : goal.invariant_of-self
-invariant_of-self c = rw c.remove_attr.ensures (λ d n. c.self.invariant d n
-    ∙ sym (node_in-altered _ _ _ (λ r. refl) (λ r. refl) d n))
+invariant_of-self c =
+    rw c.remove_attr.ensures (index-altered _ _ _ _ c.self.invariant (λ r. refl) (λ r. refl))

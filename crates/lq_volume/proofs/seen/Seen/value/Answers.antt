@@ -7,7 +7,8 @@ use Rattle.lq_volume.proofs.seen.Seen.value.Goals as goal
 pub returns-then-same_text : goal.returns-then-same_text
 returns-then-same_text c =
     let same : bytes_eq c.args.asked.now c.in-Set.attr.now ≡ true = rw
-    (← c.as_str.ensures.value, ← c.as_str-in-Set.ensures.value) (sym c.same_text.ensures ∙ c.if-same_text.true) in
+    (← c.as_str.ensures.value, ← c.as_str-in-Set.ensures.value)
+    (sym c.same_text.ensures ∙ c.if-same_text.true) in
     let is = rw same at (value_of-with
     (attrs_of c.self.inside.attrs) c.in-Set.attr.now c.args.asked.now c.in-Set.value.now) in
     rw (← c.self.view_is, c.in-Set.is) (sym is)
