@@ -1,4 +1,4 @@
-use Rattle.lq_volume.proofs.IndexLemmas.{has_names-is}
+use Rattle.lq_volume.proofs.IndexFolders.{has_names-is}
 use Rattle.lq_volume.proofs.entries.Entries.has_any.Goals as goal
 
 pub returns : goal.returns

@@ -2,7 +2,7 @@ use Rattle.std.proofs.Common.{sym, subst, None, ◌∙◌}
 use Rattle.std.specs.Prelude.{IsSome, Option}
 use Rattle.lq_volume.specs.State.{Record}
 use Rattle.lq_volume.specs.Places.{CanMove}
-use Rattle.lq_volume.proofs.IndexLemmas.{index-moved, index-stays}
+use Rattle.lq_volume.proofs.IndexMoves.{index-moved, index-stays}
 use Rattle.lq_volume.proofs.entries.Entries.shift.Goals as goal
 use Rattle.lq_volume.proofs.entries.Entries.shift.Goals.{in-Some+then-not-is_at+in_ok-put, in-Some+else-not-is_at, in_default}
 
