@@ -20,4 +20,4 @@ pub use over_lines::run_lines;
 pub use pieces::take_piece;
 pub use responder::Responder;
 pub use run_fault::RunFault;
-pub use writing::write_all;
+pub use writing::{out_of_memory, write_all};

@@ -1,6 +1,6 @@
 //! Writing all of what is due to a sink.
 ghost use Rattle.std.specs.Prelude.{◌≡◌, ◌⊎◌, ℕ, [], take, true, IfErr, OnOk, OnErr};
-ghost use Rattle.std.specs.Io.KnownBytes.{Appends};
+ghost use Rattle.std.specs.Io.KnownBytes.{Appends, Keeps};
 
 use crate::devices::{Failed, Sink};
 use crate::run_fault::RunFault;
@@ -64,4 +64,16 @@ pub fn write_all<W: Sink>(writer: &mut W, bytes: &[u8]) -> Result<(), Failed>
         }
     }
     Ok(())
+}
+
+/// The fault of a run that can't begin for want of memory: the writer is flushed once, as after
+/// any other fault.
+pub fn out_of_memory<W: Sink>(writer: &mut W) -> RunFault
+    ensures fault { result ≡ RunFault.Memory }
+    ensures bytes { Keeps (W.written writer.old) (W.written writer.new) }
+    ensures flushed { (W.flushed writer.new ≡ true) ⊎ (W.failed writer.new ≡ true) }
+{
+    match writer.flush() {
+        Ok(()) | Err(Failed) => RunFault::Memory,
+    }
 }

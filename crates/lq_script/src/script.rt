@@ -1,13 +1,12 @@
 //! A whole script, over the root alone.
 ghost use Rattle.std.specs.Prelude.{◌≡◌, ◌⊎◌, OnOk, OnErr, IsErrOf, true, false};
-ghost use Rattle.std.specs.Io.KnownBytes.{Keeps};
 ghost use Rattle.lq_lines.specs.Output.{Answered, Ended, Passed, Stopped};
 ghost use Rattle.lq_script.specs.Script.{script_session, world_rules};
 
 use crate::rebuilds::no_rebuilds;
 use crate::session::Session;
 use lq_desk::{Desk, kept_turns_show_worlds};
-use lq_lines::{Failed, RunFault, Sink, Source, run_lines};
+use lq_lines::{RunFault, Sink, Source, out_of_memory, run_lines};
 use lq_volume::{MAX_CHANGES, Volume};
 use std::alloc::Global;
 
@@ -60,15 +59,4 @@ pub fn run<R: Source, W: Sink>(
     };
     let mut session = Session::new(alloc, desk, rebuilds);
     run_lines(alloc, reader, writer, &mut session)
-}
-
-// The fault of a run that can't begin: the writer is flushed once, as after any other.
-fn out_of_memory<W: Sink>(writer: &mut W) -> RunFault
-    ensures fault { result ≡ RunFault.Memory }
-    ensures bytes { Keeps (W.written writer.old) (W.written writer.new) }
-    ensures flushed { (W.flushed writer.new ≡ true) ⊎ (W.failed writer.new ≡ true) }
-{
-    match writer.flush() {
-        Ok(()) | Err(Failed) => RunFault::Memory,
-    }
 }

@@ -17,17 +17,17 @@ const TEXTS: &str = "|\"\";\
     \n€|\"\\n€\";\
     €\n|\"€\\n\";";
 
-// the digits of integers
-const INTEGERS: &str = "-9223372036854775808
--1
-0
-10
-9223372036854775807";
+// an integer and its digits
+const INTEGERS: [(i64, &str); 5] = [
+    (i64::MIN, "-9223372036854775808"),
+    (-1, "-1"),
+    (0, "0"),
+    (10, "10"),
+    (i64::MAX, "9223372036854775807"),
+];
 
-// the digits of counts
-const COUNTS: &str = "0
-100
-18446744073709551615";
+// a count and its digits
+const COUNTS: [(u64, &str); 3] = [(0, "0"), (100, "100"), (u64::MAX, "18446744073709551615")];
 
 #[test]
 fn a_text_is_quoted(rt: HostRuntime) -> Result<(), Fail> {
@@ -49,14 +49,14 @@ fn a_text_is_quoted(rt: HostRuntime) -> Result<(), Fail> {
 #[test]
 fn a_number_has_its_digits(rt: HostRuntime) -> Result<(), Fail> {
     let mut out = Vec::new(rt.alloc());
-    for digits in INTEGERS.lines() {
+    for (number, digits) in &INTEGERS {
         out.clear();
-        put_signed(&mut out, b"", digits.parse().ok().ok_or("no integer")?)?;
+        put_signed(&mut out, b"", *number)?;
         assert_eq!(rt; out.as_slice(), digits.as_bytes(), "{digits}");
     }
-    for digits in COUNTS.lines() {
+    for (number, digits) in &COUNTS {
         out.clear();
-        put_unsigned(&mut out, b"", digits.parse().ok().ok_or("no count")?)?;
+        put_unsigned(&mut out, b"", *number)?;
         assert_eq!(rt; out.as_slice(), digits.as_bytes(), "{digits}");
     }
     Ok(())

@@ -5,7 +5,7 @@ use crate::carrier::Carrier;
 use crate::gate::Gate;
 use crate::lines::Lines;
 use crate::session::Session;
-use lq_lines::{Failed, RunFault, Sink, Source};
+use lq_lines::{RunFault, Sink, Source, out_of_memory};
 use lq_server::{Base, Named, Server};
 use lq_volume::{MAX_CHANGES, Volume};
 use std::alloc::Global;
@@ -60,13 +60,4 @@ fn serve<N: Named + Send + Sync, T: Threads + Wait + Sync, R: Source, W: Sink, G
         }
     }
     unreachable!()
-}
-
-// The fault of a run that can't begin: the writer is flushed once, as after any other.
-fn out_of_memory<W: Sink>(writer: &mut W) -> RunFault
-    ensures fault { result ≡ RunFault.Memory }
-{
-    match writer.flush() {
-        Ok(()) | Err(Failed) => RunFault::Memory,
-    }
 }
