@@ -1,5 +1,5 @@
 //! The node at each place of a volume.
-ghost use Rattle.std.specs.Prelude.{◌≡◌, ℕ, List, OnOk, OnErr, IsSome, None};
+ghost use Rattle.std.specs.Prelude.{◌≡◌, ℕ, List, ◌==◌, ◌||◌, not, length, false, OnOk, OnErr, IfOk, IsSome, None};
 ghost use Rattle.std.specs.BTreeMap.{get};
 ghost use Rattle.std.specs.Ordering.{nat_cmp};
 ghost use Rattle.lq_value.specs.Refusal.{IsRefusedBy};
@@ -16,6 +16,16 @@ use std::collections::BTreeMap;
 pub(crate) struct Names {
     pub(crate) first: BTreeMap<u64, u64>,
     pub(crate) others: BTreeMap<Name, u64>,
+}
+
+impl Names {
+    // Whether a node stands here.
+    fn has_any(&self) -> bool
+        ensures { result ≡ (not (length self.now.first.entries == 0)
+            || not (length self.now.others.entries == 0)) }
+    {
+        !self.first.is_empty() || !self.others.is_empty()
+    }
 }
 
 /// The node at each place, by folder and then by name.
@@ -69,7 +79,7 @@ impl Places {
     {
         match self.folders.get(&dir) {
             None => false,
-            Some(names) => !names.first.is_empty() || !names.others.is_empty(),
+            Some(names) => names.has_any(),
         }
     }
 
@@ -98,15 +108,14 @@ impl Places {
         ensures err { OnErr result (SamePlaces self.old.folders self.new.folders) }
     {
         let hash = name.hash();
-        let is_open = match self.first(dir, hash) {
-            None => true,
-            Some(there) => over == Some(there),
-        };
         self.open_folder(dir)?;
-        if is_open {
-            self.put_first(dir, hash, node)
-        } else {
-            self.put_other(dir, name.copy(self.alloc)?, node)
+        match self.put_first(dir, hash, node)? {
+            None => Ok(()),
+            Some(there) if over == Some(there) => Ok(()),
+            Some(there) => {
+                self.put_back(dir, hash, there);
+                self.put_other(dir, name.copy(self.alloc)?, node)
+            }
         }
     }
 
@@ -126,16 +135,30 @@ impl Places {
         Ok(())
     }
 
-    fn put_first(&mut self, dir: u64, hash: u64, node: u64) -> Result<(), Refusal>
+    // Puts a node under a hash, and gives the one that stood there.
+    fn put_first(&mut self, dir: u64, hash: u64, node: u64) -> Result<Option<u64>, Refusal>
         requires { IsSome (get nat_cmp self.old.folders dir) }
         ensures refused { IsRefusedBy result None }
+        ensures there { IfOk result (λ there. there ≡ first_in self.old.folders dir hash) }
         ensures ok { OnOk result (PutsFirst self.old.folders self.new.folders dir hash node) }
         ensures err { OnErr result (SamePlaces self.old.folders self.new.folders) }
     {
-        if let Some(names) = self.folders.get_mut(&dir) {
-            names.first.insert(hash, node)?;
+        match self.folders.get_mut(&dir) {
+            None => Ok(None),
+            Some(names) => Ok(names.first.insert(hash, node)?),
         }
-        Ok(())
+    }
+
+    // Gives a hash back to the node that stood there. It takes no memory.
+    fn put_back(&mut self, dir: u64, hash: u64, node: u64)
+        requires { IsSome (first_in self.old.folders dir hash) }
+        ensures { PutsFirst self.old.folders self.new.folders dir hash node }
+    {
+        if let Some(names) = self.folders.get_mut(&dir) {
+            if let Some(there) = names.first.get_mut(&hash) {
+                *there = node;
+            }
+        }
     }
 
     fn put_other(&mut self, dir: u64, name: Name, node: u64) -> Result<(), Refusal>
@@ -154,27 +177,33 @@ impl Places {
     pub fn take(&mut self, dir: u64, name: &Name, was_first: bool)
         ensures { Takes self.old.folders self.new.folders dir name.now was_first }
     {
-        self.take_name(dir, name, was_first);
-        self.drop_if_empty(dir);
-    }
-
-    fn take_name(&mut self, dir: u64, name: &Name, was_first: bool)
-        ensures { Takes self.old.folders self.new.folders dir name.now was_first }
-    {
-        if let Some(names) = self.folders.get_mut(&dir) {
-            if was_first {
-                names.first.remove(&name.hash());
-            }
-            names.others.remove(name);
+        if !self.take_name(dir, name, was_first) {
+            self.drop_names(dir);
         }
     }
 
-    // Drops what a folder has for names where it has none.
-    fn drop_if_empty(&mut self, dir: u64)
+    // Empties a place, and tells whether the folder has other names.
+    fn take_name(&mut self, dir: u64, name: &Name, was_first: bool) -> bool
+        ensures has { result ≡ has_names self.new.folders dir }
+        ensures takes { Takes self.old.folders self.new.folders dir name.now was_first }
+    {
+        match self.folders.get_mut(&dir) {
+            None => false,
+            Some(names) => {
+                if was_first {
+                    names.first.remove(&name.hash());
+                }
+                names.others.remove(name);
+                names.has_any()
+            }
+        }
+    }
+
+    // Drops what a folder has for names, where it has none.
+    fn drop_names(&mut self, dir: u64)
+        requires { has_names self.old.folders dir ≡ false }
         ensures { SamePlaces self.old.folders self.new.folders }
     {
-        if !self.has_names(dir) {
-            self.folders.remove(&dir);
-        }
+        self.folders.remove(&dir);
     }
 }

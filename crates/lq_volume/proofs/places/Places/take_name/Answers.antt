@@ -5,8 +5,8 @@ use Rattle.lq_volume.proofs.PlaceLemmas.{is_eq-name_cmp}
 use Rattle.lq_volume.proofs.places.Places.take_name.Goals as goal
 use Rattle.lq_volume.proofs.places.Places.take_name.Goals.{then-was_first, else-was_first}
 
-pub returns-after-was_first : goal.returns-after-was_first
-returns-after-was_first c = elim c.if-was_first.branch [
+pub returns-after-was_first-clause-takes : goal.returns-after-was_first-clause-takes
+returns-after-was_first-clause-takes c = elim c.if-was_first.branch [
   | then-was_first w ↦
       let is = w.names-is in
       let was = w.if-was_first.true in
