@@ -1,7 +1,7 @@
 -- The parts of a query within the limits are within them; what a formula reads as is formed.
 use Rattle.std.proofs.Common.{◌≡◌, ◌≤◌, ◌<◌, ℕ, zero, suc, Bool, true, false, ◌&&◌, List, [], ◌∷◌, length, get_or, Some, refl, ap, ◌∙◌, subst, arith, inl, inr}
 use Rattle.std.specs.Prelude.{nat_le}
-use Rattle.std.proofs.lemmas.Bool.{le-leb}
+use Rattle.std.proofs.lemmas.Bool.{le-leb, and_parts}
 use Rattle.lq_value.specs.Compare.{suits}
 use Rattle.lq_value.specs.declared.op.Op.{Op}
 use Rattle.lq_value.specs.declared.op.Op.TheVariants.{Eq, Ne, Lt, Le, Gt, Ge}
@@ -26,11 +26,6 @@ four true false c d e f g h = f
 four true true false d e f g h = g
 four true true true false e f g h = h
 
--- if an 'and' of two tests is true, both are
-split_two : (a b : Bool) → (a && b) ≡ true → (a ≡ true) × (b ≡ true)
-split_two true b e = (refl, e)
-split_two false b e = (e, cc)
-
 -- a formed query within the three limits is a predicate
 pub within : (q : Query) → is_formed q ≡ true → depth q ≤ 64 → comparisons q ≤ 256
     → length (canonical q) ≤ 4096 → is_predicate q ≡ true
@@ -43,22 +38,22 @@ within q formed shallow few brief =
 pub and_formed_parts : (qs : Queries) (q : Query) → And qs ≡ q → is_formed q ≡ true
     → are_formed qs ≡ true
 and_formed_parts qs q is whole =
-    (split_two (nat_le 2 (part_count qs)) (are_formed qs) (ap is_formed is ∙ whole)).1
+    (and_parts (nat_le 2 (part_count qs)) (are_formed qs) (ap is_formed is ∙ whole)).1
 
 -- the parts of an Or that is formed are formed
 pub or_formed_parts : (qs : Queries) (q : Query) → Or qs ≡ q → is_formed q ≡ true
     → are_formed qs ≡ true
 or_formed_parts qs q is whole =
-    (split_two (nat_le 2 (part_count qs)) (are_formed qs) (ap is_formed is ∙ whole)).1
+    (and_parts (nat_le 2 (part_count qs)) (are_formed qs) (ap is_formed is ∙ whole)).1
 
 -- each of some formed parts is formed
 pub part_formed : (qs : List Query) (i : ℕ) (q : Query)
     → i < length qs → q ≡ get_or qs i q → are_formed (queries qs) ≡ true → is_formed q ≡ true
 part_formed [] i q below is all = absurd (let no : ⊥ = omega (arith, below) in no)
 part_formed (p ∷ qs) zero q below is all =
-    ap is_formed is ∙ (split_two (is_formed p) (are_formed (queries qs)) all).0
+    ap is_formed is ∙ (and_parts (is_formed p) (are_formed (queries qs)) all).0
 part_formed (p ∷ qs) (suc i) q below is all = part_formed qs i q (omega (arith, below)) is
-    (split_two (is_formed p) (are_formed (queries qs)) all).1
+    (and_parts (is_formed p) (are_formed (queries qs)) all).1
 
 -- ---- what a formula reads as
 

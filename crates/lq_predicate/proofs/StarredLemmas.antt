@@ -3,15 +3,11 @@ use Rattle.std.proofs.Common.{◌≡◌, ℕ, Bool, true, false, ◌&&◌, List,
 use Rattle.std.specs.Str.{chars}
 use Rattle.std.proofs.Math.Utf8.{scalar, scalars}
 use Rattle.std.proofs.lemmas.Str.{scalars-chars}
+use Rattle.std.proofs.lemmas.Bool.{and_parts}
 use Rattle.lq_value.specs.declared.element.Element.{Element}
 use Rattle.lq_value.specs.Pattern.{plain_elements}
 use Rattle.lq_formula.specs.Limits.{IsGoodPattern}
 use Rattle.lq_predicate.specs.Stack.{star_if, starred}
-
--- if an 'and' of two tests is true, both are
-both_true : (a b : Bool) → (a && b) ≡ true → (a ≡ true) × (b ≡ true)
-both_true true b e = (refl, e)
-both_true false b e = (e, cc)
 
 -- a good pattern and then another are a good pattern
 good-append : (es fs : List Element) → IsGoodPattern es → IsGoodPattern fs
@@ -22,7 +18,7 @@ good-append (e ∷ es) fs h k = (h.0, good-append es fs h.1 k)
 -- the characters of a text of scalar values are a good pattern
 plain_good : (cs : List ℕ) → scalars cs ≡ true → IsGoodPattern (plain_elements cs)
 plain_good [] e = tt
-plain_good (c ∷ cs) e = let h = both_true (scalar c) (scalars cs) e in (h.0, plain_good cs h.1)
+plain_good (c ∷ cs) e = let h = and_parts (scalar c) (scalars cs) e in (h.0, plain_good cs h.1)
 
 -- a star, or none, is a good pattern
 star_good : (b : Bool) → IsGoodPattern (star_if b)

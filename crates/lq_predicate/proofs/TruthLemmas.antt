@@ -4,6 +4,7 @@ use Rattle.std.specs.Prelude.{not, ◌||◌, if◌then◌else◌}
 use Rattle.std.specs.List.{list_any, AllByRecursion}
 use Rattle.std.specs.Str.{bytes_eq}
 use Rattle.std.proofs.lemmas.Slice.Eq.{bytes_eq-Decides}
+use Rattle.std.proofs.lemmas.Bool.{or_right}
 use Rattle.lq_formula.specs.Query.{Query, Compare, Not, And, Or, Queries, no_more, and_then}
 use Rattle.lq_predicate.specs.Names.{attributes, all_attributes, is_among, with_name, each_once, names_of}
 use Rattle.lq_predicate.specs.Truth.{Look, compares_if_present, truth, all_true, some_true}
@@ -65,11 +66,6 @@ mutual
 abbrev has : List (List ℕ) → List ℕ → Bool
 has names name = list_any (bytes_eq name) names
 
--- an 'or' is true if its second test is
-or-right : (a b : Bool) → b ≡ true → (a || b) ≡ true
-or-right true b h = refl
-or-right false b h = h
-
 -- a name among some is among them and more
 among-front : (name : List ℕ) (xs ys : List (List ℕ)) → has xs name ≡ true
     → has (xs ++ ys) name ≡ true
@@ -89,7 +85,7 @@ same-among name = (bytes_eq-Decides name name).1 refl
 among-back : (name : List ℕ) (xs : List (List ℕ)) → has (xs ++ name ∷ []) name ≡ true
 among-back name [] = let e = same-among name in rw e refl
 among-back name (x ∷ xs) =
-    or-right (bytes_eq name x) (has (xs ++ name ∷ []) name) (among-back name xs)
+    or_right (bytes_eq name x) (has (xs ++ name ∷ []) name) (among-back name xs)
 
 -- the definition of names compares the other way round
 turned : (a b : List ℕ) → bytes_eq a b ≡ true → bytes_eq b a ≡ true
@@ -105,7 +101,7 @@ among-turned name (x ∷ xs) h = by (bytes_eq x name) refl h (λ more. among-tur
     by : (b : Bool) → bytes_eq x name ≡ b → (b || is_among xs name) ≡ true
         → (is_among xs name ≡ true → has xs name ≡ true) → (bytes_eq name x || has xs name) ≡ true
     by true is h more = let here = turned x name is in rw here refl
-    by false is h more = or-right (bytes_eq name x) (has xs name) (more h)
+    by false is h more = or_right (bytes_eq name x) (has xs name) (more h)
 
 -- a name that is added is there
 with-has : (xs : List (List ℕ)) (name : List ℕ) → has (with_name xs name) name ≡ true

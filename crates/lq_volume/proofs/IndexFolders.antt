@@ -9,12 +9,13 @@ use Rattle.std.specs.Ordering.{nat_cmp}
 use Rattle.std.specs.Option.{option_map_or}
 use Rattle.std.proofs.lemmas.Bool.Decides.{nat_tests}
 use Rattle.std.proofs.lemmas.Slice.Eq.{bytes_eq-Decides}
+use Rattle.std.proofs.lemmas.Map.Text.{is_eq-slice_cmp}
 use Rattle.lq_value.specs.NameHash.{hash_of}
 use Rattle.lq_volume.specs.declared.places.Names.{Names}
 use Rattle.lq_volume.specs.State.{Record, node_in}
 use Rattle.lq_volume.specs.Places.{Places, has_names, first_in, other_in, is_named, found, stands, IsIndex}
 use Rattle.lq_volume.proofs.RecordLemmas.{Entries, fails-lookup}
-use Rattle.lq_volume.proofs.PlaceLemmas.{any-named, named-any, is_eq-name_cmp}
+use Rattle.lq_volume.proofs.PlaceLemmas.{any-named, named-any}
 
 -- a folder without names has nothing under a hash
 unnamed-first : (p : Places) (d h : ℕ) → has_names p d ≡ false → first_in p d h ≡ None
@@ -73,7 +74,7 @@ named-in p d full = at (get nat_cmp p d) refl full
         go (x ∷ xs) e os f j = inl (x.0, grind (arith, nat_tests))
         go [] e (x ∷ xs) f j = inr (
           x.0,
-          let s = is_eq-name_cmp x.0 x.0 in
+          let s = is_eq-slice_cmp x.0 x.0 in
               let b = bytes_eq-Decides x.0 x.0 in grind (arith, nat_tests),
         )
         go [] e [] f j = absurd cc

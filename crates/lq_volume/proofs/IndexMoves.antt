@@ -4,7 +4,7 @@ use Rattle.std.specs.Prelude.{not, cond, nat_eq, Option, Some, None, ◌&&◌, �
 use Rattle.std.specs.Map.{lookup}
 use Rattle.std.specs.Option.{option_map_or}
 use Rattle.std.specs.Str.{bytes_eq}
-use Rattle.std.proofs.lemmas.Bool.{cases_eq}
+use Rattle.std.proofs.lemmas.Bool.{cases_eq, and_right, and_from, and_left}
 use Rattle.std.proofs.lemmas.Bool.Decides.{nat_tests}
 use Rattle.lq_value.specs.NameHash.{hash_of}
 use Rattle.lq_volume.specs.State.{Record, Rises, node_in}
@@ -13,19 +13,6 @@ use Rattle.lq_volume.specs.Places.{Places, first_in, other_in, is_first, is_open
 use Rattle.lq_volume.proofs.RecordLemmas.{Entries, altered-absent, lookup-below, node_in-some}
 use Rattle.lq_volume.proofs.PlaceLemmas.{at-true, at-false, flip-at, uniq, other-there, other-differs, look-without, new-here, new-other, node_in-moved}
 use Rattle.lq_volume.proofs.IndexLemmas.{stands-named}
-
--- what is so of both is so of their conjunction, and what never of one never
-and-true : (x y : Bool) → x ≡ true → y ≡ true → (x && y) ≡ true
-and-true x y a b = rw (a, b) refl
-
--- what isn't so of the second isn't so of both
-and-false : (x y : Bool) → y ≡ false → (x && y) ≡ false
-and-false true y b = b
-and-false false y b = refl
-
--- nor what isn't so of the first
-false-and : (x y : Bool) → x ≡ false → (x && y) ≡ false
-false-and x y a = rw a refl
 
 -- one node at another place, and perhaps another taken away
 module _ (p mid q : Places) (es : Entries) (node dir : ℕ) (name : List ℕ) (other : Option ℕ)
@@ -143,20 +130,20 @@ module _ (p mid q : Places) (es : Entries) (node dir : ℕ) (name : List ℕ) (o
     where
       go : (b : Bool) → is_old d h ≡ b → (is_first p r.dir r.name node && is_old d h) ≡ false
       go true t =
-          false-and _ _ (was-is o (first-at d h r.dir (hash_of r.name) o was t) ∙ never)
-      go false t = and-false _ _ t
+          and_left _ _ (was-is o (first-at d h r.dir (hash_of r.name) o was t) ∙ never)
+      go false t = and_right _ _ t
 
   -- where nothing stood the node stands, if its new name has that hash
   first-new : (d h : ℕ) → first_in p d h ≡ None → is_new d h ≡ true → first_in q d h ≡ Some node
   first-new d h was new =
       let vacant = open-is None (first-at d h dir (hash_of name) None was new) in
-      after d h true false (and-true _ _ vacant new) (stood-not d h None was refl)
+      after d h true false (and_from _ _ vacant new) (stood-not d h None was refl)
 
   -- and else nothing
   first-empty-still : (d h : ℕ) → first_in p d h ≡ None → is_new d h ≡ false
       → first_in q d h ≡ None
   first-empty-still d h was new =
-      after d h false false (and-false _ _ new) (stood-not d h None was refl) ∙ was
+      after d h false false (and_right _ _ new) (stood-not d h None was refl) ∙ was
 
   -- where the node stood nothing stands
   first-left : (d h : ℕ) → first_in p d h ≡ Some node
@@ -168,7 +155,7 @@ module _ (p mid q : Places) (es : Entries) (node dir : ℕ) (name : List ℕ) (o
       let w = was-is (Some node) (first-at d h r.dir (hash_of r.name) (Some node) was old) in (
         old,
         after d h (is_open p dir name other && is_new d h) true refl
-            (and-true _ _ (w ∙ self) old),
+            (and_from _ _ (w ∙ self) old),
       )
 
   -- where another stood it stands, or the node if the other goes
@@ -189,7 +176,7 @@ module _ (p mid q : Places) (es : Entries) (node dir : ℕ) (name : List ℕ) (o
           ap (λ (b : Bool). b && is_new d h)
           (open-is (Some z) (first-at d h dir (hash_of name) (Some z) was t))
       opens false t =
-          and-false _ _ t ∙ sym (and-false (option_map_or (nat_eq z) other false) _ t)
+          and_right _ _ t ∙ sym (and_right (option_map_or (nat_eq z) other false) _ t)
 
   -- no place is both
   not-both : (d : ℕ) (n : List ℕ) → ((d == r.dir) && bytes_eq r.name n) ≡ true
@@ -327,7 +314,7 @@ module _ (p mid q : Places) (es : Entries) (node dir : ℕ) (name : List ℕ) (o
       let gone : option_map_or (nat_eq z) other false ≡ true = is-gone z goes in
       let vacant = open-is (Some z) (first-at d (hash_of n) dir (hash_of name) (Some z) was new) in
       let first = first-other d (hash_of n) z was differs in
-      let both = and-true _ _ gone new in
+      let both = and_from _ _ gone new in
       let place = gone-place z goes in
       let named : is_named es n z ≡ bytes_eq name n =
       rw place.1 (ap (λ (x : List ℕ). bytes_eq x n) place.3) in
@@ -350,7 +337,7 @@ module _ (p mid q : Places) (es : Entries) (node dir : ℕ) (name : List ℕ) (o
       first : first_in q d (hash_of n) ≡ Some z
       first =
           first-other d (hash_of n) z was differs
-          ∙ ap (λ (x : Bool). cond x (Some node) (Some z)) (false-and _ _ (not-gone z kept))
+          ∙ ap (λ (x : Bool). cond x (Some node) (Some z)) (and_left _ _ (not-gone z kept))
 
       go : (c : Bool) → is_named es n z ≡ c
           → (a : Bool) → ((d == r.dir) && bytes_eq r.name n) ≡ a
@@ -428,11 +415,11 @@ module _ (p mid q : Places) (es : Entries) (node dir : ℕ) (name : List ℕ) (o
           | inl goes ↦
               let at = gone-new d h z was goes in
               let f = first-other d h z was (λ e. differs e) in
-              let both = and-true _ _ (is-gone z goes) at in
+              let both = and_from _ _ (is-gone z goes) at in
               here at (let g = f ∙ ap (λ (y : Bool). cond y (Some node) (Some z)) both in cc)
           | inr kept ↦
               let f = first-other d h z was (λ e. differs e)
-              ∙ ap (λ (y : Bool). cond y (Some node) (Some z)) (false-and _ _ (not-gone z kept)) in
+              ∙ ap (λ (y : Bool). cond y (Some node) (Some z)) (and_left _ _ (not-gone z kept)) in
               let e : z ≡ x = cc in
               let s = i.sound d h z was in
               let look = look-kept z (λ e. differs e) kept in

@@ -15,10 +15,6 @@ use Rattle.lq_volume.specs.Change.{altered, at_place, without, other_than}
 use Rattle.lq_volume.specs.Places.{IsApart, CanMove}
 use Rattle.lq_volume.proofs.RecordLemmas.{Entries, lookup-above, lookup-altered, lookup-filter, node_in-some, node_in-none, Rises-altered, Rises-filter, Rises-without, Rises-front}
 
--- two names are the same in the order of their bytes where these are
-pub is_eq-name_cmp : (x y : List ℕ) → is_eq (slice_cmp nat_cmp x y) ≡ bytes_eq x y
-is_eq-name_cmp x y = sym (texts_ties x y)
-
 -- an entry in a folder has a place there
 pub any-named : (es : Entries) (dir : ℕ) → list_any (λ r. r.dir == dir) (values_of es) ≡ true
     → (n : List ℕ) × (is_some (node_in es dir n) ≡ true)

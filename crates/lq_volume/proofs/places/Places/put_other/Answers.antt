@@ -1,7 +1,7 @@
 use Rattle.std.proofs.Common.{arith}
 use Rattle.std.proofs.lemmas.Grind.{common_steps}
 use Rattle.std.proofs.lemmas.Bool.Decides.{nat_tests}
-use Rattle.lq_volume.proofs.PlaceLemmas.{is_eq-name_cmp}
+use Rattle.std.proofs.lemmas.Map.Text.{is_eq-slice_cmp}
 use Rattle.lq_volume.proofs.places.Places.put_other.Goals as goal
 
 pub returns-in_ok-insert-clause-ok : goal.returns-in_ok-insert-clause-ok
@@ -10,7 +10,7 @@ returns-in_ok-insert-clause-ok c = record {
   others = λ d n. grind (
     arith,
     common_steps,
-    is_eq-name_cmp c.args.name n,
+    is_eq-slice_cmp c.args.name n,
     c.in_ok-insert.ensures.updates.0 n,
   );
 }

@@ -1,7 +1,7 @@
 use Rattle.std.proofs.Common.{arith}
 use Rattle.std.proofs.lemmas.Grind.{common_steps}
 use Rattle.std.proofs.lemmas.Bool.Decides.{nat_tests}
-use Rattle.lq_volume.proofs.PlaceLemmas.{is_eq-name_cmp}
+use Rattle.std.proofs.lemmas.Map.Text.{is_eq-slice_cmp}
 use Rattle.lq_volume.proofs.places.Places.take_name.Goals as goal
 use Rattle.lq_volume.proofs.places.Places.take_name.Goals.{then-was_first, else-was_first}
 
@@ -21,7 +21,7 @@ returns-after-was_first-clause-takes c = elim c.if-was_first.branch [
         others = λ d n. grind (
           arith,
           common_steps,
-          is_eq-name_cmp c.args.name.now n,
+          is_eq-slice_cmp c.args.name.now n,
           c.remove-in-Some.ensures.updates.0 n,
         );
       }
@@ -33,7 +33,7 @@ returns-after-was_first-clause-takes c = elim c.if-was_first.branch [
         others = λ d n. grind (
           arith,
           common_steps,
-          is_eq-name_cmp c.args.name.now n,
+          is_eq-slice_cmp c.args.name.now n,
           c.remove-in-Some.ensures.updates.0 n,
         );
       }
