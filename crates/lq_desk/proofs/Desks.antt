@@ -4,6 +4,7 @@ use Rattle.std.specs.Prelude.{Bool, slice_set, replicate}
 use Rattle.std.specs.Option.{option_map}
 use Rattle.std.specs.List.{AllByRecursion}
 use Rattle.std.proofs.lemmas.Bool.Decides.{nat_tests}
+use Rattle.std.proofs.lemmas.List.{length-map, length-set, map-set}
 use Rattle.lq_value.specs.declared.refusal.Refusal.{Refusal}
 use Rattle.lq_formula.specs.Query.{Query}
 use Rattle.lq_volume.specs.declared.change.Change.{Change as Change_}
@@ -24,7 +25,7 @@ use Rattle.lq_desk.specs.Act.{outcome_in}
 use Rattle.lq_desk.specs.Kept.{Kept, IsDesk, IsFew, Shows, first_free, opening_refusal, opened, open_if, changed, change_if, kept_outcome, slot_for}
 use Rattle.lq_desk.specs.Turn.{kept_after}
 use Rattle.lq_desk.specs.Laws.{KeptShowsWorlds}
-use Rattle.lq_desk.proofs.ListLemmas.{all-set, length-map, length-set, map-set}
+use Rattle.lq_desk.proofs.ListLemmas.{all-set}
 use Rattle.lq_desk.proofs.SlotsLemmas.{kept_slot, few-after, few-outcome_in}
 use Rattle.lq_desk.proofs.TurnLemmas.{after-shows}
 
@@ -72,7 +73,7 @@ module _ (alike : KeptShowsWorlds) where
   pub IsDesk-change : StepsAreFew → ChangesCount → (k : Kept) (c : Change_) → IsDesk k
       → IsVolume k.volume → IsLawful k.volume c → IsDesk (changed k c)
   IsDesk-change steps count k c d v lawful = record {
-    slots = length-map _ k.slots ∙ d.slots;
+    slots = length-map k.slots _ ∙ d.slots;
     few = subst (λ (n : ℕ). AllByRecursion (IsFew (3 * n)) (changed k c).slots)
         (sym (count k.volume c)) (few-after steps k.volume c k.slots v lawful d.few);
     world = next d.world (Change c);

@@ -3,6 +3,8 @@ use Rattle.std.proofs.Common.{◌≡◌, ℕ, zero, suc, ◌+◌, ◌-◌, ◌�
 use Rattle.std.specs.Prelude.{slice_get, slice_set}
 use Rattle.std.specs.Option.{option_map, option_flatten}
 use Rattle.std.specs.List.{AllByRecursion}
+use Rattle.std.proofs.lemmas.List.{length-map, length-set, map-append}
+use Rattle.std.proofs.lemmas.Option.{slice_get-map}
 use Rattle.lq_value.specs.declared.refusal.Refusal.TheVariants.{NotOpen}
 use Rattle.lq_world.specs.Events.{Answer, Refused}
 use Rattle.lq_world.specs.declared.event.Act.{Act}
@@ -10,7 +12,7 @@ use Rattle.lq_desk.specs.Act.{outcome_at, outcome_in}
 use Rattle.lq_desk.specs.Slot.{KeptSlot, PreparedSlot, slot_of, done_at, has_ready, with_free}
 use Rattle.lq_desk.specs.Words.{IsMarked}
 use Rattle.lq_desk.specs.Kept.{IsFew, first_free}
-use Rattle.lq_desk.proofs.ListLemmas.{length-map, length-set, map-append, set-seam, set-same, slice_get-map}
+use Rattle.lq_desk.proofs.ListLemmas.{set-seam, set-same}
 use Rattle.lq_desk.proofs.SlotsLemmas.{kept_slot}
 
 -- free slots stay free
@@ -26,7 +28,7 @@ map-free f xs =
     map-append (option_map f) xs (replicate (64 - length xs) None)
     ∙ (ap (λ ys. map (option_map f) xs ++ ys) (map-none f (64 - length xs))
     ∙ ap (λ n. map (option_map f) xs ++ replicate (64 - n) None)
-    (sym (length-map (option_map f) xs)))
+    (sym (length-map xs (option_map f))))
 
 -- a place of the front is one of the whole list
 get-front : {A : Type 0} (xs ys : List A) (i : ℕ) → i < length xs
@@ -92,8 +94,8 @@ few-stored n xs h = few-front n xs (replicate (64 - length xs) None) h
 pub kept-free : (xs ys : List (Option PreparedSlot)) → map kept_slot xs ≡ map kept_slot ys
     → map kept_slot (with_free xs) ≡ map kept_slot (with_free ys)
 kept-free xs ys same =
-    let same_length : length xs ≡ length ys = sym (length-map kept_slot xs)
-    ∙ (ap length same ∙ length-map kept_slot ys) in
+    let same_length : length xs ≡ length ys = sym (length-map xs kept_slot)
+    ∙ (ap length same ∙ length-map ys kept_slot) in
     map-append kept_slot xs (replicate (64 - length xs) None)
     ∙ (ap (λ ks. ks ++ map kept_slot (replicate (64 - length xs) None)) same
     ∙ (ap (λ n. map kept_slot ys ++ map kept_slot (replicate (64 - n) None)) same_length
@@ -140,9 +142,9 @@ act-stored number a xs ys place r lt does =
     let o = option_flatten (slice_get ks place) in
     let made : map kept_slot ys ≡ slice_set ks place (outcome_at number a o).1 =
     ap (λ (p : Answer × List (Option KeptSlot)). p.1) does in
-    let same_length : length ys ≡ length xs = sym (length-map kept_slot ys) ∙ (ap length made
-    ∙ (length-set ks place (outcome_at number a o).1 ∙ length-map kept_slot xs)) in
-    let within : place < length ks = omega (arith, lt, length-map kept_slot xs) in
+    let same_length : length ys ≡ length xs = sym (length-map ys kept_slot) ∙ (ap length made
+    ∙ (length-set ks place (outcome_at number a o).1 ∙ length-map xs kept_slot)) in
+    let within : place < length ks = omega (arith, lt, length-map xs kept_slot) in
     let whole : map kept_slot (with_free xs) ≡ ks ++ free =
     map-append kept_slot xs (replicate (64 - length xs) None) in
     let here : slice_get (ks ++ free) place ≡ slice_get ks place = get-front ks free place within in
@@ -175,8 +177,8 @@ pub kept-map : (f : KeptSlot → KeptSlot) (xs ys : List (Option PreparedSlot))
     → map kept_slot ys ≡ map (option_map f) (map kept_slot xs)
     → map kept_slot (with_free ys) ≡ map (option_map f) (map kept_slot (with_free xs))
 kept-map f xs ys does =
-    let same_length : length ys ≡ length xs = sym (length-map kept_slot ys)
-    ∙ (ap length does ∙ (length-map (option_map f) (map kept_slot xs) ∙ length-map kept_slot xs)) in
+    let same_length : length ys ≡ length xs = sym (length-map ys kept_slot)
+    ∙ (ap length does ∙ (length-map (map kept_slot xs) (option_map f) ∙ length-map xs kept_slot)) in
     kept-more ys
     ∙ (ap (λ n. map kept_slot ys ++ replicate (64 - n) None) same_length
     ∙ (ap (λ ks. ks ++ replicate (64 - length xs) None) does
@@ -192,9 +194,9 @@ done-stored f xs ys place lt does =
     let ks = map kept_slot xs in
     let free : List (Option KeptSlot) = replicate (64 - length xs) None in
     let o = option_map f (option_flatten (slice_get ks place)) in
-    let same_length : length ys ≡ length xs = sym (length-map kept_slot ys)
-    ∙ (ap length does ∙ (length-set ks place o ∙ length-map kept_slot xs)) in
-    let within : place < length ks = omega (arith, lt, length-map kept_slot xs) in
+    let same_length : length ys ≡ length xs = sym (length-map ys kept_slot)
+    ∙ (ap length does ∙ (length-set ks place o ∙ length-map xs kept_slot)) in
+    let within : place < length ks = omega (arith, lt, length-map xs kept_slot) in
     kept-more ys
     ∙ (ap (λ n. map kept_slot ys ++ replicate (64 - n) None) same_length
     ∙ (ap (λ js. js ++ free) does

@@ -1,41 +1,9 @@
 -- Lists: their parts, their places, and what holds of all of them.
-use Rattle.std.proofs.Common.{◌≡◌, ℕ, zero, suc, ◌+◌, ◌≤◌, List, [], ◌∷◌, ◌++◌, refl, ap, sym, take, drop, length, ◌∙◌, arith, add-one, Some, None, Option, map, Bool, true, false, inl, inr}
-use Rattle.std.specs.Prelude.{slice_get, slice_set, ◌&&◌, ◌⊎◌, ◌<◌, nat_lt, is_some, if◌then◌else◌}
-use Rattle.std.specs.Option.{option_map}
+use Rattle.std.proofs.Common.{◌≡◌, ℕ, zero, suc, ◌+◌, ◌≤◌, List, [], ◌∷◌, ◌++◌, refl, ap, sym, take, drop, length, ◌∙◌, arith, add-one, Some, None, Option, Bool, true, false, inl, inr}
+use Rattle.std.specs.Prelude.{slice_get, slice_set, ◌⊎◌, ◌<◌, nat_lt, is_some, if◌then◌else◌}
 use Rattle.std.specs.List.{AllByRecursion}
 use Rattle.std.proofs.lemmas.Bool.Decides.{nat_tests}
-
--- the first elements of two lists, where they are all of the first list
-pub take-inside : {A : Type 0} (n : ℕ) (xs ys : List A) → n ≤ length xs
-    → take n (xs ++ ys) ≡ take n xs
-take-inside zero xs ys h = refl
-take-inside (suc n) [] ys h = absurd (omega arith)
-take-inside (suc n) (x ∷ xs) ys h = ap (λ zs. x ∷ zs) (take-inside n xs ys (omega arith))
-
--- the rest of two lists, where only elements of the first list are dropped
-pub drop-inside : {A : Type 0} (n : ℕ) (xs ys : List A) → n ≤ length xs
-    → drop n (xs ++ ys) ≡ drop n xs ++ ys
-drop-inside zero xs ys h = refl
-drop-inside (suc n) [] ys h = absurd (omega arith)
-drop-inside (suc n) (x ∷ xs) ys h = drop-inside n xs ys (omega arith)
-
--- as many elements as a list has, or more, are all of it
-pub take-all : {A : Type 0} (n : ℕ) (xs : List A) → length xs ≤ n → take n xs ≡ xs
-take-all zero [] h = refl
-take-all zero (x ∷ xs) h = absurd (omega arith)
-take-all (suc n) [] h = refl
-take-all (suc n) (x ∷ xs) h = ap (λ ys. x ∷ ys) (take-all n xs (omega arith))
-
--- a mapped list is as long as the list
-pub length-map : {A B : Type 0} (f : A → B) (xs : List A) → length (map f xs) ≡ length xs
-length-map f [] = refl
-length-map f (x ∷ xs) = ap suc (length-map f xs)
-
--- two lists are mapped one after the other
-pub map-append : {A B : Type 0} (f : A → B) (xs ys : List A)
-    → map f (xs ++ ys) ≡ map f xs ++ map f ys
-map-append f [] ys = refl
-map-append f (x ∷ xs) ys = ap (λ zs. f x ∷ zs) (map-append f xs ys)
+use Rattle.std.proofs.lemmas.Bool.{ltb-false, ltb-true}
 
 -- one element more is the one at the next place
 take-suc_more : {A : Type 0} (xs : List A) (i : ℕ) (x : A) → slice_get xs i ≡ Some x
@@ -66,48 +34,13 @@ all-set P (x ∷ xs) zero y h p = (p, h.1)
 all-set P (x ∷ xs) (suc i) y h p = (h.0, all-set P xs i y h.1 p)
 
 -- ---- tests
--- if an 'and' of two tests is true, both are
-pub both-true : (a b : Bool) → (a && b) ≡ true → (a ≡ true) × (b ≡ true)
-both-true true b h = (refl, h)
-both-true false b h = absurd (let no : ⊥ = cc in no)
-
--- if it is false, one of them is
-pub not-both : (a b : Bool) → (a && b) ≡ false → (a ≡ false) ⊎ (b ≡ false)
-not-both true b h = inr h
-not-both false b h = inl refl
-
--- the test of being less
-pub lt-true : (m n : ℕ) → nat_lt m n ≡ true → m < n
-lt-true m n h = grind (arith, nat_tests)
-
--- and where it fails
-pub lt-false : (m n : ℕ) → nat_lt m n ≡ false → n ≤ m
-lt-false m n h = grind (arith, nat_tests)
-
 -- ---- a part of a list
-
--- a front that the list has room for is as long as was asked for
-pub take-length : {A : Type 0} (n : ℕ) (xs : List A) → n ≤ length xs → length (take n xs) ≡ n
-take-length zero xs h = refl
-take-length (suc n) [] h = absurd (omega arith)
-take-length (suc n) (x ∷ xs) h = ap suc (take-length n xs (omega arith))
 
 -- one element dropped after others
 drop-suc : {A : Type 0} (n : ℕ) (xs : List A) → drop 1 (drop n xs) ≡ drop (suc n) xs
 drop-suc zero xs = refl
 drop-suc (suc n) [] = refl
 drop-suc (suc n) (x ∷ xs) = drop-suc n xs
-
--- the same, as a loop counts it
-pub drop-one_more : {A : Type 0} (n : ℕ) (xs : List A) → drop 1 (drop n xs) ≡ drop (n + 1) xs
-drop-one_more n xs = drop-suc n xs ∙ ap (λ k. drop k xs) (let e : suc n ≡ n + 1 = omega arith in e)
-
--- as many elements as a list has, or more, leave none
-pub drop-all : {A : Type 0} (n : ℕ) (xs : List A) → length xs ≤ n → drop n xs ≡ []
-drop-all zero [] h = refl
-drop-all zero (x ∷ xs) h = absurd (omega arith)
-drop-all (suc n) [] h = refl
-drop-all (suc n) (x ∷ xs) h = drop-all n xs (omega arith)
 
 -- the first of the rest is the one at that place
 get-drop : {A : Type 0} (n : ℕ) (xs : List A) → slice_get (drop n xs) 0 ≡ slice_get xs n
@@ -131,9 +64,9 @@ lt-suc m n = by (nat_lt (suc m) (suc n)) (nat_lt m n) refl refl
     by : (x y : Bool) → nat_lt (suc m) (suc n) ≡ x → nat_lt m n ≡ y → x ≡ y
     by true true p q = refl
     by false false p q = refl
-    by true false p q = absurd (let lt = lt-true (suc m) (suc n) p in let le = lt-false m n q in
+    by true false p q = absurd (let lt = ltb-true (suc m) (suc n) p in let le = ltb-false m n q in
         omega (arith, lt, le))
-    by false true p q = absurd (let le = lt-false (suc m) (suc n) p in let lt = lt-true m n q in
+    by false true p q = absurd (let le = ltb-false (suc m) (suc n) p in let lt = ltb-true m n q in
         omega (arith, lt, le))
 
 -- zero is below each number but itself
@@ -166,20 +99,6 @@ lt-get (x ∷ xs) (suc i) = lt-suc i (length xs) ∙ lt-get xs i
 
 -- ---- places of a mapped list
 
--- what is at a place of a mapped list
-pub slice_get-map : {A B : Type 0} (f : A → B) (xs : List A) (i : ℕ)
-    → slice_get (map f xs) i ≡ option_map f (slice_get xs i)
-slice_get-map f [] i = refl
-slice_get-map f (x ∷ xs) zero = refl
-slice_get-map f (x ∷ xs) (suc i) = slice_get-map f xs i
-
--- a write in a list, mapped
-pub map-set : {A B : Type 0} (f : A → B) (xs : List A) (i : ℕ) (x : A)
-    → map f (slice_set xs i x) ≡ slice_set (map f xs) i (f x)
-map-set f [] i x = refl
-map-set f (y ∷ xs) zero x = refl
-map-set f (y ∷ xs) (suc i) x = ap (λ ys. f y ∷ ys) (map-set f xs i x)
-
 -- what is at a place, written there again, leaves the list
 pub set-same : {A : Type 0} (xs : List A) (i : ℕ) (x : A) → slice_get xs i ≡ Some x
     → slice_set xs i x ≡ xs
@@ -187,25 +106,12 @@ set-same [] i x h = refl
 set-same (y ∷ xs) zero x h = cc
 set-same (y ∷ xs) (suc i) x h = ap (λ ys. y ∷ ys) (set-same xs i x h)
 
--- a write leaves the length
-pub length-set : {A : Type 0} (xs : List A) (i : ℕ) (x : A) → length (slice_set xs i x) ≡ length xs
-length-set [] i x = refl
-length-set (y ∷ xs) zero x = refl
-length-set (y ∷ xs) (suc i) x = ap suc (length-set xs i x)
-
 -- what was written at a place with an element is there
 pub get-set_here : {A : Type 0} (xs : List A) (i : ℕ) (x y : A) → slice_get xs i ≡ Some x
     → slice_get (slice_set xs i y) i ≡ Some y
 get-set_here [] i x y h = absurd (let no : ⊥ = cc in no)
 get-set_here (z ∷ xs) zero x y h = refl
 get-set_here (z ∷ xs) (suc i) x y h = get-set_here xs i x y h
-
--- of two writes at one place the later one counts
-pub set-twice : {A : Type 0} (xs : List A) (i : ℕ) (y z : A)
-    → slice_set (slice_set xs i y) i z ≡ slice_set xs i z
-set-twice [] i y z = refl
-set-twice (x ∷ xs) zero y z = refl
-set-twice (x ∷ xs) (suc i) y z = ap (λ ys. x ∷ ys) (set-twice xs i y z)
 
 -- what was written at a place within a list is there
 pub get-set_in : {A : Type 0} (xs : List A) (i : ℕ) (y : A) → i < length xs

@@ -4,9 +4,9 @@ use Rattle.std.specs.Prelude.{slice_get, slice_set}
 use Rattle.std.specs.Option.{option_map}
 use Rattle.std.specs.Int.{bit_at}
 use Rattle.std.proofs.lemmas.List.Edits.{map_over_more}
+use Rattle.std.proofs.lemmas.List.{drop_all, length-map, length-take-le, map-set, take-append-le, take_all}
 use Rattle.lq_desk.specs.Slot.{KeptSlot, PreparedSlot, has_ready, passes}
 use Rattle.lq_desk.specs.Words.{IsMarked, SetsBit}
-use Rattle.lq_desk.proofs.ListLemmas.{drop-all, length-map, map-set, take-all, take-inside, take-length}
 use Rattle.lq_desk.proofs.SlotsLemmas.{kept_slot}
 use Rattle.lq_desk.proofs.WordLemmas.{marked-push}
 
@@ -56,7 +56,7 @@ module _ (f : KeptSlot → KeptSlot) (xs ys : List (Option PreparedSlot)) (i : �
 
   -- its place is within the slots that are kept
   kept_lt : i < length (map kept_slot xs)
-  kept_lt = omega (arith, lt, length-map kept_slot xs)
+  kept_lt = omega (arith, lt, length-map xs kept_slot)
 
   -- the slot of the loop is as it was
   pub kept-here : slice_get (map kept_slot xs) i ≡ Some (kept_slot z)
@@ -85,24 +85,24 @@ pub kept-end : (f : KeptSlot → KeptSlot) (xs ys : List (Option PreparedSlot)) 
     → map kept_slot ys ≡ map (option_map f) (map kept_slot xs)
 kept-end f xs ys i le done =
     let ks = map kept_slot xs in
-    let past : length ks ≤ i = omega (arith, le, length-map kept_slot xs) in
+    let past : length ks ≤ i = omega (arith, le, length-map xs kept_slot) in
     done
-    ∙ (ap (λ js. map (option_map f) js ++ drop i ks) (take-all i ks past)
-    ∙ (ap (λ js. map (option_map f) ks ++ js) (drop-all i ks past)
+    ∙ (ap (λ js. map (option_map f) js ++ drop i ks) (take_all i ks past)
+    ∙ (ap (λ js. map (option_map f) ks ++ js) (drop_all i ks past)
     ∙ append-none (map (option_map f) ks)))
 
 -- the loop leaves as many slots
 pub kept-length : (f : KeptSlot → KeptSlot) (xs ys : List (Option PreparedSlot)) (i : ℕ)
     → map kept_slot ys ≡ map (option_map f) (take i (map kept_slot xs)) ++ drop i (map kept_slot xs)
     → length ys ≡ length xs
-kept-length f xs ys i done = sym (length-map kept_slot ys) ∙ (ap length done
-    ∙ (length-undone (option_map f) (map kept_slot xs) i ∙ length-map kept_slot xs))
+kept-length f xs ys i done = sym (length-map ys kept_slot) ∙ (ap length done
+    ∙ (length-undone (option_map f) (map kept_slot xs) i ∙ length-map xs kept_slot))
 
 -- the slots of the loop, written back
 pub written-back : (n : ℕ) (ys zs : List (Option PreparedSlot)) → length ys ≡ n
     → take n (ys ++ zs) ≡ ys
-written-back n ys zs long = take-inside n ys zs (omega (arith, long))
-    ∙ take-all n ys (omega (arith, long))
+written-back n ys zs long = take-append-le n ys zs (omega (arith, long))
+    ∙ take_all n ys (omega (arith, long))
 
 -- ---- the word of the slots with messages
 
@@ -124,6 +124,6 @@ pub told-more : (old new : ℕ) (xs : List (Option PreparedSlot)) (i : ℕ) (x :
     → i < length xs → IsMarked has_ready old (take i xs) → SetsBit old i (passes has_ready x) new
     → IsMarked has_ready new (take (i + 1) (slice_set xs i x))
 told-more old new xs i x lt marked set =
-    let long : i ≡ length (take i xs) = sym (take-length i xs (omega (arith, lt))) in
+    let long : i ≡ length (take i xs) = sym (length-take-le i xs (omega (arith, lt))) in
     rw (take-set xs i x lt) (marked-push has_ready old new (take i xs) x marked set.others
     (λ is. ap (bit_at new) (sym long) ∙ set.here is))

@@ -4,9 +4,10 @@ use Rattle.std.specs.Prelude.{slice_get, slice_set}
 use Rattle.std.specs.Option.{option_map, option_flatten}
 use Rattle.std.specs.Int.{bit_at}
 use Rattle.std.specs.Int.RustNames.{bit_or}
+use Rattle.std.proofs.lemmas.Option.{slice_get-map}
 use Rattle.lq_desk.specs.Slot.{KeptSlot, PreparedSlot, slot_of, can_move, committed_slot, done_at, filled, has_ready, is_ending, noticed, passes}
 use Rattle.lq_desk.specs.Words.{AreMarked, IsMarked, SetsBit}
-use Rattle.lq_desk.proofs.ListLemmas.{get-set_in, slice_get-map}
+use Rattle.lq_desk.proofs.ListLemmas.{get-set_in}
 use Rattle.lq_desk.proofs.PutLemmas.{filled-ends, filled-still}
 use Rattle.lq_desk.proofs.SlotsLemmas.{kept_slot, committed-ends, committed-quiet, noticed-quiet, noticed-still}
 use Rattle.lq_desk.proofs.WordLemmas.{either-left, either-right, marked-map, marked-none, marked-push, marked-set}
@@ -17,9 +18,9 @@ marks-new ending movable =
     record { ends = marked-none is_ending ending; moves = marked-none can_move movable }
 
 -- a test isn't true and false
-not-both : (x : Bool) → x ≡ true → x ≡ false → ⊥
-not-both true p q = cc
-not-both false p q = cc
+and_cases : (x : Bool) → x ≡ true → x ≡ false → ⊥
+and_cases true p q = cc
+and_cases false p q = cc
 
 -- slots mapped twice are mapped by both
 map-through : {R S T : Type 0} (f : R → S) (g : S → T) (xs : List (Option R))
@@ -60,7 +61,7 @@ pub marks-noticed : (number ending movable : ℕ) (ks js : List (Option KeptSlot
 marks-noticed number ending movable ks js does marked =
     subst (λ hs. AreMarked 0 (bit_or movable ending) hs) (sym does) (record {
       ends = marked-map is_ending (noticed number) 0 ks
-          (λ i k at is. absurd (not-both _ is (noticed-still number k)));
+          (λ i k at is. absurd (and_cases _ is (noticed-still number k)));
       moves = marked-map can_move (noticed number) (bit_or movable ending) ks
           (λ i k at is. by i k at is (is_ending k) refl);
     })
@@ -80,7 +81,7 @@ marks-filled ending movable ks js does marked =
       ends = marked-map is_ending filled ending ks
           (λ i k at is. marked.ends i k at (sym (filled-ends k) ∙ is));
       moves = marked-map can_move filled 0 ks
-          (λ i k at is. absurd (not-both _ is (filled-still k)));
+          (λ i k at is. absurd (and_cases _ is (filled-still k)));
     })
 
 -- the bit of what stood at a place, by a test of what is done there
@@ -105,7 +106,7 @@ marks-noticed_at number ending movable ks js place does marked =
     subst (λ hs. AreMarked ending (bit_or movable ending) hs) (sym does) (record {
       ends = marked-set is_ending ending ending ks place _ marked.ends (λ i is. is)
           (at-place is_ending (noticed number) ending ks place
-          (λ k at is. absurd (not-both _ is (noticed-still number k))));
+          (λ k at is. absurd (and_cases _ is (noticed-still number k))));
       moves = marked-set can_move movable (bit_or movable ending) ks place _ marked.moves
           (either-left movable ending)
           (at-place can_move (noticed number) (bit_or movable ending) ks place
@@ -128,7 +129,7 @@ marks-filled_at ending movable ks js place does marked =
           (λ k at is. marked.ends place k at (sym (filled-ends k) ∙ is)));
       moves = marked-set can_move movable movable ks place _ marked.moves (λ i is. is)
           (at-place can_move filled movable ks place
-          (λ k at is. absurd (not-both _ is (filled-still k))));
+          (λ k at is. absurd (and_cases _ is (filled-still k))));
     })
 
 -- another thing stands at a place

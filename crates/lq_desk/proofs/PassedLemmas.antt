@@ -2,6 +2,8 @@
 use Rattle.std.proofs.Common.{◌≡◌, ℕ, ◌-◌, ◌≤◌, [], ◌++◌, refl, ap, map, take, drop, length, ◌∙◌, sym, arith, Some, None, Option, Bool, true, false, inl, inr}
 use Rattle.std.specs.Prelude.{nat_lt, if◌then◌else◌}
 use Rattle.std.specs.Option.{option_map, option_to_list}
+use Rattle.std.proofs.lemmas.Bool.{ltb-false, ltb-true}
+use Rattle.std.proofs.lemmas.List.{drop_all}
 use Rattle.lq_value.specs.declared.refusal.Refusal.{Refusal}
 use Rattle.lq_update.specs.declared.parcel.Parcel.TheVariants.{Update, Fin}
 use Rattle.lq_world.specs.World.{World, Subscribed, End, updates_due, whole, in_port, waiting, to_come, mark_behind}
@@ -13,7 +15,7 @@ use Rattle.lq_world.specs.Laws.{ListsArePassedOn, RefusalsLeaveWorlds}
 use Rattle.lq_desk.specs.Kept.{Kept, Shows, mark_of, held_for, slot_for, kept_at, kept_of}
 use Rattle.lq_desk.specs.Reply.{Moves}
 use Rattle.lq_desk.specs.Laws.{KeptPassesListsOn, mark_left}
-use Rattle.lq_desk.proofs.ListLemmas.{all-get, drop-all, lt-true, lt-false}
+use Rattle.lq_desk.proofs.ListLemmas.{all-get}
 use Rattle.lq_desk.proofs.Shown.{kept_at-same, slot-found}
 
 -- what is left of a mark behind the messages, once some parcels were put
@@ -33,10 +35,10 @@ mark-drop n i o = by (nat_lt n i) refl
     by : (x : Bool) → nat_lt n i ≡ x → drop (i - n) (mark_behind n o)
         ≡ (if x then [] else map (λ mark. Fin mark) (option_to_list (option_map (mark_of n) o)))
     by true is =
-        let past = lt-true n i is in
-        drop-all (i - n) (mark_behind n o) (omega (arith, past, few o))
+        let past = ltb-true n i is in
+        drop_all (i - n) (mark_behind n o) (omega (arith, past, few o))
     by false is =
-        let inside = lt-false n i is in
+        let inside = ltb-false n i is in
         let none : i - n ≡ 0 = omega (arith, inside) in
         ap (λ j. drop j (mark_behind n o)) none ∙ all o
 

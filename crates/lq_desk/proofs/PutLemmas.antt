@@ -1,12 +1,12 @@
 -- Puts at one slot, and what they leave as it was.
 use Rattle.std.proofs.Common.{◌≡◌, ℕ, zero, suc, ◌+◌, ◌-◌, ◌≤◌, refl, ap, length, length-append, ◌∙◌, sym, arith, Some, None, Option, Bool, true, false}
 use Rattle.std.specs.Prelude.{◌&&◌, nat_lt, is_some, unwrap_or}
+use Rattle.std.proofs.lemmas.Bool.{and_parts, ltb-true}
 use Rattle.lq_update.specs.declared.parcel.Parcel.{Parcel}
 use Rattle.lq_update.specs.declared.parcel.Parcel.TheVariants.{Update, Fin}
 use Rattle.lq_world.specs.Events.{Answer, Moved}
 use Rattle.lq_desk.specs.Held.{next_parcel}
 use Rattle.lq_desk.specs.Slot.{KeptSlot, put_if, put_slot, after_put, after_puts, can_move, filled, is_ending}
-use Rattle.lq_desk.proofs.ListLemmas.{both-true, lt-true}
 
 -- a put leaves the slot taken
 pub put-some : (k : KeptSlot) → (put_slot k).1 ≡ Some (after_put k)
@@ -110,7 +110,7 @@ filled-still k = by (can_move (filled k)) refl
     by : (x : Bool) → can_move (filled k) ≡ x → can_move (filled k) ≡ false
     by false is = is
     by true is =
-        absurd (let room = lt-true (length (filled k).queue) (filled k).port (both-true (nat_lt
+        absurd (let room = ltb-true (length (filled k).queue) (filled k).port (and_parts (nat_lt
         (length (filled k).queue) (filled k).port) (is_some (next_parcel (filled k).held)) is).0 in
         omega (arith, room, puts-move k.port k is, (puts-keep k.port k).port))
 

@@ -3,6 +3,8 @@ use Rattle.std.proofs.Common.{◌≡◌, ℕ, ◌+◌, ◌-◌, List, [], ◌∷
 use Rattle.std.specs.Prelude.{slice_get, slice_set, ◌==◌, ◌&&◌, not, nat_lt, nat_le, if◌then◌else◌}
 use Rattle.std.specs.Option.{option_map, option_flatten}
 use Rattle.std.specs.List.{AllByRecursion}
+use Rattle.std.proofs.lemmas.List.{length-map, map-set}
+use Rattle.std.proofs.lemmas.Option.{slice_get-map}
 use Rattle.lq_value.specs.declared.entry.Entry.{Entry}
 use Rattle.lq_value.specs.declared.refusal.Refusal.{Refusal}
 use Rattle.lq_value.specs.declared.refusal.Refusal.TheVariants.{BadPort, BadBacklog, NoSlot, Exhausted}
@@ -27,7 +29,7 @@ use Rattle.lq_desk.specs.Slot.{KeptSlot, fresh_slot, slot_after, put_slot, read_
 use Rattle.lq_desk.specs.Kept.{Kept, Shows, KeptMayRunOut, KeptStep, kept_of, slot_for, kept_at, at_place, at_kept, first_free, opening_refusal, opened, open_if, changed, change_if, kept_outcome}
 use Rattle.lq_desk.specs.Reply.{Moves}
 use Rattle.lq_desk.specs.Laws.{KeptShowsWorlds}
-use Rattle.lq_desk.proofs.ListLemmas.{all-get, map-set, slice_get-map, length-map, not-below}
+use Rattle.lq_desk.proofs.ListLemmas.{all-get, not-below}
 use Rattle.lq_desk.proofs.UpdateLemmas.{after_all-append, number-all}
 use Rattle.lq_desk.proofs.SlotLemmas.{kept_alike, put-same, read-same, ask-same, notice-same, close-same, finish-same, change-same}
 
@@ -117,7 +119,7 @@ pub refusal-same : (w : World) (port backlog : ℕ)
     → opening_refusal (kept_of w) port backlog ≡ open_refusal w port backlog
 refusal-same w port backlog =
     ap (λ n. refusal_by w port backlog n (first_free (kept_of w).slots))
-    (length-map (option_map (slot_for w.book)) w.slots)
+    (length-map w.slots (option_map (slot_for w.book)))
     ∙ ap (refusal_by w port backlog (length w.slots)) (free-same w.book w.slots)
 
 -- from a number to the same one nothing is told

@@ -3,6 +3,8 @@ use Rattle.std.proofs.Common.{◌≡◌, ℕ, zero, suc, ◌+◌, ◌-◌, ◌�
 use Rattle.std.specs.Prelude.{slice_get, ◌==◌, ◌&&◌, nat_lt, is_none, is_some, if◌then◌else◌, ◌<◌}
 use Rattle.std.specs.Option.{option_map}
 use Rattle.std.proofs.lemmas.Bool.Decides.{nat_tests}
+use Rattle.std.proofs.lemmas.Bool.{and_parts}
+use Rattle.std.proofs.lemmas.List.{drop-append-le, drop-drop, drop_all, length-map, length-take-le, map-append, take-append-le}
 use Rattle.lq_volume.specs.declared.change.Change.{Change as Change_}
 use Rattle.lq_volume.specs.Book.{Book, grown, number_of, state_of}
 use Rattle.lq_update.specs.declared.message.Message.{Message}
@@ -20,7 +22,7 @@ use Rattle.lq_desk.specs.Held.{Held, next_of, without, ended_by, after_messages_
 use Rattle.lq_desk.specs.Held as h
 use Rattle.lq_desk.specs.Slot.{KeptSlot, slot_after, put_if, put_slot, is_read, read_if, read_slot, ask_slot, notice_if, notice_slot, close_if, close_slot, finish_if, finish_slot}
 use Rattle.lq_desk.specs.Kept.{mark_of, held_for, slot_for}
-use Rattle.lq_desk.proofs.ListLemmas.{take-inside, drop-inside, take-length, take-one_more, drop-one_more, drop-all, get-between, lt-get, length-map, map-append, both-true, above-zero, lt-suc}
+use Rattle.lq_desk.proofs.ListLemmas.{take-one_more, get-between, lt-get, above-zero, lt-suc}
 use Rattle.lq_desk.proofs.UpdateLemmas.{updates_of-stays, updates_of-change}
 
 -- messages as parcels
@@ -103,12 +105,12 @@ pub without-same : (b : Book) (s : Subscribed) (p : Parcel) → slice_get (whole
     → without (held_for b s) (Some p) ≡ held_for b (one_more_put s)
 without-same b s (Update m) at =
     let inside = message-at (updates_due b s) (length (updates_due b s)) s.put s.end m at in
-    held_alike (held_for b s) _ _ _ _ (drop-one_more s.put (updates_due b s))
+    held_alike (held_for b s) _ _ _ _ (drop-drop 1 s.put (updates_due b s))
     (grind (arith, nat_tests))
 without-same b s (Fin m) at =
     let behind = mark-at (updates_due b s) (length (updates_due b s)) s.put s.end m at in
-    held_alike (held_for b s) _ _ _ _ (drop-all s.put (updates_due b s) (omega arith)
-    ∙ sym (drop-all (s.put + 1) (updates_due b s) (omega arith))) (grind (arith, nat_tests))
+    held_alike (held_for b s) _ _ _ _ (drop_all s.put (updates_due b s) (omega arith)
+    ∙ sym (drop_all (s.put + 1) (updates_due b s) (omega arith))) (grind (arith, nat_tests))
 
 -- ---- the port
 
@@ -116,14 +118,15 @@ without-same b s (Fin m) at =
 queue-length : (b : Book) (s : Subscribed) → IsFair b s
     → length (drop s.taken (take s.put (whole b s))) ≡ s.put - s.taken
 queue-length b s f =
-    omega (arith, length-drop s.taken (take s.put (whole b s)), take-length s.put (whole b s) f.put)
+    omega
+    (arith, length-drop s.taken (take s.put (whole b s)), length-take-le s.put (whole b s) f.put)
 
 -- one parcel put goes to the end of the port
 queue-put : (xs : List Parcel) (t i : ℕ) (p : Parcel) → t ≤ i → i ≤ length xs
     → slice_get xs i ≡ Some p → drop t (take i xs) ++ p ∷ [] ≡ drop t (take (i + 1) xs)
 queue-put xs t i p le inside at =
     sym (ap (drop t) (take-one_more xs i p at).0
-    ∙ drop-inside t (take i xs) (p ∷ []) (omega (arith, take-length i xs inside)))
+    ∙ drop-append-le t (take i xs) (p ∷ []) (omega (arith, length-take-le i xs inside)))
 
 -- a slot with the same held and the same queue
 slot_alike : (k : KeptSlot) (g h : Held) (ps qs : List Parcel) → g ≡ h → ps ≡ qs
@@ -171,7 +174,7 @@ is_read-same b s f =
     (length-append (parcels (updates_due b s)) (mark_behind (length (updates_due b s)) s.end)
     ∙ ap (λ n. n
     + length (mark_behind (length (updates_due b s)) s.end))
-    (length-map (λ m. Update m) (updates_due b s)))
+    (length-map (updates_due b s) (λ m. Update m)))
     f.taken (queue-length b s f)
 
 -- a read is answered alike, of a parcel or of none
@@ -181,7 +184,7 @@ read-if : (b : Book) (s : Subscribed) → IsFair b s → (o : Option Parcel)
 read-if b s f None =
     ap (λ x. (if x then Ended else Empty, Some (slot_for b s))) (is_read-same b s f)
 read-if b s f (Some p) = ap (λ ps. (Read p, Some (record (slot_for b s) { queue = ps })))
-    (drop-one_more s.taken (take s.put (whole b s)))
+    (drop-drop 1 s.taken (take s.put (whole b s)))
 
 -- a read is answered alike
 pub read-same : (b : Book) (s : Subscribed) → IsFair b s
@@ -237,7 +240,7 @@ end-same b d s cause n f live same =
     omega (arith, f.put, ap length (whole-live b s live)) in
     let front : take s.put (whole b s)
     ≡ take s.put (parcels us ++ mark_behind (length us) (Some e)) =
-    ap (take s.put) (whole-live b s live) ∙ sym (take-inside s.put (parcels us) _ inside) in
+    ap (take s.put) (whole-live b s live) ∙ sym (take-append-le s.put (parcels us) _ inside) in
     ap (λ ps. record (slot_for b s) {
       held = ended_by (held_for b s) cause n;
       queue = drop s.taken ps;
@@ -254,7 +257,7 @@ notice-same b s f = ap (λ x. notice_if (number_of b) (slot_for b s) (x && s.han
     by : (x : Bool) → (is_live s && s.hang_up_asked) ≡ x → notice_if (number_of b) (slot_for b s) x
         ≡ ((noticing_if b s x).0, option_map (slot_for b) (noticing_if b s x).1)
     by true is =
-        let live = live-none s.end (both-true (is_live s) s.hang_up_asked is).0 in
+        let live = live-none s.end (and_parts (is_live s) s.hang_up_asked is).0 in
         ap (λ k. (Noticed true, Some k))
         (end-same b b s HungUp (number_of b) f live (sym (told-live b s live)))
     by false is = refl
@@ -313,7 +316,7 @@ module _ (join : UpdatesJoin) (b : Book) (c : Change_) (s : Subscribed) (f : IsF
           arith,
           f.put,
           ap length (whole-live b s live),
-          length-map (λ m. Update m) (updates_due b s),
+          length-map (updates_due b s) (λ m. Update m),
         )
 
     -- it was opened by the book's number
@@ -336,7 +339,7 @@ module _ (join : UpdatesJoin) (b : Book) (c : Change_) (s : Subscribed) (f : IsF
         omega (arith, f.put, ap length (whole-live b s live)) in
         let front : take s.put (whole b s) ≡ take s.put (whole after s) =
         ap (take s.put) (whole-live b s live)
-        ∙ (sym (take-inside s.put (parcels us) (parcels step) inside)
+        ∙ (sym (take-append-le s.put (parcels us) (parcels step) inside)
         ∙ (ap (take s.put) (sym (map-append (λ m. Update m) us step) ∙ ap parcels (sym told-after))
         ∙ ap (take s.put) (sym (whole-live after s live)))) in
         let out : nat_lt (length us) s.put ≡ nat_lt (length us + length step) s.put =
@@ -345,7 +348,7 @@ module _ (join : UpdatesJoin) (b : Book) (c : Change_) (s : Subscribed) (f : IsF
         = sym (length-append us step)
         ∙ ap length (sym told-after) in
         kept_alike s _ _ _ _ _ _ _ _ _ _ size
-        (sym (drop-inside s.put us step put_inside) ∙ ap (drop s.put) (sym told-after))
+        (sym (drop-append-le s.put us step put_inside) ∙ ap (drop s.put) (sym told-after))
         (ap (option_map (mark_of (length us))) live
         ∙ sym (ap (option_map (mark_of (length (updates_due after s)))) live))
         (out ∙ ap (λ n. nat_lt n s.put) size)

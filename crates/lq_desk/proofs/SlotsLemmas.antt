@@ -4,6 +4,9 @@ use Rattle.std.specs.Prelude.{slice_get, slice_set, replicate, if◌then◌else�
 use Rattle.std.specs.Option.{option_map, option_flatten}
 use Rattle.std.specs.List.{AllByRecursion}
 use Rattle.std.proofs.lemmas.Bool.Decides.{nat_tests}
+use Rattle.std.proofs.lemmas.Bool.{and_parts}
+use Rattle.std.proofs.lemmas.List.{map-set}
+use Rattle.std.proofs.lemmas.Option.{slice_get-map}
 use Rattle.lq_volume.specs.declared.change.Change.{Change as Change_}
 use Rattle.lq_volume.specs.State.{State, IsVolume}
 use Rattle.lq_volume.specs.Change.{IsLawful}
@@ -23,7 +26,7 @@ use Rattle.lq_desk.specs.Slot.{KeptSlot, PreparedSlot, slot_of, prepared_slot, c
 use Rattle.lq_desk.specs.Act.{act_of, outcome_at, outcome_in}
 use Rattle.lq_desk.specs.Kept.{Kept, IsFew, kept_at, at_place, kept_outcome}
 use Rattle.lq_desk.specs.Kept as kept
-use Rattle.lq_desk.proofs.ListLemmas.{all-set, all-get, both-true, map-set, set-same, slice_get-map, lt-get}
+use Rattle.lq_desk.proofs.ListLemmas.{all-set, all-get, set-same, lt-get}
 use Rattle.lq_desk.proofs.PutLemmas.{puts-keep}
 
 -- what is kept of what may be in a slot
@@ -215,7 +218,7 @@ committed-ends p is = by (is_live p.sub.held) refl is
         → is_ending (slot_of (if x then record p { sub = committed p.sub } else p)) ≡ true
         → is_ending (slot_of p) ≡ true
     by true live is = ap (λ x. x && p.hang_up_asked) live
-        ∙ (both-true (is_live (after_messages p.sub.held p.sub.ready p.sub.before))
+        ∙ (and_parts (is_live (after_messages p.sub.held p.sub.ready p.sub.before))
         p.hang_up_asked is).1
     by false live is = is
 

@@ -3,6 +3,8 @@ use Rattle.std.proofs.Common.{◌≡◌, ℕ, zero, suc, ◌+◌, ◌-◌, ◌�
 use Rattle.std.specs.Prelude.{slice_get, slice_set, replicate, if◌then◌else◌, ◌==◌, ◌&&◌, ◌≢◌, ◌⊎◌}
 use Rattle.std.specs.Option.{option_map, option_flatten}
 use Rattle.std.proofs.lemmas.Bool.Decides.{nat_tests}
+use Rattle.std.proofs.lemmas.List.{map-set, set-set}
+use Rattle.std.proofs.lemmas.Option.{slice_get-map}
 use Rattle.lq_value.specs.declared.refusal.Refusal.{Refusal}
 use Rattle.lq_volume.specs.declared.change.Change.{Change as Change_}
 use Rattle.lq_volume.specs.State.{State}
@@ -22,7 +24,7 @@ use Rattle.lq_desk.specs.Kept.{Kept, KeptStep, Shows, slot_for, kept_at, at_plac
 use Rattle.lq_desk.specs.Reply.{Moves, Runs}
 use Rattle.lq_desk.specs.Turn.{slot_port, kept_ports, kept_turn, kept_after, TurnStep, TurnRuns}
 use Rattle.lq_desk.specs.Laws.{KeptShowsWorlds, KeptTurnsShowWorlds}
-use Rattle.lq_desk.proofs.ListLemmas.{get-set_here, map-set, set-same, set-seam, set-twice, slice_get-map}
+use Rattle.lq_desk.proofs.ListLemmas.{get-set_here, set-same, set-seam}
 use Rattle.lq_desk.proofs.PutLemmas.{put-some}
 use Rattle.lq_desk.proofs.RunLemmas.{runs-more}
 
@@ -173,7 +175,7 @@ puts-do k i (suc n) ks s at =
     (one-event k ks i s (after_put s) put_slot at (put-some s))
     ∙ (puts-do k i n js (after_put s) (get-set_here ks i (Some s) (Some (after_put s)) at)
     ∙ ap (λ hs. record k { slots = hs })
-    (set-twice ks i (Some (after_put s)) (Some (after_puts n (after_put s)))))
+    (set-set ks i (Some (after_put s)) (Some (after_puts n (after_put s)))))
 
 -- as many as its port has places fill it
 fill-does : (k : Kept) → Does puts filled k

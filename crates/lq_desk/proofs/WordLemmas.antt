@@ -6,9 +6,10 @@ use Rattle.std.specs.Int.{bit_at}
 use Rattle.std.specs.Int.RustNames.{bit_or}
 use Rattle.std.proofs.lemmas.Bool.Decides.{nat_tests}
 use Rattle.std.proofs.lemmas.Nat.Bits.{bit_at_or, bit_at-lt, bit_at-zero}
+use Rattle.std.proofs.lemmas.Option.{slice_get-map}
 use Rattle.lq_desk.specs.Slot.{passes}
 use Rattle.lq_desk.specs.Words.{IsMarked}
-use Rattle.lq_desk.proofs.ListLemmas.{get-set, slice_get-map}
+use Rattle.lq_desk.proofs.ListLemmas.{get-set}
 
 -- a bit of either of two words
 pub either-left : (a b i : ℕ) → bit_at a i ≡ 1 → bit_at (bit_or a b) i ≡ 1

@@ -7,7 +7,7 @@ ghost use Rattle.lq_volume.specs.Change.{IsLawful};
 ghost use Rattle.lq_desk.specs.Passing.{are_written, is_among, passes_over};
 
 use lq_predicate::{Predicate, names, truth_goes_by_names};
-use lq_update::{Cause, Mark, Message, Parcel, changes_pass_over, step_planned};
+use lq_update::{Cause, Mark, Message, Parcel, changes_pass_over, may_tell, step_planned};
 use lq_value::{AttrName, Refusal, same_text};
 use lq_volume::{Change, Planned, Volume};
 use std::alloc::Global;
@@ -192,16 +192,27 @@ impl Sub {
         changes_pass_over();
         truth_goes_by_names();
         let before = planned.applied().change - 1;
-        if self.passes_over(planned.change()) {
+        if self.passes_over(planned.change()) || !may_tell(&self.predicate, planned) {
             self.forget_ready(before);
             return Ok(());
         }
+        Ok(self.make_ready(planned, before)?)
+    }
+
+    // Makes the messages of a change that may tell some, after so many changes. It stands apart:
+    // most changes tell most queries nothing.
+    #[inline(never)]
+    fn make_ready(&mut self, planned: &Planned<'_>, before: u64) -> Result<(), Refusal>
+        requires few { self.old.held.sent < 2 ^ 63 }
+        requires live { IsTrue (is_live self.old.held) }
+        requires before { before ≡ planned.now.before.number }
+        ensures refused { IsRefusedBy result None }
+        ensures ok { OnOk result
+            (self.new ≡ prepared planned.now.before planned.now.change self.old) }
+        ensures err { OnErr result (self.new ≡ self.old) }
+    {
         let first = self.sent + 1;
         let step = step_planned(self.alloc, &self.predicate, planned, first, self.moved)?;
-        if step.is_empty() {
-            self.forget_ready(before);
-            return Ok(());
-        }
         self.messages.reserve(step.len() + 1)?;
         self.ready = step;
         self.before = before;
@@ -213,9 +224,17 @@ impl Sub {
         ensures { self.new ≡ record self.old { ready = []; before = before } }
     {
         if !self.ready.is_empty() {
-            self.ready = Vec::new(self.alloc);
+            self.drop_ready();
         }
         self.before = before;
+    }
+
+    // What was made ready goes.
+    #[inline(never)]
+    fn drop_ready(&mut self)
+        ensures { self.new ≡ record self.old { ready = [] } }
+    {
+        self.ready = Vec::new(self.alloc);
     }
 
     // Whether a change tells the query nothing, by the names that it alters.

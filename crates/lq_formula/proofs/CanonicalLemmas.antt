@@ -4,7 +4,7 @@ use Rattle.std.specs.Prelude.{◌==◌, ◌||◌, ◌&&◌, nat_le, if◌then◌
 use Rattle.std.specs.List.{list_all}
 use Rattle.std.proofs.Math.Dec.{eqb-suc-zero}
 use Rattle.std.proofs.Math.Seq.{take-append_seam, drop-append_seam, drop-append-add}
-use Rattle.std.proofs.lemmas.Bool.{eqb-true, leb-true, ne_eqb, or_from}
+use Rattle.std.proofs.lemmas.Bool.{and_parts, eqb-true, leb-true, ne_eqb, or_cases, or_from}
 use Rattle.lq_value.specs.declared.literal.Literal.{Literal}
 use Rattle.lq_value.specs.declared.literal.Literal.TheVariants.{Pattern, Plain}
 use Rattle.lq_value.specs.declared.op.Op.{Op}
@@ -87,34 +87,20 @@ abbrev IsBare : ℕ → Type 0
 IsBare b = ((65 ≤ b) × (b ≤ 90)) ⊎ (((97 ≤ b) × (b ≤ 122))
     ⊎ (((48 ≤ b) × (b ≤ 57)) ⊎ ((b ≡ 95) ⊎ ((b ≡ 58) ⊎ ((b ≡ 46) ⊎ (b ≡ 45))))))
 
--- if an 'or' of two tests is true, one of them is
-or_true : (x y : Bool) → (x || y) ≡ true → (x ≡ true) ⊎ (y ≡ true)
-or_true true y e = inl refl
-or_true false y e = inr e
-
--- false is not true, so anything follows
-no_true : (y : Bool) → false ≡ true → y ≡ true
-no_true y e = cc
-
--- if an 'and' of two tests is true, both are
-pub and_true : (x y : Bool) → (x && y) ≡ true → (x ≡ true) × (y ≡ true)
-and_true true y e = (refl, e)
-and_true false y e = (e, no_true y e)
-
 -- the test of a range of bytes says that the byte is in it
 within : (a b c : ℕ) → (nat_le a b && nat_le b c) ≡ true → (a ≤ b) × (b ≤ c)
 within a b c e =
-    let h = and_true (nat_le a b) (nat_le b c) e in
+    let h = and_parts (nat_le a b) (nat_le b c) e in
     (leb-true a b h.0, leb-true b c h.1)
 
 -- a byte that stands in a bare name is a letter, a digit or one of `_ : . -`
 bare_byte : (b : ℕ) → is_bare_byte b ≡ true → IsBare b
-bare_byte b e = last (or_true _ _ e)
+bare_byte b e = last (or_cases _ _ e)
   where
     ranges : (((nat_le 65 b && nat_le b 90) || (nat_le 97 b && nat_le b 122)) ≡ true)
         ⊎ ((nat_le 48 b && nat_le b 57) ≡ true) → IsBare b
     ranges (inr h) = inr (inr (inl (within 48 b 57 h)))
-    ranges (inl h) = elim (or_true _ _ h) [
+    ranges (inl h) = elim (or_cases _ _ h) [
       | inl k ↦ inl (within 65 b 90 k)
       | inr k ↦ inr (inl (within 97 b 122 k))
     ]
@@ -122,24 +108,24 @@ bare_byte b e = last (or_true _ _ e)
     fourth : (((nat_le 65 b && nat_le b 90) || (nat_le 97 b && nat_le b 122)
         || (nat_le 48 b && nat_le b 57)) ≡ true) ⊎ ((b == 95) ≡ true) → IsBare b
     fourth (inr h) = inr (inr (inr (inl (eqb-true b 95 h))))
-    fourth (inl h) = ranges (or_true _ _ h)
+    fourth (inl h) = ranges (or_cases _ _ h)
 
     third : (((nat_le 65 b && nat_le b 90) || (nat_le 97 b && nat_le b 122)
         || (nat_le 48 b && nat_le b 57) || b == 95) ≡ true) ⊎ ((b == 58) ≡ true) → IsBare b
     third (inr h) = inr (inr (inr (inr (inl (eqb-true b 58 h)))))
-    third (inl h) = fourth (or_true _ _ h)
+    third (inl h) = fourth (or_cases _ _ h)
 
     second : (((nat_le 65 b && nat_le b 90) || (nat_le 97 b && nat_le b 122)
         || (nat_le 48 b && nat_le b 57) || b == 95 || b == 58) ≡ true)
         ⊎ ((b == 46) ≡ true) → IsBare b
     second (inr h) = inr (inr (inr (inr (inr (inl (eqb-true b 46 h))))))
-    second (inl h) = third (or_true _ _ h)
+    second (inl h) = third (or_cases _ _ h)
 
     last : (((nat_le 65 b && nat_le b 90) || (nat_le 97 b && nat_le b 122)
         || (nat_le 48 b && nat_le b 57) || b == 95 || b == 58 || b == 46) ≡ true)
         ⊎ ((b == 45) ≡ true) → IsBare b
     last (inr h) = inr (inr (inr (inr (inr (inr (eqb-true b 45 h))))))
-    last (inl h) = second (or_true _ _ h)
+    last (inl h) = second (or_cases _ _ h)
 
 -- no byte of a bare name is `\`
 pub no_backslash : (b : ℕ) → is_bare_byte b ≡ true → (b == 92) ≡ false
@@ -191,7 +177,7 @@ bare_length : (name rest : List ℕ) → list_all is_bare_byte name ≡ true →
     → word_bytes false (name ++ rest) ≡ length name
 bare_length [] rest e h = word_stops rest h
 bare_length (b ∷ bs) rest e h =
-    let all = and_true (is_bare_byte b) (list_all is_bare_byte bs) e in
+    let all = and_parts (is_bare_byte b) (list_all is_bare_byte bs) e in
     ap (λ t. cond t (word_bytes true (bs ++ rest))
     (cond (ends_word b) 0 (suc (word_bytes false (bs ++ rest))))) (no_backslash b all.0)
     ∙ ap (λ t. cond t 0 (suc (word_bytes false (bs ++ rest)))) (ends_no b (bare_byte b all.0))
@@ -205,7 +191,7 @@ word_front_of l n = record { token = word (take n l); size = n; inside = 0 }
 front_bare : (b : ℕ) (bs rest : List ℕ) → list_all is_bare_byte (b ∷ bs) ≡ true → Stopped rest
     → front b (bs ++ rest) ≡ word_front_of (b ∷ bs ++ rest) (suc (length bs))
 front_bare b bs rest e h =
-    let all = and_true (is_bare_byte b) (list_all is_bare_byte bs) e in
+    let all = and_parts (is_bare_byte b) (list_all is_bare_byte bs) e in
     let l = b ∷ bs ++ rest in
     let n = word_bytes false l in
     ap (λ t. cond t (symbol_front b (bs ++ rest)) (cond (b == 34 || b == 39)
@@ -222,7 +208,7 @@ front_bare b bs rest e h =
 lex_bare : (b : ℕ) (bs rest : List ℕ) (ts : List Token) → list_all is_bare_byte (b ∷ bs) ≡ true
     → Stopped rest → Lexes rest ts → Lexes (b ∷ bs ++ rest) (word (b ∷ bs) ∷ ts)
 lex_bare b bs rest ts e h k =
-    let all = and_true (is_bare_byte b) (list_all is_bare_byte bs) e in
+    let all = and_parts (is_bare_byte b) (list_all is_bare_byte bs) e in
     let f = front_bare b bs rest e h in
     one b (bs ++ rest) rest (word (b ∷ bs)) ts (space_no b (bare_byte b all.0))
     (ap (λ x. x.token) f ∙ ap word (take-append_seam (b ∷ bs) rest))

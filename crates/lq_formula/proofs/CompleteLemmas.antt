@@ -1,6 +1,7 @@
 -- What the grammar reads, the machine reads, as the same query.
 use Rattle.std.proofs.Common.{◌≡◌, ℕ, zero, suc, ◌+◌, List, [], ◌∷◌, ◌++◌, Some, sym, ap, ◌∙◌, arith, append_assoc, append-nil, add-zero, inl, inr, option_and_then}
 use Rattle.std.specs.Prelude.{option_map}
+use Rattle.std.proofs.lemmas.Option.{same_Some}
 use Rattle.lq_formula.specs.Tokens.{Token, opens, closes, bang, ands, ors, op, word}
 use Rattle.lq_formula.specs.Query.{Query, Compare, Not, both_of, either_of}
 use Rattle.lq_formula.specs.Grammar.{Reading, Follows, IsAnd, IsOr, IsComparison, IsNot, IsFormula}
@@ -177,11 +178,7 @@ formula_runs n ts q h =
     ap (run (start n)) (sym (append-nil ts)) ∙ ends.goes ∙ ap (λ ps. Some (either_of ps)) ends.says
     ∙ ap Some (sym h.2)
 
--- two values that are equal as `Some` are equal
-some_same : {A : Type 0} (x y : A) → Some x ≡ Some y → x ≡ y
-some_same x y e = cc
-
 -- tokens read as one query at most
 pub reads_one : (n : ℕ) (ts : List Token) (q r : Query)
     → IsFormula n ts q → IsFormula n ts r → q ≡ r
-reads_one n ts q r h k = some_same q r (sym (formula_runs n ts q h) ∙ formula_runs n ts r k)
+reads_one n ts q r h k = same_Some q r (sym (formula_runs n ts q h) ∙ formula_runs n ts r k)

@@ -5,6 +5,7 @@ use Rattle.std.specs.Prelude.{◌==◌, Result, Ok, Err}
 use Rattle.std.specs.Char.{IsScalar}
 use Rattle.std.specs.Str.{IsUtf8, chars}
 use Rattle.std.proofs.Math.Utf8.{scalar, scalars}
+use Rattle.std.proofs.lemmas.Bool.{and_parts}
 use Rattle.std.proofs.lemmas.Str.{scalars-chars}
 use Rattle.lq_value.specs.declared.element.Item.{Item}
 use Rattle.lq_value.specs.declared.element.Item.TheVariants.{One, Range}
@@ -26,7 +27,6 @@ use Rattle.lq_formula.specs.Tokens.{Token}
 use Rattle.lq_formula.specs.Limits.{AreGoodItems, IsGoodBehind, IsGoodElement, IsGoodItem, IsGoodLiteral, IsGoodPattern, IsProper}
 use Rattle.lq_formula.specs.Words.{WordsAre}
 use Rattle.lq_formula.proofs.ProperLemmas.{formula_proper_by, read_suits}
-use Rattle.lq_formula.proofs.CanonicalLemmas.{and_true}
 use Rattle.lq_formula.proofs.PatternTextLemmas.{Sign, bare, escaped}
 
 -- what a sign stands for is a character
@@ -64,10 +64,10 @@ signs_scalar : (b : Bool) (cs : List ℕ) → scalars cs ≡ true → AllScalar 
 signs_scalar false [] e = tt
 signs_scalar true [] e = (record { outside = λ c k. absurd k; inside = λ c k. absurd k }, tt)
 signs_scalar false (c ∷ cs) e =
-    let h = and_true (scalar c) (scalars cs) e in
+    let h = and_parts (scalar c) (scalars cs) e in
     signs_by (c == 92) c cs h.0 (signs_scalar true cs h.1) (signs_scalar false cs h.1)
 signs_scalar true (c ∷ cs) e =
-    let h = and_true (scalar c) (scalars cs) e in
+    let h = and_parts (scalar c) (scalars cs) e in
     (escaped_scalar c h.0, signs_scalar false cs h.1)
 
 -- if all of two lists stand for scalar values, those of the first do

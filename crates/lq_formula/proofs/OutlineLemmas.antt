@@ -2,6 +2,7 @@
 use Rattle.std.proofs.Common.{◌≡◌, ℕ, zero, suc, List, [], ◌∷◌, ◌++◌, length, map, Option, Some, None, refl, sym, ap, ◌∙◌, option_and_then}
 use Rattle.std.specs.Prelude.{option_map}
 use Rattle.std.proofs.lemmas.List.{map-append}
+use Rattle.std.proofs.lemmas.Option.{none-some}
 use Rattle.lq_formula.specs.Tokens.{Token, opens, closes, bang, ands, ors, op, word, lone, cut}
 use Rattle.lq_formula.specs.Literals.{name_of, literal_of}
 use Rattle.lq_formula.specs.Query.{Compare}
@@ -208,13 +209,9 @@ stands_outline n ts us s e c =
           (steps_outline ts (start n) s e)) ∙ all,
     )
 
--- nothing is both None and an outline
-none_some : (o : Outline) → None ≡ Some o → ⊥
-none_some o e = cc
-
 -- A token whose kind has no step in outline can't stand.
 pub cannot : (n : ℕ) (ts : List Token) (t : Token) (s : State) → steps (start n) ts ≡ Some s
     → outline_step (outline_of s) (kind_of t) ≡ None → CanStand (ts ++ t ∷ []) → ⊥
 cannot n ts t s e f c =
     let h = stands_outline n ts (t ∷ []) s e c in
-    none_some h.0 (sym (ap (option_and_then (λ o. Some o)) f) ∙ h.1)
+    none-some h.0 (sym (ap (option_and_then (λ o. Some o)) f) ∙ h.1)

@@ -1,6 +1,7 @@
 -- What a formula is read as is proper.
 use Rattle.std.proofs.Common.{◌≡◌, ℕ, zero, suc, Bool, true, false, List, [], ◌∷◌, ◌++◌, Some, None, refl, sym, ap, ◌∙◌, subst, inl, inr}
 use Rattle.std.specs.Prelude.{if◌then◌else◌, Result, Ok, Err}
+use Rattle.std.proofs.lemmas.Option.{none-some, same_Some}
 use Rattle.lq_value.specs.declared.element.Element.{Element}
 use Rattle.lq_value.specs.declared.literal.Literal.{Literal}
 use Rattle.lq_value.specs.declared.literal.Literal.TheVariants.{Pattern, Plain}
@@ -16,19 +17,11 @@ use Rattle.lq_formula.specs.Grammar.{Reading, Follows, IsAnd, IsOr, IsComparison
 use Rattle.lq_formula.specs.Limits.{AreProperBy, IsProperBy, IsReadBehind}
 use Rattle.lq_formula.specs.Words.{WordIs, WordsAre}
 
--- nothing is both None and Some
-none_some : {A : Type 0} {X : Type 0} (x : A) → None ≡ Some x → X
-none_some x e = cc
-
--- two values that are equal as `Some` are equal
-some_same : {A : Type 0} (x y : A) → Some x ≡ Some y → x ≡ y
-some_same x y e = cc
-
 -- a word that is read as a name is one
 name_by : (u name : List ℕ) (t : Bool)
     → is_attr_name u ≡ t → (if t then Some u else None) ≡ Some name → is_attr_name name ≡ true
-name_by u name true e f = ap is_attr_name (sym (some_same u name f)) ∙ e
-name_by u name false e f = none_some name f
+name_by u name true e f = ap is_attr_name (sym (same_Some u name f)) ∙ e
+name_by u name false e f = absurd (none-some name f)
 
 -- a name that is read is one
 named : (raw name : List ℕ) → name_of raw ≡ Some name → is_attr_name name ≡ true
@@ -39,13 +32,13 @@ pattern_suits : (o : Op) → ((es : List Element) → suits (Pattern es) o ≡ t
     → (r : Result (List Element) ℕ) (literal : Literal) → pattern_literal r ≡ Some literal
     → suits literal o ≡ true
 pattern_suits o h (Ok es) literal e =
-    ap (λ l. suits l o) (sym (some_same (Pattern es) literal e)) ∙ h es
-pattern_suits o h (Err k) literal e = none_some literal e
+    ap (λ l. suits l o) (sym (same_Some (Pattern es) literal e)) ∙ h es
+pattern_suits o h (Err k) literal e = absurd (none-some literal e)
 
 -- an operator that takes plain texts suits the text that is read
 plain_suits : (o : Op) (text : List ℕ) (literal : Literal)
     → suits (Plain text) o ≡ true → Some (Plain text) ≡ Some literal → suits literal o ≡ true
-plain_suits o text literal h e = ap (λ l. suits l o) (sym (some_same (Plain text) literal e)) ∙ h
+plain_suits o text literal h e = ap (λ l. suits l o) (sym (same_Some (Plain text) literal e)) ∙ h
 
 -- a literal that is read suits its operator
 pub read_suits : (o : Op) (raw : List ℕ) (literal : Literal) → literal_of o raw ≡ Some literal

@@ -2,6 +2,7 @@
 use Rattle.std.proofs.Common.{◌≡◌, ◌≤◌, ◌+◌, ℕ, Bool, true, false, List, [], ◌∷◌, length, Option, Some, None, refl, ap, ◌∙◌, subst, arith, option_and_then}
 use Rattle.std.specs.Prelude.{◌&&◌, nat_le, if◌then◌else◌, Result, Ok, Err}
 use Rattle.std.proofs.lemmas.Bool.{leb-true, le-leb}
+use Rattle.std.proofs.lemmas.Option.{none-some}
 use Rattle.lq_formula.specs.Tokens.{Token, Placed, bare, tokens_of}
 use Rattle.lq_formula.specs.Query.{Query}
 use Rattle.lq_formula.specs.Grammar.{IsFormula, nesting}
@@ -96,15 +97,11 @@ finished_small end o q e h =
     (test_true _ _ h.shallow)
     ∙ ap (λ b. if b then Ok q else Err end) (test_true _ _ h.brief)
 
--- nothing is both None and Some
-none_some : {A : Type 0} (x : A) → None ≡ Some x → ⊥
-none_some x e = cc
-
 -- where a step and the rest run to a query, the step leads to a state
 taken_run : (o : Option State) (ts : List Token) (q : Query)
     → option_and_then (λ s'. run s' ts) o ≡ Some q
     → (s : State) × (o ≡ Some s) × (run s ts ≡ Some q)
-taken_run None ts q e = absurd (none_some q e)
+taken_run None ts q e = absurd (none-some q e)
 taken_run (Some s) ts q e = (s, refl, e)
 
 -- where the machine runs to a small query with not too many words, it is read

@@ -10,6 +10,7 @@ use Rattle.lq_value.specs.declared.op.Op.TheVariants.{Eq, Ne, Lt, Le, Gt, Ge}
 use Rattle.lq_value.specs.Compare.{suits}
 use Rattle.lq_value.specs.Laws.{SourcesAreRead}
 use Rattle.lq_value.specs.Name.{is_attr_name}
+use Rattle.std.proofs.lemmas.Bool.{and_parts}
 use Rattle.lq_formula.specs.Tokens.{Token, ands, ors, op, word}
 use Rattle.lq_formula.specs.Query.{Query, Compare, Not, And, Or, Queries, no_more, and_then, queries, list_of}
 use Rattle.lq_formula.specs.Literals.{literal_of, name_of, pattern_literal, unescaped}
@@ -20,7 +21,7 @@ use Rattle.lq_formula.specs.Faults.{Reads}
 use Rattle.lq_formula.proofs.SoundLemmas.{comparison_reads}
 use Rattle.lq_formula.proofs.QuotingLemmas.{quoted_back}
 use Rattle.lq_formula.proofs.PatternTextLemmas.{pattern_written}
-use Rattle.lq_formula.proofs.CanonicalLemmas.{lexes_end, lexes_written, no_backslash, others_said, parts_said, raw_attr, said, and_true}
+use Rattle.lq_formula.proofs.CanonicalLemmas.{lexes_end, lexes_written, no_backslash, others_said, parts_said, raw_attr, said}
 
 -- ---- names and literals
 
@@ -28,7 +29,7 @@ use Rattle.lq_formula.proofs.CanonicalLemmas.{lexes_end, lexes_written, no_backs
 bare_back : (name : List ℕ) → list_all is_bare_byte name ≡ true → unescaped false name ≡ name
 bare_back [] e = refl
 bare_back (b ∷ bs) e =
-    let all = and_true (is_bare_byte b) (list_all is_bare_byte bs) e in
+    let all = and_parts (is_bare_byte b) (list_all is_bare_byte bs) e in
     ap (λ t. cond t (unescaped true bs) (b ∷ unescaped false bs)) (no_backslash b all.0)
     ∙ ap (λ l. b ∷ l) (bare_back bs all.1)
 
@@ -99,10 +100,10 @@ comparison_or n a o l name literal h k =
     single_or (IsNot n) ts q (single_and (IsNot n) ts q (comparison_reads n a o l name literal h k))
 
 -- an And of two parts or more, in its parts
-and_parts : (n : ℕ) (q r : Query) (qs : Queries) → IsNot n (said q) q
+and_of_parts : (n : ℕ) (q r : Query) (qs : Queries) → IsNot n (said q) q
     → Follows (IsNot n) ands (others_said ands (and_then r qs)) (list_of (and_then r qs)) → IsOr
     (IsNot n) (parts_said ands (and_then q (and_then r qs))) (And (and_then q (and_then r qs)))
-and_parts n q r qs h k =
+and_of_parts n q r qs h k =
     single_or (IsNot n) (parts_said ands (and_then q (and_then r qs)))
     (And (and_then q (and_then r qs))) (
       q,
@@ -112,10 +113,10 @@ and_parts n q r qs h k =
     )
 
 -- the parts of an Or, read one by one, are read as that Or
-or_parts : (n : ℕ) (q r : Query) (qs : Queries) → IsNot n (said q) q
+or_of_parts : (n : ℕ) (q r : Query) (qs : Queries) → IsNot n (said q) q
     → Follows (IsAnd (IsNot n)) ors (others_said ors (and_then r qs)) (list_of (and_then r qs))
     → IsOr (IsNot n) (parts_said ors (and_then q (and_then r qs))) (Or (and_then q (and_then r qs)))
-or_parts n q r qs h k = (
+or_of_parts n q r qs h k = (
   q,
   list_of (and_then r qs),
   ap (λ l. Or (and_then q (and_then r l))) (sym (same_queries qs)),
@@ -144,7 +145,7 @@ mutual
       inr (inl (
         parts_said ands (and_then q (and_then r qs)),
         refl,
-        and_parts n q r qs (said_reads law q n h.1.0 (fits_left _ _ n k))
+        and_of_parts n q r qs (said_reads law q n h.1.0 (fits_left _ _ n k))
             (follow_ands law (and_then r qs) n h.1.1 (fits_right (depth q) _ n k)),
       ))
   said_reads law (Or qs) zero h d = absurd (omega arith)
@@ -155,7 +156,7 @@ mutual
       inr (inl (
         parts_said ors (and_then q (and_then r qs)),
         refl,
-        or_parts n q r qs (said_reads law q n h.1.0 (fits_left _ _ n k))
+        or_of_parts n q r qs (said_reads law q n h.1.0 (fits_left _ _ n k))
             (follow_ors law (and_then r qs) n h.1.1 (fits_right (depth q) _ n k)),
       ))
 

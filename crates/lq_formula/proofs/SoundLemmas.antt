@@ -1,6 +1,7 @@
 -- What the machine reads, the grammar reads, as the same query.
 use Rattle.std.proofs.Common.{◌≡◌, ℕ, zero, suc, ◌+◌, List, [], ◌∷◌, ◌++◌, Option, Some, None, refl, sym, ap, ◌∙◌, subst, arith, append_assoc, append-nil, add-zero, inl, inr, option_and_then}
 use Rattle.std.specs.Prelude.{option_map}
+use Rattle.std.proofs.lemmas.Option.{same_Some}
 use Rattle.lq_value.specs.declared.op.Op.{Op}
 use Rattle.lq_formula.specs.Tokens.{Token, opens, closes, bang, ands, ors, op, word, lone, cut}
 use Rattle.lq_value.specs.declared.literal.Literal.{Literal}
@@ -221,10 +222,6 @@ awaits_paren below f n q ts h =
 fails : {A : Type 0} {X : Type 0} (x : A) → None ≡ Some x → X
 fails x e = cc
 
--- two values that are equal as `Some` are equal
-some_same : {A : Type 0} (x y : A) → Some x ≡ Some y → x ≡ y
-some_same x y e = cc
-
 -- the two values of a step that was taken
 pub record Taken (A : Type 0) (o : Option A) (f : A → State) (ts : List Token)
     (q : Query) : Type 0 where
@@ -244,7 +241,7 @@ pub sound : (ts : List Token) (p : Expected) (below : List Frame) (f : Frame) (n
 sound [] operand below f n q e = fails q e
 sound [] (after_attr a) below f n q e = fails q e
 sound [] (after_op a o) below f n q e = fails q e
-sound [] after_operand [] f n q e = rest_end n f.or_parts f.and_parts _ [] (refl, some_same _ q e)
+sound [] after_operand [] f n q e = rest_end n f.or_parts f.and_parts _ [] (refl, same_Some _ q e)
 sound [] after_operand (g ∷ gs) f n q e = fails q e
 sound (word w ∷ ts) operand below f n q e =
     let t = taken (name_of w) (λ name. at (after_attr name) below f n) ts q e in

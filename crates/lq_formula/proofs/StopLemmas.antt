@@ -1,6 +1,7 @@
 -- Each state leads to a formula, so the first token that can't be taken is the first fault.
 use Rattle.std.proofs.Common.{◌≡◌, ℕ, suc, ◌+◌, List, [], ◌∷◌, ◌++◌, Option, Some, None, option_and_then, refl, sym, ap, ◌∙◌, append_assoc, append-nil, false}
 use Rattle.std.specs.Prelude.{option_map, Ok}
+use Rattle.std.proofs.lemmas.Option.{none-some}
 use Rattle.lq_value.specs.declared.op.Op.{Op}
 use Rattle.lq_value.specs.declared.op.Op.TheVariants.{Eq, Ne, Lt, Le, Gt, Ge}
 use Rattle.std.proofs.lemmas.Str.{chars-nil}
@@ -116,17 +117,13 @@ begun ts s e =
       run_reads nesting (ts ++ h.rest) h.q (steps_run ts (start nesting) s h.rest e ∙ h.runs),
     )
 
--- nothing is both None and Some
-pub none_some : {A : Type 0} (x : A) → None ≡ Some x → ⊥
-none_some x e = cc
-
 -- tokens with one after them that is refused begin no formula
 pub not_begun : (ts : List Token) (t : Token) (s : State)
     → steps (start nesting) ts ≡ Some s → step s t ≡ None → IsBegun (ts ++ t ∷ []) → ⊥
 not_begun ts t s e f b =
     let reads = formula_runs nesting ((ts ++ t ∷ []) ++ b.0) b.1 b.2 in
     let fails : run s (t ∷ b.0) ≡ None = ap (option_and_then (λ s'. run s' b.0)) f in
-    none_some b.1 (sym fails ∙ sym (steps_run ts (start nesting) s (t ∷ b.0) e)
+    none-some b.1 (sym fails ∙ sym (steps_run ts (start nesting) s (t ∷ b.0) e)
     ∙ ap (run (start nesting)) (sym (append_assoc ts (t ∷ []) b.0)) ∙ reads)
 
 -- where all tokens are taken and a query is whole, they are a formula of that query
@@ -138,5 +135,5 @@ reads_at_end all s q g f = run_reads nesting all q
 -- where all tokens are taken and no query is whole, they are no formula
 pub ends_none : (all : List Token) (s : State) → steps (start nesting) all ≡ Some s → whole s ≡ None
     → (q : Query) → IsFormula nesting all q → ⊥
-ends_none all s g f q h = none_some q (sym f ∙ sym (steps_run all (start nesting) s [] g)
+ends_none all s g f q h = none-some q (sym f ∙ sym (steps_run all (start nesting) s [] g)
     ∙ ap (run (start nesting)) (append-nil all) ∙ formula_runs nesting all q h)

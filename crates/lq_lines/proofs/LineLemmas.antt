@@ -1,7 +1,8 @@
 -- How an input is cut into lines, and what is written for lines one after another.
-use Rattle.std.proofs.Common.{◌≡◌, ◌==◌, ℕ, zero, suc, ◌≤◌, ◌++◌, List, [], ◌∷◌, take, length, Option, None, Some, Bool, true, false, refl, sym, ap, ◌∙◌, arith, append_assoc, append-nil}
+use Rattle.std.proofs.Common.{◌≡◌, ◌==◌, ℕ, zero, suc, ◌≤◌, ◌++◌, List, [], ◌∷◌, take, length, Option, None, Some, true, refl, sym, ap, ◌∙◌, arith, append_assoc, append-nil}
 use Rattle.std.specs.Prelude.{unwrap_or}
 use Rattle.memchr.specs.Find.{IsFirstByte, Nowhere, Passes, is_byte}
+use Rattle.std.proofs.lemmas.Bool.{false_from_ne_true}
 use Rattle.lq_lines.specs.Lines.{IsUnbroken, Rules, before_ended, ended_lines, line_of, lines_of, replies_to, reply_to, state_after, with_front}
 use Rattle.lq_lines.specs.Progress.{IsCut, state_after_all}
 
@@ -42,11 +43,6 @@ unbroken_append : (bytes more : List ℕ) → IsUnbroken bytes → IsUnbroken mo
 unbroken_append [] more u v = v
 unbroken_append (a ∷ bytes) more u v = (u.0, unbroken_append bytes more u.1 v)
 
--- what is not true is false
-not_true : (b : Bool) → (b ≡ true → ⊥) → b ≡ false
-not_true true h = absurd (h refl)
-not_true false h = refl
-
 -- before a place that no LF stands before, the bytes have none
 unbroken_before : (xs : List ℕ) (n j : ℕ) → Nowhere (Passes (is_byte 10) xs) 0 j → n ≤ j
     → IsUnbroken (take n xs)
@@ -55,7 +51,7 @@ unbroken_before [] (suc n) j none le = tt
 unbroken_before (x ∷ xs) zero j none le = tt
 unbroken_before (x ∷ xs) (suc n) zero none le = absurd (let bad : ⊥ = omega arith in bad)
 unbroken_before (x ∷ xs) (suc n) (suc j) none le = (
-  not_true (x == 10) (none 0 (omega arith) (omega arith)),
+  false_from_ne_true (x == 10) (none 0 (omega arith) (omega arith)),
   unbroken_before xs n j (λ k low high. none (suc k) (omega arith) (omega arith)) (omega arith),
 )
 

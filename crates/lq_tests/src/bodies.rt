@@ -4,7 +4,7 @@ ghost use Rattle.lq_volume.specs.Change.{IsLawful};
 use crate::act::{Act, Draws};
 use crate::plain;
 use lq_predicate::{Predicate, read};
-use lq_update::{Message, Opcode, step_planned};
+use lq_update::{Message, Opcode, may_tell, step_planned};
 use lq_value::Refusal;
 use lq_volume::{Change, Volume};
 use std::alloc::Global;
@@ -88,7 +88,8 @@ struct Tally {
     unlike: u64,
 }
 
-/// Compares what both bodies tell a predicate of a change.
+/// Compares what both bodies tell a predicate of a change, and whether `may_tell` says no just
+/// where that is nothing and nothing is clobbered.
 fn compare(
     alloc: Global,
     tally: &mut Tally,
@@ -99,11 +100,13 @@ fn compare(
     requires { IsLawful volume.now change.now }
 {
     let planned = volume.plan(change)?;
+    let may = may_tell(predicate, &planned);
     for moved in [false, true] {
         let fast = step_planned(alloc, predicate, &planned, 7, moved)?;
         let plain = plain::step(alloc, predicate, volume, change, 7, moved)?;
         tally.messages = tally.messages.saturating_add(plain.len() as u64);
-        if !are_same(&fast, &plain) {
+        let is_quiet = plain.is_empty() && planned.clobbered().is_none();
+        if !are_same(&fast, &plain) || may == is_quiet {
             tally.unlike = tally.unlike.saturating_add(1);
         }
     }

@@ -145,7 +145,12 @@ name|name|same
 name|same|other
 from|when|other
 name|node|other
-status|stutus|other";
+status|stutus|other
+seven_7|seven_7|same
+seven_7|sevon_7|other
+eight__8|eight__8|same
+eight__8|eigth__8|other
+seven_7|eight__8|other";
 
 // text | the number that it writes as a pattern and as a plain text, or none
 const NUMBERS: &str = r"0|0

@@ -1,15 +1,12 @@
 -- What single elements take, and that going back to the latest star is enough.
 use Rattle.std.proofs.Common.{◌≡◌, ◌≤◌, ℕ, suc, ◌+◌, List, [], ◌∷◌, ◌++◌, length, Bool, true, false, refl, sym, ap, ◌∙◌, subst, arith, append_assoc, length-append}
+use Rattle.std.proofs.lemmas.Bool.{both_ways}
 use Rattle.lq_value.specs.declared.element.Element.{Element}
 use Rattle.lq_value.specs.declared.element.Element.TheVariants.{Star, Any, Plain, Set}
 use Rattle.lq_value.specs.Element.{takes}
 use Rattle.lq_value.specs.Pattern.{fits, is_end, some_rest}
 use Rattle.lq_value.specs.Matching.{IsSingle, AreSingle, IsAtStar, TakesOne, Passes, PassesToStar, Finds}
 use Rattle.lq_value.proofs.PatternLemmas.{IsRest, some_found, some_here, some_behind, head_found}
-
--- a test that is false is not true
-not_true : (b : Bool) → b ≡ false → b ≡ true → ⊥
-not_true b e h = let no : false ≡ true = sym e ∙ h in cc
 
 -- tests that are true together are equal
 pub bool_same : (a b : Bool) → (a ≡ true → b ≡ true) → (b ≡ true → a ≡ true) → a ≡ b
@@ -22,7 +19,7 @@ bool_same false true f g = g refl
 
 -- an element that takes a character is no star
 single : (e : Element) (c : ℕ) → takes e c ≡ true → IsSingle e
-single Star c t = absurd (not_true false refl t)
+single Star c t = absurd (both_ways false refl t)
 single Any c t = tt
 single (Plain d) c t = tt
 single (Set n is) c t = tt
@@ -30,7 +27,7 @@ single (Set n is) c t = tt
 -- an element that takes the first character leaves the rest to the others
 fits_taken : (e : Element) (es : List Element) (c : ℕ) (cs : List ℕ) → takes e c ≡ true
     → fits (e ∷ es) (c ∷ cs) ≡ fits es cs
-fits_taken Star es c cs t = absurd (not_true false refl t)
+fits_taken Star es c cs t = absurd (both_ways false refl t)
 fits_taken Any es c cs t = refl
 fits_taken (Plain d) es c cs t = rw t refl
 fits_taken (Set n is) es c cs t = rw t refl

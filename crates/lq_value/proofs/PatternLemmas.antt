@@ -1,9 +1,9 @@
 -- What a pattern's test says of splits of a text, and what plain elements fit.
-use Rattle.std.proofs.Common.{◌≡◌, ℕ, List, [], ◌∷◌, ◌++◌, refl, sym, ap, ◌∙◌, Bool, true, false, Some, ◌⊎◌, inl, inr, eq-eqb, suc, ◌+◌, ◌<◌, length, take, drop, get_or, None}
-use Rattle.std.specs.Prelude.{IsTrue, ◌↔◌, ◌&&◌, ◌||◌, ◌==◌, not, if◌then◌else◌}
+use Rattle.std.proofs.Common.{◌≡◌, ℕ, List, [], ◌∷◌, ◌++◌, refl, sym, ap, ◌∙◌, Bool, true, false, Some, inl, inr, eq-eqb, suc, ◌+◌, ◌<◌, length, take, drop, get_or, None}
+use Rattle.std.specs.Prelude.{IsTrue, ◌↔◌, ◌&&◌, ◌==◌, not, if◌then◌else◌}
 use Rattle.std.specs.Option.{option_map}
 use Rattle.std.specs.Str.{bytes_eq, chars, IsUtf8, encode_utf8_all}
-use Rattle.std.proofs.lemmas.Bool.{eqb-true}
+use Rattle.std.proofs.lemmas.Bool.{and_parts, eqb-true, or_cases, or_right}
 use Rattle.std.proofs.lemmas.Slice.Eq.{bytes_eq-Decides}
 use Rattle.std.specs.Prelude.{encode_utf8}
 use Rattle.std.proofs.Math.Seq.{drop-cons}
@@ -18,21 +18,6 @@ use Rattle.lq_value.specs.Number.{number_of}
 -- a rest of the text
 abbrev pub IsRest : List ℕ → List ℕ → Type 0
 IsRest text rest = (front : List ℕ) × (text ≡ front ++ rest)
-
--- if an 'or' of two tests is true, one of them is
-or_cases : (a b : Bool) → (a || b) ≡ true → (a ≡ true) ⊎ (b ≡ true)
-or_cases true b e = inl refl
-or_cases false b e = inr e
-
--- an 'or' is true if its second test is
-or_right : (a b : Bool) → b ≡ true → (a || b) ≡ true
-or_right true b e = refl
-or_right false b e = e
-
--- if an 'and' of two tests is true, both are
-and_both : (a b : Bool) → (a && b) ≡ true → (a ≡ true) × (b ≡ true)
-and_both true b e = (refl, e)
-and_both false b e = absurd (let no : false ≡ true = e in cc)
 
 -- a test that some rest passes has that rest
 pub some_found : (p : List ℕ → Bool) (cs : List ℕ) → some_rest p cs ≡ true
@@ -59,7 +44,7 @@ some_behind p (c ∷ front) rest e =
 pub head_found : (t : ℕ → Bool) (p : List ℕ → Bool) (cs : List ℕ) → head_then t p cs ≡ true
     → (c : ℕ) × (rest : List ℕ) × (cs ≡ c ∷ rest) × (t c ≡ true) × (p rest ≡ true)
 head_found t p [] e = absurd (let no : false ≡ true = e in cc)
-head_found t p (c ∷ cs) e = let h = and_both (t c) (p cs) e in (c, cs, refl, h.0, h.1)
+head_found t p (c ∷ cs) e = let h = and_parts (t c) (p cs) e in (c, cs, refl, h.0, h.1)
 
 -- a set takes a character where its items have it, or where it is negated and they don't
 set-takes : (n h : Bool) → (if n then not h else h) ≡ true → h ≡ not n

@@ -1,7 +1,7 @@
 -- What is read is what is written: each item and each element, and all of them.
-use Rattle.std.proofs.Common.{◌≡◌, ◌≤◌, ℕ, zero, suc, List, [], ◌∷◌, ◌++◌, length, refl, sym, ap, ◌∙◌, arith, subst, Bool, true, false, append_assoc}
+use Rattle.std.proofs.Common.{◌≡◌, ℕ, zero, suc, List, [], ◌∷◌, ◌++◌, length, refl, sym, ap, ◌∙◌, arith, subst, Bool, true, false, append_assoc}
 use Rattle.std.specs.Prelude.{nat_le, ◌==◌, ◌||◌, if◌then◌else◌}
-use Rattle.std.proofs.lemmas.Bool.{eqb-true}
+use Rattle.std.proofs.lemmas.Bool.{eqb-true, le-leb}
 use Rattle.std.proofs.lemmas.Bool.Decides.{nat_tests}
 use Rattle.lq_value.specs.declared.element.Item.{Item}
 use Rattle.lq_value.specs.declared.element.Item.TheVariants.{One, Range}
@@ -181,10 +181,6 @@ one_written c is (x ∷ []) behind h n = rw (last_sign is x h) refl
 one_written c is (x ∷ y ∷ more) behind h n =
     no_range c x y (more ++ behind) (is_bare 45 x) refl (λ e. n y more (ap (λ s. s ∷ y ∷ more) e))
 
--- a bound that holds passes its test
-le_test : (c d : ℕ) → c ≤ d → nat_le c d ≡ true
-le_test c d h = grind (arith, nat_tests)
-
 -- an item is read back where others follow it
 item_written : (i : Item) (is : List Item) (part rest behind : List Sign) → IsItem i part rest
     → AreItems is rest → item_at (part ++ (rest ++ behind)) ≡ has i (rest ++ behind)
@@ -195,7 +191,7 @@ item_written (Range c d) is part rest behind h k =
     ap (λ p. item_at (p ++ (rest ++ behind))) h.2
     ∙ char_at h.0 c (Bare 45 ∷ h.1 ∷ (rest ++ behind)) h.3
     ∙ range_end c (Bare 45 ∷ h.1 ∷ (rest ++ behind)) h.1 d (rest ++ behind) h.4
-    ∙ ap (λ b. if b then has (Range c d) (rest ++ behind) else faulty) (le_test c d h.5)
+    ∙ ap (λ b. if b then has (Range c d) (rest ++ behind) else faulty) (le-leb c d h.5)
 
 -- items are read back up to the `]` after them
 pub items_written : (is : List Item) (inside rest : List Sign) → AreItems is inside

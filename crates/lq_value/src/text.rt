@@ -1,5 +1,5 @@
 //! A text that contracts see as its bytes.
-ghost use Rattle.std.specs.Prelude.{◌≡◌, None, IfOk};
+ghost use Rattle.std.specs.Prelude.{◌≡◌, None, IfOk, length};
 ghost use Rattle.std.specs.Str.{bytes_eq};
 ghost use Rattle.lq_value.specs.Refusal.{IsRefusedBy};
 ghost use Rattle.lq_value.specs.Number.{number_of};
@@ -79,11 +79,17 @@ impl Text {
 
 /// Whether two texts are the same. It takes no memory.
 ///
-/// Most texts that are sought among others differ from them in their first byte, or, as names that
-/// begin with one word do, in their last: these two are looked at first.
+/// Most texts that are sought among others differ from them in their length or their first byte,
+/// or, as long names that begin with one word do, in their last: these are looked at first.
 pub fn same_text(one: &str, other: &str) -> bool
     ensures { result ≡ bytes_eq one.now other.now }
 {
+    if one.len() != other.len() {
+        return false;
+    }
+    if one.len() < 8 {
+        return same_bytes(one.as_bytes(), other.as_bytes());
+    }
     match (one.as_bytes().first(), other.as_bytes().first()) {
         (Some(a), Some(b)) if *a != *b => return false,
         _ => {}
@@ -92,4 +98,18 @@ pub fn same_text(one: &str, other: &str) -> bool
         (Some(a), Some(b)) if *a != *b => false,
         _ => one == other,
     }
+}
+
+// Whether two lists of bytes are the same, one byte after another: the shortest way where they are
+// few.
+fn same_bytes(one: &[u8], other: &[u8]) -> bool
+    requires { length one.now ≡ length other.now }
+    ensures { result ≡ bytes_eq one.now other.now }
+{
+    for place in 0..one.len() {
+        if one[place] != other[place] {
+            return false;
+        }
+    }
+    true
 }

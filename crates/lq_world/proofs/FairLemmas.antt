@@ -4,6 +4,7 @@ use Rattle.std.specs.Prelude.{slice_get, ◌==◌, ◌&&◌, not, nat_le, if◌t
 use Rattle.std.specs.Option.{option_flatten, option_map}
 use Rattle.std.specs.List.{AllByRecursion}
 use Rattle.std.proofs.lemmas.Bool.Decides.{nat_tests}
+use Rattle.std.proofs.lemmas.Bool.{and_parts}
 use Rattle.lq_value.specs.declared.refusal.Refusal.{Refusal}
 use Rattle.lq_value.specs.declared.refusal.Refusal.TheVariants.{BadPort, BadBacklog, NoSlot, Exhausted}
 use Rattle.lq_value.specs.Refusal.{first_refusal}
@@ -22,7 +23,7 @@ use Rattle.lq_world.specs.Runs.{Step}
 use Rattle.lq_world.specs.Fair.{IsFair, IsFairSlot, IsFairWorld}
 use Rattle.lq_world.specs.Laws.{FirstWorldsAreFair, RunsKeepWorldsFair}
 use Rattle.lq_world.specs.World.{is_over}
-use Rattle.lq_world.proofs.ListLemmas.{all-get, all-set, all-map, both-true}
+use Rattle.lq_world.proofs.ListLemmas.{all-get, all-set, all-map}
 use Rattle.lq_world.proofs.SubLemmas.{Leaves, keeps-change, putting-leaves, reading-leaves, hanging_up-leaves, noticing-leaves, closing-leaves}
 
 -- slots that are all free are fair
@@ -76,7 +77,7 @@ may_open w port backlog none =
     let rows = no_row (not (nat_le 1 port && nat_le port 1024)) (not (nat_le backlog 65536))
     (nat_le (length w.slots) (taken_before_free w.slots))
     (nat_le (state_of w.book).limit w.openings) none in
-    let ports = both-true (nat_le 1 port) (nat_le port 1024) (not-false _ rows.0) in
+    let ports = and_parts (nat_le 1 port) (nat_le port 1024) (not-false _ rows.0) in
     record {
       places = le-true 1 port ports.0;
       most = le-true port 1024 ports.1;

@@ -3,6 +3,7 @@ use Rattle.std.proofs.Common.{◌≡◌, ◌≢◌, ℕ, zero, suc, ◌+◌, ◌
 use Rattle.std.specs.Prelude.{◌⊎◌, slice_get, slice_set, ◌&&◌, ◌==◌, nat_lt, if◌then◌else◌}
 use Rattle.std.specs.Option.{option_flatten, option_map}
 use Rattle.std.proofs.lemmas.Bool.Decides.{nat_tests}
+use Rattle.std.proofs.lemmas.Bool.{and_parts, ltb-true}
 use Rattle.lq_volume.specs.declared.change.Change.{Change as Change_}
 use Rattle.lq_volume.specs.Change.{refused as refused_by}
 use Rattle.lq_value.specs.declared.refusal.Refusal.{Refusal}
@@ -16,7 +17,7 @@ use Rattle.lq_world.specs.Events.{Answer, Moved, changing, putting, putting_if, 
 use Rattle.lq_world.specs.Turns.{ports_of, places_in, places_at, puts, notices, all_puts, at_each, at_slot_of, one_notice, after_all, turn_of, turn_outcome}
 use Rattle.lq_world.specs.Fair.{IsFairSlot, IsFairWorld}
 use Rattle.lq_world.specs.Laws.{IsStill, TurnsFillPorts}
-use Rattle.lq_world.proofs.ListLemmas.{all-get, both-true, lt-true, slice_get-set_here, slice_get-set_other}
+use Rattle.lq_world.proofs.ListLemmas.{all-get, slice_get-set_here, slice_get-set_other}
 use Rattle.lq_world.proofs.FairLemmas.{slot-found, outcome-fair}
 
 -- two numbers are the same, or not
@@ -78,7 +79,7 @@ no-gap b (Some s) h = by (nat_lt (s.put - s.taken) s.port) refl
     by : (x : Bool) → nat_lt (s.put - s.taken) s.port ≡ x
         → (x && nat_lt s.put (length (whole b s))) ≡ false
     by false is = refl
-    by true is = absurd (omega (arith, lt-true (s.put - s.taken) s.port is, h))
+    by true is = absurd (omega (arith, ltb-true (s.put - s.taken) s.port is, h))
 
 -- a put leaves a slot that is still as it is
 still-stays : (b : Book) (o : Option Subscribed) → StillIn b o → put_once b o ≡ o
@@ -104,7 +105,7 @@ put-order b (Some s) h = by (can_put b s)
 put-fills : (b : Book) (n : ℕ) (s : Subscribed) → s.taken ≤ s.put → gap_of s ≤ suc n → (x : Bool)
     → can_put b s ≡ x → (gap_in (putting_if s x).1 ≤ n) ⊎ (can_put b s ≡ false)
 put-fills b n s order h true is =
-    inl (omega (arith, order, h, lt-true (s.put - s.taken) s.port (both-true _ _ is).0))
+    inl (omega (arith, order, h, ltb-true (s.put - s.taken) s.port (and_parts _ _ is).0))
 put-fills b n s order h false is = inr is
 
 -- so many puts fill it

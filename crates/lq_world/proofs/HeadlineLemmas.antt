@@ -1,6 +1,7 @@
 -- What the readers of a run are told, by its events and answers alone.
 use Rattle.std.proofs.Common.{◌≡◌, ℕ, zero, suc, ◌+◌, ◌-◌, ◌≤◌, ◌<◌, List, [], ◌∷◌, ◌++◌, refl, ap, take, length, ◌∙◌, sym, subst, arith, append_assoc, length-append, Some, None, Option, inl, inr, Bool}
 use Rattle.std.specs.Prelude.{slice_get, slice_set}
+use Rattle.std.proofs.lemmas.List.{take-append-le, take_all}
 use Rattle.lq_value.specs.declared.refusal.Refusal.{Refusal}
 use Rattle.lq_value.specs.declared.entry.Entry.{Entry}
 use Rattle.lq_formula.specs.Query.{Query}
@@ -20,7 +21,6 @@ use Rattle.lq_world.specs.Events.{Answer, Opened, opening, opened_now, open_refu
 use Rattle.lq_world.specs.Runs.{Step, Run}
 use Rattle.lq_world.specs.Headline.{reads_of, parcels_in, updates_among, updates_in, accepted_by, accepted, book_of, IsOpening, AreReads, ReadersAreTold}
 use Rattle.lq_world.proofs.WorldLemmas.{after_all-append, number-all, updates_of-rebased}
-use Rattle.lq_world.proofs.ListLemmas.{take-all, take-inside}
 use Rattle.lq_world.proofs.BookLemmas.{run-lawful}
 use Rattle.lq_world.proofs.FairLemmas.{MayOpen, may_open, opened-fair}
 use Rattle.lq_world.proofs.ReadLemmas.{Stands, run-book}
@@ -144,8 +144,8 @@ state-after : (s : State) (early late : List Change_) (n : ℕ) → n ≡ s.numb
 state-after s early late n is =
     let k : n - s.number ≡ length early = omega (arith, is) in
     ap (λ i. after_all s (take i (early ++ late))) k
-    ∙ ap (after_all s) (take-inside (length early) early late (omega arith)
-    ∙ take-all (length early) early (omega arith))
+    ∙ ap (after_all s) (take-append-le (length early) early late (omega arith)
+    ∙ take_all (length early) early (omega arith))
 
 module _ (join : UpdatesJoin) (grow : UpdatesGrow) (count : ChangesCount) (fold : FoldsGiveResults)
     (fold_all : WholeFoldsGiveResults) where

@@ -1,35 +1,7 @@
 -- Lists: their fronts, their places, and what holds of all of them.
-use Rattle.std.proofs.Common.{◌≡◌, ◌≢◌, ℕ, zero, suc, ◌+◌, ◌≤◌, List, [], ◌∷◌, ◌++◌, refl, ap, take, drop, length, ◌∙◌, arith, add-one, Some, map, Bool, true, false, inl, inr}
-use Rattle.std.specs.Prelude.{slice_get, slice_set, ◌&&◌, ◌⊎◌, ◌<◌, nat_lt}
+use Rattle.std.proofs.Common.{◌≡◌, ◌≢◌, ℕ, zero, suc, ◌+◌, ◌≤◌, List, [], ◌∷◌, ◌++◌, refl, ap, take, drop, length, ◌∙◌, arith, add-one, Some, map}
+use Rattle.std.specs.Prelude.{slice_get, slice_set}
 use Rattle.std.specs.List.{AllByRecursion}
-use Rattle.std.proofs.lemmas.Bool.Decides.{nat_tests}
-
--- a front that lies within the first of two lists is one of that list
-pub take-inside : {A : Type 0} (n : ℕ) (xs ys : List A) → n ≤ length xs
-    → take n (xs ++ ys) ≡ take n xs
-take-inside zero xs ys h = refl
-take-inside (suc n) [] ys h = absurd (omega arith)
-take-inside (suc n) (x ∷ xs) ys h = ap (λ zs. x ∷ zs) (take-inside n xs ys (omega arith))
-
--- what lies after a front within the first of two lists has the whole second list
-pub drop-inside : {A : Type 0} (n : ℕ) (xs ys : List A) → n ≤ length xs
-    → drop n (xs ++ ys) ≡ drop n xs ++ ys
-drop-inside zero xs ys h = refl
-drop-inside (suc n) [] ys h = absurd (omega arith)
-drop-inside (suc n) (x ∷ xs) ys h = drop-inside n xs ys (omega arith)
-
--- a front as long as the list is the list
-pub take-all : {A : Type 0} (n : ℕ) (xs : List A) → length xs ≤ n → take n xs ≡ xs
-take-all zero [] h = refl
-take-all zero (x ∷ xs) h = absurd (omega arith)
-take-all (suc n) [] h = refl
-take-all (suc n) (x ∷ xs) h = ap (λ ys. x ∷ ys) (take-all n xs (omega arith))
-
--- a front and what lies after it are the list
-pub take-drop : {A : Type 0} (n : ℕ) (xs : List A) → take n xs ++ drop n xs ≡ xs
-take-drop zero xs = refl
-take-drop (suc n) [] = refl
-take-drop (suc n) (x ∷ xs) = ap (λ ys. x ∷ ys) (take-drop n xs)
 
 -- past a first part
 pub take-past : {A : Type 0} (n : ℕ) (xs ys : List A)
@@ -45,17 +17,6 @@ drop-past n [] ys = ap (λ k. drop k ys) (omega arith)
 drop-past n (x ∷ xs) ys =
     let e : length (x ∷ xs) + n ≡ suc (length xs + n) = omega arith in
     ap (λ k. drop k (x ∷ (xs ++ ys))) e ∙ drop-past n xs ys
-
--- a mapped list has the same length
-pub length-map : {A B : Type 0} (f : A → B) (xs : List A) → length (map f xs) ≡ length xs
-length-map f [] = refl
-length-map f (x ∷ xs) = ap suc (length-map f xs)
-
--- two lists are mapped one after the other
-pub map-append : {A B : Type 0} (f : A → B) (xs ys : List A)
-    → map f (xs ++ ys) ≡ map f xs ++ map f ys
-map-append f [] ys = refl
-map-append f (x ∷ xs) ys = ap (λ zs. f x ∷ zs) (map-append f xs ys)
 
 -- ---- places
 
@@ -133,21 +94,3 @@ all-map P Q f [] keeps h = tt
 all-map P Q f (x ∷ xs) keeps h = (keeps x h.0, all-map P Q f xs keeps h.1)
 
 -- ---- tests
-
--- if an 'and' of two tests is true, both are
-pub both-true : (a b : Bool) → (a && b) ≡ true → (a ≡ true) × (b ≡ true)
-both-true true b h = (refl, h)
-both-true false b h = absurd (let no : ⊥ = cc in no)
-
--- if an 'and' of two tests is false, one of them is
-pub not-both : (a b : Bool) → (a && b) ≡ false → (a ≡ false) ⊎ (b ≡ false)
-not-both true b h = inr h
-not-both false b h = inl refl
-
--- a test of < that answers true says so
-pub lt-true : (m n : ℕ) → nat_lt m n ≡ true → m < n
-lt-true m n h = grind (arith, nat_tests)
-
--- a test of < that answers false says that the first is no smaller
-pub lt-false : (m n : ℕ) → nat_lt m n ≡ false → n ≤ m
-lt-false m n h = grind (arith, nat_tests)

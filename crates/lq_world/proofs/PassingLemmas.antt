@@ -1,6 +1,7 @@
 -- How a list is passed on, and what a refusal leaves.
-use Rattle.std.proofs.Common.{◌≡◌, ℕ, zero, suc, ◌+◌, ◌-◌, ◌≤◌, List, [], ◌∷◌, ◌++◌, refl, ap, take, drop, length, ◌∙◌, sym, arith, append_assoc, Some, None, Option, Bool, true, false}
-use Rattle.std.specs.Prelude.{slice_get, slice_set, if◌then◌else◌}
+use Rattle.std.proofs.Common.{◌≡◌, ℕ, zero, suc, ◌-◌, ◌≤◌, List, [], ◌∷◌, ◌++◌, refl, ap, take, drop, length, ◌∙◌, sym, arith, append_assoc, Some, None, Option, Bool, true, false}
+use Rattle.std.specs.Prelude.{slice_get, slice_set}
+use Rattle.std.proofs.lemmas.List.{take-append-drop}
 use Rattle.lq_value.specs.declared.refusal.Refusal.{Refusal}
 use Rattle.lq_volume.specs.declared.change.Change.{Change as Change_}
 use Rattle.lq_volume.specs.Change.{refused as refused_by}
@@ -12,7 +13,6 @@ use Rattle.lq_world.specs.declared.event.Event.TheVariants.{Change, Open, At}
 use Rattle.lq_world.specs.declared.event.Act.TheVariants as act
 use Rattle.lq_world.specs.Events.{Answer, Refused, changing, opening, opened_now, open_refusal, putting, putting_if, reading, reading_if, hanging_up, noticing, noticing_if, closing, closing_if, finishing, finishing_if, at_slot}
 use Rattle.lq_world.specs.Laws.{ListsArePassedOn, RefusalsLeaveWorlds}
-use Rattle.lq_world.proofs.ListLemmas.{take-drop}
 use Rattle.lq_world.proofs.SubLemmas.{parcels}
 use Rattle.lq_world.proofs.FairLemmas.{slot-found}
 
@@ -47,7 +47,8 @@ lists-passed b s h =
     ap (λ ps. take s.taken xs ++ (in_port b s ++ ps)) (to_come-is b s)
     ∙ (sym (append_assoc (take s.taken xs) (in_port b s) (drop s.put xs))
     ∙ (ap (λ ps. (ps ++ in_port b s) ++ drop s.put xs) (sym (take-of_take s.taken s.put xs h.taken))
-    ∙ (ap (λ ps. ps ++ drop s.put xs) (take-drop s.taken (take s.put xs)) ∙ take-drop s.put xs)))
+    ∙ (ap (λ ps. ps ++ drop s.put xs) (take-append-drop s.taken (take s.put xs))
+    ∙ take-append-drop s.put xs)))
 
 -- ---- a refusal
 

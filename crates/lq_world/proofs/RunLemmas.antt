@@ -2,6 +2,7 @@
 use Rattle.std.proofs.Common.{◌≡◌, ℕ, zero, suc, ◌+◌, ◌-◌, ◌≤◌, List, [], ◌∷◌, ◌++◌, refl, ap, take, drop, length, ◌∙◌, sym, subst, arith, append_assoc, append-nil, Some, None, Option, inl, inr, Bool, true, false}
 use Rattle.std.specs.Prelude.{◌⊎◌, ◌==◌, if◌then◌else◌}
 use Rattle.std.specs.List.{AllByRecursion}
+use Rattle.std.proofs.lemmas.List.{take-append-drop, take_all}
 use Rattle.lq_formula.specs.Query.{Query}
 use Rattle.lq_volume.specs.Book.{Book, grown, number_of}
 use Rattle.lq_update.specs.declared.message.Message.{Message}
@@ -18,7 +19,7 @@ use Rattle.lq_world.specs.Events.{Answer, Read, Ended}
 use Rattle.lq_world.specs.Runs.{Run}
 use Rattle.lq_world.specs.Fair.{IsFair}
 use Rattle.lq_world.specs.Headline.{read_by, reads_of, parcel_in, parcels_in, updates_among, updates_in, accepted, HasMark}
-use Rattle.lq_world.proofs.ListLemmas.{all-append, take-all, take-drop}
+use Rattle.lq_world.proofs.ListLemmas.{all-append}
 use Rattle.lq_world.proofs.SubLemmas.{parcels, IsSame, IsOver, IsEnded, Reads, keeps-ended, reads-nothing, reads-self, taken_within}
 use Rattle.lq_world.proofs.ReadLemmas.{Stands, Passes, step-goes, run-book}
 
@@ -72,7 +73,7 @@ over-marked b s o =
       m,
       us,
       append-nil (take s.taken (whole b s))
-          ∙ (take-all s.taken (whole b s) (omega (arith, o.2))
+          ∙ (take_all s.taken (whole b s) (omega (arith, o.2))
           ∙ ap (λ e. us ++ mark_behind (length (updates_due b s)) e) o.1),
     )
 
@@ -275,7 +276,7 @@ prefix-more xs ys zs p q =
 
 -- a list begins with each of its fronts
 prefix-take : (n : ℕ) (xs : List Message) → IsPrefixOf (take n xs) xs
-prefix-take n xs = (drop n xs, take-drop n xs)
+prefix-take n xs = (drop n xs, take-append-drop n xs)
 
 -- the updates up to one change are a beginning of those up to a later one
 updates-prefix : UpdatesGrow → (q : Query) (moved : Bool) (b : Book) (m n k : ℕ)
@@ -329,7 +330,7 @@ ran-reads grow b s d reads none ran =
           sym (append_assoc (parcels_in front) (Fin m ∷ parcels_in rest) (drop t.taken (whole d t)))
           ∙ (ap (λ ps. ps ++ drop t.taken (whole d t))
           (sym (parcels_in-append front (Read (Fin m) ∷ rest)) ∙ (ap parcels_in (sym is) ∙ given))
-          ∙ take-drop t.taken (whole d t)) in
+          ∙ take-append-drop t.taken (whole d t)) in
           let place =
           mark-place (updates_due d t) (length (updates_due d t)) t.end
           (parcels_in front) _ m parts in

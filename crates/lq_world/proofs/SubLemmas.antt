@@ -3,6 +3,8 @@ use Rattle.std.proofs.Common.{◌≡◌, ℕ, zero, suc, ◌+◌, ◌-◌, ◌�
 use Rattle.std.specs.Prelude.{slice_get, ◌⊎◌, ◌==◌, ◌&&◌, nat_lt, is_none, if◌then◌else◌}
 use Rattle.std.specs.List.{AllByRecursion}
 use Rattle.std.proofs.lemmas.Bool.Decides.{nat_tests}
+use Rattle.std.proofs.lemmas.Bool.{and_cases, and_parts, ltb-false, ltb-true}
+use Rattle.std.proofs.lemmas.List.{length-map, map-append, take-append-le}
 use Rattle.lq_volume.specs.declared.change.Change.{Change as Change_}
 use Rattle.lq_volume.specs.Book.{Book, grown, number_of, state_of}
 use Rattle.lq_update.specs.declared.message.Message.{Message}
@@ -17,7 +19,7 @@ use Rattle.lq_world.specs.World.{Subscribed, End, covered_by, covered, updates_d
 use Rattle.lq_world.specs.Events.{Answer, Read, Ended, Empty, putting_if, putting, reading_if, reading, hanging_up, noticing_if, noticing, closing_if, closing}
 use Rattle.lq_world.specs.Fair.{IsFair}
 use Rattle.lq_world.specs.Headline.{parcels_in}
-use Rattle.lq_world.proofs.ListLemmas.{take-inside, take-one_more, map-append, length-map, both-true, not-both, lt-true, lt-false}
+use Rattle.lq_world.proofs.ListLemmas.{take-one_more}
 use Rattle.lq_world.proofs.WorldLemmas.{updates_of-stays, updates_of-change}
 
 -- one subscription at two points
@@ -208,9 +210,9 @@ keeps-self b s h =
 -- a backlog with room for more still holds no more than it may
 fits : (h k n backlog : ℕ)
     → (nat_lt 0 k && nat_lt backlog (h + k)) ≡ false → h ≤ backlog → n ≡ h + k → n ≤ backlog
-fits h k n backlog room old is = elim (not-both (nat_lt 0 k) (nat_lt backlog (h + k)) room) [
-  | inl none ↦ omega (arith, lt-false 0 k none)
-  | inr few ↦ omega (arith, lt-false backlog (h + k) few)
+fits h k n backlog room old is = elim (and_cases (nat_lt 0 k) (nat_lt backlog (h + k)) room) [
+  | inl none ↦ omega (arith, ltb-false 0 k none)
+  | inr few ↦ omega (arith, ltb-false backlog (h + k) few)
 ]
 
 module _ (join : UpdatesJoin) where
@@ -248,7 +250,7 @@ module _ (join : UpdatesJoin) where
           port = h.port;
           held = λ is.
               let list : s.put ≤ length us = omega
-              (arith, h.put, ap length (whole-live b s live), length-map (λ m. Update m) us) in
+              (arith, h.put, ap length (whole-live b s live), length-map us (λ m. Update m)) in
               fits (held b s) (news b c s) (held d s) s.backlog room (h.held is) (omega (
                 arith,
                 before,
@@ -274,7 +276,7 @@ module _ (join : UpdatesJoin) where
       by true is =
           let t = with_end s Overrun (number_of b) in
           let ends =
-          keeps-end b s Overrun h (live-none s.end (both-true (is_live s) (overruns b c s) is).0) in
+          keeps-end b s Overrun h (live-none s.end (and_parts (is_live s) (overruns b c s) is).0) in
           keeps-more b b (grown b (c ∷ [])) s t t ends (keeps-ended b (c ∷ []) t
           (record { cause = Overrun; change = number_of b }) ends.fair refl)
       by false is = elim (end-cases s.end) [
@@ -298,7 +300,7 @@ pub reads-nothing : (b : Book) (s : Subscribed) (d : Book) (t : Subscribed)
     → s.taken ≤ length (whole b s) → t.taken ≡ s.taken → Keeps b s d t → Reads b s d t []
 reads-nothing b s d t within taken k = record {
   keeps = k;
-  front = append-nil _ ∙ (sym (take-inside s.taken (whole b s) k.more within)
+  front = append-nil _ ∙ (sym (take-append-le s.taken (whole b s) k.more within)
       ∙ (ap (take s.taken) (sym k.grows) ∙ ap (λ n. take n (whole d t)) (sym taken)));
   over = λ o.
       let en = k.ended o.0 o.1 in
@@ -331,9 +333,9 @@ putting-leaves b s h = by (can_put b s) refl
     by : (x : Bool) → can_put b s ≡ x → Leaves b s [] (putting_if s x).1
     by true is =
         let tests =
-        both-true (nat_lt (s.put - s.taken) s.port) (nat_lt s.put (length (whole b s))) is in
-        let room = lt-true _ _ tests.0 in
-        let there = lt-true _ _ tests.1 in
+        and_parts (nat_lt (s.put - s.taken) s.port) (nat_lt s.put (length (whole b s))) is in
+        let room = ltb-true _ _ tests.0 in
+        let there = ltb-true _ _ tests.1 in
         leaves b s (one_more_put s) h refl (keeps-same b s (one_more_put s)
         (record { query = refl; moved = refl; opened = refl }) refl refl (record {
           begun = h.begun;
@@ -377,7 +379,7 @@ noticing-leaves b s h = by (is_live s && s.hang_up_asked) refl
   where
     by : (x : Bool) → (is_live s && s.hang_up_asked) ≡ x → Leaves b s [] (noticing_if b s x).1
     by true is = leaves b s (with_end s HungUp (number_of b)) h refl
-        (keeps-end b s HungUp h (live-none s.end (both-true (is_live s) s.hang_up_asked is).0))
+        (keeps-end b s HungUp h (live-none s.end (and_parts (is_live s) s.hang_up_asked is).0))
     by false is = leaves b s s h refl (keeps-self b s h)
 
 -- a close leaves the reads of a fair subscription
@@ -440,7 +442,7 @@ reading-leaves b s h = by (first_in_port b s) refl
     }
     by (Some p) is =
         let at = in_port (nat_lt s.taken s.put) (slice_get (whole b s) s.taken) p is in
-        let there = lt-true s.taken s.put at.0 in
+        let there = ltb-true s.taken s.put at.0 in
         let more = take-one_more (whole b s) s.taken p at.1 in
         record {
           sub = one_more_taken s;

@@ -1,6 +1,7 @@
 -- What a change does to what a subscription is told.
 use Rattle.std.proofs.Common.{◌≡◌, ℕ, zero, suc, ◌+◌, ◌-◌, ◌≤◌, List, [], ◌∷◌, ◌++◌, refl, ap, take, drop, length, ◌∙◌, arith, append-nil, length-drop}
 use Rattle.std.specs.Prelude.{Bool}
+use Rattle.std.proofs.lemmas.List.{drop-append-le, take-append-le, take_all}
 use Rattle.lq_formula.specs.Query.{Query}
 use Rattle.lq_volume.specs.declared.change.Change.{Change as Change_}
 use Rattle.lq_volume.specs.State.{State}
@@ -10,7 +11,7 @@ use Rattle.lq_volume.specs.Book.{Book, after_all, grown, number_of, state_of, st
 use Rattle.lq_update.specs.declared.message.Message.{Message}
 use Rattle.lq_update.specs.Updates.{updates_from, updates_of, step_of}
 use Rattle.lq_update.specs.Laws.{UpdatesJoin}
-use Rattle.lq_world.proofs.ListLemmas.{take-inside, drop-inside, take-all, take-past, drop-past}
+use Rattle.lq_world.proofs.ListLemmas.{take-past, drop-past}
 
 -- changes and then others lead to where the others lead from there
 pub after_all-append : (s : State) (cs ds : List Change_)
@@ -41,11 +42,11 @@ updates_of-stays q moved b cs m n begun order within =
     let between : n - m ≤ length (drop k b.changes) = omega (arith, length-drop k b.changes) in
     ap
     (λ ds. updates_from q moved (after_all b.start ds) (take (n - m) (drop k (b.changes ++ cs))) 1)
-    (take-inside k b.changes cs inside)
+    (take-append-le k b.changes cs inside)
     ∙ (ap (λ ds. updates_from q moved (state_at b m) (take (n - m) ds) 1)
-    (drop-inside k b.changes cs inside)
+    (drop-append-le k b.changes cs inside)
     ∙ ap (λ ds. updates_from q moved (state_at b m) ds 1)
-    (take-inside (n - m) (drop k b.changes) cs between))
+    (take-append-le (n - m) (drop k b.changes) cs between))
 
 -- the update list up to the book's end, without its upper bound
 abbrev pub from_opening : Query → Bool → Book → ℕ → List Message
@@ -57,7 +58,7 @@ pub whole-from : (q : Query) (moved : Bool) (b : Book) (m : ℕ)
     → updates_of q moved b m (number_of b) ≡ from_opening q moved b m
 whole-from q moved b m =
     ap (λ cs. updates_from q moved (state_at b m) cs 1)
-    (take-all (number_of b - m) (drop (m - b.start.number) b.changes)
+    (take_all (number_of b - m) (drop (m - b.start.number) b.changes)
     (omega (arith, length-drop (m - b.start.number) b.changes)))
 
 -- from a number at or past the book's end, a list goes by
@@ -95,8 +96,8 @@ updates_of-change join q moved b c m opened =
         let past = drop k b.changes in
         let inside : k ≤ length b.changes = omega arith in
         ap (λ cs. updates_from q moved (after_all b.start cs) (drop k (b.changes ++ c ∷ [])) 1)
-        (take-inside k b.changes (c ∷ []) inside)
-        ∙ (ap (λ cs. updates_from q moved s cs 1) (drop-inside k b.changes (c ∷ []) inside)
+        (take-append-le k b.changes (c ∷ []) inside)
+        ∙ (ap (λ cs. updates_from q moved s cs 1) (drop-append-le k b.changes (c ∷ []) inside)
         ∙ (join q moved s past (c ∷ []) 1
         ∙ (ap (λ xs. updates_from q moved s past 1 ++ xs) (append-nil _
         ∙ (ap (λ t. step_of q moved t c (1 + length (updates_from q moved s past 1)))

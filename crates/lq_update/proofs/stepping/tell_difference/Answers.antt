@@ -5,7 +5,7 @@ use Rattle.lq_volume.specs.State.{Record, record_at}
 use Rattle.lq_volume.specs.Change.{after, clobbered, node_of}
 use Rattle.lq_volume.specs.Result.{entry_if, match_at}
 use Rattle.lq_update.specs.Touched.{entry_at, left_at, told_first, told_last}
-use Rattle.lq_update.proofs.TouchedLemmas.{told-alone, told-low, told-high, told-nothing, none-of}
+use Rattle.lq_update.proofs.TouchedLemmas.{told-alone, told-low, told-high}
 use Rattle.lq_update.proofs.stepping.tell_difference.Goals as goal
 
 pub returns-in_default-clause-messages : goal.returns-in_default-clause-messages

@@ -1,11 +1,11 @@
 use Rattle.std.proofs.Common.{◌≡◌, ◌≤◌, ◌-◌, ◌*◌, length, arith, ap, ◌∙◌, sym, subst, map, inl, inr, None}
+use Rattle.std.proofs.lemmas.List.{length-set}
 use Rattle.lq_world.specs.Turns.{places_at, puts}
 use Rattle.lq_desk.specs.Slot.{done_at, filled}
 use Rattle.lq_desk.specs.Kept.{Kept, IsDesk, kept_at}
 use Rattle.lq_desk.specs.Turn.{kept_after, kept_ports}
 use Rattle.lq_desk.proofs.Shown.{kept-shows}
 use Rattle.lq_desk.proofs.Desks.{IsDesk-after}
-use Rattle.lq_desk.proofs.ListLemmas.{length-set}
 use Rattle.lq_desk.proofs.SlotsLemmas.{kept_slot, few-filled_at, past-free, zero-free}
 use Rattle.lq_desk.proofs.TurnLemmas.{filled-one, filled-none}
 use Rattle.lq_desk.proofs.desk.Desk.fill.Goals as goal

@@ -1,12 +1,12 @@
 use Rattle.std.proofs.Common.{◌≡◌, ◌*◌, ap, ◌∙◌, sym, subst, map}
 use Rattle.std.specs.Option.{option_map}
+use Rattle.std.proofs.lemmas.List.{length-map}
 use Rattle.lq_world.specs.Turns.{all_puts}
 use Rattle.lq_desk.specs.Slot.{filled}
 use Rattle.lq_desk.specs.Kept.{Kept, IsDesk}
 use Rattle.lq_desk.specs.Turn.{kept_after, kept_ports}
 use Rattle.lq_desk.proofs.Shown.{kept-shows}
 use Rattle.lq_desk.proofs.Desks.{IsDesk-after}
-use Rattle.lq_desk.proofs.ListLemmas.{length-map}
 use Rattle.lq_desk.proofs.SlotsLemmas.{kept_slot, few-filled_all}
 use Rattle.lq_desk.proofs.TurnLemmas.{filled-all}
 use Rattle.lq_desk.proofs.desk.Desk.fill_all.Goals as goal
@@ -25,7 +25,7 @@ invariant_of-self c =
     (IsDesk-after (kept-shows c.changes_are_counted.ensures
     c.updates_join.ensures c.runs_keep_worlds_fair.ensures) k (all_puts (kept_ports k))
     (map (option_map filled) k.slots) c.self.invariant
-    (sym (filled-all k)) (length-map _ k.slots)
+    (sym (filled-all k)) (length-map k.slots _)
     (few-filled_all (3 * k.volume.number) k.slots c.self.invariant.few))
 
 pub returns : goal.returns

@@ -1,11 +1,11 @@
 use Rattle.std.proofs.Common.{◌≡◌, ◌≤◌, ◌-◌, ◌*◌, ◌^◌, [], ◌∷◌, length, arith, ap, ◌∙◌, sym, subst, map, inl, inr, None}
+use Rattle.std.proofs.lemmas.List.{length-set}
 use Rattle.lq_world.specs.declared.event.Event.TheVariants.{At}
 use Rattle.lq_world.specs.declared.event.Act.TheVariants as act
 use Rattle.lq_desk.specs.Slot.{done_at, noticed}
 use Rattle.lq_desk.specs.Kept.{Kept, IsDesk, kept_at, kept_outcome}
 use Rattle.lq_desk.proofs.Shown.{kept-shows}
 use Rattle.lq_desk.proofs.Desks.{IsDesk-after}
-use Rattle.lq_desk.proofs.ListLemmas.{length-set}
 use Rattle.lq_desk.proofs.SlotsLemmas.{kept_slot, few-more, few-noticed_at, past-free, zero-free}
 use Rattle.lq_desk.proofs.TurnLemmas.{noticed-one, noticed-none}
 use Rattle.lq_desk.proofs.desk.Desk.notice.Goals as goal

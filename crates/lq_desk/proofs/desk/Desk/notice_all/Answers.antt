@@ -1,12 +1,12 @@
 use Rattle.std.proofs.Common.{◌≡◌, ◌-◌, ◌*◌, ◌^◌, arith, ap, ◌∙◌, sym, subst, map}
 use Rattle.std.specs.Option.{option_map}
+use Rattle.std.proofs.lemmas.List.{length-map}
 use Rattle.lq_world.specs.Turns.{notices}
 use Rattle.lq_desk.specs.Slot.{noticed}
 use Rattle.lq_desk.specs.Kept.{Kept, IsDesk}
 use Rattle.lq_desk.specs.Turn.{kept_after, kept_ports}
 use Rattle.lq_desk.proofs.Shown.{kept-shows}
 use Rattle.lq_desk.proofs.Desks.{IsDesk-after}
-use Rattle.lq_desk.proofs.ListLemmas.{length-map}
 use Rattle.lq_desk.proofs.SlotsLemmas.{kept_slot, few-more, few-noticed_all}
 use Rattle.lq_desk.proofs.TurnLemmas.{noticed-all}
 use Rattle.lq_desk.proofs.desk.Desk.notice_all.Goals as goal
@@ -26,7 +26,7 @@ invariant_of-self c =
     (IsDesk-after (kept-shows c.changes_are_counted.ensures
     c.updates_join.ensures c.runs_keep_worlds_fair.ensures) k (notices (kept_ports k))
     (map (option_map (noticed c.self.inside.volume.number)) k.slots) c.self.invariant
-    (sym (noticed-all k)) (length-map _ k.slots)
+    (sym (noticed-all k)) (length-map k.slots _)
     (few-noticed_all (3 * k.volume.number) k.volume.number k.slots c.self.invariant.few))
 
 pub returns : goal.returns

@@ -1,10 +1,9 @@
 use Rattle.std.proofs.Common.{◌<◌, length, arith, ap, sym, subst, List, map}
-use Rattle.std.proofs.lemmas.List.{take_more}
+use Rattle.std.proofs.lemmas.List.{take_more, take_all}
 use Rattle.lq_volume.specs.State.{State}
 use Rattle.lq_world.specs.declared.event.Event.{Event}
 use Rattle.lq_desk.specs.Kept.{Kept, Shows}
 use Rattle.lq_desk.specs.Reply.{Runs, answer_of}
-use Rattle.lq_desk.proofs.ListLemmas.{take-all}
 use Rattle.lq_world.specs.Headline.{ReadersAreTold}
 use Rattle.lq_desk.proofs.RunLemmas.{runs-more, map-more}
 use Rattle.lq_desk.proofs.desk.Desk.run.Goals as goal
@@ -25,7 +24,7 @@ loop-event-preserved c =
 
 pub returns-clause-run : goal.returns-clause-run
 returns-clause-run c = λ w shows.
-    let all = take-all c.loop-event.event-index c.args.events.now
+    let all = take_all c.loop-event.event-index c.args.events.now
     (omega (arith, c.loop-event-test.false)) in
     subst (λ (es : List Event). Runs c.loop-event.self w es
     (map answer_of c.loop-event.replies.items)) all (c.loop-event.invariant.run w shows)

@@ -1,5 +1,6 @@
 use Rattle.std.proofs.Common.{◌≡◌, ◌<◌, ◌≤◌, ◌^◌, ◌-◌, ap, ◌∙◌, sym, subst, map, length, arith, List, Option}
 use Rattle.std.specs.List.{AllByRecursion}
+use Rattle.std.proofs.lemmas.List.{length-map}
 use Rattle.lq_value.specs.declared.refusal.Refusal.TheVariants.{NotOpen}
 use Rattle.lq_world.specs.Events.{Answer, Refused}
 use Rattle.lq_desk.specs.Act.{outcome_in}
@@ -9,7 +10,6 @@ use Rattle.lq_desk.specs.Kept.{IsFew}
 use Rattle.lq_desk.specs.Reply.{answer_of}
 use Rattle.lq_desk.proofs.SlotsLemmas.{kept_slot}
 use Rattle.lq_desk.proofs.FreeLemmas.{act-free, act-stored, few-stored}
-use Rattle.lq_desk.proofs.ListLemmas.{length-map}
 use Rattle.lq_desk.proofs.MarkLemmas.{marks-acted}
 use Rattle.lq_desk.proofs.slots.Slots.act.Goals as goal
 
@@ -39,7 +39,7 @@ invariant_of-self c =
     let xs = c.self.inside.stored.items in
     let ks = map kept_slot xs in
     let within : c.args.place < length ks =
-    omega (arith, c.if-place-len.false, c.len.ensures, length-map kept_slot xs) in (
+    omega (arith, c.if-place-len.false, c.len.ensures, length-map xs kept_slot) in (
       omega (arith, c.self.invariant.0, c.act_in-reply.ensures.len),
       omega (arith, c.self.invariant.1, c.act_in-reply.ensures.room),
       marks-acted c.self.inside.ending

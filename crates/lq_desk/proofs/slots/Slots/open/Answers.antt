@@ -1,11 +1,11 @@
 use Rattle.std.proofs.Common.{◌≡◌, ◌<◌, ap, ◌∙◌, sym, subst, map, length, arith, [], ◌∷◌, Some}
 use Rattle.std.specs.Prelude.{slice_set}
+use Rattle.std.proofs.lemmas.List.{length-map, map-append, map-set}
 use Rattle.lq_desk.specs.Slot.{with_free}
 use Rattle.lq_desk.specs.Kept.{first_free}
 use Rattle.lq_desk.proofs.SlotsLemmas.{kept_slot, first_free-front}
 use Rattle.lq_desk.proofs.FreeLemmas.{first-free, free-place, set-stored, set-pushed}
 use Rattle.lq_desk.specs.Words.{SetsBit}
-use Rattle.lq_desk.proofs.ListLemmas.{length-map, map-append, map-set}
 use Rattle.lq_desk.proofs.MarkLemmas.{marks-pushed, marks-set}
 use Rattle.lq_desk.proofs.slots.Slots.open.Goals as goal
 
@@ -82,7 +82,7 @@ invariant_of-self-else-place-len c =
     free-place xs c.args.self.now c.first_free-place.result place c.self.view_is c.requires in
     let xs_len = c.self.inside.stored.ok.0 in
     let last : c.first_free-place.result ≡ length (map kept_slot xs) = sym all
-    ∙ sym (length-map kept_slot xs) in
+    ∙ sym (length-map xs kept_slot) in
     let marks = marks-pushed c.self.inside.ending
     c.self.inside.movable c.with_bit-self-inside.result c.with_bit-self-inside-2.result
     (map kept_slot xs) _ c.first_free-place.result (kept_slot x) last

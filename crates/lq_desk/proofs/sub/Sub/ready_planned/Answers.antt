@@ -6,23 +6,31 @@ use Rattle.lq_desk.specs.Held.{Prepared}
 use Rattle.lq_desk.specs.Passing.{passes_over}
 use Rattle.lq_desk.proofs.PassingLemmas.{step-empty}
 use Rattle.lq_desk.proofs.sub.Sub.ready_planned.Goals as goal
+use Rattle.lq_desk.proofs.sub.Sub.ready_planned.Goals.{then-passes_over-via-then-passes_over, then-passes_over-via-else-passes_over+then-not-may_tell}
 
 pub returns-then-passes_over-clause-ok : goal.returns-then-passes_over-clause-ok
 returns-then-passes_over-clause-ok c =
     let h = c.args.self.now.held in
     let s = c.args.planned.now.before in
     let change = c.args.planned.now.change in
-    let over : passes_over (names_of h.query) change ≡ true =
-    ap (passes_over (names_of h.query)) (sym c.change.ensures)
-    ∙ (sym c.passes_over.ensures ∙ c.if-passes_over.true) in
     let none : step_of h.query h.moved s change (h.sent + 1) ≡ [] =
-    step-empty c.changes_pass_over.ensures c.truth_goes_by_names.ensures h.query h.moved s change
-    (h.sent + 1) c.applied-before.ensures.volume over in
+    elim c.then-passes_over.branch [
+      | then-passes_over-via-then-passes_over w ↦
+          let over : passes_over (names_of h.query) change ≡ true =
+          ap (passes_over (names_of h.query)) (sym c.change.ensures)
+          ∙ (sym c.passes_over.ensures ∙ w.if-passes_over.true) in
+          step-empty c.changes_pass_over.ensures c.truth_goes_by_names.ensures h.query h.moved
+          s change (h.sent + 1) c.applied.ensures.volume over
+      | then-passes_over-via-else-passes_over+then-not-may_tell w ↦
+          ap (λ (x : Prepared). step_of x.held.query h.moved s change (h.sent + 1))
+          (sym c.self.view_is)
+          ∙ w.may_tell.ensures h.moved (h.sent + 1) w.if-not-may_tell.true
+    ] in
     let p = c.args.self.now in
-    let before : c.applied-before.result.change - 1 ≡ s.number =
-    omega (arith, ap (λ (a : Applied). a.change) c.applied-before.ensures.value) in
+    let before : c.applied.result.change - 1 ≡ s.number =
+    omega (arith, ap (λ (a : Applied). a.change) c.applied.ensures.value) in
     c.forget_ready.ensures
-    ∙ (ap (λ messages. record p { ready = messages; before = c.applied-before.result.change - 1 })
+    ∙ (ap (λ messages. record p { ready = messages; before = c.applied.result.change - 1 })
     (sym none)
     ∙ ap
     (λ n. record p { ready = step_of h.query h.moved s change (h.sent + 1); before = n }) before)

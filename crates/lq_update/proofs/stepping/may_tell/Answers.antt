@@ -1,19 +1,15 @@
-use Rattle.std.proofs.Common.{◌≡◌, ◌+◌, ◌<◌, ◌≤◌, ◌∙◌, sym, refl, ap, arith, Some, None}
-use Rattle.std.specs.Prelude.{option_and_then}
+use Rattle.std.proofs.Common.{◌≡◌, ◌+◌, ◌∙◌, sym, refl, ap, None}
 use Rattle.std.specs.Option.{option_map, option_copied}
-use Rattle.lq_volume.specs.State.{Record, record_at}
 use Rattle.lq_volume.specs.Change.{after, clobbered, node_of}
-use Rattle.lq_volume.specs.Result.{entry_if, match_at}
-use Rattle.lq_update.specs.Touched.{entry_at, left_at, told_first, told_last}
-use Rattle.lq_update.proofs.TouchedLemmas.{told-alone, told-low, told-high, told-nothing, none-of}
-use Rattle.lq_update.proofs.stepping.step_planned.Goals as goal
+use Rattle.lq_update.specs.Touched.{entry_at, left_at}
+use Rattle.lq_update.proofs.TouchedLemmas.{told-alone, told-nothing, none-of}
+use Rattle.lq_update.proofs.stepping.may_tell.Goals as goal
 
-pub returns-then-is_none-3-clause-messages : goal.returns-then-is_none-3-clause-messages
-returns-then-is_none-3-clause-messages c =
+pub returns-then-is_none-3 : goal.returns-then-is_none-3
+returns-then-is_none-3 c moved seq is =
     let s = c.args.planned.now.before in
     let change = c.args.planned.now.change in
     let q = c.args.predicate.now in
-    let moved = c.args.moved in
     let node = node_of s change in
     let volume = c.applied.ensures.volume in
     let lawful = c.applied.ensures.lawful in
@@ -25,6 +21,6 @@ returns-then-is_none-3-clause-messages c =
     let nothing = told-nothing moved _ _ left_is came_is in
     let none : clobbered s change ≡ None = sym c.clobbered.ensures.node
     ∙ ap (option_map (λ e. e.0)) (none-of _ (c.if-is_none-3.ensures)) in
-    c.new.ensures.items ∙ told-alone q moved s change c.args.first_seq (s.number + 1) None None
+    sym (told-alone q moved s change seq (s.number + 1) None None
     volume kept (λ n off. c.untouched_nodes_stay.ensures s change n volume lawful off)
-    (λ n is. c.clobbered_nodes_go.ensures s change n volume is) refl nothing.0 nothing.1 none
+    (λ n is. c.clobbered_nodes_go.ensures s change n volume is) refl nothing.0 nothing.1 none)
