@@ -24,7 +24,8 @@ mod events;
 mod faults;
 #[cfg(test)]
 mod input;
-pub mod plain;
+#[cfg(test)]
+mod plain;
 #[cfg(test)]
 mod scripts;
 #[cfg(test)]

@@ -8,6 +8,7 @@ ghost use Rattle.lq_value.specs.Name.{is_attr_name};
 use crate::refusal::Refusal;
 use crate::shared_text::SharedText;
 use std::alloc::Global;
+use std::fmt;
 use std::marker::Model;
 
 /// The longest name of an attribute, in bytes.
@@ -17,7 +18,6 @@ pub const MAX_ATTR_NAME: usize = 255;
 ///
 /// A contract sees it as its bytes. A name and its copies share one text, which is counted and goes
 /// with the last of them.
-#[derive(Debug)]
 pub struct AttrName {
     text: SharedText,
 }
@@ -26,6 +26,12 @@ pub struct AttrName {
 impl Drop for AttrName {
     fn drop(self) {
         let AttrName { text: _ } = self;
+    }
+}
+
+impl fmt::Debug for AttrName {
+    fn fmt<W: fmt::Write>(&self, f: &mut fmt::Formatter<W>) -> fmt::Result {
+        fmt::Debug::fmt(&self.as_str(), f)
     }
 }
 

@@ -14,6 +14,7 @@ use crate::refusal::Refusal;
 use crate::text::same_text;
 use std::alloc::Global;
 use std::cmp::Ordering;
+use std::fmt;
 use std::marker::Model;
 
 /// The longest name of an entry, in bytes.
@@ -26,7 +27,6 @@ const KEPT: u64 = 1 << 55;
 ///
 /// A contract sees a name as its bytes, by which names are ordered. Up to 14 of them stand in the
 /// name itself; a longer name and its copies share one text, which goes with the last of them.
-#[derive(Debug)]
 pub struct Name {
     text: NameText,
 }
@@ -35,6 +35,12 @@ pub struct Name {
 impl Drop for Name {
     fn drop(self) {
         let Name { text: _ } = self;
+    }
+}
+
+impl fmt::Debug for Name {
+    fn fmt<W: fmt::Write>(&self, f: &mut fmt::Formatter<W>) -> fmt::Result {
+        fmt::Debug::fmt(&self.as_str(), f)
     }
 }
 

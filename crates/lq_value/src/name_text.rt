@@ -16,12 +16,12 @@ const MAX_SHORT: usize = 14;
 /// longer.
 ///
 /// A contract sees it as its bytes.
-#[derive(Debug, Drop)]
+#[derive(Drop)]
 pub(crate) struct NameText {
     kept: Named,
 }
 
-#[derive(Debug, Drop)]
+#[derive(Drop)]
 pub(crate) enum Named {
     Short(ShortText<MAX_SHORT>),
     Shared(SharedText),

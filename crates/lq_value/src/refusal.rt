@@ -10,7 +10,7 @@ use std::fmt;
 ///
 /// The numbers and names are this project's own; the display text is the name, and that of
 /// `BadQuery` also has the byte place of the fault, counted from 0.
-#[derive(Clone, Copy, Debug, PartialEq, Eq)]
+#[derive(Clone, Copy, PartialEq, Eq)]
 pub enum Refusal {
     BadName,
     NoNode,
@@ -121,6 +121,12 @@ impl fmt::Display for Refusal {
             Refusal::BadQuery { place } => write!(f, "BadQuery at {place}"),
             refusal => f.write_str(refusal.name()),
         }
+    }
+}
+
+impl fmt::Debug for Refusal {
+    fn fmt<W: fmt::Write>(&self, f: &mut fmt::Formatter<W>) -> fmt::Result {
+        fmt::Display::fmt(self, f)
     }
 }
 

@@ -11,7 +11,7 @@ use std::sync::Arc;
 /// A text that its copies share: it is counted, and goes with the last of them.
 ///
 /// Up to 30 bytes stand beside the count, in one piece of memory. A contract sees the bytes.
-#[derive(Debug, Drop)]
+#[derive(Drop)]
 pub(crate) struct SharedText {
     text: Arc<SmallText>,
 }

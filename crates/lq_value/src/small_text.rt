@@ -13,12 +13,12 @@ const MAX_SHORT: usize = 30;
 /// A text of UTF-8, which up to 30 bytes takes no memory of its own.
 ///
 /// A contract sees it as its bytes.
-#[derive(Debug, Drop)]
+#[derive(Drop)]
 pub(crate) struct SmallText {
     kept: Kept,
 }
 
-#[derive(Debug, Drop)]
+#[derive(Drop)]
 pub(crate) enum Kept {
     Here(ShortText<MAX_SHORT>),
     Apart(String),

@@ -7,16 +7,23 @@ ghost use Rattle.lq_value.specs.Number.{number_of};
 use crate::digits::number_of_bytes;
 use crate::refusal::Refusal;
 use std::alloc::Global;
+use std::fmt;
 use std::marker::Model;
 
 /// A text of UTF-8. It is made from a `String` and gives it back without taking memory.
 ///
 /// A contract sees it as its bytes.
-#[derive(Debug, Drop)]
+#[derive(Drop)]
 pub struct Text {
     text: String,
     // The whole number that the text writes, kept since it is compared often.
     number: Option<i128>,
+}
+
+impl fmt::Debug for Text {
+    fn fmt<W: fmt::Write>(&self, f: &mut fmt::Formatter<W>) -> fmt::Result {
+        fmt::Debug::fmt(&self.as_str(), f)
+    }
 }
 
 impl Model for Text {

@@ -6,6 +6,7 @@ ghost use Rattle.lq_value.specs.Value.{text_refusal};
 use crate::refusal::Refusal;
 use crate::small_text::SmallText;
 use std::alloc::Global;
+use std::fmt;
 use std::marker::Model;
 
 /// The longest text of a value, in bytes.
@@ -14,7 +15,6 @@ const MAX_VALUE_TEXT: usize = 4096;
 /// The text of a value: at most 4,096 bytes of UTF-8.
 ///
 /// A contract sees it as its bytes.
-#[derive(Debug)]
 pub struct ValueText {
     text: SmallText,
 }
@@ -23,6 +23,12 @@ pub struct ValueText {
 impl Drop for ValueText {
     fn drop(self) {
         let ValueText { text: _ } = self;
+    }
+}
+
+impl fmt::Debug for ValueText {
+    fn fmt<W: fmt::Write>(&self, f: &mut fmt::Formatter<W>) -> fmt::Result {
+        fmt::Debug::fmt(&self.as_str(), f)
     }
 }
 
