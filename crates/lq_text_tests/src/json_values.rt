@@ -89,60 +89,71 @@ fn next(drawn: u64) -> u64 {
         .wrapping_add(1_442_695_040_888_963_407)
 }
 
+// Whether both are the same number, or none.
+fn is_same_number(plain: &serde_json::Value, value: &Value<'_>) -> bool {
+    plain.as_u64() == u64_of(value) && plain.as_i64() == i64_of(value)
+}
+
+// Whether both are the same text or truth value, or none.
+fn is_same_text(plain: &serde_json::Value, value: &Value<'_>) -> bool {
+    plain.as_str() == text_of(value) && plain.as_bool() == bool_of(value)
+}
+
 // Whether both have the same field of that key, as far as its kind goes.
 fn has_same(plain: &serde_json::Value, value: &Value<'_>, key: &str) -> bool {
-    match (plain.get(key), field(value, key)) {
-        (None, None) => true,
-        (Some(plain), Some(value)) => plain.as_u64() == u64_of(value)
-            && plain.as_i64() == i64_of(value)
-            && plain.as_str() == text_of(value)
-            && plain.as_bool() == bool_of(value),
-        _ => false,
+    let Some(value) = field(value, key) else {
+        return plain.get(key).is_none();
+    };
+    match plain.get(key) {
+        Some(plain) => is_same_number(plain, value) && is_same_text(plain, value),
+        None => false,
     }
+}
+
+// Whether this crate takes a text that serde_json takes, and has the same fields of it.
+fn is_taken_too(
+    alloc: Global,
+    scratch: &mut Scratch,
+    text: &str,
+    plain: &serde_json::Value,
+) -> bool {
+    match read(alloc, scratch, text) {
+        Ok(value) => has_same(plain, &value, "a") && has_same(plain, &value, "b"),
+        Err(_) => false,
+    }
+}
+
+// Whether this crate refuses a text as no JSON.
+fn is_refused(alloc: Global, scratch: &mut Scratch, text: &str) -> bool {
+    matches!(read(alloc, scratch, text), Err(Refusal::NotJson))
 }
 
 // Whether the text is taken; `None` where the two differ.
 fn taken(alloc: Global, scratch: &mut Scratch, text: &str) -> Option<bool> {
-    match (
-        serde_json::Value::from_str(alloc, text),
-        read(alloc, scratch, text),
-    ) {
-        (Ok(plain), Ok(value)) => if has_same(&plain, &value, "a")
-            && has_same(&plain, &value, "b")
-        {
-            Some(true)
-        } else {
-            None
-        },
-        (Err(_), Err(Refusal::NotJson)) => Some(false),
-        _ => None,
+    match serde_json::Value::from_str(alloc, text) {
+        Ok(plain) => is_taken_too(alloc, scratch, text, &plain).then_some(true),
+        Err(_) => is_refused(alloc, scratch, text).then_some(false),
     }
-}
-
-// A value in that many brackets.
-fn nested(alloc: Global, open: &str, close: &str, depth: usize) -> Result<String, AllocError> {
-    let mut text = String::new(alloc);
-    for _ in 0..depth {
-        text.push_str(open)?;
-    }
-    text.push_str("1")?;
-    for _ in 0..depth {
-        text.push_str(close)?;
-    }
-    Ok(text)
 }
 
 #[test]
 fn a_text_is_read_as_serde_json_reads_it(rt: HostRuntime) -> Result<(), Fail> {
     let mut scratch = Scratch::new(rt.alloc());
     for (text, is_taken) in &TEXTS {
-        assert_eq!(rt;
-            taken(rt.alloc(), &mut scratch, text),
-            Some(*is_taken),
+        assert!(rt;
+            taken(rt.alloc(), &mut scratch, text) == Some(*is_taken),
             "{text}"
         );
     }
     Ok(())
+}
+
+// A value in that many brackets.
+fn nested(alloc: Global, open: &str, close: &str, depth: usize) -> Result<String, AllocError> {
+    let mut text = open.repeat(alloc, depth)?;
+    text.push_str("1")?;
+    text.push_str(&close.repeat(alloc, depth)?)?;
+    Ok(text)
 }
 
 // Whether a value in that many brackets is taken.
@@ -152,20 +163,32 @@ fn is_taken_in(
     close: &str,
     depth: usize,
 ) -> Result<Option<bool>, AllocError> {
-    let mut scratch = Scratch::new(alloc);
     let text = nested(alloc, open, close, depth)?;
-    Ok(taken(alloc, &mut scratch, &text))
+    Ok(taken(alloc, &mut Scratch::new(alloc), &text))
+}
+
+// Whether lists and objects of that depth are taken, or neither.
+fn nests(alloc: Global, depth: usize, is_taken: bool) -> Result<bool, AllocError> {
+    let lists = is_taken_in(alloc, "[", "]", depth)?;
+    let objects = is_taken_in(alloc, "{\"a\":", "}", depth)?;
+    Ok(lists == Some(is_taken) && objects == Some(is_taken))
 }
 
 #[test]
 fn brackets_nest_127_deep(rt: HostRuntime) -> Result<(), Fail> {
     for (depth, is_taken) in &DEPTHS {
-        let lists = is_taken_in(rt.alloc(), "[", "]", *depth)?;
-        assert_eq!(rt; lists, Some(*is_taken), "{depth}");
-        let objects = is_taken_in(rt.alloc(), "{\"a\":", "}", *depth)?;
-        assert_eq!(rt; objects, Some(*is_taken), "{depth}");
+        assert!(rt; nests(rt.alloc(), *depth, *is_taken)?, "{depth}");
     }
     Ok(())
+}
+
+// The text with the number that is drawn.
+fn drawn_text(alloc: Global, drawn: u64) -> Result<String, AllocError> {
+    let at = drawn >> 33;
+    let whole = WHOLES[(at % 9) as usize].wrapping_add(at / 9 % 8);
+    let sign = SIGNS[(at / 72 % 2) as usize];
+    let end = ENDS[(at / 144 % 12) as usize];
+    format!(in alloc; "{{\"a\":{sign}{whole}{end},\"b\":[{whole}]}}")
 }
 
 #[test]
@@ -174,11 +197,7 @@ fn a_drawn_number_is_read_as_serde_json_reads_it(rt: HostRuntime) -> Result<(), 
     let mut drawn = 1;
     for _ in 0..4_000 {
         drawn = next(drawn);
-        let at = drawn >> 33;
-        let whole = WHOLES[(at % 9) as usize].wrapping_add(at / 9 % 8);
-        let sign = SIGNS[(at / 72 % 2) as usize];
-        let end = ENDS[(at / 144 % 12) as usize];
-        let text = format!(in rt.alloc(); "{{\"a\":{sign}{whole}{end},\"b\":[{whole}]}}")?;
+        let text = drawn_text(rt.alloc(), drawn)?;
         assert!(rt; taken(rt.alloc(), &mut scratch, &text).is_some(), "{text}");
     }
     Ok(())

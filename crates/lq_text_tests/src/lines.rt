@@ -124,7 +124,7 @@ struct Told {
 /// writer that takes `takes` bytes at a time and `room` in all.
 fn run_once(
     alloc: Global,
-    input: &[u8],
+    input: &str,
     step: usize,
     fails: bool,
     takes: usize,
@@ -132,7 +132,7 @@ fn run_once(
 ) -> Result<Told, AllocError> {
     let taken = Cell::new(0);
     let mut reader = Slow {
-        left: input,
+        left: input.as_bytes(),
         step,
         fails,
         failed: false,
@@ -162,7 +162,7 @@ fn run_once(
 /// As `run_once`, and once more where memory was wanting.
 fn run_over(
     alloc: Global,
-    input: &[u8],
+    input: &str,
     step: usize,
     fails: bool,
     takes: usize,
@@ -174,7 +174,21 @@ fn run_over(
     }
 }
 
-/// Returns whether a run over a reader that doesn't fail writes this, and is flushed once.
+/// Whether a run had this answer, with this written and so many flushes.
+fn is_told(told: &Told, answer: Result<(), RunFault>, output: &str, flushes: u8) -> bool {
+    told.text.as_slice() == output.as_bytes() && told.answer == answer && told.flushes == flushes
+}
+
+// the input, bytes a read, bytes a write; what is written
+const REPLIES: [(&str, usize, usize, &str); 5] = [
+    ("", 9, 99, ""),
+    ("\r\n\n", 9, 99, ""),
+    ("ab\n\ncd\r\nef\r\r\n", 9, 99, ">ab\nacd\ncef\r\n"),
+    ("ab\ncd", 1, 99, ">ab\nacd\n"),
+    ("ab\ncd\r", 2, 1, ">ab\nacd\n"),
+];
+
+/// Whether a run over a reader that doesn't fail writes this, and is flushed once.
 fn writes(
     alloc: Global,
     input: &str,
@@ -182,110 +196,146 @@ fn writes(
     takes: usize,
     output: &str,
 ) -> Result<bool, AllocError> {
-    let told = run_over(alloc, input.as_bytes(), step, false, takes, 99)?;
-    let is_written = told.text.as_slice() == output.as_bytes();
-    Ok(is_written && told.answer == Ok(()) && told.flushes == 1)
+    let told = run_over(alloc, input, step, false, takes, 99)?;
+    Ok(is_told(&told, Ok(()), output, 1))
 }
 
 #[test]
 fn each_line_has_its_reply(rt: HostRuntime) -> Result<(), Fail> {
-    let alloc = rt.alloc();
-    // the input, bytes a read, bytes a write; what was written
-    assert!(rt; writes(alloc, "", 9, 99, "")?);
-    assert!(rt; writes(alloc, "\r\n\n", 9, 99, "")?);
-    assert!(rt; writes(alloc, "ab\n\ncd\r\nef\r\r\n", 9, 99, ">ab\nacd\ncef\r\n")?);
-    assert!(rt; writes(alloc, "ab\ncd", 1, 99, ">ab\nacd\n")?);
-    assert!(rt; writes(alloc, "ab\ncd\r", 2, 1, ">ab\nacd\n")?);
+    for (input, step, takes, output) in &REPLIES {
+        assert!(rt;
+            writes(rt.alloc(), input, *step, *takes, output)?,
+            "{input}"
+        );
+    }
     Ok(())
 }
 
-/// Returns whether a run stopped at this fault, with this written and so many flushes.
-fn is_stopped(told: &Told, fault: RunFault, output: &str, flushes: u8) -> bool {
-    let is_written = told.text.as_slice() == output.as_bytes();
-    is_written && told.answer == Err(fault) && told.flushes == flushes
+/// Whether a run stops at the fault of a reader behind this input, with this written and flushed.
+fn stops_at_read(alloc: Global, input: &str, output: &str) -> Result<bool, AllocError> {
+    let told = run_over(alloc, input, 4, true, 99, 99)?;
+    Ok(is_told(&told, Err(RunFault::Read), output, 1))
 }
 
 #[test]
 fn a_read_fault_is_answered(rt: HostRuntime) -> Result<(), Fail> {
-    let after_a_line = run_over(rt.alloc(), b"ab\ncd", 4, true, 99, 99)?;
-    assert!(rt; is_stopped(&after_a_line, RunFault::Read, ">ab\n", 1));
-    let at_once = run_over(rt.alloc(), b"", 4, true, 99, 99)?;
-    assert!(rt; is_stopped(&at_once, RunFault::Read, "", 1));
+    assert!(rt; stops_at_read(rt.alloc(), "ab\ncd", ">ab\n")?);
+    assert!(rt; stops_at_read(rt.alloc(), "", "")?);
     Ok(())
+}
+
+// the input, bytes a read, whether the reader fails, bytes a write, bytes in all; what is written
+const WRITE_FAULTS: [(&str, usize, bool, usize, usize, &str); 3] = [
+    ("ab\ncd\n", 99, false, 99, 6, ">ab\nac"),
+    ("ab\ncd\n", 1, true, 99, 6, ">ab\nac"),
+    ("ab\n", 99, false, 0, 99, ""),
+];
+
+/// Whether a run stops at the fault of its writer, with this written and not flushed.
+fn stops_at_write(
+    alloc: Global,
+    input: &str,
+    step: usize,
+    fails: bool,
+    takes: usize,
+    room: usize,
+    output: &str,
+) -> Result<bool, AllocError> {
+    let told = run_over(alloc, input, step, fails, takes, room)?;
+    Ok(is_told(&told, Err(RunFault::Write), output, 0))
 }
 
 #[test]
 fn the_first_fault_is_answered(rt: HostRuntime) -> Result<(), Fail> {
-    let no_room = run_over(rt.alloc(), b"ab\ncd\n", 99, false, 99, 6)?;
-    assert!(rt; is_stopped(&no_room, RunFault::Write, ">ab\nac", 0));
-    let no_room_before_a_fault = run_over(rt.alloc(), b"ab\ncd\n", 1, true, 99, 6)?;
-    assert!(rt; is_stopped(&no_room_before_a_fault, RunFault::Write, ">ab\nac", 0));
-    let takes_nothing = run_over(rt.alloc(), b"ab\n", 99, false, 0, 99)?;
-    assert!(rt; is_stopped(&takes_nothing, RunFault::Write, "", 0));
+    let alloc = rt.alloc();
+    for (input, step, fails, takes, room, output) in &WRITE_FAULTS {
+        let stops = stops_at_write(alloc, input, *step, *fails, *takes, *room, output)?;
+        assert!(rt; stops, "{input} by {step}");
+    }
     Ok(())
+}
+
+/// Whether so many bytes of the output had been taken at each read.
+fn are_seen(told: &Told, bytes: &[usize]) -> bool {
+    told.seen.as_slice() == bytes
 }
 
 #[test]
 fn replies_are_written_before_the_next_read(rt: HostRuntime) -> Result<(), Fail> {
-    let told = run_over(rt.alloc(), b"ab\ncd\n\ne\nfghi\n", 5, false, 99, 99)?;
+    let told = run_over(rt.alloc(), "ab\ncd\n\ne\nfghi\n", 5, false, 99, 99)?;
     // the reads end behind `ab LF cd`, `LF LF e LF f`, `ghi LF` and the end
-    assert!(rt; told.seen.as_slice() == [0, 4, 11, 17].as_slice());
-    assert!(rt; told.text.as_slice() == b">ab\nacd\nce\nefghi\n".as_slice());
+    let is_written = is_told(&told, Ok(()), ">ab\nacd\nce\nefghi\n", 1);
+    assert!(rt; is_written && are_seen(&told, &[0, 4, 11, 17]));
     Ok(())
 }
 
+// letters, what follows them; the bytes of the output, its end
+const LONG_LINES: [(usize, &str, usize, &str); 6] = [
+    (65536, "\na\n", 65541, "x\nxa\n"),
+    (65537, "\na\n", 5, "!\n>a\n"),
+    (65536, "\r\na\n", 5, "!\n>a\n"),
+    (65535, "\r\na\n", 65540, "x\nxa\n"),
+    (65536, "", 65538, "x\n"),
+    (200000, "", 2, "!\n"),
+];
+
 /// So many letters `x`, and then this text.
-fn letters(alloc: Global, count: usize, text: &[u8]) -> Result<Vec<u8>, AllocError> {
-    let mut line = Vec::new(alloc);
-    for _ in 0..count {
-        line.push(b'x')?;
-    }
-    line.extend_from_slice(text)?;
+fn letters(alloc: Global, count: usize, text: &str) -> Result<String, AllocError> {
+    let mut line = "x".repeat(alloc, count)?;
+    line.push_str(text)?;
     Ok(line)
 }
 
-/// Returns whether the output of so many letters and this text has so many bytes, and ends so.
+/// Writes the replies to an input behind `output`.
+fn put_replies(alloc: Global, input: &str, output: &mut Vec<u8>) -> Result<(), RunFault> {
+    let mut reader = Host::new(input.as_bytes());
+    let mut writer = Host::new(output);
+    run_lines(alloc, &mut reader, &mut writer, &mut Echo { first: b'>' })
+}
+
+/// Whether the output of so many letters and this text has so many bytes, and ends so.
 fn has_output(
     alloc: Global,
     count: usize,
-    text: &[u8],
+    text: &str,
     bytes: usize,
-    end: &[u8],
+    end: &str,
 ) -> Result<bool, AllocError> {
     let input = letters(alloc, count, text)?;
-    let mut reader = Host::new(input.as_slice());
-    let mut writer = Host::new(Vec::new(alloc));
-    let mut responder = Echo { first: b'>' };
-    let answer = run_lines(alloc, &mut reader, &mut writer, &mut responder);
-    let output = writer.into_device();
-    Ok(answer == Ok(()) && output.len() == bytes && output.ends_with(end))
+    let mut output = Vec::new(alloc);
+    let is_run = put_replies(alloc, &input, &mut output).is_ok();
+    Ok(is_run && output.len() == bytes && output.ends_with(end.as_bytes()))
 }
 
 #[test]
 fn a_line_over_65536_bytes_is_long(rt: HostRuntime) -> Result<(), Fail> {
-    let alloc = rt.alloc();
-    // the letters, what follows them; the bytes of the output, its end
-    assert!(rt; has_output(alloc, 65536, b"\na\n", 65541, b"x\nxa\n")?);
-    assert!(rt; has_output(alloc, 65537, b"\na\n", 5, b"!\n>a\n")?);
-    assert!(rt; has_output(alloc, 65536, b"\r\na\n", 5, b"!\n>a\n")?);
-    assert!(rt; has_output(alloc, 65535, b"\r\na\n", 65540, b"x\nxa\n")?);
-    assert!(rt; has_output(alloc, 65536, b"", 65538, b"x\n")?);
-    assert!(rt; has_output(alloc, 200000, b"", 2, b"!\n")?);
+    for (count, text, bytes, end) in &LONG_LINES {
+        assert!(rt;
+            has_output(rt.alloc(), *count, text, *bytes, end)?,
+            "{count} and {text}"
+        );
+    }
     Ok(())
 }
 
-/// Returns whether a fault is shown by this text.
+// a fault and the text that shows it
+const FAULTS: [(RunFault, &str); 5] = [
+    (RunFault::Read, "read fault"),
+    (RunFault::Write, "write fault"),
+    (RunFault::Limit, "input too long"),
+    (RunFault::Memory, "no memory"),
+    (RunFault::Thread, "no thread"),
+];
+
+/// Whether a fault is shown by this text.
 fn is_shown(alloc: Global, fault: RunFault, text: &str) -> Result<bool, AllocError> {
     Ok(format!(in alloc; "{fault}")?.as_str() == text)
 }
 
 #[test]
 fn a_fault_shows_its_text(rt: HostRuntime) -> Result<(), Fail> {
-    let alloc = rt.alloc();
-    assert!(rt; is_shown(alloc, RunFault::Read, "read fault")?);
-    assert!(rt; is_shown(alloc, RunFault::Write, "write fault")?);
-    assert!(rt; is_shown(alloc, RunFault::Limit, "input too long")?);
-    assert!(rt; is_shown(alloc, RunFault::Memory, "no memory")?);
-    assert!(rt; is_shown(alloc, RunFault::Thread, "no thread")?);
+    for (fault, text) in &FAULTS {
+        assert!(rt; is_shown(rt.alloc(), *fault, text)?, "{text}");
+    }
     Ok(())
 }

@@ -4,49 +4,59 @@ use lq_value::{AttrName, Refusal};
 use std::alloc::Global;
 use std::test::Fail;
 
-// How long a text is that `a` is less than, and how the comparison is refused: six bytes stand
+// How long a text is that `a` is less than, and whether the comparison is taken: six bytes stand
 // beside the text in the canonical text.
-const LENGTHS: [(usize, Option<Refusal>); 2] = [
-    (4090, None),
-    (4091, Some(Refusal::BadQuery { place: 2 })),
-];
+const LENGTHS: [(usize, bool); 2] = [(4090, true), (4091, false)];
+
+fn push_size(stack: &mut Stack) -> Result<(), Refusal> {
+    stack.push_attr("size")?;
+    stack.push_int32(10)?;
+    stack.push_op(StackOp::Gt)
+}
+
+fn push_name(stack: &mut Stack) -> Result<(), Refusal> {
+    stack.push_attr("name")?;
+    stack.push_text("oo")?;
+    stack.push_op(StackOp::Contains)
+}
 
 // The scenario with a pattern that is found and two comparisons joined.
 fn push_both(stack: &mut Stack) -> Result<(), Refusal> {
-    stack.push_attr("size")?;
-    stack.push_int32(10)?;
-    stack.push_op(StackOp::Gt)?;
-    stack.push_attr("name")?;
-    stack.push_text("oo")?;
-    stack.push_op(StackOp::Contains)?;
+    push_size(stack)?;
+    push_name(stack)?;
     stack.push_op(StackOp::And)
 }
 
-fn size_and_name(alloc: Global) -> Result<Stack, Refusal> {
-    let mut stack = Stack::new(alloc);
-    push_both(&mut stack)?;
-    Ok(stack)
-}
-
+// The predicate of a stack, which is empty behind it, as text from a copy.
 fn finished_text(alloc: Global, stack: &mut Stack) -> Result<String, Refusal> {
     let predicate = stack.finish()?;
-    let copy = predicate.copy(alloc)?;
-    write(alloc, &copy)
+    write(alloc, &predicate.copy(alloc)?)
+}
+
+// Whether a stack's predicate has this text.
+fn is_written(alloc: Global, stack: &mut Stack, text: &str) -> Result<bool, Refusal> {
+    Ok(finished_text(alloc, stack)?.as_str() == text)
+}
+
+// Whether the scenario's predicate has this text.
+fn are_both_written(alloc: Global, text: &str) -> Result<bool, Refusal> {
+    let mut stack = Stack::new(alloc);
+    push_both(&mut stack)?;
+    is_written(alloc, &mut stack, text)
 }
 
 #[test]
 fn scenario_postfix_stack(rt: HostRuntime) -> Result<(), Fail> {
-    let mut stack = size_and_name(rt.alloc())?;
-    let text = finished_text(rt.alloc(), &mut stack)?;
-    assert_eq!(rt; text.as_str(), "((size>\"10\")&&(name==\"*oo*\"))");
+    let text = "((size>\"10\")&&(name==\"*oo*\"))";
+    assert!(rt; are_both_written(rt.alloc(), text)?);
     Ok(())
 }
 
 // The names in the scenario's predicate.
 fn names_of_both(alloc: Global) -> Result<Vec<AttrName>, Refusal> {
-    let mut stack = size_and_name(alloc)?;
-    let predicate = stack.finish()?;
-    names(alloc, &predicate)
+    let mut stack = Stack::new(alloc);
+    push_both(&mut stack)?;
+    names(alloc, &stack.finish()?)
 }
 
 fn are_size_and_name(names: &[AttrName]) -> bool {
@@ -62,66 +72,93 @@ fn scenario_postfix_stack_names(rt: HostRuntime) -> Result<(), Fail> {
     Ok(())
 }
 
-// How an `and` of an attribute and a number is refused; both stay on the stack.
-fn joined_number(stack: &mut Stack) -> Result<Result<(), Refusal>, Refusal> {
+// Whether an empty stack is refused, at no push.
+fn is_nothing_refused(stack: &mut Stack) -> bool {
+    matches!(stack.finish(), Err(Refusal::BadQuery { place: 0 }))
+}
+
+// Whether an `and` of an attribute and a number is refused; both stay on the stack.
+fn is_join_refused(stack: &mut Stack) -> Result<bool, Refusal> {
     stack.push_attr("a")?;
     stack.push_int64(-5)?;
-    Ok(stack.push_op(StackOp::And))
+    Ok(matches!(
+        stack.push_op(StackOp::And),
+        Err(Refusal::BadQuery { place: 2 })
+    ))
+}
+
+// Whether the two on the stack are compared behind that.
+fn is_less_written(alloc: Global, stack: &mut Stack) -> Result<bool, Refusal> {
+    stack.push_op(StackOp::Lt)?;
+    is_written(alloc, stack, "(a<\"-5\")")
 }
 
 #[test]
 fn scenario_postfix_stack_refusals(rt: HostRuntime) -> Result<(), Fail> {
     let mut stack = Stack::new(rt.alloc());
-    assert_eq!(rt; stack.finish().err(), Some(Refusal::BadQuery { place: 0 }));
-    let refused = joined_number(&mut stack)?;
-    assert_eq!(rt; refused, Err(Refusal::BadQuery { place: 2 }));
-    stack.push_op(StackOp::Lt)?;
-    let text = finished_text(rt.alloc(), &mut stack)?;
-    assert_eq!(rt; text.as_str(), "(a<\"-5\")");
+    assert!(rt; is_nothing_refused(&mut stack));
+    assert!(rt; is_join_refused(&mut stack)?);
+    assert!(rt; is_less_written(rt.alloc(), &mut stack)?);
     Ok(())
 }
 
-// The text of `a` at most this number of 64 bits, and of 32.
-fn most_in_64(alloc: Global, stack: &mut Stack, number: u64) -> Result<String, Refusal> {
+// Whether `a` at most a number of 64 bits has this text, and one of 32 bits.
+fn is_most_in_64(
+    alloc: Global,
+    stack: &mut Stack,
+    number: u64,
+    text: &str,
+) -> Result<bool, Refusal> {
     stack.push_attr("a")?;
     stack.push_uint64(number)?;
     stack.push_op(StackOp::Le)?;
-    finished_text(alloc, stack)
+    is_written(alloc, stack, text)
 }
 
-fn most_in_32(alloc: Global, stack: &mut Stack, number: u32) -> Result<String, Refusal> {
+fn is_most_in_32(
+    alloc: Global,
+    stack: &mut Stack,
+    number: u32,
+    text: &str,
+) -> Result<bool, Refusal> {
     stack.push_attr("a")?;
     stack.push_uint32(number)?;
     stack.push_op(StackOp::Le)?;
-    finished_text(alloc, stack)
+    is_written(alloc, stack, text)
 }
 
 #[test]
 fn scenario_moved_pushes(rt: HostRuntime) -> Result<(), Fail> {
     let mut stack = Stack::new(rt.alloc());
-    let text = most_in_64(rt.alloc(), &mut stack, 18446744073709551615)?;
-    assert_eq!(rt; text.as_str(), "(a<=\"18446744073709551615\")");
-    let text = most_in_32(rt.alloc(), &mut stack, 7)?;
-    assert_eq!(rt; text.as_str(), "(a<=\"7\")");
+    let most = "(a<=\"18446744073709551615\")";
+    assert!(rt; is_most_in_64(rt.alloc(), &mut stack, u64::MAX, most)?);
+    assert!(rt; is_most_in_32(rt.alloc(), &mut stack, 7, "(a<=\"7\")")?);
     Ok(())
 }
 
-// Why a comparison with this text is refused.
-fn push_comparison(stack: &mut Stack, text: &str) -> Result<Option<Refusal>, Refusal> {
+// Whether a comparison with this text is taken, or refused at its third push.
+fn is_compared(stack: &mut Stack, text: &str) -> Result<bool, Refusal> {
     stack.push_attr("a")?;
     stack.push_text(text)?;
-    Ok(stack.push_op(StackOp::Lt).err())
+    match stack.push_op(StackOp::Lt) {
+        Ok(()) => Ok(true),
+        Err(Refusal::BadQuery { place: 2 }) => Ok(false),
+        Err(other) => Err(other),
+    }
 }
 
-fn push_letters(alloc: Global, length: usize) -> Result<Option<Refusal>, Refusal> {
-    let text = "x".repeat(alloc, length)?;
-    push_comparison(&mut Stack::new(alloc), text.as_str())
+// Whether a comparison with a text of so many letters is taken.
+fn are_letters_compared(alloc: Global, length: usize) -> Result<bool, Refusal> {
+    is_compared(&mut Stack::new(alloc), &"x".repeat(alloc, length)?)
 }
 
 #[test]
 fn a_canonical_text_has_4096_bytes_at_most(rt: HostRuntime) -> Result<(), Fail> {
-    for (length, refused) in LENGTHS {
-        assert_eq!(rt; push_letters(rt.alloc(), length)?, refused);
+    for (length, is_taken) in &LENGTHS {
+        assert!(rt;
+            are_letters_compared(rt.alloc(), *length)? == *is_taken,
+            "{length}"
+        );
     }
     Ok(())
 }

@@ -6,179 +6,159 @@ use std::alloc::{AllocError, Global};
 use std::cmp::Ordering;
 use std::test::Fail;
 
-const REFUSALS: [Refusal; 26] = [
-    Refusal::BadName,
-    Refusal::NoNode,
-    Refusal::NotFolder,
-    Refusal::NoEntry,
-    Refusal::Exists,
-    Refusal::WouldLoop,
-    Refusal::NotEmpty,
-    Refusal::KindClash,
-    Refusal::IsFolder,
-    Refusal::NoAttr,
-    Refusal::Reserved,
-    Refusal::TooLong,
-    Refusal::Exhausted,
-    Refusal::NoMemory,
-    Refusal::BadPort,
-    Refusal::BadBacklog,
-    Refusal::NoSlot,
-    Refusal::NoSeat,
-    Refusal::NotOpen,
-    Refusal::StillOpen,
-    Refusal::LongLine,
-    Refusal::NotUtf8,
-    Refusal::NotJson,
-    Refusal::BadLine,
-    Refusal::OutOfStep,
-    Refusal::Mismatch,
+// a refusal and its display text
+const REFUSALS: [(Refusal, &str); 26] = [
+    (Refusal::BadName, "BadName"),
+    (Refusal::NoNode, "NoNode"),
+    (Refusal::NotFolder, "NotFolder"),
+    (Refusal::NoEntry, "NoEntry"),
+    (Refusal::Exists, "Exists"),
+    (Refusal::WouldLoop, "WouldLoop"),
+    (Refusal::NotEmpty, "NotEmpty"),
+    (Refusal::KindClash, "KindClash"),
+    (Refusal::IsFolder, "IsFolder"),
+    (Refusal::NoAttr, "NoAttr"),
+    (Refusal::Reserved, "Reserved"),
+    (Refusal::TooLong, "TooLong"),
+    (Refusal::Exhausted, "Exhausted"),
+    (Refusal::NoMemory, "NoMemory"),
+    (Refusal::BadPort, "BadPort"),
+    (Refusal::BadBacklog, "BadBacklog"),
+    (Refusal::NoSlot, "NoSlot"),
+    (Refusal::NoSeat, "NoSeat"),
+    (Refusal::NotOpen, "NotOpen"),
+    (Refusal::StillOpen, "StillOpen"),
+    (Refusal::LongLine, "LongLine"),
+    (Refusal::NotUtf8, "NotUtf8"),
+    (Refusal::NotJson, "NotJson"),
+    (Refusal::BadLine, "BadLine"),
+    (Refusal::OutOfStep, "OutOfStep"),
+    (Refusal::Mismatch, "Mismatch"),
 ];
 
-// the display text of each, a line each
-const NAMES: &str = "BadName
-NoNode
-NotFolder
-NoEntry
-Exists
-WouldLoop
-NotEmpty
-KindClash
-IsFolder
-NoAttr
-Reserved
-TooLong
-Exhausted
-NoMemory
-BadPort
-BadBacklog
-NoSlot
-NoSeat
-NotOpen
-StillOpen
-LongLine
-NotUtf8
-NotJson
-BadLine
-OutOfStep
-Mismatch";
+// a source and the byte place of its leftmost fault
+const FAULTS: [(&str, u64); 18] = [
+    ("[", 0),
+    ("[]", 0),
+    ("[^]", 0),
+    ("[]a]", 0),
+    ("[z-a]", 0),
+    ("[a-", 0),
+    ("[a", 0),
+    ("[^", 0),
+    (r"[a\", 0),
+    (r"[a-\", 0),
+    (r"[\]", 0),
+    (r"\", 0),
+    (r"a\", 1),
+    (r"é\", 2),
+    (r"a*?[b]\[[c", 8),
+    ("[é]€[d-c]", 7),
+    (r"\\\", 2),
+    (r"[a][]\", 3),
+];
 
-// source | the byte place of its leftmost fault
-const FAULTS: &str = r"[|0
-[]|0
-[^]|0
-[]a]|0
-[z-a]|0
-[a-|0
-[a|0
-[^|0
-[a\|0
-[a-\|0
-[\]|0
-\|0
-a\|1
-é\|2
-a*?[b]\[[c|8
-[é]€[d-c]|7
-\\\|2
-[a][]\|3";
+// source, text, whether the pattern fits it; the characters have one to four bytes
+const FITS: [(&str, &str, bool); 46] = [
+    ("", "", true),
+    ("", "a", false),
+    ("?", "", false),
+    ("?", "a", true),
+    ("?", "é", true),
+    ("?", "€", true),
+    ("?", "𝄞", true),
+    ("?", "ab", false),
+    ("*", "", true),
+    ("*", "aé€𝄞", true),
+    ("*€*", "aé€𝄞", true),
+    ("*€", "aé€𝄞", false),
+    ("*€", "aé€", true),
+    ("é*", "é€", true),
+    ("é*", "aé", false),
+    ("**", "a", true),
+    ("a", "a", true),
+    ("é", "é", true),
+    ("€", "€", true),
+    ("𝄞", "𝄞", true),
+    ("𝄞", "€", false),
+    ("[é-€]", "a", false),
+    ("[é-€]", "é", true),
+    ("[é-€]", "€", true),
+    ("[é-€]", "𝄞", false),
+    ("[^é€]", "a", true),
+    ("[^é€]", "é", false),
+    ("[^é€]", "€", false),
+    ("[^é€]", "𝄞", true),
+    ("[a-]", "-", true),
+    ("[-a]", "-", true),
+    ("[[]", "[", true),
+    ("[a^]", "^", true),
+    (r"[\]]", "]", true),
+    (r"[a\-c]", "b", false),
+    ("[+--]", ",", true),
+    ("]", "]", true),
+    (r"\a", "a", true),
+    (r"\?", "a", false),
+    ("*a*b", "xaab", true),
+    ("*a*b", "xaaba", false),
+    ("*aab", "aaab", true),
+    ("?*?", "a", false),
+    ("?*?", "ab", true),
+    (r"[^a-c]?\*", "dx*", true),
+    (r"[^a-c]?\*", "bx*", false),
+];
 
-// source | text | whether the pattern fits it; the characters have one to four bytes
-const FITS: &str = r"||yes
-|a|no
-?||no
-?|a|yes
-?|é|yes
-?|€|yes
-?|𝄞|yes
-?|ab|no
-*||yes
-*|aé€𝄞|yes
-*€*|aé€𝄞|yes
-*€|aé€𝄞|no
-*€|aé€|yes
-é*|é€|yes
-é*|aé|no
-**|a|yes
-a|a|yes
-é|é|yes
-€|€|yes
-𝄞|𝄞|yes
-𝄞|€|no
-[é-€]|a|no
-[é-€]|é|yes
-[é-€]|€|yes
-[é-€]|𝄞|no
-[^é€]|a|yes
-[^é€]|é|no
-[^é€]|€|no
-[^é€]|𝄞|yes
-[a-]|-|yes
-[-a]|-|yes
-[[]|[|yes
-[a^]|^|yes
-[\]]|]|yes
-[a\-c]|b|no
-[+--]|,|yes
-]|]|yes
-\a|a|yes
-\?|a|no
-*a*b|xaab|yes
-*a*b|xaaba|no
-*aab|aaab|yes
-?*?|a|no
-?*?|ab|yes";
+// two texts, and whether they are the same
+const PAIRS: [(&str, &str, bool); 21] = [
+    ("", "", true),
+    ("", "a", false),
+    ("a", "", false),
+    ("a", "a", true),
+    ("a", "b", false),
+    ("ab", "ac", false),
+    ("ab", "a", false),
+    ("a", "ab", false),
+    ("é", "é", true),
+    ("é", "è", false),
+    ("é", "Ã", false),
+    ("name", "name", true),
+    ("name", "same", false),
+    ("from", "when", false),
+    ("name", "node", false),
+    ("status", "stutus", false),
+    ("seven_7", "seven_7", true),
+    ("seven_7", "sevon_7", false),
+    ("eight__8", "eight__8", true),
+    ("eight__8", "eigth__8", false),
+    ("seven_7", "eight__8", false),
+];
 
-// two texts, and whether they are the same; a bar between them
-const PAIRS: &str = r"||same
-|a|other
-a||other
-a|a|same
-a|b|other
-ab|ac|other
-ab|a|other
-a|ab|other
-é|é|same
-é|è|other
-é|Ã|other
-name|name|same
-name|same|other
-from|when|other
-name|node|other
-status|stutus|other
-seven_7|seven_7|same
-seven_7|sevon_7|other
-eight__8|eight__8|same
-eight__8|eigth__8|other
-seven_7|eight__8|other";
+// a text and the number that it writes as a pattern and as a plain text
+const NUMBERS: [(&str, Option<i128>); 15] = [
+    ("0", Some(0)),
+    ("007", Some(7)),
+    ("-0", Some(0)),
+    ("-0012", Some(-12)),
+    ("18446744073709551616", Some(18446744073709551616)),
+    ("-99999999999999999999", Some(-99999999999999999999)),
+    ("100000000000000000000", None),
+    ("000000000000000000001", None),
+    ("", None),
+    ("-", None),
+    ("--1", None),
+    ("+1", None),
+    ("1 ", None),
+    ("1.0", None),
+    ("٣", None),
+];
 
-// text | the number that it writes as a pattern and as a plain text, or none
-const NUMBERS: &str = r"0|0
-007|7
--0|0
--0012|-12
-18446744073709551616|18446744073709551616
--99999999999999999999|-99999999999999999999
-100000000000000000000|none
-000000000000000000001|none
-|none
--|none
---1|none
-+1|none
-1 |none
-1.0|none
-٣|none";
-
-// source | the number of the pattern, or none
-const SOURCES: &str = r"\1\2|12
-1*|none
-[1]|none
-?|none";
-
-// A row up to its first bar, and what stands behind that.
-fn fields(row: &str) -> Result<(&str, &str), Fail> {
-    Ok(row.split_once('|').ok_or("a row without a bar")?)
-}
+// a source and the number of its pattern
+const SOURCES: [(&str, Option<i128>); 4] = [
+    (r"\1\2", Some(12)),
+    ("1*", None),
+    ("[1]", None),
+    ("?", None),
+];
 
 // Whether a refusal is shown by this text.
 fn is_shown(alloc: Global, refusal: Refusal, text: &str) -> Result<bool, AllocError> {
@@ -187,9 +167,7 @@ fn is_shown(alloc: Global, refusal: Refusal, text: &str) -> Result<bool, AllocEr
 
 #[test]
 fn a_refusal_shows_its_name(rt: HostRuntime) -> Result<(), Fail> {
-    let mut names = NAMES.lines();
-    for refusal in &REFUSALS {
-        let name = names.next().ok_or("too few names")?;
+    for (refusal, name) in &REFUSALS {
         assert!(rt; is_shown(rt.alloc(), *refusal, name)?, "{name}");
     }
     Ok(())
@@ -213,71 +191,55 @@ fn place_of_fault(alloc: Global, source: &str) -> Option<u64> {
 
 #[test]
 fn a_source_has_its_leftmost_fault(rt: HostRuntime) -> Result<(), Fail> {
-    for row in FAULTS.lines() {
-        let (source, place) = fields(row)?;
-        let place: u64 = place.parse().ok().ok_or("no place")?;
-        assert_eq!(rt; place_of_fault(rt.alloc(), source), Some(place), "{row}");
-    }
-    Ok(())
-}
-
-// Whether the pattern of a source fits a text, and a copy of it too.
-fn fits(alloc: Global, source: &str, text: &str) -> Result<(bool, bool), Refusal> {
-    let pattern = Pattern::read(alloc, source)?;
-    let copy = pattern.copy(alloc)?;
-    Ok((pattern.matches(text), copy.matches(text)))
-}
-
-#[test]
-fn an_element_fits_whole_characters(rt: HostRuntime) -> Result<(), Fail> {
-    for row in FITS.lines() {
-        let (source, rest) = fields(row)?;
-        let (text, wanted) = fields(rest)?;
-        let wanted = wanted == "yes";
+    for (source, place) in &FAULTS {
         assert!(rt;
-            fits(rt.alloc(), source, text)? == (wanted, wanted),
-            "{row}"
+            place_of_fault(rt.alloc(), source) == Some(*place),
+            "{source}"
         );
     }
     Ok(())
 }
 
+// Whether the pattern of a source fits a text or not, as is wanted, and a copy of it too.
+fn fits(alloc: Global, source: &str, text: &str, wanted: bool) -> Result<bool, Refusal> {
+    let pattern = Pattern::read(alloc, source)?;
+    Ok(pattern.matches(text) == wanted && pattern.copy(alloc)?.matches(text) == wanted)
+}
+
 #[test]
-fn a_set_stands_beside_other_elements(rt: HostRuntime) -> Result<(), Fail> {
-    assert!(rt; fits(rt.alloc(), "[^a-c]?\\*", "dx*")?.0);
-    assert!(rt; !fits(rt.alloc(), "[^a-c]?\\*", "bx*")?.0);
-    assert!(rt; fits(rt.alloc(), "?", "é")?.0);
+fn an_element_fits_whole_characters(rt: HostRuntime) -> Result<(), Fail> {
+    for (source, text, wanted) in &FITS {
+        assert!(rt;
+            fits(rt.alloc(), source, text, *wanted)?,
+            "{source} on {text}"
+        );
+    }
     Ok(())
 }
 
-// The text so many times, and then another.
-fn repeated(alloc: Global, text: &str, count: usize, end: &str) -> Result<String, AllocError> {
-    let mut whole = String::new(alloc);
-    for _ in 0..count {
-        whole.push_str(text)?;
-    }
-    whole.push_str(end)?;
-    Ok(whole)
+// Forty stars with a letter behind each, and then this source.
+fn forty_stars(alloc: Global, end: &str) -> Result<String, AllocError> {
+    let mut source = "*a".repeat(alloc, 40)?;
+    source.push_str(end)?;
+    Ok(source)
 }
 
-// Whether forty stars with a letter behind each, and then this source, fit 4,096 of that letter.
-fn stars_fit(alloc: Global, end: &str) -> Result<bool, Refusal> {
-    let source = repeated(alloc, "*a", 40, end)?;
-    let text = repeated(alloc, "a", 4096, "")?;
-    Ok(Pattern::read(alloc, &source)?.matches(&text))
+// Whether forty stars, and then this source, fit 4,096 letters or not, as is wanted.
+fn stars_fit(alloc: Global, end: &str, wanted: bool) -> Result<bool, Refusal> {
+    let source = forty_stars(alloc, end)?;
+    fits(alloc, &source, &"a".repeat(alloc, 4096)?, wanted)
 }
 
 #[test]
 fn many_stars_fit_a_long_text(rt: HostRuntime) -> Result<(), Fail> {
-    assert!(rt; stars_fit(rt.alloc(), "")?);
-    assert!(rt; !stars_fit(rt.alloc(), "*b")?);
+    assert!(rt; stars_fit(rt.alloc(), "", true)?);
+    assert!(rt; stars_fit(rt.alloc(), "*b", false)?);
     Ok(())
 }
 
 // How long a value is shown that is made of a text of so many letters.
 fn shown_len(alloc: Global, letters: usize) -> Result<usize, Refusal> {
-    let text = repeated(alloc, "a", letters, "")?;
-    let value = Value::text(alloc, &text)?;
+    let value = Value::text(alloc, &"a".repeat(alloc, letters)?)?;
     match value.view() {
         View::Text(shown) => Ok(shown.len()),
         _ => Err(Refusal::Mismatch),
@@ -286,37 +248,58 @@ fn shown_len(alloc: Global, letters: usize) -> Result<usize, Refusal> {
 
 #[test]
 fn a_text_value_has_4096_bytes_at_most(rt: HostRuntime) -> Result<(), Fail> {
-    assert_eq!(rt; shown_len(rt.alloc(), 4096), Ok(4096));
-    assert_eq!(rt; shown_len(rt.alloc(), 4097), Err(Refusal::TooLong));
+    assert!(rt; shown_len(rt.alloc(), 4096) == Ok(4096));
+    assert!(rt; shown_len(rt.alloc(), 4097) == Err(Refusal::TooLong));
     Ok(())
 }
 
-// Whether a value's view and that of its copy are printed so.
-fn shows(alloc: Global, value: &Value, text: &str) -> Result<bool, Fail> {
-    let copy = value.copy(alloc)?;
-    let view = format!(in alloc; "{:?}", value.view())?;
-    let same = format!(in alloc; "{:?}", copy.view())?;
-    Ok(view.as_str() == text && same.as_str() == text)
+// what a value holds and how its view is printed
+const VIEWS: [(View<'static>, &str); 5] = [
+    (View::Text("é"), "Text(\"é\")"),
+    (View::Int32(i32::MIN), "Int32(-2147483648)"),
+    (View::Int64(-5), "Int64(-5)"),
+    (View::UInt32(u32::MAX), "UInt32(4294967295)"),
+    (View::UInt64(u64::MAX), "UInt64(18446744073709551615)"),
+];
+
+// The value that holds what a view shows.
+fn value_of(alloc: Global, view: &View<'_>) -> Result<Value, Refusal> {
+    match view {
+        View::Text(text) => Value::text(alloc, text),
+        View::Int32(number) => Ok(Value::Int32(*number)),
+        View::Int64(number) => Ok(Value::Int64(*number)),
+        View::UInt32(number) => Ok(Value::UInt32(*number)),
+        View::UInt64(number) => Ok(Value::UInt64(*number)),
+    }
+}
+
+// Whether a value's view is printed so, and that of its copy.
+fn is_printed(alloc: Global, value: &Value, text: &str) -> Result<bool, AllocError> {
+    Ok(format!(in alloc; "{:?}", value.view())?.as_str() == text)
+}
+
+fn is_copy_printed(alloc: Global, value: &Value, text: &str) -> Result<bool, Refusal> {
+    Ok(is_printed(alloc, &value.copy(alloc)?, text)?)
+}
+
+// Whether the views of a value that holds this and of its copy are printed so.
+fn shows(alloc: Global, view: &View<'_>, text: &str) -> Result<bool, Refusal> {
+    let value = value_of(alloc, view)?;
+    Ok(is_printed(alloc, &value, text)? && is_copy_printed(alloc, &value, text)?)
 }
 
 #[test]
 fn a_value_shows_what_it_holds(rt: HostRuntime) -> Result<(), Fail> {
-    let alloc = rt.alloc();
-    assert!(rt; shows(alloc, &Value::text(alloc, "é")?, "Text(\"é\")")?);
-    assert!(rt; shows(alloc, &Value::Int32(i32::MIN), "Int32(-2147483648)")?);
-    assert!(rt; shows(alloc, &Value::Int64(-5), "Int64(-5)")?);
-    assert!(rt; shows(alloc, &Value::UInt32(u32::MAX), "UInt32(4294967295)")?);
-    let most = "UInt64(18446744073709551615)";
-    assert!(rt; shows(alloc, &Value::UInt64(u64::MAX), most)?);
+    for (view, text) in &VIEWS {
+        assert!(rt; shows(rt.alloc(), view, text)?, "{text}");
+    }
     Ok(())
 }
 
 #[test]
 fn texts_are_told_apart(rt: HostRuntime) -> Result<(), Fail> {
-    for row in PAIRS.lines() {
-        let (one, rest) = fields(row)?;
-        let (other, wanted) = fields(rest)?;
-        assert!(rt; same_text(one, other) == (wanted == "same"), "{row}");
+    for (one, other, wanted) in &PAIRS {
+        assert!(rt; same_text(one, other) == *wanted, "{one} and {other}");
     }
     Ok(())
 }
@@ -337,92 +320,149 @@ fn is_text_copied(alloc: Global, text: &str) -> Result<bool, Refusal> {
     Ok(value.copy(alloc)?.as_str() == text)
 }
 
+// what a text is read as, and the text
+const COPIES: [(&str, &str); 6] = [
+    ("value", "a"),
+    ("value", ""),
+    ("attribute", "a/b"),
+    ("name", "a.b"),
+    ("name", "twelve bytes\u{e9}"),
+    ("name", "thirteen byte\u{e9}"),
+];
+
+// Whether what is read of a text has it in its copy.
+fn is_copied(alloc: Global, kind: &str, text: &str) -> Result<bool, Refusal> {
+    match kind {
+        "value" => is_text_copied(alloc, text),
+        "attribute" => is_attr_copied(alloc, text),
+        _ => is_name_copied(alloc, text),
+    }
+}
+
 #[test]
 fn a_copy_has_its_text(rt: HostRuntime) -> Result<(), Fail> {
-    assert_eq!(rt; is_text_copied(rt.alloc(), "a"), Ok(true));
-    assert_eq!(rt; is_name_copied(rt.alloc(), "a.b"), Ok(true));
-    assert_eq!(rt; is_name_copied(rt.alloc(), ".."), Err(Refusal::BadName));
-    assert_eq!(rt; is_attr_copied(rt.alloc(), "a/b"), Ok(true));
-    assert_eq!(rt; is_attr_copied(rt.alloc(), ""), Err(Refusal::BadName));
+    for (kind, text) in &COPIES {
+        assert!(rt; is_copied(rt.alloc(), kind, text)?, "{kind} {text}");
+    }
     Ok(())
 }
 
-// A name of up to 14 bytes and a value of up to 30 stand in their place, a longer text apart.
+#[test]
+fn a_bad_name_is_refused(rt: HostRuntime) -> Result<(), Fail> {
+    assert!(rt; is_name_copied(rt.alloc(), "..") == Err(Refusal::BadName));
+    assert!(rt; is_attr_copied(rt.alloc(), "") == Err(Refusal::BadName));
+    Ok(())
+}
+
+// how many letters a text has: a name of up to 14 bytes and a value of up to 30 stand in their
+// place, a longer text apart
+const LENGTHS: [usize; 6] = [1, 14, 15, 30, 31, 255];
+
+// Whether a name, an attribute and a value have this text in a copy.
+fn are_copied(alloc: Global, text: &str) -> Result<bool, Refusal> {
+    let are_names_copied = is_name_copied(alloc, text)? && is_attr_copied(alloc, text)?;
+    Ok(are_names_copied && is_text_copied(alloc, text)?)
+}
+
+// Whether so many letters are copied.
+fn are_letters_copied(alloc: Global, length: usize) -> Result<bool, Refusal> {
+    are_copied(alloc, &"a".repeat(alloc, length)?)
+}
+
 #[test]
 fn a_text_of_each_length_is_kept(rt: HostRuntime) -> Result<(), Fail> {
-    let alloc = rt.alloc();
-    for length in [1, 14, 15, 30, 31, 255] {
-        let text = repeated(alloc, "a", length, "")?;
-        assert_eq!(rt; is_name_copied(alloc, &text), Ok(true));
-        assert_eq!(rt; is_attr_copied(alloc, &text), Ok(true));
-        assert_eq!(rt; is_text_copied(alloc, &text), Ok(true));
+    for length in &LENGTHS {
+        assert!(rt; are_letters_copied(rt.alloc(), *length)?, "{length}");
     }
-    assert_eq!(rt; is_text_copied(alloc, ""), Ok(true));
-    assert_eq!(rt; is_name_copied(alloc, "twelve bytes\u{e9}"), Ok(true));
-    assert_eq!(rt; is_name_copied(alloc, "thirteen byte\u{e9}"), Ok(true));
     Ok(())
 }
 
-fn pattern(alloc: Global, source: &str) -> Result<Literal, Refusal> {
-    Ok(Literal::Pattern(Pattern::read(alloc, source)?))
+// The number that a text writes as a pattern.
+fn pattern_number(alloc: Global, source: &str) -> Result<Option<i128>, Refusal> {
+    Ok(Literal::Pattern(Pattern::read(alloc, source)?).number())
 }
 
-fn plain(alloc: Global, text: &str) -> Result<Literal, AllocError> {
-    Ok(Literal::Plain(Text::new(String::from_str(alloc, text)?)))
-}
-
-fn copied_number(alloc: Global, literal: &Literal) -> Result<Option<i128>, Refusal> {
+// The number that a copy of a plain text writes.
+fn plain_number(alloc: Global, text: &str) -> Result<Option<i128>, Refusal> {
+    let literal = Literal::Plain(Text::new(String::from_str(alloc, text)?));
     Ok(literal.copy(alloc)?.number())
+}
+
+// Whether a text writes this number in both ways.
+fn writes_number(alloc: Global, text: &str, number: Option<i128>) -> Result<bool, Refusal> {
+    Ok(pattern_number(alloc, text)? == number && plain_number(alloc, text)? == number)
 }
 
 #[test]
 fn a_literal_writes_a_number(rt: HostRuntime) -> Result<(), Fail> {
-    for row in NUMBERS.lines() {
-        let (text, number) = fields(row)?;
-        let number = number.parse().ok();
-        assert_eq!(rt; pattern(rt.alloc(), text)?.number(), number, "{row}");
-        let copied = copied_number(rt.alloc(), &plain(rt.alloc(), text)?)?;
-        assert_eq!(rt; copied, number, "{row}");
+    for (text, number) in &NUMBERS {
+        assert!(rt; writes_number(rt.alloc(), text, *number)?, "{text}");
     }
     Ok(())
 }
 
+// Whether the pattern of a source has this number.
+fn has_number(alloc: Global, source: &str, number: Option<i128>) -> Result<bool, Refusal> {
+    Ok(Pattern::read(alloc, source)?.number() == number)
+}
+
 #[test]
 fn a_pattern_writes_a_number(rt: HostRuntime) -> Result<(), Fail> {
-    for row in SOURCES.lines() {
-        let (source, number) = fields(row)?;
-        let written = Pattern::read(rt.alloc(), source)?.number();
-        assert_eq!(rt; written, number.parse().ok(), "{row}");
+    for (source, number) in &SOURCES {
+        assert!(rt; has_number(rt.alloc(), source, *number)?, "{source}");
     }
     Ok(())
+}
+
+// Whether a literal suits an operator, by which a view fits it.
+fn holds(view: &View<'_>, op: Op, literal: &Literal) -> bool {
+    literal.suits(op) && compare(*view, op, literal)
 }
 
 #[test]
 fn a_number_is_equal_or_not(rt: HostRuntime) -> Result<(), Fail> {
     let twelve = Literal::Pattern(Pattern::plain(rt.alloc(), "12")?);
-    assert!(rt; compare(View::Int32(12), Op::Eq, &twelve));
-    assert!(rt; compare(View::UInt32(13), Op::Ne, &twelve));
-    assert!(rt; twelve.suits(Op::Eq) && !twelve.suits(Op::Lt));
+    assert!(rt; holds(&View::Int32(12), Op::Eq, &twelve));
+    assert!(rt; holds(&View::UInt32(13), Op::Ne, &twelve));
+    assert!(rt; !twelve.suits(Op::Lt));
     Ok(())
+}
+
+// a view, and the text to which it has this order
+const ORDERS: [(View<'static>, Op, &str); 3] = [
+    (
+        View::UInt64(18446744073709551615),
+        Op::Gt,
+        "18446744073709551614",
+    ),
+    (View::Int64(-1), Op::Lt, "18446744073709551614"),
+    (View::Text("é"), Op::Gt, "z"),
+];
+
+// Whether a view has this order to a plain text.
+fn has_order(alloc: Global, view: &View<'_>, op: Op, text: &str) -> Result<bool, AllocError> {
+    let literal = Literal::Plain(Text::new(String::from_str(alloc, text)?));
+    Ok(holds(view, op, &literal))
 }
 
 #[test]
 fn views_have_an_order(rt: HostRuntime) -> Result<(), Fail> {
-    let number = String::from_str(rt.alloc(), "18446744073709551614")?;
-    let below = Literal::Plain(Text::new(number));
-    assert!(rt; compare(View::UInt64(18446744073709551615), Op::Gt, &below));
-    assert!(rt; compare(View::Int64(-1), Op::Lt, &below));
-    let z = Literal::Plain(Text::new(String::from_str(rt.alloc(), "z")?));
-    assert!(rt; compare(View::Text("é"), Op::Gt, &z));
+    for (view, op, text) in &ORDERS {
+        assert!(rt; has_order(rt.alloc(), view, *op, text)?, "{text}");
+    }
     assert!(rt; Op::Le.accepts(Ordering::Equal));
     Ok(())
 }
 
-// Whether a text that is copied and taken out has its bytes.
+// Whether a copy of a text is taken out with these bytes.
+fn is_taken_out(alloc: Global, text: &Text, bytes: &str) -> Result<bool, Refusal> {
+    Ok(text.copy(alloc)?.into_string().as_str() == bytes)
+}
+
+// Whether a text has its bytes, and a copy that is taken out too.
 fn comes_out(alloc: Global, bytes: &str) -> Result<bool, Refusal> {
     let text = Text::new(String::from_str(alloc, bytes)?);
-    let copy = text.copy(alloc)?;
-    Ok(text.as_str() == bytes && copy.into_string().as_str() == bytes)
+    Ok(text.as_str() == bytes && is_taken_out(alloc, &text, bytes)?)
 }
 
 #[test]
