@@ -2,7 +2,7 @@
 ghost use Rattle.std.specs.Prelude.{◌<◌};
 
 use lq_value::{AttrName, Kind, Name, Refusal, Value};
-use lq_volume::Change;
+use lq_volume::{Change, Volume};
 use std::alloc::Global;
 
 /// A change by plain values; its attribute is always `x`.
@@ -30,8 +30,8 @@ impl Act {
     /// The change itself.
     pub fn change(self, alloc: Global) -> Result<Change, Refusal> {
         match self {
-            Act::File(dir, name, size) => creation(alloc, dir, name, Kind::File, size),
-            Act::Folder(dir, name) => creation(alloc, dir, name, Kind::Folder, 0),
+            Act::File(dir, name, size) => creation(alloc, dir, name, Kind::File, size, 40),
+            Act::Folder(dir, name) => creation(alloc, dir, name, Kind::Folder, 0, 40),
             Act::Remove(node) => Ok(Change::Remove { node }),
             Act::Move(node, dir, name) => motion(alloc, node, dir, name, false),
             Act::Clobber(node, dir, name) => motion(alloc, node, dir, name, true),
@@ -40,30 +40,32 @@ impl Act {
                 size,
                 time: 60,
             }),
-            Act::Set(node, value) => Ok(Change::SetAttr {
-                node,
-                attr: AttrName::read(alloc, "x")?,
-                value: Value::Int32(value),
-            }),
-            Act::Unset(node) => Ok(Change::RemoveAttr {
-                node,
-                attr: AttrName::read(alloc, "x")?,
-            }),
+            Act::Set(node, value) => setting(alloc, node, "x", Value::Int32(value)),
+            Act::Unset(node) => unsetting(alloc, node),
         }
     }
 }
 
-fn creation(alloc: Global, dir: u64, name: &str, kind: Kind, size: u64) -> Result<Change, Refusal> {
+/// A change that makes a file or a folder.
+pub fn creation(
+    alloc: Global,
+    dir: u64,
+    name: &str,
+    kind: Kind,
+    size: u64,
+    time: i64,
+) -> Result<Change, Refusal> {
     Ok(Change::Create {
         dir,
         name: Name::read(alloc, name)?,
         kind,
         size,
-        time: 40,
+        time,
     })
 }
 
-fn motion(
+/// A change that moves a node to this name in a folder.
+pub fn motion(
     alloc: Global,
     node: u64,
     dir: u64,
@@ -76,6 +78,28 @@ fn motion(
         name: Name::read(alloc, name)?,
         clobber,
     })
+}
+
+/// A change that sets a node's attribute.
+pub fn setting(alloc: Global, node: u64, attr: &str, value: Value) -> Result<Change, Refusal> {
+    Ok(Change::SetAttr {
+        node,
+        attr: AttrName::read(alloc, attr)?,
+        value,
+    })
+}
+
+fn unsetting(alloc: Global, node: u64) -> Result<Change, Refusal> {
+    Ok(Change::RemoveAttr {
+        node,
+        attr: AttrName::read(alloc, "x")?,
+    })
+}
+
+/// Makes a change in a volume.
+pub fn make(volume: &mut Volume, change: Change) -> Result<(), Refusal> {
+    volume.apply(&change)?;
+    Ok(())
 }
 
 /// Numbers drawn from a seed, by the linear congruence of Knuth's MMIX.

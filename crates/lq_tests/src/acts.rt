@@ -1,7 +1,8 @@
 //! What the tables of `events` ask a desk; whatever answers `NoMemory` is asked once more.
+use crate::act::{creation, motion, setting};
 use lq_desk::{Act, Desk, Event, Reply};
 use lq_predicate::read;
-use lq_value::{AttrName, Kind, Name, Refusal, Value};
+use lq_value::{Kind, Refusal, Value};
 use lq_volume::{Change, Volume};
 use std::alloc::Global;
 
@@ -17,12 +18,8 @@ pub enum Ask {
     Number(i32),
     /// A live query `name=*` is opened: port, backlog.
     Open(u64, u64),
-    Put,
-    Read,
-    HangUp,
-    Notice,
-    Close,
-    Finish,
+    /// What is done at the slot.
+    At(Act),
 }
 
 /// Whether an event comes alone or as a turn.
@@ -81,55 +78,46 @@ fn event(alloc: Global, ask: &Ask) -> Result<Event, Refusal> {
 }
 
 fn event_of(alloc: Global, ask: &Ask) -> Result<Event, Refusal> {
-    Ok(match ask {
-        Ask::Open(port, backlog) => Event::Open {
-            predicate: read(alloc, "name=*")?,
-            port: *port,
-            backlog: *backlog,
-            moved: false,
-        },
-        Ask::Put => at(Act::Put),
-        Ask::Read => at(Act::Read),
-        Ask::HangUp => at(Act::HangUp),
-        Ask::Notice => at(Act::Notice),
-        Ask::Close => at(Act::Close),
-        Ask::Finish => at(Act::Finish),
-        Ask::Create(name) => Event::Change(file(alloc, name)?),
-        Ask::Move(name, clobber) => Event::Change(renaming(alloc, name, *clobber)?),
-        Ask::Text(text) => Event::Change(setting(alloc, Value::text(alloc, text)?)?),
-        Ask::Number(number) => Event::Change(setting(alloc, Value::Int32(*number))?),
-    })
+    match ask {
+        Ask::Create(name) => changing(file(alloc, name)),
+        Ask::Move(name, clobber) => changing(renaming(alloc, name, *clobber)),
+        Ask::Text(text) => changing(setting_text(alloc, text)),
+        Ask::Number(number) => changing(setting(alloc, 2, "x", Value::Int32(*number))),
+        Ask::Open(port, backlog) => opening(alloc, "name=*", *port, *backlog, false),
+        Ask::At(act) => Ok(Event::At { slot: 1, act: *act }),
+    }
 }
 
-fn at(act: Act) -> Event {
-    Event::At { slot: 1, act }
+fn changing(change: Result<Change, Refusal>) -> Result<Event, Refusal> {
+    Ok(Event::Change(change?))
+}
+
+/// A live query is opened.
+pub fn opening(
+    alloc: Global,
+    query: &str,
+    port: u64,
+    backlog: u64,
+    moved: bool,
+) -> Result<Event, Refusal> {
+    Ok(Event::Open {
+        predicate: read(alloc, query)?,
+        port,
+        backlog,
+        moved,
+    })
 }
 
 /// A change that makes an empty file of this name in the root.
 pub fn file(alloc: Global, name: &str) -> Result<Change, Refusal> {
-    Ok(Change::Create {
-        dir: 1,
-        name: Name::read(alloc, name)?,
-        kind: Kind::File,
-        size: 0,
-        time: 0,
-    })
+    creation(alloc, 1, name, Kind::File, 0, 0)
 }
 
 /// A change that moves node 3 to this name in the root.
 pub fn renaming(alloc: Global, name: &str, clobber: bool) -> Result<Change, Refusal> {
-    Ok(Change::Move {
-        node: 3,
-        dir: 1,
-        name: Name::read(alloc, name)?,
-        clobber,
-    })
+    motion(alloc, 3, 1, name, clobber)
 }
 
-fn setting(alloc: Global, value: Value) -> Result<Change, Refusal> {
-    Ok(Change::SetAttr {
-        node: 2,
-        attr: AttrName::read(alloc, "x")?,
-        value,
-    })
+fn setting_text(alloc: Global, text: &str) -> Result<Change, Refusal> {
+    setting(alloc, 2, "x", Value::text(alloc, text)?)
 }

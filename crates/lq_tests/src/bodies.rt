@@ -46,10 +46,19 @@ const FORMULAS: [&str; 5] = [
     "!(x>1)&&size<2",
 ];
 
+fn put_predicate(
+    alloc: Global,
+    predicates: &mut Vec<Predicate>,
+    formula: &str,
+) -> Result<(), Refusal> {
+    let predicate = read(alloc, formula)?;
+    Ok(predicates.push(predicate)?)
+}
+
 fn predicates(alloc: Global) -> Result<Vec<Predicate>, Refusal> {
     let mut predicates = Vec::new(alloc);
-    for formula in FORMULAS {
-        predicates.push(read(alloc, formula)?)?;
+    for formula in &FORMULAS {
+        put_predicate(alloc, &mut predicates, formula)?;
     }
     Ok(predicates)
 }
@@ -81,11 +90,28 @@ fn are_same(one: &[Message], other: &[Message]) -> bool {
 }
 
 /// What was compared so far.
-#[derive(Clone, Copy, Debug, PartialEq, Eq)]
+#[derive(Clone, Copy)]
 struct Tally {
     changes: u64,
     messages: u64,
     unlike: u64,
+}
+
+const NOTHING: Tally = Tally {
+    changes: 0,
+    messages: 0,
+    unlike: 0,
+};
+
+impl Tally {
+    /// Compares what both bodies told, and whether they might tell as much.
+    fn note(&mut self, may: bool, is_clobbering: bool, fast: &[Message], plain: &[Message]) {
+        self.messages = self.messages.saturating_add(plain.len() as u64);
+        let is_quiet = plain.is_empty() && !is_clobbering;
+        if !are_same(fast, plain) || may == is_quiet {
+            self.unlike = self.unlike.saturating_add(1);
+        }
+    }
 }
 
 /// Compares what both bodies tell a predicate of a change, and whether `may_tell` says no just
@@ -96,20 +122,15 @@ fn compare(
     predicate: &Predicate,
     volume: &Volume,
     change: &Change,
+    moved: bool,
 ) -> Result<(), Refusal>
     requires { IsLawful volume.now change.now }
 {
     let planned = volume.plan(change)?;
-    let may = may_tell(predicate, &planned);
-    for moved in [false, true] {
-        let fast = step_planned(alloc, predicate, &planned, 7, moved)?;
-        let plain = plain::step(alloc, predicate, volume, change, 7, moved)?;
-        tally.messages = tally.messages.saturating_add(plain.len() as u64);
-        let is_quiet = plain.is_empty() && planned.clobbered().is_none();
-        if !are_same(&fast, &plain) || may == is_quiet {
-            tally.unlike = tally.unlike.saturating_add(1);
-        }
-    }
+    let fast = step_planned(alloc, predicate, &planned, 7, moved)?;
+    let plain = plain::step(alloc, predicate, volume, change, 7, moved)?;
+    let is_clobbering = planned.clobbered().is_some();
+    tally.note(may_tell(predicate, &planned), is_clobbering, &fast, &plain);
     Ok(())
 }
 
@@ -123,7 +144,8 @@ fn compare_all(
     requires { IsLawful volume.now change.now }
 {
     for predicate in predicates {
-        compare(alloc, tally, predicate, volume, change)?;
+        compare(alloc, tally, predicate, volume, change, false)?;
+        compare(alloc, tally, predicate, volume, change, true)?;
     }
     Ok(())
 }
@@ -146,44 +168,57 @@ fn make(
     Ok(())
 }
 
-fn over_examples(alloc: Global) -> Result<Tally, Refusal> {
-    let predicates = predicates(alloc)?;
-    let mut tally = Tally {
-        changes: 0,
-        messages: 0,
-        unlike: 0,
-    };
+/// Makes these acts in a new volume.
+fn over_acts(
+    alloc: Global,
+    tally: &mut Tally,
+    predicates: &[Predicate],
+    acts: &[Act],
+) -> Result<(), Refusal> {
+    let mut volume = Volume::new(alloc, 99);
+    for act in acts {
+        make(alloc, tally, predicates, &mut volume, *act)?;
+    }
+    Ok(())
+}
+
+/// Makes 40 drawn acts in a new volume.
+fn over_drawn(
+    alloc: Global,
+    tally: &mut Tally,
+    predicates: &[Predicate],
+    draws: &mut Draws,
+) -> Result<(), Refusal> {
+    let mut volume = Volume::new(alloc, 99);
+    for _ in 0..40 {
+        make(alloc, tally, predicates, &mut volume, draws.act())?;
+    }
+    Ok(())
+}
+
+fn over_examples(alloc: Global, predicates: &[Predicate]) -> Result<Tally, Refusal> {
+    let mut tally = NOTHING;
     for acts in &EXAMPLES {
-        let mut volume = Volume::new(alloc, 99);
-        for act in acts {
-            make(alloc, &mut tally, &predicates, &mut volume, *act)?;
-        }
+        over_acts(alloc, &mut tally, predicates, acts)?;
     }
     Ok(tally)
 }
 
-fn over_draws(alloc: Global) -> Result<Tally, Refusal> {
-    let predicates = predicates(alloc)?;
-    let mut tally = Tally {
-        changes: 0,
-        messages: 0,
-        unlike: 0,
-    };
+fn over_draws(alloc: Global, predicates: &[Predicate]) -> Result<Tally, Refusal> {
+    let mut tally = NOTHING;
     let mut draws = Draws { state: 1 };
     for _ in 0..100 {
-        let mut volume = Volume::new(alloc, 99);
-        for _ in 0..40 {
-            make(alloc, &mut tally, &predicates, &mut volume, draws.act())?;
-        }
+        over_drawn(alloc, &mut tally, predicates, &mut draws)?;
     }
     Ok(tally)
 }
 
 #[test]
 fn both_bodies_tell_alike(rt: HostRuntime) -> Result<(), Fail> {
-    let examples = over_examples(rt.alloc())?;
+    let predicates = predicates(rt.alloc())?;
+    let examples = over_examples(rt.alloc(), &predicates)?;
     assert!(rt; examples.unlike == 0 && examples.changes == 21);
-    let draws = over_draws(rt.alloc())?;
+    let draws = over_draws(rt.alloc(), &predicates)?;
     assert!(rt; draws.unlike == 0 && draws.changes >= 500 && draws.messages >= 500);
     Ok(())
 }

@@ -11,39 +11,50 @@ enum Device {
     Writer,
 }
 
-// a script; a device, its trouble at each of its calls in turn, their number by 1 and by 10 bytes a
-// call, the last read that of the end and the last write the flush
-const TROUBLES: [(&[Row], [(Device, Trouble, usize, usize); 5]); 3] = [
+/// A script; a device, its trouble at each of its calls in turn, their number by 1 and by 10 bytes
+/// a call, the last read that of the end and the last write the flush.
+type Case = (&'static [Row], Device, Trouble, usize, usize);
+
+const TROUBLES: [Case; 15] = [
+    (FIRST_MESSAGE, Device::Reader, Trouble::Fails, 117, 13),
+    (FIRST_MESSAGE, Device::Reader, Trouble::MovesOne, 117, 13),
+    (FIRST_MESSAGE, Device::Writer, Trouble::Fails, 161, 17),
+    (FIRST_MESSAGE, Device::Writer, Trouble::MovesNone, 160, 16),
+    (FIRST_MESSAGE, Device::Writer, Trouble::MovesOne, 160, 16),
+    (RENAME_TOLD_AS_TWO, Device::Reader, Trouble::Fails, 211, 22),
     (
-        FIRST_MESSAGE,
-        [
-            (Device::Reader, Trouble::Fails, 117, 13),
-            (Device::Reader, Trouble::MovesOne, 117, 13),
-            (Device::Writer, Trouble::Fails, 161, 17),
-            (Device::Writer, Trouble::MovesNone, 160, 16),
-            (Device::Writer, Trouble::MovesOne, 160, 16),
-        ],
+        RENAME_TOLD_AS_TWO,
+        Device::Reader,
+        Trouble::MovesOne,
+        211,
+        22,
+    ),
+    (RENAME_TOLD_AS_TWO, Device::Writer, Trouble::Fails, 431, 44),
+    (
+        RENAME_TOLD_AS_TWO,
+        Device::Writer,
+        Trouble::MovesNone,
+        430,
+        43,
     ),
     (
         RENAME_TOLD_AS_TWO,
-        [
-            (Device::Reader, Trouble::Fails, 211, 22),
-            (Device::Reader, Trouble::MovesOne, 211, 22),
-            (Device::Writer, Trouble::Fails, 431, 44),
-            (Device::Writer, Trouble::MovesNone, 430, 43),
-            (Device::Writer, Trouble::MovesOne, 430, 43),
-        ],
+        Device::Writer,
+        Trouble::MovesOne,
+        430,
+        43,
     ),
+    (CLOSE_AFTER_HELD, Device::Reader, Trouble::Fails, 296, 31),
+    (CLOSE_AFTER_HELD, Device::Reader, Trouble::MovesOne, 296, 31),
+    (CLOSE_AFTER_HELD, Device::Writer, Trouble::Fails, 528, 54),
     (
         CLOSE_AFTER_HELD,
-        [
-            (Device::Reader, Trouble::Fails, 296, 31),
-            (Device::Reader, Trouble::MovesOne, 296, 31),
-            (Device::Writer, Trouble::Fails, 528, 54),
-            (Device::Writer, Trouble::MovesNone, 527, 53),
-            (Device::Writer, Trouble::MovesOne, 527, 53),
-        ],
+        Device::Writer,
+        Trouble::MovesNone,
+        527,
+        53,
     ),
+    (CLOSE_AFTER_HELD, Device::Writer, Trouble::MovesOne, 527, 53),
 ];
 
 /// Moves all at its first call, and has no trouble.
@@ -53,28 +64,31 @@ const FREE: Pace = Pace {
     trouble: Trouble::Fails,
 };
 
-/// What a run answers, and what it has written.
-fn answer(
+/// Whether a run over such devices answers this, and writes this.
+fn ends(
     alloc: Global,
     script: &str,
     reads: Pace,
     writes: Pace,
-) -> Result<(Result<(), RunFault>, Vec<u8>), AllocError> {
+    wanted: Result<(), RunFault>,
+    output: &[u8],
+) -> Result<bool, AllocError> {
+    let text = Vec::with_capacity(alloc, 1000)?;
+    let mut writer = Taken {
+        text,
+        pace: writes,
+        calls: 0,
+        failed: false,
+        stalled: false,
+    };
     let mut reader = Given {
         left: script.as_bytes(),
         pace: reads,
         calls: 0,
         failed: false,
     };
-    let mut writer = Taken {
-        text: Vec::with_capacity(alloc, 1000)?,
-        pace: writes,
-        calls: 0,
-        failed: false,
-        stalled: false,
-    };
     let answer = run(alloc, &mut reader, &mut writer);
-    Ok((answer, writer.text))
+    Ok(answer == wanted && writer.text.as_slice() == output)
 }
 
 /// What a run with trouble that ends it answers, and how many bytes it has written.
@@ -85,25 +99,46 @@ fn fate(example: &Example, device: Device, moved: usize) -> (Result<(), RunFault
     }
 }
 
-/// Returns whether a run ends as it has to, with or without trouble that ends it.
+/// The same of a run with or without trouble that ends it.
+fn fate_or_all(
+    example: &Example,
+    device: Device,
+    pace: Pace,
+    ends: bool,
+) -> (Result<(), RunFault>, usize) {
+    if ends {
+        fate(example, device, pace.at.saturating_mul(pace.step))
+    } else {
+        (Ok(()), usize::MAX)
+    }
+}
+
+/// How the reader and the writer move bytes where one of them has this pace.
+fn paces(device: Device, pace: Pace) -> (Pace, Pace) {
+    match device {
+        Device::Reader => (pace, FREE),
+        Device::Writer => (FREE, pace),
+    }
+}
+
+/// At most so many bytes of a text, from its front.
+fn front(text: &str, count: usize) -> &[u8] {
+    let bytes = text.as_bytes();
+    &bytes[..count.min(bytes.len())]
+}
+
+/// Whether a run ends as it has to, with or without trouble that ends it.
 fn is_met(
     alloc: Global,
     example: &Example,
     device: Device,
     pace: Pace,
-    ends: bool,
+    is_ended: bool,
 ) -> Result<bool, AllocError> {
-    let (answer, written) = match device {
-        Device::Reader => answer(alloc, &example.script, pace, FREE)?,
-        Device::Writer => answer(alloc, &example.script, FREE, pace)?,
-    };
-    let (wanted, count) = if ends {
-        fate(example, device, pace.at.saturating_mul(pace.step))
-    } else {
-        (Ok(()), usize::MAX)
-    };
-    let output = example.output.as_bytes();
-    Ok(answer == wanted && written.as_slice() == &output[..count.min(output.len())])
+    let (reads, writes) = paces(device, pace);
+    let (wanted, count) = fate_or_all(example, device, pace, is_ended);
+    let output = front(&example.output, count);
+    ends(alloc, &example.script, reads, writes, wanted, output)
 }
 
 /// The call at which a run first ends otherwise than it has to, where there is one.
@@ -125,58 +160,74 @@ fn unmet(
     Ok(None)
 }
 
-/// Returns whether runs with trouble at one call end as they have to, by 1 and 10 bytes a call.
-fn are_met(
-    alloc: Global,
-    example: &Example,
-    row: &(Device, Trouble, usize, usize),
-) -> Result<bool, AllocError> {
-    let (device, trouble, by_one, by_ten) = *row;
-    let one = unmet(alloc, example, device, trouble, 1, by_one)?;
-    let ten = unmet(alloc, example, device, trouble, 10, by_ten)?;
+/// Whether runs with trouble at one call end as they have to, by 1 and 10 bytes a call.
+fn are_met(alloc: Global, case: &Case) -> Result<bool, AllocError> {
+    let (rows, device, trouble, by_one, by_ten) = *case;
+    let example = Example::of(alloc, rows)?;
+    let one = unmet(alloc, &example, device, trouble, 1, by_one)?;
+    let ten = unmet(alloc, &example, device, trouble, 10, by_ten)?;
     Ok(one.is_none() && ten.is_none())
 }
 
 #[test]
 fn each_call_of_a_device_has_trouble_in_turn(rt: HostRuntime) -> Result<(), Fail> {
-    for (rows, troubles) in &TROUBLES {
-        let example = Example::of(rt.alloc(), *rows)?;
-        for row in troubles {
-            assert!(rt;
-                are_met(rt.alloc(), &example, row)?,
-                "{:?} {:?}",
-                row.0,
-                row.1
-            );
-        }
+    for case in &TROUBLES {
+        assert!(rt;
+            are_met(rt.alloc(), case)?,
+            "{:?} {:?} {}",
+            case.1,
+            case.2,
+            case.3
+        );
     }
     Ok(())
 }
 
+/// Whether a run whose second read fails answers the lines of its first.
+fn is_read_fault_met(alloc: Global) -> Result<bool, AllocError> {
+    let opening = Example::of(alloc, &FIRST_MESSAGE[..1])?;
+    let reads = pace(999, 1, Trouble::Fails);
+    let output = opening.output.as_bytes();
+    ends(
+        alloc,
+        &opening.script,
+        reads,
+        FREE,
+        Err(RunFault::Read),
+        output,
+    )
+}
+
 #[test]
 fn scenario_read_fault(rt: HostRuntime) -> Result<(), Fail> {
-    let opening = Example::of(rt.alloc(), &FIRST_MESSAGE[..1])?;
-    let reads = Pace {
-        step: 999,
-        at: 1,
-        trouble: Trouble::Fails,
-    };
-    let (answer, text) = answer(rt.alloc(), &opening.script, reads, FREE)?;
-    assert_eq!(rt; answer, Err(RunFault::Read));
-    assert!(rt; text.as_slice() == opening.output.as_bytes());
+    assert!(rt; is_read_fault_met(rt.alloc())?);
     Ok(())
 }
 
-/// Returns whether a run over this writer answers and writes this.
-fn is_written(
-    alloc: Global,
-    example: &Example,
-    writes: Pace,
-    wanted: Result<(), RunFault>,
-    text: &str,
-) -> Result<bool, AllocError> {
-    let (answer, written) = answer(alloc, &example.script, FREE, writes)?;
-    Ok(answer == wanted && written.as_slice() == text.as_bytes())
+/// Whether a run over this writer ends with a fault of its, and has written this.
+fn is_cut(alloc: Global, writes: Pace, text: &str) -> Result<bool, AllocError> {
+    let example = Example::of(alloc, FIRST_MESSAGE)?;
+    ends(
+        alloc,
+        &example.script,
+        FREE,
+        writes,
+        Err(RunFault::Write),
+        text.as_bytes(),
+    )
+}
+
+/// Whether a run over this writer has written all.
+fn is_whole(alloc: Global, writes: Pace) -> Result<bool, AllocError> {
+    let example = Example::of(alloc, FIRST_MESSAGE)?;
+    ends(
+        alloc,
+        &example.script,
+        FREE,
+        writes,
+        Ok(()),
+        example.output.as_bytes(),
+    )
 }
 
 fn pace(step: usize, at: usize, trouble: Trouble) -> Pace {
@@ -185,14 +236,8 @@ fn pace(step: usize, at: usize, trouble: Trouble) -> Pace {
 
 #[test]
 fn scenario_write_faults(rt: HostRuntime) -> Result<(), Fail> {
-    let alloc = rt.alloc();
-    let example = Example::of(alloc, FIRST_MESSAGE)?;
-    let fails = pace(10, 1, Trouble::Fails);
-    let fault = Err(RunFault::Write);
-    assert!(rt; is_written(alloc, &example, fails, fault, "{\"at\":0,\"r")?);
-    let never = pace(1, 999, Trouble::Fails);
-    assert!(rt; is_written(alloc, &example, never, Ok(()), &example.output)?);
-    let moves_none = pace(999, 0, Trouble::MovesNone);
-    assert!(rt; is_written(alloc, &example, moves_none, fault, "")?);
+    assert!(rt; is_cut(rt.alloc(), pace(10, 1, Trouble::Fails), "{\"at\":0,\"r")?);
+    assert!(rt; is_whole(rt.alloc(), pace(1, 999, Trouble::Fails))?);
+    assert!(rt; is_cut(rt.alloc(), pace(999, 0, Trouble::MovesNone), "")?);
     Ok(())
 }

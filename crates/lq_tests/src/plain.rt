@@ -38,9 +38,7 @@ pub fn step(
     let number = before.changes() + 1;
     let old = before.fetch(predicate)?;
     let new = fetch_after(before, predicate, change)?;
-    let gone = missing(alloc, &old, &new)?;
-    let come = missing(alloc, &new, &old)?;
-    let told = told(alloc, moved, &gone, &come)?;
+    let told = told_between(alloc, moved, &old, &new)?;
     Ok(number_all(alloc, told, number, first_seq)?)
 }
 
@@ -58,6 +56,22 @@ fn fetch_after(
     let mut volume = before.copy()?;
     volume.apply(change)?;
     Ok(volume.fetch(predicate)?)
+}
+
+// What is told of the difference of two results.
+fn told_between(
+    alloc: Global,
+    moved: bool,
+    old: &[Entry],
+    new: &[Entry],
+) -> Result<Vec<(Opcode, Entry)>, Refusal>
+    ensures refused { IsRefusedBy result None }
+    ensures value { IfOk result (λ all.
+        all.items ≡ messages_of moved (missing old.now new.now) (missing new.now old.now)) }
+{
+    let gone = missing(alloc, old, new)?;
+    let come = missing(alloc, new, old)?;
+    told(alloc, moved, &gone, &come)
 }
 
 // The entries of one list that aren't in another.
@@ -80,7 +94,8 @@ fn is_among(entry: &Entry, others: &[Entry]) -> bool
     others.iter().any(|other| is_same(entry, other))
 }
 
-fn is_same(a: &Entry, b: &Entry) -> bool
+/// Whether two entries have the same place and node.
+pub fn is_same(a: &Entry, b: &Entry) -> bool
     ensures { result ≡ same_entry a.now b.now }
 {
     a.dir == b.dir && a.name == b.name && a.node == b.node

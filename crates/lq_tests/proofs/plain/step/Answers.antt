@@ -17,14 +17,8 @@ told-diff : (c : In_ok-told) → c.in_ok-told.told.items ≡ diff c.args.predica
     c.args.before.now (after c.args.before.now c.args.change.now)
 told-diff c =
     c.in_ok-told.ensures.value ∙ rw (
-      c.deref-5.ensures.value,
-      c.deref-6.ensures.value,
-      c.in_ok-gone.ensures.value,
-      c.in_ok-come.ensures.value,
       c.deref.ensures.value,
       c.deref-2.ensures.value,
-      c.deref-3.ensures.value,
-      c.deref-4.ensures.value,
       c.in_ok-old.ensures.entries,
       c.in_ok-new.ensures.entries,
     ) refl
