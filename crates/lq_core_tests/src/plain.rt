@@ -1,20 +1,22 @@
 //! The plain way to a reply: its JSON value, and then the text of that.
-ghost use Rattle.std.specs.Prelude.{◌≡◌, ◌++◌, None, IfOk, IfErr, OnOk, OnErr, map, string_bytes};
-ghost use Rattle.serde_json.specs.View.{view, items_of};
-ghost use Rattle.serde_json.specs.Data.{array};
-ghost use Rattle.lq_value.specs.Refusal.{IsRefusedBy};
+ghost use Rattle.std.specs.Prelude.{◌≡◌, ◌++◌, Some, None, IfOk, IfErr, OnOk, OnErr};
+ghost use Rattle.std.specs.Prelude.{codes, map, string_bytes};
+ghost use Rattle.serde_json.specs.View.{view, items_of, members_view};
+ghost use Rattle.serde_json.specs.Data.{array, boolean, number, put as with_member};
+ghost use Rattle.serde_json.specs.Find.{of_integer};
+ghost use Rattle.lq_value.specs.Refusal.{IsRefusedBy, code_of, name_of};
 ghost use Rattle.lq_desk.specs.Reply.{answer_of, answer_of_read};
 ghost use Rattle.lq_volume.specs.Lookup.{listed};
 ghost use Rattle.lq_reply.specs.Answer.{response_of};
 ghost use Rattle.lq_lines.specs.Lines.{Begins};
-ghost use Rattle.lq_reply.specs.Reply.{answer_data, applied_data, attr_data, cause_name, entry_data, fetched_data, found_data, kind_name, listing_data, mark_data, message_data, moved_data, opcode_name, opened_data, place_of, placed_data, rebuilt_data, refusal_data, reply_text, response_data, shut_data, slot_data, type_name, value_data, what_data};
+ghost use Rattle.lq_reply.specs.Reply.{answer_data, applied_data, attr_data, cause_name, count, entry_data, fault_data, fetched_data, found_data, kind_name, listing_data, mark_data, message_data, moved_data, opcode_name, opened_data, place_of, placed_data, rebuilt_data, refusal_data, reply_text, response_data, shut_data, slot_data, type_name, value_data, what_data, word};
 
 use lq_desk::{Read, Reply};
 use lq_reply::Response;
 use lq_update::{Cause, Mark, Message, Opcode};
 use lq_value::{AttrName, Entry, Kind, Name, Refusal};
 use lq_volume::{Applied, Listing};
-use serde_json::{Value, json};
+use serde_json::{Map, Value, json, put};
 use std::alloc::{AllocError, Global};
 
 /// Puts the text of a response and LF behind `out`. Refused: `NoMemory`.
@@ -67,8 +69,38 @@ fn found_value(alloc: Global, node: u64) -> Result<Value, AllocError>
 fn fetched_value(alloc: Global, at: u64, entries: &[Entry]) -> Result<Value, AllocError>
     ensures { IfOk result (λ v. view v ≡ fetched_data at entries.now) }
 {
+    let mut map = Map::new(alloc);
+    put_fetched(alloc, &mut map, at, entries)?;
+    Ok(Value::Object(map))
+}
+
+// Puts a list of entries, and the number that it is of.
+fn put_fetched(
+    alloc: Global,
+    members: &mut Map<String, Value>,
+    at: u64,
+    entries: &[Entry],
+) -> Result<(), AllocError>
+    ensures { OnOk result (members_view members.new.entries
+        ≡ with_member (codes "result") (array (items_of (map entry_data entries.now)))
+        (with_member (codes "at") (count at) (members_view members.old.entries))) }
+{
+    put_count(alloc, members, "at", at)?;
+    put_result(alloc, members, entries)
+}
+
+// Puts a list of entries.
+fn put_result(
+    alloc: Global,
+    members: &mut Map<String, Value>,
+    entries: &[Entry],
+) -> Result<(), AllocError>
+    ensures { OnOk result (members_view members.new.entries
+        ≡ with_member (codes "result") (array (items_of (map entry_data entries.now)))
+        (members_view members.old.entries)) }
+{
     let list = entries_value(alloc, entries)?;
-    json!(in alloc; {"at": at, "result": list})
+    put(members, alloc, "result", list)
 }
 
 fn rebuilt_value(
@@ -79,25 +111,112 @@ fn rebuilt_value(
 ) -> Result<Value, AllocError>
     ensures { IfOk result (λ v. view v ≡ rebuilt_data change entries.now settled) }
 {
-    let list = entries_value(alloc, entries)?;
-    json!(in alloc; {"change": change, "result": list, "settled": settled})
+    let mut map = Map::new(alloc);
+    put_rebuilt(alloc, &mut map, change, entries, settled)?;
+    Ok(Value::Object(map))
+}
+
+// Puts a rebuilt list of entries, its change, and whether that is told whole.
+fn put_rebuilt(
+    alloc: Global,
+    members: &mut Map<String, Value>,
+    change: u64,
+    entries: &[Entry],
+    settled: bool,
+) -> Result<(), AllocError>
+    ensures { OnOk result (members_view members.new.entries
+        ≡ with_member (codes "settled") (boolean settled)
+        (with_member (codes "result") (array (items_of (map entry_data entries.now)))
+        (with_member (codes "change") (count change) (members_view members.old.entries)))) }
+{
+    put_count(alloc, members, "change", change)?;
+    put_result(alloc, members, entries)?;
+    put(members, alloc, "settled", Value::from(settled))
 }
 
 fn listing_value(alloc: Global, node: u64, listing: &Listing) -> Result<Value, AllocError>
     ensures { IfOk result (λ v. view v ≡ listing_data node (listed listing.now)) }
 {
-    let attrs = attrs_value(alloc, &listing.attrs)?;
-    let kind = kind_name(listing.kind);
-    let name = listing.name.as_str();
-    json!(in alloc; {
-        "attrs": attrs,
-        "dir": listing.dir,
-        "kind": kind,
-        "name": name,
-        "node": node,
-        "size": listing.size,
-        "time": listing.time
-    })
+    let mut map = Map::new(alloc);
+    put_entry(alloc, &mut map, listing.dir, listing.name.as_str(), node)?;
+    put_sized(alloc, &mut map, listing)?;
+    put_attrs(alloc, &mut map, &listing.attrs)?;
+    Ok(Value::Object(map))
+}
+
+// Puts a number under a key.
+fn put_count(
+    alloc: Global,
+    members: &mut Map<String, Value>,
+    key: &str,
+    number: u64,
+) -> Result<(), AllocError>
+    ensures { OnOk result (members_view members.new.entries
+        ≡ with_member key.now (count number) (members_view members.old.entries)) }
+{
+    put(members, alloc, key, Value::from(number))
+}
+
+// Puts a text under a key.
+fn put_word(
+    alloc: Global,
+    members: &mut Map<String, Value>,
+    key: &str,
+    text: &str,
+) -> Result<(), AllocError>
+    ensures { OnOk result (members_view members.new.entries
+        ≡ with_member key.now (word text.now) (members_view members.old.entries)) }
+{
+    let text = Value::try_from_str(alloc, text)?;
+    put(members, alloc, key, text)
+}
+
+// Puts where an entry stands, and its node.
+fn put_entry(
+    alloc: Global,
+    members: &mut Map<String, Value>,
+    dir: u64,
+    name: &str,
+    node: u64,
+) -> Result<(), AllocError>
+    ensures { OnOk result (members_view members.new.entries
+        ≡ with_member (codes "node") (count node) (with_member (codes "name") (word name.now)
+        (with_member (codes "dir") (count dir) (members_view members.old.entries)))) }
+{
+    put_count(alloc, members, "dir", dir)?;
+    put_word(alloc, members, "name", name)?;
+    put_count(alloc, members, "node", node)
+}
+
+// Puts the kind of what is listed, its size and its time.
+fn put_sized(
+    alloc: Global,
+    members: &mut Map<String, Value>,
+    listing: &Listing,
+) -> Result<(), AllocError>
+    ensures { OnOk result (members_view members.new.entries
+        ≡ with_member (codes "time") (number (of_integer listing.now.time))
+        (with_member (codes "size") (count listing.now.size)
+        (with_member (codes "kind") (word (kind_name listing.now.kind))
+        (members_view members.old.entries)))) }
+{
+    put_word(alloc, members, "kind", kind_name(listing.kind))?;
+    put_count(alloc, members, "size", listing.size)?;
+    put(members, alloc, "time", Value::from(listing.time))
+}
+
+// Puts a list of attributes.
+fn put_attrs(
+    alloc: Global,
+    members: &mut Map<String, Value>,
+    attrs: &[(AttrName, lq_value::Value)],
+) -> Result<(), AllocError>
+    ensures { OnOk result (members_view members.new.entries
+        ≡ with_member (codes "attrs") (array (items_of (map attr_data attrs.now)))
+        (members_view members.old.entries)) }
+{
+    let list = attrs_value(alloc, attrs)?;
+    put(members, alloc, "attrs", list)
 }
 
 fn kind_name(kind: Kind) -> &'static str
@@ -122,10 +241,26 @@ fn attrs_value(alloc: Global, attrs: &[(AttrName, lq_value::Value)]) -> Result<V
 fn attr_value(alloc: Global, name: &AttrName, value: &lq_value::Value) -> Result<Value, AllocError>
     ensures { IfOk result (λ v. view v ≡ attr_data (name.now, value.now)) }
 {
-    let name = name.as_str();
-    let kind = type_name(value);
-    let value = typed_value(alloc, value)?;
-    json!(in alloc; {"name": name, "type": kind, "value": value})
+    let mut map = Map::new(alloc);
+    put_attr(alloc, &mut map, name, value)?;
+    Ok(Value::Object(map))
+}
+
+// Puts an attribute's name, its type and its value.
+fn put_attr(
+    alloc: Global,
+    members: &mut Map<String, Value>,
+    name: &AttrName,
+    value: &lq_value::Value,
+) -> Result<(), AllocError>
+    ensures { OnOk result (members_view members.new.entries
+        ≡ with_member (codes "value") (value_data value.now)
+        (with_member (codes "type") (word (type_name value.now))
+        (with_member (codes "name") (word name.now) (members_view members.old.entries)))) }
+{
+    put_word(alloc, members, "name", name.as_str())?;
+    put_word(alloc, members, "type", type_name(value))?;
+    put(members, alloc, "value", typed_value(alloc, value)?)
 }
 
 fn type_name(value: &lq_value::Value) -> &'static str
@@ -175,14 +310,19 @@ fn reply_value(alloc: Global, slot: u64, reply: &Reply) -> Result<Value, AllocEr
 fn applied_value(alloc: Global, applied: &Applied) -> Result<Value, AllocError>
     ensures { IfOk result (λ v. view v ≡ applied_data applied.now) }
 {
-    json!(in alloc; {"change": applied.change, "node": applied.node})
+    let mut map = Map::new(alloc);
+    put_count(alloc, &mut map, "change", applied.change)?;
+    put_count(alloc, &mut map, "node", applied.node)?;
+    Ok(Value::Object(map))
 }
 
 fn opened_value(alloc: Global, slot: u64, at: u64, entries: &[Entry]) -> Result<Value, AllocError>
     ensures { IfOk result (λ v. view v ≡ opened_data slot at entries.now) }
 {
-    let list = entries_value(alloc, entries)?;
-    json!(in alloc; {"at": at, "result": list, "slot": slot})
+    let mut map = Map::new(alloc);
+    put_fetched(alloc, &mut map, at, entries)?;
+    put_count(alloc, &mut map, "slot", slot)?;
+    Ok(Value::Object(map))
 }
 
 fn entries_value(alloc: Global, entries: &[Entry]) -> Result<Value, AllocError>
@@ -198,14 +338,18 @@ fn entries_value(alloc: Global, entries: &[Entry]) -> Result<Value, AllocError>
 fn entry_value(alloc: Global, entry: &Entry) -> Result<Value, AllocError>
     ensures { IfOk result (λ v. view v ≡ entry_data entry.now) }
 {
-    let name = entry.name.as_str();
-    json!(in alloc; {"dir": entry.dir, "name": name, "node": entry.node})
+    let mut map = Map::new(alloc);
+    put_entry(alloc, &mut map, entry.dir, entry.name.as_str(), entry.node)?;
+    Ok(Value::Object(map))
 }
 
 fn shut_value(alloc: Global, change: u64, slot: u64) -> Result<Value, AllocError>
     ensures { IfOk result (λ v. view v ≡ shut_data change slot) }
 {
-    json!(in alloc; {"change": change, "slot": slot})
+    let mut map = Map::new(alloc);
+    put_count(alloc, &mut map, "change", change)?;
+    put_count(alloc, &mut map, "slot", slot)?;
+    Ok(Value::Object(map))
 }
 
 fn slot_value(alloc: Global, slot: u64) -> Result<Value, AllocError>
@@ -235,8 +379,27 @@ fn what_value(alloc: Global, what: &str) -> Result<Value, AllocError>
 fn mark_value(alloc: Global, mark: &Mark) -> Result<Value, AllocError>
     ensures { IfOk result (λ v. view v ≡ mark_data mark.now) }
 {
-    let cause = cause_name(mark.cause);
-    json!(in alloc; {"cause": cause, "change": mark.change, "seq": mark.seq, "what": "END"})
+    let mut map = Map::new(alloc);
+    put_word(alloc, &mut map, "cause", cause_name(mark.cause))?;
+    put_step(alloc, &mut map, mark.change, mark.seq, "END")?;
+    Ok(Value::Object(map))
+}
+
+// Puts the change and the number of what is read, and what that is.
+fn put_step(
+    alloc: Global,
+    members: &mut Map<String, Value>,
+    change: u64,
+    seq: u64,
+    what: &str,
+) -> Result<(), AllocError>
+    ensures { OnOk result (members_view members.new.entries
+        ≡ with_member (codes "what") (word what.now) (with_member (codes "seq") (count seq)
+        (with_member (codes "change") (count change) (members_view members.old.entries)))) }
+{
+    put_count(alloc, members, "change", change)?;
+    put_count(alloc, members, "seq", seq)?;
+    put_word(alloc, members, "what", what)
 }
 
 fn cause_name(cause: Cause) -> &'static str
@@ -275,18 +438,44 @@ fn message_value(alloc: Global, message: &Message) -> Result<Value, AllocError>
 fn placed_value(alloc: Global, message: &Message) -> Result<Value, AllocError>
     ensures { IfOk result (λ v. view v ≡ placed_data message.now) }
 {
-    let name = message.name.as_str();
-    let op = opcode_name(&message.op);
-    json!(in alloc; {
-        "change": message.change,
-        "dir": message.dir,
-        "last": message.last,
-        "name": name,
-        "node": message.node,
-        "op": op,
-        "seq": message.seq,
-        "what": "B_QUERY_UPDATE"
-    })
+    let mut map = Map::new(alloc);
+    put_message(alloc, &mut map, message)?;
+    Ok(Value::Object(map))
+}
+
+// Puts all of a message but where the entry was.
+fn put_message(
+    alloc: Global,
+    members: &mut Map<String, Value>,
+    message: &Message,
+) -> Result<(), AllocError>
+    ensures { OnOk result (members_view members.new.entries
+        ≡ with_member (codes "op") (word (opcode_name message.now.op))
+        (with_member (codes "last") (boolean message.now.last)
+        (with_member (codes "what") (word (codes "B_QUERY_UPDATE"))
+        (with_member (codes "seq") (count message.now.seq)
+        (with_member (codes "change") (count message.now.change)
+        (with_member (codes "node") (count message.now.node)
+        (with_member (codes "name") (word message.now.name)
+        (with_member (codes "dir") (count message.now.dir)
+        (members_view members.old.entries))))))))) }
+{
+    put_entry(
+        alloc,
+        members,
+        message.dir,
+        message.name.as_str(),
+        message.node,
+    )?;
+    put_step(
+        alloc,
+        members,
+        message.change,
+        message.seq,
+        "B_QUERY_UPDATE",
+    )?;
+    put(members, alloc, "last", Value::from(message.last))?;
+    put_word(alloc, members, "op", opcode_name(&message.op))
 }
 
 // Of a message that names two.
@@ -298,32 +487,54 @@ fn moved_value(
 ) -> Result<Value, AllocError>
     ensures { IfOk result (λ v. view v ≡ moved_data message.now from_dir from_name.now) }
 {
-    let from = from_name.as_str();
-    let name = message.name.as_str();
-    let op = opcode_name(&message.op);
-    json!(in alloc; {
-        "change": message.change,
-        "dir": message.dir,
-        "from_dir": from_dir,
-        "from_name": from,
-        "last": message.last,
-        "name": name,
-        "node": message.node,
-        "op": op,
-        "seq": message.seq,
-        "what": "B_QUERY_UPDATE"
-    })
+    let mut map = Map::new(alloc);
+    put_message(alloc, &mut map, message)?;
+    put_count(alloc, &mut map, "from_dir", from_dir)?;
+    put_word(alloc, &mut map, "from_name", from_name.as_str())?;
+    Ok(Value::Object(map))
 }
 
 fn refusal_value(alloc: Global, refusal: Refusal) -> Result<Value, AllocError>
     ensures { IfOk result (λ v. view v ≡ refusal_data refusal) }
 {
-    let code = refusal.code();
-    let error = refusal.name();
     match place_of(refusal) {
-        None => json!(in alloc; {"code": code, "error": error}),
-        Some(place) => json!(in alloc; {"code": code, "error": error, "place": place}),
+        None => fault_value(alloc, refusal),
+        Some(place) => placed_fault_value(alloc, refusal, place),
     }
+}
+
+// Of a refusal without a place.
+fn fault_value(alloc: Global, refusal: Refusal) -> Result<Value, AllocError>
+    ensures { IfOk result (λ v. view v ≡ fault_data (code_of refusal) (name_of refusal) None) }
+{
+    let mut map = Map::new(alloc);
+    put_fault(alloc, &mut map, refusal)?;
+    Ok(Value::Object(map))
+}
+
+// Of a refusal with a place.
+fn placed_fault_value(alloc: Global, refusal: Refusal, place: u64) -> Result<Value, AllocError>
+    ensures { IfOk result (λ v.
+        view v ≡ fault_data (code_of refusal) (name_of refusal) (Some place)) }
+{
+    let mut map = Map::new(alloc);
+    put_fault(alloc, &mut map, refusal)?;
+    put_count(alloc, &mut map, "place", place)?;
+    Ok(Value::Object(map))
+}
+
+// Puts a refusal's number and its name.
+fn put_fault(
+    alloc: Global,
+    members: &mut Map<String, Value>,
+    refusal: Refusal,
+) -> Result<(), AllocError>
+    ensures { OnOk result (members_view members.new.entries
+        ≡ with_member (codes "error") (word (name_of refusal))
+        (with_member (codes "code") (count (code_of refusal)) (members_view members.old.entries))) }
+{
+    put_count(alloc, members, "code", refusal.code())?;
+    put_word(alloc, members, "error", refusal.name())
 }
 
 fn place_of(refusal: Refusal) -> Option<u64>

@@ -1,5 +1,6 @@
 //! A port at work: one place, two threads, no taker left, and items of three types.
 ghost use Rattle.std.specs.Prelude.{◌≡◌, IfOk};
+ghost use Rattle.lq_port.specs.End.{IsSamePort};
 
 mod crossing;
 mod lines;
@@ -13,7 +14,7 @@ use std::test::Fail;
 use std::thread;
 
 // A number under no law.
-#[derive(Debug, Drop, PartialEq, Eq)]
+#[derive(Drop)]
 struct Plain(u64);
 
 impl Follows for Plain {
@@ -30,36 +31,57 @@ fn port(alloc: Global, places: u64) -> Result<(PortIn<Plain>, PortOut<Plain>), R
     make::<Plain>(alloc, places, &())
 }
 
-#[test]
-fn one_place_port(rt: HostRuntime) -> Result<(), Fail> {
-    for places in [0, 1_025] {
-        let code = port(rt.alloc(), places).err().map(Refusal::code);
-        assert_eq!(rt; code, Some(21), "{places}");
+// The code that so many places are refused by, and 0 where they aren't.
+fn code_of(alloc: Global, places: u64) -> u64 {
+    match port(alloc, places) {
+        Ok(_) => 0,
+        Err(refusal) => refusal.code(),
     }
-    let (mut input, mut output) = port(rt.alloc(), 1)?;
-    assert_eq!(rt; input.put(&rt, Plain(7)), Ok(()));
-    assert_eq!(rt; input.put(&rt, Plain(8)), Err(Plain(8)));
-    assert_eq!(rt; output.beside(&mut input), 1);
-    assert_eq!(rt; output.take(&rt), Some(Plain(7)));
-    assert_eq!(rt; output.take(&rt), None);
-    Ok(())
+}
+
+#[test]
+fn a_port_has_1_to_1024_places(rt: HostRuntime) {
+    for places in [0, 1_025] {
+        assert!(rt; code_of(rt.alloc(), places) == 21, "{places}");
+    }
 }
 
 // Puts an item; the number of what comes back, and 0 where it fits.
-fn back_of<R: Wait>(rt: &R, input: &mut PortIn<Plain>, number: u64) -> u64 {
+fn back_of<R: Wait>(rt: &R, input: &mut PortIn<Plain>, number: u64) -> u64
+    ensures port { IsSamePort input.old input.new }
+{
     match input.put(rt, Plain(number)) {
         Ok(()) => 0,
         Err(Plain(back)) => back,
     }
 }
 
+// Takes an item; its number, and 0 where none waits.
+fn taken<R: Wait>(rt: &R, output: &mut PortOut<Plain>) -> u64 {
+    match output.take(rt) {
+        Some(Plain(number)) => number,
+        None => 0,
+    }
+}
+
+#[test]
+fn one_place_port(rt: HostRuntime) -> Result<(), Fail> {
+    let (mut input, mut output) = port(rt.alloc(), 1)?;
+    assert!(rt; back_of(&rt, &mut input, 7) == 0);
+    assert!(rt; back_of(&rt, &mut input, 8) == 8);
+    assert!(rt; output.beside(&mut input) == 1);
+    assert!(rt; taken(&rt, &mut output) == 7);
+    assert!(rt; taken(&rt, &mut output) == 0);
+    Ok(())
+}
+
 #[test]
 fn a_port_with_no_taker_left_fills_up(rt: HostRuntime) -> Result<(), Fail> {
     let (mut input, output) = port(rt.alloc(), 2)?;
     drop(output);
-    assert_eq!(rt; back_of(&rt, &mut input, 1), 0);
-    assert_eq!(rt; back_of(&rt, &mut input, 2), 0);
-    assert_eq!(rt; back_of(&rt, &mut input, 3), 3);
+    assert!(rt; back_of(&rt, &mut input, 1) == 0);
+    assert!(rt; back_of(&rt, &mut input, 2) == 0);
+    assert!(rt; back_of(&rt, &mut input, 3) == 3);
     Ok(())
 }
 
@@ -100,6 +122,6 @@ fn a_thousand_items_come_in_order_through_one_place(rt: HostRuntime) -> Result<(
     let child = thread::spawn(&rt, move || put_all(&rt, input))?;
     let counts = count_all(&rt, &mut output);
     child.join(&rt);
-    assert_eq!(rt; counts, [1_000, 1_000]);
+    assert!(rt; counts == [1_000, 1_000]);
     Ok(())
 }

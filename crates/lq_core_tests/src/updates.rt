@@ -17,6 +17,15 @@ fn message(alloc: Global, seq: u64, change: u64, op: Opcode) -> Result<Message, 
     })
 }
 
+// number, change, whether the entry is made or removed, whether that tells the change whole; the
+// answer, and whether the result is settled then
+const FOLDS: [(u64, u64, bool, bool, Result<(), Refusal>, bool); 4] = [
+    (2, 1, false, true, Err(Refusal::OutOfStep), true),
+    (1, 1, false, true, Err(Refusal::Mismatch), true),
+    (1, 1, true, false, Ok(()), false),
+    (2, 2, false, true, Err(Refusal::OutOfStep), false),
+];
+
 // What a rebuilt result answers to a message.
 fn fold(
     alloc: Global,
@@ -31,33 +40,41 @@ fn fold(
     rebuild.apply(&message)
 }
 
+fn opcode(is_made: bool) -> Opcode {
+    if is_made {
+        Opcode::Created
+    } else {
+        Opcode::Removed
+    }
+}
+
 #[test]
 fn scenario_fold_refusals(rt: HostRuntime) -> Result<(), Fail> {
-    let alloc = rt.alloc();
-    let mut rebuild = Rebuild::new(alloc, 0, Vec::new(alloc));
-    let ahead = fold(alloc, &mut rebuild, 2, 1, Opcode::Removed, true);
-    let absent = fold(alloc, &mut rebuild, 1, 1, Opcode::Removed, true);
-    let created = fold(alloc, &mut rebuild, 1, 1, Opcode::Created, false);
-    let is_settled = rebuild.is_settled();
-    let late = fold(alloc, &mut rebuild, 2, 2, Opcode::Removed, true);
-    assert_eq!(rt; ahead, Err(Refusal::OutOfStep));
-    assert_eq!(rt; absent, Err(Refusal::Mismatch));
-    assert_eq!(rt; created, Ok(()));
-    assert_eq!(rt; is_settled, false);
-    assert_eq!(rt; late, Err(Refusal::OutOfStep));
+    let mut rebuild = Rebuild::new(rt.alloc(), 0, Vec::new(rt.alloc()));
+    for (seq, change, is_made, last, answer, is_settled) in &FOLDS {
+        let op = opcode(*is_made);
+        let folded = fold(rt.alloc(), &mut rebuild, *seq, *change, op, *last);
+        assert!(rt; folded == *answer, "{seq} {change}");
+        assert!(rt; rebuild.is_settled() == *is_settled, "{seq} {change}");
+    }
     Ok(())
+}
+
+// What a rebuilt result answers to a message that its entry was `b`.
+fn fold_moved(alloc: Global, rebuild: &mut Rebuild) -> Result<(), Refusal> {
+    let from_name = Name::read(alloc, "b")?;
+    let moved = Opcode::Moved {
+        from_dir: 1,
+        from_name,
+    };
+    fold(alloc, rebuild, 1, 1, moved, true)
 }
 
 #[test]
 fn scenario_moved_fold(rt: HostRuntime) -> Result<(), Fail> {
     let mut rebuild = Rebuild::new(rt.alloc(), 0, Vec::new(rt.alloc()));
-    let moved = Opcode::Moved {
-        from_dir: 1,
-        from_name: Name::read(rt.alloc(), "b")?,
-    };
-    let message = message(rt.alloc(), 1, 1, moved)?;
-    assert_eq!(rt; rebuild.apply(&message), Err(Refusal::Mismatch));
-    assert_eq!(rt; rebuild.is_settled(), true);
-    assert_eq!(rt; rebuild.last_change(), 0);
+    assert!(rt; fold_moved(rt.alloc(), &mut rebuild) == Err(Refusal::Mismatch));
+    assert!(rt; rebuild.is_settled());
+    assert!(rt; rebuild.last_change() == 0);
     Ok(())
 }

@@ -88,11 +88,12 @@ fn event_of(alloc: Global, ask: &Ask) -> Result<Event, Refusal> {
     }
 }
 
+/// The event of a change.
 fn changing(change: Result<Change, Refusal>) -> Result<Event, Refusal> {
     Ok(Event::Change(change?))
 }
 
-/// A live query is opened.
+/// An event that opens a live query.
 pub fn opening(
     alloc: Global,
     query: &str,

@@ -89,6 +89,7 @@ fn tell(
     fold(rebuild, &messages, seq)
 }
 
+/// Makes a change in a volume.
 fn make(volume: &mut Volume, change: &Change) -> Result<(), Refusal> {
     again!(volume.apply(change))?;
     Ok(())
@@ -135,7 +136,7 @@ fn is_result(kept: &[Entry], predicate: &Predicate, volume: &Volume) -> Result<b
 }
 
 /// Whether the result that was kept by messages is the one that is fetched, after all changes, and
-/// how many of both there are is so.
+/// there were nine of both.
 fn is_kept_by(
     alloc: Global,
     predicate: &Predicate,

@@ -104,7 +104,7 @@ const NOTHING: Tally = Tally {
 };
 
 impl Tally {
-    /// Compares what both bodies told, and whether they might tell as much.
+    /// Counts what both bodies told, and whether it is the same and was foretold.
     fn note(&mut self, may: bool, is_clobbering: bool, fast: &[Message], plain: &[Message]) {
         self.messages = self.messages.saturating_add(plain.len() as u64);
         let is_quiet = plain.is_empty() && !is_clobbering;

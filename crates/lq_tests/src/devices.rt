@@ -11,7 +11,8 @@ pub enum Trouble {
     MovesOne,
 }
 
-/// How a device moves bytes: at most `step` a call, and at its call `at`, counted from 0, as `trouble` says.
+/// How a device moves bytes: at most `step` a call, and at its call `at`, counted from 0, as
+/// `trouble` says.
 #[derive(Clone, Copy)]
 pub struct Pace {
     pub step: usize,

@@ -11,7 +11,7 @@ use lq_volume::Volume;
 use std::alloc::Global;
 use std::test::Fail;
 
-const CLOBBER: [(Ask, Told); 12] = [
+static CLOBBER: [(Ask, Told); 12] = [
     (Ask::Create("a"), Told::Changed(1, 2)),
     (Ask::Create("b"), Told::Changed(2, 3)),
     (Ask::Open(4, 16), Told::Opened(2, 2)),
@@ -26,7 +26,7 @@ const CLOBBER: [(Ask, Told); 12] = [
     (Ask::At(Act::Read), Told::Came(3, 3, "a", 3, true)),
 ];
 
-const CLOSE_AFTER_HELD: [(Ask, Told); 15] = [
+static CLOSE_AFTER_HELD: [(Ask, Told); 15] = [
     (Ask::Open(1, 2), Told::Opened(0, 0)),
     (Ask::Create("a"), Told::Changed(1, 2)),
     (Ask::At(Act::Put), Told::Moved(true)),
@@ -45,7 +45,7 @@ const CLOSE_AFTER_HELD: [(Ask, Told); 15] = [
 ];
 
 // By turns, so the ports are filled by the changes, the takes and the close.
-const OVERRUN_AFTER_HELD: [(Ask, Told); 11] = [
+static OVERRUN_AFTER_HELD: [(Ask, Told); 11] = [
     (Ask::Open(1, 2), Told::Opened(0, 0)),
     (Ask::Create("a"), Told::Changed(1, 2)),
     (Ask::Create("b"), Told::Changed(2, 3)),
@@ -59,7 +59,7 @@ const OVERRUN_AFTER_HELD: [(Ask, Told); 11] = [
     (Ask::At(Act::Read), Told::Ended),
 ];
 
-const CLOSE_ON_FULL_PORT: [(Ask, Told); 13] = [
+static CLOSE_ON_FULL_PORT: [(Ask, Told); 13] = [
     (Ask::Open(1, 1), Told::Opened(0, 0)),
     (Ask::Create("a"), Told::Changed(1, 2)),
     (Ask::At(Act::Close), Told::Shut(1)),
@@ -75,7 +75,7 @@ const CLOSE_ON_FULL_PORT: [(Ask, Told); 13] = [
     (Ask::At(Act::Read), Told::Refused(Refusal::NotOpen)),
 ];
 
-const HANG_UP_TOLD_AFTER: [(Ask, Told); 10] = [
+static HANG_UP_TOLD_AFTER: [(Ask, Told); 10] = [
     (Ask::Open(2, 2), Told::Opened(0, 0)),
     (Ask::At(Act::HangUp), Told::Asked),
     (Ask::Create("a"), Told::Changed(1, 2)),
@@ -88,7 +88,7 @@ const HANG_UP_TOLD_AFTER: [(Ask, Told); 10] = [
     (Ask::At(Act::Read), Told::Mark(2, 1, Cause::HungUp)),
 ];
 
-const OVERRUN_BEFORE_NOTICE: [(Ask, Told); 6] = [
+static OVERRUN_BEFORE_NOTICE: [(Ask, Told); 6] = [
     (Ask::Open(1, 0), Told::Opened(0, 0)),
     (Ask::At(Act::HangUp), Told::Asked),
     (Ask::Create("a"), Told::Changed(1, 2)),
@@ -97,7 +97,7 @@ const OVERRUN_BEFORE_NOTICE: [(Ask, Told); 6] = [
     (Ask::At(Act::Read), Told::Mark(1, 0, Cause::Overrun)),
 ];
 
-const HANG_UP_DOES_NOT_CARRY_OVER: [(Ask, Told); 8] = [
+static HANG_UP_DOES_NOT_CARRY_OVER: [(Ask, Told); 8] = [
     (Ask::Open(1, 1), Told::Opened(0, 0)),
     (Ask::At(Act::Close), Told::Shut(0)),
     (Ask::At(Act::HangUp), Told::Asked),
@@ -109,7 +109,7 @@ const HANG_UP_DOES_NOT_CARRY_OVER: [(Ask, Told); 8] = [
 ];
 
 // act, its reply, then queries and how many entries each finds
-const TEXT_AND_NUMBER: [(Ask, Told, &[(&str, usize)]); 3] = [
+static TEXT_AND_NUMBER: [(Ask, Told, &[(&str, usize)]); 3] = [
     (Ask::Create("a"), Told::Changed(1, 2), &[]),
     (
         Ask::Text("10"),

@@ -15,7 +15,7 @@ enum Device {
 /// a call, the last read that of the end and the last write the flush.
 type Case = (&'static [Row], Device, Trouble, usize, usize);
 
-const TROUBLES: [Case; 15] = [
+static TROUBLES: [Case; 15] = [
     (FIRST_MESSAGE, Device::Reader, Trouble::Fails, 117, 13),
     (FIRST_MESSAGE, Device::Reader, Trouble::MovesOne, 117, 13),
     (FIRST_MESSAGE, Device::Writer, Trouble::Fails, 161, 17),
@@ -183,7 +183,7 @@ fn each_call_of_a_device_has_trouble_in_turn(rt: HostRuntime) -> Result<(), Fail
     Ok(())
 }
 
-/// Whether a run whose second read fails answers the lines of its first.
+/// Whether a run whose second read fails has answered the line of its first.
 fn is_read_fault_met(alloc: Global) -> Result<bool, AllocError> {
     let opening = Example::of(alloc, &FIRST_MESSAGE[..1])?;
     let reads = pace(999, 1, Trouble::Fails);
@@ -204,7 +204,7 @@ fn scenario_read_fault(rt: HostRuntime) -> Result<(), Fail> {
     Ok(())
 }
 
-/// Whether a run over this writer ends with a fault of its, and has written this.
+/// Whether a run over this writer ends with a write fault, and has written this.
 fn is_cut(alloc: Global, writes: Pace, text: &str) -> Result<bool, AllocError> {
     let example = Example::of(alloc, FIRST_MESSAGE)?;
     ends(

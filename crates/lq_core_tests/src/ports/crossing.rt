@@ -1,7 +1,7 @@
 //! An end beside a number, under a lock that two threads share, and the other in a thread.
 use crate::ports::pages::{Page, hear, tell};
 use lq_port::{PortIn, PortOut, make};
-use std::alloc::Global;
+use std::alloc::{AllocError, Global};
 use std::sync::{Mutex, Wait};
 use std::test::Fail;
 use std::thread::{self, JoinHandle, Threads, join};
@@ -88,14 +88,19 @@ fn sum_beside<R: Threads + Wait + Copy + Send + 'static>(
     step_beside(rt, alloc, taker)
 }
 
+// A book of one number, and a book of two.
+fn books(alloc: Global) -> Result<[Vec<u64>; 2], AllocError> {
+    Ok([vec![in alloc; 7]?, vec![in alloc; 7, 8]?])
+}
+
 #[test]
 fn ends_cross_threads(rt: HostRuntime) -> Result<(), Fail> {
-    let books = [vec![in rt.alloc(); 7]?, vec![in rt.alloc(); 7, 8]?];
+    let books = books(rt.alloc())?;
     let (input, output) = make::<Page>(rt.alloc(), 4, &())?;
     let child = sum_beside(rt, rt.alloc(), Taker { output, sum: 0 });
     let lock = Mutex::new(Holder { input, back: 0 });
-    assert_eq!(rt; put_both(&rt, &lock, &books), 0);
+    assert!(rt; put_both(&rt, &lock, &books) == 0);
     drop(lock.into_inner());
-    assert_eq!(rt; child.map(|child| child.join(&rt)), Some(3));
+    assert!(rt; child.map(|child| child.join(&rt)) == Some(3));
     Ok(())
 }

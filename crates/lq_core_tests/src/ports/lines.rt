@@ -1,11 +1,11 @@
 //! Items with a text of their own, and a put that is known to fit.
-ghost use Rattle.std.specs.Prelude.{◌≡◌, ◌<◌, IfOk, IfErr, IfSome};
+ghost use Rattle.std.specs.Prelude.{◌≡◌, ◌<◌, IfOk, IfErr, IfSome, string_bytes};
 ghost use Rattle.std.specs.String.{string_len};
 ghost use Rattle.lq_port.specs.End.{IsSamePort};
 
 use lq_port::{Follows, PortIn, PortOut, make};
 use lq_value::Refusal;
-use std::alloc::Global;
+use std::alloc::{AllocError, Global};
 use std::sync::Wait;
 use std::test::Fail;
 
@@ -89,25 +89,33 @@ fn take_where_waiting<R: Wait>(
     }
 }
 
+fn make_line(alloc: Global, text: &str) -> Result<Line, AllocError>
+    ensures { IfOk result (λ line. string_bytes line.text ≡ text.now) }
+{
+    let text = String::from_str(alloc, text)?;
+    Ok(Line { text })
+}
+
+// Whether there is a line, and it is this text.
+fn is_line(line: Option<Line>, text: &str) -> bool {
+    match line {
+        Some(line) => line.text.as_str() == text,
+        None => false,
+    }
+}
+
 #[test]
 fn lines_come_through_whole(rt: HostRuntime) -> Result<(), Fail> {
+    let first = make_line(rt.alloc(), "folder")?;
+    let second = make_line(rt.alloc(), "listing")?;
     let (mut input, mut output) = port(rt.alloc(), 1)?;
-    let first = Line {
-        text: String::from_str(rt.alloc(), "folder")?,
-    };
-    let second = Line {
-        text: String::from_str(rt.alloc(), "listing")?,
-    };
     assert!(rt; offer(&rt, &mut input, first).is_ok());
     let Err(second) = offer(&rt, &mut input, second) else {
         return Err(Fail::from("one place took two lines"));
     };
-    assert_eq!(rt;
-        next(&rt, &mut output).map(|line| line.text).as_deref(),
-        Some("folder")
-    );
+    assert!(rt; is_line(next(&rt, &mut output), "folder"));
     assert!(rt; put_where_room(&rt, &mut output, &mut input, 1, second));
     let last = take_where_waiting(&rt, &mut output, &mut input);
-    assert_eq!(rt; last.map(|line| line.text).as_deref(), Some("listing"));
+    assert!(rt; is_line(last, "listing"));
     Ok(())
 }
