@@ -1,9 +1,9 @@
 //! What the tables of the scenarios ask of a server, and what they are told.
-use crate::held::{ReaderOf, SeatOf};
+use crate::held::{Asked, ReaderOf, SeatOf};
+use crate::party::Party;
 use lq_desk::Read;
-use lq_predicate::read;
-use lq_server::{Found, Named, Retired, Server, Synced};
-use lq_update::{Cause, Mark};
+use lq_server::{Named, Server, Synced};
+use lq_update::Cause;
 use lq_value::{AttrName, Entry, Kind, Name, Refusal, Value};
 use lq_volume::Change;
 use std::alloc::Global;
@@ -54,35 +54,49 @@ pub enum Told {
     Changed(u64, u64),
     /// The number of changes, and whether just the entries wanted were found.
     Found(u64, bool),
+    /// What a read gave, or the mark that a sync found.
+    Heard(Heard),
+    /// change, waiting, held.
+    Live(u64, u64, u64),
+    Number(u64),
+    Is(bool),
+    Done,
+    /// As `OutOfStep`, which no server answers, where there is no reader.
+    Refused(Refusal),
+}
+
+/// What a read gives.
+#[derive(Clone, Copy, Debug, PartialEq, Eq)]
+pub enum Heard {
     /// seq, change, node.
     Update(u64, u64, u64),
     /// seq, change, cause.
     End(u64, u64, Cause),
     Empty,
     Ended,
-    /// change, waiting, held, and the mark as in `End`.
-    Live(u64, u64, u64),
-    Over(u64, u64, u64, Mark),
-    Number(u64),
-    Is(bool),
-    Done,
-    NoReader,
-    Refused(Refusal),
 }
 
-/// The first row of a table that was answered otherwise, counted from 0, and what was answered.
+/// Why a table stopped: the first of its rows that was answered otherwise, counted from 0, and what
+/// was answered.
 #[derive(Debug, Drop)]
-pub struct Odd {
+pub struct Stop {
+    pub table: &'static str,
     pub row: usize,
     pub told: Told,
 }
 
-/// What one thread has: a seat, and the reader that it opened last.
-#[derive(Drop)]
-pub struct Party<N: Named> {
-    pub seat: SeatOf<N>,
-    pub reader: Option<ReaderOf<N>>,
+impl From<Refusal> for Stop {
+    fn from(refusal: Refusal) -> Stop {
+        Stop {
+            table: "none",
+            row: 0,
+            told: Told::Refused(refusal),
+        }
+    }
 }
+
+/// A call, and what it is wanted to answer.
+pub type Call = (Act, Told);
 
 /// How often a call is given that is answered `NoMemory`.
 #[derive(Clone, Copy)]
@@ -92,18 +106,6 @@ pub enum Tries {
 }
 
 impl<N: Named> Party<N> {
-    /// A party with a seat and no reader.
-    pub fn new<R: Wait>(rt: &R, server: &Server<N>) -> Result<Party<N>, Refusal> {
-        let seat = SeatOf::new(rt, server)?;
-        Ok(Party { seat, reader: None })
-    }
-
-    /// Retires the server by the seat, and drops the reader.
-    pub fn retire<R: Wait>(self, rt: &R, server: Server<N>) -> Retired {
-        let Party { seat, reader: _ } = self;
-        seat.retire(rt, server)
-    }
-
     /// Gives the calls of a table one after another, up to one that isn't answered as is wanted.
     pub fn play<R: Wait>(
         &mut self,
@@ -111,12 +113,13 @@ impl<N: Named> Party<N> {
         alloc: Global,
         server: &Server<N>,
         tries: Tries,
-        rows: &[(Act, Told)],
-    ) -> Result<(), Odd> {
+        table: &'static str,
+        rows: &[Call],
+    ) -> Result<(), Stop> {
         for (row, (act, wanted)) in rows.iter().enumerate() {
             let told = self.tell(rt, alloc, server, tries, *act);
             if told != *wanted {
-                return Err(Odd { row, told });
+                return Err(Stop { table, row, told });
             }
         }
         Ok(())
@@ -130,52 +133,38 @@ impl<N: Named> Party<N> {
         tries: Tries,
         act: Act,
     ) -> Told {
-        let told = self.tell_once(rt, alloc, server, act);
-        match tries {
-            Tries::Two if told == Told::Refused(Refusal::NoMemory) => {
-                self.tell_once(rt, alloc, server, act)
+        match (tries, self.tell_once(rt, alloc, server, act)) {
+            (Tries::Two, Err(Refusal::NoMemory)) => {
+                answered(self.tell_once(rt, alloc, server, act))
             }
-            _ => told,
+            (_, answer) => answered(answer),
         }
     }
 
-    fn tell_once<R: Wait>(&mut self, rt: &R, alloc: Global, server: &Server<N>, act: Act) -> Told {
-        let told = match act {
-            Act::Open(query, port, backlog) => {
-                let asked = Asked {
-                    query,
-                    port,
-                    backlog,
-                    moved: false,
-                };
-                self.open(rt, alloc, server, &asked)
-            }
-            Act::OpenMoved(query, port, backlog) => {
-                let asked = Asked {
-                    query,
-                    port,
-                    backlog,
-                    moved: true,
-                };
-                self.open(rt, alloc, server, &asked)
-            }
+    fn tell_once<R: Wait>(
+        &mut self,
+        rt: &R,
+        alloc: Global,
+        server: &Server<N>,
+        act: Act,
+    ) -> Result<Told, Refusal> {
+        if let Some(asked) = asked(act) {
+            return self.open(rt, alloc, server, &asked);
+        }
+        if is_change(act) {
+            return apply(rt, alloc, server, &mut self.seat, act);
+        }
+        match act {
             Act::Fetch(query, rows) => fetch(rt, alloc, server, &mut self.seat, query, rows),
-            Act::Find(name) => find(rt, alloc, server, &mut self.seat, name),
+            Act::Find(name) => Ok(Told::Number(self.seat.find(rt, alloc, server, name)?)),
             Act::Listing(node, name) => listing(rt, server, &mut self.seat, node, name),
             Act::Latest => Ok(Told::Number(self.seat.latest(server))),
-            Act::Finish => Ok(self.finish(rt, server)),
-            Act::Create(_)
-            | Act::Remove(_)
-            | Act::Move(_, _)
-            | Act::Write(_, _)
-            | Act::SetAttr(_, _)
-            | Act::RemoveAttr(_) => apply(rt, alloc, server, &mut self.seat, act),
+            Act::Finish => self.finish(rt, server),
             _ => match &mut self.reader {
                 Some(reader) => tell_reader(rt, server, reader, &mut self.seat, act),
-                None => Ok(Told::NoReader),
+                None => Err(Refusal::OutOfStep),
             },
-        };
-        told.unwrap_or_else(Told::Refused)
+        }
     }
 
     fn open<R: Wait>(
@@ -185,55 +174,63 @@ impl<N: Named> Party<N> {
         server: &Server<N>,
         asked: &Asked<'_>,
     ) -> Result<Told, Refusal> {
-        let reader = open(rt, alloc, server, &mut self.seat, asked)?;
+        let reader = self.seat.open(rt, alloc, server, asked)?;
         let slot = reader.slot();
         self.reader = Some(reader);
         Ok(Told::Number(slot))
     }
 
-    fn finish<R: Wait>(&mut self, rt: &R, server: &Server<N>) -> Told {
+    fn finish<R: Wait>(&mut self, rt: &R, server: &Server<N>) -> Result<Told, Refusal> {
         let Some(reader) = self.reader.take() else {
-            return Told::NoReader;
+            return Err(Refusal::OutOfStep);
         };
         match reader.finish(rt, server) {
-            Ok(()) => Told::Done,
+            Ok(()) => Ok(Told::Done),
             Err((reader, refusal)) => {
                 self.reader = Some(reader);
-                Told::Refused(refusal)
+                Err(refusal)
             }
         }
     }
 }
 
-/// What an opening asks for.
-#[derive(Clone, Copy)]
-pub struct Asked<'a> {
-    pub query: &'a str,
-    pub port: u64,
-    pub backlog: u64,
-    pub moved: bool,
+fn answered(answer: Result<Told, Refusal>) -> Told {
+    answer.unwrap_or_else(Told::Refused)
 }
 
-/// Opens a query that is read from its text.
-pub fn open<N: Named, R: Wait>(
-    rt: &R,
-    alloc: Global,
-    server: &Server<N>,
-    seat: &mut SeatOf<N>,
-    asked: &Asked<'_>,
-) -> Result<ReaderOf<N>, Refusal> {
-    let predicate = read(alloc, asked.query)?;
-    seat.open(
-        rt,
-        server,
-        &predicate,
-        asked.port,
-        asked.backlog,
-        asked.moved,
+/// What an act asks for that opens.
+fn asked(act: Act) -> Option<Asked<'static>> {
+    match act {
+        Act::Open(query, port, backlog) => Some(Asked {
+            query,
+            port,
+            backlog,
+            moved: false,
+        }),
+        Act::OpenMoved(query, port, backlog) => Some(Asked {
+            query,
+            port,
+            backlog,
+            moved: true,
+        }),
+        _ => None,
+    }
+}
+
+fn is_change(act: Act) -> bool {
+    matches!(
+        act,
+        Act::Create(_)
+            | Act::Remove(_)
+            | Act::Move(_, _)
+            | Act::Write(_, _)
+            | Act::SetAttr(_, _)
+            | Act::RemoveAttr(_)
     )
 }
 
-fn apply<N: Named, R: Wait>(
+/// Applies the change that an act asks for.
+pub fn apply<N: Named, R: Wait>(
     rt: &R,
     alloc: Global,
     server: &Server<N>,
@@ -245,17 +242,6 @@ fn apply<N: Named, R: Wait>(
     Ok(Told::Changed(accepted.change, accepted.node))
 }
 
-fn find_all<N: Named, R: Wait>(
-    rt: &R,
-    alloc: Global,
-    server: &Server<N>,
-    seat: &mut SeatOf<N>,
-    query: &str,
-) -> Result<Found, Refusal> {
-    let predicate = read(alloc, query)?;
-    seat.fetch(rt, server, &predicate)
-}
-
 fn fetch<N: Named, R: Wait>(
     rt: &R,
     alloc: Global,
@@ -264,20 +250,8 @@ fn fetch<N: Named, R: Wait>(
     query: &str,
     rows: &[Row],
 ) -> Result<Told, Refusal> {
-    let found = find_all(rt, alloc, server, seat, query)?;
+    let found = seat.fetch(rt, alloc, server, query)?;
     Ok(Told::Found(found.at, are_entries(&found.entries, rows)))
-}
-
-fn find<N: Named, R: Wait>(
-    rt: &R,
-    alloc: Global,
-    server: &Server<N>,
-    seat: &mut SeatOf<N>,
-    name: &str,
-) -> Result<Told, Refusal> {
-    let name = Name::read(alloc, name)?;
-    let node = seat.find(rt, server, 1, &name)?;
-    Ok(Told::Number(node))
 }
 
 fn listing<N: Named, R: Wait>(
@@ -303,8 +277,8 @@ fn tell_reader<N: Named, R: Wait>(
         Act::Result(rows) => Told::Is(are_entries(reader.result(), rows)),
         Act::ReaderLatest => Told::Number(reader.latest(server)),
         Act::Meet => Told::Number(reader.meet(rt, server, seat)),
-        Act::Read => told_read(&reader.read(rt)?),
-        Act::ReadWaiting => told_read(&reader.read_waiting(rt, server)?),
+        Act::Read => Told::Heard(heard_in(&reader.read(rt)?)),
+        Act::ReadWaiting => Told::Heard(heard_in(&reader.read_waiting(rt, server)?)),
         Act::Pump => {
             reader.pump(rt, server);
             Told::Done
@@ -315,23 +289,23 @@ fn tell_reader<N: Named, R: Wait>(
             Told::Done
         }
         Act::Close => Told::Number(reader.close(rt, server)?),
-        _ => Told::NoReader,
+        _ => return Err(Refusal::OutOfStep),
     })
 }
 
-fn told_read(read: &Read) -> Told {
+fn heard_in(read: &Read) -> Heard {
     match read {
-        Read::Update(message) => Told::Update(message.seq, message.change, message.node),
-        Read::Fin(mark) => Told::End(mark.seq, mark.change, mark.cause),
-        Read::Empty => Told::Empty,
-        Read::Ended => Told::Ended,
+        Read::Update(message) => Heard::Update(message.seq, message.change, message.node),
+        Read::Fin(mark) => Heard::End(mark.seq, mark.change, mark.cause),
+        Read::Empty => Heard::Empty,
+        Read::Ended => Heard::Ended,
     }
 }
 
 fn told_synced(synced: Synced) -> Told {
     match synced.mark {
         None => Told::Live(synced.change, synced.waiting, synced.held),
-        Some(mark) => Told::Over(synced.change, synced.waiting, synced.held, mark),
+        Some(mark) => Told::Heard(Heard::End(mark.seq, mark.change, mark.cause)),
     }
 }
 

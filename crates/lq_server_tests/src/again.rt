@@ -9,7 +9,7 @@ use std::test::Fail;
 #[test]
 fn a_refused_growth_is_made_good(rt: HostRuntime) -> Result<(), Fail> {
     let base = base(rt.alloc(), 100)?;
-    let retired = stage::<Brand, _>(&rt, rt.alloc(), base, Tries::Two, &WINDOW)?;
-    assert!(rt; retired.changes == 6);
+    let done = stage::<Brand, _>(&rt, rt.alloc(), base, Tries::Two, &WINDOW)?;
+    assert!(rt; done.retired.changes == 6);
     Ok(())
 }

@@ -1,9 +1,10 @@
 //! Each call of a server and of a reader, and why an opening or a seat is refused.
 ghost use Rattle.std.specs.Prelude.{◌≡◌};
 
-use crate::acts::{Act, Asked, Party, Told, Tries, open};
-use crate::held::SeatOf;
-use crate::stage::{Stop, base, party, play};
+use crate::acts::{Act, Call, Heard, Stop, Told, Tries};
+use crate::held::{Asked, SeatOf};
+use crate::party::{Party, Task, work};
+use crate::stage::{base, play};
 use lq_server::{Base, Named, Server};
 use lq_update::Cause;
 use lq_value::Refusal;
@@ -13,7 +14,7 @@ use std::sync::Wait;
 use std::test::Fail;
 
 /// Each call with memory; each of the six changes; a query with moved messages and one without.
-const EACH: [(Act, Told); 37] = [
+const EACH: &[Call] = &[
     (Act::Latest, Told::Number(0)),
     (Act::Create("a"), Told::Changed(1, 2)),
     (Act::Open("name=*", 4, 16), Told::Number(1)),
@@ -26,29 +27,32 @@ const EACH: [(Act, Told); 37] = [
     (Act::Fetch("size=9", &[("a", 2)]), Told::Found(4, true)),
     (Act::Find("a"), Told::Number(2)),
     (Act::Listing(2, "a"), Told::Is(true)),
-    (Act::Read, Told::Empty),
+    (Act::Read, Told::Heard(Heard::Empty)),
     (Act::Move(2, "b"), Told::Changed(5, 2)),
-    (Act::Read, Told::Update(1, 5, 2)),
-    (Act::Read, Told::Update(2, 5, 2)),
+    (Act::Read, Told::Heard(Heard::Update(1, 5, 2))),
+    (Act::Read, Told::Heard(Heard::Update(2, 5, 2))),
     (Act::Result(&[("b", 2)]), Told::Is(true)),
     (Act::Remove(2), Told::Changed(6, 2)),
     (Act::Pump, Told::Done),
-    (Act::ReadWaiting, Told::Update(3, 6, 2)),
+    (Act::ReadWaiting, Told::Heard(Heard::Update(3, 6, 2))),
     (Act::Sync, Told::Live(6, 0, 0)),
     (Act::Latest, Told::Number(6)),
     (Act::ReaderLatest, Told::Number(6)),
     (Act::Meet, Told::Number(6)),
     (Act::Close, Told::Number(6)),
-    (Act::Read, Told::End(4, 6, Cause::Closed)),
-    (Act::ReadWaiting, Told::Ended),
+    (Act::Read, Told::Heard(Heard::End(4, 6, Cause::Closed))),
+    (Act::ReadWaiting, Told::Heard(Heard::Ended)),
     (Act::Finish, Told::Done),
     (Act::OpenMoved("name=*", 4, 16), Told::Number(1)),
     (Act::Create("c"), Told::Changed(7, 3)),
     (Act::Move(3, "d"), Told::Changed(8, 3)),
-    (Act::Read, Told::Update(1, 7, 3)),
-    (Act::Read, Told::Update(2, 8, 3)),
+    (Act::Read, Told::Heard(Heard::Update(1, 7, 3))),
+    (Act::Read, Told::Heard(Heard::Update(2, 8, 3))),
     (Act::HangUp, Told::Done),
-    (Act::ReadWaiting, Told::End(3, 8, Cause::HungUp)),
+    (
+        Act::ReadWaiting,
+        Told::Heard(Heard::End(3, 8, Cause::HungUp)),
+    ),
     (Act::Result(&[("d", 3)]), Told::Is(true)),
     (Act::Finish, Told::Done),
 ];
@@ -56,13 +60,13 @@ const EACH: [(Act, Told); 37] = [
 #[test]
 fn each_call_answers(rt: HostRuntime) -> Result<(), Fail> {
     let base = base(rt.alloc(), 100)?;
-    let retired = play::<Brand, _>(&rt, rt.alloc(), base, &EACH)?;
-    assert!(rt; retired.changes == 8 && retired.volume.changes() == 8);
+    let done = play::<Brand, _>(&rt, rt.alloc(), base, EACH)?;
+    assert!(rt; done.retired.changes == 8 && done.retired.volume.changes() == 8);
     Ok(())
 }
 
 /// Where each number refuses an opening, the first that fits.
-const NUMBERS: [(Act, Told); 4] = [
+const NUMBERS: &[Call] = &[
     (Act::Open("size>0", 0, 1), Told::Refused(Refusal::BadPort)),
     (
         Act::Open("size>0", 1025, 65537),
@@ -79,14 +83,15 @@ const NUMBERS: [(Act, Told); 4] = [
 ];
 
 /// All slots are taken, and as many openings were made as the volume takes changes.
-const FULL: [(Act, Told); 1] = [(Act::Open("size>0", 1, 1), Told::Refused(Refusal::NoSlot))];
+const FULL: &[Call] = &[(Act::Open("size>0", 1, 1), Told::Refused(Refusal::NoSlot))];
 
 /// Opens in each slot between the refusals.
 fn fill<N: Named, R: Wait>(rt: &R, alloc: Global, base: Base) -> Result<(), Stop>
     requires { base ≡ N.board }
 {
     let server: Server<N> = Server::new(base);
-    let mut party = party(rt, &server)?;
+    let numbers = Task::Play(Tries::One, "before", NUMBERS);
+    let mut party = Party::new(rt, alloc, &server, numbers)?;
     fill_by(rt, alloc, &server, &mut party)
 }
 
@@ -96,21 +101,13 @@ fn fill_by<N: Named, R: Wait>(
     server: &Server<N>,
     party: &mut Party<N>,
 ) -> Result<(), Stop> {
-    party
-        .play(rt, alloc, server, Tries::One, &NUMBERS)
-        .map_err(Stop::Before)?;
+    work(rt, alloc, server, party)?;
     for slot in 1..=64 {
         let opening = [(Act::Open("size>0", 1024, 65536), Told::Number(slot))];
-        party
-            .play(rt, alloc, server, Tries::One, &opening)
-            .map_err(Stop::First)?;
+        party.play(rt, alloc, server, Tries::One, "openings", &opening)?;
     }
-    party
-        .play(rt, alloc, server, Tries::One, &FULL)
-        .map_err(Stop::Second)?;
-    party
-        .play(rt, alloc, server, Tries::One, &NUMBERS)
-        .map_err(Stop::After)
+    party.play(rt, alloc, server, Tries::One, "full", FULL)?;
+    party.play(rt, alloc, server, Tries::One, "after", NUMBERS)
 }
 
 #[test]
@@ -190,7 +187,7 @@ fn read_beside<N: Named, R: Wait>(
         backlog: 1,
         moved: false,
     };
-    let mut reader = open(rt, alloc, server, one, &asked)?;
+    let mut reader = one.open(rt, alloc, server, &asked)?;
     reader.sync(rt, server);
     reader.meet(rt, server, two);
     Ok(())

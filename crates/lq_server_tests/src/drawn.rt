@@ -2,16 +2,15 @@
 //! closes. What each reader was told is compared afterwards (`reference`).
 ghost use Rattle.std.specs.Prelude.{◌≡◌};
 
-use crate::acts::{Asked, open};
+use crate::acts::Stop;
 use crate::draws::Draws;
-use crate::held::{ReaderOf, SeatOf};
-use crate::reference::{Heard, LIMIT, Log, Taken, copy_of, replayed, results};
-use crate::stage::{base, both};
+use crate::held::{Asked, ReaderOf, SeatOf};
+use crate::party::{Done, Ending, Party, Task, side_by_side};
+use crate::reference::{LIMIT, Log, find_results, is_left, put_copies, sort};
+use crate::stage::base;
 use lq_desk::Read;
-use lq_server::{Base, Named, Retired, Server};
-use lq_update::{Mark, Message};
-use lq_value::Refusal;
-use lq_volume::Volume;
+use lq_server::{Base, Named, Server};
+use lq_value::{Entry, Refusal};
 use std::alloc::Global;
 use std::marker::Brand;
 use std::sync::Wait;
@@ -27,78 +26,60 @@ const ROUNDS: usize = 80;
 /// The queries that are opened.
 const QUERIES: [&str; 3] = ["name='a*'", "size>0", "x=1&&size<2"];
 
-/// How a reader ends its subscription.
-#[derive(Clone, Copy)]
-enum Ending {
-    HangUp,
-    Close,
-}
-
-/// What the four threads did, and what is left.
-#[derive(Drop)]
-struct Done {
-    taken: Vec<Taken>,
-    logs: Vec<Log>,
-    retired: Retired,
-}
-
-/// Applies drawn changes; those that were accepted.
-fn apply_drawn<N: Named, R: Wait>(
+/// Applies drawn changes.
+pub fn apply_drawn<N: Named, R: Wait>(
     rt: &R,
     alloc: Global,
     server: &Server<N>,
-    seat: &mut SeatOf<N>,
+    party: &mut Party<N>,
     seed: u64,
-) -> Result<Vec<Taken>, Refusal> {
-    let mut draws = Draws {
-        state: seed,
-        newest: 1,
-    };
-    let mut taken = Vec::new(alloc);
-    for _ in 0..CHANGES {
-        apply_next(rt, alloc, server, seat, &mut draws, &mut taken)?;
-    }
-    Ok(taken)
-}
-
-/// Applies the next change, and keeps it where it was accepted.
-fn apply_next<N: Named, R: Wait>(
-    rt: &R,
-    alloc: Global,
-    server: &Server<N>,
-    seat: &mut SeatOf<N>,
-    draws: &mut Draws,
-    taken: &mut Vec<Taken>,
 ) -> Result<(), Refusal> {
-    let change = draws.change(alloc)?;
-    match seat.apply(rt, server, &change) {
-        Ok(accepted) => {
-            draws.newest = draws.newest.max(accepted.node);
-            Ok(taken.push(Taken { accepted, change })?)
-        }
-        Err(Refusal::NoMemory) => Err(Refusal::NoMemory),
-        Err(_) => Ok(()),
+    let mut draws = Draws::new(seed);
+    for _ in 0..CHANGES {
+        let change = draws.change(alloc)?;
+        draws.see(party.take(rt, server, change))?;
     }
+    Ok(())
 }
 
 /// Opens and ends one subscription after another while changes come.
-fn subscribe_drawn<N: Named, R: Wait>(
+pub fn follow_drawn<N: Named, R: Wait>(
     rt: &R,
     alloc: Global,
     server: &Server<N>,
-    seat: &mut SeatOf<N>,
+    party: &mut Party<N>,
     ending: Ending,
     seed: u64,
-) -> Result<Vec<Log>, Refusal> {
-    let mut draws = Draws {
-        state: seed,
-        newest: 1,
-    };
-    let mut logs = Vec::new(alloc);
+) -> Result<(), Refusal> {
+    let mut draws = Draws::new(seed);
     for _ in 0..ROUNDS {
-        logs.push(follow(rt, alloc, server, seat, ending, &mut draws)?)?;
+        let mut log = Log::new(alloc);
+        follow(
+            rt,
+            alloc,
+            server,
+            &mut party.seat,
+            ending,
+            &mut draws,
+            &mut log,
+        )?;
+        party.logs.push(log)?;
     }
-    Ok(logs)
+    Ok(())
+}
+
+/// Draws an opening.
+fn ask(draws: &mut Draws, log: &mut Log) -> Asked<'static> {
+    log.query = draws.below(3) as usize;
+    let port = draws.below(9) + 1;
+    let backlog = draws.below(20);
+    log.moved = draws.below(2) == 1;
+    Asked {
+        query: QUERIES.get(log.query).copied().unwrap_or(""),
+        port,
+        backlog,
+        moved: log.moved,
+    }
 }
 
 /// One subscription, from its opening to its end.
@@ -109,40 +90,15 @@ fn follow<N: Named, R: Wait>(
     seat: &mut SeatOf<N>,
     ending: Ending,
     draws: &mut Draws,
-) -> Result<Log, Refusal> {
-    let query = draws.below(3) as usize;
-    let asked = Asked {
-        query: QUERIES.get(query).copied().unwrap_or(""),
-        port: draws.below(9) + 1,
-        backlog: draws.below(20),
-        moved: draws.below(2) == 1,
-    };
-    let from = seat.latest(server);
-    let reader = open(rt, alloc, server, seat, &asked)?;
-    let to = seat.latest(server);
-    let begun = copy_of(alloc, reader.result())?;
-    Ok(Log {
-        query,
-        moved: asked.moved,
-        from,
-        to,
-        begun,
-        heard: hear_out(rt, alloc, server, reader, ending, draws)?,
-    })
-}
-
-/// Hears a reader to its end, and finishes it.
-fn hear_out<N: Named, R: Wait>(
-    rt: &R,
-    alloc: Global,
-    server: &Server<N>,
-    mut reader: ReaderOf<N>,
-    ending: Ending,
-    draws: &mut Draws,
-) -> Result<Heard, Refusal> {
-    let mut heard = hear(rt, alloc, server, &mut reader, ending, draws)?;
-    heard.finished = reader.finish(rt, server).is_ok();
-    Ok(heard)
+    log: &mut Log,
+) -> Result<(), Refusal> {
+    let asked = ask(draws, log);
+    log.from = seat.latest(server);
+    let mut reader = seat.open(rt, alloc, server, &asked)?;
+    log.to = seat.latest(server);
+    hear(rt, alloc, server, &mut reader, ending, draws, log)?;
+    log.finished = reader.finish(rt, server).is_ok();
+    Ok(())
 }
 
 /// Reads some, ends the subscription, and reads the rest.
@@ -153,17 +109,13 @@ fn hear<N: Named, R: Wait>(
     reader: &mut ReaderOf<N>,
     ending: Ending,
     draws: &mut Draws,
-) -> Result<Heard, Refusal> {
-    let mut messages = Vec::new(alloc);
-    let early = read_some(rt, server, reader, draws, &mut messages)?;
+    log: &mut Log,
+) -> Result<(), Refusal> {
+    put_copies(alloc, reader.result(), &mut log.begun)?;
+    read_some(rt, server, reader, draws, log)?;
     end(rt, server, reader, ending);
-    let late = read_out(rt, server, reader, &mut messages)?;
-    Ok(Heard {
-        messages,
-        mark: early.or(late),
-        ended: copy_of(alloc, reader.result())?,
-        finished: false,
-    })
+    read_out(rt, server, reader, log)?;
+    put_copies(alloc, reader.result(), &mut log.ended)
 }
 
 fn end<N: Named, R: Wait>(rt: &R, server: &Server<N>, reader: &mut ReaderOf<N>, ending: Ending) {
@@ -176,76 +128,42 @@ fn end<N: Named, R: Wait>(rt: &R, server: &Server<N>, reader: &mut ReaderOf<N>, 
     }
 }
 
-/// Reads a drawn number of times, some of them after a pump; the mark where it came.
+/// Reads a drawn number of times, some of them after a pump, or up to the mark.
 fn read_some<N: Named, R: Wait>(
     rt: &R,
     server: &Server<N>,
     reader: &mut ReaderOf<N>,
     draws: &mut Draws,
-    messages: &mut Vec<Message>,
-) -> Result<Option<Mark>, Refusal> {
+    log: &mut Log,
+) -> Result<(), Refusal> {
     for _ in 0..draws.below(200) {
         if draws.below(4) == 0 {
             reader.pump(rt, server);
         }
-        match reader.read(rt)? {
-            Read::Update(message) => messages.push(message)?,
-            Read::Fin(mark) => return Ok(Some(mark)),
-            Read::Empty | Read::Ended => {}
+        log.keep(reader.read(rt)?)?;
+        if log.mark.is_some() {
+            break;
         }
     }
-    Ok(None)
+    Ok(())
 }
 
-/// Reads up to the mark, which isn't there where it was read before.
+/// Reads up to the mark, or to the end where the mark was read before.
 fn read_out<N: Named, R: Wait>(
     rt: &R,
     server: &Server<N>,
     reader: &mut ReaderOf<N>,
-    messages: &mut Vec<Message>,
-) -> Result<Option<Mark>, Refusal> {
+    log: &mut Log,
+) -> Result<(), Refusal> {
     for _ in 0..100_000 {
-        match reader.read_waiting(rt, server)? {
-            Read::Update(message) => messages.push(message)?,
-            Read::Fin(mark) => return Ok(Some(mark)),
-            Read::Empty | Read::Ended => return Ok(None),
+        let read = reader.read_waiting(rt, server)?;
+        let is_update = matches!(read, Read::Update(_));
+        log.keep(read)?;
+        if !is_update {
+            break;
         }
     }
-    Ok(None)
-}
-
-/// Two threads that apply.
-fn apply_both<N: Named + Send + Sync, R: Threads + Wait + Sync>(
-    rt: &R,
-    alloc: Global,
-    server: &Server<N>,
-    one: &mut SeatOf<N>,
-    two: &mut SeatOf<N>,
-    seed: u64,
-) -> Result<Vec<Taken>, Refusal> {
-    let (a, b) = join(
-        rt,
-        || apply_drawn(rt, alloc, server, one, seed),
-        || apply_drawn(rt, alloc, server, two, seed ^ 1),
-    );
-    both(a, b)
-}
-
-/// Two threads with readers.
-fn subscribe_both<N: Named + Send + Sync, R: Threads + Wait + Sync>(
-    rt: &R,
-    alloc: Global,
-    server: &Server<N>,
-    one: &mut SeatOf<N>,
-    two: &mut SeatOf<N>,
-    seed: u64,
-) -> Result<Vec<Log>, Refusal> {
-    let (a, b) = join(
-        rt,
-        || subscribe_drawn(rt, alloc, server, one, Ending::HangUp, seed ^ 2),
-        || subscribe_drawn(rt, alloc, server, two, Ending::Close, seed ^ 3),
-    );
-    both(a, b)
+    Ok(())
 }
 
 /// The two and the two, side by side.
@@ -254,84 +172,106 @@ fn all_four<N: Named + Send + Sync, R: Threads + Wait + Sync>(
     alloc: Global,
     base: Base,
     seed: u64,
-) -> Result<Done, Refusal>
+) -> Result<Done, Stop>
     requires { base ≡ N.board }
 {
     let server: Server<N> = Server::new(base);
-    let mut a = SeatOf::new(rt, &server)?;
-    let (taken, logs) = beside(rt, alloc, &server, &mut a, seed)?;
-    Ok(Done {
-        taken,
-        logs,
-        retired: a.retire(rt, server),
-    })
+    let mut a = Party::new(rt, alloc, &server, Task::ApplyDrawn(seed))?;
+    beside(rt, alloc, &server, &mut a, seed)?;
+    Ok(a.retire(rt, server))
 }
 
-/// Three more seats, and the four threads at work.
+/// Three more parties, and the four threads at work; what the three did is put beside the first's.
 fn beside<N: Named + Send + Sync, R: Threads + Wait + Sync>(
     rt: &R,
     alloc: Global,
     server: &Server<N>,
-    a: &mut SeatOf<N>,
+    a: &mut Party<N>,
     seed: u64,
-) -> Result<(Vec<Taken>, Vec<Log>), Refusal> {
-    let mut b = SeatOf::new(rt, server)?;
-    let mut c = SeatOf::new(rt, server)?;
-    let mut d = SeatOf::new(rt, server)?;
-    let (taken, logs) = join(
+) -> Result<(), Stop> {
+    let mut b = Party::new(rt, alloc, server, Task::ApplyDrawn(seed ^ 1))?;
+    let mut c = Party::new(
         rt,
-        || apply_both(rt, alloc, server, a, &mut b, seed),
-        || subscribe_both(rt, alloc, server, &mut c, &mut d, seed),
-    );
-    Ok((taken?, logs?))
+        alloc,
+        server,
+        Task::FollowDrawn(Ending::HangUp, seed ^ 2),
+    )?;
+    let mut d = Party::new(
+        rt,
+        alloc,
+        server,
+        Task::FollowDrawn(Ending::Close, seed ^ 3),
+    )?;
+    all_at_once(rt, alloc, server, a, &mut b, &mut c, &mut d)?;
+    Ok(gather_all(a, &mut b, &mut c, &mut d)?)
 }
 
-/// Returns whether the volume that is left is the one after these changes, each answered alike.
-fn is_left(alloc: Global, left: &Volume, taken: &[Taken]) -> Result<bool, Refusal> {
-    let Some(volume) = replayed(alloc, taken)? else {
-        return Ok(false);
-    };
-    let left = format!(in alloc; "{left:?}")?;
-    Ok(left == format!(in alloc; "{volume:?}")?)
+/// Puts what three parties did beside what the first did.
+fn gather_all<N: Named>(
+    a: &mut Party<N>,
+    b: &mut Party<N>,
+    c: &mut Party<N>,
+    d: &mut Party<N>,
+) -> Result<(), Refusal> {
+    a.gather(b)?;
+    a.gather(c)?;
+    a.gather(d)
 }
 
-/// Returns whether each reader of the query at this place was told what these changes tell it.
-fn are_told(
+fn all_at_once<N: Named + Send + Sync, R: Threads + Wait + Sync>(
+    rt: &R,
     alloc: Global,
-    place: usize,
-    query: &str,
-    taken: &[Taken],
-    logs: &[Log],
-) -> Result<bool, Refusal> {
-    let results = results(alloc, query, taken)?;
+    server: &Server<N>,
+    a: &mut Party<N>,
+    b: &mut Party<N>,
+    c: &mut Party<N>,
+    d: &mut Party<N>,
+) -> Result<(), Stop> {
+    let (first, second) = join(
+        rt,
+        || side_by_side(rt, alloc, server, a, b),
+        || side_by_side(rt, alloc, server, c, d),
+    );
+    first?;
+    second
+}
+
+/// Whether each reader of the query at this place was told what its results say.
+fn are_all_told(place: usize, logs: &[Log], results: &[Vec<Entry>]) -> bool {
     for log in logs {
-        if log.query == place && !log.is_told(alloc, &results)? {
-            return Ok(false);
+        if log.query == place && !log.is_told(results) {
+            return false;
         }
     }
-    Ok(true)
+    true
+}
+
+/// Whether each reader of the query at this place was told what these changes tell it.
+fn are_told(alloc: Global, place: usize, query: &str, done: &Done) -> Result<bool, Refusal> {
+    let mut results = Vec::new(alloc);
+    find_results(alloc, query, &done.taken, &mut results)?;
+    Ok(are_all_told(place, &done.logs, &results))
+}
+
+/// Whether the server made as many changes as were accepted, and has the volume after them.
+fn are_made(alloc: Global, done: &Done) -> Result<bool, Refusal> {
+    Ok(
+        done.retired.changes == done.taken.len() as u64
+            && is_left(alloc, &done.retired.volume, &done.taken)?,
+    )
 }
 
 #[test]
 fn drawn_schedules_tell_what_the_reference_tells(rt: HostRuntime) -> Result<(), Fail> {
-    let alloc = rt.alloc();
     for seed in [1, 20, 300] {
-        let base = base(alloc, LIMIT)?;
-        let mut done = all_four::<Brand, _>(&rt, alloc, base, seed)?;
-        done.taken.sort_by_key(|taken| taken.accepted.change)?;
-        assert_eq!(rt; done.logs.len(), 2 * ROUNDS, "seed {seed}");
-        assert_eq!(rt;
-            done.retired.changes,
-            done.taken.len() as u64,
-            "seed {seed}"
-        );
-        assert!(rt;
-            is_left(alloc, &done.retired.volume, &done.taken)?,
-            "seed {seed}"
-        );
+        let base = base(rt.alloc(), LIMIT)?;
+        let mut done = all_four::<Brand, _>(&rt, rt.alloc(), base, seed)?;
+        sort(&mut done.taken)?;
+        assert!(rt; done.logs.len() == 2 * ROUNDS, "seed {seed}");
+        assert!(rt; are_made(rt.alloc(), &done)?, "seed {seed}");
         for (place, query) in QUERIES.iter().enumerate() {
             assert!(rt;
-                are_told(alloc, place, query, &done.taken, &done.logs)?,
+                are_told(rt.alloc(), place, query, &done)?,
                 "seed {seed}, {query}"
             );
         }

@@ -13,6 +13,23 @@ pub struct Draws {
 }
 
 impl Draws {
+    pub fn new(seed: u64) -> Draws {
+        Draws {
+            state: seed,
+            newest: 1,
+        }
+    }
+
+    /// Keeps the newest node. A change that is refused is left out, but for want of memory.
+    pub fn see(&mut self, taken: Result<u64, Refusal>) -> Result<(), Refusal> {
+        match taken {
+            Ok(node) => self.newest = self.newest.max(node),
+            Err(Refusal::NoMemory) => return Err(Refusal::NoMemory),
+            Err(_) => {}
+        }
+        Ok(())
+    }
+
     /// A number below a bound.
     pub fn below(&mut self, bound: u64) -> u64
         requires { 0 < bound }

@@ -3,13 +3,23 @@ ghost use Rattle.std.specs.Prelude.{◌≡◌};
 
 use lq_board::Seat;
 use lq_desk::Read;
-use lq_predicate::Predicate;
+use lq_predicate::read;
 use lq_server::{Accepted, Found, Named, Reader, Retired, Server, Synced};
 use lq_subscription::Identity;
 use lq_value::{Entry, Name, Refusal};
 use lq_volume::{Change, Listing};
+use std::alloc::Global;
 use std::marker::{Model, PhantomData};
 use std::sync::Wait;
+
+/// What an opening asks for.
+#[derive(Clone, Copy)]
+pub struct Asked<'a> {
+    pub query: &'a str,
+    pub port: u64,
+    pub backlog: u64,
+    pub moved: bool,
+}
 
 /// A seat of N's server, which is no reader's.
 pub struct SeatOf<N: Named> {
@@ -83,16 +93,23 @@ impl<N: Named> SeatOf<N> {
         server.apply(rt, &mut self.seat, change)
     }
 
+    /// Opens a query that is read from its text.
     pub fn open<R: Wait>(
         &mut self,
         rt: &R,
+        alloc: Global,
         server: &Server<N>,
-        predicate: &Predicate,
-        port: u64,
-        backlog: u64,
-        moved: bool,
+        asked: &Asked<'_>,
     ) -> Result<ReaderOf<N>, Refusal> {
-        let reader = server.open(rt, &mut self.seat, predicate, port, backlog, moved)?;
+        let predicate = read(alloc, asked.query)?;
+        let reader = server.open(
+            rt,
+            &mut self.seat,
+            &predicate,
+            asked.port,
+            asked.backlog,
+            asked.moved,
+        )?;
         Ok(ReaderOf {
             reader,
             of: PhantomData,
@@ -107,23 +124,28 @@ impl<N: Named> SeatOf<N> {
         server.meet(rt, &mut self.seat, &mut other.seat)
     }
 
+    /// What a query finds that is read from its text.
     pub fn fetch<R: Wait>(
         &mut self,
         rt: &R,
+        alloc: Global,
         server: &Server<N>,
-        predicate: &Predicate,
+        query: &str,
     ) -> Result<Found, Refusal> {
-        server.fetch(rt, &mut self.seat, predicate)
+        let predicate = read(alloc, query)?;
+        server.fetch(rt, &mut self.seat, &predicate)
     }
 
+    /// The node of the entry of this name in the root.
     pub fn find<R: Wait>(
         &mut self,
         rt: &R,
+        alloc: Global,
         server: &Server<N>,
-        dir: u64,
-        name: &Name,
+        name: &str,
     ) -> Result<u64, Refusal> {
-        server.find(rt, &mut self.seat, dir, name)
+        let name = Name::read(alloc, name)?;
+        server.find(rt, &mut self.seat, 1, &name)
     }
 
     pub fn listing<R: Wait>(

@@ -16,6 +16,8 @@ mod followed;
 #[cfg(test)]
 mod held;
 #[cfg(test)]
+mod party;
+#[cfg(test)]
 mod reference;
 #[cfg(test)]
 mod scenarios;

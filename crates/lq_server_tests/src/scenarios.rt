@@ -1,5 +1,5 @@
 //! The scenarios, each as its tables.
-use crate::acts::{Act, Row, Told, Tries};
+use crate::acts::{Act, Call, Heard, Row, Told, Tries};
 use crate::stage::{Scenario, base, play, stage};
 use lq_update::Cause;
 use lq_value::Refusal;
@@ -19,11 +19,11 @@ pub const WINDOW: Scenario = Scenario {
         (Act::Create("e"), Told::Changed(5, 6)),
     ],
     second: &[
-        (Act::ReadWaiting, Told::Update(1, 1, 2)),
-        (Act::ReadWaiting, Told::Update(2, 2, 3)),
-        (Act::ReadWaiting, Told::Update(3, 3, 4)),
-        (Act::ReadWaiting, Told::Update(4, 4, 5)),
-        (Act::ReadWaiting, Told::Update(5, 5, 6)),
+        (Act::ReadWaiting, Told::Heard(Heard::Update(1, 1, 2))),
+        (Act::ReadWaiting, Told::Heard(Heard::Update(2, 2, 3))),
+        (Act::ReadWaiting, Told::Heard(Heard::Update(3, 3, 4))),
+        (Act::ReadWaiting, Told::Heard(Heard::Update(4, 4, 5))),
+        (Act::ReadWaiting, Told::Heard(Heard::Update(5, 5, 6))),
     ],
     after: &[
         (Act::Sync, Told::Live(5, 0, 0)),
@@ -33,7 +33,7 @@ pub const WINDOW: Scenario = Scenario {
         (Act::Listing(2, "a"), Told::Is(true)),
         (Act::HangUp, Told::Done),
         (Act::Create("f"), Told::Changed(6, 7)),
-        (Act::Read, Told::End(6, 5, Cause::HungUp)),
+        (Act::Read, Told::Heard(Heard::End(6, 5, Cause::HungUp))),
         (Act::Finish, Told::Done),
     ],
 };
@@ -41,13 +41,13 @@ pub const WINDOW: Scenario = Scenario {
 #[test]
 fn scenario_threaded_window(rt: HostRuntime) -> Result<(), Fail> {
     let base = base(rt.alloc(), 100)?;
-    let retired = stage::<Brand, _>(&rt, rt.alloc(), base, Tries::One, &WINDOW)?;
-    assert!(rt; retired.changes == 6);
+    let done = stage::<Brand, _>(&rt, rt.alloc(), base, Tries::One, &WINDOW)?;
+    assert!(rt; done.retired.changes == 6);
     Ok(())
 }
 
 /// A dropped reader leaves its slot taken, another is closed once, a live one isn't finished.
-const DROPS: [(Act, Told); 13] = [
+const DROPS: &[Call] = &[
     (Act::Open("name=*", 1, 1), Told::Number(1)),
     (Act::Create("a"), Told::Changed(1, 2)),
     (Act::Create("b"), Told::Changed(2, 3)),
@@ -55,54 +55,54 @@ const DROPS: [(Act, Told); 13] = [
     (Act::Open("name=*", 1, 1), Told::Number(2)),
     (Act::Close, Told::Number(3)),
     (Act::Close, Told::Refused(Refusal::NotOpen)),
-    (Act::Read, Told::End(1, 3, Cause::Closed)),
+    (Act::Read, Told::Heard(Heard::End(1, 3, Cause::Closed))),
     (Act::Finish, Told::Done),
     (Act::Open("name=*", 1, 1), Told::Number(2)),
     (Act::Finish, Told::Refused(Refusal::StillOpen)),
     (Act::Sync, Told::Live(3, 0, 0)),
-    (Act::Read, Told::Empty),
+    (Act::Read, Told::Heard(Heard::Empty)),
 ];
 
-const OPENINGS: [(Act, Told); 3] = [
+const OPENINGS: &[Call] = &[
     (Act::Open("name=*", 1, 1), Told::Number(1)),
     (Act::Open("name=*", 1, 1), Told::Number(2)),
     (Act::Open("name=*", 1, 1), Told::Refused(Refusal::Exhausted)),
 ];
 
 /// The first slot is used again after a reader that hung up.
-const AFTER_HANG_UP: [(Act, Told); 10] = [
+const AFTER_HANG_UP: &[Call] = &[
     (Act::Open("name=*", 4, 8), Told::Number(1)),
     (Act::HangUp, Told::Done),
     (Act::Create("a"), Told::Changed(1, 2)),
-    (Act::Read, Told::End(1, 0, Cause::HungUp)),
+    (Act::Read, Told::Heard(Heard::End(1, 0, Cause::HungUp))),
     (Act::Finish, Told::Done),
     (Act::Open("name=*", 4, 8), Told::Number(1)),
     (Act::Create("b"), Told::Changed(2, 3)),
-    (Act::Read, Told::Update(1, 2, 3)),
+    (Act::Read, Told::Heard(Heard::Update(1, 2, 3))),
     (Act::Sync, Told::Live(2, 0, 0)),
-    (Act::Read, Told::Empty),
+    (Act::Read, Told::Heard(Heard::Empty)),
 ];
 
 /// And after one that was closed and then hung up.
-const AFTER_CLOSE: [(Act, Told); 10] = [
+const AFTER_CLOSE: &[Call] = &[
     (Act::Open("name=*", 4, 8), Told::Number(1)),
     (Act::Close, Told::Number(0)),
     (Act::HangUp, Told::Done),
-    (Act::Read, Told::End(1, 0, Cause::Closed)),
+    (Act::Read, Told::Heard(Heard::End(1, 0, Cause::Closed))),
     (Act::Finish, Told::Done),
     (Act::Open("name=*", 4, 8), Told::Number(1)),
     (Act::Create("a"), Told::Changed(1, 2)),
-    (Act::Read, Told::Update(1, 1, 2)),
+    (Act::Read, Told::Heard(Heard::Update(1, 1, 2))),
     (Act::Sync, Told::Live(1, 0, 0)),
-    (Act::Read, Told::Empty),
+    (Act::Read, Told::Heard(Heard::Empty)),
 ];
 
 #[test]
 fn scenario_slot_reuse_on_server(rt: HostRuntime) -> Result<(), Fail> {
     let first = base(rt.alloc(), 100)?;
     let second = base(rt.alloc(), 100)?;
-    play::<Brand, _>(&rt, rt.alloc(), first, &AFTER_HANG_UP)?;
-    play::<Brand, _>(&rt, rt.alloc(), second, &AFTER_CLOSE)?;
+    play::<Brand, _>(&rt, rt.alloc(), first, AFTER_HANG_UP)?;
+    play::<Brand, _>(&rt, rt.alloc(), second, AFTER_CLOSE)?;
     Ok(())
 }
 
@@ -110,7 +110,7 @@ fn scenario_slot_reuse_on_server(rt: HostRuntime) -> Result<(), Fail> {
 fn scenario_seats_and_drops(rt: HostRuntime) -> Result<(), Fail> {
     let first = base(rt.alloc(), 100)?;
     let second = base(rt.alloc(), 2)?;
-    play::<Brand, _>(&rt, rt.alloc(), first, &DROPS)?;
-    play::<Brand, _>(&rt, rt.alloc(), second, &OPENINGS)?;
+    play::<Brand, _>(&rt, rt.alloc(), first, DROPS)?;
+    play::<Brand, _>(&rt, rt.alloc(), second, OPENINGS)?;
     Ok(())
 }

@@ -1,80 +1,34 @@
 //! Two threads that write, and one that writes while another hangs up.
 ghost use Rattle.std.specs.Prelude.{◌≡◌};
 
-use crate::acts::{Asked, file, open};
-use crate::held::{ReaderOf, SeatOf};
-use crate::stage::{base, both};
+use crate::acts::{Act, Stop, apply};
+use crate::held::{Asked, ReaderOf, SeatOf};
+use crate::party::{Done, Party, Task, side_by_side};
+use crate::reference::{Taken, sort};
+use crate::stage::base;
 use lq_desk::Read;
 use lq_server::{Base, Named, Server};
 use lq_update::{Cause, Mark};
 use lq_value::Refusal;
-use lq_volume::Change;
 use std::alloc::Global;
 use std::marker::Brand;
 use std::sync::Wait;
 use std::test::Fail;
-use std::thread::{Threads, join};
+use std::thread::Threads;
 
-/// What a writer applies.
+/// What was known after two writers: `latest` of each seat, and what their meeting gave.
 #[derive(Clone, Copy)]
-enum Writing {
-    /// 100 creates, under names that begin with this text.
-    Creates(&'static str),
-    /// 100 times one and the same write of node 2.
-    Writes,
-}
-
-/// What two writers were answered, and what was known after both: `latest` of each seat, what their
-/// meeting gave, and the changes at the end.
-#[derive(Drop)]
-struct Written {
-    numbers: Vec<u64>,
+struct Known {
     met: u64,
     one: u64,
     two: u64,
-    changes: u64,
 }
 
-/// A seat's changes one after another; their numbers.
-fn write<N: Named, R: Wait>(
-    rt: &R,
-    alloc: Global,
-    server: &Server<N>,
-    seat: &mut SeatOf<N>,
-    writing: Writing,
-) -> Result<Vec<u64>, Refusal> {
-    let mut numbers = Vec::new(alloc);
-    for k in 0..100 {
-        numbers.push(write_one(rt, alloc, server, seat, writing, k)?)?;
-    }
-    Ok(numbers)
-}
-
-fn write_one<N: Named, R: Wait>(
-    rt: &R,
-    alloc: Global,
-    server: &Server<N>,
-    seat: &mut SeatOf<N>,
-    writing: Writing,
-    k: u64,
-) -> Result<u64, Refusal> {
-    let change = change(alloc, writing, k)?;
-    let accepted = seat.apply(rt, server, &change)?;
-    Ok(accepted.change)
-}
-
-fn change(alloc: Global, writing: Writing, k: u64) -> Result<Change, Refusal> {
-    match writing {
-        Writing::Creates(start) => {
-            let name = format!(in alloc; "{start}{k}")?;
-            file(alloc, &name)
-        }
-        Writing::Writes => Ok(Change::Write {
-            node: 2,
-            size: 5,
-            time: 6,
-        }),
-    }
+/// What two writers did, and what was known then.
+#[derive(Drop)]
+struct Written {
+    done: Done,
+    known: Known,
 }
 
 /// Two threads write at one server. With `Writes` there is a file first.
@@ -82,78 +36,86 @@ fn write_side_by_side<N: Named + Send + Sync, R: Threads + Wait + Sync>(
     rt: &R,
     alloc: Global,
     base: Base,
-    first: Writing,
-    second: Writing,
-) -> Result<Written, Refusal>
+    first: Task,
+    second: Task,
+) -> Result<Written, Stop>
     requires { base ≡ N.board }
 {
     let server: Server<N> = Server::new(base);
-    let mut one = SeatOf::new(rt, &server)?;
-    let mut written = write_beside(rt, alloc, &server, &mut one, first, second)?;
-    written.changes = one.retire(rt, server).changes;
-    Ok(written)
+    let mut one = Party::new(rt, alloc, &server, first)?;
+    let known = write_beside(rt, alloc, &server, &mut one, second)?;
+    let done = one.retire(rt, server);
+    Ok(Written { done, known })
 }
 
-/// One more seat, and the two threads at work. The changes at the end aren't known yet.
+/// One more party, and the two threads at work.
 fn write_beside<N: Named + Send + Sync, R: Threads + Wait + Sync>(
     rt: &R,
     alloc: Global,
     server: &Server<N>,
-    one: &mut SeatOf<N>,
-    first: Writing,
-    second: Writing,
-) -> Result<Written, Refusal> {
-    if let Writing::Writes = first {
-        write_one(rt, alloc, server, one, Writing::Creates("a"), 0)?;
+    one: &mut Party<N>,
+    second: Task,
+) -> Result<Known, Stop> {
+    if let Task::Writes = second {
+        apply(rt, alloc, server, &mut one.seat, Act::Create("a0"))?;
     }
-    let mut two = SeatOf::new(rt, server)?;
-    let numbers = both_write(rt, alloc, server, one, &mut two, first, second)?;
-    let met = one.meet(rt, server, &mut two);
-    Ok(Written {
-        numbers,
-        met,
-        one: one.latest(server),
-        two: two.latest(server),
-        changes: 0,
-    })
+    let mut two = Party::new(rt, alloc, server, second)?;
+    side_by_side(rt, alloc, server, one, &mut two)?;
+    one.gather(&mut two)?;
+    Ok(known_by(rt, server, &mut one.seat, &mut two.seat))
 }
 
-fn both_write<N: Named + Send + Sync, R: Threads + Wait + Sync>(
+fn known_by<N: Named, R: Wait>(
     rt: &R,
-    alloc: Global,
     server: &Server<N>,
     one: &mut SeatOf<N>,
     two: &mut SeatOf<N>,
-    first: Writing,
-    second: Writing,
-) -> Result<Vec<u64>, Refusal> {
-    let (a, b) = join(
-        rt,
-        || write(rt, alloc, server, one, first),
-        || write(rt, alloc, server, two, second),
-    );
-    let mut numbers = both(a, b)?;
-    numbers.sort()?;
-    Ok(numbers)
+) -> Known {
+    Known {
+        met: one.meet(rt, server, two),
+        one: one.latest(server),
+        two: two.latest(server),
+    }
 }
 
-/// Returns whether these are the numbers from `first` to `last`, each once.
-fn are_numbers(numbers: &[u64], first: u64, last: u64) -> bool {
-    numbers.iter().copied().eq(first..=last)
+/// Whether the changes have the numbers from `first` to `last`, each once and in order.
+fn are_numbers(taken: &[Taken], first: u64, last: u64) -> bool {
+    let mut next = first;
+    for one in taken {
+        if one.accepted.change != next {
+            return false;
+        }
+        next = next.saturating_add(1);
+    }
+    next == last.saturating_add(1)
+}
+
+/// Whether each count of the changes is this number.
+fn is_known(written: &Written, number: u64) -> bool {
+    let known = written.known;
+    known.met == number
+        && known.one == number
+        && known.two == number
+        && written.done.retired.changes == number
 }
 
 #[test]
 fn scenario_two_writers(rt: HostRuntime) -> Result<(), Fail> {
     // the writings, the first number and the last
     for (first, second, from, to) in [
-        (Writing::Creates("a"), Writing::Creates("b"), 1, 200),
-        (Writing::Writes, Writing::Writes, 2, 201),
+        (Task::Creates("a"), Task::Creates("b"), 1, 200),
+        (Task::Writes, Task::Writes, 2, 201),
     ] {
         let base = base(rt.alloc(), 1000)?;
-        let written = write_side_by_side::<Brand, _>(&rt, rt.alloc(), base, first, second)?;
-        assert!(rt; are_numbers(&written.numbers, from, to));
-        assert!(rt; written.met == to && written.one == to && written.two == to);
-        assert!(rt; written.changes == to);
+        let mut written = write_side_by_side::<Brand, _>(&rt, rt.alloc(), base, first, second)?;
+        sort(&mut written.done.taken)?;
+        assert!(rt; are_numbers(&written.done.taken, from, to), "to {to}");
+        let known = written.known;
+        assert!(rt;
+            known.met == to && known.one == to && known.two == to,
+            "to {to}"
+        );
+        assert!(rt; written.done.retired.changes == to, "to {to}");
     }
     Ok(())
 }
@@ -199,40 +161,46 @@ fn race<N: Named + Send + Sync, R: Threads + Wait + Sync>(
     rt: &R,
     alloc: Global,
     base: Base,
-) -> Result<Raced, Refusal>
+) -> Result<Raced, Stop>
     requires { base ≡ N.board }
 {
     let server: Server<N> = Server::new(base);
-    let mut seat = SeatOf::new(rt, &server)?;
-    race_by(rt, alloc, &server, &mut seat)
+    let mut one = Party::new(rt, alloc, &server, Task::Creates("a"))?;
+    race_by(rt, alloc, &server, &mut one)
 }
 
 fn race_by<N: Named + Send + Sync, R: Threads + Wait + Sync>(
     rt: &R,
     alloc: Global,
     server: &Server<N>,
-    seat: &mut SeatOf<N>,
-) -> Result<Raced, Refusal> {
-    let mut reader = open(rt, alloc, server, seat, &EVERY)?;
-    hang_up_beside(rt, alloc, server, seat, &mut reader)?;
-    reader.pump(rt, server);
-    read_out(rt, &mut reader)
+    one: &mut Party<N>,
+) -> Result<Raced, Stop> {
+    let mut two = Party::new(rt, alloc, server, Task::HangUp)?;
+    race_both(rt, alloc, server, one, &mut two)
 }
 
-fn hang_up_beside<N: Named + Send + Sync, R: Threads + Wait + Sync>(
+fn race_both<N: Named + Send + Sync, R: Threads + Wait + Sync>(
     rt: &R,
     alloc: Global,
     server: &Server<N>,
-    seat: &mut SeatOf<N>,
+    one: &mut Party<N>,
+    two: &mut Party<N>,
+) -> Result<Raced, Stop> {
+    two.reader = Some(one.seat.open(rt, alloc, server, &EVERY)?);
+    side_by_side(rt, alloc, server, one, two)?;
+    match &mut two.reader {
+        Some(reader) => Ok(pump_out(rt, server, reader)?),
+        None => Err(Stop::from(Refusal::OutOfStep)),
+    }
+}
+
+fn pump_out<N: Named, R: Wait>(
+    rt: &R,
+    server: &Server<N>,
     reader: &mut ReaderOf<N>,
-) -> Result<(), Refusal> {
-    let (written, ()) = join(
-        rt,
-        || write(rt, alloc, server, seat, Writing::Creates("a")),
-        || reader.hang_up(server),
-    );
-    written?;
-    Ok(())
+) -> Result<Raced, Refusal> {
+    reader.pump(rt, server);
+    read_out(rt, reader)
 }
 
 #[test]
