@@ -10,5 +10,5 @@ mod message;
 mod reply;
 mod response;
 
-pub use reply::put_reply;
+pub use reply::{put_event_reply, put_reply};
 pub use response::Response;

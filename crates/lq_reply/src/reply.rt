@@ -8,6 +8,7 @@ ghost use Rattle.lq_value.specs.Refusal.{IsRefusedBy};
 ghost use Rattle.lq_compact.specs.Front.{Extends};
 ghost use Rattle.lq_desk.specs.Reply.{answer_of};
 ghost use Rattle.lq_reply.specs.Answer.{response_of};
+ghost use Rattle.lq_reply.specs.Response.{Answers};
 ghost use Rattle.lq_lines.specs.Lines.{Begins};
 ghost use Rattle.lq_reply.specs.Reply.{answer_data, applied_data, entry_data, fetched_data, found_data, opened_data, place_of, rebuilt_data, refusal_data, reply_text, response_data, shut_data, slot_data};
 
@@ -28,6 +29,22 @@ pub fn put_reply(out: &mut Vec<u8>, response: &Response) -> Result<(), Refusal>
     ensures err { OnErr result (Begins out.new.items out.old.items) }
 {
     put_response(out, response)?;
+    put_bytes(out, b"\n")?;
+    Ok(())
+}
+
+/// Puts the text of what an event of this slot was answered, and LF, behind `out`. The slot is 0
+/// where the event names none.
+///
+/// The text is that of `Response::Reply`, without a response that it would be moved into. Refused:
+/// `NoMemory`.
+pub fn put_event_reply(out: &mut Vec<u8>, slot: u64, reply: &Reply) -> Result<(), Refusal>
+    ensures refused { IsRefusedBy result None }
+    ensures ok { OnOk result (out.new.items
+        ≡ out.old.items ++ reply_text (Answers slot (answer_of reply.now))) }
+    ensures err { OnErr result (Begins out.new.items out.old.items) }
+{
+    put_answer(out, slot, reply)?;
     put_bytes(out, b"\n")?;
     Ok(())
 }

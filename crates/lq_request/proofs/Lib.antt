@@ -1,1 +1,2 @@
 pub mod RequestLemmas
+pub mod PlainLemmas

@@ -5,6 +5,7 @@ ghost use Rattle.lq_value.specs.declared.refusal.Refusal.TheVariants.{NoMemory};
 ghost use Rattle.lq_request.specs.Asked.{asked, given};
 ghost use Rattle.lq_request.specs.Request.{asks_set, value_for, asked_in, asked_of, asked_or, question_for, question_from, question_in};
 
+use crate::plain::plain_read;
 use crate::question::Question;
 use crate::request::{Request, request_in};
 use crate::scratch::{RecentAttrs, Scratch};
@@ -12,7 +13,7 @@ use json::Value;
 use lq_predicate::read;
 use lq_value::{Name, Refusal, View};
 use lq_volume::Change;
-use lq_world::Event;
+use lq_world::{Act, Event};
 use std::alloc::Global;
 
 /// What a line asks, the line being without its LF and CR.
@@ -25,6 +26,12 @@ pub fn question_in(alloc: Global, scratch: &mut Scratch, line: &[u8]) -> Result<
     ensures value { IfOk result (λ question. question_in line.now ≡ Ok question) }
     ensures refused { IfErr result (λ e. (e ≡ NoMemory) ⊎ (question_in line.now ≡ Err e)) }
 {
+    if let Some(slot) = plain_read(line) {
+        return Ok(Question::Event(Event::At {
+            slot,
+            act: Act::Read,
+        }));
+    }
     let value = value_in(alloc, &mut scratch.json, line)?;
     Ok(question_of(alloc, &mut scratch.attrs, &value)?)
 }
@@ -68,7 +75,8 @@ fn question_for(
     request: &Request<'_>,
 ) -> Result<Question, Refusal>
     ensures value { IfOk result (λ question. question_for (asked request.now) ≡ Ok question) }
-    ensures refused { IfErr result (λ e. (e ≡ NoMemory) ⊎ (question_for (asked request.now) ≡ Err e)) }
+    ensures refused { IfErr result (λ e. (e ≡ NoMemory)
+        ⊎ (question_for (asked request.now) ≡ Err e)) }
 {
     match request {
         Request::Create {

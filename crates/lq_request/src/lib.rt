@@ -5,6 +5,7 @@
 #![tactic(auto)]
 
 mod asking;
+mod plain;
 mod question;
 mod request;
 mod scratch;

@@ -1,12 +1,13 @@
 //! A script's session: a desk, and what was rebuilt of each slot, that answer lines.
-ghost use Rattle.std.specs.Prelude.{◌≡◌, IfOk, IfErr, OnOk};
+ghost use Rattle.std.specs.Prelude.{◌≡◌, ◌++◌, None, IfErr, OnOk, OnErr};
+ghost use Rattle.lq_value.specs.Refusal.{IsRefusedBy};
 ghost use Rattle.lq_value.specs.declared.refusal.Refusal.TheVariants.{NoMemory};
 ghost use Rattle.lq_desk.specs.Turn.{kept_turn_outcome};
 ghost use Rattle.lq_volume.specs.Result.{result_of};
-ghost use Rattle.lq_reply.specs.Answer.{response_of};
-ghost use Rattle.lq_request.specs.Request.{question_in};
-ghost use Rattle.lq_reply.specs.Response.{Fetched};
-ghost use Rattle.lq_script.specs.Answered.{answered, found_in, noted, rebuilt, responds, shown_in, slot_of};
+ghost use Rattle.lq_lines.specs.Lines.{Begins};
+ghost use Rattle.lq_reply.specs.Response.{Fetched, Refuses};
+ghost use Rattle.lq_reply.specs.Reply.{reply_text};
+ghost use Rattle.lq_script.specs.Answered.{found_in, noted, rebuilt, responds, shown_in, slot_of};
 ghost use Rattle.lq_script.specs.Folds.{fold_at};
 ghost use Rattle.lq_script.specs.Session.{session_with};
 ghost use Rattle.lq_script.specs.Script.{kept_volume};
@@ -15,7 +16,7 @@ use crate::rebuilds::{note, rebuild_at};
 use lq_desk::{Desk, Event, Reply};
 use lq_lines::Responder;
 use lq_predicate::Predicate;
-use lq_reply::{Response, put_reply};
+use lq_reply::{Response, put_event_reply, put_reply};
 use lq_request::{Question, Scratch, question_in};
 use lq_update::{IndexedRebuild, results_rise};
 use lq_value::{Name, Refusal};
@@ -57,61 +58,46 @@ impl Session {
         }
     }
 
-    // What a line is answered: that of its question, or why it asks nothing.
-    fn answer(&mut self, line: &[u8]) -> Result<Response, Refusal>
-        ensures response { IfOk result (λ response. response_of response ≡
-            (answered kept_turn_outcome kept_volume
-            (session_with self.old.desk self.old.rebuilds.items) (question_in line.now)).0) }
-        ensures after { OnOk result (session_with self.new.desk self.new.rebuilds.items ≡
-            (answered kept_turn_outcome kept_volume
-            (session_with self.old.desk self.old.rebuilds.items) (question_in line.now)).1) }
-        ensures memory { IfErr result (λ e. e ≡ NoMemory) }
-    {
-        match question_in(self.alloc, &mut self.scratch, line) {
-            Ok(question) => Ok(self.respond_to(&question)?),
-            Err(Refusal::NoMemory) => Err(Refusal::NoMemory),
-            Err(refusal) => Ok(Response::Refused(refusal)),
-        }
-    }
-
-    fn respond_to(&mut self, question: &Question) -> Result<Response, Refusal>
-        ensures response { IfOk result (λ response. response_of response ≡
-            (responds kept_turn_outcome kept_volume
+    // Puts the reply to a question behind `out`.
+    fn respond_to(&mut self, question: &Question, out: &mut Vec<u8>) -> Result<(), Refusal>
+        ensures ok { OnOk result (out.new.items ≡ out.old.items
+            ++ reply_text (responds kept_turn_outcome kept_volume
             (session_with self.old.desk self.old.rebuilds.items) question.now).0) }
         ensures after { OnOk result (session_with self.new.desk self.new.rebuilds.items ≡
             (responds kept_turn_outcome kept_volume
             (session_with self.old.desk self.old.rebuilds.items) question.now).1) }
+        ensures err { OnErr result (Begins out.new.items out.old.items) }
         ensures memory { IfErr result (λ e. e ≡ NoMemory) }
     {
         match question {
-            Question::Event(event) => Ok(self.carry_out(event)?),
-            Question::Find { dir, name } => Ok(found_in(self.desk.volume(), *dir, name)),
-            Question::Entry { node } => Ok(shown_in(self.desk.volume(), *node)?),
-            Question::Fetch { predicate } => Ok(fetched_in(self.desk.volume(), predicate)?),
-            Question::Rebuilt { slot } => Ok(rebuilt_in(&self.rebuilds, *slot)?),
+            Question::Event(event) => self.carry_out(event, out),
+            Question::Find { dir, name } => put_found(out, self.desk.volume(), *dir, name),
+            Question::Entry { node } => put_shown(out, self.desk.volume(), *node),
+            Question::Fetch { predicate } => put_fetched(out, self.desk.volume(), predicate),
+            Question::Rebuilt { slot } => put_rebuilt(out, &self.rebuilds, *slot),
         }
     }
 
-    // Carries out an event, and notes what it was answered for its slot.
-    fn carry_out(&mut self, event: &Event) -> Result<Response, Refusal>
-        ensures response { IfOk result (λ response. response_of response ≡
-            (noted (slot_of event.now) self.old.rebuilds.items
+    // Carries out an event, notes what it was answered for its slot, and puts that behind `out`.
+    fn carry_out(&mut self, event: &Event, out: &mut Vec<u8>) -> Result<(), Refusal>
+        ensures ok { OnOk result (out.new.items ≡ out.old.items
+            ++ reply_text (noted (slot_of event.now) self.old.rebuilds.items
             (kept_turn_outcome self.old.desk event.now)).0) }
         ensures after { OnOk result (session_with self.new.desk self.new.rebuilds.items ≡
             (noted (slot_of event.now) self.old.rebuilds.items
             (kept_turn_outcome self.old.desk event.now)).1) }
+        ensures err { OnErr result (Begins out.new.items out.old.items) }
         ensures memory { IfErr result (λ e. e ≡ NoMemory) }
     {
         results_rise();
         let _ = self.desk.volume().changes();
-        match self.desk.turn(event) {
-            Reply::Refused(Refusal::NoMemory) => Err(Refusal::NoMemory),
-            reply => {
-                let slot = slot_of(event);
-                note(self.alloc, &mut self.rebuilds, slot, &reply)?;
-                Ok(Response::Reply { slot, reply })
-            }
+        let reply = self.desk.turn(event);
+        if let Reply::Refused(Refusal::NoMemory) = &reply {
+            return Err(Refusal::NoMemory);
         }
+        let slot = slot_of(event);
+        note(self.alloc, &mut self.rebuilds, slot, &reply)?;
+        put_event_reply(out, slot, &reply)
     }
 }
 
@@ -125,54 +111,81 @@ fn slot_of(event: &Event) -> u64
     }
 }
 
-// What has a place.
-fn found_in(volume: &Volume, dir: u64, name: &Name) -> Response
-    ensures { response_of result ≡ found_in volume.now dir name.now }
+// Puts why a line isn't carried out behind `out`. It stands apart, as all that answers no event
+// does: a call clears places for its values, and most lines are events.
+#[inline(never)]
+fn put_refusal(out: &mut Vec<u8>, refusal: Refusal) -> Result<(), Refusal>
+    ensures refused { IsRefusedBy result None }
+    ensures ok { OnOk result
+        (out.new.items ≡ out.old.items ++ reply_text (Refuses refusal)) }
+    ensures err { OnErr result (Begins out.new.items out.old.items) }
+{
+    put_reply(out, &Response::Refused(refusal))
+}
+
+// Puts what has a place behind `out`.
+#[inline(never)]
+fn put_found(out: &mut Vec<u8>, volume: &Volume, dir: u64, name: &Name) -> Result<(), Refusal>
+    ensures refused { IsRefusedBy result None }
+    ensures ok { OnOk result (out.new.items
+        ≡ out.old.items ++ reply_text (found_in volume.now dir name.now)) }
+    ensures err { OnErr result (Begins out.new.items out.old.items) }
 {
     match volume.find(dir, name) {
-        Ok(node) => Response::Found { node },
-        Err(refusal) => Response::Refused(refusal),
+        Ok(node) => put_reply(out, &Response::Found { node }),
+        Err(refusal) => put_refusal(out, refusal),
     }
 }
 
-// The entry of a node.
-fn shown_in(volume: &Volume, node: u64) -> Result<Response, Refusal>
-    ensures response { IfOk result (λ response. response_of response ≡ shown_in volume.now node) }
-    ensures memory { IfErr result (λ e. e ≡ NoMemory) }
+// Puts the entry of a node behind `out`.
+#[inline(never)]
+fn put_shown(out: &mut Vec<u8>, volume: &Volume, node: u64) -> Result<(), Refusal>
+    ensures refused { IsRefusedBy result None }
+    ensures ok { OnOk result (out.new.items
+        ≡ out.old.items ++ reply_text (shown_in volume.now node)) }
+    ensures err { OnErr result (Begins out.new.items out.old.items) }
 {
     match volume.listing(node) {
-        Ok(listing) => Ok(Response::Listed { node, listing }),
+        Ok(listing) => put_reply(out, &Response::Listed { node, listing }),
         Err(Refusal::NoMemory) => Err(Refusal::NoMemory),
-        Err(refusal) => Ok(Response::Refused(refusal)),
+        Err(refusal) => put_refusal(out, refusal),
     }
 }
 
-// The entries that a predicate holds of.
-fn fetched_in(volume: &Volume, predicate: &Predicate) -> Result<Response, Refusal>
-    ensures response { IfOk result (λ response. response_of response
-        ≡ Fetched volume.now.number (result_of predicate.now volume.now)) }
-    ensures memory { IfErr result (λ e. e ≡ NoMemory) }
+// Puts the entries that a predicate holds of behind `out`.
+#[inline(never)]
+fn put_fetched(out: &mut Vec<u8>, volume: &Volume, predicate: &Predicate) -> Result<(), Refusal>
+    ensures refused { IsRefusedBy result None }
+    ensures ok { OnOk result (out.new.items ≡ out.old.items
+        ++ reply_text (Fetched volume.now.number (result_of predicate.now volume.now))) }
+    ensures err { OnErr result (Begins out.new.items out.old.items) }
 {
-    Ok(Response::Fetched {
-        at: volume.changes(),
-        result: volume.fetch(predicate)?,
-    })
+    let at = volume.changes();
+    let result = volume.fetch(predicate)?;
+    put_reply(out, &Response::Fetched { at, result })
 }
 
-// What was rebuilt of a slot.
-fn rebuilt_in(rebuilds: &[Option<IndexedRebuild>], slot: u64) -> Result<Response, Refusal>
-    ensures response { IfOk result (λ response. response_of response
-        ≡ rebuilt (fold_at rebuilds.now slot)) }
-    ensures memory { IfErr result (λ e. e ≡ NoMemory) }
+// Puts what was rebuilt of a slot behind `out`.
+#[inline(never)]
+fn put_rebuilt(
+    out: &mut Vec<u8>,
+    rebuilds: &[Option<IndexedRebuild>],
+    slot: u64,
+) -> Result<(), Refusal>
+    ensures refused { IsRefusedBy result None }
+    ensures ok { OnOk result (out.new.items
+        ≡ out.old.items ++ reply_text (rebuilt (fold_at rebuilds.now slot))) }
+    ensures err { OnErr result (Begins out.new.items out.old.items) }
 {
-    match rebuild_at(rebuilds, slot) {
-        None => Ok(Response::Refused(Refusal::NotOpen)),
-        Some(rebuild) => Ok(Response::Rebuilt {
-            change: rebuild.last_change(),
-            result: rebuild.entries()?,
-            settled: rebuild.is_settled(),
-        }),
-    }
+    let Some(rebuild) = rebuild_at(rebuilds, slot) else {
+        return put_refusal(out, Refusal::NotOpen);
+    };
+    let response = Response::Rebuilt {
+        change: rebuild.last_change(),
+        result: rebuild.entries()?,
+        settled: rebuild.is_settled(),
+    };
+    put_reply(out, &response)
 }
 
 impl Responder for Session {
@@ -187,11 +200,15 @@ impl Responder for Session {
     ghost rules = { kept_rules };
 
     fn respond(&mut self, line: &[u8], out: &mut Vec<u8>) -> Result<(), Refusal> {
-        let response = self.answer(line)?;
-        put_reply(out, &response)
+        let asked = question_in(self.alloc, &mut self.scratch, line);
+        match &asked {
+            Ok(question) => self.respond_to(question, out),
+            Err(Refusal::NoMemory) => Err(Refusal::NoMemory),
+            Err(refusal) => put_refusal(out, *refusal),
+        }
     }
 
     fn respond_long(&self, out: &mut Vec<u8>) -> Result<(), Refusal> {
-        put_reply(out, &Response::Refused(Refusal::LongLine))
+        put_refusal(out, Refusal::LongLine)
     }
 }
