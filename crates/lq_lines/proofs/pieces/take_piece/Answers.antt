@@ -1,8 +1,27 @@
-use Rattle.std.proofs.Common.{◌+◌, length, arith, drop, sym, inl, inr}
+use Rattle.std.proofs.Common.{◌≡◌, ◌∙◌, ◌<◌, ◌+◌, ◌++◌, ◌∷◌, [], ℕ, List, Option, length, get_or, arith, take, drop, drop-cons, refl, sym, subst, inl, inr}
+use Rattle.lq_lines.specs.declared.intake.Intake.{Intake}
+use Rattle.lq_lines.specs.Lines.{Rules}
+use Rattle.lq_lines.specs.Progress.{Began, Stands}
 use Rattle.lq_lines.proofs.ResultLemmas.{on_err_any}
 use Rattle.lq_lines.proofs.ProgressLemmas.{no_bytes, stands_ahead, stands_run, stopped_at, stopped_in}
 use Rattle.lq_lines.proofs.pieces.take_piece.Goals as goal
 use Rattle.lq_lines.proofs.pieces.take_piece.Goals.{then-intake-ge-MAX_LINES-via-then-intake-ge-MAX_LINES, then-intake-ge-MAX_LINES-via-else-intake-ge-MAX_LINES+then-intake-ge-MAX_BYTES}
+
+-- the byte at a place is the next one
+next_byte : (xs : List ℕ) (i b : ℕ) → i < length xs → get_or xs i 0 ≡ b
+    → b ∷ [] ≡ take 1 (drop i xs)
+next_byte xs i b h e = rw (drop-cons xs i 0 h, e) refl
+
+-- a run over a piece, one byte further
+stands_next : {State : Type 0} (rules : Rules State) (began : Began State) (given xs : List ℕ)
+    (i b : ℕ) (w : Option (List ℕ)) (state : State) (intake : Intake) (out : List ℕ)
+    → i < length xs → get_or xs i 0 ≡ b
+    → Stands rules began (given ++ take i xs ++ b ∷ []) w state intake out
+    → Stands rules began (given ++ take (i + 1) xs) w state intake out
+stands_next rules began given xs i b w state intake out h e s =
+    stands_ahead rules began given xs i 1 w state intake out
+    (subst (λ l. Stands rules began (given ++ take i xs ++ l) w state intake out)
+    (next_byte xs i b h e) s)
 
 pub returns-then-intake-ge-MAX_LINES-clause-err : goal.returns-then-intake-ge-MAX_LINES-clause-err
 returns-then-intake-ge-MAX_LINES-clause-err g c = λ began given s.
@@ -51,4 +70,19 @@ loop-at-preserved g c = record {
       (omega (arith, c.run_at-run.ensures.most, c.if-intake-ge-MAX_BYTES.false))));
   works = c.loop-at.invariant.works;
   bytes = omega (arith, c.in_ok-keep.ensures.bytes, c.loop-at.invariant.bytes);
+}
+
+pub loop-at-preserved-then-is_empty : goal.loop-at-preserved-then-is_empty
+loop-at-preserved-then-is_empty g c = record {
+  within = omega (arith, c.loop-at-test.true);
+  stands = λ began given s.
+      stands_next g.S.Responder.rules began given c.args.piece.now c.loop-at.at 10 _ _ _ _
+      c.loop-at-test.true
+      (c.run_at-run.ensures.stops (no_bytes c.run_at-run.result.now (sym c.if-is_empty.ensures)))
+      (c.in_ok-end_line.ensures.ok began _ (c.loop-at.invariant.stands began given s));
+  works = (
+    c.in_ok-end_line.ensures.works.0 ∙ c.loop-at.invariant.works.0,
+    c.in_ok-end_line.ensures.works.1 ∙ c.loop-at.invariant.works.1,
+  );
+  bytes = omega (arith, c.in_ok-end_line.ensures.bytes, c.loop-at.invariant.bytes);
 }
