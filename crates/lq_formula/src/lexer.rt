@@ -3,7 +3,7 @@ ghost use Rattle.std.specs.Prelude.{◌≡◌, ◌≤◌, ◌<◌, ◌+◌, ◌^
 ghost use Rattle.lq_formula.specs.Bytes.{spaces};
 ghost use Rattle.std.specs.Str.{IsUtf8};
 ghost use Rattle.lq_formula.specs.Words.{WordIs};
-ghost use Rattle.lq_formula.specs.Tokens.{Yields, tokens_from, trimmed};
+ghost use Rattle.lq_formula.specs.Tokens.{Begins, Yields, tokens_from, trimmed};
 ghost use Rattle.lq_formula.specs.TokenView.{placed_of, token_of};
 
 use crate::count::count_spaces;
@@ -38,10 +38,22 @@ pub fn next_token<'a>(cursor: Cursor<'a>) -> Option<(Placed<'a>, Cursor<'a>)>
     if rest.is_empty() {
         return None;
     }
-    let place = cursor.place + space;
+    Some(token_at(cursor.place + space, rest))
+}
+
+// The token that begins at a place, and what is left after it.
+fn token_at<'a>(place: usize, rest: &'a str) -> (Placed<'a>, Cursor<'a>)
+    requires some { 0 < length rest.now }
+    requires small { place + length rest.now < 2 ^ 64 }
+    ensures begins { Begins place rest.entry.now (placed_of result.0)
+        result.1.place result.1.rest.now }
+    ensures text { WordIs IsUtf8 (token_of result.0.token) }
+    ensures place { result.1.place + length result.1.rest.now ≡ place + length rest.entry.now }
+    ensures shorter { length result.1.rest.now < length rest.entry.now }
+{
     let piece = read_piece(rest);
     let (_, after) = rest.split_at(piece.size);
-    Some((
+    (
         Placed {
             place,
             raw_place: place + piece.inside,
@@ -51,7 +63,7 @@ pub fn next_token<'a>(cursor: Cursor<'a>) -> Option<(Placed<'a>, Cursor<'a>)>
             place: place + piece.size,
             rest: after,
         },
-    ))
+    )
 }
 
 // How many bytes of white space a text begins with, and the text behind them.
@@ -59,6 +71,7 @@ fn trim<'a>(rest: &'a str) -> (usize, &'a str)
     ensures count { result.0 ≡ spaces rest.entry.now }
     ensures bound { result.0 ≤ length rest.entry.now }
     ensures rest { result.1.now ≡ trimmed rest.entry.now }
+    ensures whole { result.0 + length result.1.now ≡ length rest.entry.now }
 {
     let n = count_spaces(rest.as_bytes());
     let (_, left) = rest.split_at(n);
