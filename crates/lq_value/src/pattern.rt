@@ -161,21 +161,26 @@ impl Pattern {
         ensures value { IfOk result (λ pattern. pattern ≡ self.now) }
     {
         match &self.form {
-            Form::PlainText { text, number } => Ok(Pattern {
-                form: Form::PlainText {
-                    text: String::from_str(alloc, text.as_str())?,
-                    number: *number,
-                },
-            }),
-            Form::StarredText { elements, starred } => Ok(Pattern {
-                form: Form::StarredText {
-                    elements: copy_elements(alloc, elements.as_slice())?,
-                    starred: starred.copy(alloc)?,
-                },
-            }),
-            Form::Elements(elements) => Ok(Pattern {
-                form: Form::Elements(copy_elements(alloc, elements.as_slice())?),
-            }),
+            Form::PlainText { text, number } => {
+                let text = String::from_str(alloc, text.as_str())?;
+                let number = *number;
+                Ok(Pattern {
+                    form: Form::PlainText { text, number },
+                })
+            }
+            Form::StarredText { elements, starred } => {
+                let starred = starred.copy(alloc)?;
+                let elements = copy_elements(alloc, elements.as_slice())?;
+                Ok(Pattern {
+                    form: Form::StarredText { elements, starred },
+                })
+            }
+            Form::Elements(elements) => {
+                let elements = copy_elements(alloc, elements.as_slice())?;
+                Ok(Pattern {
+                    form: Form::Elements(elements),
+                })
+            }
         }
     }
 }
@@ -241,7 +246,8 @@ fn copy_elements(alloc: Global, elements: &[Element]) -> Result<Vec<Element>, Re
 {
     let mut copies = Vec::new(alloc);
     for element in elements {
-        copies.push(element.copy(alloc)?)?;
+        let copy = element.copy(alloc)?;
+        copies.push(copy)?;
     }
     Ok(copies)
 }
