@@ -16,12 +16,23 @@ const FEW: usize = 16;
 /// The attributes of an entry that has some, in the order in which they were first set.
 ///
 /// A contract sees them as the list of their names and values.
-#[derive(Debug, Drop)]
+#[derive(Debug)]
 pub struct AttrTable {
     alloc: Global,
     // A list that is searched; it is empty where there are many.
     few: Vec<(AttrName, Value)>,
     many: Option<Box<Many>>,
+}
+
+// One call takes it apart, wherever one is dropped.
+impl Drop for AttrTable {
+    fn drop(self) {
+        let AttrTable {
+            alloc: _,
+            few: _,
+            many: _,
+        } = self;
+    }
 }
 
 impl Model for AttrTable {

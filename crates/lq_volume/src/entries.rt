@@ -18,11 +18,22 @@ use std::marker::Model;
 ///
 /// A node is found in the same time however many there are, a place in time logarithmic in the
 /// folders and in the names of its own. A contract sees the records alone, by rising node.
-#[derive(Debug, Drop)]
+#[derive(Debug)]
 pub struct Entries {
     alloc: Global,
     records: Records,
     places: Places,
+}
+
+// One call takes them apart, wherever they are dropped.
+impl Drop for Entries {
+    fn drop(self) {
+        let Entries {
+            alloc: _,
+            records: _,
+            places: _,
+        } = self;
+    }
 }
 
 impl Model for Entries {

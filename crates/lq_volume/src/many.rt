@@ -17,13 +17,25 @@ use std::marker::Model;
 /// each name.
 ///
 /// A contract sees them as the list of their names and values.
-#[derive(Debug, Drop)]
+#[derive(Debug)]
 pub struct Many {
     alloc: Global,
     // Above all numbers.
     next: u64,
     list: BTreeMap<u64, (AttrName, Value)>,
     numbers: BTreeMap<String, u64>,
+}
+
+// One call takes them apart, wherever they are dropped.
+impl Drop for Many {
+    fn drop(self) {
+        let Many {
+            alloc: _,
+            next: _,
+            list: _,
+            numbers: _,
+        } = self;
+    }
 }
 
 impl Model for Many {

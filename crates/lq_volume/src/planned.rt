@@ -133,16 +133,17 @@ fn touched_by<'a>(volume: &'a Volume, change: &'a Change) -> Result<Touched<'a>,
             time,
         } => {
             check_create(volume, *dir, name, *kind, *size)?;
+            let created = Seen::new(*dir, name, *kind, *size, *time);
             Ok(Touched {
                 node: volume.node_of(change),
                 before: None,
-                after: Some(Seen::new(*dir, name, *kind, *size, *time)),
+                after: Some(created),
                 clobbered: None,
             })
         }
         Change::Remove { node } => {
             let record = check_remove(volume, *node)?;
-            Ok(touched_at(*node, record, None))
+            Ok(touched_at(*node, record, None, None))
         }
         Change::Move {
             node,
@@ -151,42 +152,48 @@ fn touched_by<'a>(volume: &'a Volume, change: &'a Change) -> Result<Touched<'a>,
             clobber,
         } => {
             let (record, other) = check_move(volume, *node, *dir, name, *clobber)?;
-            Ok(Touched {
-                clobbered: seen_other(other),
-                ..touched_at(*node, record, Some(record.seen_at(*dir, name)))
-            })
+            let moved = record.seen_at(*dir, name);
+            Ok(touched_at(*node, record, Some(moved), other))
         }
         Change::Write { node, size, time } => {
             let record = check_write(volume, *node, *size)?;
-            Ok(touched_at(*node, record, Some(record.seen_with(*size, *time))))
+            let written = record.seen_with(*size, *time);
+            Ok(touched_at(*node, record, Some(written), None))
         }
         Change::SetAttr { node, attr, value } => {
             let record = check_set_attr(volume, *node, attr)?;
-            let difference = Difference::Set { attr, value };
-            Ok(touched_at(*node, record, Some(record.seen(difference))))
+            let changed = record.seen(Difference::Set { attr, value });
+            Ok(touched_at(*node, record, Some(changed), None))
         }
         Change::RemoveAttr { node, attr } => {
             let record = check_remove_attr(volume, *node, attr)?;
-            let difference = Difference::Unset { attr };
-            Ok(touched_at(*node, record, Some(record.seen(difference))))
+            let changed = record.seen(Difference::Unset { attr });
+            Ok(touched_at(*node, record, Some(changed), None))
         }
     }
 }
 
-// What a change touches that takes no other node away.
-fn touched_at<'a>(node: u64, before: &'a Stored, after: Option<Seen<'a>>) -> Touched<'a>
+// What a change touches that names a node, and perhaps takes another away.
+fn touched_at<'a>(
+    node: u64,
+    before: &'a Stored,
+    after: Option<Seen<'a>>,
+    other: Option<(u64, &'a Stored)>,
+) -> Touched<'a>
     ensures { result ≡ record {
       node = node;
       before = Some before.now;
       after = after.entry;
-      clobbered = None;
+      clobbered = option_map (λ e. (e.0, e.1.now)) other.entry;
     } }
 {
+    let before = before.seen(Difference::None);
+    let clobbered = seen_other(other);
     Touched {
         node,
-        before: Some(before.seen(Difference::None)),
+        before: Some(before),
         after,
-        clobbered: None,
+        clobbered,
     }
 }
 

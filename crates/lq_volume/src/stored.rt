@@ -10,7 +10,7 @@ use std::alloc::Global;
 use std::marker::Model;
 
 /// An entry, as it is kept under its node. Its size shows as an `i64`.
-#[derive(Debug, Drop)]
+#[derive(Debug)]
 pub struct Stored {
     dir: u64,
     name: Name,
@@ -18,6 +18,20 @@ pub struct Stored {
     size: u64,
     time: i64,
     attrs: Attributes,
+}
+
+// One call takes it apart, wherever one is dropped.
+impl Drop for Stored {
+    fn drop(self) {
+        let Stored {
+            dir: _,
+            name: _,
+            kind: _,
+            size: _,
+            time: _,
+            attrs: _,
+        } = self;
+    }
 }
 
 impl Model for Stored {

@@ -232,14 +232,8 @@ impl Volume {
                 );
                 self.entries.add(self.next, record)?;
                 self.next += 1;
-                self.changes += 1;
-                Ok(applied)
             }
-            Change::Remove { node } => {
-                self.entries.remove(*node);
-                self.changes += 1;
-                Ok(applied)
-            }
+            Change::Remove { node } => self.entries.remove(*node),
             Change::Move {
                 node,
                 dir,
@@ -248,25 +242,13 @@ impl Volume {
             } => {
                 let other = self.other_at(*node, *dir, name);
                 self.entries.shift(*node, *dir, name, other)?;
-                self.changes += 1;
-                Ok(applied)
             }
-            Change::Write { node, size, time } => {
-                self.entries.write(*node, *size, *time);
-                self.changes += 1;
-                Ok(applied)
-            }
-            Change::SetAttr { node, attr, value } => {
-                self.entries.set_attr(*node, attr, value)?;
-                self.changes += 1;
-                Ok(applied)
-            }
-            Change::RemoveAttr { node, attr } => {
-                self.entries.remove_attr(*node, attr);
-                self.changes += 1;
-                Ok(applied)
-            }
+            Change::Write { node, size, time } => self.entries.write(*node, *size, *time),
+            Change::SetAttr { node, attr, value } => self.entries.set_attr(*node, attr, value)?,
+            Change::RemoveAttr { node, attr } => self.entries.remove_attr(*node, attr),
         }
+        self.changes += 1;
+        Ok(applied)
     }
 
     /// Another volume that is the same. Refused: `NoMemory`.

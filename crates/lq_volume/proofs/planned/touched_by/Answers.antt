@@ -18,7 +18,7 @@ returns-in_ok-check_create-in-Create-clause-touched c =
       lawful = c.in_ok-check_create-in-Create.ensures.ok;
       node = node;
       before = sym (lookup-above s.records s.next volume.numbered.below);
-      after = rw (c.new.ensures, to_z-of_z fits) refl;
+      after = rw (c.new-created.ensures, to_z-of_z fits) refl;
       clobbered = refl;
       gone = tt;
     })
