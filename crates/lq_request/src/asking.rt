@@ -3,7 +3,7 @@ ghost use Rattle.std.specs.Prelude.{◌≡◌, ◌⊎◌, IfOk, IfErr, Ok, Err};
 ghost use Rattle.lq_json.specs.Data.{view};
 ghost use Rattle.lq_value.specs.declared.refusal.Refusal.TheVariants.{NoMemory};
 ghost use Rattle.lq_request.specs.Asked.{asked, given};
-ghost use Rattle.lq_request.specs.Request.{asks_set, value_for, asked_in, asked_of, asked_or, question_for, question_from, question_in};
+ghost use Rattle.lq_request.specs.Request.{asks_create, asks_fetch, asks_find, asks_move, asks_open, asks_set, asks_unset, value_for, asked_in, asked_of, asked_or, question_for, question_from, question_in};
 
 use crate::plain::plain_read;
 use crate::question::Question;
@@ -11,7 +11,7 @@ use crate::request::{Request, request_in};
 use crate::scratch::{RecentAttrs, Scratch};
 use json::Value;
 use lq_predicate::read;
-use lq_value::{Name, Refusal, View};
+use lq_value::{Kind, Name, Refusal, View};
 use lq_volume::Change;
 use lq_world::{Act, Event};
 use std::alloc::Global;
@@ -33,7 +33,7 @@ pub fn question_in(alloc: Global, scratch: &mut Scratch, line: &[u8]) -> Result<
         }));
     }
     let value = value_in(alloc, &mut scratch.json, line)?;
-    Ok(question_of(alloc, &mut scratch.attrs, &value)?)
+    question_of(alloc, &mut scratch.attrs, &value)
 }
 
 // The JSON value that a line writes.
@@ -64,7 +64,7 @@ fn question_of(
 {
     match request_in(value) {
         None => Err(Refusal::BadLine),
-        Some(request) => Ok(question_for(alloc, attrs, &request)?),
+        Some(request) => question_for(alloc, attrs, &request),
     }
 }
 
@@ -85,58 +85,34 @@ fn question_for(
             kind,
             size,
             time,
-        } => Ok(change(Change::Create {
-            dir: *dir,
-            name: Name::read(alloc, name)?,
-            kind: *kind,
-            size: *size,
-            time: *time,
-        })),
+        } => creating(alloc, *dir, name, *kind, *size, *time),
         Request::Remove { node } => Ok(change(Change::Remove { node: *node })),
         Request::Move {
             node,
             dir,
             name,
             clobber,
-        } => Ok(change(Change::Move {
-            node: *node,
-            dir: *dir,
-            name: Name::read(alloc, name)?,
-            clobber: *clobber,
-        })),
+        } => moving(alloc, *node, *dir, name, *clobber),
         Request::Write { node, size, time } => Ok(change(Change::Write {
             node: *node,
             size: *size,
             time: *time,
         })),
-        Request::Set { node, attr, value } => Ok(setting(alloc, attrs, *node, attr, *value)?),
-        Request::Unset { node, attr } => Ok(change(Change::RemoveAttr {
-            node: *node,
-            attr: attrs.read(alloc, attr)?,
-        })),
+        Request::Set { node, attr, value } => setting(alloc, attrs, *node, attr, *value),
+        Request::Unset { node, attr } => unsetting(alloc, attrs, *node, attr),
         Request::Open {
             query,
             port,
             backlog,
             moved,
-        } => Ok(Question::Event(Event::Open {
-            predicate: read(alloc, query)?,
-            port: *port,
-            backlog: *backlog,
-            moved: *moved,
-        })),
+        } => opening(alloc, query, *port, *backlog, *moved),
         Request::At { slot, act } => Ok(Question::Event(Event::At {
             slot: *slot,
             act: *act,
         })),
-        Request::Find { dir, name } => Ok(Question::Find {
-            dir: *dir,
-            name: Name::read(alloc, name)?,
-        }),
+        Request::Find { dir, name } => finding(alloc, *dir, name),
         Request::Entry { node } => Ok(Question::Entry { node: *node }),
-        Request::Fetch { query } => Ok(Question::Fetch {
-            predicate: read(alloc, query)?,
-        }),
+        Request::Fetch { query } => fetching(alloc, query),
         Request::Rebuilt { slot } => Ok(Question::Rebuilt { slot: *slot }),
     }
 }
@@ -146,6 +122,52 @@ fn change(change: Change) -> Question
     ensures { result ≡ Question.Event (Event.Change change) }
 {
     Question::Event(Event::Change(change))
+}
+
+// The question that creates an entry.
+fn creating(
+    alloc: Global,
+    dir: u64,
+    name: &str,
+    kind: Kind,
+    size: u64,
+    time: i64,
+) -> Result<Question, Refusal>
+    ensures value { IfOk result (λ question.
+        question_for (asks_create dir name.now kind size time) ≡ Ok question) }
+    ensures refused { IfErr result (λ e. (e ≡ NoMemory)
+        ⊎ (question_for (asks_create dir name.now kind size time) ≡ Err e)) }
+{
+    let name = Name::read(alloc, name)?;
+    Ok(change(Change::Create {
+        dir,
+        name,
+        kind,
+        size,
+        time,
+    }))
+}
+
+// The question that moves an entry.
+fn moving(
+    alloc: Global,
+    node: u64,
+    dir: u64,
+    name: &str,
+    clobber: bool,
+) -> Result<Question, Refusal>
+    ensures value { IfOk result (λ question.
+        question_for (asks_move node dir name.now clobber) ≡ Ok question) }
+    ensures refused { IfErr result (λ e. (e ≡ NoMemory)
+        ⊎ (question_for (asks_move node dir name.now clobber) ≡ Err e)) }
+{
+    let name = Name::read(alloc, name)?;
+    Ok(change(Change::Move {
+        node,
+        dir,
+        name,
+        clobber,
+    }))
 }
 
 // The question that sets an attribute, its name read before its value.
@@ -178,4 +200,64 @@ fn typed(alloc: Global, shown: View<'_>) -> Result<lq_value::Value, Refusal>
         View::UInt32(number) => Ok(lq_value::Value::UInt32(number)),
         View::UInt64(number) => Ok(lq_value::Value::UInt64(number)),
     }
+}
+
+// The question that removes an attribute.
+fn unsetting(
+    alloc: Global,
+    attrs: &mut RecentAttrs,
+    node: u64,
+    attr: &str,
+) -> Result<Question, Refusal>
+    ensures value { IfOk result (λ question.
+        question_for (asks_unset node attr.now) ≡ Ok question) }
+    ensures refused { IfErr result (λ e. (e ≡ NoMemory)
+        ⊎ (question_for (asks_unset node attr.now) ≡ Err e)) }
+{
+    let attr = attrs.read(alloc, attr)?;
+    Ok(change(Change::RemoveAttr { node, attr }))
+}
+
+// The question that opens a subscription.
+fn opening(
+    alloc: Global,
+    query: &str,
+    port: u64,
+    backlog: u64,
+    moved: bool,
+) -> Result<Question, Refusal>
+    ensures value { IfOk result (λ question.
+        question_for (asks_open query.now port backlog moved) ≡ Ok question) }
+    ensures refused { IfErr result (λ e. (e ≡ NoMemory)
+        ⊎ (question_for (asks_open query.now port backlog moved) ≡ Err e)) }
+{
+    let predicate = read(alloc, query)?;
+    Ok(Question::Event(Event::Open {
+        predicate,
+        port,
+        backlog,
+        moved,
+    }))
+}
+
+// The question that finds the node of a place.
+fn finding(alloc: Global, dir: u64, name: &str) -> Result<Question, Refusal>
+    ensures value { IfOk result (λ question.
+        question_for (asks_find dir name.now) ≡ Ok question) }
+    ensures refused { IfErr result (λ e. (e ≡ NoMemory)
+        ⊎ (question_for (asks_find dir name.now) ≡ Err e)) }
+{
+    let name = Name::read(alloc, name)?;
+    Ok(Question::Find { dir, name })
+}
+
+// The question that fetches the entries of a formula.
+fn fetching(alloc: Global, query: &str) -> Result<Question, Refusal>
+    ensures value { IfOk result (λ question.
+        question_for (asks_fetch query.now) ≡ Ok question) }
+    ensures refused { IfErr result (λ e. (e ≡ NoMemory)
+        ⊎ (question_for (asks_fetch query.now) ≡ Err e)) }
+{
+    let predicate = read(alloc, query)?;
+    Ok(Question::Fetch { predicate })
 }
