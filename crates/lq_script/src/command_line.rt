@@ -1,8 +1,8 @@
 //! The command line, read with clap.
-ghost use Rattle.std.specs.Prelude.{◌≡◌, false, IfOk, IsErrOf};
-ghost use Rattle.clap.specs.Simple.{app_of};
+ghost use Rattle.std.specs.Prelude.{◌≡◌, false, codes, IfOk, IsErrOf};
+ghost use Rattle.clap.specs.Simple.{app_of, with_subcommand};
 ghost use Rattle.clap.specs.declared.builder.command.Command.TheViews.{out-Command as fields_of};
-ghost use Rattle.lq_script.specs.CommandLine.{bare, lq_app};
+ghost use Rattle.lq_script.specs.CommandLine.{bare, check_app, lq_app, lq_top};
 ghost use Rattle.lq_script.specs.Words.{IsAskedBy, IsUsage, has_stray, texts_of};
 
 use clap::error::ErrorKind;
@@ -67,17 +67,35 @@ fn has_stray_dashes(words: &[String]) -> bool
     }
 }
 
+// The program's command: `run`, or `check` with a formula.
 fn command_of<'a>(alloc: Global) -> Result<Command<'a>, AllocError>
     ensures { IfOk result (λ command. app_of command ≡ lq_app) }
+{
+    let check = check_command(alloc)?;
+    let command = run_command(alloc)?;
+    command.subcommand(check)
+}
+
+// The command with `run` alone, whose words begin behind its name and name a subcommand.
+fn run_command<'a>(alloc: Global) -> Result<Command<'a>, AllocError>
+    ensures { IfOk result (λ command.
+        app_of command ≡ with_subcommand lq_top (bare (codes "run")).top) }
+{
+    without_help(alloc, "lq")
+        .no_binary_name(true)
+        .subcommand_required(true)
+        .subcommand(without_help(alloc, "run"))
+}
+
+// The subcommand `check`, whose formula has to be there.
+fn check_command<'a>(alloc: Global) -> Result<Command<'a>, AllocError>
+    ensures app { IfOk result (λ command. app_of command ≡ check_app) }
+    ensures locals { IfOk result (λ command. (fields_of command).has_globals ≡ false) }
 {
     let formula = Arg::new(alloc, "formula")
         .required(true)
         .action(ArgAction::Set);
-    without_help(alloc, "lq")
-        .no_binary_name(true)
-        .subcommand_required(true)
-        .subcommand(without_help(alloc, "run"))?
-        .subcommand(without_help(alloc, "check").arg(formula)?)
+    without_help(alloc, "check").arg(formula)
 }
 
 // A command without help and version of its own: those are other words.
