@@ -1,9 +1,9 @@
 //! What no clause says: calls with memory succeed.
 ghost use Rattle.std.specs.Prelude.{◌≡◌, ◌<◌, ◌≤◌, ◌*◌, ◌^◌, IfOk, OnOk, IsTrue};
-ghost use Rattle.lq_desk.specs.Held.{is_live};
+ghost use Rattle.lq_sub.specs.Held.{is_live};
 
-use lq_desk::Sub;
 use lq_predicate::read;
+use lq_sub::Sub;
 use lq_update::{Cause, Parcel, steps_are_few};
 use lq_value::{Kind, Name, Refusal};
 use lq_volume::{Change, Volume, changes_are_counted};

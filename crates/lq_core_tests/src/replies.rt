@@ -1,7 +1,7 @@
 //! Each kind of response by pieces, as the plain way writes it, and one by hand.
 use crate::plain::put_plainly;
 use lq_desk::{Read, Reply};
-use lq_reply::{Response, put_reply};
+use lq_reply::{Response, put_event_reply, put_reply};
 use lq_update::{Cause, Mark, Message, Opcode};
 use lq_value::{AttrName, Entry, Kind, Name, Refusal, Value};
 use lq_volume::{Applied, Listing};
@@ -176,10 +176,23 @@ fn is_plainly(alloc: Global, response: &Response, pieces: &[u8]) -> Result<bool,
     Ok(out.as_slice() == pieces)
 }
 
+// Whether what answers an event is this without a response, too.
+fn is_event_answer(alloc: Global, response: &Response, pieces: &[u8]) -> Result<bool, Refusal> {
+    let Response::Reply { slot, reply } = response else {
+        return Ok(true);
+    };
+    let mut out = Vec::from_slice(alloc, b"before")?;
+    put_event_reply(&mut out, *slot, reply)?;
+    Ok(out.as_slice() == pieces)
+}
+
 // Whether a response by pieces is what it is in the plain way.
 fn is_alike(alloc: Global, response: Response) -> Result<bool, Refusal> {
     let pieces = pieces(alloc, &response)?;
-    is_plainly(alloc, &response, pieces.as_slice())
+    Ok(
+        is_plainly(alloc, &response, pieces.as_slice())?
+            && is_event_answer(alloc, &response, pieces.as_slice())?,
+    )
 }
 
 // Whether a message of each kind is alike in both ways.

@@ -1,10 +1,9 @@
 -- Read in this order. Lists, words of bits and update lists: ListLemmas, WordLemmas, UpdateLemmas.
--- One slot: HeldLemmas, PutLemmas, PassingLemmas. All slots: SlotsLemmas, LoopLemmas, FreeLemmas,
+-- One slot: PutLemmas. All slots: SlotsLemmas, LoopLemmas, FreeLemmas,
 -- MarkLemmas. A desk shows a world: SlotLemmas (one subscription), Shown (each event), PassedLemmas
 -- (lists and refusals). Turns: RunLemmas, TurnLemmas. A desk stays one: Desks.
 pub mod ListLemmas
 pub mod UpdateLemmas
-pub mod HeldLemmas
 pub mod PutLemmas
 pub mod WordLemmas
 pub mod SlotLemmas
@@ -17,4 +16,3 @@ pub mod RunLemmas
 pub mod TurnLemmas
 pub mod Desks
 pub mod PassedLemmas
-pub mod PassingLemmas

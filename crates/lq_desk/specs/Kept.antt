@@ -16,7 +16,7 @@ use Rattle.lq_world.specs.declared.event.Event.{Event}
 use Rattle.lq_world.specs.declared.event.Event.TheVariants.{Change, Open, At}
 use Rattle.lq_world.specs.Events.{Answer, Changed, Opened, Refused, opening_refusals}
 use Rattle.lq_world.specs.Fair.{IsFairWorld}
-use Rattle.lq_desk.specs.Held.{Held}
+use Rattle.lq_sub.specs.Held.{Held}
 use Rattle.lq_desk.specs.Slot.{KeptSlot, fresh_slot, slot_after}
 use Rattle.lq_desk.specs.Act.{act_of}
 

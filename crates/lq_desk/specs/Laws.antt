@@ -1,4 +1,4 @@
--- What is so of whatever a subscription holds, and of whatever a desk keeps.
+-- What is so of whatever a desk keeps.
 use Rattle.std.specs.Prelude.{◌≡◌, ℕ, List, [], ◌++◌, map, take, Some, if◌then◌else◌}
 use Rattle.std.specs.Option.{option_to_list}
 use Rattle.lq_update.specs.declared.parcel.Parcel.{Parcel}
@@ -7,15 +7,10 @@ use Rattle.lq_world.specs.World.{World, Subscribed, whole, slot_at}
 use Rattle.lq_world.specs.declared.event.Event.{Event}
 use Rattle.lq_world.specs.Events.{answer, next}
 use Rattle.lq_world.specs.Turns.{turn_outcome}
-use Rattle.lq_desk.specs.Held.{Held, next_parcel, without, with_back}
+use Rattle.lq_sub.specs.Held.{Held}
 use Rattle.lq_desk.specs.Slot.{KeptSlot}
 use Rattle.lq_desk.specs.Kept.{Kept, Shows, kept_at, kept_outcome}
 use Rattle.lq_desk.specs.Turn.{kept_turn_outcome}
-
--- a parcel that goes out and is put back leaves all as it was
-abbrev pub PuttingBackUndoes : Type 0
-PuttingBackUndoes = (h : Held) (p : Parcel) → next_parcel h ≡ Some p
-    → with_back (without h (Some p)) p ≡ h
 
 -- where what is kept shows a world, both answer each event alike, and then show each other again
 abbrev pub KeptShowsWorlds : Type 0

@@ -1,9 +1,7 @@
-pub mod Held
 pub mod Slot
 pub mod Words
 pub mod Act
 pub mod Kept
 pub mod Reply
-pub mod Passing
 pub mod Turn
 pub mod Laws

@@ -1,8 +1,8 @@
 -- The code's replies, as the world's answers.
 use Rattle.std.specs.Prelude.{List}
 use Rattle.lq_update.specs.declared.parcel.Parcel.TheVariants.{Update, Fin}
-use Rattle.lq_desk.specs.declared.reply.Read.{Read as Read_}
-use Rattle.lq_desk.specs.declared.reply.Read.TheVariants as read
+use Rattle.lq_sub.specs.declared.read.Read.{Read as Read_}
+use Rattle.lq_sub.specs.declared.read.Read.TheVariants as read
 use Rattle.lq_desk.specs.declared.reply.Reply.{Reply}
 use Rattle.lq_desk.specs.declared.reply.Reply.TheVariants as reply
 use Rattle.lq_world.specs.World.{World}

@@ -8,7 +8,7 @@ use Rattle.lq_volume.specs.State.{State}
 use Rattle.lq_update.specs.declared.parcel.Parcel.{Parcel}
 use Rattle.lq_update.specs.declared.mark.Cause.TheVariants.{Closed, HungUp}
 use Rattle.lq_world.specs.Events.{Answer, Moved, Read, Empty, Ended, Asked, Noticed, Shut, Finished, Refused}
-use Rattle.lq_desk.specs.Held.{Held, Prepared, opened_with, is_live, held_after, prepared, committed, ended_by, next_parcel, without}
+use Rattle.lq_sub.specs.Held.{Held, Prepared, opened_with, is_live, held_after, prepared, committed, ended_by, next_parcel, without}
 
 -- the subscription, how many places its port has, the parcels in it, and whether its end was asked
 -- for

@@ -10,6 +10,7 @@ use crate::reply::Reply;
 use crate::slot::Slot;
 use crate::slots::{SLOTS, Slots};
 use lq_predicate::Predicate;
+use lq_sub::MAX_BACKLOG;
 use lq_update::{steps_are_few, updates_join};
 use lq_value::Refusal;
 use lq_volume::{Applied, Change, Volume, changes_are_counted};
@@ -22,9 +23,6 @@ use std::marker::Model;
 
 /// The most places of a port.
 const MAX_PORT: u64 = 1024;
-
-/// The largest backlog, in messages.
-pub const MAX_BACKLOG: u64 = 65_536;
 
 /// The volume and its live queries with their ports, one event at a time.
 ///

@@ -1,8 +1,8 @@
 //! The core of the live query server with its ports, one event at a time, without threads.
 //!
 //! A contract sees a desk as what it keeps (`specs/Kept`), which shows a world of lq_world: a book
-//! of changes and the subscriptions over it. Of a subscription (`specs/Held`) it sees what it was
-//! opened with, the messages that it holds and its mark. Nothing here waits. Begin with
+//! of changes and the subscriptions over it. Of a subscription it sees what lq_sub shows, and what
+//! is in its port (`specs/Slot`). Nothing here waits. Begin with
 //! lq_world's `event`, then `desk`.
 #![tactic(auto)]
 
@@ -11,14 +11,11 @@ mod laws;
 mod reply;
 mod slot;
 mod slots;
-mod sub;
 mod word;
 
-pub use desk::{Desk, MAX_BACKLOG};
-pub use laws::{
-    kept_passes_lists_on, kept_shows_worlds, kept_turns_show_worlds, putting_back_undoes,
-};
+pub use desk::Desk;
+pub use laws::{kept_passes_lists_on, kept_shows_worlds, kept_turns_show_worlds};
+pub use lq_sub::Read;
 pub use lq_world::{Act, Event};
-pub use reply::{Read, Reply};
+pub use reply::Reply;
 pub use slots::SLOTS;
-pub use sub::Sub;

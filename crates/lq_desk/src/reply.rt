@@ -1,20 +1,7 @@
 //! What the desk answers.
-use lq_update::{Mark, Message};
+use lq_sub::Read;
 use lq_value::{Entry, Refusal};
 use lq_volume::Applied;
-
-/// What a read gives.
-#[derive(Debug, Drop)]
-pub enum Read {
-    /// The next message.
-    Update(Message),
-    /// The mark that ends the subscription.
-    Fin(Mark),
-    /// The port is empty.
-    Empty,
-    /// The mark was read before.
-    Ended,
-}
 
 /// What the desk answers an event.
 #[derive(Debug, Drop)]

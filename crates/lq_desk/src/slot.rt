@@ -7,9 +7,9 @@ ghost use Rattle.lq_desk.specs.Kept.{IsFew};
 ghost use Rattle.lq_desk.specs.Act.{outcome_at};
 ghost use Rattle.lq_desk.specs.Reply.{answer_of};
 
-use crate::reply::{Read, Reply};
-use crate::sub::Sub;
+use crate::reply::Reply;
 use lq_predicate::Predicate;
+use lq_sub::{Read, Sub};
 use lq_update::{Cause, Parcel};
 use lq_value::Refusal;
 use lq_volume::Planned;
@@ -50,7 +50,7 @@ impl Model for Slot {
 
 impl Slot {
     ghost use Rattle.lq_world.specs.Events.{Answer, Moved, Noticed};
-    ghost use Rattle.lq_desk.specs.Held.{is_live, ended_by};
+    ghost use Rattle.lq_sub.specs.Held.{is_live, ended_by};
     ghost use Rattle.lq_desk.specs.Slot.{KeptSlot, PreparedSlot, fresh_slot, put_slot, read_slot, notice_slot, is_read};
     ghost use Rattle.lq_desk.specs.Reply.{answer_of_read};
     ghost use Rattle.lq_update.specs.declared.mark.Cause.TheVariants.{Closed};

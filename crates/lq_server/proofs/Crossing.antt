@@ -5,13 +5,9 @@ use denote.RattleType.{RattleType}
 use denote.Param.Send.{IsSend, IsSync, sendable, view_send, view_sync}
 use denote.Param.SendFields.{declared_send, declared_sync}
 use Rattle.std.proofs.Crossing.{crosses}
-use Rattle.std.specs.contracts.vec.Vec as vec
-use Rattle.std.specs.contracts.alloc.Global as global
-use Rattle.std.specs.contracts.option.Option as option
 use Rattle.std.specs.contracts.sync.Mutex as mutex
 use Rattle.std.specs.contracts.marker.PhantomData as phantom
 use Rattle.std.below.core.specs.contracts.marker.ClosureMark as mark
-use Rattle.std.specs.contracts.impls.GlobalAllocator.TheImpl.{ghosts as heap_ghosts}
 use Rattle.lq_value.proofs.attr_name.AttrName.TheSendSync as found_attr
 use Rattle.lq_value.proofs.literal.Literal.TheSendSync as found_literal
 use Rattle.lq_value.proofs.op.Op.TheSendSync as found_op
@@ -20,11 +16,10 @@ use Rattle.lq_predicate.specs.contracts.predicate.Predicate as predicate
 use Rattle.lq_update.proofs.message.Message.TheSendSync as found_message
 use Rattle.lq_update.proofs.mark.Mark.TheSendSync as found_mark
 use Rattle.lq_volume.proofs.volume.Volume.TheSendSync as found_volume
-use Rattle.lq_board.specs.contracts.tokens.Keeper as keeper
 use Rattle.lq_board.specs.contracts.board.Board as board
 use Rattle.lq_board.proofs.tokens.Keeper.TheSendSync as found_keeper
 use Rattle.lq_board.proofs.board.Board.TheSendSync as found_board
-use Rattle.lq_desk.specs.contracts.sub.Sub as sub
+use Rattle.lq_sub.specs.contracts.sub.Sub as sub
 use Rattle.lq_port.specs.contracts.ends.PortIn as port_in
 use Rattle.lq_port.proofs.ends.PortIn.TheSendSync as found_in
 use Rattle.lq_subscription.specs.contracts.delivery.Delivery as delivery

@@ -10,8 +10,8 @@ use Rattle.lq_port.specs.End.{IsSamePort}
 use Rattle.lq_subscription.specs.Updates.{updates}
 use Rattle.lq_subscription.specs.Rule.{query_of}
 use Rattle.lq_subscription.specs.Marking.{hung_mark}
-use Rattle.lq_desk.specs.declared.reply.Read.{Read}
-use Rattle.lq_desk.specs.declared.reply.Read.TheVariants.{Ended}
+use Rattle.lq_sub.specs.declared.read.Read.{Read}
+use Rattle.lq_sub.specs.declared.read.Read.TheVariants.{Ended}
 use Rattle.lq_subscription.specs.Reading.{known, received, ready, mark_read, is_marked, Gives, Fails}
 use Rattle.lq_subscription.specs.Standing.{upto, ShutFits, IsOverrun}
 use Rattle.lq_server.specs.Own.{IsOwn}

@@ -1,8 +1,8 @@
 //! What the tables of the scenarios ask of a server, and what they are told.
 use crate::held::{Asked, ReaderOf, SeatOf};
 use crate::party::Party;
-use lq_desk::Read;
 use lq_server::{Named, Server, Synced};
+use lq_sub::Read;
 use lq_update::Cause;
 use lq_value::{AttrName, Entry, Kind, Name, Refusal, Value};
 use lq_volume::Change;

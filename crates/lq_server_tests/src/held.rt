@@ -2,9 +2,9 @@
 ghost use Rattle.std.specs.Prelude.{◌≡◌};
 
 use lq_board::Seat;
-use lq_desk::Read;
 use lq_predicate::read;
 use lq_server::{Accepted, Found, Named, Reader, Retired, Server, Synced};
+use lq_sub::Read;
 use lq_subscription::Identity;
 use lq_value::{Entry, Name, Refusal};
 use lq_volume::{Change, Listing};

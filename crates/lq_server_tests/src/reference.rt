@@ -1,7 +1,7 @@
 //! What readers have to be told of accepted changes: for each, the difference of two whole results.
-use lq_desk::Read;
 use lq_predicate::{Predicate, read};
 use lq_server::Accepted;
+use lq_sub::Read;
 use lq_update::{Mark, Message, Opcode};
 use lq_value::{Entry, Refusal};
 use lq_volume::{Change, Volume};

@@ -12,9 +12,9 @@ ghost use Rattle.lq_slots.specs.Opening.{IsBegun, IsOpened, IsOpeningRefused, op
 
 use crate::slots::{PLACES, Slots};
 use lq_board::{Board, Keeper, Seat};
-use lq_desk::{MAX_BACKLOG, Sub};
 use lq_port::{MAX_PLACES, make};
 use lq_predicate::Predicate;
+use lq_sub::{MAX_BACKLOG, Sub};
 use lq_subscription::{
     Delivery, Identity, Opening, Reading, Shut, Subscription, new_subscriptions_stand,
 };

@@ -14,7 +14,7 @@ use Rattle.lq_update.specs.declared.mark.Cause.TheVariants.{Closed, HungUp, Over
 use Rattle.lq_update.specs.Updates.{step_of}
 use Rattle.lq_volume.specs.Change.{IsLawful}
 use Rattle.lq_update.specs.Laws.{StepsAreFew}
-use Rattle.lq_desk.specs.Held.{Held, Prepared, prepared, committed, opened_with, with_messages, ended_by, overruns, after_messages_by, after_messages}
+use Rattle.lq_sub.specs.Held.{Held, Prepared, prepared, committed, opened_with, with_messages, ended_by, overruns, after_messages_by, after_messages}
 use Rattle.lq_port.specs.End.{End, all_put}
 use Rattle.lq_subscription.specs.declared.delivery.Delivery.{Delivery}
 use Rattle.lq_subscription.specs.declared.delivery.Opening.{Opening}

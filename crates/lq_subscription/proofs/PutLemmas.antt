@@ -10,7 +10,7 @@ use Rattle.lq_update.specs.declared.mark.Mark.{Mark}
 use Rattle.lq_update.specs.declared.mark.Cause.TheVariants.{Overrun}
 use Rattle.lq_update.specs.declared.parcel.Parcel.{Parcel}
 use Rattle.lq_update.specs.declared.parcel.Parcel.TheVariants.{Update, Fin}
-use Rattle.lq_desk.specs.Held.{Held, next_of, next_parcel, without}
+use Rattle.lq_sub.specs.Held.{Held, next_of, next_parcel, without}
 use Rattle.lq_port.specs.End.{End, all_put, IsSamePort, Gains}
 use Rattle.lq_subscription.specs.declared.delivery.Delivery.{Delivery}
 use Rattle.lq_subscription.specs.declared.delivery.Opening.{Opening}

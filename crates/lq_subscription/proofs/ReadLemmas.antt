@@ -16,7 +16,7 @@ use Rattle.lq_update.specs.declared.parcel.Parcel.TheVariants.{Update as told_up
 use Rattle.lq_update.specs.Fold.{Folding, folded, last_change, settled_after, fold_refusals, folding_after, folding_after_all, opened_at}
 use Rattle.lq_update.specs.Laws.{RebuildsTakeAll, FoldsGiveResults, FoldingsFollow, SettledIsTested, WholeFoldsGiveResults}
 use Rattle.lq_update.specs.Updates.{IsSettled, IsPrefixOf, updates_of}
-use Rattle.lq_desk.specs.declared.reply.Read.TheVariants.{Update, Fin, Empty, Ended}
+use Rattle.lq_sub.specs.declared.read.Read.TheVariants.{Update, Fin, Empty, Ended}
 use Rattle.lq_port.specs.End.{End, IsSamePort, IsFront, Loses}
 use Rattle.lq_subscription.specs.declared.delivery.Delivery.{Delivery}
 use Rattle.lq_subscription.specs.declared.delivery.Opening.{Opening}

@@ -3,7 +3,7 @@ use Rattle.std.specs.Prelude.{◌≡◌, ℕ, Bool, [], length}
 use Rattle.lq_formula.specs.Query.{Query}
 use Rattle.lq_volume.specs.Book.{Book, Extends}
 use Rattle.lq_board.specs.Book.{IsFullBook}
-use Rattle.lq_desk.specs.Held.{opened_with}
+use Rattle.lq_sub.specs.Held.{opened_with}
 use Rattle.lq_port.specs.End.{End}
 use Rattle.lq_subscription.specs.declared.delivery.Delivery.{Delivery}
 use Rattle.lq_subscription.specs.declared.delivery.Opening.{Opening}

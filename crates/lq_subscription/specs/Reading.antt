@@ -7,8 +7,8 @@ use Rattle.lq_update.specs.declared.mark.Mark.{Mark}
 use Rattle.lq_update.specs.declared.parcel.Parcel.{Parcel}
 use Rattle.lq_update.specs.declared.parcel.Parcel.TheVariants.{Update as told_update, Fin as told_fin}
 use Rattle.lq_update.specs.Fold.{Folding, folding_after_all, opened_at}
-use Rattle.lq_desk.specs.declared.reply.Read.{Read}
-use Rattle.lq_desk.specs.declared.reply.Read.TheVariants.{Update, Fin, Empty, Ended}
+use Rattle.lq_sub.specs.declared.read.Read.{Read}
+use Rattle.lq_sub.specs.declared.read.Read.TheVariants.{Update, Fin, Empty, Ended}
 use Rattle.lq_port.specs.End.{End, IsFront}
 use Rattle.lq_subscription.specs.declared.delivery.Delivery.{Delivery}
 use Rattle.lq_subscription.specs.declared.delivery.Opening.{Opening}

@@ -12,7 +12,7 @@ use Rattle.lq_update.specs.declared.mark.Cause.{Cause}
 use Rattle.lq_update.specs.declared.mark.Cause.TheVariants.{Closed, HungUp, Overrun}
 use Rattle.lq_update.specs.declared.parcel.Parcel.{Parcel}
 use Rattle.lq_update.specs.Updates.{step_of}
-use Rattle.lq_desk.specs.Held.{Held, Prepared}
+use Rattle.lq_sub.specs.Held.{Held, Prepared}
 use Rattle.lq_port.specs.End.{End, all_put, IsSamePort, Gains}
 use mathlib.Core.List.{IsPrefix}
 use Rattle.lq_port.specs.Port.{IsLegal}

@@ -1,7 +1,7 @@
 //! Puts: what is held moves into the port.
 ghost use Rattle.std.specs.Prelude.{◌≡◌, ◌<◌, ◌≤◌, MatchBool, IfErr, OnOk, OnErr, Some, length};
 ghost use Rattle.lq_port.specs.End.{all_put, IsSamePort, IsFull};
-ghost use Rattle.lq_desk.specs.Held.{next_parcel};
+ghost use Rattle.lq_sub.specs.Held.{next_parcel};
 ghost use Rattle.lq_subscription.specs.Rule.{MayFollow};
 ghost use Rattle.lq_subscription.specs.declared.delivery.Delivery.{Delivery};
 ghost use Rattle.lq_subscription.specs.Standing.{StandsAt, SameButPuts, left, IsStuck, Offered, SideBySide, IsDrained};
@@ -11,8 +11,8 @@ use crate::identity::Identity;
 use crate::reading::Reading;
 use crate::subscription::Subscription;
 use lq_board::Keeper;
-use lq_desk::putting_back_undoes;
 use lq_port::PortIn;
+use lq_sub::putting_back_undoes;
 use lq_update::Parcel;
 use lq_witness::Witness;
 use std::sync::Wait;

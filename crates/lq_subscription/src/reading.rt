@@ -13,8 +13,8 @@ ghost use Rattle.lq_subscription.specs.Rule.{MayFollow, floor_of, query_of, whol
 ghost use Rattle.lq_subscription.specs.Reading.{Gives, Fails, known, received, is_marked, mark_read, opening_of, IsTold};
 
 use crate::delivery::Delivery;
-use lq_desk::Read;
 use lq_port::{PortIn, PortOut};
+use lq_sub::Read;
 use lq_update::{
     Message, Parcel, Rebuild, foldings_follow, folds_give_results, rebuilds_take_all,
     settled_is_tested, whole_folds_give_results,

@@ -9,8 +9,8 @@ ghost use Rattle.lq_subscription.specs.Marking.{hung_mark, first_close};
 
 use crate::delivery::Delivery;
 use crate::identity::Shut;
-use lq_desk::Sub;
 use lq_port::PortIn;
+use lq_sub::Sub;
 use lq_update::{Cause, steps_are_few};
 use lq_value::Refusal;
 use lq_volume::{Change, Planned};

@@ -4,7 +4,7 @@ use Rattle.lq_volume.specs.State.{State, IsVolume}
 use Rattle.lq_volume.specs.Change.{IsLawful}
 use Rattle.lq_update.specs.Updates.{step_of}
 use Rattle.lq_update.specs.Laws.{StepsAreFew}
-use Rattle.lq_desk.specs.Held.{Held, after_messages_by}
+use Rattle.lq_sub.specs.Held.{Held, after_messages_by}
 use Rattle.lq_core_tests.proofs.desks.tell.Goals as goal
 
 -- a change makes at most three messages of a subscription

@@ -5,7 +5,7 @@ use Rattle.lq_volume.specs.Result.{result_of}
 use Rattle.lq_value.specs.declared.entry.Entry.{Entry}
 use Rattle.lq_board.specs.Token.{KeeperToken}
 use Rattle.lq_update.specs.Fold.{opened_at}
-use Rattle.lq_desk.specs.Held.{Prepared}
+use Rattle.lq_sub.specs.Held.{Prepared}
 use Rattle.lq_subscription.specs.Reading.{ReadingHold}
 use Rattle.lq_subscription.specs.declared.identity.Identity.{Identity}
 use Rattle.lq_slots.proofs.OpenLemmas.{begun_new}

@@ -1,6 +1,6 @@
 use Rattle.std.proofs.Common.{◌≡◌, refl, ap, sym, ◌∙◌, subst, Some}
 use Rattle.lq_board.specs.Token.{KeeperToken}
-use Rattle.lq_desk.specs.Held.{Held, next_parcel, without}
+use Rattle.lq_sub.specs.Held.{Held, next_parcel, without}
 use Rattle.lq_subscription.specs.declared.identity.Identity.{Identity}
 use Rattle.lq_subscription.specs.Standing.{Stands, SameHeld, given}
 use Rattle.lq_subscription.proofs.PutLemmas.{may_put, put_stands, put_same, given_then}

@@ -3,7 +3,7 @@ use Rattle.lq_volume.specs.Book.{Extends}
 use Rattle.lq_update.specs.declared.message.Message.{Message}
 use Rattle.lq_subscription.specs.LegalList.{known_by}
 use Rattle.lq_subscription.specs.Reading.{ReadingHold, Reads, Gives, Fails, known}
-use Rattle.lq_desk.specs.declared.reply.Read.TheVariants.{Update, Fin}
+use Rattle.lq_sub.specs.declared.read.Read.TheVariants.{Update, Fin}
 use Rattle.lq_subscription.proofs.ReadLemmas.{hold, received_front, hand_fits, kept_hand, stays_hand, fails_hand, later, update_fits, took, took_in_hand, took_gives, took_fails, took_mark, gives_mark, opened_then, on_err, ok_with, either}
 use Rattle.lq_subscription.proofs.reading.Reading.read_by.Goals as goal
 

@@ -2,11 +2,11 @@ use Rattle.std.proofs.Common.{◌≡◌, ◌+◌, ◌-◌, [], ap, arith, sym, �
 use Rattle.lq_predicate.specs.Names.{names_of}
 use Rattle.lq_volume.specs.declared.change.Applied.{Applied}
 use Rattle.lq_update.specs.Updates.{step_of}
-use Rattle.lq_desk.specs.Held.{Prepared}
-use Rattle.lq_desk.specs.Passing.{passes_over}
-use Rattle.lq_desk.proofs.PassingLemmas.{step-empty}
-use Rattle.lq_desk.proofs.sub.Sub.ready_planned.Goals as goal
-use Rattle.lq_desk.proofs.sub.Sub.ready_planned.Goals.{then-passes_over-via-then-passes_over, then-passes_over-via-else-passes_over+then-not-may_tell}
+use Rattle.lq_sub.specs.Held.{Prepared}
+use Rattle.lq_sub.specs.Passing.{passes_over}
+use Rattle.lq_sub.proofs.PassingLemmas.{step-empty}
+use Rattle.lq_sub.proofs.sub.Sub.ready_planned.Goals as goal
+use Rattle.lq_sub.proofs.sub.Sub.ready_planned.Goals.{then-passes_over-via-then-passes_over, then-passes_over-via-else-passes_over+then-not-may_tell}
 
 pub returns-then-passes_over-clause-ok : goal.returns-then-passes_over-clause-ok
 returns-then-passes_over-clause-ok c =

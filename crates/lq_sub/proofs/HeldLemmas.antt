@@ -4,8 +4,8 @@ use Rattle.lq_update.specs.declared.message.Message.{Message}
 use Rattle.lq_update.specs.declared.mark.Mark.{Mark}
 use Rattle.lq_update.specs.declared.parcel.Parcel.{Parcel}
 use Rattle.lq_update.specs.declared.parcel.Parcel.TheVariants.{Update, Fin}
-use Rattle.lq_desk.specs.Held.{next_of, without, with_back}
-use Rattle.lq_desk.specs.Laws.{PuttingBackUndoes}
+use Rattle.lq_sub.specs.Held.{next_of, without, with_back}
+use Rattle.lq_sub.specs.Laws.{PuttingBackUndoes}
 
 -- a parcel that goes out and is put back leaves all as it was
 pub undoes : PuttingBackUndoes

@@ -4,7 +4,7 @@ ghost use Rattle.std.specs.VecDeque.{deque_len, deque_capacity};
 ghost use Rattle.lq_value.specs.Refusal.{IsRefusedBy};
 ghost use Rattle.lq_predicate.specs.Names.{names_of};
 ghost use Rattle.lq_volume.specs.Change.{IsLawful};
-ghost use Rattle.lq_desk.specs.Passing.{are_written, is_among, passes_over};
+ghost use Rattle.lq_sub.specs.Passing.{are_written, is_among, passes_over};
 
 use lq_predicate::{Predicate, names, truth_goes_by_names};
 use lq_update::{Cause, Mark, Message, Parcel, changes_pass_over, may_tell, step_planned};
@@ -14,6 +14,9 @@ use std::alloc::Global;
 use std::collections::VecDeque;
 use std::marker::Model;
 use std::mem::replace;
+
+/// The largest backlog, in messages.
+pub const MAX_BACKLOG: u64 = 65_536;
 
 /// One subscription: its query and the names in it, the messages that it holds, and those of a
 /// change that isn't made yet, for which there is always room.
@@ -61,8 +64,8 @@ impl Model for Sub {
     ghost use Rattle.std.specs.Prelude.{◌≡◌, ◌+◌, ◌≤◌, vec_len, if◌then◌else◌};
     ghost use Rattle.lq_predicate.specs.Names.{names_of};
     ghost use Rattle.std.specs.VecDeque.{deque_len, deque_capacity};
-    ghost use Rattle.lq_desk.specs.Held.{Prepared};
-    ghost use Rattle.lq_desk.specs.Passing.{are_written};
+    ghost use Rattle.lq_sub.specs.Held.{Prepared};
+    ghost use Rattle.lq_sub.specs.Passing.{are_written};
     ghost use Rattle.std.specs.Coded.{codes};
     ghost use Rattle.lq_predicate.specs.QueryCode.{coded_query};
 
@@ -93,7 +96,7 @@ impl Model for Sub {
 }
 
 impl Sub {
-    ghost use Rattle.lq_desk.specs.Held.{Held, Prepared, opened_with, is_live, prepared, committed, ended_by, next_parcel, without, with_back, fits_back};
+    ghost use Rattle.lq_sub.specs.Held.{Held, Prepared, opened_with, is_live, prepared, committed, ended_by, next_parcel, without, with_back, fits_back};
 
     /// A live subscription that holds nothing, opened after `at` changes. Refused: `NoMemory`.
     pub fn new(

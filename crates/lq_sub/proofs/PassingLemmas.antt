@@ -10,7 +10,7 @@ use Rattle.lq_volume.specs.declared.change.Change.{Change}
 use Rattle.lq_volume.specs.State.{State, IsVolume}
 use Rattle.lq_update.specs.Laws.{ChangesPassOver, names_altered}
 use Rattle.lq_update.specs.Updates.{numbered, step_of}
-use Rattle.lq_desk.specs.Passing.{is_among, are_apart, passes_over}
+use Rattle.lq_sub.specs.Passing.{is_among, are_apart, passes_over}
 
 -- none of the names that are apart is one of the others
 none-among : (names altered : List (List ℕ)) → list_any (is_among names) altered ≡ false
