@@ -1,10 +1,11 @@
 -- Read in this order. Canonical texts, a piece at a time: PartLemmas, CanonicalLemmas, SizeLemmas,
--- QuerySizeLemmas, FitLemmas, DepthLemmas, StarredLemmas. Names and truth: NameLemmas, TruthLemmas.
--- The stack: StackLemmas. Reading: WeightLemmas, ValidatorLemmas, PlaceLemmas, SoFarLemmas,
--- LimitLemmas, ReadLemmas, ParserLemmas.
+-- QuerySizeLemmas, FitLemmas, DepthLemmas, StarredLemmas. Names and truth: NameLemmas, TruthLemmas,
+-- SpanLemmas. The stack: StackLemmas. Reading: WeightLemmas, ValidatorLemmas, PlaceLemmas,
+-- SoFarLemmas, LimitLemmas, ReadLemmas, ParserLemmas.
 pub mod PartLemmas
 pub mod NameLemmas
 pub mod TruthLemmas
+pub mod SpanLemmas
 pub mod StackLemmas
 pub mod CanonicalLemmas
 pub mod WeightLemmas

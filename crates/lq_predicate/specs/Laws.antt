@@ -1,9 +1,10 @@
 -- What is so of every predicate.
-use Rattle.std.specs.Prelude.{◌≡◌, ℕ, List, true}
+use Rattle.std.specs.Prelude.{◌≡◌, ◌⊎◌, ℕ, List, true}
 use Rattle.std.specs.List.{list_any}
 use Rattle.std.specs.Str.{bytes_eq}
 use Rattle.lq_formula.specs.Query.{Query}
 use Rattle.lq_predicate.specs.Names.{names_of}
+use Rattle.lq_predicate.specs.Span.{StaysBeside, span_of}
 use Rattle.lq_predicate.specs.Truth.{Look, truth}
 
 -- the truth of a predicate goes by what a row shows under these names alone
@@ -15,3 +16,10 @@ GoesBy names q = (look other : Look)
 -- and it goes by the names of its attributes
 abbrev pub TruthGoesByNames : Type 0
 TruthGoesByNames = (q : Query) → GoesBy (names_of q) q
+
+-- it is the same of two rows where each name shows the same, or a number that stays beside all that
+-- the predicate compares the name with
+abbrev pub TruthStaysBesideSpans : Type 0
+TruthStaysBesideSpans = (q : Query) (look now : Look)
+    → ((name : List ℕ) → (look name ≡ now name) ⊎ StaysBeside (span_of name q) (look name) (now name))
+    → truth q look ≡ truth q now

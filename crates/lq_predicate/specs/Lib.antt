@@ -8,6 +8,7 @@ pub mod Refusals
 pub mod Field
 pub mod Truth
 pub mod Names
+pub mod Span
 pub mod Laws
 pub mod Operand
 pub mod Stacked

@@ -8,12 +8,14 @@ ghost use Rattle.lq_value.specs.Refusal.{IsRefusedBy};
 ghost use Rattle.lq_formula.specs.Capped.{capped};
 ghost use Rattle.lq_predicate.specs.Limits.{is_formed};
 ghost use Rattle.lq_predicate.specs.Names.{attributes, each_once, is_among};
+ghost use Rattle.lq_predicate.specs.Span.{numbers_of, span_of, widened};
 ghost use Rattle.lq_predicate.specs.Truth.{truth};
 
 use crate::column::Column;
+use crate::span::Span;
 use crate::truth::Row;
 use lq_formula::{comparison_size, put_comparison};
-use lq_value::{AttrName, Literal, Op, Refusal, compare};
+use lq_value::{AttrName, Literal, Op, Refusal, compare, same_text};
 use std::alloc::{AllocError, Global};
 use std::marker::Model;
 
@@ -264,6 +266,36 @@ impl Tree {
             }
         }
         Ok(())
+    }
+
+    // The least and the greatest number that it compares an attribute with.
+    pub(crate) fn span(&self, attr: &str) -> Span
+        ensures { result ≡ span_of attr.now self.now }
+    {
+        let mut span = Span::new();
+        self.add_numbers(attr, &mut span);
+        span
+    }
+
+    // The numbers that it compares an attribute with, to a span of those before.
+    fn add_numbers(&self, attr: &str, span: &mut Span)
+        ensures { span.new ≡ widened span.old (numbers_of attr.now self.now) }
+    {
+        match &self.node {
+            TreeNode::Compare(column, _, literal) => {
+                if same_text(column.name().as_str(), attr)
+                    && let Some(number) = literal.number()
+                {
+                    span.add(number);
+                }
+            }
+            TreeNode::Not(part) => part.add_numbers(attr, span),
+            TreeNode::And(parts) | TreeNode::Or(parts) => {
+                for part in parts {
+                    part.add_numbers(attr, span);
+                }
+            }
+        }
     }
 }
 
