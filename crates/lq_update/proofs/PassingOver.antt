@@ -1,19 +1,25 @@
 -- A change under names that a predicate doesn't go by leaves its result as it was.
-use Rattle.std.proofs.Common.{◌≡◌, ℕ, ℤ, List, [], ◌∷◌, refl, sym, ap, subst, ◌∙◌, Bool, true, false}
-use Rattle.std.specs.Prelude.{Option, Some, None, map, filter, codes, not, cond, ◌==◌}
+use Rattle.std.proofs.Common.{◌≡◌, ◌⊎◌, inl, inr, ℕ, ℤ, pos, List, [], ◌∷◌, refl, sym, ap, subst, ◌∙◌, Bool, true, false, arith}
+use Rattle.std.specs.Prelude.{Option, Some, None, map, filter, codes, not, cond, ◌==◌, nat_eq, option_and_then}
 use Rattle.std.specs.List.{AllByRecursion, list_any}
+use Rattle.std.specs.Map.{lookup}
+use Rattle.std.specs.Option.{option_map}
 use Rattle.std.specs.Str.{bytes_eq}
+use Rattle.std.proofs.lemmas.Bool.{cases_eq}
+use Rattle.std.proofs.lemmas.Bool.Decides.{nat_tests}
 use Rattle.std.proofs.lemmas.Map.Entries.{lookup-filter-keys}
 use Rattle.std.proofs.lemmas.Slice.Eq.{bytes_eq-Decides}
 use Rattle.lq_value.specs.declared.entry.Entry.{Entry}
 use Rattle.lq_value.specs.declared.value.Value.{Value}
 use Rattle.lq_formula.specs.Query.{Query}
+use Rattle.lq_predicate.specs.Laws.{TruthStaysBesideSpans}
+use Rattle.lq_predicate.specs.Span.{StaysBeside, is_beside, span_of}
 use Rattle.lq_predicate.specs.Truth.{truth}
 use Rattle.lq_volume.specs.declared.change.Change.TheVariants.{Create, Remove, Move, Write, SetAttr, RemoveAttr}
 use Rattle.lq_volume.specs.Attributes.{Attributes, value_of, with_attr, without_attr}
-use Rattle.lq_volume.specs.State.{State, Record, IsVolume}
+use Rattle.lq_volume.specs.State.{State, Record, IsVolume, record_at}
 use Rattle.lq_volume.specs.Change.{after, altered, written, set_attr, remove_attr}
-use Rattle.lq_volume.specs.Result.{result_of, entry_of, shown}
+use Rattle.lq_volume.specs.Result.{result_of, entry_of, entry_if, match_at, shown}
 use Rattle.lq_update.specs.Diff.{missing, messages_of, diff}
 use Rattle.lq_update.specs.Fold.{EntriesRise}
 use Rattle.lq_update.specs.Laws.{ChangesPassOver}
@@ -169,3 +175,65 @@ changes-pass q moved s (RemoveAttr node attr) names altered v by is off =
     (λ r. by (shown (remove_attr attr r)) (shown r) (λ name among.
     shown-remove_attr attr r name (same-name names name attr among off_one.0)))
     (λ n r. refl) s.records)
+
+-- ---- a write of numbers that stay beside those of the query
+
+-- what is looked up under an altered node
+lookup-altered : (node : ℕ) (f : Record → Record) (es : List (ℕ × Record))
+    → lookup (nat_eq node) (altered node f es) ≡ option_map f (lookup (nat_eq node) es)
+lookup-altered node f [] = refl
+lookup-altered node f (e ∷ es) = elim (cases_eq e.0 node) [
+  | inl same ↦ grind (arith, nat_tests)
+  | inr differs ↦ grind (arith, nat_tests, lookup-altered node f es)
+]
+
+-- what a written record shows is the same, or stays beside the numbers of the query
+shown-beside : (q : Query) (r : Record) (size : ℕ) (time : ℤ)
+    → is_beside (span_of (codes "size") q) (pos r.size) (pos size) ≡ true
+    → is_beside (span_of (codes "last_modified") q) r.time time ≡ true
+    → (name : List ℕ) → (shown r name ≡ shown (written size time r) name)
+    ⊎ StaysBeside (span_of name q) (shown r name) (shown (written size time r) name)
+shown-beside q r size time sizes times name =
+    by (bytes_eq name (codes "size")) refl (bytes_eq name (codes "last_modified")) refl
+  where
+    Goal : List ℕ → Type 0
+    Goal n = (shown r n ≡ shown (written size time r) n)
+        ⊎ StaysBeside (span_of n q) (shown r n) (shown (written size time r) n)
+
+    by : (b : Bool) → bytes_eq name (codes "size") ≡ b
+        → (d : Bool) → bytes_eq name (codes "last_modified") ≡ d → Goal name
+    by true is d other =
+        let same : name ≡ codes "size" = (bytes_eq-Decides name (codes "size")).0 is in
+        subst Goal (sym same) (inr (record {
+          from = pos r.size;
+          to = pos size;
+          was = refl;
+          is = refl;
+          beside = sizes;
+        }))
+    by false is true other =
+        let same : name ≡ codes "last_modified" =
+        (bytes_eq-Decides name (codes "last_modified")).0 other in
+        subst Goal (sym same) (inr (record {
+          from = r.time;
+          to = time;
+          was = refl;
+          is = refl;
+          beside = times;
+        }))
+    by false is false other = inl (sym (shown-written size time r name is other))
+
+-- a write that leaves the truth of a query leaves its match at the node
+pub match-written : TruthStaysBesideSpans
+    → (q : Query) (s : State) (r : Record) (node size : ℕ) (time : ℤ) → record_at s node ≡ Some r
+    → is_beside (span_of (codes "size") q) (pos r.size) (pos size) ≡ true
+    → is_beside (span_of (codes "last_modified") q) r.time time ≡ true
+    → match_at q (after s (Write node size time)) node ≡ match_at q s node
+match-written law q s r node size time is sizes times =
+    let same : truth q (shown r) ≡ truth q (shown (written size time r)) =
+    law q (shown r) (shown (written size time r)) (shown-beside q r size time sizes times) in
+    let there : record_at (after s (Write node size time)) node ≡ Some (written size time r) =
+    lookup-altered node (written size time) s.records ∙ ap (option_map (written size time)) is in
+    ap (option_and_then (λ r. entry_if q (node, r))) there
+    ∙ ap (λ b. cond b (Some (entry_of (node, r))) None) (sym same)
+    ∙ sym (ap (option_and_then (λ r. entry_if q (node, r))) is)

@@ -26,4 +26,4 @@ pub use mark::{Cause, Mark};
 pub use message::{Message, Opcode};
 pub use parcel::Parcel;
 pub use rebuild::Rebuild;
-pub use stepping::{may_tell, step, step_planned};
+pub use stepping::{may_tell, step, step_planned, writes_beside};

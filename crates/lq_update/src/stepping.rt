@@ -1,7 +1,9 @@
 //! The messages of one change, by the node that it touches.
-ghost use Rattle.std.specs.Prelude.{◌≡◌, ℕ, Bool, false, [], ◌+◌, ◌<◌, ◌≤◌, ◌^◌, ◌++◌, None, IfOk, OnOk, map, option_and_then, vec_len};
+ghost use Rattle.std.specs.Prelude.{◌≡◌, ℕ, Bool, true, false, [], ◌+◌, ◌<◌, ◌≤◌, ◌^◌, ◌++◌, None, IfOk, OnOk, map, option_and_then, vec_len};
 ghost use Rattle.std.specs.Option.{option_copied, option_to_list};
 ghost use Rattle.lq_value.specs.Refusal.{IsRefusedBy};
+ghost use Rattle.lq_formula.specs.Query.{Query};
+ghost use Rattle.lq_predicate.specs.Span.{spans_of};
 ghost use Rattle.lq_volume.specs.Change.{after, node_of, IsLawful};
 ghost use Rattle.lq_volume.specs.Result.{entry_if};
 ghost use Rattle.lq_update.specs.declared.message.Opcode.TheVariants.{Removed, Moved};
@@ -9,7 +11,7 @@ ghost use Rattle.lq_update.specs.Updates.{numbered, step_of};
 ghost use Rattle.lq_update.specs.Touched.{entry_at, left, left_at, told_first, told_last};
 
 use crate::message::{Message, Opcode};
-use lq_predicate::{Predicate, holds};
+use lq_predicate::{Predicate, Spans, holds, truth_stays_beside_spans};
 use lq_value::{Entry, Refusal};
 use lq_volume::{
     Change, Planned, Seen, Volume, accepted_changes_keep_trees, clobbered_nodes_go,
@@ -84,6 +86,29 @@ pub fn may_tell(predicate: &Predicate, planned: &Planned<'_>) -> bool
         return false;
     }
     true
+}
+
+/// Whether a planned change is a write whose size and time stay on one side of all numbers that a
+/// query compares them with: where it is true, `step_planned` has no message.
+///
+/// It asks the predicate nothing, but its `Spans`. It takes no memory.
+pub fn writes_beside(spans: &Spans, planned: &Planned<'_>) -> bool
+    ensures { (q : Query) → (moved : Bool) → (seq : ℕ) → result ≡ true → spans.now ≡ spans_of q
+        → step_of q moved planned.now.before planned.now.change seq ≡ [] }
+{
+    truth_stays_beside_spans();
+    accepted_changes_keep_trees();
+    untouched_nodes_stay();
+    clobbered_nodes_go();
+    // For its clauses `lawful` and `volume`.
+    let _ = planned.applied();
+    let Change::Write { size, time, .. } = planned.change() else {
+        return false;
+    };
+    let Some(seen) = planned.seen_before() else {
+        return false;
+    };
+    spans.is_beside_sizes(seen.size(), *size) && spans.is_beside_times(seen.time(), *time)
 }
 
 // What is told where these left at the change's own node and came into it there.

@@ -85,6 +85,20 @@ impl<'a> Seen<'a> {
         }
     }
 
+    /// Its size, in bytes. It takes no memory.
+    pub fn size(&self) -> u64
+        ensures { result ≡ self.now.size }
+    {
+        self.size
+    }
+
+    /// When it was last modified, in seconds since 1970. It takes no memory.
+    pub fn time(&self) -> i64
+        ensures { result ≡ self.now.time }
+    {
+        self.time
+    }
+
     /// Whether another has the same place: the same folder and name. It takes no memory.
     pub fn shares_place(&self, other: &Seen<'_>) -> bool
         ensures { result ≡ has_same_place self.now other.now }
