@@ -6,8 +6,10 @@ ghost use Rattle.lq_predicate.specs.Names.{names_of};
 ghost use Rattle.lq_volume.specs.Change.{IsLawful};
 ghost use Rattle.lq_sub.specs.Passing.{are_written, is_among, passes_over};
 
-use lq_predicate::{Predicate, names, truth_goes_by_names};
-use lq_update::{Cause, Mark, Message, Parcel, changes_pass_over, may_tell, step_planned};
+use lq_predicate::{Predicate, Spans, names, truth_goes_by_names};
+use lq_update::{
+    Cause, Mark, Message, Parcel, changes_pass_over, may_tell, step_planned, writes_beside,
+};
 use lq_value::{AttrName, Refusal, same_text};
 use lq_volume::{Change, Planned, Volume};
 use std::alloc::Global;
@@ -26,6 +28,8 @@ pub struct Sub {
     names: Vec<AttrName>,
     // Whether a write alters what one of these names shows.
     sees_writes: bool,
+    // The numbers that the query compares sizes and times with lie within these.
+    spans: Spans,
     moved: bool,
     opened: u64,
     backlog: u64,
@@ -46,6 +50,7 @@ impl Drop for Sub {
             predicate: _,
             names: _,
             sees_writes: _,
+            spans: _,
             moved: _,
             opened: _,
             backlog: _,
@@ -63,6 +68,7 @@ impl Drop for Sub {
 impl Model for Sub {
     ghost use Rattle.std.specs.Prelude.{◌≡◌, ◌+◌, ◌≤◌, vec_len, if◌then◌else◌};
     ghost use Rattle.lq_predicate.specs.Names.{names_of};
+    ghost use Rattle.lq_predicate.specs.Span.{spans_of};
     ghost use Rattle.std.specs.VecDeque.{deque_len, deque_capacity};
     ghost use Rattle.lq_sub.specs.Held.{Prepared};
     ghost use Rattle.lq_sub.specs.Passing.{are_written};
@@ -92,7 +98,8 @@ impl Model for Sub {
     ghost invariant = { λ s. (deque_len s.messages + vec_len s.ready
         + (if s.lent then 1 else 0) ≤ deque_capacity s.messages)
         × (s.names.items ≡ names_of s.predicate)
-        × (s.sees_writes ≡ are_written (names_of s.predicate)) };
+        × (s.sees_writes ≡ are_written (names_of s.predicate))
+        × (s.spans ≡ spans_of s.predicate) };
 }
 
 impl Sub {
@@ -121,6 +128,7 @@ impl Sub {
             predicate: predicate.copy(alloc)?,
             names,
             sees_writes,
+            spans: Spans::new(predicate),
             moved,
             opened: at,
             backlog,
@@ -195,7 +203,10 @@ impl Sub {
         changes_pass_over();
         truth_goes_by_names();
         let before = planned.applied().change - 1;
-        if self.passes_over(planned.change()) || !may_tell(&self.predicate, planned) {
+        if self.passes_over(planned.change())
+            || writes_beside(&self.spans, planned)
+            || !may_tell(&self.predicate, planned)
+        {
             self.forget_ready(before);
             return Ok(());
         }
