@@ -11,6 +11,8 @@ mod acts;
 #[cfg(test)]
 mod again;
 #[cfg(test)]
+mod beside;
+#[cfg(test)]
 mod bodies;
 #[cfg(test)]
 mod calls;
