@@ -21,5 +21,6 @@ TruthGoesByNames = (q : Query) → GoesBy (names_of q) q
 -- the predicate compares the name with
 abbrev pub TruthStaysBesideSpans : Type 0
 TruthStaysBesideSpans = (q : Query) (look now : Look)
-    → ((name : List ℕ) → (look name ≡ now name) ⊎ StaysBeside (span_of name q) (look name) (now name))
+    → ((name : List ℕ) →
+    (look name ≡ now name) ⊎ StaysBeside (span_of name q) (look name) (now name))
     → truth q look ≡ truth q now

@@ -11,6 +11,7 @@ loop-part-preserved t c =
     c.loop-part.part-index c.part-item.result c.loop-part-test.true c.part-item.is in
     let rest = all_numbers c.args.attr.now
     (queries (drop (c.loop-part.part-index + 1) c.deref-part-items.result.now)) in
-    let more = widened-append c.loop-part.span (numbers_of c.args.attr.now c.part-item.result) rest in
+    let numbers = numbers_of c.args.attr.now c.part-item.result in
+    let more = widened-append c.loop-part.span numbers rest in
     ap (λ span. widened span rest) c.add_numbers-in-loop-part.ensures ∙ sym more
     ∙ ap (widened c.loop-part.span) (sym here) ∙ c.loop-part.invariant
