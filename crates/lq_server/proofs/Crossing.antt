@@ -29,10 +29,10 @@ use Rattle.lq_subscription.specs.contracts.delivery.DeliveryFollows.TheImpl.{gho
 use Rattle.lq_subscription.specs.contracts.identity.Identity as identity
 use Rattle.lq_subscription.specs.contracts.subscription.Subscription as slot
 use Rattle.lq_subscription.proofs.delivery.Delivery.TheSendSync as found_delivery
-use Rattle.lq_slots.specs.declared.named.Named.{Ghosts}
-use Rattle.lq_slots.specs.contracts.locked.Locked as locked
+use Rattle.lq_locked.specs.declared.named.Named.{Ghosts}
+use Rattle.lq_locked.specs.contracts.locked.Locked as locked
 use Rattle.lq_slots.specs.contracts.slots.Slots as slots
-use Rattle.lq_slots.specs.contracts.locked.Locked.TheInside as in_locked
+use Rattle.lq_locked.specs.contracts.locked.Locked.TheInside as in_locked
 use Rattle.lq_server.specs.contracts.server.Server as server
 use Rattle.lq_server.specs.contracts.server.Server.TheInside as in_server
 

@@ -4,7 +4,7 @@ ghost use Rattle.lq_value.specs.Refusal.{IsRefusedBy};
 ghost use Rattle.lq_server.specs.Works.{AllGive};
 
 use crate::server::Server;
-use lq_slots::Named;
+use lq_locked::Named;
 use lq_value::Refusal;
 use std::sync::Wait;
 use std::thread::{Threads, join, map_vec};

@@ -16,7 +16,8 @@ ghost use Rattle.lq_server.specs.Syncing.{IsRead, IsUnread};
 
 use crate::server::Server;
 use lq_board::Seat;
-use lq_slots::{Named, Opened};
+use lq_locked::Named;
+use lq_slots::Opened;
 use lq_sub::Read;
 use lq_subscription::{Identity, Reading, books_extend_themselves};
 use lq_value::{Entry, Refusal};

@@ -5,7 +5,7 @@ ghost use Rattle.lq_volume.specs.Book.{Extends};
 ghost use Rattle.lq_server.specs.Retired.{IsRetired};
 
 use lq_board::{Board, Seat};
-use lq_slots::{Base, Locked, Named};
+use lq_locked::{Base, Locked, Named};
 use lq_subscription::Identity;
 use lq_update::Mark;
 use lq_value::Refusal;

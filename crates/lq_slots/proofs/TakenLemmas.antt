@@ -3,7 +3,7 @@ use Rattle.std.proofs.Common.{◌≡◌, ◌≢◌, ◌⊎◌, ⊎_elim, inl, in
 use Rattle.std.specs.Prelude.{IsSome, is_some, slice_index_or}
 use Rattle.std.specs.List.{remove}
 use Rattle.std.proofs.lemmas.Bool.{cases_lt}
-use Rattle.std.proofs.lemmas.List.{get_or_append_left}
+use Rattle.std.proofs.lemmas.List.{get_or_append_left, get_or_read}
 use Rattle.std.proofs.Math.Seq.{get_or-append_seam}
 use Rattle.std.proofs.lemmas.List.Edits.{length-remove, get_or-remove_below, get_or-remove_above}
 use mathlib.Core.Logic.{dite}
@@ -12,10 +12,12 @@ use Rattle.lq_volume.specs.State.{State}
 use Rattle.lq_volume.specs.declared.change.Change.{Change}
 use Rattle.lq_board.specs.declared.views.Slot.{Slot as Known}
 use Rattle.lq_volume.specs.Book.{Book}
+use Rattle.lq_board.specs.Slot.{slot_at}
+use Rattle.lq_board.specs.Token.{KeeperToken}
 use Rattle.lq_subscription.specs.declared.identity.Identity.{Identity}
 use Rattle.lq_subscription.specs.declared.subscription.Subscription.{Subscription}
-use Rattle.lq_slots.specs.Slots.{SlotStands, slot_in, place_at, IsListed, IsDropped, IsReadyAt, AllReady, all_taken, is_full}
-use Rattle.lq_slots.proofs.SlotLemmas.{in_here, in_else}
+use Rattle.lq_slots.specs.Slots.{AllStand, OnlyAt, SlotStands, asks_of, slot_in, place_at, IsListed, IsDropped, IsReadyAt, AllReady, all_taken, is_full}
+use Rattle.lq_slots.proofs.SlotLemmas.{all_stand-step, in_here, in_else}
 
 -- a slot is free or taken
 pub free_or_taken : (o : Option Subscription) → (o ≡ None) ⊎ IsSome o
@@ -76,6 +78,26 @@ listed-set taken slots k o l wide within kept =
     (some_ap _ _ (in_here slots k o (omega arith)) ∙ kept))
     (λ (ne : j ≢ k). some_ap _ _ (in_else slots k j o ne)))
     l
+
+-- one slot was set, which was read as `was` and stays taken or free, j beside k for the place of its
+-- seat, and no asks were added
+pub slots_stand-step : (keeper keeper' : KeeperToken Identity) (slots : List (Option Subscription))
+    (taken : List ℕ) (j k openings : ℕ) (was o : Option Subscription) (book book' : Book)
+    → AllStand keeper slots openings book × IsListed taken slots → 0 < k → k < 65 → j ≡ k
+    → book' ≡ book → was ≡ slice_index_or slots k was → OnlyAt keeper.slots keeper'.slots j
+    → SlotStands o (slot_at keeper'.slots j) book'
+    → asks_of o (slot_at keeper'.slots j) ≤ asks_of was (slot_at keeper.slots j)
+    → is_some o ≡ is_some was
+    → AllStand keeper' (slice_set slots k o) openings book' × IsListed taken (slice_set slots k o)
+slots_stand-step keeper keeper' slots taken j k openings was o book book' h pos within e same value
+    only fits asks kept =
+    let wide = h.0.wide in
+    let read : was ≡ slot_in slots k = get_or_read slots k was (omega arith) value None in (
+      all_stand-step keeper keeper' slots j k openings o book book' h.0 pos within e same only fits
+          (subst (λ (z : Option Subscription). asks_of o (slot_at keeper'.slots j) ≤ asks_of z
+          (slot_at keeper.slots j)) read asks),
+      listed-set taken slots k o h.1 wide within (kept ∙ some_ap _ _ read),
+    )
 
 -- what holds of each number below n and of n holds below n + 1
 up_to : (P : ℕ → Type 0) (n i : ℕ) → i < n + 1 → (i < n → P i) → P n → P i

@@ -1,4 +1,3 @@
 pub mod Slots
 pub mod Opening
 pub mod Progress
-pub mod Applied

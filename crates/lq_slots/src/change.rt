@@ -17,7 +17,7 @@ use std::sync::Wait;
 ///
 /// A refused change takes one walk over the taken slots, or two where memory was wanting; an
 /// accepted one takes two.
-pub(crate) fn change_in<R: Wait>(
+pub fn change_in<R: Wait>(
     rt: &R,
     board: &Board<Identity>,
     slots: &mut Slots,

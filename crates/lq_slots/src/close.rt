@@ -88,7 +88,7 @@ fn close_at<R: Wait>(
 }
 
 /// Closes the seat's subscription, unless it has ended, and answers the number of changes.
-pub(crate) fn close_in<R: Wait>(
+pub fn close_in<R: Wait>(
     rt: &R,
     board: &Board<Identity>,
     slots: &mut Slots,
@@ -171,7 +171,7 @@ fn take_out(taken: &mut Vec<usize>, place: usize)
 }
 
 /// Frees a slot, whose seat comes back.
-pub(crate) fn free_in(
+pub fn free_in(
     board: &Board<Identity>,
     slots: &mut Slots,
     place: usize,

@@ -1,19 +1,18 @@
-//! What stands under the server's lock: the volume, the keeper of the board, and 64 slots.
+//! The 64 slots of subscriptions under the server's lock, with the keeper of the board beside it.
 //!
-//! Contracts see a `Locked<N>` as the book of the keeper. Its invariant (`specs/Slots`) says what
-//! each taken slot has been told over that book, and N names the board that stands beside the
-//! lock. Puts and takes may wait for a step of a port's other end. Begin with `locked`.
+//! Contracts see `Slots` by their fields: `SlotsStand` (`specs/Slots`) says what each taken slot has
+//! been told over a book, and that the list of the taken places is right. Puts and takes may wait
+//! for a step of a port's other end. Begin with `slots`, then `change`.
 #![tactic(auto)]
 
 mod change;
 mod close;
-mod locked;
-mod named;
 mod open;
 mod slots;
 mod sync;
 
-pub use locked::{Found, Locked};
-pub use named::{Base, Named};
-pub use open::Opened;
-pub use sync::Progress;
+pub use change::change_in;
+pub use close::{close_in, free_in};
+pub use open::{Asked, Opened, open_in};
+pub use slots::Slots;
+pub use sync::{Progress, meet_in, sync_in};

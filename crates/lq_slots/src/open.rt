@@ -51,11 +51,11 @@ fn free_place(slots: &[Option<Subscription>]) -> Option<usize>
 
 /// What an opening asks for.
 #[derive(Clone, Copy)]
-pub(crate) struct Asked<'a> {
-    pub(crate) predicate: &'a Predicate,
-    pub(crate) port: u64,
-    pub(crate) backlog: u64,
-    pub(crate) moved: bool,
+pub struct Asked<'a> {
+    pub predicate: &'a Predicate,
+    pub port: u64,
+    pub backlog: u64,
+    pub moved: bool,
 }
 
 // A subscription over the keeper's book, and the end of it that reads.
@@ -194,7 +194,7 @@ fn settle(
 /// Refused, the first that fits: `BadPort`, `BadBacklog`, `NoSlot` where no slot is free,
 /// `Exhausted` where as many were opened as the volume takes changes; or else `NoMemory`. A refused
 /// opening changes nothing, and isn't counted among those.
-pub(crate) fn open_in(
+pub fn open_in(
     alloc: Global,
     board: &Board<Identity>,
     slots: &mut Slots,

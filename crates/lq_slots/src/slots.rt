@@ -26,8 +26,30 @@ pub struct Slots {
     pub openings: u64,
 }
 
-/// All slots free.
-pub(crate) fn free(alloc: Global) -> Result<Vec<Option<Subscription>>, Refusal>
+impl Slots {
+    ghost use Rattle.lq_board.specs.Slot.{unused_slots};
+
+    /// 64 free slots, with a keeper of whose seats none is out. Refused: `NoMemory`.
+    pub fn new(alloc: Global, keeper: Keeper<Identity>) -> Result<Slots, Refusal>
+        requires unused { keeper.slots ≡ unused_slots }
+        ensures refused { IsRefusedBy result None }
+        ensures keeper { IfOk result (λ slots. slots.keeper ≡ keeper) }
+        ensures openings { IfOk result (λ slots. slots.openings ≡ 0) }
+        ensures holding { IfOk result (λ slots. SlotsStand slots keeper.book) }
+    {
+        let subscriptions = free(alloc)?;
+        let taken = Vec::with_capacity(alloc, PLACES)?;
+        Ok(Slots {
+            keeper,
+            subscriptions,
+            taken,
+            openings: 0,
+        })
+    }
+}
+
+// All slots free.
+fn free(alloc: Global) -> Result<Vec<Option<Subscription>>, Refusal>
     ensures refused { IsRefusedBy result None }
     ensures wide { IfOk result (λ slots. length slots.items ≡ 65) }
     ensures none { IfOk result (λ slots. (k : ℕ) → k < 65 → slot_in slots.items k ≡ None) }

@@ -222,7 +222,7 @@ fn meet_slot_at(
 }
 
 /// The seat of a slot knows the keeper's book, of as many changes as is answered.
-pub(crate) fn meet_in(
+pub fn meet_in(
     board: &Board<Identity>,
     slots: &mut Slots,
     place: usize,
@@ -244,7 +244,7 @@ pub(crate) fn meet_in(
 }
 
 /// How far the seat's subscription is. Its port is filled.
-pub(crate) fn sync_in<R: Wait>(
+pub fn sync_in<R: Wait>(
     rt: &R,
     board: &Board<Identity>,
     slots: &mut Slots,

@@ -3,7 +3,7 @@ use denote.RattleType.{RattleType}
 use denote.Ref.{NamedLft}
 use denote.Param.Send.{IsSend, IsSync, sendable}
 use Rattle.std.proofs.Crossing.{crosses}
-use Rattle.lq_slots.specs.declared.named.Named.{Ghosts}
+use Rattle.lq_locked.specs.declared.named.Named.{Ghosts}
 use Rattle.lq_reply.proofs.response.Response.TheSendSync as found_response
 use Rattle.lq_server.proofs.Crossing.{server_sync}
 use Rattle.lq_threads.specs.contracts.batch.Turn as turn

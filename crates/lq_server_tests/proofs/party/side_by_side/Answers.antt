@@ -8,7 +8,7 @@ use denote.Exit.{no}
 use denote.Param.{param}
 use denote.Param.Send.{IsSend, IsSync, sendable, param_send, arg_send}
 use Rattle.std.specs.contracts.alloc.Global as global
-use Rattle.lq_slots.specs.declared.named.Named.{Ghosts}
+use Rattle.lq_locked.specs.declared.named.Named.{Ghosts}
 use Rattle.lq_server.specs.contracts.server.Server as server
 use Rattle.lq_server_tests.specs.contracts.party.Party as party
 use Rattle.std.proofs.Crossing.{crosses}

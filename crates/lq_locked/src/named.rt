@@ -3,8 +3,8 @@ ghost use Rattle.std.specs.Prelude.{◌≡◌, None};
 ghost use Rattle.lq_value.specs.Refusal.{IsRefusedBy};
 
 use crate::locked::Locked;
-use crate::slots::{PLACES, Slots, free};
 use lq_board::Board;
+use lq_slots::Slots;
 use lq_subscription::Identity;
 use lq_value::Refusal;
 use lq_volume::Volume;
@@ -73,14 +73,7 @@ impl Base {
         ensures refused { IsRefusedBy result None }
     {
         let (board, keeper) = Board::new(alloc, &volume)?;
-        let subscriptions = free(alloc)?;
-        let taken = Vec::with_capacity(alloc, PLACES)?;
-        let slots = Slots {
-            keeper,
-            subscriptions,
-            taken,
-            openings: 0,
-        };
+        let slots = Slots::new(alloc, keeper)?;
         Ok(Base {
             board,
             slots,

@@ -14,16 +14,14 @@ ghost use Rattle.lq_subscription.specs.Marking.{first_close};
 ghost use Rattle.lq_slots.specs.Slots.{SlotsStand};
 ghost use Rattle.lq_slots.specs.Opening.{IsOpened, IsOpeningRefused, IdentityFits, asks_after, name_or, opening_refusal};
 ghost use Rattle.lq_slots.specs.Progress.{ShowsProgress};
-ghost use Rattle.lq_slots.specs.Applied.{IsAdded};
+ghost use Rattle.lq_locked.specs.Applied.{IsAdded};
 
-use crate::change::change_in;
-use crate::close::{close_in, free_in};
 use crate::named::Named;
-use crate::open::{Asked, Opened, open_in};
-use crate::slots::Slots;
-use crate::sync::{Progress, meet_in, sync_in};
 use lq_board::{Board, Keeper, Seat};
 use lq_predicate::Predicate;
+use lq_slots::{
+    Asked, Opened, Progress, Slots, change_in, close_in, free_in, meet_in, open_in, sync_in,
+};
 use lq_subscription::{Identity, Reading};
 use lq_value::{Entry, Name, Refusal};
 use lq_volume::{Applied, Change, Listing, Volume};
