@@ -1,15 +1,13 @@
-//! Tests of lq_value, lq_compact, lq_formula, lq_predicate, lq_json and lq_lines, a module each.
+//! Tests of lq_value, lq_predicate, lq_json and lq_lines: what no script or formula can show.
 #![tactic(auto)]
 
 #[cfg(test)]
-mod compact;
-#[cfg(test)]
-mod formulas;
+mod displays;
 #[cfg(test)]
 mod json_values;
 #[cfg(test)]
 mod lines;
 #[cfg(test)]
-mod predicates;
+mod patterns;
 #[cfg(test)]
-mod values;
+mod predicates;
