@@ -1,3 +1,2 @@
--- Crossing is what threads take of a port; ReplyLemmas is that no reply has a float.
-pub mod Crossing
+-- ReplyLemmas is that no reply has a float.
 pub mod ReplyLemmas

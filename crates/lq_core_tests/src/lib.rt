@@ -1,11 +1,9 @@
-//! Tests of lq_update, lq_desk, lq_reply, lq_board and lq_port, a module each, and the plain way to
-//! a reply (`plain`) beside that by pieces.
+//! Tests of lq_sub, lq_reply, lq_board and lq_port, a module each, and the plain way to a reply
+//! (`plain`) beside that by pieces.
 #![tactic(auto)]
 
 #[cfg(test)]
 mod boards;
-#[cfg(test)]
-mod desks;
 #[cfg(test)]
 mod plain;
 #[cfg(test)]
@@ -13,4 +11,4 @@ mod ports;
 #[cfg(test)]
 mod replies;
 #[cfg(test)]
-mod updates;
+mod subs;

@@ -1,8 +1,8 @@
--- The name of the slot's subscription.
+-- The names of the slot's subscriptions.
 use Rattle.lq_core_tests.proofs.boards.words.Given as goal
 
 abbrev pub ghost-slot_seat : goal.ghost-slot_seat
-ghost-slot_seat a = record { opened = 0 }
+ghost-slot_seat a = 0
 
 abbrev pub ghost-meet_slot : goal.ghost-meet_slot
-ghost-meet_slot a = record { opened = 1 }
+ghost-meet_slot a = 1
