@@ -2,7 +2,7 @@
 use lq_value::{AttrName, Kind, Name, Value};
 
 /// One act on a volume. Nodes count from 1, the root; times are seconds since 1970.
-#[derive(Debug, Drop)]
+#[derive(Drop)]
 pub enum Change {
     /// A new entry in the folder `dir`, under the next node; `size` is in bytes.
     Create {
@@ -43,7 +43,7 @@ pub enum Change {
 }
 
 /// What an accepted change did: its number, from 1 on, and the node that it created or named.
-#[derive(Clone, Copy, Debug, PartialEq, Eq)]
+#[derive(Clone, Copy, Debug)]
 pub struct Applied {
     pub change: u64,
     pub node: u64,

@@ -1,15 +1,20 @@
-//! Why each change is refused: the first test of its table that holds.
-ghost use Rattle.std.specs.Prelude.{◌≡◌, [], ◌∷◌, ◌==◌, true, Some, None, IfErr, IfOk, IfSome, OnOk, is_none};
+//! Why each change is refused, by the first test of its table that holds, or what it touches.
+ghost use Rattle.std.specs.Prelude.{◌≡◌, [], ◌∷◌, ◌==◌, ◌&&◌, true, Some, None, IfErr, IfOk, IfSome, OnOk, is_none};
 ghost use Rattle.std.specs.Option.{option_map};
-ghost use Rattle.lq_value.specs.declared.refusal.Refusal.TheVariants.{NoNode, NotFolder, Reserved, Exhausted};
+ghost use Rattle.lq_value.specs.declared.refusal.Refusal.TheVariants.{NoNode, NotFolder, Reserved};
 ghost use Rattle.lq_value.specs.Refusal.{first_refusal};
+ghost use Rattle.lq_volume.specs.declared.change.Change.TheVariants.{Remove, Move, Write, SetAttr, RemoveAttr};
 ghost use Rattle.lq_volume.specs.Attributes.{is_reserved};
-ghost use Rattle.lq_volume.specs.State.{root, record_at, kind_at, is_folder_at, reaches};
-ghost use Rattle.lq_volume.specs.Change.{create_refusals, remove_refusals, move_refusals, write_refusals, set_refusals, unset_refusals, is_file_at, is_full, other_at};
+ghost use Rattle.lq_volume.specs.Kind.{is_folder};
+ghost use Rattle.lq_volume.specs.State.{root, record_at, kind_at, is_folder_at, has_entries, reaches, IsVolume};
+ghost use Rattle.lq_volume.specs.Change.{create_refusals, refused, is_file_at, other_at};
+ghost use Rattle.lq_volume.specs.Plan.{IsPlanned};
 
+use crate::planned::{Touched, touched_at};
+use crate::seen::Difference;
 use crate::stored::Stored;
 use crate::volume::{ROOT, Volume};
-use lq_value::{AttrName, Kind, Name, Refusal};
+use lq_value::{AttrName, Kind, Name, Refusal, Value};
 
 /// The most bytes of a file: it shows as an `i64`.
 const MAX_SIZE: u64 = 9_223_372_036_854_775_807;
@@ -36,39 +41,40 @@ pub fn check_create(
     if size > MAX_SIZE {
         return Err(Refusal::TooLong);
     }
-    check_room(volume)
+    if volume.is_full() {
+        return Err(Refusal::Exhausted);
+    }
+    Ok(())
 }
 
-pub fn check_remove(volume: &Volume, node: u64) -> Result<&Stored, Refusal>
-    ensures ok { OnOk result (first_refusal (remove_refusals volume.now node) ≡ None) }
-    ensures err { IfErr result (λ e. first_refusal (remove_refusals volume.now node) ≡ Some e) }
-    ensures record { IfOk result (λ r. record_at volume.now node ≡ Some r.now) }
+pub fn check_remove(volume: &Volume, node: u64) -> Result<Touched<'_>, Refusal>
+    requires { IsVolume volume.now }
+    ensures ok { OnOk result (refused volume.now (Remove node) ≡ None) }
+    ensures err { IfErr result (λ e. refused volume.now (Remove node) ≡ Some e) }
+    ensures touched { IfOk result (IsPlanned volume.now (Remove node)) }
 {
     let record = entry_at(volume, node)?;
-    if record.is_folder() && volume.has_entries(node) {
+    if is_filled(volume, node, record) {
         return Err(Refusal::NotEmpty);
     }
-    check_room(volume)?;
-    Ok(record)
+    if volume.is_full() {
+        return Err(Refusal::Exhausted);
+    }
+    Ok(touched_at(node, record, None, None))
 }
 
-/// The record of the moved entry, and that of the other one that goes.
 pub fn check_move<'a>(
     volume: &'a Volume,
     moved: u64,
     dir: u64,
-    name: &Name,
+    name: &'a Name,
     clobber: bool,
-) -> Result<(&'a Stored, Option<(u64, &'a Stored)>), Refusal>
-    ensures ok { OnOk result
-        (first_refusal (move_refusals volume.now moved dir name.now clobber) ≡ None) }
+) -> Result<Touched<'a>, Refusal>
+    requires { IsVolume volume.now }
+    ensures ok { OnOk result (refused volume.now (Move moved dir name.now clobber) ≡ None) }
     ensures err { IfErr result (λ e.
-        first_refusal (move_refusals volume.now moved dir name.now clobber) ≡ Some e) }
-    ensures record { IfOk result (λ both. record_at volume.now moved ≡ Some both.0.now) }
-    ensures other { IfOk result (λ both.
-        option_map (λ e. e.0) both.1 ≡ other_at volume.now moved dir name.now) }
-    ensures other_record { IfOk result (λ both.
-        IfSome both.1 (λ e. record_at volume.now e.0 ≡ Some e.1.now)) }
+        refused volume.now (Move moved dir name.now clobber) ≡ Some e) }
+    ensures touched { IfOk result (IsPlanned volume.now (Move moved dir name.now clobber)) }
 {
     let record = entry_at(volume, moved)?;
     check_folder(volume, dir)?;
@@ -83,18 +89,22 @@ pub fn check_move<'a>(
         if there.is_folder() != record.is_folder() {
             return Err(Refusal::KindClash);
         }
-        if there.is_folder() && volume.has_entries(node) {
+        if is_filled(volume, node, there) {
             return Err(Refusal::NotEmpty);
         }
     }
-    check_room(volume)?;
-    Ok((record, other))
+    if volume.is_full() {
+        return Err(Refusal::Exhausted);
+    }
+    let after = record.seen_at(dir, name);
+    Ok(touched_at(moved, record, Some(after), other))
 }
 
-pub fn check_write(volume: &Volume, file: u64, size: u64) -> Result<&Stored, Refusal>
-    ensures ok { OnOk result (first_refusal (write_refusals volume.now file size) ≡ None) }
-    ensures err { IfErr result (λ e. first_refusal (write_refusals volume.now file size) ≡ Some e) }
-    ensures record { IfOk result (λ r. record_at volume.now file ≡ Some r.now) }
+pub fn check_write(volume: &Volume, file: u64, size: u64, time: i64) -> Result<Touched<'_>, Refusal>
+    requires { IsVolume volume.now }
+    ensures ok { OnOk result (refused volume.now (Write file size time) ≡ None) }
+    ensures err { IfErr result (λ e. refused volume.now (Write file size time) ≡ Some e) }
+    ensures touched { IfOk result (IsPlanned volume.now (Write file size time)) }
 {
     let record = entry_at(volume, file)?;
     if record.is_folder() {
@@ -103,37 +113,45 @@ pub fn check_write(volume: &Volume, file: u64, size: u64) -> Result<&Stored, Ref
     if MAX_SIZE < size {
         return Err(Refusal::TooLong);
     }
-    check_room(volume)?;
-    Ok(record)
+    if volume.is_full() {
+        return Err(Refusal::Exhausted);
+    }
+    let after = record.seen_with(size, time);
+    Ok(touched_at(file, record, Some(after), None))
 }
 
 pub fn check_set_attr<'a>(
     volume: &'a Volume,
     entry: u64,
-    attr: &AttrName,
-) -> Result<&'a Stored, Refusal>
-    ensures ok { OnOk result (first_refusal (set_refusals volume.now entry attr.now) ≡ None) }
+    attr: &'a AttrName,
+    value: &'a Value,
+) -> Result<Touched<'a>, Refusal>
+    requires { IsVolume volume.now }
+    ensures ok { OnOk result (refused volume.now (SetAttr entry attr.now value.now) ≡ None) }
     ensures err { IfErr result (λ e.
-        first_refusal (set_refusals volume.now entry attr.now) ≡ Some e) }
-    ensures record { IfOk result (λ r. record_at volume.now entry ≡ Some r.now) }
+        refused volume.now (SetAttr entry attr.now value.now) ≡ Some e) }
+    ensures touched { IfOk result (IsPlanned volume.now (SetAttr entry attr.now value.now)) }
 {
     let record = entry_at(volume, entry)?;
     if is_reserved(attr) {
         return Err(Refusal::Reserved);
     }
-    check_room(volume)?;
-    Ok(record)
+    if volume.is_full() {
+        return Err(Refusal::Exhausted);
+    }
+    let after = record.seen(Difference::Set { attr, value });
+    Ok(touched_at(entry, record, Some(after), None))
 }
 
 pub fn check_remove_attr<'a>(
     volume: &'a Volume,
     owner: u64,
-    attr: &AttrName,
-) -> Result<&'a Stored, Refusal>
-    ensures ok { OnOk result (first_refusal (unset_refusals volume.now owner attr.now) ≡ None) }
-    ensures err { IfErr result (λ e.
-        first_refusal (unset_refusals volume.now owner attr.now) ≡ Some e) }
-    ensures record { IfOk result (λ r. record_at volume.now owner ≡ Some r.now) }
+    attr: &'a AttrName,
+) -> Result<Touched<'a>, Refusal>
+    requires { IsVolume volume.now }
+    ensures ok { OnOk result (refused volume.now (RemoveAttr owner attr.now) ≡ None) }
+    ensures err { IfErr result (λ e. refused volume.now (RemoveAttr owner attr.now) ≡ Some e) }
+    ensures touched { IfOk result (IsPlanned volume.now (RemoveAttr owner attr.now)) }
 {
     let record = entry_at(volume, owner)?;
     if is_reserved(attr) {
@@ -142,8 +160,11 @@ pub fn check_remove_attr<'a>(
     if record.attrs().get(attr).is_none() {
         return Err(Refusal::NoAttr);
     }
-    check_room(volume)?;
-    Ok(record)
+    if volume.is_full() {
+        return Err(Refusal::Exhausted);
+    }
+    let after = record.seen(Difference::Unset { attr });
+    Ok(touched_at(owner, record, Some(after), None))
 }
 
 // The record of a node that is there, and is not the root.
@@ -162,6 +183,13 @@ fn entry_at(volume: &Volume, node: u64) -> Result<&Stored, Refusal>
         None => Err(Refusal::NoNode),
         Some(record) => Ok(record),
     }
+}
+
+// Whether a node is a folder with an entry.
+fn is_filled(volume: &Volume, node: u64, stored: &Stored) -> bool
+    ensures { result ≡ (is_folder stored.now.kind && has_entries volume.now node) }
+{
+    stored.is_folder() && volume.has_entries(node)
 }
 
 // Whether an entry would go into itself: nothing is in a file, so only a folder needs a walk.
@@ -209,20 +237,9 @@ fn check_folder(volume: &Volume, dir: u64) -> Result<(), Refusal>
     }
 }
 
-// Room for one change more.
-fn check_room(volume: &Volume) -> Result<(), Refusal>
-    ensures ok { OnOk result (first_refusal ((is_full volume.now, Exhausted) ∷ []) ≡ None) }
-    ensures err { IfErr result (λ e.
-        first_refusal ((is_full volume.now, Exhausted) ∷ []) ≡ Some e) }
-{
-    if volume.is_full() {
-        return Err(Refusal::Exhausted);
-    }
-    Ok(())
-}
-
 fn is_reserved(attr: &AttrName) -> bool
     ensures { result ≡ is_reserved attr.now }
 {
-    attr.as_str() == "name" || attr.as_str() == "size" || attr.as_str() == "last_modified"
+    let attr = attr.as_str();
+    attr == "name" || attr == "size" || attr == "last_modified"
 }

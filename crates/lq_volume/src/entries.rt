@@ -193,7 +193,7 @@ impl Entries {
         ensures entries { IfOk result (λ entries. entries.items
             ≡ map entry_of (filter (λ e. truth predicate.now (shown e.1)) self.now)) }
     {
-        Ok(self.records.fetch(self.alloc, predicate)?)
+        self.records.fetch(self.alloc, predicate)
     }
 
     /// The same records under the same nodes. Refused: `NoMemory`.

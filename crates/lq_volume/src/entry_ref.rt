@@ -24,7 +24,7 @@ impl<'a> Model for EntryRef<'a> {
 
 /// What a volume holds of an entry: its place, its kind, its size in bytes and `last_modified`
 /// in seconds since 1970.
-#[derive(Debug, Drop)]
+#[derive(Drop)]
 pub struct Listing {
     pub dir: u64,
     pub name: Name,

@@ -141,40 +141,21 @@ fn touched_by<'a>(volume: &'a Volume, change: &'a Change) -> Result<Touched<'a>,
                 clobbered: None,
             })
         }
-        Change::Remove { node } => {
-            let record = check_remove(volume, *node)?;
-            Ok(touched_at(*node, record, None, None))
-        }
+        Change::Remove { node } => check_remove(volume, *node),
         Change::Move {
             node,
             dir,
             name,
             clobber,
-        } => {
-            let (record, other) = check_move(volume, *node, *dir, name, *clobber)?;
-            let moved = record.seen_at(*dir, name);
-            Ok(touched_at(*node, record, Some(moved), other))
-        }
-        Change::Write { node, size, time } => {
-            let record = check_write(volume, *node, *size)?;
-            let written = record.seen_with(*size, *time);
-            Ok(touched_at(*node, record, Some(written), None))
-        }
-        Change::SetAttr { node, attr, value } => {
-            let record = check_set_attr(volume, *node, attr)?;
-            let changed = record.seen(Difference::Set { attr, value });
-            Ok(touched_at(*node, record, Some(changed), None))
-        }
-        Change::RemoveAttr { node, attr } => {
-            let record = check_remove_attr(volume, *node, attr)?;
-            let changed = record.seen(Difference::Unset { attr });
-            Ok(touched_at(*node, record, Some(changed), None))
-        }
+        } => check_move(volume, *node, *dir, name, *clobber),
+        Change::Write { node, size, time } => check_write(volume, *node, *size, *time),
+        Change::SetAttr { node, attr, value } => check_set_attr(volume, *node, attr, value),
+        Change::RemoveAttr { node, attr } => check_remove_attr(volume, *node, attr),
     }
 }
 
 // What a change touches that names a node, and perhaps takes another away.
-fn touched_at<'a>(
+pub fn touched_at<'a>(
     node: u64,
     before: &'a Stored,
     after: Option<Seen<'a>>,
