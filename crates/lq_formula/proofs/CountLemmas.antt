@@ -113,3 +113,7 @@ added_two n (Some k) = let e : n + suc (suc k) ≡ n + 2 + k = omega arith in ap
 pub added_none : (o : Option ℕ) → added 0 o ≡ o
 added_none None = refl
 added_none (Some k) = let e : 0 + k ≡ k = omega arith in ap Some e
+
+-- and none in the count is what was counted before it
+pub added_zero : (n : ℕ) → Some n ≡ added n (Some 0)
+added_zero n = let e : n ≡ n + 0 = omega arith in ap Some e

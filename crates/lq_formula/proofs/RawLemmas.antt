@@ -1,5 +1,5 @@
 -- One character more, and one byte more, of a text whose `\` are taken off.
-use Rattle.std.proofs.Common.{◌≡◌, ◌≤◌, ◌<◌, length, drop, get_or, ◌+◌, ◌/◌, ◌%◌, ℕ, Bool, true, false, cond, List, [], ◌∷◌, ◌++◌, refl, sym, ap, ◌∙◌, arith, append_assoc}
+use Rattle.std.proofs.Common.{◌≡◌, ◌≤◌, ◌<◌, length, drop, get_or, ◌+◌, ◌/◌, ◌%◌, ℕ, Bool, true, false, cond, List, [], ◌∷◌, ◌++◌, refl, sym, ap, ◌∙◌, arith, append_assoc, eq-eqb}
 use Rattle.std.proofs.lemmas.Bool.{ne_eqb}
 use Rattle.std.proofs.lemmas.Str.{encode_ascii}
 use Rattle.std.proofs.Math.Dec.{ltb, lit<}
@@ -131,6 +131,64 @@ pub record Counted (bs : List ℕ) (n count : ℕ) : Type 0 where
   pub size : count + length (unescaped false (drop n bs)) ≡ length (unescaped false bs)
   pub small : count ≤ n
   pub clean : has_no_nul (unescaped false (drop n bs)) ≡ has_no_nul (unescaped false bs)
+
+-- a byte that isn't NUL stands before others
+clear_before : (b : ℕ) (bs : List ℕ) → (b ≡ 0 → ⊥) → has_no_nul (b ∷ bs) ≡ has_no_nul bs
+clear_before b bs h = rw (ne_eqb b 0 h) refl
+
+-- and a NUL does
+nul_before : (b : ℕ) (bs : List ℕ) → b ≡ 0 → has_no_nul (b ∷ bs) ≡ false
+nul_before b bs e = rw e refl
+
+-- a byte that is no `\` is counted
+pub counted_plain : (bs : List ℕ) (n count : ℕ) → Counted bs n count → n < length bs
+    → (get_or bs n 0 ≡ 92 → ⊥) → (get_or bs n 0 ≡ 0 → ⊥) → Counted bs (n + 1) (count + 1)
+counted_plain bs n count s h p z =
+    let e = plain_byte bs n h (ne_eqb _ 92 p) in record {
+      bound = omega arith;
+      size = omega (arith, ap length e, s.size);
+      small = omega (arith, s.small);
+      clean = sym (clear_before (get_or bs n 0) (unescaped false (drop (n + 1) bs)) z)
+          ∙ sym (ap has_no_nul e) ∙ s.clean;
+    }
+
+-- a `\` and the byte behind it are counted as one
+pub counted_escaped : (bs : List ℕ) (n count : ℕ) → Counted bs n count → n + 1 < length bs
+    → get_or bs n 0 ≡ 92 → (get_or bs (n + 1) 0 ≡ 0 → ⊥) → Counted bs (n + 2) (count + 1)
+counted_escaped bs n count s h p z =
+    let e = escaped_byte bs n h (eq-eqb _ 92 p) in record {
+      bound = omega arith;
+      size = omega (arith, ap length e, s.size);
+      small = omega (arith, s.small);
+      clean = sym (clear_before (get_or bs (n + 1) 0) (unescaped false (drop (n + 2) bs)) z)
+          ∙ sym (ap has_no_nul e) ∙ s.clean;
+    }
+
+-- where nothing is left, the count is whole
+pub counted_size : (bs : List ℕ) (n count : ℕ) → Counted bs n count
+    → unescaped false (drop n bs) ≡ [] → count ≡ length (unescaped false bs)
+counted_size bs n count s e = omega (arith, ap length e, s.size)
+
+-- and no byte was NUL
+pub counted_clear : (bs : List ℕ) (n count : ℕ) → Counted bs n count
+    → unescaped false (drop n bs) ≡ [] → has_no_nul (unescaped false bs) ≡ true
+counted_clear bs n count s e = sym s.clean ∙ ap has_no_nul e
+
+-- where a NUL is next, one byte is NUL
+pub counted_nul : (bs : List ℕ) (n count b : ℕ) (rest : List ℕ) → Counted bs n count
+    → unescaped false (drop n bs) ≡ b ∷ rest → b ≡ 0 → has_no_nul (unescaped false bs) ≡ false
+counted_nul bs n count b rest s e z = sym s.clean ∙ ap has_no_nul e ∙ nul_before b rest z
+
+-- nothing is left at the end
+pub none_left : (bs : List ℕ) (n : ℕ) → length bs ≤ n → unescaped false (drop n bs) ≡ []
+none_left bs n h = ap (unescaped false) (drop_all n bs h)
+
+-- and no text is none, behind a `\` too
+pub unescaped_none : (b : Bool) (bs : List ℕ) → length bs ≡ 0 → unescaped b bs ≡ []
+unescaped_none true [] h = refl
+unescaped_none false [] h = refl
+unescaped_none true (x ∷ xs) h = absurd (omega arith)
+unescaped_none false (x ∷ xs) h = absurd (omega arith)
 
 -- a test that gives a name or None refuses a bad name just where it gives None
 refusal_by : (b : Bool) (u : List ℕ) → (if b then None else Some BadName)

@@ -5,7 +5,7 @@ use Rattle.std.proofs.lemmas.Str.{encode_ascii}
 use Rattle.std.proofs.Math.Dec.{lit<}
 use Rattle.std.specs.Str.{encode_utf8_all, IsUtf8}
 use Rattle.lq_value.specs.declared.element.Element.{Element}
-use Rattle.lq_value.specs.declared.element.Element.TheVariants.{Set}
+use Rattle.lq_value.specs.declared.element.Element.TheVariants.{Any, Set, Star}
 use Rattle.lq_value.specs.declared.element.Item.{Item}
 use Rattle.lq_value.specs.declared.set.FirstItem.{FirstItem}
 use Rattle.lq_value.specs.declared.set.FirstItem.TheVariants as items
@@ -47,6 +47,14 @@ items_on law n n' p ss rest i all so_far is e new =
 -- a set with no more items has one byte, its `]`
 end_bytes : items_bytes [] ≡ 1
 end_bytes = ap (λ t. length (t ++ [])) (encode_ascii 93 (lit< tt))
+
+-- `*` has one byte
+pub star_bytes : length (encode_utf8_all (element_then Star [])) ≡ 1
+star_bytes = ap (λ t. length (t ++ [])) (encode_ascii 42 (lit< tt))
+
+-- and so has `?`
+pub any_bytes : length (encode_utf8_all (element_then Any [])) ≡ 1
+any_bytes = ap (λ t. length (t ++ [])) (encode_ascii 63 (lit< tt))
 
 -- a set's source that ends here is as large as was counted, and its `]`
 pub items_end : SourcesAreWalked → (n n' : ℕ) (ss rest : Signs) (all : Option (ℕ × Signs))

@@ -1,5 +1,5 @@
 -- Each text has tokens, and one list of them.
-use Rattle.std.proofs.Common.{◌≡◌, ◌<◌, ◌≤◌, ◌+◌, ℕ, zero, suc, Bool, true, false, cond, List, [], ◌∷◌, length, take, drop, Option, Some, None, refl, sym, ap, ap₂, ◌∙◌, arith, subst, length-drop}
+use Rattle.std.proofs.Common.{◌≡◌, ◌<◌, ◌≤◌, ◌+◌, ℕ, zero, suc, Bool, true, false, cond, List, [], ◌∷◌, length, get_or, take, drop, Option, Some, None, refl, sym, ap, ap₂, ◌∙◌, arith, subst, length-drop}
 use Rattle.std.proofs.Math.Dec.{eqb-suc-zero}
 use Rattle.std.specs.Prelude.{◌==◌, ◌||◌}
 use Rattle.lq_value.specs.declared.op.Op.TheVariants.{Eq, Ne, Lt, Le, Gt, Ge}
@@ -45,6 +45,14 @@ front_size [] h = absurd (omega arith)
 front_size (b ∷ bs) h =
     one_of (is_symbol b) _ _ (symbol_size b bs) (one_of (b == 34 || b == 39) _ _
     (quoted_size bs (quoted_bytes b false bs)) (word_size b bs (word_bytes false (b ∷ bs))))
+
+-- what stands at the front of a text that begins with a symbol
+pub front_symbol : (bs : List ℕ) → 0 < length bs → is_symbol (get_or bs 0 0) ≡ true
+    → front_at bs ≡ symbol_front (get_or bs 0 0) (drop 1 bs)
+front_symbol [] h e = absurd (omega arith)
+front_symbol (b ∷ bs) h e = ap (λ t. cond t (symbol_front b bs) (cond (b == 34 || b == 39)
+    (quoted_front bs (quoted_bytes b false bs))
+    (word_front (b ∷ bs) (word_bytes false (b ∷ bs))))) e
 
 -- the first token and those behind it, where those are had
 has_first : (n at : ℕ) (bs cs : List ℕ) → trimmed bs ≡ cs → length cs ≤ suc n

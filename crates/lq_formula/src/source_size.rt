@@ -40,7 +40,8 @@ fn first_size<'a>(source: &'a str) -> FirstSize<'a>
 {
     match first_piece(source) {
         FirstPiece::End => FirstSize::End,
-        FirstPiece::Star(rest) | FirstPiece::Any(rest) => FirstSize::Has(1, rest),
+        FirstPiece::Star(rest) => FirstSize::Has(1, rest),
+        FirstPiece::Any(rest) => FirstSize::Has(1, rest),
         FirstPiece::Plain(c, rest) => FirstSize::Has(character_size(c), rest),
         FirstPiece::Opens { negated, items } => set_size(negated, items),
         FirstPiece::Faulty => FirstSize::Faulty,

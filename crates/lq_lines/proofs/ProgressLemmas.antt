@@ -219,6 +219,11 @@ given_next given xs i b h e =
 pub no_bytes : (xs : List ℕ) → (length xs == 0) ≡ true → xs ≡ []
 no_bytes xs h = nil_from_length xs (grind (arith, nat_tests))
 
+-- a list whose length isn't 0
+pub some_bytes : (xs : List ℕ) → (length xs == 0) ≡ false → 0 < length xs
+some_bytes [] h = cc
+some_bytes (x ∷ xs) h = omega arith
+
 -- a front of the empty list is empty
 take_none : (n : ℕ) → take {A = ℕ} n [] ≡ []
 take_none zero = refl

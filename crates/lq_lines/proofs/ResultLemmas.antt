@@ -1,5 +1,7 @@
 -- What a call that succeeded or failed says, put together.
-use Rattle.std.proofs.Common.{◌≡◌, Result, Ok, Err, OnOk, OnErr, is_err, true, false}
+use Rattle.std.proofs.Common.{◌≡◌, ◌⊎◌, Result, Ok, Err, OnOk, OnErr, IfErr, is_err, true, false, ap, inl, inr}
+use Rattle.lq_lines.specs.declared.run_fault.RunFault.{RunFault}
+use Rattle.lq_lines.specs.declared.run_fault.RunFault.TheVariants.{Memory, Write}
 
 -- what holds anyway holds of an error
 pub on_err_any : {T E P : Type 0} (r : Result T E) → P → OnErr r P
@@ -15,3 +17,24 @@ when_ok (Err e) h p = absurd (let no : true ≡ false = h in cc)
 pub when_err : {T E P : Type 0} (r : Result T E) → is_err r ≡ true → OnErr r P → P
 when_err (Ok x) h p = absurd (let no : false ≡ true = h in cc)
 when_err (Err e) h p = p
+
+-- what a success would say, where there is an error
+pub no_ok : {T E : Type 0} (P : Type 0) (r : Result T E) (e : E) → r ≡ Err e → OnOk r P
+no_ok P (Ok x) e h = absurd (let no : Ok x ≡ Err e = h in cc)
+no_ok P (Err f) e h = tt
+
+-- a fault of the writer or of memory is no other fault
+pub neither : (r : Result (Unit {0}) RunFault) (f : RunFault)
+    → IfErr r (λ e. (e ≡ Write) ⊎ (e ≡ Memory)) → (Write ≡ f → ⊥) → (Memory ≡ f → ⊥)
+    → r ≡ Err f → ⊥
+neither (Ok x) f two w m h = cc
+neither (Err e) f (inl is) w m h = w (let same : e ≡ f = cc in cc)
+neither (Err e) f (inr is) w m h = m (let same : e ≡ f = cc in cc)
+
+-- and one that isn't the writer's is that of memory
+pub else_memory : {P : Type 0} (r : Result (Unit {0}) RunFault)
+    → IfErr r (λ e. (e ≡ Write) ⊎ (e ≡ Memory)) → (r ≡ Err Memory → P)
+    → OnErr r ((r ≡ Err Write) ⊎ P)
+else_memory (Ok x) two m = tt
+else_memory (Err e) (inl is) m = inl (ap Err is)
+else_memory (Err e) (inr is) m = inr (m (ap Err is))

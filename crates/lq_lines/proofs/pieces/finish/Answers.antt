@@ -1,29 +1,54 @@
-use Rattle.std.proofs.Common.{rules}
-use Rattle.lq_lines.proofs.ResultLemmas.{on_err_any, when_err, when_ok}
+use Rattle.std.proofs.Common.{◌≡◌, ◌∙◌, Err, rules, sym, inl, inr, refl}
+use Rattle.lq_lines.specs.declared.run_fault.RunFault.TheVariants.{Memory, Write}
+use Rattle.lq_lines.proofs.ResultLemmas.{no_ok, on_err_any, when_err, when_ok}
 use Rattle.lq_lines.proofs.ProgressLemmas.{appends_kept, fronts_all, fronts_handed, fronts_kept, stands_last, stands_stops, stands_output}
 use Rattle.lq_lines.proofs.pieces.finish.Goals as goal
 
-pub returns-in_err-write_and_flush-clause-err : goal.returns-in_err-write_and_flush-clause-err
-returns-in_err-write_and_flush-clause-err g c = on_err_any c.from_residual.result (λ began given s.
+pub returns-in_err-write_and_flush : goal.returns-in_err-write_and_flush
+returns-in_err-write_and_flush g c =
     let same = when_err c.answer.result (search rules) c.answer.ensures.err in
     let part = c.in_err-write_and_flush.ensures.err in
-    fronts_handed g.S.Responder.rules began given _ _ _ part.0
-    (rw same (stands_stops g.S.Responder.rules began given _ _ _ _ s)) part.1)
+    let is : c.from_residual.result ≡ Err Write = search rules in record {
+      ok = no_ok _ c.from_residual.result _ is;
+      works = no_ok _ c.from_residual.result _ is;
+      err = on_err_any c.from_residual.result (λ began given s.
+          fronts_handed g.S.Responder.rules began given _ _ _ part.0
+          (rw same (stands_stops g.S.Responder.rules began given _ _ _ _ s)) part.1);
+      flushed = no_ok _ c.from_residual.result _ is;
+      fault = rw is (inl refl);
+      cause = λ _. c.in_err-write_and_flush.ensures.cause;
+      memory_flushed = λ h. let no : Err Write ≡ Err Memory = sym is ∙ h in cc;
+    }
 
-pub returns-then-is_err-clause-err : goal.returns-then-is_err-clause-err
-returns-then-is_err-clause-err g c = λ began given s.
-    let same = when_err c.answer.result (search rules) c.answer.ensures.err in
-    fronts_all g.S.Responder.rules began given _ _ _
-    (rw same (stands_stops g.S.Responder.rules began given _ _ _ _ s))
-    c.in_ok-write_and_flush.ensures.ok
+pub returns-then-is_err : goal.returns-then-is_err
+returns-then-is_err g c =
+    let same = when_err c.answer.result (search rules) c.answer.ensures.err in record {
+      ok = tt;
+      works = tt;
+      err = λ began given s. fronts_all g.S.Responder.rules began given _ _ _
+          (rw same (stands_stops g.S.Responder.rules began given _ _ _ _ s))
+          c.in_ok-write_and_flush.ensures.ok;
+      flushed = tt;
+      fault = inr refl;
+      cause = λ h. let no : Err Memory ≡ Err Write = h in cc;
+      memory_flushed = λ _. c.in_ok-write_and_flush.ensures.flushed;
+    }
 
-pub returns-in_err-write_replies-clause-err : goal.returns-in_err-write_replies-clause-err
-returns-in_err-write_replies-clause-err g c =
-    on_err_any c.from_residual-in_err-write_replies.result (λ began given s.
+pub returns-in_err-write_replies : goal.returns-in_err-write_replies
+returns-in_err-write_replies g c =
     let replies = when_ok c.answer.result (search rules) c.answer.ensures.ok in
     let part = c.in_err-write_replies.ensures.err in
-    fronts_handed g.S.Responder.rules began given _ _ _ part.0
-    (stands_last g.S.Responder.rules began given _ _ _ _ _ s replies) part.1)
+    let is : c.from_residual-in_err-write_replies.result ≡ Err Write = search rules in record {
+      ok = no_ok _ c.from_residual-in_err-write_replies.result _ is;
+      works = no_ok _ c.from_residual-in_err-write_replies.result _ is;
+      err = on_err_any c.from_residual-in_err-write_replies.result (λ began given s.
+          fronts_handed g.S.Responder.rules began given _ _ _ part.0
+          (stands_last g.S.Responder.rules began given _ _ _ _ _ s replies) part.1);
+      flushed = no_ok _ c.from_residual-in_err-write_replies.result _ is;
+      fault = rw is (inl refl);
+      cause = λ _. c.in_err-write_replies.ensures.cause;
+      memory_flushed = λ h. let no : Err Write ≡ Err Memory = sym is ∙ h in cc;
+    }
 
 pub returns-in-Ok-clause-ok : goal.returns-in-Ok-clause-ok
 returns-in-Ok-clause-ok g c = λ began given s.

@@ -1,9 +1,11 @@
-use Rattle.std.proofs.Common.{◌≡◌, ◌∙◌, ◌<◌, ◌+◌, ◌++◌, ◌∷◌, [], ℕ, List, Option, length, get_or, arith, take, drop, drop-cons, refl, sym, subst, inl, inr}
+use Rattle.std.proofs.Common.{◌≡◌, ◌∙◌, ◌<◌, ◌+◌, ◌++◌, ◌∷◌, [], ℕ, List, Option, Err, length, get_or, append-nil, arith, rules, take, drop, drop-cons, refl, sym, subst, inl, inr}
+use Rattle.std.proofs.lemmas.List.{take_all}
 use Rattle.lq_lines.specs.declared.intake.Intake.{Intake}
+use Rattle.lq_lines.specs.declared.run_fault.RunFault.TheVariants.{Limit, Memory, Read, Thread, Write}
 use Rattle.lq_lines.specs.Lines.{Rules}
 use Rattle.lq_lines.specs.Progress.{Began, Stands}
-use Rattle.lq_lines.proofs.ResultLemmas.{on_err_any}
-use Rattle.lq_lines.proofs.ProgressLemmas.{no_bytes, stands_ahead, stands_run, stopped_at, stopped_in}
+use Rattle.lq_lines.proofs.ResultLemmas.{neither, no_ok, on_err_any}
+use Rattle.lq_lines.proofs.ProgressLemmas.{no_bytes, some_bytes, stands_ahead, stands_run, stopped_at, stopped_in}
 use Rattle.lq_lines.proofs.pieces.take_piece.Goals as goal
 use Rattle.lq_lines.proofs.pieces.take_piece.Goals.{then-intake-ge-MAX_LINES-via-then-intake-ge-MAX_LINES, then-intake-ge-MAX_LINES-via-else-intake-ge-MAX_LINES+then-intake-ge-MAX_BYTES}
 
@@ -43,18 +45,64 @@ returns-then-intake-ge-MAX_LINES-clause-limit g c = λ _ began given s.
       ];
     }
 
-pub returns-in_err-keep-clause-err : goal.returns-in_err-keep-clause-err
-returns-in_err-keep-clause-err g c = on_err_any c.from_residual-in_err-keep.result (λ began given s.
-    stopped_at g.S.Responder.rules began given c.args.piece.now c.loop-at.at _ _ _ _
-    (c.loop-at.invariant.stands began given s))
+pub loop-at-init : goal.loop-at-init
+loop-at-init g c = record {
+  within = omega arith;
+  stands = λ began given s. rw append-nil s;
+  works = (refl, refl);
+  bytes = omega arith;
+}
 
-pub returns-in_err-end_line-clause-err : goal.returns-in_err-end_line-clause-err
-returns-in_err-end_line-clause-err g c = on_err_any c.from_residual.result (λ began given s.
-    stopped_in g.S.Responder.rules began given c.args.piece.now c.loop-at.at
-    10 _ _ c.loop-at-test.true
-    (c.run_at-run.ensures.stops (no_bytes c.run_at-run.result.now (sym c.if-is_empty.ensures)))
-    (c.in_err-end_line.ensures.err (drop (c.loop-at.at + 1) c.args.piece.now) began _
-    (c.loop-at.invariant.stands began given s)))
+pub returns-in_err-keep : goal.returns-in_err-keep
+returns-in_err-keep g c =
+    let is : c.from_residual-in_err-keep.result ≡ Err Memory = search rules in record {
+      ok = no_ok _ c.from_residual-in_err-keep.result _ is;
+      bytes = no_ok _ c.from_residual-in_err-keep.result _ is;
+      works = no_ok _ c.from_residual-in_err-keep.result _ is;
+      err = on_err_any c.from_residual-in_err-keep.result (λ began given s.
+          stopped_at g.S.Responder.rules began given c.args.piece.now c.loop-at.at _ _ _ _
+          (c.loop-at.invariant.stands began given s));
+      limit = λ h. let no : Err Memory ≡ Err Limit = sym is ∙ h in cc;
+      not_read = λ h. let no : Err Memory ≡ Err Read = sym is ∙ h in cc;
+      not_thread = λ h. let no : Err Memory ≡ Err Thread = sym is ∙ h in cc;
+      cause = λ h. let no : Err Memory ≡ Err Write = sym is ∙ h in cc;
+    }
+
+pub returns-in_err-end_line : goal.returns-in_err-end_line
+returns-in_err-end_line g c =
+    let is : c.from_residual.result ≡ Err c.in_err-end_line.field-0.0 = search rules in
+    let two = c.in_err-end_line.ensures.fault in record {
+      ok = no_ok _ c.from_residual.result _ is;
+      bytes = no_ok _ c.from_residual.result _ is;
+      works = no_ok _ c.from_residual.result _ is;
+      err = on_err_any c.from_residual.result (λ began given s.
+          stopped_in g.S.Responder.rules began given c.args.piece.now c.loop-at.at
+          10 _ _ c.loop-at-test.true
+          (c.run_at-run.ensures.stops
+          (no_bytes c.run_at-run.result.now (sym c.if-is_empty.ensures)))
+          (c.in_err-end_line.ensures.err (drop (c.loop-at.at + 1) c.args.piece.now) began _
+          (c.loop-at.invariant.stands began given s)));
+      limit = λ h. elim (neither (Err c.in_err-end_line.field-0.0) Limit two (λ no. cc)
+          (λ no. cc) (sym is ∙ h)) [ ];
+      not_read = λ h. neither (Err c.in_err-end_line.field-0.0) Read two (λ no. cc)
+          (λ no. cc) (sym is ∙ h);
+      not_thread = λ h. neither (Err c.in_err-end_line.field-0.0) Thread two (λ no. cc)
+          (λ no. cc) (sym is ∙ h);
+      cause = λ h. c.in_err-end_line.ensures.cause (sym is ∙ h);
+    }
+
+pub loop-at-smaller : goal.loop-at-smaller
+loop-at-smaller g c =
+    let some = some_bytes c.run_at-run.result.now (sym c.if-is_empty.ensures) in
+    omega (arith, some, c.run_at-run.ensures.bound)
+
+pub loop-at-smaller-then-is_empty : goal.loop-at-smaller-then-is_empty
+loop-at-smaller-then-is_empty g c = omega (arith, c.loop-at-test.true)
+
+pub returns-clause-ok : goal.returns-clause-ok
+returns-clause-ok g c = λ began given s.
+    rw (take_all c.loop-at.at c.args.piece.now (omega (arith, c.loop-at-test.false)))
+    at (c.loop-at.invariant.stands began given s)
 
 pub loop-at-preserved : goal.loop-at-preserved
 loop-at-preserved g c = record {
