@@ -2,11 +2,11 @@
 ghost use Rattle.std.specs.Prelude.{◌<◌};
 
 use lq_value::{AttrName, Kind, Name, Refusal, Value};
-use lq_volume::{Change, Volume};
+use lq_volume::Change;
 use std::alloc::Global;
 
 /// A change by plain values; its attribute is always `x`.
-#[derive(Clone, Copy)]
+#[derive(Drop)]
 pub enum Act {
     /// A folder's node, a name and a size.
     File(u64, &'static str, u64),
@@ -28,32 +28,34 @@ pub enum Act {
 
 impl Act {
     /// The change itself.
-    pub fn change(self, alloc: Global) -> Result<Change, Refusal> {
+    pub fn change(&self, alloc: Global) -> Result<Change, Refusal> {
         match self {
-            Act::File(dir, name, size) => creation(alloc, dir, name, Kind::File, size, 40),
-            Act::Folder(dir, name) => creation(alloc, dir, name, Kind::Folder, 0, 40),
-            Act::Remove(node) => Ok(Change::Remove { node }),
-            Act::Move(node, dir, name) => motion(alloc, node, dir, name, false),
-            Act::Clobber(node, dir, name) => motion(alloc, node, dir, name, true),
+            Act::File(dir, name, size) => creation(alloc, *dir, name, Kind::File, (*size, 40)),
+            Act::Folder(dir, name) => creation(alloc, *dir, name, Kind::Folder, (0, 40)),
+            Act::Remove(node) => Ok(Change::Remove { node: *node }),
+            Act::Move(node, dir, name) => motion(alloc, *node, *dir, name, false),
+            Act::Clobber(node, dir, name) => motion(alloc, *node, *dir, name, true),
             Act::Write(node, size) => Ok(Change::Write {
-                node,
-                size,
+                node: *node,
+                size: *size,
                 time: 60,
             }),
-            Act::Set(node, value) => setting(alloc, node, "x", Value::Int32(value)),
-            Act::Unset(node) => unsetting(alloc, node),
+            Act::Set(node, value) => setting(alloc, *node, "x", Value::Int32(*value)),
+            Act::Unset(node) => Ok(Change::RemoveAttr {
+                node: *node,
+                attr: AttrName::read(alloc, "x")?,
+            }),
         }
     }
 }
 
-/// A change that makes a file or a folder.
+/// A change that makes a file or a folder, of this size and time.
 pub fn creation(
     alloc: Global,
     dir: u64,
     name: &str,
     kind: Kind,
-    size: u64,
-    time: i64,
+    (size, time): (u64, i64),
 ) -> Result<Change, Refusal> {
     Ok(Change::Create {
         dir,
@@ -65,7 +67,7 @@ pub fn creation(
 }
 
 /// A change that moves a node to this name in a folder.
-pub fn motion(
+fn motion(
     alloc: Global,
     node: u64,
     dir: u64,
@@ -89,19 +91,6 @@ pub fn setting(alloc: Global, node: u64, attr: &str, value: Value) -> Result<Cha
     })
 }
 
-fn unsetting(alloc: Global, node: u64) -> Result<Change, Refusal> {
-    Ok(Change::RemoveAttr {
-        node,
-        attr: AttrName::read(alloc, "x")?,
-    })
-}
-
-/// Makes a change in a volume.
-pub fn make(volume: &mut Volume, change: Change) -> Result<(), Refusal> {
-    volume.apply(&change)?;
-    Ok(())
-}
-
 /// Numbers drawn from a seed, by the linear congruence of Knuth's MMIX.
 #[derive(Drop)]
 pub struct Draws {
@@ -112,42 +101,20 @@ impl Draws {
     /// The next act: its nodes are below 13, its names three, its sizes and values below 3.
     pub fn act(&mut self) -> Act {
         let node = self.below(12) + 1;
-        let dir = self.dir();
-        let name = self.name();
+        // The root half the time.
+        let dir = self.below(2) * self.below(12) + 1;
+        let name = ["a", "b", "c"][self.below(3) as usize];
         let value = self.below(3);
-        match self.below(8) {
+        match self.below(11) {
             0 | 1 => Act::File(dir, name, value),
             2 => Act::Folder(dir, name),
             3 => Act::Remove(node),
             4 => Act::Move(node, dir, name),
             5 => Act::Clobber(node, dir, name),
             6 => Act::Write(node, value),
-            _ => self.attribute(node),
-        }
-    }
-
-    fn attribute(&mut self, node: u64) -> Act {
-        match self.below(4) {
-            0 => Act::Unset(node),
-            1 => Act::Set(node, 1),
-            _ => Act::Set(node, 2),
-        }
-    }
-
-    // The root half the time.
-    fn dir(&mut self) -> u64 {
-        if self.below(2) == 0 {
-            1
-        } else {
-            self.below(12) + 1
-        }
-    }
-
-    fn name(&mut self) -> &'static str {
-        match self.below(3) {
-            0 => "a",
-            1 => "b",
-            _ => "c",
+            7 => Act::Unset(node),
+            8 | 9 => Act::Set(node, 2),
+            _ => Act::Set(node, 1),
         }
     }
 

@@ -3,9 +3,9 @@
 use crate::act::Act;
 use crate::plain::is_same;
 use lq_predicate::{Predicate, read};
-use lq_update::{Message, Rebuild, step_planned};
+use lq_update::{Rebuild, step_planned};
 use lq_value::{Entry, Refusal};
-use lq_volume::{Change, Volume};
+use lq_volume::Volume;
 use std::alloc::Global;
 use std::test::Fail;
 
@@ -18,6 +18,8 @@ macro_rules! again {
         }
     };
 }
+
+pub(crate) use again;
 
 // A file comes, is renamed, goes under another, leaves the result and comes back, and is removed.
 const ACTS: [Act; 9] = [
@@ -54,74 +56,25 @@ none|a=[\^]
 none|((name=="*[fF]oo*")&&(size>10))
 none|!(a=1||b=2&&!c=3)&&(('a b'>=c\ d))"#;
 
-/// Folds messages into a result that is kept; the number of the next message.
-fn fold(rebuild: &mut Rebuild, messages: &[Message], seq: u32) -> Result<u32, Refusal> {
-    let mut next = seq;
-    for message in messages {
-        again!(rebuild.apply(message))?;
-        next = next.saturating_add(1);
-    }
-    Ok(next)
-}
-
-/// What a change tells, by messages from this number on.
-fn messages(
-    alloc: Global,
-    predicate: &Predicate,
-    volume: &Volume,
-    change: &Change,
-    seq: u32,
-) -> Result<Vec<Message>, Refusal> {
-    let planned = volume.plan(change)?;
-    again!(step_planned(alloc, predicate, &planned, u64::from(seq), true))
-}
-
-/// Tells a result that is kept of one change; the number of the next message.
-fn tell(
-    alloc: Global,
-    predicate: &Predicate,
-    volume: &Volume,
-    rebuild: &mut Rebuild,
-    seq: u32,
-    change: &Change,
-) -> Result<u32, Refusal> {
-    let messages = messages(alloc, predicate, volume, change, seq)?;
-    fold(rebuild, &messages, seq)
-}
-
-/// Makes a change in a volume.
-fn make(volume: &mut Volume, change: &Change) -> Result<(), Refusal> {
-    again!(volume.apply(change))?;
-    Ok(())
-}
-
-/// Tells a result that is kept of one act, and carries it out; the number of the next message.
-fn follow_one(
-    alloc: Global,
-    predicate: &Predicate,
-    volume: &mut Volume,
-    rebuild: &mut Rebuild,
-    seq: u32,
-    act: Act,
-) -> Result<u32, Refusal> {
-    let change = again!(act.change(alloc))?;
-    let next = tell(alloc, predicate, volume, rebuild, seq, &change)?;
-    make(volume, &change)?;
-    Ok(next)
-}
-
-/// Tells a result that is kept of each change, and makes it; the number of the next message.
+/// Tells a result that is kept of one act, and makes it; the number of the next message.
 fn follow(
     alloc: Global,
     predicate: &Predicate,
     volume: &mut Volume,
     rebuild: &mut Rebuild,
+    seq: u32,
+    act: &Act,
 ) -> Result<u32, Refusal> {
-    let mut seq = 1;
-    for act in &ACTS {
-        seq = follow_one(alloc, predicate, volume, rebuild, seq, *act)?;
+    let change = again!(act.change(alloc))?;
+    let planned = volume.plan(&change)?;
+    let messages = again!(step_planned(alloc, predicate, &planned, u64::from(seq), true))?;
+    let mut next = seq;
+    for message in &messages {
+        again!(rebuild.apply(message))?;
+        next = next.saturating_add(1);
     }
-    Ok(seq)
+    again!(volume.apply(&change))?;
+    Ok(next)
 }
 
 /// Whether the entries that are kept are those that are found.
@@ -129,30 +82,21 @@ fn are_same(kept: &[Entry], found: &[Entry]) -> bool {
     kept.len() == found.len() && kept.iter().zip(found).all(|(a, b)| is_same(a, b))
 }
 
-/// Whether the entries that are kept are those that are fetched.
-fn is_result(kept: &[Entry], predicate: &Predicate, volume: &Volume) -> Result<bool, Refusal> {
-    let found = again!(volume.fetch(predicate))?;
-    Ok(are_same(kept, &found))
-}
-
-/// Whether the result that was kept by messages is the one that is fetched, after all changes, and
-/// there were nine of both.
-fn is_kept_by(
-    alloc: Global,
-    predicate: &Predicate,
-    volume: &mut Volume,
-    rebuild: &mut Rebuild,
-) -> Result<bool, Refusal> {
-    let seq = follow(alloc, predicate, volume, rebuild)?;
-    let is_result = is_result(rebuild.result(), predicate, volume)?;
-    Ok(is_result && seq == 10 && volume.changes() == 9)
-}
-
-/// The same of a new volume.
-fn is_kept(alloc: Global, predicate: &Predicate) -> Result<bool, Refusal> {
+// The result that was kept by messages is the one that is fetched, after all changes, and there
+// were nine of both.
+#[test]
+fn a_refused_growth_is_made_good(rt: HostRuntime) -> Result<(), Fail> {
+    let alloc = rt.alloc();
+    let predicate = again!(read(alloc, "name='a*'"))?;
     let mut volume = Volume::new(alloc, 99);
     let mut rebuild = Rebuild::new(alloc, 0, Vec::new(alloc));
-    is_kept_by(alloc, predicate, &mut volume, &mut rebuild)
+    let mut seq = 1;
+    for act in &ACTS {
+        seq = follow(alloc, &predicate, &mut volume, &mut rebuild, seq, act)?;
+    }
+    let found = again!(volume.fetch(&predicate))?;
+    assert!(rt; are_same(rebuild.result(), &found) && seq == 10 && volume.changes() == 9);
+    Ok(())
 }
 
 /// The place of the fault for which a formula is refused.
@@ -163,26 +107,16 @@ fn refused_at(alloc: Global, formula: &str) -> Option<u64> {
     }
 }
 
-#[test]
-fn a_refused_growth_is_made_good(rt: HostRuntime) -> Result<(), Fail> {
-    let predicate = again!(read(rt.alloc(), "name='a*'"))?;
-    assert!(rt; is_kept(rt.alloc(), &predicate)?);
-    Ok(())
-}
-
-/// Whether a row's formula has its fault, or none.
-fn has_fault(alloc: Global, row: &str) -> bool {
-    match row.split_once('|') {
-        Some((place, formula)) => refused_at(alloc, formula) == place.parse().ok(),
-        None => false,
-    }
-}
-
 // Here no call is given again: a fault is answered with its place whatever the memory.
 #[test]
 fn a_fault_has_one_place_with_memory_and_without(rt: HostRuntime) -> Result<(), Fail> {
     for row in FORMULAS.lines() {
-        assert!(rt; has_fault(rt.alloc(), row), "{row}");
+        let Some((place, formula)) = row.split_once('|') else {
+            return Err(Fail::from(row));
+        };
+        if refused_at(rt.alloc(), formula) != place.parse().ok() {
+            return Err(Fail::from(formula));
+        }
     }
     Ok(())
 }

@@ -4,8 +4,7 @@ ghost use Rattle.lq_volume.specs.Change.{IsLawful};
 use crate::act::{Act, Draws};
 use crate::plain;
 use lq_predicate::{Predicate, read};
-use lq_update::{Message, Opcode, may_tell, step_planned};
-use lq_value::Refusal;
+use lq_update::{Message, Opcode, may_tell, step, step_planned};
 use lq_volume::{Change, Volume};
 use std::alloc::Global;
 use std::test::Fail;
@@ -46,23 +45,6 @@ const FORMULAS: [&str; 5] = [
     "!(x>1)&&size<2",
 ];
 
-fn put_predicate(
-    alloc: Global,
-    predicates: &mut Vec<Predicate>,
-    formula: &str,
-) -> Result<(), Refusal> {
-    let predicate = read(alloc, formula)?;
-    Ok(predicates.push(predicate)?)
-}
-
-fn predicates(alloc: Global) -> Result<Vec<Predicate>, Refusal> {
-    let mut predicates = Vec::new(alloc);
-    for formula in &FORMULAS {
-        put_predicate(alloc, &mut predicates, formula)?;
-    }
-    Ok(predicates)
-}
-
 fn is_same_op(a: &Opcode, b: &Opcode) -> bool {
     match (a, b) {
         (Opcode::Created, Opcode::Created) | (Opcode::Removed, Opcode::Removed) => true,
@@ -89,136 +71,76 @@ fn are_same(one: &[Message], other: &[Message]) -> bool {
     one.len() == other.len() && one.iter().zip(other).all(|(a, b)| is_same(a, b))
 }
 
-/// What was compared so far.
-#[derive(Clone, Copy)]
-struct Tally {
-    changes: u64,
-    messages: u64,
-    unlike: u64,
-}
-
-const NOTHING: Tally = Tally {
-    changes: 0,
-    messages: 0,
-    unlike: 0,
-};
-
-impl Tally {
-    /// Counts what both bodies told, and whether it is the same and was foretold.
-    fn note(&mut self, may: bool, is_clobbering: bool, fast: &[Message], plain: &[Message]) {
-        self.messages = self.messages.saturating_add(plain.len() as u64);
-        let is_quiet = plain.is_empty() && !is_clobbering;
-        if !are_same(fast, plain) || may == is_quiet {
-            self.unlike = self.unlike.saturating_add(1);
-        }
-    }
-}
-
-/// Compares what both bodies tell a predicate of a change, and whether `may_tell` says no just
-/// where that is nothing and nothing is clobbered.
+/// How many messages a change tells a predicate, by both bodies the same; `may_tell` says no just
+/// where there is none and nothing is clobbered.
 fn compare(
     alloc: Global,
-    tally: &mut Tally,
     predicate: &Predicate,
     volume: &Volume,
     change: &Change,
     moved: bool,
-) -> Result<(), Refusal>
+) -> Result<u64, Fail>
     requires { IsLawful volume.now change.now }
 {
     let planned = volume.plan(change)?;
     let fast = step_planned(alloc, predicate, &planned, 7, moved)?;
     let plain = plain::step(alloc, predicate, volume, change, 7, moved)?;
-    let is_clobbering = planned.clobbered().is_some();
-    tally.note(may_tell(predicate, &planned), is_clobbering, &fast, &plain);
-    Ok(())
-}
-
-fn compare_all(
-    alloc: Global,
-    tally: &mut Tally,
-    predicates: &[Predicate],
-    volume: &Volume,
-    change: &Change,
-) -> Result<(), Refusal>
-    requires { IsLawful volume.now change.now }
-{
-    for predicate in predicates {
-        compare(alloc, tally, predicate, volume, change, false)?;
-        compare(alloc, tally, predicate, volume, change, true)?;
+    let is_quiet = plain.is_empty() && planned.clobbered().is_none();
+    if !are_same(&fast, &plain) || may_tell(predicate, &planned) == is_quiet {
+        return Err(Fail::from("the bodies differ"));
     }
-    Ok(())
+    Ok(step(alloc, predicate, volume, change, 7, moved)?.len() as u64)
 }
 
-/// Compares what both bodies tell each predicate of a change, and makes it, if it is accepted.
-fn make(
-    alloc: Global,
-    tally: &mut Tally,
-    predicates: &[Predicate],
-    volume: &mut Volume,
-    act: Act,
-) -> Result<(), Refusal> {
+/// How many messages an act tells a predicate, with moved messages and without, if it is accepted;
+/// then it is made.
+fn make(alloc: Global, predicate: &Predicate, volume: &mut Volume, act: &Act) -> Result<u64, Fail> {
     let change = act.change(alloc)?;
     if volume.check(&change).is_err() {
-        return Ok(());
+        return Ok(0);
     }
-    compare_all(alloc, tally, predicates, volume, &change)?;
+    let plainly = compare(alloc, predicate, volume, &change, false)?;
+    let with_moved = compare(alloc, predicate, volume, &change, true)?;
     volume.apply(&change)?;
-    tally.changes = tally.changes.saturating_add(1);
-    Ok(())
+    Ok(plainly.saturating_add(with_moved))
 }
 
-/// Makes these acts in a new volume.
-fn over_acts(
-    alloc: Global,
-    tally: &mut Tally,
-    predicates: &[Predicate],
-    acts: &[Act],
-) -> Result<(), Refusal> {
-    let mut volume = Volume::new(alloc, 99);
-    for act in acts {
-        make(alloc, tally, predicates, &mut volume, *act)?;
-    }
-    Ok(())
-}
-
-/// Makes 40 drawn acts in a new volume.
-fn over_drawn(
-    alloc: Global,
-    tally: &mut Tally,
-    predicates: &[Predicate],
-    draws: &mut Draws,
-) -> Result<(), Refusal> {
-    let mut volume = Volume::new(alloc, 99);
-    for _ in 0..40 {
-        make(alloc, tally, predicates, &mut volume, draws.act())?;
-    }
-    Ok(())
-}
-
-fn over_examples(alloc: Global, predicates: &[Predicate]) -> Result<Tally, Refusal> {
-    let mut tally = NOTHING;
+/// Makes the examples, each in a new volume.
+fn over_examples(alloc: Global, predicate: &Predicate) -> Result<(), Fail> {
     for acts in &EXAMPLES {
-        over_acts(alloc, &mut tally, predicates, acts)?;
+        let mut volume = Volume::new(alloc, 99);
+        for act in acts {
+            make(alloc, predicate, &mut volume, act)?;
+        }
+        if volume.changes() != 3 {
+            return Err(Fail::from("an example was refused"));
+        }
     }
-    Ok(tally)
+    Ok(())
 }
 
-fn over_draws(alloc: Global, predicates: &[Predicate]) -> Result<Tally, Refusal> {
-    let mut tally = NOTHING;
+/// How many messages 40 drawn acts tell, made in each of 100 new volumes.
+fn over_draws(alloc: Global, predicate: &Predicate) -> Result<u64, Fail> {
     let mut draws = Draws { state: 1 };
+    let mut messages: u64 = 0;
     for _ in 0..100 {
-        over_drawn(alloc, &mut tally, predicates, &mut draws)?;
+        let mut volume = Volume::new(alloc, 99);
+        for _ in 0..40 {
+            let told = make(alloc, predicate, &mut volume, &draws.act())?;
+            messages = messages.saturating_add(told);
+        }
     }
-    Ok(tally)
+    Ok(messages)
 }
 
 #[test]
 fn both_bodies_tell_alike(rt: HostRuntime) -> Result<(), Fail> {
-    let predicates = predicates(rt.alloc())?;
-    let examples = over_examples(rt.alloc(), &predicates)?;
-    assert!(rt; examples.unlike == 0 && examples.changes == 21);
-    let draws = over_draws(rt.alloc(), &predicates)?;
-    assert!(rt; draws.unlike == 0 && draws.changes >= 500 && draws.messages >= 500);
+    for formula in &FORMULAS {
+        let predicate = read(rt.alloc(), formula)?;
+        over_examples(rt.alloc(), &predicate)?;
+        if over_draws(rt.alloc(), &predicate)? < 100 {
+            return Err(Fail::from(*formula));
+        }
+    }
     Ok(())
 }

@@ -1,266 +1,151 @@
 //! Worked examples as lists of events of one desk, each with what it is answered.
-//!
-//! Whatever answers `NoMemory` is asked once more, so each test holds also where any one growth of
-//! memory is refused.
-use crate::acts::{Ask, Way, desk, found, opening, reply};
-use crate::told::{Told, is_told};
-use lq_desk::{Act, Desk, Event, Reply};
-use lq_update::Cause;
+use crate::act::Act;
+use crate::ask::{Ask, event};
+use lq_desk::Act::{Close, Finish, HangUp, Notice, Put, Read as Take};
+use lq_desk::{Desk, Read, Reply};
+use lq_update::{Cause, Opcode};
 use lq_value::Refusal;
 use lq_volume::Volume;
 use std::alloc::Global;
 use std::test::Fail;
 
-static CLOBBER: [(Ask, Told); 12] = [
-    (Ask::Create("a"), Told::Changed(1, 2)),
-    (Ask::Create("b"), Told::Changed(2, 3)),
-    (Ask::Open(4, 16), Told::Opened(2, 2)),
-    (Ask::Move("a", false), Told::Refused(Refusal::Exists)),
-    (Ask::Move("a", true), Told::Changed(3, 3)),
-    (Ask::At(Act::Put), Told::Moved(true)),
-    (Ask::At(Act::Put), Told::Moved(true)),
-    (Ask::At(Act::Put), Told::Moved(true)),
-    (Ask::At(Act::Put), Told::Moved(false)),
-    (Ask::At(Act::Read), Told::Went(1, 3, "a", 2, false)),
-    (Ask::At(Act::Read), Told::Went(2, 3, "b", 3, false)),
-    (Ask::At(Act::Read), Told::Came(3, 3, "a", 3, true)),
-];
+/// An event and what it is answered, with its numbers. Of a change: its own and the node; of an
+/// opening: the slot, the changes before it, the entries; of a message: `seq`, change and node; of
+/// a mark: `seq` and change; of a close: its change.
+type Row = (Ask, &'static str, (u64, u64, u64));
 
-static CLOSE_AFTER_HELD: [(Ask, Told); 15] = [
-    (Ask::Open(1, 2), Told::Opened(0, 0)),
-    (Ask::Create("a"), Told::Changed(1, 2)),
-    (Ask::At(Act::Put), Told::Moved(true)),
-    (Ask::Create("b"), Told::Changed(2, 3)),
-    (Ask::Create("c"), Told::Changed(3, 4)),
-    (Ask::At(Act::Close), Told::Shut(3)),
-    (Ask::At(Act::Read), Told::Came(1, 1, "a", 2, true)),
-    (Ask::At(Act::Put), Told::Moved(true)),
-    (Ask::At(Act::Read), Told::Came(2, 2, "b", 3, true)),
-    (Ask::At(Act::Put), Told::Moved(true)),
-    (Ask::At(Act::Read), Told::Came(3, 3, "c", 4, true)),
-    (Ask::At(Act::Put), Told::Moved(true)),
-    (Ask::At(Act::Read), Told::Mark(4, 3, Cause::Closed)),
-    (Ask::At(Act::Put), Told::Moved(false)),
-    (Ask::At(Act::Read), Told::Ended),
-];
+const A: Ask = Ask::Change(Act::File(1, "a", 0));
 
-// By turns, so the ports are filled by the changes, the takes and the close.
-static OVERRUN_AFTER_HELD: [(Ask, Told); 11] = [
-    (Ask::Open(1, 2), Told::Opened(0, 0)),
-    (Ask::Create("a"), Told::Changed(1, 2)),
-    (Ask::Create("b"), Told::Changed(2, 3)),
-    (Ask::Create("c"), Told::Changed(3, 4)),
-    (Ask::Create("d"), Told::Changed(4, 5)),
-    (Ask::At(Act::Close), Told::Refused(Refusal::NotOpen)),
-    (Ask::At(Act::Read), Told::Came(1, 1, "a", 2, true)),
-    (Ask::At(Act::Read), Told::Came(2, 2, "b", 3, true)),
-    (Ask::At(Act::Read), Told::Came(3, 3, "c", 4, true)),
-    (Ask::At(Act::Read), Told::Mark(4, 3, Cause::Overrun)),
-    (Ask::At(Act::Read), Told::Ended),
-];
-
-static CLOSE_ON_FULL_PORT: [(Ask, Told); 13] = [
-    (Ask::Open(1, 1), Told::Opened(0, 0)),
-    (Ask::Create("a"), Told::Changed(1, 2)),
-    (Ask::At(Act::Close), Told::Shut(1)),
-    (Ask::At(Act::Put), Told::Moved(true)),
-    (Ask::At(Act::Put), Told::Moved(false)),
-    (Ask::At(Act::Read), Told::Came(1, 1, "a", 2, true)),
-    (Ask::At(Act::Read), Told::Empty),
-    (Ask::At(Act::Put), Told::Moved(true)),
-    (Ask::At(Act::Read), Told::Mark(2, 1, Cause::Closed)),
-    (Ask::At(Act::Put), Told::Moved(false)),
-    (Ask::At(Act::Read), Told::Ended),
-    (Ask::At(Act::Finish), Told::Finished),
-    (Ask::At(Act::Read), Told::Refused(Refusal::NotOpen)),
-];
-
-static HANG_UP_TOLD_AFTER: [(Ask, Told); 10] = [
-    (Ask::Open(2, 2), Told::Opened(0, 0)),
-    (Ask::At(Act::HangUp), Told::Asked),
-    (Ask::Create("a"), Told::Changed(1, 2)),
-    (Ask::At(Act::Notice), Told::Noticed(true)),
-    (Ask::At(Act::Notice), Told::Noticed(false)),
-    (Ask::At(Act::Close), Told::Refused(Refusal::NotOpen)),
-    (Ask::At(Act::Put), Told::Moved(true)),
-    (Ask::At(Act::Put), Told::Moved(true)),
-    (Ask::At(Act::Read), Told::Came(1, 1, "a", 2, true)),
-    (Ask::At(Act::Read), Told::Mark(2, 1, Cause::HungUp)),
-];
-
-static OVERRUN_BEFORE_NOTICE: [(Ask, Told); 6] = [
-    (Ask::Open(1, 0), Told::Opened(0, 0)),
-    (Ask::At(Act::HangUp), Told::Asked),
-    (Ask::Create("a"), Told::Changed(1, 2)),
-    (Ask::At(Act::Notice), Told::Noticed(false)),
-    (Ask::At(Act::Put), Told::Moved(true)),
-    (Ask::At(Act::Read), Told::Mark(1, 0, Cause::Overrun)),
-];
-
-static HANG_UP_DOES_NOT_CARRY_OVER: [(Ask, Told); 8] = [
-    (Ask::Open(1, 1), Told::Opened(0, 0)),
-    (Ask::At(Act::Close), Told::Shut(0)),
-    (Ask::At(Act::HangUp), Told::Asked),
-    (Ask::At(Act::Put), Told::Moved(true)),
-    (Ask::At(Act::Read), Told::Mark(1, 0, Cause::Closed)),
-    (Ask::At(Act::Finish), Told::Finished),
-    (Ask::Open(1, 1), Told::Opened(0, 0)),
-    (Ask::At(Act::Notice), Told::Noticed(false)),
-];
-
-// act, its reply, then queries and how many entries each finds
-static TEXT_AND_NUMBER: [(Ask, Told, &[(&str, usize)]); 3] = [
-    (Ask::Create("a"), Told::Changed(1, 2), &[]),
+// in turn: the scenario's name, how many changes its volume takes, its events
+static EXAMPLES: [(&str, u64, &[Row]); 5] = [
     (
-        Ask::Text("10"),
-        Told::Changed(2, 2),
-        &[("x=10", 1), ("x>9", 0)],
+        "change-limit",
+        2,
+        &[
+            (A, "Changed", (1, 2, 0)),
+            (Ask::Change(Act::File(1, "b", 0)), "Changed", (2, 3, 0)),
+            (A, "Exists", (0, 0, 0)),
+            (Ask::Change(Act::File(1, "c", 0)), "Exhausted", (0, 0, 0)),
+            (Ask::Open("size>0", 1, 1, false), "Opened", (1, 2, 0)),
+            (Ask::Open("size>0", 1, 1, false), "Opened", (2, 2, 0)),
+            (Ask::Open("size>0", 1, 1, false), "Exhausted", (0, 0, 0)),
+        ],
     ),
     (
-        Ask::Number(10),
-        Told::Changed(3, 2),
-        &[("x>9", 1), ("x=1*", 0), ("x!=abc", 0)],
+        "close-on-full-port",
+        99,
+        &[
+            (Ask::Open("name=*", 1, 1, false), "Opened", (1, 0, 0)),
+            (A, "Changed", (1, 2, 0)),
+            (Ask::At(1, Close), "Shut", (1, 0, 0)),
+            (Ask::At(1, Put), "Moved", (0, 0, 0)),
+            (Ask::At(1, Put), "Stayed", (0, 0, 0)),
+            (Ask::At(1, Take), "Created", (1, 1, 2)),
+            (Ask::At(1, Take), "Empty", (0, 0, 0)),
+            (Ask::At(1, Put), "Moved", (0, 0, 0)),
+            (Ask::At(1, Take), "Closed", (2, 1, 0)),
+            (Ask::At(1, Put), "Stayed", (0, 0, 0)),
+            (Ask::At(1, Take), "Ended", (0, 0, 0)),
+            (Ask::At(1, Finish), "Finished", (0, 0, 0)),
+            (Ask::At(1, Take), "NotOpen", (0, 0, 0)),
+        ],
+    ),
+    (
+        "hang-up-told-after",
+        99,
+        &[
+            (Ask::Open("name=*", 2, 2, false), "Opened", (1, 0, 0)),
+            (Ask::At(1, HangUp), "Asked", (0, 0, 0)),
+            (A, "Changed", (1, 2, 0)),
+            (Ask::At(1, Notice), "Noticed", (0, 0, 0)),
+            (Ask::At(1, Notice), "Unasked", (0, 0, 0)),
+            (Ask::At(1, Close), "NotOpen", (0, 0, 0)),
+            (Ask::At(1, Put), "Moved", (0, 0, 0)),
+            (Ask::At(1, Put), "Moved", (0, 0, 0)),
+            (Ask::At(1, Take), "Created", (1, 1, 2)),
+            (Ask::At(1, Take), "HungUp", (2, 1, 0)),
+        ],
+    ),
+    (
+        "overrun-before-notice",
+        99,
+        &[
+            (Ask::Open("name=*", 1, 0, false), "Opened", (1, 0, 0)),
+            (Ask::At(1, HangUp), "Asked", (0, 0, 0)),
+            (A, "Changed", (1, 2, 0)),
+            (Ask::At(1, Notice), "Unasked", (0, 0, 0)),
+            (Ask::At(1, Put), "Moved", (0, 0, 0)),
+            (Ask::At(1, Take), "Overrun", (1, 0, 0)),
+        ],
+    ),
+    (
+        "hang-up-does-not-carry-over",
+        99,
+        &[
+            (Ask::Open("name=*", 1, 1, false), "Opened", (1, 0, 0)),
+            (Ask::At(1, Close), "Shut", (0, 0, 0)),
+            (Ask::At(1, HangUp), "Asked", (0, 0, 0)),
+            (Ask::At(1, Put), "Moved", (0, 0, 0)),
+            (Ask::At(1, Take), "Closed", (1, 0, 0)),
+            (Ask::At(1, Finish), "Finished", (0, 0, 0)),
+            (Ask::Open("name=*", 1, 1, false), "Opened", (1, 0, 0)),
+            (Ask::At(1, Notice), "Unasked", (0, 0, 0)),
+        ],
     ),
 ];
 
-/// Whether a desk answers an event so.
-fn is_answered(
-    alloc: Global,
-    desk: &mut Desk,
-    way: Way,
-    ask: &Ask,
-    wanted: &Told,
-) -> Result<bool, Refusal> {
-    let reply = reply(alloc, desk, way, ask)?;
-    Ok(is_told(&reply, wanted))
+/// Whether an event is answered so.
+fn is_told(reply: &Reply, wanted: &str, numbers: (u64, u64, u64)) -> bool {
+    let (told, one, two, three) = match reply {
+        Reply::Changed(applied) => ("Changed", applied.change, applied.node, 0),
+        Reply::Opened { slot, at, result } => ("Opened", *slot, *at, result.len() as u64),
+        Reply::Moved(true) => ("Moved", 0, 0, 0),
+        Reply::Moved(false) => ("Stayed", 0, 0, 0),
+        Reply::Read(Read::Update(message)) => match message.op {
+            Opcode::Created if message.last && message.name.as_str() == "a" => {
+                ("Created", message.seq, message.change, message.node)
+            }
+            _ => ("", 0, 0, 0),
+        },
+        Reply::Read(Read::Fin(mark)) => match mark.cause {
+            Cause::Closed => ("Closed", mark.seq, mark.change, 0),
+            Cause::HungUp => ("HungUp", mark.seq, mark.change, 0),
+            Cause::Overrun => ("Overrun", mark.seq, mark.change, 0),
+        },
+        Reply::Read(Read::Empty) => ("Empty", 0, 0, 0),
+        Reply::Read(Read::Ended) => ("Ended", 0, 0, 0),
+        Reply::Asked => ("Asked", 0, 0, 0),
+        Reply::Noticed(true) => ("Noticed", 0, 0, 0),
+        Reply::Noticed(false) => ("Unasked", 0, 0, 0),
+        Reply::Shut(change) => ("Shut", *change, 0, 0),
+        Reply::Finished => ("Finished", 0, 0, 0),
+        Reply::Refused(refusal) => (refusal.name(), 0, 0, 0),
+    };
+    told == wanted && one == numbers.0 && two == numbers.1 && three == numbers.2
 }
 
-/// The place of the first row that a desk answers otherwise, or how many rows there are.
-fn place_in(
-    alloc: Global,
-    desk: &mut Desk,
-    way: Way,
-    rows: &[(Ask, Told)],
-) -> Result<usize, Refusal> {
-    let mut place: usize = 0;
-    for (ask, wanted) in rows {
-        if !is_answered(alloc, desk, way, ask, wanted)? {
-            break;
-        }
-        place = place.saturating_add(1);
+/// Whether a new desk answers these events so.
+fn are_told(alloc: Global, limit: u64, rows: &[Row]) -> Result<bool, Refusal> {
+    let mut events = Vec::new(alloc);
+    for (ask, _, _) in rows {
+        events.push(event(alloc, ask)?)?;
     }
-    Ok(place)
-}
-
-/// The same of a new desk.
-fn told(alloc: Global, way: Way, rows: &[(Ask, Told)]) -> Result<usize, Refusal> {
-    let mut desk = desk(alloc)?;
-    place_in(alloc, &mut desk, way, rows)
-}
-
-#[test]
-fn scenario_clobber(rt: HostRuntime) -> Result<(), Fail> {
-    let place = told(rt.alloc(), Way::Event, &CLOBBER)?;
-    assert!(rt; place == 12, "{place}");
-    Ok(())
-}
-
-#[test]
-fn scenario_close_after_held(rt: HostRuntime) -> Result<(), Fail> {
-    let place = told(rt.alloc(), Way::Event, &CLOSE_AFTER_HELD)?;
-    assert!(rt; place == 15, "{place}");
-    let place = told(rt.alloc(), Way::Turn, &OVERRUN_AFTER_HELD)?;
-    assert!(rt; place == 11, "{place}");
-    Ok(())
-}
-
-#[test]
-fn scenario_close_on_full_port(rt: HostRuntime) -> Result<(), Fail> {
-    let place = told(rt.alloc(), Way::Event, &CLOSE_ON_FULL_PORT)?;
-    assert!(rt; place == 13, "{place}");
-    Ok(())
-}
-
-#[test]
-fn scenario_hang_up_told_after(rt: HostRuntime) -> Result<(), Fail> {
-    let place = told(rt.alloc(), Way::Event, &HANG_UP_TOLD_AFTER)?;
-    assert!(rt; place == 10, "{place}");
-    Ok(())
-}
-
-#[test]
-fn scenario_overrun_before_notice(rt: HostRuntime) -> Result<(), Fail> {
-    let place = told(rt.alloc(), Way::Event, &OVERRUN_BEFORE_NOTICE)?;
-    assert!(rt; place == 6, "{place}");
-    Ok(())
-}
-
-#[test]
-fn scenario_hang_up_does_not_carry_over(rt: HostRuntime) -> Result<(), Fail> {
-    let place = told(rt.alloc(), Way::Event, &HANG_UP_DOES_NOT_CARRY_OVER)?;
-    assert!(rt; place == 8, "{place}");
-    Ok(())
-}
-
-/// Whether each of these queries finds so many entries.
-fn are_found(alloc: Global, desk: &Desk, queries: &[(&str, usize)]) -> Result<bool, Refusal> {
-    for (query, count) in queries {
-        if found(alloc, desk, query)? != *count {
+    let mut desk = Desk::new(alloc, Volume::new(alloc, limit))?;
+    let replies = desk.run(&events)?;
+    for (reply, (_, wanted, numbers)) in replies.iter().zip(rows) {
+        if !is_told(reply, wanted, *numbers) {
             return Ok(false);
         }
     }
-    Ok(true)
+    Ok(replies.len() == rows.len())
 }
 
 #[test]
-fn scenario_text_and_number(rt: HostRuntime) -> Result<(), Fail> {
-    let mut desk = desk(rt.alloc())?;
-    for (ask, wanted, queries) in &TEXT_AND_NUMBER {
-        assert!(rt; is_answered(rt.alloc(), &mut desk, Way::Event, ask, wanted)?);
-        assert!(rt; are_found(rt.alloc(), &desk, queries)?);
+fn each_example_is_told(rt: HostRuntime) -> Result<(), Fail> {
+    for (name, limit, rows) in &EXAMPLES {
+        if !are_told(rt.alloc(), *limit, rows)? {
+            return Err(Fail::from(*name));
+        }
     }
-    Ok(())
-}
-
-fn put_opening(alloc: Global, openings: &mut Vec<Event>) -> Result<(), Refusal> {
-    let opening = opening(alloc, "size>0", 1, 1, false)?;
-    Ok(openings.push(opening)?)
-}
-
-fn three_openings(alloc: Global) -> Result<Vec<Event>, Refusal> {
-    let mut openings = Vec::new(alloc);
-    for _ in 0..3 {
-        put_opening(alloc, &mut openings)?;
-    }
-    Ok(openings)
-}
-
-/// Whether a desk opens two subscriptions of three, and no more.
-fn opens_two(desk: &mut Desk, openings: &[Event]) -> Result<bool, Refusal> {
-    Ok(are_two(&desk.run(openings)?))
-}
-
-fn are_two(replies: &[Reply]) -> bool {
-    matches!(
-        replies,
-        [
-            Reply::Opened { .. },
-            Reply::Opened { .. },
-            Reply::Refused(Refusal::Exhausted)
-        ]
-    )
-}
-
-/// Whether a desk answers no events by no replies.
-fn answers_nothing(desk: &mut Desk) -> Result<bool, Refusal> {
-    Ok(desk.run(&[])?.is_empty())
-}
-
-#[test]
-fn scenario_change_limit_of_a_desk(rt: HostRuntime) -> Result<(), Fail> {
-    let mut desk = Desk::new(rt.alloc(), Volume::new(rt.alloc(), 2))?;
-    assert!(rt; answers_nothing(&mut desk)?);
-    assert!(rt; opens_two(&mut desk, &three_openings(rt.alloc())?)?);
-    assert!(rt; desk.volume().changes() == 0);
     Ok(())
 }
