@@ -15,7 +15,7 @@ pub enum Cause {
 ///
 /// `seq` is the number behind that of the last message, and `change` the last change that the
 /// messages cover.
-#[derive(Clone, Copy, Debug, PartialEq, Eq)]
+#[derive(Clone, Copy, Debug)]
 pub struct Mark {
     pub seq: u64,
     pub change: u64,

@@ -3,7 +3,7 @@ use crate::mark::Mark;
 use crate::message::Message;
 
 /// A message of a live query, or the mark that ends its subscription.
-#[derive(Debug, Drop)]
+#[derive(Drop)]
 pub enum Parcel {
     Update(Message),
     Fin(Mark),

@@ -42,7 +42,7 @@ pub fn step(
     ensures few { IfOk result (λ messages. vec_len messages ≤ 3) }
 {
     let planned = before.plan(change)?;
-    Ok(step_planned(alloc, predicate, &planned, first_seq, moved)?)
+    step_planned(alloc, predicate, &planned, first_seq, moved)
 }
 
 /// What a change that was planned tells a query: as `step` on the volume and the change of the
@@ -65,7 +65,7 @@ pub fn step_planned(
     ensures few { IfOk result (λ messages. vec_len messages ≤ 3) }
 {
     let (left, came) = difference(predicate, planned);
-    Ok(tell_difference(alloc, predicate, planned, left, came, first_seq, moved)?)
+    tell_difference(alloc, predicate, planned, left, came, first_seq, moved)
 }
 
 /// Whether a planned change may tell a query something: where it is false, `step_planned` has no
