@@ -1,9 +1,9 @@
 //! What a line of a script asks for.
-ghost use Rattle.std.specs.Prelude.{◌≡◌, codes, pos, false};
+ghost use Rattle.std.specs.Prelude.{◌≡◌, codes, option_and_then, pos, false};
 ghost use Rattle.std.specs.Option.{option_map};
 ghost use Rattle.lq_value.specs.declared.value.Value.TheVariants.{Int32, UInt32};
 ghost use Rattle.lq_value.specs.declared.kind.Kind.TheVariants.{File};
-ghost use Rattle.serde_json.specs.Find.{get};
+ghost use Rattle.serde_json.specs.Find.{as_i64, as_number, as_u64, get};
 ghost use Rattle.lq_json.specs.Data.{view};
 ghost use Rattle.lq_request.specs.Request.{asked_by, asked_of, create_of, remove_of, move_of, write_of, set_of, unset_of, open_of, act_of, rebuilt_of, find_of, entry_of, fetch_of, given_by, given_number, within_i32, within_u32, flag_or, needed_text, needed_u64, u64_or, i64_or, kind_named, kind_or};
 ghost use Rattle.lq_request.specs.Asked.{asked, given};
@@ -208,27 +208,62 @@ fn typed_in<'a>(kind: &str, value: &Value<'a>) -> Option<View<'a>>
     ensures { option_map given result ≡ given_by kind.now (view value.now) }
 {
     match kind {
-        "CSTR" => Some(View::Text(text_of(value)?)),
-        "LONG" => Some(View::Int32(narrow_i32(i64_of(value)?)?)),
-        "LLNG" => Some(View::Int64(i64_of(value)?)),
-        "ULNG" => Some(View::UInt32(narrow_u32(u64_of(value)?)?)),
-        "ULLG" => Some(View::UInt64(u64_of(value)?)),
+        "CSTR" => {
+            let Some(text) = text_of(value) else {
+                return None;
+            };
+            Some(View::Text(text))
+        }
+        "LONG" => {
+            let Some(number) = i32_of(value) else {
+                return None;
+            };
+            Some(View::Int32(number))
+        }
+        "LLNG" => {
+            let Some(number) = i64_of(value) else {
+                return None;
+            };
+            Some(View::Int64(number))
+        }
+        "ULNG" => {
+            let Some(number) = u32_of(value) else {
+                return None;
+            };
+            Some(View::UInt32(number))
+        }
+        "ULLG" => {
+            let Some(number) = u64_of(value) else {
+                return None;
+            };
+            Some(View::UInt64(number))
+        }
         _ => None,
     }
 }
 
-fn narrow_i32(number: i64) -> Option<i32>
-    ensures { option_map (λ n. given_number (Int32 n)) result ≡ within_i32 number }
+// The whole number of 32 bits with a sign that a value is.
+fn i32_of(value: &Value<'_>) -> Option<i32>
+    ensures { option_map (λ n. given_number (Int32 n)) result
+        ≡ option_and_then within_i32 (option_and_then as_i64 (as_number (view value.now))) }
 {
+    let Some(number) = i64_of(value) else {
+        return None;
+    };
     if number < -2147483648 || number > 2147483647 {
         return None;
     }
     Some(number as i32)
 }
 
-fn narrow_u32(number: u64) -> Option<u32>
-    ensures { option_map (λ n. given_number (UInt32 n)) result ≡ within_u32 number }
+// The whole number of 32 bits from 0 up that a value is.
+fn u32_of(value: &Value<'_>) -> Option<u32>
+    ensures { option_map (λ n. given_number (UInt32 n)) result
+        ≡ option_and_then within_u32 (option_and_then as_u64 (as_number (view value.now))) }
 {
+    let Some(number) = u64_of(value) else {
+        return None;
+    };
     if number > 4294967295 {
         return None;
     }
