@@ -4,7 +4,7 @@ use lq_value::{Entry, Refusal};
 use lq_volume::Applied;
 
 /// What the desk answers an event.
-#[derive(Debug, Drop)]
+#[derive(Drop)]
 pub enum Reply {
     /// The change was accepted.
     Changed(Applied),

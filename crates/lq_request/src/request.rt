@@ -1,8 +1,9 @@
 //! What a line of a script asks for.
-ghost use Rattle.std.specs.Prelude.{◌≡◌, pos, false};
+ghost use Rattle.std.specs.Prelude.{◌≡◌, codes, option_and_then, pos, false};
 ghost use Rattle.std.specs.Option.{option_map};
 ghost use Rattle.lq_value.specs.declared.value.Value.TheVariants.{Int32, UInt32};
 ghost use Rattle.lq_value.specs.declared.kind.Kind.TheVariants.{File};
+ghost use Rattle.serde_json.specs.Find.{as_i64, as_number, as_u64, get};
 ghost use Rattle.lq_json.specs.Data.{view};
 ghost use Rattle.lq_request.specs.Request.{asked_by, asked_of, create_of, remove_of, move_of, write_of, set_of, unset_of, open_of, act_of, rebuilt_of, find_of, entry_of, fetch_of, given_by, given_number, within_i32, within_u32, flag_or, needed_text, needed_u64, u64_or, i64_or, kind_named, kind_or};
 ghost use Rattle.lq_request.specs.Asked.{asked, given};
@@ -74,7 +75,10 @@ pub enum Request<'a> {
 pub fn request_in<'a>(value: &Value<'a>) -> Option<Request<'a>>
     ensures { option_map asked result ≡ asked_of (view value.now) }
 {
-    match text_in(value, "do")? {
+    let Some(act) = text_in(value, "do") else {
+        return None;
+    };
+    match act {
         "read" => act_in(value, Act::Read),
         "create" => create_in(value),
         "remove" => remove_in(value),
@@ -97,11 +101,21 @@ pub fn request_in<'a>(value: &Value<'a>) -> Option<Request<'a>>
 fn create_in<'a>(value: &Value<'a>) -> Option<Request<'a>>
     ensures { option_map asked result ≡ create_of (view value.now) }
 {
-    let name = text_in(value, "name")?;
-    let dir = u64_or(field(value, "dir"), 1)?;
-    let kind = kind_or_file(field(value, "kind"))?;
-    let size = u64_or(field(value, "size"), 0)?;
-    let time = i64_or_zero(field(value, "time"))?;
+    let Some(name) = text_in(value, "name") else {
+        return None;
+    };
+    let Some(dir) = u64_or(value, "dir", 1) else {
+        return None;
+    };
+    let Some(kind) = kind_or_file(value) else {
+        return None;
+    };
+    let Some(size) = u64_or(value, "size", 0) else {
+        return None;
+    };
+    let Some(time) = i64_or_zero(value, "time") else {
+        return None;
+    };
     Some(Request::Create {
         dir,
         name,
@@ -121,10 +135,18 @@ fn remove_in<'a>(value: &Value<'a>) -> Option<Request<'a>>
 fn move_in<'a>(value: &Value<'a>) -> Option<Request<'a>>
     ensures { option_map asked result ≡ move_of (view value.now) }
 {
-    let node = u64_in(value, "node")?;
-    let name = text_in(value, "name")?;
-    let dir = u64_or(field(value, "dir"), 1)?;
-    let clobber = bool_or_false(field(value, "clobber"))?;
+    let Some(node) = u64_in(value, "node") else {
+        return None;
+    };
+    let Some(name) = text_in(value, "name") else {
+        return None;
+    };
+    let Some(dir) = u64_or(value, "dir", 1) else {
+        return None;
+    };
+    let Some(clobber) = bool_or_false(value, "clobber") else {
+        return None;
+    };
     Some(Request::Move {
         node,
         dir,
@@ -136,28 +158,48 @@ fn move_in<'a>(value: &Value<'a>) -> Option<Request<'a>>
 fn write_in<'a>(value: &Value<'a>) -> Option<Request<'a>>
     ensures { option_map asked result ≡ write_of (view value.now) }
 {
-    let node = u64_in(value, "node")?;
-    let size = u64_in(value, "size")?;
-    let time = i64_or_zero(field(value, "time"))?;
+    let Some(node) = u64_in(value, "node") else {
+        return None;
+    };
+    let Some(size) = u64_in(value, "size") else {
+        return None;
+    };
+    let Some(time) = i64_or_zero(value, "time") else {
+        return None;
+    };
     Some(Request::Write { node, size, time })
 }
 
 fn set_in<'a>(value: &Value<'a>) -> Option<Request<'a>>
     ensures { option_map asked result ≡ set_of (view value.now) }
 {
-    let node = u64_in(value, "node")?;
-    let attr = text_in(value, "attr")?;
-    let kind = text_in(value, "type")?;
-    let given = field(value, "value")?;
-    let value = typed_in(kind, given)?;
+    let Some(node) = u64_in(value, "node") else {
+        return None;
+    };
+    let Some(attr) = text_in(value, "attr") else {
+        return None;
+    };
+    let Some(kind) = text_in(value, "type") else {
+        return None;
+    };
+    let Some(given) = field(value, "value") else {
+        return None;
+    };
+    let Some(value) = typed_in(kind, given) else {
+        return None;
+    };
     Some(Request::Set { node, attr, value })
 }
 
 fn unset_in<'a>(value: &Value<'a>) -> Option<Request<'a>>
     ensures { option_map asked result ≡ unset_of (view value.now) }
 {
-    let node = u64_in(value, "node")?;
-    let attr = text_in(value, "attr")?;
+    let Some(node) = u64_in(value, "node") else {
+        return None;
+    };
+    let Some(attr) = text_in(value, "attr") else {
+        return None;
+    };
     Some(Request::Unset { node, attr })
 }
 
@@ -166,27 +208,62 @@ fn typed_in<'a>(kind: &str, value: &Value<'a>) -> Option<View<'a>>
     ensures { option_map given result ≡ given_by kind.now (view value.now) }
 {
     match kind {
-        "CSTR" => Some(View::Text(text_of(value)?)),
-        "LONG" => Some(View::Int32(narrow_i32(i64_of(value)?)?)),
-        "LLNG" => Some(View::Int64(i64_of(value)?)),
-        "ULNG" => Some(View::UInt32(narrow_u32(u64_of(value)?)?)),
-        "ULLG" => Some(View::UInt64(u64_of(value)?)),
+        "CSTR" => {
+            let Some(text) = text_of(value) else {
+                return None;
+            };
+            Some(View::Text(text))
+        }
+        "LONG" => {
+            let Some(number) = i32_of(value) else {
+                return None;
+            };
+            Some(View::Int32(number))
+        }
+        "LLNG" => {
+            let Some(number) = i64_of(value) else {
+                return None;
+            };
+            Some(View::Int64(number))
+        }
+        "ULNG" => {
+            let Some(number) = u32_of(value) else {
+                return None;
+            };
+            Some(View::UInt32(number))
+        }
+        "ULLG" => {
+            let Some(number) = u64_of(value) else {
+                return None;
+            };
+            Some(View::UInt64(number))
+        }
         _ => None,
     }
 }
 
-fn narrow_i32(number: i64) -> Option<i32>
-    ensures { option_map (λ n. given_number (Int32 n)) result ≡ within_i32 number }
+// The whole number of 32 bits with a sign that a value is.
+fn i32_of(value: &Value<'_>) -> Option<i32>
+    ensures { option_map (λ n. given_number (Int32 n)) result
+        ≡ option_and_then within_i32 (option_and_then as_i64 (as_number (view value.now))) }
 {
+    let Some(number) = i64_of(value) else {
+        return None;
+    };
     if number < -2147483648 || number > 2147483647 {
         return None;
     }
     Some(number as i32)
 }
 
-fn narrow_u32(number: u64) -> Option<u32>
-    ensures { option_map (λ n. given_number (UInt32 n)) result ≡ within_u32 number }
+// The whole number of 32 bits from 0 up that a value is.
+fn u32_of(value: &Value<'_>) -> Option<u32>
+    ensures { option_map (λ n. given_number (UInt32 n)) result
+        ≡ option_and_then within_u32 (option_and_then as_u64 (as_number (view value.now))) }
 {
+    let Some(number) = u64_of(value) else {
+        return None;
+    };
     if number > 4294967295 {
         return None;
     }
@@ -196,10 +273,18 @@ fn narrow_u32(number: u64) -> Option<u32>
 fn open_in<'a>(value: &Value<'a>) -> Option<Request<'a>>
     ensures { option_map asked result ≡ open_of (view value.now) }
 {
-    let query = text_in(value, "query")?;
-    let port = u64_in(value, "port")?;
-    let backlog = u64_in(value, "backlog")?;
-    let moved = bool_or_false(field(value, "moved"))?;
+    let Some(query) = text_in(value, "query") else {
+        return None;
+    };
+    let Some(port) = u64_in(value, "port") else {
+        return None;
+    };
+    let Some(backlog) = u64_in(value, "backlog") else {
+        return None;
+    };
+    let Some(moved) = bool_or_false(value, "moved") else {
+        return None;
+    };
     Some(Request::Open {
         query,
         port,
@@ -218,8 +303,12 @@ fn act_in<'a>(value: &Value<'a>, act: Act) -> Option<Request<'a>>
 fn find_in<'a>(value: &Value<'a>) -> Option<Request<'a>>
     ensures { option_map asked result ≡ find_of (view value.now) }
 {
-    let name = text_in(value, "name")?;
-    let dir = u64_or(field(value, "dir"), 1)?;
+    let Some(name) = text_in(value, "name") else {
+        return None;
+    };
+    let Some(dir) = u64_or(value, "dir", 1) else {
+        return None;
+    };
     Some(Request::Find { dir, name })
 }
 
@@ -244,46 +333,49 @@ fn rebuilt_in<'a>(value: &Value<'a>) -> Option<Request<'a>>
     Some(Request::Rebuilt { slot })
 }
 
-// A whole number from 0 up, or the default where there is none.
-fn u64_or(field: Option<&Value<'_>>, default: u64) -> Option<u64>
-    ensures { result ≡ u64_or default (option_map (λ v. view v.now) field.entry) }
+// A whole number from 0 up, or the default where there is no such field.
+fn u64_or(value: &Value<'_>, key: &str, default: u64) -> Option<u64>
+    ensures { result ≡ u64_or default (get key.now (view value.now)) }
 {
-    match field {
+    match field(value, key) {
         None => Some(default),
-        Some(value) => u64_of(value),
+        Some(found) => u64_of(found),
     }
 }
 
-// A whole number of 64 bits with a sign, or 0 where there is none.
-fn i64_or_zero(field: Option<&Value<'_>>) -> Option<i64>
-    ensures { result ≡ i64_or (pos 0) (option_map (λ v. view v.now) field.entry) }
+// A whole number of 64 bits with a sign, or 0 where there is no such field.
+fn i64_or_zero(value: &Value<'_>, key: &str) -> Option<i64>
+    ensures { result ≡ i64_or (pos 0) (get key.now (view value.now)) }
 {
-    match field {
+    match field(value, key) {
         None => Some(0),
-        Some(value) => i64_of(value),
+        Some(found) => i64_of(found),
     }
 }
 
-// A truth value, or false where there is none.
-fn bool_or_false(field: Option<&Value<'_>>) -> Option<bool>
-    ensures { result ≡ flag_or false (option_map (λ v. view v.now) field.entry) }
+// A truth value, or false where there is no such field.
+fn bool_or_false(value: &Value<'_>, key: &str) -> Option<bool>
+    ensures { result ≡ flag_or false (get key.now (view value.now)) }
 {
-    match field {
+    match field(value, key) {
         None => Some(false),
-        Some(value) => bool_of(value),
+        Some(found) => bool_of(found),
     }
 }
 
-// A kind, or a file where there is none.
-fn kind_or_file(field: Option<&Value<'_>>) -> Option<Kind>
-    ensures { result ≡ kind_or File (option_map (λ v. view v.now) field.entry) }
+// The kind, or a file where there is none.
+fn kind_or_file(value: &Value<'_>) -> Option<Kind>
+    ensures { result ≡ kind_or File (get (codes "kind") (view value.now)) }
 {
-    match field {
-        None => Some(Kind::File),
-        Some(value) => match text_of(value)? {
-            "file" => Some(Kind::File),
-            "folder" => Some(Kind::Folder),
-            _ => None,
-        },
+    let Some(found) = field(value, "kind") else {
+        return Some(Kind::File);
+    };
+    let Some(text) = text_of(found) else {
+        return None;
+    };
+    match text {
+        "file" => Some(Kind::File),
+        "folder" => Some(Kind::Folder),
+        _ => None,
     }
 }
