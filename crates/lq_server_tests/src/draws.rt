@@ -1,35 +1,38 @@
-//! Changes and numbers drawn from a seed.
+//! Changes, openings and numbers drawn from a seed.
 ghost use Rattle.std.specs.Prelude.{◌<◌};
 
 use lq_value::{AttrName, Kind, Name, Refusal, Value};
 use lq_volume::Change;
 use std::alloc::Global;
 
-/// Numbers drawn from a seed, by the linear congruence of Knuth's MMIX, and the newest node so far.
+/// What an opening asks for.
+#[derive(Clone, Copy)]
+pub struct Asked {
+    pub query: &'static str,
+    pub port: u64,
+    pub backlog: u64,
+    pub moved: bool,
+}
+
+/// The queries that are compared with the reference, of which all but the last are drawn.
+pub const QUERIES: [&str; 4] = ["name='a*'", "size>0", "x=1&&size<2", "name=*"];
+
+/// Numbers drawn from a seed, by the linear congruence of Knuth's MMIX; the newest node so far, and
+/// how many changes were accepted.
 #[derive(Drop)]
 pub struct Draws {
     pub state: u64,
     pub newest: u64,
+    pub made: u64,
+}
+
+/// The name of this text and a number.
+pub fn numbered(alloc: Global, start: &str, number: u64) -> Result<Name, Refusal> {
+    let text = format!(in alloc; "{start}{number}")?;
+    Name::read(alloc, &text)
 }
 
 impl Draws {
-    pub fn new(seed: u64) -> Draws {
-        Draws {
-            state: seed,
-            newest: 1,
-        }
-    }
-
-    /// Keeps the newest node. A change that is refused is left out, but for want of memory.
-    pub fn see(&mut self, taken: Result<u64, Refusal>) -> Result<(), Refusal> {
-        match taken {
-            Ok(node) => self.newest = self.newest.max(node),
-            Err(Refusal::NoMemory) => return Err(Refusal::NoMemory),
-            Err(_) => {}
-        }
-        Ok(())
-    }
-
     /// A number below a bound.
     pub fn below(&mut self, bound: u64) -> u64
         requires { 0 < bound }
@@ -42,11 +45,25 @@ impl Draws {
         (self.state >> 33) % bound
     }
 
+    /// The next opening.
+    pub fn opening(&mut self) -> Asked {
+        let query = self.below(3) as usize;
+        Asked {
+            query: QUERIES.get(query).copied().unwrap_or(""),
+            port: self.below(9) + 1,
+            backlog: self.below(20),
+            moved: self.below(2) == 1,
+        }
+    }
+
     /// The next change.
     pub fn change(&mut self, alloc: Global) -> Result<Change, Refusal> {
         let node = self.node();
-        let dir = self.dir();
-        let name = self.name(alloc)?;
+        // The root half the time.
+        let dir = if self.below(2) == 0 { 1 } else { self.node() };
+        let start = if self.below(2) == 0 { "a" } else { "b" };
+        let name = numbered(alloc, start, self.below(60))?;
+        let attr = AttrName::read(alloc, "x")?;
         let size = self.below(3);
         Ok(match self.below(12) {
             0..=3 => Change::Create {
@@ -75,23 +92,11 @@ impl Draws {
                 size,
                 time: 3,
             },
-            _ => self.attribute(alloc, node)?,
-        })
-    }
-
-    fn attribute(&mut self, alloc: Global, node: u64) -> Result<Change, Refusal> {
-        let attr = AttrName::read(alloc, "x")?;
-        Ok(match self.below(3) {
-            0 => Change::RemoveAttr { node, attr },
-            1 => Change::SetAttr {
-                node,
-                attr,
-                value: Value::Int32(1),
-            },
+            _ if size == 0 => Change::RemoveAttr { node, attr },
             _ => Change::SetAttr {
                 node,
                 attr,
-                value: Value::Int32(2),
+                value: Value::UInt64(size),
             },
         })
     }
@@ -104,20 +109,5 @@ impl Draws {
         } else {
             self.below(1000) % self.newest.max(1) + 1
         }
-    }
-
-    // The root half the time.
-    fn dir(&mut self) -> u64 {
-        if self.below(2) == 0 { 1 } else { self.node() }
-    }
-
-    fn name(&mut self, alloc: Global) -> Result<Name, Refusal> {
-        let number = self.below(60);
-        let text = if self.below(2) == 0 {
-            format!(in alloc; "a{number}")?
-        } else {
-            format!(in alloc; "b{number}")?
-        };
-        Name::read(alloc, &text)
     }
 }

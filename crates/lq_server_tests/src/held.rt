@@ -1,25 +1,18 @@
 //! A seat and a reader of N's server, by types that keep what its calls require of them.
 ghost use Rattle.std.specs.Prelude.{◌≡◌};
 
+use crate::acts::{Act, Told, are_entries};
+use crate::draws::Asked;
+use crate::reference::{Log, text};
 use lq_board::Seat;
 use lq_predicate::read;
-use lq_server::{Accepted, Found, Named, Reader, Retired, Server, Synced};
-use lq_sub::Read;
+use lq_server::{Accepted, Named, Reader, Server};
 use lq_subscription::Identity;
-use lq_value::{Entry, Name, Refusal};
-use lq_volume::{Change, Listing};
+use lq_value::{Name, Refusal};
+use lq_volume::Change;
 use std::alloc::Global;
 use std::marker::{Model, PhantomData};
 use std::sync::Wait;
-
-/// What an opening asks for.
-#[derive(Clone, Copy)]
-pub struct Asked<'a> {
-    pub query: &'a str,
-    pub port: u64,
-    pub backlog: u64,
-    pub moved: bool,
-}
 
 /// A seat of N's server, which is no reader's.
 pub struct SeatOf<N: Named> {
@@ -47,16 +40,21 @@ impl<N: Named> Model for SeatOf<N> {
     ghost invariant = { λ s. (s.seat.board ≡ N.board) × (s.seat.slot ≡ 0) };
 }
 
-/// A reader of N's server, whose seat is its own.
+/// A reader of N's server, whose seat is its own, and what it was told.
 pub struct ReaderOf<N: Named> {
     reader: Reader,
+    log: Log,
     of: PhantomData<N>,
 }
 
 // One call takes it apart, wherever one is dropped.
 impl<N: Named> Drop for ReaderOf<N> {
     fn drop(self) {
-        let ReaderOf { reader: _, of: _ } = self;
+        let ReaderOf {
+            reader: _,
+            log: _,
+            of: _,
+        } = self;
     }
 }
 
@@ -84,6 +82,7 @@ impl<N: Named> SeatOf<N> {
         })
     }
 
+    /// As `Server::apply`.
     pub fn apply<R: Wait>(
         &mut self,
         rt: &R,
@@ -99,9 +98,11 @@ impl<N: Named> SeatOf<N> {
         rt: &R,
         alloc: Global,
         server: &Server<N>,
-        asked: &Asked<'_>,
+        asked: Asked,
     ) -> Result<ReaderOf<N>, Refusal> {
         let predicate = read(alloc, asked.query)?;
+        let mut log = Log::new(alloc, asked);
+        log.from = server.latest(&mut self.seat);
         let reader = server.open(
             rt,
             &mut self.seat,
@@ -110,116 +111,120 @@ impl<N: Named> SeatOf<N> {
             asked.backlog,
             asked.moved,
         )?;
+        log.opened = reader.opened();
+        log.to = server.latest(&mut self.seat);
+        log.slot = reader.slot();
         Ok(ReaderOf {
             reader,
+            log,
             of: PhantomData,
         })
     }
 
-    pub fn latest(&mut self, server: &Server<N>) -> u64 {
-        server.latest(&mut self.seat)
-    }
-
-    pub fn meet<R: Wait>(&mut self, rt: &R, server: &Server<N>, other: &mut SeatOf<N>) -> u64 {
-        server.meet(rt, &mut self.seat, &mut other.seat)
-    }
-
-    /// What a query finds that is read from its text.
-    pub fn fetch<R: Wait>(
+    /// Asks what an act asks that is of a seat and no change.
+    pub fn ask<R: Wait>(
         &mut self,
         rt: &R,
         alloc: Global,
         server: &Server<N>,
-        query: &str,
-    ) -> Result<Found, Refusal> {
-        let predicate = read(alloc, query)?;
-        server.fetch(rt, &mut self.seat, &predicate)
-    }
-
-    /// The node of the entry of this name in the root.
-    pub fn find<R: Wait>(
-        &mut self,
-        rt: &R,
-        alloc: Global,
-        server: &Server<N>,
-        name: &str,
-    ) -> Result<u64, Refusal> {
-        let name = Name::read(alloc, name)?;
-        server.find(rt, &mut self.seat, 1, &name)
-    }
-
-    pub fn listing<R: Wait>(
-        &mut self,
-        rt: &R,
-        server: &Server<N>,
-        node: u64,
-    ) -> Result<Listing, Refusal> {
-        server.listing(rt, &mut self.seat, node)
-    }
-
-    pub fn give_back<R: Wait>(self, rt: &R, server: &Server<N>) {
-        let SeatOf { seat, of: _ } = self;
-        server.give_back(rt, seat);
-    }
-
-    pub fn retire<R: Wait>(self, rt: &R, server: Server<N>) -> Retired {
-        let SeatOf { seat, of: _ } = self;
-        server.retire(rt, seat)
+        act: &Act,
+    ) -> Result<Told, Refusal> {
+        Ok(match act {
+            Act::Fetch(query, rows) => {
+                let predicate = read(alloc, query)?;
+                let found = server.fetch(rt, &mut self.seat, &predicate)?;
+                if are_entries(&found.entries, rows) {
+                    Told::Number(found.at)
+                } else {
+                    Told::Is(false)
+                }
+            }
+            Act::Find(name) => {
+                let name = Name::read(alloc, name)?;
+                Told::Number(server.find(rt, &mut self.seat, 1, &name)?)
+            }
+            Act::Listing(node, name) => {
+                let listing = server.listing(rt, &mut self.seat, *node)?;
+                Told::Is(listing.dir == 1 && listing.name.as_str() == *name)
+            }
+            Act::Seat => {
+                let mut other = server.seat(rt)?;
+                Told::Number(server.meet(rt, &mut self.seat, &mut other))
+            }
+            Act::GiveBack => {
+                let other = server.seat(rt)?;
+                server.give_back(rt, other);
+                Told::Done
+            }
+            _ => Told::Number(server.latest(&mut self.seat)),
+        })
     }
 }
 
 impl<N: Named> ReaderOf<N> {
+    /// The slot that it was opened in.
     pub fn slot(&self) -> u64 {
-        self.reader.slot()
+        self.log.slot
     }
 
-    pub fn result(&self) -> &[Entry] {
-        self.reader.result()
+    /// Asks what an act asks of a reader that stays.
+    pub fn ask<R: Wait>(
+        &mut self,
+        rt: &R,
+        alloc: Global,
+        server: &Server<N>,
+        seat: &mut SeatOf<N>,
+        act: &Act,
+    ) -> Result<Told, Refusal> {
+        Ok(match act {
+            Act::Keep => {
+                self.log.begun = Some(text(alloc, &Some(self.reader.result()))?);
+                Told::Done
+            }
+            Act::Slot => Told::Number(self.reader.slot()),
+            Act::Result(rows) => Told::Is(are_entries(self.reader.result(), rows)),
+            Act::ReaderLatest => Told::Number(self.reader.latest(server)),
+            Act::Meet => Told::Number(server.meet(rt, self.reader.seat(), &mut seat.seat)),
+            Act::Pump => {
+                server.pump(rt, &mut self.reader);
+                Told::Done
+            }
+            Act::Sync => {
+                let synced = server.sync(rt, &mut self.reader);
+                match synced.mark {
+                    None => Told::Live(synced.change, synced.waiting, synced.held),
+                    Some(mark) => Told::End(mark.seq, mark.change, mark.cause),
+                }
+            }
+            Act::HangUp => {
+                self.reader.hang_up(server);
+                Told::Done
+            }
+            Act::Close => Told::Number(server.close(rt, &mut self.reader)?),
+            Act::Read => self.log.hear(self.reader.read(rt)?)?,
+            Act::ReadWaiting => self.log.hear(self.reader.read_waiting(rt, server)?)?,
+            _ => return Err(Refusal::OutOfStep),
+        })
     }
 
-    pub fn latest(&mut self, server: &Server<N>) -> u64 {
-        self.reader.latest(server)
-    }
-
-    pub fn hang_up(&mut self, server: &Server<N>) {
-        self.reader.hang_up(server);
-    }
-
-    pub fn read<R: Wait>(&mut self, rt: &R) -> Result<Read, Refusal> {
-        self.reader.read(rt)
-    }
-
-    pub fn read_waiting<R: Wait>(&mut self, rt: &R, server: &Server<N>) -> Result<Read, Refusal> {
-        self.reader.read_waiting(rt, server)
-    }
-
-    pub fn sync<R: Wait>(&mut self, rt: &R, server: &Server<N>) -> Synced {
-        server.sync(rt, &mut self.reader)
-    }
-
-    pub fn pump<R: Wait>(&mut self, rt: &R, server: &Server<N>) {
-        server.pump(rt, &mut self.reader);
-    }
-
-    pub fn close<R: Wait>(&mut self, rt: &R, server: &Server<N>) -> Result<u64, Refusal> {
-        server.close(rt, &mut self.reader)
-    }
-
-    pub fn meet<R: Wait>(&mut self, rt: &R, server: &Server<N>, other: &mut SeatOf<N>) -> u64 {
-        server.meet(rt, self.reader.seat(), &mut other.seat)
-    }
-
-    pub fn finish<R: Wait>(self, rt: &R, server: &Server<N>) -> Result<(), (ReaderOf<N>, Refusal)> {
-        let ReaderOf { reader, of: _ } = self;
+    /// As `Server::finish`; what it was told, where it could be finished.
+    pub fn finish<R: Wait>(
+        self,
+        rt: &R,
+        alloc: Global,
+        server: &Server<N>,
+    ) -> Result<Log, (ReaderOf<N>, Refusal)> {
+        let ReaderOf {
+            reader,
+            mut log,
+            of,
+        } = self;
+        if log.begun.is_some() {
+            log.ended = text(alloc, &Some(reader.result())).ok();
+        }
         match server.finish(rt, reader) {
-            Ok(()) => Ok(()),
-            Err((reader, refusal)) => Err((
-                ReaderOf {
-                    reader,
-                    of: PhantomData,
-                },
-                refusal,
-            )),
+            Ok(()) => Ok(log),
+            Err((reader, refusal)) => Err((ReaderOf { reader, log, of }, refusal)),
         }
     }
 }

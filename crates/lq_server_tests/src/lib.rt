@@ -6,10 +6,6 @@ mod acts;
 #[cfg(test)]
 mod again;
 #[cfg(test)]
-mod calls;
-#[cfg(test)]
-mod drawn;
-#[cfg(test)]
 mod draws;
 #[cfg(test)]
 mod followed;
@@ -24,4 +20,4 @@ mod scenarios;
 #[cfg(test)]
 mod stage;
 #[cfg(test)]
-mod writers;
+mod tables;

@@ -1,54 +1,35 @@
-//! What one thread has, and what it does with it beside another.
-use crate::acts::{Call, Stop, Tries, file};
-use crate::drawn::{apply_drawn, follow_drawn};
+//! What one thread has, and what it does with it beside others.
+use crate::acts::{Act, Call, Told, change};
+use crate::draws::{Asked, Draws};
 use crate::held::{ReaderOf, SeatOf};
 use crate::reference::{Log, Taken};
-use lq_server::{Named, Retired, Server};
+use lq_server::{Named, Server};
 use lq_value::Refusal;
 use lq_volume::Change;
 use std::alloc::Global;
 use std::sync::Wait;
-use std::thread::{Threads, join};
 
-/// What a thread does.
-#[derive(Clone, Copy)]
-pub enum Task {
-    /// The calls of the table of this name.
-    Play(Tries, &'static str, &'static [Call]),
-    /// 100 creates, under names that begin with this text.
-    Creates(&'static str),
-    /// 100 times one and the same write of node 2.
-    Writes,
-    HangUp,
-    /// Changes that are drawn from this seed.
-    ApplyDrawn(u64),
-    /// Subscriptions that are drawn from this seed, and end so.
-    FollowDrawn(Ending, u64),
+/// How often a thread gives calls, and these calls.
+pub type Table = (usize, &'static [Call]);
+
+/// The changes that were accepted, what was told that was kept, and the row that was answered
+/// otherwise than is wanted, counted from 0.
+#[derive(Drop)]
+pub struct Acted {
+    pub taken: Vec<Taken>,
+    pub logs: Vec<Log>,
+    pub stop: Option<usize>,
 }
 
-/// How a reader ends its subscription.
-#[derive(Clone, Copy)]
-pub enum Ending {
-    HangUp,
-    Close,
-}
-
-/// A seat, the reader that was opened last, what the thread does, the changes of it that were
-/// accepted, and the subscriptions that it had.
+/// A seat, the reader that was opened last, what is drawn, the table that is next, how often a call
+/// is given that is answered `NoMemory`, and what was done.
 pub struct Party<N: Named> {
     pub seat: SeatOf<N>,
     pub reader: Option<ReaderOf<N>>,
-    pub task: Task,
-    pub taken: Vec<Taken>,
-    pub logs: Vec<Log>,
-}
-
-/// What was done at a server, and what is left of it.
-#[derive(Drop)]
-pub struct Done {
-    pub taken: Vec<Taken>,
-    pub logs: Vec<Log>,
-    pub retired: Retired,
+    pub draws: Draws,
+    pub table: Option<&'static Table>,
+    pub tries: usize,
+    pub acted: Acted,
 }
 
 // One call takes it apart, wherever one is dropped.
@@ -57,136 +38,207 @@ impl<N: Named> Drop for Party<N> {
         let Party {
             seat: _,
             reader: _,
-            task: _,
-            taken: _,
-            logs: _,
+            draws: _,
+            table: _,
+            tries: _,
+            acted: _,
         } = self;
     }
 }
 
 impl<N: Named> Party<N> {
-    /// A party with a seat and no reader.
-    pub fn new<R: Wait>(
-        rt: &R,
-        alloc: Global,
-        server: &Server<N>,
-        task: Task,
-    ) -> Result<Party<N>, Refusal> {
-        let seat = SeatOf::new(rt, server)?;
-        Ok(Party {
-            seat,
-            reader: None,
-            task,
-            taken: Vec::new(alloc),
-            logs: Vec::new(alloc),
-        })
-    }
-
-    /// Retires the server by the seat, and drops the reader.
-    pub fn retire<R: Wait>(self, rt: &R, server: Server<N>) -> Done {
-        let Party {
-            seat,
-            reader: _,
-            task: _,
-            taken,
-            logs,
-        } = self;
-        Done {
-            taken,
-            logs,
-            retired: seat.retire(rt, server),
+    /// Gives the calls of its table, up to one that isn't answered as is wanted.
+    pub fn play<R: Wait>(&mut self, rt: &R, alloc: Global, server: &Server<N>) {
+        let Some(table) = self.table else {
+            return;
+        };
+        for _ in 0..table.0 {
+            for (row, (act, wanted)) in table.1.iter().enumerate() {
+                if !self.is_answered(rt, alloc, server, act, wanted) {
+                    self.acted.stop = Some(row);
+                    return;
+                }
+            }
         }
     }
 
-    /// Applies a change, and keeps it where it is accepted; its node.
-    pub fn take<R: Wait>(
+    /// Whether a call is answered as is wanted.
+    fn is_answered<R: Wait>(
+        &mut self,
+        rt: &R,
+        alloc: Global,
+        server: &Server<N>,
+        act: &Act,
+        wanted: &Told,
+    ) -> bool {
+        let mut told = Told::Refused(Refusal::NoMemory);
+        for _ in 0..self.tries {
+            told = match self.tell(rt, alloc, server, act) {
+                Ok(told) => told,
+                Err(refusal) => Told::Refused(refusal),
+            };
+            if told != Told::Refused(Refusal::NoMemory) {
+                return told == *wanted || *wanted == Told::Any;
+            }
+        }
+        false
+    }
+
+    fn tell<R: Wait>(
+        &mut self,
+        rt: &R,
+        alloc: Global,
+        server: &Server<N>,
+        act: &Act,
+    ) -> Result<Told, Refusal> {
+        if let Some(change) = change(alloc, &mut self.draws, act)? {
+            return self.apply(rt, server, change);
+        }
+        match act {
+            Act::Open(_, _, _) | Act::OpenMoved(_, _, _) | Act::OpenDrawn => {
+                self.open(rt, alloc, server, act)
+            }
+            Act::Finish => self.finish(rt, alloc, server),
+            Act::Fetch(_, _)
+            | Act::Find(_)
+            | Act::Listing(_, _)
+            | Act::Latest
+            | Act::Seat
+            | Act::GiveBack => self.seat.ask(rt, alloc, server, act),
+            Act::ReadDrawn => self.read_drawn(rt, alloc, server),
+            Act::ReadOut => self.read_out(rt, alloc, server),
+            _ => self.ask(rt, alloc, server, act),
+        }
+    }
+
+    /// Asks the reader.
+    fn ask<R: Wait>(
+        &mut self,
+        rt: &R,
+        alloc: Global,
+        server: &Server<N>,
+        act: &Act,
+    ) -> Result<Told, Refusal> {
+        match &mut self.reader {
+            Some(reader) => reader.ask(rt, alloc, server, &mut self.seat, act),
+            None => Err(Refusal::OutOfStep),
+        }
+    }
+
+    /// A drawn number of reads, some of them after a pump.
+    fn read_drawn<R: Wait>(
+        &mut self,
+        rt: &R,
+        alloc: Global,
+        server: &Server<N>,
+    ) -> Result<Told, Refusal> {
+        for _ in 0..self.draws.below(200) {
+            if self.draws.below(4) == 0 {
+                self.ask(rt, alloc, server, &Act::Pump)?;
+            }
+            self.ask(rt, alloc, server, &Act::Read)?;
+        }
+        Ok(Told::Done)
+    }
+
+    /// Reads up to the mark, or to the end where the mark was read before.
+    fn read_out<R: Wait>(
+        &mut self,
+        rt: &R,
+        alloc: Global,
+        server: &Server<N>,
+    ) -> Result<Told, Refusal> {
+        for _ in 0..100_000 {
+            match self.ask(rt, alloc, server, &Act::ReadWaiting)? {
+                Told::Update(_, _, _) => {}
+                Told::End(_, _, cause) => return Ok(Told::Over(cause)),
+                told => return Ok(told),
+            }
+        }
+        Ok(Told::Done)
+    }
+
+    /// Applies a change, and keeps it where it is accepted.
+    fn apply<R: Wait>(
         &mut self,
         rt: &R,
         server: &Server<N>,
         change: Change,
-    ) -> Result<u64, Refusal> {
+    ) -> Result<Told, Refusal> {
+        self.acted.taken.reserve(1)?;
         let accepted = self.seat.apply(rt, server, &change)?;
-        self.taken.push(Taken { accepted, change })?;
-        Ok(accepted.node)
+        self.draws.newest = self.draws.newest.max(accepted.node);
+        self.acted.taken.push(Taken { accepted, change })?;
+        self.draws.made = self.acted.taken.len() as u64;
+        Ok(Told::Changed(accepted.change, accepted.node))
     }
 
-    /// Puts what another party did beside what this one did.
-    pub fn gather(&mut self, other: &mut Party<N>) -> Result<(), Refusal> {
-        self.taken.append(&mut other.taken)?;
-        self.logs.append(&mut other.logs)?;
-        Ok(())
+    fn open<R: Wait>(
+        &mut self,
+        rt: &R,
+        alloc: Global,
+        server: &Server<N>,
+        act: &Act,
+    ) -> Result<Told, Refusal> {
+        let asked = match act {
+            Act::Open(query, port, backlog) => Asked {
+                query,
+                port: *port,
+                backlog: *backlog,
+                moved: false,
+            },
+            Act::OpenMoved(query, port, backlog) => Asked {
+                query,
+                port: *port,
+                backlog: *backlog,
+                moved: true,
+            },
+            _ => self.draws.opening(),
+        };
+        let reader = self.seat.open(rt, alloc, server, asked)?;
+        let slot = reader.slot();
+        self.reader = Some(reader);
+        Ok(Told::Number(slot))
     }
-}
 
-/// Does what a party has to do.
-pub fn work<N: Named, R: Wait>(
-    rt: &R,
-    alloc: Global,
-    server: &Server<N>,
-    party: &mut Party<N>,
-) -> Result<(), Stop> {
-    match party.task {
-        Task::Play(tries, table, rows) => party.play(rt, alloc, server, tries, table, rows),
-        Task::HangUp => Ok(hang_up(server, &mut party.reader)),
-        Task::ApplyDrawn(seed) => Ok(apply_drawn(rt, alloc, server, party, seed)?),
-        Task::FollowDrawn(ending, seed) => {
-            Ok(follow_drawn(rt, alloc, server, party, ending, seed)?)
+    fn finish<R: Wait>(
+        &mut self,
+        rt: &R,
+        alloc: Global,
+        server: &Server<N>,
+    ) -> Result<Told, Refusal> {
+        let Some(reader) = self.reader.take() else {
+            return Err(Refusal::OutOfStep);
+        };
+        match reader.finish(rt, alloc, server) {
+            Ok(log) => {
+                if log.begun.is_some() {
+                    self.acted.logs.push(log)?;
+                }
+                Ok(Told::Done)
+            }
+            Err((reader, refusal)) => {
+                self.reader = Some(reader);
+                Err(refusal)
+            }
         }
-        _ => Ok(write(rt, alloc, server, party)?),
     }
-}
 
-fn hang_up<N: Named>(server: &Server<N>, reader: &mut Option<ReaderOf<N>>) {
-    if let Some(reader) = reader {
-        reader.hang_up(server);
+    /// What this one and others did.
+    pub fn end(self, others: &mut [Party<N>]) -> Result<Acted, Refusal> {
+        let Party {
+            seat: _,
+            reader: _,
+            draws: _,
+            table: _,
+            tries: _,
+            mut acted,
+        } = self;
+        for other in others {
+            acted.taken.append(&mut other.acted.taken)?;
+            acted.logs.append(&mut other.acted.logs)?;
+            acted.stop = acted.stop.or(other.acted.stop);
+        }
+        Ok(acted)
     }
-}
-
-/// Applies the 100 changes of a task.
-fn write<N: Named, R: Wait>(
-    rt: &R,
-    alloc: Global,
-    server: &Server<N>,
-    party: &mut Party<N>,
-) -> Result<(), Refusal> {
-    for k in 0..100 {
-        let change = change(alloc, party.task, k)?;
-        party.take(rt, server, change)?;
-    }
-    Ok(())
-}
-
-fn change(alloc: Global, task: Task, k: u64) -> Result<Change, Refusal> {
-    match task {
-        Task::Creates(start) => numbered(alloc, start, k),
-        _ => Ok(Change::Write {
-            node: 2,
-            size: 5,
-            time: 6,
-        }),
-    }
-}
-
-/// A change that makes an empty file under a name with a number.
-fn numbered(alloc: Global, start: &str, k: u64) -> Result<Change, Refusal> {
-    let name = format!(in alloc; "{start}{k}")?;
-    file(alloc, &name)
-}
-
-/// Two parties at work in two threads. The second may wait for the first, so it has the thread that
-/// is made: if none can be made it works last.
-pub fn side_by_side<N: Named + Send + Sync, R: Threads + Wait + Sync>(
-    rt: &R,
-    alloc: Global,
-    server: &Server<N>,
-    one: &mut Party<N>,
-    two: &mut Party<N>,
-) -> Result<(), Stop> {
-    let (second, first) = join(
-        rt,
-        || work(rt, alloc, server, two),
-        || work(rt, alloc, server, one),
-    );
-    first?;
-    second
 }

@@ -1,87 +1,151 @@
-//! Two parties at one server: tables that are played before, side by side, and after.
-ghost use Rattle.std.specs.Prelude.{◌≡◌, ◌≤◌};
+//! A scenario: parties at one server, each in a thread of its own, turn by turn.
+ghost use Rattle.std.specs.Prelude.{◌≡◌};
 
-use crate::acts::{Call, Stop, Tries};
-use crate::party::{Done, Party, Task, side_by_side, work};
-use lq_server::{Base, Named, Server};
+use crate::draws::{Draws, QUERIES};
+use crate::held::SeatOf;
+use crate::party::{Acted, Party, Table};
+use crate::reference::{LIMIT, find_results, is_left};
+use lq_server::{Base, Named, Retired, Server};
 use lq_value::Refusal;
 use lq_volume::Volume;
 use std::alloc::Global;
 use std::sync::Wait;
-use std::thread::Threads;
+use std::thread::{Threads, for_each_mut};
 
-/// The tables of a scenario. The second party has its reader from the first table on.
-#[derive(Clone, Copy)]
+/// What as many threads do, turn by turn, and how often it is played.
+///
+/// The tables of a turn are played side by side, by the first threads. One that waits stands before
+/// those that it waits for: where no thread can be made it is played after them.
 pub struct Scenario {
-    pub before: &'static [Call],
-    /// In a thread of its own, by the first party.
-    pub first: &'static [Call],
-    /// In another, by the second.
-    pub second: &'static [Call],
-    pub after: &'static [Call],
+    pub name: &'static str,
+    pub threads: usize,
+    pub rounds: usize,
+    pub turns: &'static [&'static [Table]],
 }
 
-/// A base of a server, over a volume that takes so many changes.
-pub fn base(alloc: Global, limit: u64) -> Result<Base, Refusal>
-    requires { (1 ≤ limit) × (limit ≤ 1000000000000) }
-{
-    match Base::new(alloc, Volume::new(alloc, limit)) {
-        Err(Refusal::NoMemory) => Base::new(alloc, Volume::new(alloc, limit)),
+/// What was done at a server, and what is left of it.
+#[derive(Drop)]
+pub struct Done {
+    pub acted: Acted,
+    pub retired: Retired,
+}
+
+impl Done {
+    /// Whether the accepted changes have the numbers from 1 on, each once, and are answered by a
+    /// volume alike, the one that is left is that after them, and each reader that was kept was
+    /// told what they tell.
+    pub fn is_told(&mut self, alloc: Global) -> Result<bool, Refusal> {
+        let acted = &mut self.acted;
+        acted.taken.sort_by_key(|one| one.accepted.change)?;
+        if self.retired.changes != acted.taken.len() as u64 {
+            return Ok(false);
+        }
+        for query in QUERIES {
+            if !acted.are_told(alloc, query)? {
+                return Ok(false);
+            }
+        }
+        is_left(alloc, &self.retired.volume, &acted.taken)
+    }
+}
+
+impl Acted {
+    /// Whether each reader of this query that was kept was told what the changes tell it.
+    fn are_told(&self, alloc: Global, query: &str) -> Result<bool, Refusal> {
+        let mut results = Vec::new(alloc);
+        find_results(alloc, query, &self.taken, &mut results)?;
+        for log in &self.logs {
+            if log.query == query && !log.is_told(alloc, &results)? {
+                return Ok(false);
+            }
+        }
+        Ok(true)
+    }
+}
+
+/// A base of a server.
+pub fn base(alloc: Global) -> Result<Base, Refusal> {
+    match Base::new(alloc, Volume::new(alloc, LIMIT)) {
+        Err(Refusal::NoMemory) => Base::new(alloc, Volume::new(alloc, LIMIT)),
         made => made,
     }
 }
 
-/// Plays one table at a server, and then retires it.
-pub fn play<N: Named, R: Wait>(
-    rt: &R,
-    alloc: Global,
-    base: Base,
-    rows: &'static [Call],
-) -> Result<Done, Stop>
-    requires { base ≡ N.board }
-{
-    let server: Server<N> = Server::new(base);
-    let mut party = Party::new(rt, alloc, &server, Task::Play(Tries::One, "table", rows))?;
-    work(rt, alloc, &server, &mut party)?;
-    Ok(party.retire(rt, server))
-}
-
-/// Plays a scenario with two threads, and then retires the server.
+/// Plays a scenario at a server, and then retires it.
 pub fn stage<N: Named + Send + Sync, R: Threads + Wait + Sync>(
     rt: &R,
     alloc: Global,
     base: Base,
-    tries: Tries,
+    tries: usize,
+    seed: usize,
     scenario: &Scenario,
-) -> Result<Done, Stop>
+) -> Result<Done, Refusal>
     requires { base ≡ N.board }
 {
     let server: Server<N> = Server::new(base);
-    let mut one = Party::new(
-        rt,
-        alloc,
-        &server,
-        Task::Play(tries, "first", scenario.first),
-    )?;
-    play_by(rt, alloc, &server, &mut one, tries, scenario)?;
-    Ok(one.retire(rt, server))
+    let seat = server.seat(rt)?;
+    let acted = act(rt, alloc, &server, tries, seed, scenario)?;
+    let retired = server.retire(rt, seat);
+    Ok(Done { acted, retired })
 }
 
-fn play_by<N: Named + Send + Sync, R: Threads + Wait + Sync>(
+/// Plays the turns of a scenario, up to one in which a call isn't answered as is wanted.
+fn act<N: Named + Send + Sync, R: Threads + Wait + Sync>(
     rt: &R,
     alloc: Global,
     server: &Server<N>,
-    one: &mut Party<N>,
-    tries: Tries,
+    tries: usize,
+    seed: usize,
     scenario: &Scenario,
-) -> Result<(), Stop> {
-    let mut two = Party::new(
-        rt,
-        alloc,
-        server,
-        Task::Play(tries, "second", scenario.second),
-    )?;
-    two.play(rt, alloc, server, tries, "before", scenario.before)?;
-    side_by_side(rt, alloc, server, one, &mut two)?;
-    two.play(rt, alloc, server, tries, "after", scenario.after)
+) -> Result<Acted, Refusal> {
+    let mut parties = gather(rt, alloc, server, tries, seed, scenario)?;
+    for turn in scenario.turns {
+        for (place, party) in parties.iter_mut().enumerate() {
+            party.table = turn.get(place);
+        }
+        for_each_mut(
+            rt,
+            &mut parties,
+            4,
+            &|_, party: &mut Party<N>| { party.play(rt, alloc, server) },
+        );
+    }
+    match parties.pop() {
+        Some(party) => party.end(&mut parties),
+        None => Err(Refusal::OutOfStep),
+    }
+}
+
+/// As many parties as there are threads, each with a seat.
+fn gather<N: Named, R: Wait>(
+    rt: &R,
+    alloc: Global,
+    server: &Server<N>,
+    tries: usize,
+    seed: usize,
+    scenario: &Scenario,
+) -> Result<Vec<Party<N>>, Refusal> {
+    let mut parties = match Vec::with_capacity(alloc, 4) {
+        Ok(parties) => parties,
+        Err(_) => Vec::with_capacity(alloc, 4)?,
+    };
+    for place in 0..scenario.threads {
+        parties.push(Party {
+            seat: SeatOf::new(rt, server)?,
+            reader: None,
+            draws: Draws {
+                state: (seed ^ place) as u64,
+                newest: 1,
+                made: 0,
+            },
+            table: None,
+            tries,
+            acted: Acted {
+                taken: Vec::new(alloc),
+                logs: Vec::new(alloc),
+                stop: None,
+            },
+        })?;
+    }
+    Ok(parties)
 }

@@ -59,74 +59,72 @@ const MIXED: &str = r#"{"do":"open","query":"name=*","port":1,"backlog":2,"moved
 {"do":"entry","node":2}
 {"do":"read","slot":1}"#;
 
+/// Whether one of two has come to the gate, and whether it has seen the other there.
+#[derive(Drop)]
+struct Place {
+    is_here: AtomicBool,
+    has_seen: AtomicBool,
+}
+
 /// A gate where the first reads of slots 1 and 2 look for each other.
 #[derive(Drop)]
 struct Meeting {
-    is_here: [AtomicBool; 2],
-    has_seen: [AtomicBool; 2],
+    one: Place,
+    two: Place,
 }
 
 // The tries to see the other.
 const TURNS: u32 = 1_000_000_000;
 
-impl Meeting {
-    fn new() -> Meeting {
-        Meeting {
-            is_here: [AtomicBool::new(false), AtomicBool::new(false)],
-            has_seen: [AtomicBool::new(false), AtomicBool::new(false)],
-        }
-    }
-
-    // Each place sets its own flag, once, and looks for the other's.
-    fn meet(&self, own: usize, other: usize)
-        requires own { own < 2 }
-        requires other { other < 2 }
-    {
-        if self.is_here[own].swap(true, Ordering::SeqCst) {
+impl Gate for Meeting {
+    // Each slot sets its own flag, once, and looks for the other's.
+    fn pass<R: Wait>(&self, rt: &R, slot: u64) {
+        let _ = rt;
+        let (own, other) = match slot {
+            1 => (&self.one, &self.two),
+            2 => (&self.two, &self.one),
+            _ => return,
+        };
+        if own.is_here.swap(true, Ordering::SeqCst) {
             return;
         }
         for _ in 0..TURNS {
-            if self.is_here[other].load(Ordering::SeqCst) {
-                self.has_seen[own].store(true, Ordering::SeqCst);
+            if other.is_here.load(Ordering::SeqCst) {
+                own.has_seen.store(true, Ordering::SeqCst);
                 return;
             }
         }
     }
-
-    fn was_held(&self) -> bool {
-        let one = self.has_seen[0].load(Ordering::SeqCst);
-        let two = self.has_seen[1].load(Ordering::SeqCst);
-        one && two
-    }
 }
 
-impl Gate for Meeting {
-    fn pass<R: Wait>(&self, rt: &R, slot: u64) {
-        let _ = rt;
-        match slot {
-            1 => self.meet(0, 1),
-            2 => self.meet(1, 0),
-            _ => {}
-        }
+fn place() -> Place {
+    Place {
+        is_here: AtomicBool::new(false),
+        has_seen: AtomicBool::new(false),
     }
 }
 
 #[test]
 fn two_readers_read_side_by_side(rt: HostRuntime) -> Result<(), Fail> {
     let alloc = rt.alloc();
-    let meeting = Meeting::new();
+    let meeting = Meeting {
+        one: place(),
+        two: place(),
+    };
     let mut reader = Host::new(TWO_READERS.as_bytes());
     let mut writer = Host::new(Vec::new(alloc));
     let ran = run_threads(&rt, alloc, &mut reader, &mut writer, &meeting);
+    let have_met = meeting.one.has_seen.load(Ordering::SeqCst)
+        && meeting.two.has_seen.load(Ordering::SeqCst);
     assert!(rt; ran == Ok(()));
-    assert_eq!(rt; writer.into_device().as_slice(), TWO_READ.as_bytes());
-    assert!(rt; meeting.was_held());
+    assert!(rt; writer.into_device().as_slice() == TWO_READ.as_bytes());
+    assert!(rt; have_met);
     Ok(())
 }
 
 /// How devices move at most `step` bytes a call: the reader fails after so many calls, and the
 /// writer after `room` bytes, or it takes nothing then.
-#[derive(Clone, Copy, Debug)]
+#[derive(Clone, Copy)]
 struct Pace {
     step: usize,
     calls: usize,
@@ -195,6 +193,20 @@ impl Sink for Taken {
     }
 }
 
+// Whether a run by threads answers and writes as one by one thread, and answers this.
+fn agrees<R: Threads + Wait + Sync>(
+    rt: &R,
+    alloc: Global,
+    pace: Pace,
+    answer: Result<(), RunFault>,
+) -> bool {
+    let mut one = writer_of(alloc, pace);
+    let mut many = writer_of(alloc, pace);
+    let by_one = run(alloc, &mut reader_of(pace), &mut one);
+    let by_many = run_threads(rt, alloc, &mut reader_of(pace), &mut many, &OpenGate);
+    by_one == answer && by_many == answer && one.text == many.text
+}
+
 fn reader_of(pace: Pace) -> Given<'static>
     ensures { result.failed ≡ false }
 {
@@ -217,19 +229,6 @@ fn writer_of(alloc: Global, pace: Pace) -> Taken
     }
 }
 
-// Whether a run by threads answers and writes as one by one thread; and what it answers.
-fn agrees<R: Threads + Wait + Sync>(
-    rt: &R,
-    alloc: Global,
-    pace: Pace,
-) -> (bool, Result<(), RunFault>) {
-    let mut one = writer_of(alloc, pace);
-    let mut many = writer_of(alloc, pace);
-    let by_one = run(alloc, &mut reader_of(pace), &mut one);
-    let by_many = run_threads(rt, alloc, &mut reader_of(pace), &mut many, &OpenGate);
-    (by_one == by_many && one.text == many.text, by_many)
-}
-
 const FREE: usize = 10_000;
 
 #[test]
@@ -242,25 +241,23 @@ fn each_read_and_write_may_fail(rt: HostRuntime) -> Result<(), Fail> {
             room: FREE,
             stalls: false,
         };
-        assert!(rt; agrees(&rt, alloc, free) == (true, Ok(())), "{free:?}");
+        if !agrees(&rt, alloc, free, Ok(())) {
+            return Err(Fail::from(step));
+        }
         for calls in 0..=MIXED.len() / step {
             let pace = Pace { calls, ..free };
-            assert!(rt;
-                agrees(&rt, alloc, pace) == (true, Err(RunFault::Read)),
-                "{pace:?}"
-            );
+            if !agrees(&rt, alloc, pace, Err(RunFault::Read)) {
+                return Err(Fail::from(("calls", step, calls)));
+            }
         }
-        for stalls in [false, true] {
-            for room in 0..180 {
-                let pace = Pace {
-                    room: room * 7,
-                    stalls,
-                    ..free
-                };
-                assert!(rt;
-                    agrees(&rt, alloc, pace) == (true, Err(RunFault::Write)),
-                    "{pace:?}"
-                );
+        for place in 0..360 {
+            let pace = Pace {
+                room: place / 2 * 7,
+                stalls: place % 2 == 1,
+                ..free
+            };
+            if !agrees(&rt, alloc, pace, Err(RunFault::Write)) {
+                return Err(Fail::from(("half places", step, place)));
             }
         }
     }

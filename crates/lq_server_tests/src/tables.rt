@@ -1,0 +1,377 @@
+//! The tables of the scenarios.
+use crate::acts::{Act, Call, Row, Told};
+use crate::party::Table;
+use crate::stage::Scenario;
+use lq_update::Cause;
+use lq_value::Refusal;
+
+const FIVE: [Row; 5] = [("a", 2), ("b", 3), ("c", 4), ("d", 5), ("e", 6)];
+
+/// Each call with memory; each of the six changes; a query with moved messages and one without.
+pub const EACH: Scenario = Scenario {
+    name: "each call answers",
+    threads: 1,
+    rounds: 1,
+    turns: &[&[(
+        1,
+        &[
+            (Act::Latest, Told::Number(0)),
+            (Act::Create("a"), Told::Changed(1, 2)),
+            (Act::Open("name=*", 4, 16), Told::Number(1)),
+            (Act::Slot, Told::Number(1)),
+            (Act::Result(&[("a", 2)]), Told::Is(true)),
+            (Act::SetAttr(2, 7), Told::Changed(2, 2)),
+            (Act::Fetch("x=7", &[("a", 2)]), Told::Number(2)),
+            (Act::RemoveAttr(2), Told::Changed(3, 2)),
+            (Act::Write(2, 9), Told::Changed(4, 2)),
+            (Act::Fetch("size=9", &[("a", 2)]), Told::Number(4)),
+            (Act::Find("a"), Told::Number(2)),
+            (Act::Listing(2, "a"), Told::Is(true)),
+            (Act::Read, Told::Empty),
+            (Act::Move(2, "b"), Told::Changed(5, 2)),
+            (Act::Read, Told::Update(1, 5, 2)),
+            (Act::Read, Told::Update(2, 5, 2)),
+            (Act::Result(&[("b", 2)]), Told::Is(true)),
+            (Act::Remove(2), Told::Changed(6, 2)),
+            (Act::Pump, Told::Done),
+            (Act::ReadWaiting, Told::Update(3, 6, 2)),
+            (Act::Sync, Told::Live(6, 0, 0)),
+            (Act::Latest, Told::Number(6)),
+            (Act::ReaderLatest, Told::Number(6)),
+            (Act::Meet, Told::Number(6)),
+            (Act::Seat, Told::Number(6)),
+            (Act::GiveBack, Told::Done),
+            (Act::Close, Told::Number(6)),
+            (Act::Read, Told::End(4, 6, Cause::Closed)),
+            (Act::ReadWaiting, Told::Ended),
+            (Act::Finish, Told::Done),
+            (Act::OpenMoved("name=*", 4, 16), Told::Number(1)),
+            (Act::Create("c"), Told::Changed(7, 3)),
+            (Act::Move(3, "d"), Told::Changed(8, 3)),
+            (Act::Read, Told::Update(1, 7, 3)),
+            (Act::Read, Told::Update(2, 8, 3)),
+            (Act::HangUp, Told::Done),
+            (Act::ReadWaiting, Told::End(3, 8, Cause::HungUp)),
+            (Act::Result(&[("d", 3)]), Told::Is(true)),
+            (Act::Finish, Told::Done),
+        ],
+    )]],
+};
+
+const OPENED: Table = (
+    1,
+    &[
+        (Act::Open("name=*", 2, 10), Told::Number(1)),
+        (Act::Keep, Told::Done),
+    ],
+);
+
+const FILES: Table = (
+    1,
+    &[
+        (Act::Create("a"), Told::Changed(1, 2)),
+        (Act::Create("b"), Told::Changed(2, 3)),
+        (Act::Create("c"), Told::Changed(3, 4)),
+        (Act::Create("d"), Told::Changed(4, 5)),
+        (Act::Create("e"), Told::Changed(5, 6)),
+    ],
+);
+
+const FILES_READ: Table = (
+    1,
+    &[
+        (Act::ReadWaiting, Told::Update(1, 1, 2)),
+        (Act::ReadWaiting, Told::Update(2, 2, 3)),
+        (Act::ReadWaiting, Told::Update(3, 3, 4)),
+        (Act::ReadWaiting, Told::Update(4, 4, 5)),
+        (Act::ReadWaiting, Told::Update(5, 5, 6)),
+    ],
+);
+
+const WINDOW_ENDED: Table = (
+    1,
+    &[
+        (Act::Sync, Told::Live(5, 0, 0)),
+        (Act::Result(&FIVE), Told::Is(true)),
+        (Act::Fetch("name=*", &FIVE), Told::Number(5)),
+        (Act::Find("a"), Told::Number(2)),
+        (Act::Listing(2, "a"), Told::Is(true)),
+        (Act::HangUp, Told::Done),
+        (Act::Create("f"), Told::Changed(6, 7)),
+        (Act::ReadWaiting, Told::End(6, 5, Cause::HungUp)),
+        (Act::Finish, Told::Done),
+    ],
+);
+
+/// The first slot is used again after a reader that hung up.
+const USED_AFTER_HANG_UP: Table = (
+    1,
+    &[
+        (Act::Open("name=*", 4, 8), Told::Number(1)),
+        (Act::HangUp, Told::Done),
+        (Act::Create("a"), Told::Changed(1, 2)),
+        (Act::Read, Told::End(1, 0, Cause::HungUp)),
+        (Act::Finish, Told::Done),
+        (Act::Open("name=*", 4, 8), Told::Number(1)),
+        (Act::Create("b"), Told::Changed(2, 3)),
+        (Act::Read, Told::Update(1, 2, 3)),
+        (Act::Sync, Told::Live(2, 0, 0)),
+        (Act::Read, Told::Empty),
+    ],
+);
+
+/// And after one that was closed and then hung up.
+const USED_AFTER_CLOSE: Table = (
+    1,
+    &[
+        (Act::Open("name=*", 4, 8), Told::Number(1)),
+        (Act::Close, Told::Number(0)),
+        (Act::HangUp, Told::Done),
+        (Act::Read, Told::End(1, 0, Cause::Closed)),
+        (Act::Finish, Told::Done),
+        (Act::Open("name=*", 4, 8), Told::Number(1)),
+        (Act::Create("a"), Told::Changed(1, 2)),
+        (Act::Read, Told::Update(1, 1, 2)),
+        (Act::Sync, Told::Live(1, 0, 0)),
+        (Act::Read, Told::Empty),
+    ],
+);
+
+/// A dropped reader leaves its slot taken, another is closed once, a live one isn't finished.
+const DROPS: Table = (
+    1,
+    &[
+        (Act::Open("name=*", 1, 1), Told::Number(1)),
+        (Act::Create("a"), Told::Changed(1, 2)),
+        (Act::Create("b"), Told::Changed(2, 3)),
+        (Act::Create("c"), Told::Changed(3, 4)),
+        (Act::Open("name=*", 1, 1), Told::Number(2)),
+        (Act::Close, Told::Number(3)),
+        (Act::Close, Told::Refused(Refusal::NotOpen)),
+        (Act::Read, Told::End(1, 3, Cause::Closed)),
+        (Act::Finish, Told::Done),
+        (Act::Open("name=*", 1, 1), Told::Number(2)),
+        (Act::Finish, Told::Refused(Refusal::StillOpen)),
+        (Act::Sync, Told::Live(3, 0, 0)),
+        (Act::Read, Told::Empty),
+    ],
+);
+
+/// Where each number refuses an opening, the first that fits.
+const NUMBERS: Table = (
+    1,
+    &[
+        (Act::Open("size>0", 0, 1), Told::Refused(Refusal::BadPort)),
+        (
+            Act::Open("size>0", 1025, 65537),
+            Told::Refused(Refusal::BadPort),
+        ),
+        (
+            Act::Open("size>0", 1, 65537),
+            Told::Refused(Refusal::BadBacklog),
+        ),
+        (
+            Act::Open("size>0", 0, 65537),
+            Told::Refused(Refusal::BadPort),
+        ),
+    ],
+);
+
+/// With the 64 that stay, as many openings as the volume takes changes.
+const ENDED: Table = (
+    1936,
+    &[
+        (Act::Open("size>0", 1, 1), Told::Number(1)),
+        (Act::Close, Told::Number(0)),
+        (Act::Read, Told::End(1, 0, Cause::Closed)),
+        (Act::Finish, Told::Done),
+    ],
+);
+
+const STAYING: Table = (64, &[(Act::Open("size>0", 1024, 65536), Told::Any)]);
+
+const FULL: Table = (
+    1,
+    &[
+        (Act::Slot, Told::Number(64)),
+        (Act::Open("size>0", 1, 1), Told::Refused(Refusal::NoSlot)),
+    ],
+);
+
+/// One slot is free again.
+const OPENINGS_RUN_OUT: Table = (
+    1,
+    &[
+        (Act::Close, Told::Number(0)),
+        (Act::Read, Told::End(1, 0, Cause::Closed)),
+        (Act::Finish, Told::Done),
+        (Act::Open("size>0", 1, 1), Told::Refused(Refusal::Exhausted)),
+    ],
+);
+
+/// Calls that hold the lock and take no seat for good.
+const SEATS_USED: Table = (
+    1,
+    &[
+        (Act::Open("size>0", 1, 1), Told::Number(1)),
+        (Act::Sync, Told::Live(0, 0, 0)),
+        (Act::Meet, Told::Number(0)),
+    ],
+);
+
+/// With one that the thread has, and one that retires the server.
+const SEATS_DROPPED: Table = (13, &[(Act::Seat, Told::Number(0))]);
+
+const SEATS_RUN_OUT: Table = (
+    1,
+    &[
+        (Act::GiveBack, Told::Done),
+        (Act::GiveBack, Told::Done),
+        (Act::Seat, Told::Number(0)),
+        (Act::Seat, Told::Refused(Refusal::NoSeat)),
+        (Act::GiveBack, Told::Refused(Refusal::NoSeat)),
+    ],
+);
+
+const FIRST_CREATES: Table = (100, &[(Act::CreateNext("a"), Told::Any)]);
+
+const SECOND_CREATES: Table = (100, &[(Act::CreateNext("b"), Told::Any)]);
+
+const CREATED: Table = (
+    1,
+    &[
+        (Act::Latest, Told::Number(200)),
+        (Act::Seat, Told::Number(200)),
+    ],
+);
+
+const FILE: Table = (1, &[(Act::Create("a"), Told::Changed(1, 2))]);
+
+const WRITES: Table = (100, &[(Act::Write(2, 5), Told::Any)]);
+
+const WRITTEN: Table = (
+    1,
+    &[
+        (Act::Latest, Told::Number(201)),
+        (Act::Seat, Told::Number(201)),
+    ],
+);
+
+const OPENED_WIDE: Table = (
+    1,
+    &[
+        (Act::Open("name=*", 1024, 1024), Told::Number(1)),
+        (Act::Keep, Told::Done),
+    ],
+);
+
+const HANGS_UP: Table = (1, &[(Act::HangUp, Told::Done)]);
+
+const HUNG_UP: Table = (
+    1,
+    &[
+        (Act::Latest, Told::Number(100)),
+        (Act::Pump, Told::Done),
+        (Act::ReadOut, Told::Over(Cause::HungUp)),
+        (Act::Finish, Told::Done),
+    ],
+);
+
+const CHANGES_DRAWN: Table = (1300, &[(Act::ChangeDrawn, Told::Any)]);
+
+/// A `close` is refused where an overrun ended the subscription before.
+const CLOSED_DRAWN: Table = (
+    80,
+    &[
+        (Act::OpenDrawn, Told::Any),
+        (Act::Keep, Told::Done),
+        (Act::ReadDrawn, Told::Done),
+        (Act::Close, Told::Any),
+        (Act::ReadOut, Told::Any),
+        (Act::Finish, Told::Done),
+    ],
+);
+
+const HUNG_UP_DRAWN: Table = (
+    80,
+    &[
+        (Act::OpenDrawn, Told::Any),
+        (Act::Keep, Told::Done),
+        (Act::ReadDrawn, Told::Done),
+        (Act::HangUp, Told::Done),
+        (Act::ReadOut, Told::Any),
+        (Act::Finish, Told::Done),
+    ],
+);
+
+/// The scenarios whose changes and readers are compared with the reference.
+pub const SCENARIOS: &[Scenario] = &[
+    EACH,
+    Scenario {
+        name: "a window is read by waiting",
+        threads: 2,
+        rounds: 1,
+        turns: &[&[OPENED], &[FILES_READ, FILES], &[WINDOW_ENDED]],
+    },
+    Scenario {
+        name: "a slot is used after a hang-up",
+        threads: 1,
+        rounds: 1,
+        turns: &[&[USED_AFTER_HANG_UP]],
+    },
+    Scenario {
+        name: "a slot is used after a close",
+        threads: 1,
+        rounds: 1,
+        turns: &[&[USED_AFTER_CLOSE]],
+    },
+    Scenario {
+        name: "readers are dropped",
+        threads: 1,
+        rounds: 1,
+        turns: &[&[DROPS]],
+    },
+    Scenario {
+        name: "slots and openings run out",
+        threads: 1,
+        rounds: 1,
+        turns: &[
+            &[NUMBERS],
+            &[ENDED],
+            &[STAYING],
+            &[FULL],
+            &[NUMBERS],
+            &[OPENINGS_RUN_OUT],
+        ],
+    },
+    Scenario {
+        name: "seats run out",
+        threads: 1,
+        rounds: 1,
+        turns: &[&[SEATS_USED], &[SEATS_DROPPED], &[SEATS_RUN_OUT]],
+    },
+    Scenario {
+        name: "two writers create",
+        threads: 2,
+        rounds: 1,
+        turns: &[&[FIRST_CREATES, SECOND_CREATES], &[CREATED, CREATED]],
+    },
+    Scenario {
+        name: "two writers make the same write",
+        threads: 2,
+        rounds: 1,
+        turns: &[&[FILE], &[WRITES, WRITES], &[WRITTEN, WRITTEN]],
+    },
+    Scenario {
+        name: "a hang-up beside changes",
+        threads: 2,
+        rounds: 20,
+        turns: &[&[OPENED_WIDE], &[HANGS_UP, FIRST_CREATES], &[HUNG_UP]],
+    },
+    Scenario {
+        name: "drawn schedules",
+        threads: 4,
+        rounds: 3,
+        turns: &[&[HUNG_UP_DRAWN, CLOSED_DRAWN, CHANGES_DRAWN, CHANGES_DRAWN]],
+    },
+];
