@@ -109,9 +109,9 @@ impl<'a> Sink for Narrow<'a> {
     }
 }
 
-/// A run: its input, bytes a read, whether the reader fails at the end, bytes a write, bytes in all;
-/// the answer, what is written, and the digits of its calls: of each read but those before the first
-/// write, of the end, of the flush.
+/// A run: its input, bytes a read, whether the reader fails at its end, bytes a write, bytes in
+/// all; the answer, what is written, and the digits of its calls: of each read that comes after the
+/// first write, of the end, of the flush.
 type Run = (
     &'static str,
     usize,
