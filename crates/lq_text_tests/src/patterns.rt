@@ -1,4 +1,4 @@
-//! Of lq_value: sources that a formula can't have, since a `\` ends them, and plain patterns.
+//! Of lq_value: sources that a formula can't have, since a `\` ends them.
 use lq_value::{Pattern, Refusal};
 use std::test::Fail;
 
@@ -20,11 +20,5 @@ fn a_source_has_its_leftmost_fault(rt: HostRuntime) -> Result<(), Fail> {
             return Err(Fail::from(*source));
         }
     }
-    Ok(())
-}
-
-#[test]
-fn a_plain_pattern_fits_its_text(rt: HostRuntime) -> Result<(), Fail> {
-    assert!(rt; Pattern::plain(rt.alloc(), "[a*\\")?.matches("[a*\\"));
     Ok(())
 }

@@ -72,14 +72,6 @@ impl Model for Pattern {
 impl Pattern {
     ghost use Rattle.lq_value.specs.Elements.{elements_shown};
 
-    /// The pattern whose elements are the characters of a text. Refused: `NoMemory`.
-    pub fn plain(alloc: Global, text: &str) -> Result<Pattern, Refusal>
-        ensures refused { IsRefusedBy result None }
-        ensures value { IfOk result (λ pattern. pattern ≡ plain_elements (chars text.now)) }
-    {
-        Ok(plain_pattern(String::from_str(alloc, text)?))
-    }
-
     /// The pattern that a source text writes.
     ///
     /// `*` is a star, `?` any character, `[..]` a set and `[^..]` a negated one; `\` before a

@@ -56,14 +56,6 @@ impl Text {
         self.text.as_str()
     }
 
-    /// The string that it was made from. It takes no memory.
-    pub fn into_string(self) -> String
-        ensures { string_bytes result ≡ self }
-    {
-        let Text { text, number: _ } = self;
-        text
-    }
-
     /// Another text with the same bytes. Refused: `NoMemory`.
     pub fn copy(&self, alloc: Global) -> Result<Text, Refusal>
         ensures refused { IsRefusedBy result None }
