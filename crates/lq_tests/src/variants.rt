@@ -5,7 +5,8 @@
 use crate::act::{Act, make, setting};
 use crate::acts::opening;
 use lq_desk::{Desk, Event, Reply};
-use lq_predicate::{Stack, StackOp, names, read, write};
+use lq_predicate::{names, read, write};
+use lq_stack::{Stack, StackOp};
 use lq_value::{AttrName, Refusal, Value};
 use lq_volume::{Change, Volume};
 use std::alloc::Global;

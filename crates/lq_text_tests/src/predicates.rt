@@ -1,5 +1,6 @@
-//! Of lq_predicate: predicates from pushes, their texts and names, with memory.
-use lq_predicate::{Stack, StackOp, names, write};
+//! Of lq_predicate and lq_stack: predicates from pushes, their texts and names, with memory.
+use lq_predicate::{names, write};
+use lq_stack::{Stack, StackOp};
 use lq_value::{AttrName, Refusal};
 use std::alloc::Global;
 use std::test::Fail;
