@@ -1,22 +1,18 @@
 -- Read in this order. Canonical texts, a piece at a time: PartLemmas, CanonicalLemmas, SizeLemmas,
--- QuerySizeLemmas, FitLemmas, DepthLemmas, StarredLemmas. Names and truth: NameLemmas, TruthLemmas,
--- SpanLemmas. The stack: StackLemmas. Reading: WeightLemmas, ValidatorLemmas, PlaceLemmas,
--- SoFarLemmas, LimitLemmas, ReadLemmas, ParserLemmas.
+-- QuerySizeLemmas, DepthLemmas. Names and truth: NameLemmas, TruthLemmas, SpanLemmas. Reading:
+-- WeightLemmas, ValidatorLemmas, PlaceLemmas, SoFarLemmas, LimitLemmas, ReadLemmas, ParserLemmas.
 pub mod PartLemmas
 pub mod NameLemmas
 pub mod TruthLemmas
 pub mod SpanLemmas
-pub mod StackLemmas
 pub mod CanonicalLemmas
 pub mod WeightLemmas
 pub mod DepthLemmas
 pub mod PlaceLemmas
 pub mod SoFarLemmas
 pub mod SizeLemmas
-pub mod FitLemmas
 pub mod LimitLemmas
 pub mod ReadLemmas
 pub mod QuerySizeLemmas
 pub mod ValidatorLemmas
-pub mod StarredLemmas
 pub mod ParserLemmas

@@ -1,66 +1,12 @@
 -- The lengths of canonical texts, a piece at a time.
-use Rattle.std.proofs.Common.{◌≡◌, ◌+◌, ◌<◌, ℕ, List, [], ◌∷◌, ◌++◌, length, drop, get_or, refl, ap, ◌∙◌, arith, Bool, true, false}
+use Rattle.std.proofs.Common.{◌≡◌, ◌+◌, ◌<◌, ℕ, List, [], ◌∷◌, length, drop, get_or, refl, ap, ◌∙◌, arith}
 use Rattle.std.proofs.lemmas.List.{length-append}
-use Rattle.std.proofs.lemmas.Str.{encode_ascii, encodes-append}
-use Rattle.std.proofs.Math.Dec.{lit<}
-use Rattle.std.specs.Prelude.{codes, if◌then◌else◌, ◌||◌, ◌==◌}
-use Rattle.std.specs.Str.{chars, encode_utf8_all}
-use Rattle.lq_value.specs.declared.element.Element.{Element}
-use Rattle.lq_value.specs.Pattern.{plain_elements}
+use Rattle.std.specs.Prelude.{codes}
 use Rattle.lq_formula.specs.Query.{Query, And, Or, Queries, no_more, and_then, queries}
-use Rattle.lq_formula.specs.Canonical.{pattern_text, plain_then, written, parts_written, others_written, canonical}
+use Rattle.lq_formula.specs.Canonical.{written, parts_written, others_written, canonical}
 use Rattle.lq_formula.specs.Capped.{capped}
-use Rattle.lq_predicate.specs.Stack.{star_if, star_count, starred}
 use Rattle.lq_predicate.proofs.PartLemmas.{parts_here}
 use Rattle.lq_predicate.proofs.CanonicalLemmas.{written-append}
-
--- ---- a pattern with stars
-
--- what follows a character, escaped or not, may be added after it
-plain_then-append : (b : Bool) (c : ℕ) (xs rest : List ℕ)
-    → (if b then 92 ∷ c ∷ (xs ++ rest) else c ∷ (xs ++ rest))
-    ≡ (if b then 92 ∷ c ∷ xs else c ∷ xs) ++ rest
-plain_then-append true c xs rest = refl
-plain_then-append false c xs rest = refl
-
--- the characters of a text, and then other elements
-plain_text-append : (cs : List ℕ) (es : List Element)
-    → pattern_text (plain_elements cs ++ es) ≡ pattern_text (plain_elements cs) ++ pattern_text es
-plain_text-append [] es = refl
-plain_text-append (c ∷ cs) es =
-    ap (plain_then c) (plain_text-append cs es)
-    ∙ plain_then-append (c == 42 || c == 63 || c == 91 || c == 92 || c == 34) c
-    (pattern_text (plain_elements cs)) (pattern_text es)
-
--- the text of a star has one byte, and that of no star none
-length-star : (b : Bool) → length (encode_utf8_all (pattern_text (star_if b))) ≡ star_count b
-length-star true = ap (λ t. length (t ++ [])) (encode_ascii 42 (lit< tt))
-length-star false = refl
-
--- a star before elements adds its byte to their text
-star_first : (b : Bool) (es : List Element)
-    → length (encode_utf8_all (pattern_text (star_if b ++ es)))
-    ≡ star_count b + length (encode_utf8_all (pattern_text es))
-star_first true es =
-    let e = ap (λ t. length (t ++ encode_utf8_all (pattern_text es))) (encode_ascii 42 (lit< tt)) in
-    omega (arith, e)
-star_first false es = omega arith
-
--- the characters of a text, and stars beside them
-pub starred_length : (before : Bool) (text : List ℕ) (behind : Bool)
-    → length (encode_utf8_all (pattern_text (starred before text behind)))
-    ≡ (length (encode_utf8_all (pattern_text (plain_elements (chars text)))) + star_count before)
-    + star_count behind
-starred_length before text behind =
-    let plain = pattern_text (plain_elements (chars text)) in
-    let star = pattern_text (star_if behind) in
-    let first = star_first before (plain_elements (chars text) ++ star_if behind) in
-    let parts = ap (λ t. length (encode_utf8_all t))
-    (plain_text-append (chars text) (star_if behind)) ∙ ap length (encodes-append plain star)
-    ∙ length-append (encode_utf8_all plain) (encode_utf8_all star) in
-    omega (arith, first, parts, length-star behind)
-
--- ---- lists of parts
 
 -- the bytes of the parts, and of two beside each
 abbrev pub parts_size : Queries → ℕ

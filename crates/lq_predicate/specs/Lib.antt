@@ -10,7 +10,4 @@ pub mod Truth
 pub mod Names
 pub mod Span
 pub mod Laws
-pub mod Operand
-pub mod Stacked
-pub mod Stack
 pub mod Validator

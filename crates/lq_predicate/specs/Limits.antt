@@ -1,6 +1,6 @@
 -- Which queries a predicate may be: its literals suit its operators, its
 -- lists have two parts or more, and it is within the limits.
-use Rattle.std.specs.Prelude.{ℕ, suc, Bool, true, ◌&&◌, length, nat_le}
+use Rattle.std.specs.Prelude.{ℕ, suc, Bool, true, ◌&&◌, length, nat_le, Option, Some, None, if◌then◌else◌}
 use Rattle.lq_value.specs.Compare.{suits}
 use Rattle.lq_formula.specs.Canonical.{canonical, depth, comparisons}
 use Rattle.lq_formula.specs.Query.{Query, Compare, Not, And, Or, Queries, no_more, and_then}
@@ -27,6 +27,10 @@ abbrev mutual
 abbrev pub is_within : Query → Bool
 is_within q =
     nat_le (depth q) 64 && nat_le (comparisons q) 256 && nat_le (length (canonical q)) 4096
+
+-- the query, if it is within the limits of a predicate
+abbrev pub if_within : Query → Option Query
+if_within q = if is_within q then Some q else None
 
 abbrev pub is_predicate : Query → Bool
 is_predicate q = is_formed q && is_within q

@@ -1,9 +1,9 @@
-//! Predicates: from formulas or from pushes on a stack, written, and when they hold of a row.
+//! Predicates: from formulas or of other predicates, written, and when they hold of a row.
 //!
-//! A contract sees a predicate as a `Query` of lq_formula, a row as what it shows under each
-//! attribute's name (`specs/Truth`), and a stack as its items (`specs/Stack` has what each push
-//! gives). Nothing here waits, and `holds` takes no memory.
-//! Begin with `predicate`, then `truth`, then `stack`.
+//! A contract sees a predicate as a `Query` of lq_formula, which is within the limits of
+//! `specs/Limits`, and a row as what it shows under each attribute's name (`specs/Truth`). Nothing
+//! here waits, and `holds` takes no memory.
+//! Begin with `predicate`, then `truth`, then `reader`.
 #![tactic(auto)]
 
 mod attributes;
@@ -13,17 +13,12 @@ mod fault_place;
 mod field;
 mod fitting;
 mod laws;
-mod operand;
 mod parser;
 mod predicate;
 mod query_size;
 mod reader;
 mod span;
 mod spans;
-mod stack;
-mod stack_comparison;
-mod stack_item;
-mod stack_op;
 mod tree;
 mod truth;
 mod validator;
@@ -36,6 +31,4 @@ pub use laws::{truth_goes_by_names, truth_stays_beside_spans};
 pub use predicate::Predicate;
 pub use reader::read;
 pub use spans::Spans;
-pub use stack::Stack;
-pub use stack_op::StackOp;
 pub use truth::{Row, holds};

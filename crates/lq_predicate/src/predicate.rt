@@ -1,8 +1,9 @@
 //! The predicate.
-ghost use Rattle.std.specs.Prelude.{◌≡◌, ◌≤◌, None, IfOk, IsTrue};
+ghost use Rattle.std.specs.Prelude.{◌≡◌, ◌≤◌, ◌∷◌, [], None, IfOk, OnErr, IsTrue};
 ghost use Rattle.lq_value.specs.Refusal.{IsRefusedBy};
 ghost use Rattle.lq_value.specs.Compare.{suits};
 
+use crate::fitting::{fit_joined, fits_not};
 use crate::tree::Tree;
 use lq_value::{AttrName, Literal, Op, Refusal};
 use std::alloc::Global;
@@ -43,10 +44,25 @@ impl Model for Predicate {
 }
 
 impl Predicate {
-    ghost use Rattle.lq_formula.specs.Query.{Compare};
+    ghost use Rattle.lq_formula.specs.Query.{And, Compare, Not, Or, queries};
     ghost use Rattle.lq_formula.specs.Canonical.{comparisons};
     ghost use Rattle.lq_formula.specs.Limits.{IsProper};
-    ghost use Rattle.lq_predicate.specs.Limits.{is_formed, is_predicate, is_within};
+    ghost use Rattle.lq_predicate.specs.Limits.{if_within, is_formed, is_predicate, is_within};
+
+    /// The comparison of an attribute with a literal that suits the operator. It takes no memory.
+    ///
+    /// The comparison is within the limits of a predicate, and a pattern is one that some text
+    /// writes.
+    pub fn compare(attr: AttrName, op: Op, literal: Literal) -> Predicate
+        requires suits { IsTrue (suits literal op) }
+        requires within { IsTrue (is_within (Compare attr op literal)) }
+        requires proper { IsProper (Compare attr op literal) }
+        ensures { result ≡ Compare attr op literal }
+    {
+        Predicate {
+            tree: Tree::compare(attr, op, literal),
+        }
+    }
 
     /// Another predicate that is the same. Refused: `NoMemory`.
     pub fn copy(&self, alloc: Global) -> Result<Predicate, Refusal>
@@ -58,16 +74,67 @@ impl Predicate {
         })
     }
 
-    // One comparison.
-    pub(crate) fn compare(attr: AttrName, op: Op, literal: Literal) -> Predicate
-        requires suits { IsTrue (suits literal op) }
-        requires within { IsTrue (is_within (Compare attr op literal)) }
-        requires proper { IsProper (Compare attr op literal) }
-        ensures { result ≡ Compare attr op literal }
+    /// The predicate that holds just where this one doesn't, as BQuery's `Not`.
+    ///
+    /// `None` where it would pass a limit: its depth and its text are 1 greater. That takes no
+    /// memory. Refused otherwise: `NoMemory`.
+    pub fn not(&self, alloc: Global) -> Result<Option<Predicate>, Refusal>
+        ensures value { IfOk result (λ made. made ≡ if_within (Not self.now)) }
+        ensures refused { IsRefusedBy result None }
+        ensures err { OnErr result (IsTrue (is_within (Not self.now))) }
     {
-        Predicate {
-            tree: Tree::compare(attr, op, literal),
+        let tree = self.tree();
+        if !fits_not(tree) {
+            return Ok(None);
         }
+        Ok(Some(Predicate::of(tree.copy(alloc)?.negated(alloc, 1)?)))
+    }
+
+    /// The predicate that holds where this one and another do, as BQuery's `And`: this one is its
+    /// first part.
+    ///
+    /// `None` where it would pass a limit, which takes no memory. Refused otherwise: `NoMemory`.
+    pub fn both(&self, alloc: Global, other: &Predicate) -> Result<Option<Predicate>, Refusal>
+        ensures value { IfOk result
+            (λ made. made ≡ if_within (And (queries (self.now ∷ other.now ∷ [])))) }
+        ensures refused { IsRefusedBy result None }
+        ensures err { OnErr result
+            (IsTrue (is_within (And (queries (self.now ∷ other.now ∷ []))))) }
+    {
+        if !fit_joined(self.tree(), other.tree()) {
+            return Ok(None);
+        }
+        let parts = self.beside(alloc, other)?;
+        Ok(Some(Predicate::of(Tree::both(parts))))
+    }
+
+    /// The predicate that holds where this one or another does, as BQuery's `Or`: this one is its
+    /// first part.
+    ///
+    /// `None` where it would pass a limit, which takes no memory. Refused otherwise: `NoMemory`.
+    pub fn either(&self, alloc: Global, other: &Predicate) -> Result<Option<Predicate>, Refusal>
+        ensures value { IfOk result
+            (λ made. made ≡ if_within (Or (queries (self.now ∷ other.now ∷ [])))) }
+        ensures refused { IsRefusedBy result None }
+        ensures err { OnErr result
+            (IsTrue (is_within (Or (queries (self.now ∷ other.now ∷ []))))) }
+    {
+        if !fit_joined(self.tree(), other.tree()) {
+            return Ok(None);
+        }
+        let parts = self.beside(alloc, other)?;
+        Ok(Some(Predicate::of(Tree::either(parts))))
+    }
+
+    // What two predicates say, in a list.
+    fn beside(&self, alloc: Global, other: &Predicate) -> Result<Vec<Tree>, Refusal>
+        ensures refused { IsRefusedBy result None }
+        ensures value { IfOk result (λ parts. parts.items ≡ self.now ∷ other.now ∷ []) }
+    {
+        let mut parts = Vec::new(alloc);
+        parts.push(self.tree.copy(alloc)?)?;
+        parts.push(other.tree.copy(alloc)?)?;
+        Ok(parts)
     }
 
     // The predicate that a tree within the limits is.

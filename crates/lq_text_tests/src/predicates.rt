@@ -1,5 +1,6 @@
-//! Of lq_predicate: predicates from pushes, which no script makes.
-use lq_predicate::{Stack, StackOp, write};
+//! Of lq_stack: predicates from pushes, which no script makes.
+use lq_predicate::write;
+use lq_stack::{Stack, StackOp};
 use lq_value::Refusal;
 use std::alloc::Global;
 use std::test::Fail;

@@ -1,0 +1,3 @@
+pub mod Operand
+pub mod Stacked
+pub mod Stack
