@@ -66,7 +66,7 @@ impl<'a> Source for Slow<'a> {
     }
 }
 
-/// A writer that takes `step` bytes at a time and `room` in all, and then fails.
+/// A writer that takes `step` bytes at a time and `room` in all, and then fails, at a flush too.
 ///
 /// Each write adds to the last two digits of `calls`, and a flush puts 99 behind them.
 #[derive(Drop)]
@@ -102,6 +102,10 @@ impl<'a> Sink for Narrow<'a> {
     }
 
     fn flush(&mut self) -> Result<(), Failed> {
+        if self.room == 0 {
+            self.failed = true;
+            return Err(Failed);
+        }
         self.flushed = true;
         self.calls
             .set(self.calls.get().wrapping_mul(100).wrapping_add(99));
@@ -123,7 +127,7 @@ type Run = (
     u64,
 );
 
-const RUNS: [Run; 9] = [
+const RUNS: [Run; 10] = [
     ("", 9, false, 99, 99, Ok(()), "", 99),
     ("\r\n\n", 9, false, 99, 99, Ok(()), "", 99),
     // the reads end behind `ab LF cd`, `LF LF e LF f`, `ghi LF` and the end
@@ -171,6 +175,17 @@ const RUNS: [Run; 9] = [
         3_03_03_05,
     ),
     ("ab\n", 99, false, 0, 99, Err(RunFault::Write), "", 0),
+    // all is taken, and the flush fails
+    (
+        "ab\n",
+        9,
+        false,
+        99,
+        3,
+        Err(RunFault::Write),
+        "ab\n",
+        3_03,
+    ),
 ];
 
 /// Whether a run goes as it has to.
