@@ -23,4 +23,5 @@ pub returns-in-Some-clause-value : goal.returns-in-Some-clause-value
 returns-in-Some-clause-value c =
     let same = c.as_bytes-bytes.ensures.value in
     subst (λ bs. front_of c.in-Some.piece ≡ front_at bs) same (c.in-Some.ensures.some.1
-    ∙ sym (front_symbol c.as_bytes-bytes.result.now (subst (λ bs. 0 < length bs) (sym same) c.requires) c.in-Some.ensures.some.0))
+    ∙ sym (front_symbol c.as_bytes-bytes.result.now
+    (subst (λ bs. 0 < length bs) (sym same) c.requires) c.in-Some.ensures.some.0))

@@ -6,12 +6,14 @@ use Rattle.lq_formula.proofs.raw.count_unescaped.Goals as goal
 pub returns-then-bytes-n-lt2-clause-some : goal.returns-then-bytes-n-lt2-clause-some
 returns-then-bytes-n-lt2-clause-some c =
     counted_size c.args.bytes.now c.loop-n.n c.loop-n.count c.loop-n.invariant
-    (last_byte c.args.bytes.now c.loop-n.n c.loop-n-test.true (omega arith) (eq-eqb _ 92 c.if-b-eq92.true))
+    (last_byte c.args.bytes.now c.loop-n.n c.loop-n-test.true (omega arith)
+    (eq-eqb _ 92 c.if-b-eq92.true))
 
 pub returns-then-bytes-n-lt2-clause-nul : goal.returns-then-bytes-n-lt2-clause-nul
 returns-then-bytes-n-lt2-clause-nul c =
     counted_clear c.args.bytes.now c.loop-n.n c.loop-n.count c.loop-n.invariant
-    (last_byte c.args.bytes.now c.loop-n.n c.loop-n-test.true (omega arith) (eq-eqb _ 92 c.if-b-eq92.true))
+    (last_byte c.args.bytes.now c.loop-n.n c.loop-n-test.true (omega arith)
+    (eq-eqb _ 92 c.if-b-eq92.true))
 
 pub returns-then-bytes-n-eq0-clause-none : goal.returns-then-bytes-n-eq0-clause-none
 returns-then-bytes-n-eq0-clause-none c =
@@ -27,7 +29,8 @@ loop-n-preserved-then-b-eq92 c =
 pub returns-then-b-eq0-clause-none : goal.returns-then-b-eq0-clause-none
 returns-then-b-eq0-clause-none c =
     counted_nul c.args.bytes.now c.loop-n.n c.loop-n.count _ _ c.loop-n.invariant
-    (plain_byte c.args.bytes.now c.loop-n.n c.loop-n-test.true (ne_eqb _ 92 c.if-b-eq92.false)) c.if-b-eq0.true
+    (plain_byte c.args.bytes.now c.loop-n.n c.loop-n-test.true (ne_eqb _ 92 c.if-b-eq92.false))
+    c.if-b-eq0.true
 
 pub loop-n-preserved : goal.loop-n-preserved
 loop-n-preserved c =
