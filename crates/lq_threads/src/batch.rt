@@ -2,7 +2,6 @@
 use crate::gate::Gate;
 use crate::held::Held;
 use crate::places::Places;
-use lq_desk::Reply;
 use lq_reply::{Response, put_reply};
 use lq_server::{Named, Server};
 use lq_value::Refusal;
@@ -30,14 +29,12 @@ trait Work {
 impl<'a, N: Named, G: Gate> Work for Turn<'a, N, G> {
     // Each read in order. It ends before the reads do where memory was wanting.
     fn work<R: Wait>(&mut self, rt: &R) {
-        let slot = self.slot;
         for _ in 0..self.reads {
-            self.gate.pass(rt, slot);
-            let Ok(read) = self.held.read(rt, self.server) else {
+            self.gate.pass(rt, self.slot);
+            let Ok(reply) = self.held.read(rt, self.server) else {
                 return;
             };
-            let reply = Reply::Read(read);
-            if self.replies.push(Response::Reply { slot, reply }).is_err() {
+            if self.replies.push(reply).is_err() {
                 return;
             }
         }
@@ -48,7 +45,9 @@ impl<'a, N: Named, G> Turn<'a, N, G> {
     // The reply to the next of its reads. Refused: `NoMemory` where that read was not carried out.
     fn next(&mut self) -> Result<&Response, Refusal> {
         let told = self.told;
-        let reply = self.replies.get(told).ok_or(Refusal::NoMemory)?;
+        let Some(reply) = self.replies.get(told) else {
+            return Err(Refusal::NoMemory);
+        };
         self.told = told + 1;
         Ok(reply)
     }
@@ -79,16 +78,39 @@ pub fn read_beside<N: Named + Send + Sync, G: Gate + Sync, R: Threads + Wait + S
 ) -> Result<(), Refusal> {
     let mut turns = turns_of(alloc, server, gate, places, slots)?;
     work_beside(rt, &mut turns);
+    let told = put_replies(&mut turns, slots, out);
+    for turn in turns {
+        places.put(turn.held);
+    }
+    told
+}
+
+// Puts the reply to each read behind `out`.
+fn put_replies<N: Named, G>(
+    turns: &mut [Turn<'_, N, G>],
+    slots: &[u64],
+    out: &mut Vec<u8>,
+) -> Result<(), Refusal> {
     for slot in slots {
-        match turns.iter_mut().find(|turn| turn.slot == *slot) {
+        match turn_of(turns, *slot) {
             Some(turn) => put_reply(out, turn.next()?)?,
             None => put_reply(out, &Response::Refused(Refusal::NotOpen))?,
         }
     }
-    for turn in turns {
-        places.put(turn.held);
-    }
     Ok(())
+}
+
+// The turn of a slot.
+fn turn_of<'t, 'a, N: Named, G>(
+    turns: &'t mut [Turn<'a, N, G>],
+    slot: u64,
+) -> Option<&'t mut Turn<'a, N, G>> {
+    for turn in turns {
+        if turn.slot == slot {
+            return Some(turn);
+        }
+    }
+    None
 }
 
 // A turn for each slot that is named and has a reader, which is taken out of its place.
@@ -104,7 +126,7 @@ fn turns_of<'a, N: Named, G: Gate>(
         let Ok(held) = places.take(*slot) else {
             continue;
         };
-        let reads = slots.iter().filter(|other| **other == *slot).count();
+        let reads = count_of(slots, *slot);
         turns.push(Turn {
             server,
             gate,
@@ -116,4 +138,15 @@ fn turns_of<'a, N: Named, G: Gate>(
         })?;
     }
     Ok(turns)
+}
+
+// How many of these reads are of a slot.
+fn count_of(slots: &[u64], slot: u64) -> usize {
+    let mut count: usize = 0;
+    for other in slots {
+        if *other == slot {
+            count = count.saturating_add(1);
+        }
+    }
+    count
 }

@@ -85,9 +85,8 @@ impl<'a, N: Named + Send + Sync, R: Threads + Wait + Sync, G: Gate + Sync, W: Si
         if let Err(of_write) = self.write_replies() {
             return of_write;
         }
-        match self.flush() {
-            Ok(()) | Err(_) => fault,
-        }
+        let _ = self.flush();
+        fault
     }
 
     // A read joins the batch; any other line ends it, and is carried out.
@@ -112,10 +111,11 @@ impl<'a, N: Named + Send + Sync, R: Threads + Wait + Sync, G: Gate + Sync, W: Si
             return self.put_read(slot);
         }
         self.end_batch()?;
-        let Ok(response) = self.session.answer(question) else {
-            return Err(RunFault::Memory);
-        };
-        self.put(&response)
+        match self.session.answer(question) {
+            Ok(response) => self.put(&response),
+            Err(Refusal::NoMemory) => Err(RunFault::Memory),
+            Err(refusal) => self.put(&Response::Refused(refusal)),
+        }
     }
 
     fn put_read(&mut self, slot: u64) -> Result<(), RunFault> {

@@ -8,7 +8,7 @@ pub trait Gate {
 }
 
 /// The gate that each read passes at once.
-#[derive(Clone, Copy, Debug)]
+#[derive(Drop)]
 pub struct OpenGate;
 
 impl Gate for OpenGate {

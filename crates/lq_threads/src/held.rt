@@ -1,11 +1,13 @@
-//! The tokens of one server: a seat of no slot, and readers.
+//! The tokens of one server, a seat of no slot and readers, and what is answered by them.
 use lq_board::Seat;
-use lq_desk::Read;
+use lq_desk::Reply;
 use lq_predicate::Predicate;
-use lq_server::{Accepted, Found, Named, Reader, Server};
+use lq_reply::Response;
+use lq_server::{Named, Reader, Server};
 use lq_subscription::Identity;
 use lq_value::{Entry, Name, Refusal};
-use lq_volume::{Change, Listing};
+use lq_volume::{Applied, Change};
+use std::alloc::Global;
 use std::marker::{Model, PhantomData};
 use std::sync::Wait;
 
@@ -46,13 +48,19 @@ impl<N: Named> Caller<N> {
     }
 
     /// Makes a change. Refused as `Server::apply` is.
-    pub fn apply<R: Wait>(
+    pub fn change<R: Wait>(
         &mut self,
         rt: &R,
         server: &Server<N>,
         change: &Change,
-    ) -> Result<Accepted, Refusal> {
-        server.apply(rt, &mut self.seat, change)
+    ) -> Result<Response, Refusal> {
+        let accepted = server.apply(rt, &mut self.seat, change)?;
+        let applied = Applied {
+            change: accepted.change,
+            node: accepted.node,
+        };
+        let reply = Reply::Changed(applied);
+        Ok(Response::Reply { slot: 0, reply })
     }
 
     /// Opens a live query. Refused as `Server::open` is.
@@ -78,8 +86,12 @@ impl<N: Named> Caller<N> {
         rt: &R,
         server: &Server<N>,
         predicate: &Predicate,
-    ) -> Result<Found, Refusal> {
-        server.fetch(rt, &mut self.seat, predicate)
+    ) -> Result<Response, Refusal> {
+        let found = server.fetch(rt, &mut self.seat, predicate)?;
+        Ok(Response::Fetched {
+            at: found.at,
+            result: found.entries,
+        })
     }
 
     /// The node that has a place. Refused as `Server::find` is.
@@ -89,8 +101,9 @@ impl<N: Named> Caller<N> {
         server: &Server<N>,
         dir: u64,
         name: &Name,
-    ) -> Result<u64, Refusal> {
-        server.find(rt, &mut self.seat, dir, name)
+    ) -> Result<Response, Refusal> {
+        let node = server.find(rt, &mut self.seat, dir, name)?;
+        Ok(Response::Found { node })
     }
 
     /// All of the entry of a node. Refused as `Server::listing` is.
@@ -99,8 +112,9 @@ impl<N: Named> Caller<N> {
         rt: &R,
         server: &Server<N>,
         node: u64,
-    ) -> Result<Listing, Refusal> {
-        server.listing(rt, &mut self.seat, node)
+    ) -> Result<Response, Refusal> {
+        let listing = server.listing(rt, &mut self.seat, node)?;
+        Ok(Response::Listed { node, listing })
     }
 }
 
@@ -137,20 +151,43 @@ impl<N: Named> Held<N> {
         self.reader.slot()
     }
 
+    /// What its opening is answered, with the result then. Refused: `NoMemory`.
+    pub fn opened(&self, alloc: Global) -> Result<Response, Refusal> {
+        let slot = self.reader.slot();
+        let reply = Reply::Opened {
+            slot,
+            at: self.reader.last_change(),
+            result: copied(alloc, self.reader.result())?,
+        };
+        Ok(Response::Reply { slot, reply })
+    }
+
     /// Fills its port, and takes the next of what was told. Refused as `Reader::read` is.
-    pub fn read<R: Wait>(&mut self, rt: &R, server: &Server<N>) -> Result<Read, Refusal> {
+    pub fn read<R: Wait>(&mut self, rt: &R, server: &Server<N>) -> Result<Response, Refusal> {
         server.pump(rt, &mut self.reader);
-        self.reader.read(rt)
+        let reply = Reply::Read(self.reader.read(rt)?);
+        Ok(Response::Reply {
+            slot: self.reader.slot(),
+            reply,
+        })
     }
 
     /// Asks for the end of its subscription.
-    pub fn hang_up(&mut self, server: &Server<N>) {
+    pub fn hang_up(&mut self, server: &Server<N>) -> Response {
         self.reader.hang_up(server);
+        Response::Reply {
+            slot: self.reader.slot(),
+            reply: Reply::Asked,
+        }
     }
 
     /// Closes its subscription. Refused as `Server::close` is.
-    pub fn close<R: Wait>(&mut self, rt: &R, server: &Server<N>) -> Result<u64, Refusal> {
-        server.close(rt, &mut self.reader)
+    pub fn close<R: Wait>(&mut self, rt: &R, server: &Server<N>) -> Result<Response, Refusal> {
+        let change = server.close(rt, &mut self.reader)?;
+        Ok(Response::Reply {
+            slot: self.reader.slot(),
+            reply: Reply::Shut(change),
+        })
     }
 
     /// Frees its slot. Refused as `Server::finish` is; it then comes back.
@@ -162,18 +199,25 @@ impl<N: Named> Held<N> {
         }
     }
 
-    /// The result after what was read, by rising node.
-    pub fn result(&self) -> &[Entry] {
-        self.reader.result()
+    /// The result that was rebuilt from what was read. Refused: `NoMemory`.
+    pub fn rebuilt(&self, alloc: Global) -> Result<Response, Refusal> {
+        Ok(Response::Rebuilt {
+            change: self.reader.last_change(),
+            result: copied(alloc, self.reader.result())?,
+            settled: self.reader.is_settled(),
+        })
     }
+}
 
-    /// Whether the latest update read was the last of its change.
-    pub fn is_settled(&self) -> bool {
-        self.reader.is_settled()
+// The same entries once more. Refused: `NoMemory`.
+fn copied(alloc: Global, entries: &[Entry]) -> Result<Vec<Entry>, Refusal> {
+    let mut copy = Vec::with_capacity(alloc, entries.len())?;
+    for entry in entries {
+        copy.push(Entry {
+            dir: entry.dir,
+            name: entry.name.copy(alloc)?,
+            node: entry.node,
+        })?;
     }
-
-    /// The change of the latest update read, or the number at the opening.
-    pub fn last_change(&self) -> u64 {
-        self.reader.last_change()
-    }
+    Ok(copy)
 }

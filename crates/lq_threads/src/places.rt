@@ -23,12 +23,18 @@ impl<N: Named> Places<N> {
 
     /// The reader of a slot. Refused: `NotOpen` where it has none.
     pub fn reader(&mut self, slot: u64) -> Result<&mut Held<N>, Refusal> {
-        self.place(slot)?.as_mut().ok_or(Refusal::NotOpen)
+        match self.place(slot)? {
+            Some(held) => Ok(held),
+            None => Err(Refusal::NotOpen),
+        }
     }
 
     /// Takes the reader of a slot out. Refused: `NotOpen` where it has none.
     pub fn take(&mut self, slot: u64) -> Result<Held<N>, Refusal> {
-        self.place(slot)?.take().ok_or(Refusal::NotOpen)
+        match self.place(slot)?.take() {
+            Some(held) => Ok(held),
+            None => Err(Refusal::NotOpen),
+        }
     }
 
     /// Puts a reader in the place of its slot.
@@ -43,8 +49,9 @@ impl<N: Named> Places<N> {
         if slot == 0 || slot > SLOTS as u64 {
             return Err(Refusal::NotOpen);
         }
-        self.readers
-            .get_mut((slot - 1) as usize)
-            .ok_or(Refusal::NotOpen)
+        match self.readers.get_mut((slot - 1) as usize) {
+            Some(place) => Ok(place),
+            None => Err(Refusal::NotOpen),
+        }
     }
 }
