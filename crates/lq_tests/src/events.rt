@@ -16,11 +16,10 @@ type Row = (Ask, &'static str, (u64, u64, u64));
 
 const A: Ask = Ask::Change(Act::File(1, "a", 0));
 
-// in turn: the scenario's name, how many changes its volume takes, its events
-static EXAMPLES: [(&str, u64, &[Row]); 5] = [
+// in turn: the scenario's name, its events
+static EXAMPLES: [(&str, &[Row]); 5] = [
     (
         "change-limit",
-        2,
         &[
             (A, "Changed", (1, 2, 0)),
             (Ask::Change(Act::File(1, "b", 0)), "Changed", (2, 3, 0)),
@@ -33,7 +32,6 @@ static EXAMPLES: [(&str, u64, &[Row]); 5] = [
     ),
     (
         "close-on-full-port",
-        99,
         &[
             (Ask::Open("name=*", 1, 1, false), "Opened", (1, 0, 0)),
             (A, "Changed", (1, 2, 0)),
@@ -52,7 +50,6 @@ static EXAMPLES: [(&str, u64, &[Row]); 5] = [
     ),
     (
         "hang-up-told-after",
-        99,
         &[
             (Ask::Open("name=*", 2, 2, false), "Opened", (1, 0, 0)),
             (Ask::At(1, HangUp), "Asked", (0, 0, 0)),
@@ -68,7 +65,6 @@ static EXAMPLES: [(&str, u64, &[Row]); 5] = [
     ),
     (
         "overrun-before-notice",
-        99,
         &[
             (Ask::Open("name=*", 1, 0, false), "Opened", (1, 0, 0)),
             (Ask::At(1, HangUp), "Asked", (0, 0, 0)),
@@ -80,7 +76,6 @@ static EXAMPLES: [(&str, u64, &[Row]); 5] = [
     ),
     (
         "hang-up-does-not-carry-over",
-        99,
         &[
             (Ask::Open("name=*", 1, 1, false), "Opened", (1, 0, 0)),
             (Ask::At(1, Close), "Shut", (0, 0, 0)),
@@ -124,13 +119,13 @@ fn is_told(reply: &Reply, wanted: &str, numbers: (u64, u64, u64)) -> bool {
     told == wanted && one == numbers.0 && two == numbers.1 && three == numbers.2
 }
 
-/// Whether a new desk answers these events so.
-fn are_told(alloc: Global, limit: u64, rows: &[Row]) -> Result<bool, Refusal> {
+/// Whether a new desk, whose volume takes two changes, answers these events so.
+fn are_told(alloc: Global, rows: &[Row]) -> Result<bool, Refusal> {
     let mut events = Vec::new(alloc);
     for (ask, _, _) in rows {
         events.push(event(alloc, ask)?)?;
     }
-    let mut desk = Desk::new(alloc, Volume::new(alloc, limit))?;
+    let mut desk = Desk::new(alloc, Volume::new(alloc, 2))?;
     let replies = desk.run(&events)?;
     for (reply, (_, wanted, numbers)) in replies.iter().zip(rows) {
         if !is_told(reply, wanted, *numbers) {
@@ -142,8 +137,8 @@ fn are_told(alloc: Global, limit: u64, rows: &[Row]) -> Result<bool, Refusal> {
 
 #[test]
 fn each_example_is_told(rt: HostRuntime) -> Result<(), Fail> {
-    for (name, limit, rows) in &EXAMPLES {
-        if !are_told(rt.alloc(), *limit, rows)? {
+    for (name, rows) in &EXAMPLES {
+        if !are_told(rt.alloc(), rows)? {
             return Err(Fail::from(*name));
         }
     }
