@@ -134,7 +134,7 @@ fn gather<N: Named, R: Wait>(
             seat: SeatOf::new(rt, server)?,
             reader: None,
             draws: Draws {
-                state: (seed ^ place) as u64,
+                state: (seed as u64).wrapping_mul(4) ^ place as u64,
                 newest: 1,
                 made: 0,
             },
