@@ -176,16 +176,7 @@ const RUNS: [Run; 10] = [
     ),
     ("ab\n", 99, false, 0, 99, Err(RunFault::Write), "", 0),
     // all is taken, and the flush fails
-    (
-        "ab\n",
-        9,
-        false,
-        99,
-        3,
-        Err(RunFault::Write),
-        "ab\n",
-        3_03,
-    ),
+    ("ab\n", 9, false, 99, 3, Err(RunFault::Write), "ab\n", 3_03),
 ];
 
 /// Whether a run goes as it has to.
