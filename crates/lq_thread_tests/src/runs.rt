@@ -97,7 +97,7 @@ impl Gate for Meeting {
     }
 }
 
-fn place() -> Place {
+fn empty() -> Place {
     Place {
         is_here: AtomicBool::new(false),
         has_seen: AtomicBool::new(false),
@@ -108,8 +108,8 @@ fn place() -> Place {
 fn two_readers_read_side_by_side(rt: HostRuntime) -> Result<(), Fail> {
     let alloc = rt.alloc();
     let meeting = Meeting {
-        one: place(),
-        two: place(),
+        one: empty(),
+        two: empty(),
     };
     let mut reader = Host::new(TWO_READERS.as_bytes());
     let mut writer = Host::new(Vec::new(alloc));
