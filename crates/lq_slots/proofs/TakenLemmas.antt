@@ -79,8 +79,8 @@ listed-set taken slots k o l wide within kept =
     (λ (ne : j ≢ k). some_ap _ _ (in_else slots k j o ne)))
     l
 
--- one slot was set, which was read as `was` and stays taken or free, j beside k for the place of its
--- seat, and no asks were added
+-- one slot was set, which was read as `was` and stays taken or free, j beside k for the place of
+-- its seat, and no asks were added
 pub slots_stand-step : (keeper keeper' : KeeperToken Identity) (slots : List (Option Subscription))
     (taken : List ℕ) (j k openings : ℕ) (was o : Option Subscription) (book book' : Book)
     → AllStand keeper slots openings book × IsListed taken slots → 0 < k → k < 65 → j ≡ k

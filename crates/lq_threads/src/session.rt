@@ -59,8 +59,8 @@ impl<'a, N: Named + Send + Sync, R: Threads + Wait + Sync, G: Gate + Sync> Sessi
         )
     }
 
-    /// What a question is answered that is no read. Refused as that is; after `NoMemory` the session
-    /// is of no more use.
+    /// What a question is answered that is no read. Refused as that is; after `NoMemory` the
+    /// session is of no more use.
     pub fn answer(&mut self, question: &Question) -> Result<Response, Refusal> {
         match question {
             Question::Event(event) => self.event(event),
