@@ -7,19 +7,19 @@ use Rattle.std.specs.Str.{IsUtf8, chars}
 use Rattle.std.proofs.Math.Utf8.{scalar, scalars}
 use Rattle.std.proofs.lemmas.Bool.{and_parts}
 use Rattle.std.proofs.lemmas.Str.{scalars-chars}
-use Rattle.lq_value.specs.declared.element.Item.{Item}
-use Rattle.lq_value.specs.declared.element.Item.TheVariants.{One, Range}
-use Rattle.lq_value.specs.declared.element.Element.{Element}
-use Rattle.lq_value.specs.declared.element.Element.TheVariants.{Star, Any, Plain, Set}
-use Rattle.lq_value.specs.Laws.{SourcesAreRead}
-use Rattle.lq_value.specs.Sign.{signs, signs_of}
-use Rattle.lq_value.specs.Source.{pattern_of}
-use Rattle.lq_value.specs.Written.{AreItems, IsElement, IsItem, StandsFor, StandsInSet, Writes}
-use Rattle.lq_value.specs.declared.literal.Literal.{Literal}
-use Rattle.lq_value.specs.declared.literal.Literal.TheVariants.{Pattern}
-use Rattle.lq_value.specs.declared.literal.Literal.TheVariants as literals
-use Rattle.lq_value.specs.declared.op.Op.{Op}
-use Rattle.lq_value.specs.declared.op.Op.TheVariants.{Eq, Ne, Lt, Le, Gt, Ge}
+use Rattle.lq_pattern.specs.declared.element.Item.{Item}
+use Rattle.lq_pattern.specs.declared.element.Item.TheVariants.{One, Range}
+use Rattle.lq_pattern.specs.declared.element.Element.{Element}
+use Rattle.lq_pattern.specs.declared.element.Element.TheVariants.{Star, Any, Plain, Set}
+use Rattle.lq_pattern.specs.Laws.{SourcesAreRead}
+use Rattle.lq_pattern.specs.Sign.{signs, signs_of}
+use Rattle.lq_pattern.specs.Source.{pattern_of}
+use Rattle.lq_pattern.specs.Written.{AreItems, IsElement, IsItem, StandsFor, StandsInSet, Writes}
+use Rattle.lq_pattern.specs.declared.literal.Literal.{Literal}
+use Rattle.lq_pattern.specs.declared.literal.Literal.TheVariants.{Pattern}
+use Rattle.lq_pattern.specs.declared.literal.Literal.TheVariants as literals
+use Rattle.lq_pattern.specs.declared.op.Op.{Op}
+use Rattle.lq_pattern.specs.declared.op.Op.TheVariants.{Eq, Ne, Lt, Le, Gt, Ge}
 use Rattle.lq_formula.specs.Grammar.{IsFormula}
 use Rattle.lq_formula.specs.Literals.{literal_of, pattern_literal, unescaped}
 use Rattle.lq_formula.specs.Query.{Query}

@@ -6,12 +6,12 @@ use Rattle.std.specs.Str.{encode_utf8_all}
 use Rattle.std.proofs.Math.Utf8.{scalar, scalars, low_scalar}
 use Rattle.std.proofs.lemmas.Bool.{or_parts}
 use Rattle.std.proofs.lemmas.Str.{chars-encodes}
-use Rattle.lq_value.specs.declared.element.Item.{Item}
-use Rattle.lq_value.specs.declared.element.Item.TheVariants.{One, Range}
-use Rattle.lq_value.specs.declared.element.Element.{Element}
-use Rattle.lq_value.specs.declared.element.Element.TheVariants.{Star, Any, Plain, Set}
-use Rattle.lq_value.specs.Sign.{signs, signs_of}
-use Rattle.lq_value.specs.Written.{AreItems, BeginsNoRange, IsElement, StandsFor, StandsInSet, Writes}
+use Rattle.lq_pattern.specs.declared.element.Item.{Item}
+use Rattle.lq_pattern.specs.declared.element.Item.TheVariants.{One, Range}
+use Rattle.lq_pattern.specs.declared.element.Element.{Element}
+use Rattle.lq_pattern.specs.declared.element.Element.TheVariants.{Star, Any, Plain, Set}
+use Rattle.lq_pattern.specs.Sign.{signs, signs_of}
+use Rattle.lq_pattern.specs.Written.{AreItems, BeginsNoRange, IsElement, StandsFor, StandsInSet, Writes}
 use Rattle.lq_formula.specs.Canonical.{element_then, in_set_then, items_then, pattern_text, plain_then}
 use Rattle.lq_formula.specs.Limits.{AreGoodItems, IsGoodElement, IsGoodPattern}
 use Rattle.lq_formula.proofs.EncodedLemmas.{ends_clear, ends_escaped}

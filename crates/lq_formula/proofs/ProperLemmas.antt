@@ -2,14 +2,14 @@
 use Rattle.std.proofs.Common.{◌≡◌, ℕ, zero, suc, Bool, true, false, List, [], ◌∷◌, ◌++◌, Some, None, refl, sym, ap, ◌∙◌, subst, inl, inr}
 use Rattle.std.specs.Prelude.{if◌then◌else◌, Result, Ok, Err}
 use Rattle.std.proofs.lemmas.Option.{none-some, same_Some}
-use Rattle.lq_value.specs.declared.element.Element.{Element}
-use Rattle.lq_value.specs.declared.literal.Literal.{Literal}
-use Rattle.lq_value.specs.declared.literal.Literal.TheVariants.{Pattern, Plain}
-use Rattle.lq_value.specs.declared.op.Op.{Op}
-use Rattle.lq_value.specs.declared.op.Op.TheVariants.{Eq, Ne, Lt, Le, Gt, Ge}
-use Rattle.lq_value.specs.Compare.{suits}
+use Rattle.lq_pattern.specs.declared.element.Element.{Element}
+use Rattle.lq_pattern.specs.declared.literal.Literal.{Literal}
+use Rattle.lq_pattern.specs.declared.literal.Literal.TheVariants.{Pattern, Plain}
+use Rattle.lq_pattern.specs.declared.op.Op.{Op}
+use Rattle.lq_pattern.specs.declared.op.Op.TheVariants.{Eq, Ne, Lt, Le, Gt, Ge}
+use Rattle.lq_pattern.specs.Compare.{suits}
 use Rattle.lq_value.specs.Name.{is_attr_name}
-use Rattle.lq_value.specs.Source.{pattern_of}
+use Rattle.lq_pattern.specs.Source.{pattern_of}
 use Rattle.lq_formula.specs.Tokens.{Token, opens, closes, bang, ands, ors, op, word, lone, cut}
 use Rattle.lq_formula.specs.Query.{Query, queries, both_of, either_of}
 use Rattle.lq_formula.specs.Literals.{literal_of, name_of, pattern_literal, unescaped}

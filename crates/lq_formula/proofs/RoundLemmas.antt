@@ -3,12 +3,12 @@ use Rattle.std.proofs.Common.{◌≡◌, ◌≤◌, ℕ, zero, suc, max, Bool, t
 use Rattle.std.specs.Prelude.{if◌then◌else◌}
 use Rattle.std.specs.List.{list_all}
 use Rattle.std.proofs.Math.Nat.{le-max_left, le-max_right}
-use Rattle.lq_value.specs.declared.literal.Literal.{Literal}
-use Rattle.lq_value.specs.declared.literal.Literal.TheVariants.{Pattern, Plain}
-use Rattle.lq_value.specs.declared.op.Op.{Op}
-use Rattle.lq_value.specs.declared.op.Op.TheVariants.{Eq, Ne, Lt, Le, Gt, Ge}
-use Rattle.lq_value.specs.Compare.{suits}
-use Rattle.lq_value.specs.Laws.{SourcesAreRead}
+use Rattle.lq_pattern.specs.declared.literal.Literal.{Literal}
+use Rattle.lq_pattern.specs.declared.literal.Literal.TheVariants.{Pattern, Plain}
+use Rattle.lq_pattern.specs.declared.op.Op.{Op}
+use Rattle.lq_pattern.specs.declared.op.Op.TheVariants.{Eq, Ne, Lt, Le, Gt, Ge}
+use Rattle.lq_pattern.specs.Compare.{suits}
+use Rattle.lq_pattern.specs.Laws.{SourcesAreRead}
 use Rattle.lq_value.specs.Name.{is_attr_name}
 use Rattle.std.proofs.lemmas.Bool.{and_parts}
 use Rattle.lq_formula.specs.Tokens.{Token, ands, ors, op, word}

@@ -2,9 +2,9 @@
 use Rattle.std.proofs.Common.{◌≡◌, ℕ, zero, suc, ◌+◌, List, [], ◌∷◌, ◌++◌, Option, Some, None, refl, sym, ap, ◌∙◌, subst, arith, append_assoc, append-nil, add-zero, inl, inr, option_and_then}
 use Rattle.std.specs.Prelude.{option_map}
 use Rattle.std.proofs.lemmas.Option.{same_Some}
-use Rattle.lq_value.specs.declared.op.Op.{Op}
+use Rattle.lq_pattern.specs.declared.op.Op.{Op}
 use Rattle.lq_formula.specs.Tokens.{Token, opens, closes, bang, ands, ors, op, word, lone, cut}
-use Rattle.lq_value.specs.declared.literal.Literal.{Literal}
+use Rattle.lq_pattern.specs.declared.literal.Literal.{Literal}
 use Rattle.lq_formula.specs.Literals.{name_of, literal_of}
 use Rattle.lq_formula.specs.Query.{Query, Compare, Not, both_of, either_of}
 use Rattle.lq_formula.specs.Grammar.{Follows, IsAnd, IsOr, IsNot, IsFormula}

@@ -2,13 +2,13 @@
 use Rattle.std.proofs.Common.{◌≡◌, ℕ, suc, ◌+◌, List, [], ◌∷◌, ◌++◌, Option, Some, None, option_and_then, refl, sym, ap, ◌∙◌, append_assoc, append-nil, false}
 use Rattle.std.specs.Prelude.{option_map, Ok}
 use Rattle.std.proofs.lemmas.Option.{none-some}
-use Rattle.lq_value.specs.declared.op.Op.{Op}
-use Rattle.lq_value.specs.declared.op.Op.TheVariants.{Eq, Ne, Lt, Le, Gt, Ge}
+use Rattle.lq_pattern.specs.declared.op.Op.{Op}
+use Rattle.lq_pattern.specs.declared.op.Op.TheVariants.{Eq, Ne, Lt, Le, Gt, Ge}
 use Rattle.std.proofs.lemmas.Str.{chars-nil}
-use Rattle.lq_value.specs.declared.literal.Literal.{Literal}
-use Rattle.lq_value.specs.declared.literal.Literal.TheVariants.{Pattern, Plain}
-use Rattle.lq_value.specs.Sign.{signs}
-use Rattle.lq_value.specs.Source.{element_at, elements_or_place, pattern_of, pieces_of, pieces_within}
+use Rattle.lq_pattern.specs.declared.literal.Literal.{Literal}
+use Rattle.lq_pattern.specs.declared.literal.Literal.TheVariants.{Pattern, Plain}
+use Rattle.lq_pattern.specs.Sign.{signs}
+use Rattle.lq_pattern.specs.Source.{element_at, elements_or_place, pattern_of, pieces_of, pieces_within}
 use Rattle.lq_formula.specs.Tokens.{Token, closes, op, word}
 use Rattle.lq_formula.specs.Literals.{pattern_literal, literal_of}
 use Rattle.lq_formula.specs.Query.{Query, Compare}

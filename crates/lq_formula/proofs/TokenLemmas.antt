@@ -2,7 +2,7 @@
 use Rattle.std.proofs.Common.{◌≡◌, ◌<◌, ◌≤◌, ◌+◌, ℕ, zero, suc, Bool, true, false, cond, List, [], ◌∷◌, length, get_or, take, drop, Option, Some, None, refl, sym, ap, ap₂, ◌∙◌, arith, subst, length-drop}
 use Rattle.std.proofs.Math.Dec.{eqb-suc-zero}
 use Rattle.std.specs.Prelude.{◌==◌, ◌||◌}
-use Rattle.lq_value.specs.declared.op.Op.TheVariants.{Eq, Ne, Lt, Le, Gt, Ge}
+use Rattle.lq_pattern.specs.declared.op.Op.TheVariants.{Eq, Ne, Lt, Le, Gt, Ge}
 use Rattle.lq_formula.specs.Bytes.{spaces, word_bytes, quoted_bytes}
 use Rattle.lq_formula.specs.Tokens.{Token, word, op, bang, ands, ors, lone, cut, Front, fixed, begins_with, longer, quoted_front, word_front, is_symbol, symbol_front, front, front_at, Placed, placed_at, Begins, trimmed, Yields, HasTokens, first_and, tokens_within, tokens_from}
 

@@ -10,14 +10,14 @@ use Rattle.std.specs.Prelude.{if◌then◌else◌, ◌||◌, ◌==◌, encode_ut
 use Rattle.std.specs.List.{list_all}
 use Rattle.std.specs.Str.{encode_utf8_all}
 use Rattle.std.proofs.lemmas.Str.{encodes-append}
-use Rattle.lq_value.specs.declared.element.Element.{Element}
-use Rattle.lq_value.specs.declared.element.Element.TheVariants.{Star, Any, Set}
-use Rattle.lq_value.specs.declared.element.Element.TheVariants as element
-use Rattle.lq_value.specs.declared.element.Item.{Item}
-use Rattle.lq_value.specs.declared.element.Item.TheVariants.{One, Range}
-use Rattle.lq_value.specs.Pattern.{plain_elements}
-use Rattle.lq_value.specs.declared.literal.Literal.{Literal}
-use Rattle.lq_value.specs.declared.op.Op.{Op}
+use Rattle.lq_pattern.specs.declared.element.Element.{Element}
+use Rattle.lq_pattern.specs.declared.element.Element.TheVariants.{Star, Any, Set}
+use Rattle.lq_pattern.specs.declared.element.Element.TheVariants as element
+use Rattle.lq_pattern.specs.declared.element.Item.{Item}
+use Rattle.lq_pattern.specs.declared.element.Item.TheVariants.{One, Range}
+use Rattle.lq_pattern.specs.Pattern.{plain_elements}
+use Rattle.lq_pattern.specs.declared.literal.Literal.{Literal}
+use Rattle.lq_pattern.specs.declared.op.Op.{Op}
 use Rattle.lq_formula.specs.Query.{Compare}
 use Rattle.lq_formula.specs.Canonical.{is_bare_byte, quoted, in_marks, attr_then, op_text, literal_text, pattern_text, element_then, plain_then, in_set_then, item_then, items_then, canonical}
 

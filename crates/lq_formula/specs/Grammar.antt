@@ -1,8 +1,8 @@
 -- The grammar, by cases. The number is how deep parentheses and `!` may nest from here on.
 use Rattle.std.specs.Prelude.{◌≡◌, ◌⊎◌, ℕ, zero, suc, List, [], ◌∷◌, ◌++◌, Some}
-use Rattle.lq_value.specs.declared.op.Op.{Op}
+use Rattle.lq_pattern.specs.declared.op.Op.{Op}
 use Rattle.lq_formula.specs.Tokens.{Token, opens, closes, bang, ands, ors, op, word}
-use Rattle.lq_value.specs.declared.literal.Literal.{Literal}
+use Rattle.lq_pattern.specs.declared.literal.Literal.{Literal}
 use Rattle.lq_formula.specs.Literals.{name_of, literal_of}
 use Rattle.lq_formula.specs.Query.{Query, Compare, Not, both_of, either_of}
 

@@ -6,8 +6,8 @@ use Rattle.lq_formula.specs.Canonical.{canonical}
 use Rattle.lq_formula.specs.Limits.{IsGoodPattern, IsProper, IsProperBy, IsReadBehind, IsWithinLimits}
 use Rattle.lq_formula.specs.Words.{WordsAre}
 use Rattle.lq_formula.specs.Tokens.{bare, tokens_of}
-use Rattle.lq_value.specs.declared.element.Element.{Element}
-use Rattle.lq_value.specs.Source.{pattern_of}
+use Rattle.lq_pattern.specs.declared.element.Element.{Element}
+use Rattle.lq_pattern.specs.Source.{pattern_of}
 use Rattle.std.specs.Str.{IsUtf8}
 use Rattle.lq_formula.specs.Reading.{reading_of}
 

@@ -1,16 +1,16 @@
 -- Which queries a formula can say: those that are read from one.
 use Rattle.std.specs.Prelude.{ℕ, ◌≡◌, ◌≤◌, List, [], ◌∷◌, length, true, Some}
 use Rattle.std.specs.Char.{IsScalar}
-use Rattle.lq_value.specs.declared.element.Item.{Item}
-use Rattle.lq_value.specs.declared.element.Item.TheVariants.{One, Range}
-use Rattle.lq_value.specs.declared.element.Element.{Element}
-use Rattle.lq_value.specs.declared.element.Element.TheVariants.{Star, Any, Set}
-use Rattle.lq_value.specs.declared.element.Element.TheVariants as element
-use Rattle.lq_value.specs.declared.literal.Literal.{Literal}
-use Rattle.lq_value.specs.declared.literal.Literal.TheVariants.{Pattern, Plain}
-use Rattle.lq_value.specs.Compare.{suits}
+use Rattle.lq_pattern.specs.declared.element.Item.{Item}
+use Rattle.lq_pattern.specs.declared.element.Item.TheVariants.{One, Range}
+use Rattle.lq_pattern.specs.declared.element.Element.{Element}
+use Rattle.lq_pattern.specs.declared.element.Element.TheVariants.{Star, Any, Set}
+use Rattle.lq_pattern.specs.declared.element.Element.TheVariants as element
+use Rattle.lq_pattern.specs.declared.literal.Literal.{Literal}
+use Rattle.lq_pattern.specs.declared.literal.Literal.TheVariants.{Pattern, Plain}
+use Rattle.lq_pattern.specs.Compare.{suits}
 use Rattle.lq_value.specs.Name.{is_attr_name}
-use Rattle.lq_value.specs.declared.op.Op.{Op}
+use Rattle.lq_pattern.specs.declared.op.Op.{Op}
 use Rattle.lq_formula.specs.Literals.{literal_of}
 use Rattle.lq_formula.specs.Query.{Query, Compare, Not, And, Or, Queries, no_more, and_then}
 use Rattle.lq_formula.specs.Canonical.{canonical, comparisons, depth}

@@ -1,6 +1,6 @@
 -- Reading tokens from the left, with a stack of what is begun.
 use Rattle.std.specs.Prelude.{ℕ, zero, suc, ◌+◌, List, [], ◌∷◌, ◌++◌, Option, Some, None, option_and_then, option_map}
-use Rattle.lq_value.specs.declared.op.Op.{Op}
+use Rattle.lq_pattern.specs.declared.op.Op.{Op}
 use Rattle.lq_formula.specs.Tokens.{Token, opens, closes, bang, ands, ors, op, word, lone, cut}
 use Rattle.lq_formula.specs.Literals.{name_of, literal_of}
 use Rattle.lq_formula.specs.Query.{Query, Compare, Not, both_of, either_of}

@@ -1,7 +1,7 @@
 -- What a formula says: comparisons of attributes with literals, under `!`, `&&` and `||`.
 use Rattle.std.specs.Prelude.{ℕ, List, [], ◌∷◌}
-use Rattle.lq_value.specs.declared.op.Op.{Op}
-use Rattle.lq_value.specs.declared.literal.Literal.{Literal}
+use Rattle.lq_pattern.specs.declared.op.Op.{Op}
+use Rattle.lq_pattern.specs.declared.literal.Literal.{Literal}
 
 mutual
   pub data Query : Type 0 where

@@ -2,11 +2,11 @@
 -- canonical text, where they are read without memory.
 use Rattle.std.specs.Prelude.{◌≡◌, ◌+◌, ℕ, List, [], length, Option, None, Some, Result, Ok, Err}
 use Rattle.std.specs.Str.{IsUtf8, encode_utf8_all}
-use Rattle.lq_value.specs.declared.element.Element.{Element}
-use Rattle.lq_value.specs.declared.element.Item.{Item}
-use Rattle.lq_value.specs.declared.literal.Literal.{Literal}
-use Rattle.lq_value.specs.Sign.{Signs, signs_of}
-use Rattle.lq_value.specs.Source.{First, ends, has, faulty, Pieces, whole, stuck}
+use Rattle.lq_pattern.specs.declared.element.Element.{Element}
+use Rattle.lq_pattern.specs.declared.element.Item.{Item}
+use Rattle.lq_pattern.specs.declared.literal.Literal.{Literal}
+use Rattle.lq_pattern.specs.Sign.{Signs, signs_of}
+use Rattle.lq_pattern.specs.Source.{First, ends, has, faulty, Pieces, whole, stuck}
 use Rattle.lq_formula.specs.Canonical.{attr_then, element_then, items_then, literal_text, pattern_text}
 use Rattle.lq_formula.specs.Capped.{capped}
 use Rattle.lq_formula.specs.declared.source_size.FirstSize.{FirstSize}

@@ -6,7 +6,7 @@ ghost use Rattle.lq_formula.specs.Grammar.{IsBegun, IsFormula, nesting};
 ghost use Rattle.lq_formula.specs.Machine.{run, start};
 ghost use Rattle.lq_formula.specs.Laws.{CanonicalIsRead, FaultsAreFound, FormulasAreRead, PatternsAreGood, ReadIsGood, ReadIsProper};
 
-use lq_value::sources_are_read;
+use lq_pattern::sources_are_read;
 
 /// Each text has tokens: those of the list.
 pub fn tokens_exist()

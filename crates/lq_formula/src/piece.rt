@@ -8,7 +8,7 @@ ghost use Rattle.lq_formula.specs.TokenView.{front_of, token_of};
 
 use crate::count::{count_quoted, count_word};
 use crate::token::Token;
-use lq_value::Op;
+use lq_pattern::Op;
 
 // A token, how many bytes it has, and at which of them its raw text begins.
 #[derive(Clone, Copy)]

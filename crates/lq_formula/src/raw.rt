@@ -6,7 +6,8 @@ ghost use Rattle.lq_formula.specs.Limits.{IsGoodBehind};
 ghost use Rattle.lq_formula.specs.Literals.{has_no_nul, literal_of, literal_refusal, name_of, name_refusal, takes_pattern as patterned, unescaped};
 
 use crate::laws::patterns_are_good;
-use lq_value::{AttrName, Literal, MAX_ATTR_NAME, Op, Pattern, Refusal, Text};
+use lq_pattern::{Literal, Op, Pattern};
+use lq_value::{AttrName, MAX_ATTR_NAME, Refusal, Text};
 use std::alloc::Global;
 
 /// Whether a raw text is an attribute's name: with each `\` before a character taken off, it has

@@ -6,13 +6,14 @@ ghost use Rattle.lq_formula.specs.Capped.{capped};
 ghost use Rattle.lq_formula.specs.Literals.{literal_fault, literal_of, name_of, unescaped};
 ghost use Rattle.lq_formula.specs.Query.{Compare};
 ghost use Rattle.lq_formula.specs.Sizes.{literal_bytes, name_bytes};
-ghost use Rattle.lq_value.specs.declared.literal.Literal.{Literal};
+ghost use Rattle.lq_pattern.specs.declared.literal.Literal.{Literal};
 
 use crate::raw::{count_unescaped, takes_pattern};
 use crate::size::op_size;
 use crate::source_size::source_size;
 use crate::writing::is_bare_byte;
-use lq_value::{MAX_ATTR_NAME, Op};
+use lq_pattern::Op;
+use lq_value::MAX_ATTR_NAME;
 
 /// How many bytes the attribute's name that a raw text is has as canonical text, or the greatest
 /// usize where there are more; `None` where it is no such name. It takes no memory.

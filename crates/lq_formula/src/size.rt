@@ -1,14 +1,15 @@
 //! How many bytes the canonical text of a comparison has.
 ghost use Rattle.std.specs.Prelude.{◌≡◌, ◌≤◌, ◌+◌, [], length};
 ghost use Rattle.std.specs.Str.{chars, encode_utf8_all};
-ghost use Rattle.lq_value.specs.Elements.{elements_shown};
-ghost use Rattle.lq_value.specs.Pattern.{plain_elements};
+ghost use Rattle.lq_pattern.specs.Elements.{elements_shown};
+ghost use Rattle.lq_pattern.specs.Pattern.{plain_elements};
 ghost use Rattle.lq_formula.specs.Canonical.{attr_then, canonical, element_then, in_set_then, item_then, items_then, literal_text, op_text, pattern_text, plain_then, quoted};
 ghost use Rattle.lq_formula.specs.Query.{Compare};
 ghost use Rattle.lq_formula.specs.Capped.{capped};
 
 use crate::writing::is_bare;
-use lq_value::{AttrName, Element, Elements, Item, Literal, Op, Pattern};
+use lq_pattern::{Element, Elements, Item, Literal, Op, Pattern};
+use lq_value::AttrName;
 
 /// How many bytes the canonical text of a comparison has, or the greatest usize where there are
 /// more. It takes no memory.

@@ -2,11 +2,11 @@
 ghost use Rattle.std.specs.Prelude.{◌≡◌, ◌≤◌, ◌-◌, ◌^◌, if◌then◌else◌, None, Some, MatchOption, IfSome};
 ghost use Rattle.std.specs.Str.{IsUtf8};
 ghost use Rattle.lq_formula.specs.Sizes.{IsSized, items_sized, pattern_sized};
-ghost use Rattle.lq_value.specs.Sign.{signs_of};
-ghost use Rattle.lq_value.specs.Source.{element_at, item_at, pattern_of, pieces_of, set_with};
+ghost use Rattle.lq_pattern.specs.Sign.{signs_of};
+ghost use Rattle.lq_pattern.specs.Source.{element_at, item_at, pattern_of, pieces_of, set_with};
 
 use crate::size::{character_size, item_size};
-use lq_value::{FirstItem, FirstPiece, first_item, first_piece, sources_are_walked};
+use lq_pattern::{FirstItem, FirstPiece, first_item, first_piece, sources_are_walked};
 
 // What stands first where an element is looked for: how many bytes it has as canonical text, and
 // the source behind it.

@@ -1,5 +1,5 @@
 //! Tokens of a formula's text, which borrow it.
-use lq_value::Op;
+use lq_pattern::Op;
 
 /// A token of a formula.
 #[derive(Clone, Copy)]

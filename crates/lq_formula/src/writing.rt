@@ -3,13 +3,14 @@ ghost use Rattle.std.specs.Prelude.{encode_utf8, ◌≡◌, ◌++◌, ◌∷◌,
 ghost use Rattle.std.specs.List.{list_all};
 ghost use Rattle.std.specs.String.{string_bytes};
 ghost use Rattle.std.specs.Str.{chars, encode_utf8_all};
-ghost use Rattle.lq_value.specs.Elements.{elements_shown};
-ghost use Rattle.lq_value.specs.Pattern.{plain_elements};
+ghost use Rattle.lq_pattern.specs.Elements.{elements_shown};
+ghost use Rattle.lq_pattern.specs.Pattern.{plain_elements};
 ghost use Rattle.lq_value.specs.Refusal.{IsRefusedBy};
 ghost use Rattle.lq_formula.specs.Query.{Compare};
 ghost use Rattle.lq_formula.specs.Canonical.{attr_then, canonical, element_then, in_set_then, is_bare_byte, item_then, items_then, literal_text, op_text, pattern_text, plain_then, quoted};
 
-use lq_value::{AttrName, Element, Elements, Item, Literal, Op, Refusal};
+use lq_pattern::{Element, Elements, Item, Literal, Op};
+use lq_value::{AttrName, Refusal};
 
 /// Puts the canonical text of a comparison behind what is there: in parentheses, the literal
 /// between `"` marks. Refused: `NoMemory`, and then a part of it may be there.

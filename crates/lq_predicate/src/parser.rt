@@ -10,7 +10,8 @@ ghost use Rattle.lq_predicate.specs.ParserView.{below_of, frame_of, state_at, st
 use crate::tree::Tree;
 use crate::validator::NESTING;
 use lq_formula::{Token, read_literal, read_name};
-use lq_value::{AttrName, Op, Refusal};
+use lq_pattern::Op;
+use lq_value::{AttrName, Refusal};
 use std::alloc::{AllocError, Global};
 
 // A formula that is begun: the parts of its or that are done, those of its last and, and the `!`

@@ -1,11 +1,12 @@
 //! The predicate.
 ghost use Rattle.std.specs.Prelude.{◌≡◌, ◌≤◌, ◌∷◌, [], None, IfOk, OnErr, IsTrue};
 ghost use Rattle.lq_value.specs.Refusal.{IsRefusedBy};
-ghost use Rattle.lq_value.specs.Compare.{suits};
+ghost use Rattle.lq_pattern.specs.Compare.{suits};
 
 use crate::fitting::{fit_joined, fits_not};
 use crate::tree::Tree;
-use lq_value::{AttrName, Literal, Op, Refusal};
+use lq_pattern::{Literal, Op};
+use lq_value::{AttrName, Refusal};
 use std::alloc::Global;
 use std::marker::Model;
 

@@ -15,7 +15,8 @@ use crate::column::Column;
 use crate::span::Span;
 use crate::truth::Row;
 use lq_formula::{comparison_size, put_comparison};
-use lq_value::{AttrName, Literal, Op, Refusal, compare, same_text};
+use lq_pattern::{Literal, Op, compare};
+use lq_value::{AttrName, Refusal, same_text};
 use std::alloc::{AllocError, Global};
 use std::marker::Model;
 

@@ -1,7 +1,7 @@
 //! When a predicate holds.
 ghost use Rattle.std.specs.Prelude.{◌≡◌, ℕ, List, Option};
 ghost use Rattle.std.specs.Option.{option_map};
-ghost use Rattle.lq_value.specs.Compare.{held_of};
+ghost use Rattle.lq_value.specs.Held.{held_of};
 ghost use Rattle.lq_predicate.specs.Truth.{truth};
 
 use crate::column::Column;
@@ -10,7 +10,7 @@ use lq_value::View;
 
 /// What has attributes: an entry, or any other row.
 pub trait Row {
-    ghost use Rattle.lq_value.specs.Compare.{Held};
+    ghost use Rattle.lq_value.specs.Held.{Held};
 
     /// What it shows under each name.
     ghost looks: { Self → List ℕ → Option Held };

@@ -9,7 +9,7 @@ ghost use Rattle.lq_predicate.specs.Validator.{IsEndOf, IsStepAt, IsStepOf, Show
 use crate::query_size::{QuerySize, SizeFrame, negated, new_size_frame, said, together, with_part};
 use arrayvec::ArrayVec;
 use lq_formula::{Token, joined_size, raw_literal_size, raw_name_size};
-use lq_value::Op;
+use lq_pattern::Op;
 
 /// How deep parentheses and `!` may nest.
 pub(crate) const NESTING: usize = 64;

@@ -9,8 +9,8 @@ use Rattle.std.specs.contracts.sync.Mutex as mutex
 use Rattle.std.specs.contracts.marker.PhantomData as phantom
 use Rattle.std.below.core.specs.contracts.marker.ClosureMark as mark
 use Rattle.lq_value.proofs.attr_name.AttrName.TheSendSync as found_attr
-use Rattle.lq_value.proofs.literal.Literal.TheSendSync as found_literal
-use Rattle.lq_value.proofs.op.Op.TheSendSync as found_op
+use Rattle.lq_pattern.proofs.literal.Literal.TheSendSync as found_literal
+use Rattle.lq_pattern.proofs.op.Op.TheSendSync as found_op
 use Rattle.lq_predicate.proofs.tree.Tree.TheLaws.TheKnot.{crosses as tree_crosses}
 use Rattle.lq_predicate.specs.contracts.predicate.Predicate as predicate
 use Rattle.lq_predicate.proofs.spans.Spans.TheSendSync as found_spans

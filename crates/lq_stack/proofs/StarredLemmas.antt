@@ -8,8 +8,8 @@ use Rattle.std.proofs.Math.Utf8.{scalar, scalars}
 use Rattle.std.proofs.lemmas.Bool.{and_parts}
 use Rattle.std.proofs.lemmas.List.{length-append}
 use Rattle.std.proofs.lemmas.Str.{encode_ascii, encodes-append, scalars-chars}
-use Rattle.lq_value.specs.declared.element.Element.{Element}
-use Rattle.lq_value.specs.Pattern.{plain_elements}
+use Rattle.lq_pattern.specs.declared.element.Element.{Element}
+use Rattle.lq_pattern.specs.Pattern.{plain_elements}
 use Rattle.lq_formula.specs.Canonical.{pattern_text, plain_then}
 use Rattle.lq_formula.specs.Limits.{IsGoodPattern}
 use Rattle.lq_stack.specs.Stack.{star_if, star_count, starred}

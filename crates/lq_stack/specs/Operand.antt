@@ -1,7 +1,7 @@
 -- The pattern that a text is the source of, if it is one.
 use Rattle.std.specs.Prelude.{ℕ, List, Option, Some, None, Result, Ok, Err}
-use Rattle.lq_value.specs.declared.element.Element.{Element}
-use Rattle.lq_value.specs.Source.{pattern_of}
+use Rattle.lq_pattern.specs.declared.element.Element.{Element}
+use Rattle.lq_pattern.specs.Source.{pattern_of}
 
 abbrev pub if_ok : Result (List Element) ℕ → Option (List Element)
 if_ok (Ok elements) = Some elements

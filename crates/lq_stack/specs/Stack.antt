@@ -2,15 +2,15 @@
 use Rattle.std.specs.Prelude.{◌≡◌, ℕ, ◌+◌, ◌^◌, List, [], ◌∷◌, ◌++◌, drop, length, Bool, true, false, nat_le, nat_lt, Option, Some, None, IsSome, Result, Ok, Err, option_and_then, if◌then◌else◌}
 use Rattle.std.specs.Option.{option_map}
 use Rattle.std.specs.Str.{chars}
-use Rattle.lq_value.specs.declared.element.Element.{Element}
-use Rattle.lq_value.specs.declared.element.Element.TheVariants.{Star}
-use Rattle.lq_value.specs.declared.literal.Literal.TheVariants as literal
-use Rattle.lq_value.specs.declared.op.Op.{Op}
-use Rattle.lq_value.specs.declared.op.Op.TheVariants as op
+use Rattle.lq_pattern.specs.declared.element.Element.{Element}
+use Rattle.lq_pattern.specs.declared.element.Element.TheVariants.{Star}
+use Rattle.lq_pattern.specs.declared.literal.Literal.TheVariants as literal
+use Rattle.lq_pattern.specs.declared.op.Op.{Op}
+use Rattle.lq_pattern.specs.declared.op.Op.TheVariants as op
 use Rattle.lq_value.specs.declared.refusal.Refusal.{Refusal}
 use Rattle.lq_value.specs.declared.refusal.Refusal.TheVariants.{BadQuery}
 use Rattle.lq_value.specs.Name.{is_attr_name}
-use Rattle.lq_value.specs.Pattern.{plain_elements}
+use Rattle.lq_pattern.specs.Pattern.{plain_elements}
 use Rattle.lq_formula.specs.Query.{Query, Compare, Not, And, Or, Queries, queries}
 use Rattle.lq_predicate.specs.Limits.{if_within}
 use Rattle.lq_stack.specs.Operand.{pattern_in}

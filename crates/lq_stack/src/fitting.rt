@@ -1,8 +1,8 @@
 //! Whether a comparison is within the limits of a predicate, before memory is asked for.
 ghost use Rattle.std.specs.Prelude.{◌≡◌, length};
 ghost use Rattle.std.specs.Str.{encode_utf8_all};
-ghost use Rattle.lq_value.specs.declared.op.Op.TheVariants as op;
-ghost use Rattle.lq_value.specs.declared.literal.Literal.TheVariants as literal;
+ghost use Rattle.lq_pattern.specs.declared.op.Op.TheVariants as op;
+ghost use Rattle.lq_pattern.specs.declared.literal.Literal.TheVariants as literal;
 ghost use Rattle.lq_formula.specs.Canonical.{pattern_text};
 ghost use Rattle.lq_formula.specs.Capped.{capped};
 ghost use Rattle.lq_formula.specs.Query.{Compare};
@@ -10,7 +10,8 @@ ghost use Rattle.lq_predicate.specs.Limits.{is_within};
 ghost use Rattle.lq_stack.specs.Stack.{star_count, starred};
 
 use lq_formula::{characters_size, comparison_size_with, pattern_size, plain_size};
-use lq_value::{AttrName, Op, Pattern};
+use lq_pattern::{Op, Pattern};
+use lq_value::AttrName;
 
 /// The most bytes of a predicate's canonical text.
 const MAX_CANONICAL: usize = 4096;

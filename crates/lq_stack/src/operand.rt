@@ -4,7 +4,8 @@ ghost use Rattle.std.specs.Option.{option_copied};
 ghost use Rattle.lq_value.specs.Refusal.{IsRefusedBy};
 
 use lq_formula::patterns_are_good;
-use lq_value::{Pattern, Refusal, Text};
+use lq_pattern::Pattern;
+use lq_value::{Refusal, Text};
 use std::alloc::Global;
 use std::marker::Model;
 

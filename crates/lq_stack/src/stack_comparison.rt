@@ -2,11 +2,11 @@
 ghost use Rattle.std.specs.Prelude.{◌≡◌, ◌++◌, ℕ, List, None, IfOk, OnErr, IsSome, IsTrue, option_and_then};
 ghost use Rattle.std.specs.Str.{chars};
 ghost use Rattle.lq_value.specs.Refusal.{IsRefusedBy};
-ghost use Rattle.lq_value.specs.Compare.{suits};
-ghost use Rattle.lq_value.specs.Pattern.{plain_elements};
-ghost use Rattle.lq_value.specs.declared.element.Element.{Element};
-ghost use Rattle.lq_value.specs.declared.op.Op.TheVariants as op;
-ghost use Rattle.lq_value.specs.declared.literal.Literal.TheVariants as literal;
+ghost use Rattle.lq_pattern.specs.Compare.{suits};
+ghost use Rattle.lq_pattern.specs.Pattern.{plain_elements};
+ghost use Rattle.lq_pattern.specs.declared.element.Element.{Element};
+ghost use Rattle.lq_pattern.specs.declared.op.Op.TheVariants as op;
+ghost use Rattle.lq_pattern.specs.declared.literal.Literal.TheVariants as literal;
 ghost use Rattle.lq_formula.specs.Query.{Compare};
 ghost use Rattle.lq_predicate.specs.Limits.{if_within};
 ghost use Rattle.lq_stack.specs.Operand.{pattern_in};
@@ -16,7 +16,8 @@ use crate::fitting::{fits_pattern, fits_plain, fits_starred};
 use crate::operand::Operand;
 use crate::stack_op::StackOp;
 use lq_predicate::Predicate;
-use lq_value::{AttrName, Element, Literal, Op, Pattern, Refusal, Text};
+use lq_pattern::{Element, Literal, Op, Pattern};
+use lq_value::{AttrName, Refusal, Text};
 use std::alloc::Global;
 
 // The comparison of an attribute with a text by an operator, where it is within the limits.

@@ -1,5 +1,6 @@
 //! Of lq_value: sources that a formula can't have, since a `\` ends them.
-use lq_value::{Pattern, Refusal};
+use lq_pattern::Pattern;
+use lq_value::Refusal;
 use std::test::Fail;
 
 // a source and the byte place of its leftmost fault

@@ -2,16 +2,6 @@ pub mod Refusal
 pub mod Name
 pub mod NameHash
 pub mod Value
+pub mod Held
 pub mod Number
-pub mod Element
-pub mod Pattern
-pub mod Elements
-pub mod Matching
-pub mod Compare
-pub mod Sign
-pub mod Source
-pub mod Written
-pub mod Laws
-pub mod Reading
-pub mod Piece
 pub mod Kept

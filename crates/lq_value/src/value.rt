@@ -1,7 +1,7 @@
 //! What an attribute holds, with its type.
 ghost use Rattle.std.specs.Prelude.{◌≡◌, None, IfOk};
 ghost use Rattle.lq_value.specs.Refusal.{IsRefusedBy};
-ghost use Rattle.lq_value.specs.Compare.{held_in, held_of};
+ghost use Rattle.lq_value.specs.Held.{held_in, held_of};
 ghost use Rattle.lq_value.specs.Value.{text_refusal, shown_by};
 
 use crate::refusal::Refusal;

@@ -1,8 +1,8 @@
 -- The definitions compute: scenarios of one query that every entry matches.
 use Rattle.std.proofs.Common.{◌≡◌, ℕ, None, List, [], ◌∷◌, refl, true, false, pos, arith}
 use Rattle.std.specs.Prelude.{codes}
-use Rattle.lq_value.specs.declared.op.Op.TheVariants.{Ge}
-use Rattle.lq_value.specs.declared.literal.Literal.TheVariants.{Plain}
+use Rattle.lq_pattern.specs.declared.op.Op.TheVariants.{Ge}
+use Rattle.lq_pattern.specs.declared.literal.Literal.TheVariants.{Plain}
 use Rattle.lq_value.specs.declared.kind.Kind.TheVariants.{File}
 use Rattle.lq_value.specs.declared.refusal.Refusal.TheVariants.{BadPort, BadBacklog, NoSlot, NotOpen, StillOpen, Exhausted}
 use Rattle.lq_formula.specs.Query.{Query, Compare}

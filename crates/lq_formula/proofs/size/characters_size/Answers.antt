@@ -2,7 +2,7 @@ use Rattle.std.proofs.Common.{ap, sym, ◌∙◌, length}
 use Rattle.std.specs.Str.{encode_utf8_all}
 use Rattle.std.proofs.lemmas.Iterator.{YieldsList-from_chars}
 use Rattle.std.proofs.lemmas.Iterator.Consumers.{YieldsList-end}
-use Rattle.lq_value.specs.Pattern.{plain_elements}
+use Rattle.lq_pattern.specs.Pattern.{plain_elements}
 use Rattle.lq_formula.specs.Canonical.{pattern_text}
 use Rattle.lq_formula.specs.Capped.{capped}
 use Rattle.lq_formula.proofs.SizeLemmas.{plain_on}

@@ -1,6 +1,6 @@
 use Rattle.std.proofs.Common.{◌≡◌, length}
 use Rattle.std.specs.Str.{encode_utf8_all}
-use Rattle.lq_value.specs.Pattern.{plain_elements}
+use Rattle.lq_pattern.specs.Pattern.{plain_elements}
 use Rattle.lq_formula.specs.Canonical.{pattern_text}
 use Rattle.lq_formula.specs.Capped.{capped}
 use Rattle.lq_formula.proofs.size.characters_size.Given as goal

@@ -1,6 +1,6 @@
 use Rattle.std.proofs.Common.{◌≡◌, IsUtf8, length}
-use Rattle.lq_value.specs.Sign.{signs_of}
-use Rattle.lq_value.specs.Source.{item_at, pieces_of}
+use Rattle.lq_pattern.specs.Sign.{signs_of}
+use Rattle.lq_pattern.specs.Source.{item_at, pieces_of}
 use Rattle.lq_formula.specs.Sizes.{items_sized}
 use Rattle.lq_formula.proofs.source_size.set_rest_size.Given as goal
 

@@ -1,6 +1,6 @@
 use Rattle.std.proofs.Common.{◌≡◌, ◌≤◌, ◌-◌, ◌^◌, IsUtf8, length}
-use Rattle.lq_value.specs.Sign.{signs_of}
-use Rattle.lq_value.specs.Source.{element_at, pattern_of, pieces_of}
+use Rattle.lq_pattern.specs.Sign.{signs_of}
+use Rattle.lq_pattern.specs.Source.{element_at, pattern_of, pieces_of}
 use Rattle.lq_formula.specs.Sizes.{pattern_sized}
 use Rattle.lq_formula.proofs.SourceSizeLemmas.{measured}
 use Rattle.lq_formula.proofs.source_size.source_size.Given as goal

@@ -1,4 +1,4 @@
-use Rattle.lq_value.specs.declared.literal.Literal.TheVariants as literal
+use Rattle.lq_pattern.specs.declared.literal.Literal.TheVariants as literal
 use Rattle.lq_stack.proofs.FitLemmas.{capped_test}
 use Rattle.lq_stack.proofs.fitting.fits_pattern.Goals as goal
 

@@ -2,7 +2,7 @@ use Rattle.std.proofs.Common.{ap, sym, ◌∙◌, ◌++◌, arith}
 use Rattle.std.proofs.lemmas.Iterator.{YieldsList-from_chars}
 use Rattle.std.proofs.lemmas.Iterator.Consumers.{YieldsList-end}
 use Rattle.std.proofs.lemmas.Grind.{common_steps}
-use Rattle.lq_value.specs.Pattern.{plain_elements}
+use Rattle.lq_pattern.specs.Pattern.{plain_elements}
 use Rattle.lq_stack.proofs.StackLemmas.{plain_elements-push, map-same}
 use Rattle.lq_stack.proofs.stack_comparison.push_plain.Goals as goal
 

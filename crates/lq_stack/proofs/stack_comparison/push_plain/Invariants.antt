@@ -1,5 +1,5 @@
 use Rattle.std.proofs.Common.{◌≡◌, ◌++◌}
-use Rattle.lq_value.specs.Pattern.{plain_elements}
+use Rattle.lq_pattern.specs.Pattern.{plain_elements}
 use Rattle.lq_stack.proofs.stack_comparison.push_plain.Given as goal
 
 abbrev pub invariant-loop-c : goal.invariant-loop-c

@@ -1,0 +1,11 @@
+pub mod Element
+pub mod Pattern
+pub mod Elements
+pub mod Matching
+pub mod Compare
+pub mod Sign
+pub mod Source
+pub mod Written
+pub mod Laws
+pub mod Reading
+pub mod Piece

@@ -1,0 +1,27 @@
+-- What an attribute holds.
+use Rattle.std.specs.Prelude.{ℕ, ℤ, pos, List}
+use Rattle.lq_value.specs.declared.value.Value.{Value}
+use Rattle.lq_value.specs.declared.value.Value.TheVariants as values
+use Rattle.lq_value.specs.declared.view.View.{View}
+use Rattle.lq_value.specs.declared.view.View.TheVariants as view
+
+-- what an attribute holds: a text as its bytes, or a whole number
+pub data Held : Type 0 where
+  Words : (bytes : List ℕ) → Held
+  Number : (value : ℤ) → Held
+
+-- what a view holds
+abbrev pub held_of : View → Held
+held_of (view.Text text) = Words text.now
+held_of (view.Int32 value) = Number value
+held_of (view.Int64 value) = Number value
+held_of (view.UInt32 value) = Number (pos value)
+held_of (view.UInt64 value) = Number (pos value)
+
+-- what a value holds
+abbrev pub held_in : Value → Held
+held_in (values.Text bytes) = Words bytes
+held_in (values.Int32 number) = Number number
+held_in (values.Int64 number) = Number number
+held_in (values.UInt32 number) = Number (pos number)
+held_in (values.UInt64 number) = Number (pos number)
