@@ -154,6 +154,14 @@ text_more es i x c a b h is plain u v e so_far =
     ∙ ap (λ l. l ++ Plain c ∷ []) so_far
     ∙ ap (λ y. take i es ++ y ∷ []) (sym plain ∙ is) ∙ sym (take_more es i x h)
 
+-- one element more is copied
+pub copied_more : (es copies more : List Element) (i : ℕ) (x copy : Element)
+    → i < length es → x ≡ get_or es i x → copy ≡ x → more ≡ copies ++ copy ∷ []
+    → copies ≡ take i es → more ≡ take (i + 1) es
+copied_more es copies more i x copy h is same pushed so_far =
+    pushed ∙ ap (λ y. copies ++ y ∷ []) (same ∙ is)
+    ∙ ap (λ ys. ys ++ get_or es i x ∷ []) so_far ∙ sym (take_more es i x h)
+
 -- an element that is no plain character has no plain text
 not_plain : (cs : List ℕ) (x : Element) (rest : List Element) → ((c : ℕ) → x ≡ Plain c → ⊥)
     → plain_chars (plain_elements cs ++ x ∷ rest) ≡ None

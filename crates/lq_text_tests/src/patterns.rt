@@ -1,4 +1,4 @@
-//! Of lq_value: sources that a formula can't have, since a `\` ends them.
+//! Of lq_pattern: sources that a formula can't have, since a `\` ends them.
 use lq_pattern::Pattern;
 use lq_value::Refusal;
 use std::test::Fail;
