@@ -8,18 +8,25 @@ use crate::refusal::Refusal;
 use crate::value_text::ValueText;
 use crate::view::View;
 use std::alloc::Global;
+use std::fmt;
 
 /// What an attribute holds: a text of at most 4,096 bytes, or a whole number of one of four
 /// types.
 ///
 /// The types are among the attribute types of Be's `TypeConstants.h`.
-#[derive(Debug, Drop)]
+#[derive(Drop)]
 pub enum Value {
     Text(ValueText),
     Int32(i32),
     Int64(i64),
     UInt32(u32),
     UInt64(u64),
+}
+
+impl fmt::Debug for Value {
+    fn fmt<W: fmt::Write>(&self, f: &mut fmt::Formatter<W>) -> fmt::Result {
+        fmt::Debug::fmt(&self.view(), f)
+    }
 }
 
 impl Value {
