@@ -1,5 +1,5 @@
 -- A subscription that was just made.
-use Rattle.std.proofs.Common.{◌≡◌, ℕ, ◌+◌, ◌<◌, ◌≤◌, Bool, true, false, List, [], length, Option, Some, None, sym, ap, ◌∙◌, subst, arith, length-set, get_or-set_same, get_or-set_other, slice_set}
+use Rattle.std.proofs.Common.{◌≡◌, ℕ, ◌+◌, ◌<◌, ◌≤◌, Bool, true, false, List, [], length, Option, Some, None, refl, sym, ap, ◌∙◌, subst, arith, length-set, get_or-set_same, get_or-set_other, slice_set}
 use Rattle.lq_formula.specs.Query.{Query}
 use Rattle.lq_volume.specs.Book.{Book, state_of}
 use Rattle.lq_volume.specs.Result.{result_of}
@@ -65,6 +65,29 @@ begun_new stand s r book q mv port backlog at g held number places shut ports op
       hand = hand;
       result = result ∙ ap (λ (n : ℕ). opened_at n (result_of q (state_of book))) number;
     }
+
+-- a subscription that was just made is so for what it was made for
+pub begun_own : (s : Subscription) (r : ReadingHold) (book : Book) (q : Query) (mv : Bool)
+    (port backlog : ℕ) → IsBegun s r book q mv port backlog
+    → IsBegun s r book s.sub.held.query s.sub.held.moved s.places s.sub.held.backlog
+begun_own s r book q mv port backlog b = record {
+  stands = b.stands;
+  messages = b.messages;
+  live = b.live;
+  query = refl;
+  moved = refl;
+  opened = b.opened;
+  backlog_is = refl;
+  places = refl;
+  shut = b.shut;
+  end = b.end;
+  floor = b.floor;
+  taken = b.taken;
+  ahead = b.ahead;
+  hand = b.hand;
+  result = b.result ∙ ap (λ (p : Query). opened_at (length book.changes)
+      (result_of p (state_of book))) (sym b.query);
+}
 
 -- a seat that goes out changes what is known of one slot
 only_gone : (ps : List (Known Identity)) (k : ℕ) (name : Option Identity)

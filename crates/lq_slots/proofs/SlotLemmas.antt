@@ -1,5 +1,5 @@
 -- The slots under the lock, one or all.
-use Rattle.std.proofs.Common.{◌≡◌, ◌≢◌, ℕ, zero, suc, ◌+◌, ◌-◌, ◌<◌, ◌≤◌, ◌^◌, ◌⊎◌, ⊎_elim, Bool, true, false, List, [], ◌∷◌, ◌++◌, length, take, Option, Some, None, refl, sym, ap, ◌∙◌, subst, arith, length-append, length-set, get_or-set_same, get_or-set_other, slice_set}
+use Rattle.std.proofs.Common.{◌≡◌, ◌≢◌, ℕ, zero, suc, ◌+◌, ◌-◌, ◌<◌, ◌≤◌, ◌^◌, ◌⊎◌, ⊎_elim, inr, Bool, true, false, true≢false, List, [], ◌∷◌, ◌++◌, length, take, Option, Some, None, refl, sym, ap, ◌∙◌, subst, arith, length-append, length-set, get_or-set_same, get_or-set_other, slice_set}
 use Rattle.std.proofs.lemmas.List.{get_or-replicate, length-replicate, take-append-le, take_all}
 use mathlib.Core.Logic.{dite}
 use native.Mathlib.Decide.{ℕ_discrete}
@@ -14,15 +14,17 @@ use Rattle.lq_update.specs.declared.message.Message.{Message}
 use Rattle.lq_update.specs.declared.mark.Mark.{Mark}
 use Rattle.lq_update.specs.declared.parcel.Parcel.{Parcel}
 use Rattle.lq_update.specs.declared.parcel.Parcel.TheVariants.{Update, Fin}
+use Rattle.lq_sub.specs.Held.{Held}
 use Rattle.lq_port.specs.End.{End, all_put}
 use Rattle.lq_subscription.specs.declared.delivery.Delivery.{Delivery}
 use Rattle.lq_subscription.specs.declared.delivery.Opening.{Opening}
 use Rattle.lq_subscription.specs.declared.identity.Identity.{Identity}
+use Rattle.lq_subscription.specs.declared.identity.Shut.{Shut}
 use Rattle.lq_subscription.specs.declared.subscription.Subscription.{Subscription}
 use Rattle.lq_subscription.specs.Rule.{message_of, mark_or, messages_in, mark_in}
 use Rattle.lq_subscription.specs.Marking.{hung_mark}
 use Rattle.lq_subscription.specs.Identity.{identity_of, port_id}
-use Rattle.lq_subscription.specs.Standing.{StandsAt, IsFilled, IsStuck, IsOut, SameButPuts, SameButHeld, moved_mark}
+use Rattle.lq_subscription.specs.Standing.{Stands, StandsAt, IsFilled, IsStuck, IsOut, SameButPuts, SameButHeld, moved_mark}
 use Rattle.lq_slots.specs.Slots.{IsTaken, SlotStands, asks_of, slot_in, AllStand, OnlyAt, before_of, IsGrown}
 
 -- ---- one slot
@@ -140,6 +142,18 @@ taken_noticed s t p q n asked book taken stands others shut messages hung test l
           (λ (o : hung_mark s.sub.held.mark). let lt = taken.hung o in omega arith) (hung h);
     }
 
+-- a taken slot stands on where all that is held, and whether it was closed, stay
+pub taken_alike : (s t : Subscription) (p : Known Identity) (book : Book) → IsTaken s p book
+    → t.sub.held ≡ s.sub.held → SameButHeld s t → t.shut ≡ s.shut → IsTaken t p book
+taken_alike s t p book taken held others shut =
+    let mark = ap (λ (h : Held). h.mark) held in
+    let stands : StandsAt t book =
+    subst (λ (z : Held × End Delivery Opening × ℕ × Shut). Stands z.0 z.1 z.2 z.3 book)
+    (λ i. (sym held i, sym others.input i, sym others.places i, sym shut i)) taken.stands in
+    taken_noticed s t p p p.asks false book taken stands others shut
+    (ap (λ (h : Held). h.messages) held) (λ h. inr (subst hung_mark mark h))
+    (λ e. absurd (true≢false (sym e))) (omega arith) refl
+
 -- ---- all slots
 
 -- what was set is read there
@@ -222,6 +236,21 @@ all_stand-step keeper keeper' slots j k openings o book book' h pos within e sam
     (subst (λ (z : ℕ × Book). SlotStands o (slot_at keeper'.slots z.0) z.1) (λ i. (e i, same i))
     fits)
     (subst (λ (i : ℕ). asks_of o (slot_at keeper'.slots i) ≤ openings) e fewer))
+
+-- all slots stand by what the keeper knows of them alone
+pub all_stand-alike : (keeper keeper' : KeeperToken Identity) (slots : List (Option Subscription))
+    (openings : ℕ) (book book' : Book) → AllStand keeper slots openings book
+    → keeper'.slots ≡ keeper.slots → book ≡ book' → AllStand keeper' slots openings book'
+all_stand-alike keeper keeper' slots openings book book' h same e =
+    record {
+      known = ap (length {A = Known Identity}) same ∙ h.known;
+      wide = h.wide;
+      each = λ k pos within. subst (λ (z : List (Known Identity) × Book).
+          SlotStands (slot_in slots k) (slot_at z.0 k) z.1) (λ i. (sym same i, e i))
+          (h.each k pos within);
+      asks = λ k pos within. subst (λ (ps : List (Known Identity)). asks_of (slot_in slots k)
+          (slot_at ps k) ≤ openings) (sym same) (h.asks k pos within);
+    }
 
 -- no subscriptions
 pub all_stand-none : (keeper : KeeperToken Identity) (slots : List (Option Subscription))

@@ -16,7 +16,7 @@ use Rattle.lq_subscription.specs.declared.identity.Shut.{Shut}
 use Rattle.lq_subscription.specs.declared.identity.Shut.TheVariants.{Never, At, Late}
 use Rattle.lq_subscription.specs.declared.subscription.Subscription.{Subscription}
 use Rattle.lq_subscription.specs.Rule.{messages_in}
-use Rattle.lq_subscription.specs.Marking.{hung_mark}
+use Rattle.lq_subscription.specs.Marking.{hung_mark, first_close}
 use Rattle.lq_subscription.specs.Identity.{identity_of, port_id, port_id_inj}
 use Rattle.lq_subscription.specs.Reading.{ReadingHold}
 use Rattle.lq_subscription.specs.Standing.{StandsAt, IsDrained, SameButPuts, SameButHeld, ShutFits}
@@ -80,6 +80,27 @@ only_trans ps qs rs k a b = record {
   others = λ j ne. b.others j ne
       ∙ a.others j ne;
 }
+
+-- two changes at one place, which is known as an equation for the second
+pub only_then : (ps qs rs : List (Known Identity)) (k j : ℕ) → OnlyAt ps qs k → OnlyAt qs rs j
+    → j ≡ k → OnlyAt ps rs k
+only_then ps qs rs k j a b e = only_trans ps qs rs k a (subst (OnlyAt qs rs) e b)
+
+-- a seat changed in its name alone, once it had met the keeper
+pub seat_then : (old mid new : SeatToken Identity) (b c : Book) → mid ≡ record old { book = b }
+    → c ≡ b → new ≡ record mid { book = c; name = new.name }
+    → new ≡ record old { book = b; name = new.name }
+seat_then old mid new b c is same then = then
+    ∙ (λ i. record (is i) { book = same i; name = new.name })
+
+-- the name after a close, by an equal name before, and an equal number of changes
+pub close_then : (o p q : Option Identity) (asked : Bool) (m n : ℕ) → p ≡ q → m ≡ n
+    → o ≡ Some (record (name_or p) { shut = first_close (name_or p).shut asked m })
+    → o ≡ Some (record (name_or q) { shut = first_close (name_or q).shut asked n })
+close_then o p q asked m n same number is = is
+    ∙ (λ i. Some (record (name_or (same i)) {
+      shut = first_close (name_or (same i)).shut asked (number i);
+    }))
 
 -- a taken slot stands on once its seat has met the keeper
 pub taken_met : (s : Subscription) (p q : Known Identity) (book : Book) (n : ℕ)

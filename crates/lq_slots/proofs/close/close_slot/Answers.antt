@@ -3,7 +3,7 @@ use Rattle.lq_volume.specs.Book.{Book}
 use Rattle.lq_board.specs.Slot.{slot_at}
 use Rattle.lq_subscription.specs.Marking.{hung_mark}
 use Rattle.lq_slots.proofs.SlotLemmas.{taken_then, identity_alike}
-use Rattle.lq_slots.proofs.SyncLemmas.{taken_closed}
+use Rattle.lq_slots.proofs.SyncLemmas.{only_trans, taken_closed}
 use Rattle.lq_slots.proofs.close.close_slot.Goals as goal
 
 pub returns-clause-taken : goal.returns-clause-taken
@@ -23,3 +23,16 @@ returns-clause-taken g c =
     taken_then c.close-closed.new.slot c.pump.new.slot _ book _ closed p.stands p.stuck
     (identity_alike c.close-closed.new.slot c.pump.new.slot p.alike)
     (λ h. subst hung_mark p.alike.held.mark h)
+
+pub returns-clause-book : goal.returns-clause-book
+returns-clause-book g c = c.meet_under.ensures.book ∙ c.notice_by.ensures.book
+
+pub returns-clause-only : goal.returns-clause-only
+returns-clause-only g c =
+    only_trans _ _ _ _ c.notice_by.ensures.only c.meet_under.ensures.only
+
+pub returns-clause-seat : goal.returns-clause-seat
+returns-clause-seat g c =
+    let was = c.args.seat.now in
+    let m = c.meet_under.ensures.seat in
+    m ∙ (λ i. record was { book = c.notice_by.ensures.book i; name = (sym m i).name })

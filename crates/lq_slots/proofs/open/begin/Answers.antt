@@ -1,11 +1,16 @@
-use Rattle.std.proofs.Common.{◌≡◌, List, length, refl, ap, ◌∙◌}
+use Rattle.std.proofs.Common.{◌≡◌, List, length, refl, sym, ap, subst, ◌∙◌}
 use Rattle.lq_volume.specs.State.{State}
 use Rattle.lq_volume.specs.Book.{state_of}
 use Rattle.lq_volume.specs.Result.{result_of}
 use Rattle.lq_value.specs.declared.entry.Entry.{Entry}
+use Rattle.lq_board.specs.Book.{IsFullBook}
 use Rattle.lq_board.specs.Token.{KeeperToken}
 use Rattle.lq_update.specs.Fold.{opened_at}
 use Rattle.lq_sub.specs.Held.{Prepared}
+use Rattle.lq_port.specs.End.{End}
+use Rattle.lq_subscription.specs.declared.delivery.Delivery.{Delivery}
+use Rattle.lq_subscription.specs.declared.delivery.Opening.{Opening}
+use Rattle.lq_subscription.specs.Rule.{floor_of}
 use Rattle.lq_subscription.specs.Reading.{ReadingHold}
 use Rattle.lq_subscription.specs.declared.identity.Identity.{Identity}
 use Rattle.lq_slots.proofs.OpenLemmas.{begun_new}
@@ -36,3 +41,10 @@ returns-clause-begun c =
     (ap (λ (r : ReadingHold). r.port) reading ∙ m.ends) (ap (λ (r : ReadingHold). r.hand) reading)
     (ap (λ (r : ReadingHold). r.result) reading ∙ c.new-2.ensures
     ∙ ap (λ (l : List Entry). opened_at c.changes-at.result l) entries)
+
+pub new-reading-requires-clause-full : goal.new-reading-requires-clause-full
+new-reading-requires-clause-full c =
+    let m = c.in_ok-input.ensures in
+    subst IsFullBook (sym (ap (λ (e : End Delivery Opening). floor_of e.floor) m.ends
+    ∙ ap floor_of m.floor ∙ ap (λ (k : KeeperToken Identity). k.book) c.of-2.ensures))
+    c.requires.full
