@@ -1,11 +1,22 @@
-use Rattle.std.proofs.Common.{◌≡◌, ◌≤◌, Option, None, subst, arith}
+use borrow.Author.Rules.{rules}
+use Rattle.std.proofs.Common.{◌≡◌, ◌≤◌, Option, None, refl, subst, arith}
 use Rattle.std.specs.Prelude.{is_some}
 use Rattle.std.proofs.lemmas.List.{get_or_read}
 use Rattle.lq_board.specs.Slot.{slot_at}
 use Rattle.lq_subscription.specs.declared.subscription.Subscription.{Subscription}
 use Rattle.lq_slots.specs.Slots.{asks_of}
-use Rattle.lq_slots.proofs.TellLemmas.{partly_told-step}
+use Rattle.lq_slots.proofs.TellLemmas.{partly_told-first, partly_told-step}
 use Rattle.lq_slots.proofs.slots.tell_all.Goals as goal
+
+pub loop-index-init : goal.loop-index-init
+loop-index-init g c =
+    let was = c.args.slots.now in (
+      refl,
+      refl,
+      search rules,
+      partly_told-first was.keeper was.subscriptions.items was.taken.items was.openings
+          c.args.change.now c.requires.holding.0 c.requires.holding.1 c.requires.ready,
+    )
 
 pub loop-index-preserved : goal.loop-index-preserved
 loop-index-preserved g c =
