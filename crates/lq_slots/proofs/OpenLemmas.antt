@@ -1,5 +1,10 @@
 -- A subscription that was just made.
-use Rattle.std.proofs.Common.{◌≡◌, ℕ, ◌+◌, ◌<◌, ◌≤◌, Bool, true, false, List, [], length, Option, Some, None, refl, sym, ap, ◌∙◌, subst, arith, length-set, get_or-set_same, get_or-set_other, slice_set}
+use Rattle.std.proofs.Common.{◌≡◌, ◌≢◌, ℕ, ◌+◌, ◌<◌, ◌≤◌, Bool, true, false, List, [], ◌∷◌, ◌++◌, length, Option, Some, None, Ok, Err, refl, sym, ap, ◌∙◌, subst, arith, length-set, get_or-set_same, get_or-set_other, slice_set}
+use Rattle.std.specs.Prelude.{◌&&◌, not, nat_le, OnOk, OnErr, Result}
+use Rattle.std.proofs.lemmas.Bool.{le-leb, lt-leb}
+use Rattle.lq_value.specs.declared.refusal.Refusal.{Refusal}
+use Rattle.lq_value.specs.declared.refusal.Refusal.TheVariants.{BadPort, BadBacklog, NoSlot, Exhausted}
+use Rattle.lq_value.specs.Refusal.{first_refusal}
 use Rattle.lq_formula.specs.Query.{Query}
 use Rattle.lq_volume.specs.Book.{Book, state_of}
 use Rattle.lq_volume.specs.Result.{result_of}
@@ -10,6 +15,7 @@ use Rattle.lq_board.specs.Token.{KeeperToken}
 use Rattle.lq_update.specs.declared.message.Message.{Message}
 use Rattle.lq_update.specs.Fold.{opened_at}
 use Rattle.lq_sub.specs.Held.{Held, opened_with}
+use Rattle.lq_world.specs.Events.{size_refusals, opening_refusals}
 use Rattle.lq_port.specs.End.{End}
 use Rattle.lq_subscription.specs.declared.delivery.Delivery.{Delivery}
 use Rattle.lq_subscription.specs.declared.delivery.Opening.{Opening}
@@ -23,7 +29,9 @@ use Rattle.lq_subscription.specs.Identity.{identity_of}
 use Rattle.lq_subscription.specs.Reading.{ReadingHold}
 use Rattle.lq_subscription.specs.Standing.{Stands, StandsAt}
 use Rattle.lq_subscription.specs.Laws.{NewSubscriptionsStand}
-use Rattle.lq_slots.specs.Slots.{SlotStands, asks_of, slot_in, AllStand, OnlyAt}
+use Rattle.lq_slots.specs.declared.slots.Slots.{Slots}
+use Rattle.lq_slots.specs.declared.open.Opened.{Opened}
+use Rattle.lq_slots.specs.Slots.{AreUnchanged, SlotStands, asks_of, slot_in, AllStand, OnlyAt}
 use Rattle.lq_slots.specs.Opening.{IsBegun}
 use Rattle.lq_slots.proofs.SlotLemmas.{all_stand-set, only_counted, counted_here}
 use Rattle.lq_slots.proofs.SyncLemmas.{only_trans}
@@ -148,3 +156,29 @@ settled keeper one two slots place openings n s book h pos within free counts id
       name = ap (λ (p : Known Identity). p.name) there;
       hung = λ hu. absurd (subst hung_mark live hu);
     }) (omega arith)
+
+-- where the numbers of an opening fit, it is refused just by what else may refuse it
+pub sizes_fit : (port backlog : ℕ) (rows : List (Bool × Refusal)) → port ≢ 0 → port ≤ 1024
+    → backlog ≤ 65536 → first_refusal (size_refusals port backlog ++ rows) ≡ first_refusal rows
+sizes_fit port backlog rows some high few =
+    let low : 0 < port = omega (arith, some) in
+    ap (λ (z : Bool × Bool × Bool). first_refusal ((not (z.0 && z.1), BadPort)
+    ∷ (not z.2, BadBacklog) ∷ rows))
+    (λ i. (le-leb 1 port low i, le-leb port 1024 high i, le-leb backlog 65536 few i))
+
+-- nothing refuses an opening whose numbers fit, with a slot free and an opening left
+pub opening_fits : (full : Bool) (openings limit port backlog : ℕ) → port ≢ 0 → port ≤ 1024
+    → backlog ≤ 65536 → false ≡ full → openings < limit
+    → first_refusal (opening_refusals full openings limit port backlog) ≡ None
+opening_fits full openings limit port backlog some high few free less =
+    sizes_fit port backlog ((full, NoSlot) ∷ (nat_le limit openings, Exhausted) ∷ []) some high few
+    ∙ ap (λ (z : Bool × Bool). first_refusal ((z.0, NoSlot) ∷ (z.1, Exhausted) ∷ []))
+    (λ i. (sym free i, lt-leb limit openings less i))
+
+-- an opening counts as one more, and where it is refused as none
+pub openings_within : (r : Result Opened Refusal) (old new : Slots) (limit : ℕ)
+    → OnOk r (new.openings ≡ old.openings + 1) → OnErr r (AreUnchanged old new)
+    → old.openings < limit → new.openings ≤ limit
+openings_within (Ok o) old new limit more same less = omega arith
+openings_within (Err e) old new limit more same less =
+    let stays = same.openings in omega arith
