@@ -1,7 +1,7 @@
 -- What a query's result loses between two states that differ at two nodes alone.
 use Rattle.std.proofs.Common.{◌≡◌, ◌≢◌, ℕ, suc, ◌+◌, ◌<◌, ◌≤◌, length, List, [], ◌∷◌, ◌++◌, refl, sym, arith, ap, ◌∙◌, Bool, true, false, eqb, inl, inr, append-nil}
-use Rattle.std.specs.Prelude.{nat_lt, not, filter, map, cond, ◌&&◌, ◌==◌, Option, Some, None, is_some, option_and_then}
-use Rattle.std.specs.Option.{option_map_or, option_to_list}
+use Rattle.std.specs.Prelude.{nat_lt, not, filter, map, cond, ◌&&◌, ◌==◌, Option, Some, None, IfSome, is_some, option_and_then}
+use Rattle.std.specs.Option.{option_map, option_map_or, option_to_list}
 use Rattle.std.specs.List.{AllByRecursion, list_any}
 use Rattle.std.specs.Str.{bytes_eq}
 use Rattle.std.specs.Map.{lookup}
@@ -265,6 +265,16 @@ removed_of q s own node (Some other) =
     cond (nat_lt other node) (option_to_list (match_at q s other) ++ option_to_list own)
     (option_to_list own ++ option_to_list (match_at q s other))
 
+-- the same, where the record of the other node is seen, if there is one
+removed-taken : {A : Type 0} (now : A → Record) (q : Query) (s : State) (own : Option Entry)
+    (node : ℕ) (taken : Option (ℕ × A)) → IfSome taken (λ e. record_at s e.0 ≡ Some (now e.1))
+    → cond (option_map_or (λ e. nat_lt e.0 node) taken false)
+    (option_to_list (option_and_then (λ e. entry_if q (e.0, now e.1)) taken) ++ option_to_list own)
+    (option_to_list own ++ option_to_list (option_and_then (λ e. entry_if q (e.0, now e.1)) taken))
+    ≡ removed_of q s own node (option_map (λ e. e.0) taken)
+removed-taken now q s own node None there = append-nil _
+removed-taken now q s own node (Some e) there = rw there refl
+
 -- the messages of a change are those of its own node, and of the node that a move takes away
 pub step-touched : (q : Query) (moved : Bool) (s : State) (c : Change) (seq : ℕ)
     → IsVolume s → IsVolume (after s c)
@@ -430,23 +440,18 @@ module _ (q : Query) (moved : Bool) (s : State) (c : Change) (seq number : ℕ)
   told-alone none = told _ (append-nil _
       ∙ (ap option_to_list removed_is ∙ sym (ap (removed_of q s _ (node_of s c)) none)))
 
-  -- where it takes one away that is below its own
-  pub told-low : (x : ℕ) (other : Option Entry) → clobbered s c ≡ Some x → x < node_of s c
-      → other ≡ match_at q s x
-      → numbered seq number (map (λ e. (Removed, e)) (option_to_list other
-      ++ option_to_list removed) ++ option_to_list last) ≡ step_of q moved s c seq
-  told-low x other is low other_is =
-      let below : nat_lt x (node_of s c) ≡ true = grind (arith, nat_tests) in
-      told _ (rw (is, below, removed_is, other_is) refl)
-
-  -- where it takes one away that is above its own
-  pub told-high : (x : ℕ) (other : Option Entry) → clobbered s c ≡ Some x → (x < node_of s c → ⊥)
-      → other ≡ match_at q s x
-      → numbered seq number (map (λ e. (Removed, e)) (option_to_list removed
-      ++ option_to_list other) ++ option_to_list last) ≡ step_of q moved s c seq
-  told-high x other is high other_is =
-      let below : nat_lt x (node_of s c) ≡ false = grind (arith, nat_tests) in
-      told _ (rw (is, below, removed_is, other_is) refl)
+  -- where the node that it takes away, if there is one, is seen: the lower of the two first
+  pub told-taken : {A : Type 0} (now : A → Record) (taken : Option (ℕ × A)) (other : Option Entry)
+      (low : Bool) (node : ℕ) → option_map (λ e. e.0) taken ≡ clobbered s c
+      → IfSome taken (λ e. record_at s e.0 ≡ Some (now e.1))
+      → other ≡ option_and_then (λ e. entry_if q (e.0, now e.1)) taken → node ≡ node_of s c
+      → low ≡ option_map_or (λ e. nat_lt e.0 node) taken false
+      → numbered seq number (map (λ e. (Removed, e)) (cond low (option_to_list other
+      ++ option_to_list removed) (option_to_list removed ++ option_to_list other))
+      ++ option_to_list last) ≡ step_of q moved s c seq
+  told-taken now taken other low node is there other_is node_is low_is =
+      told _ (rw (low_is, other_is, node_is, removed_is, ← is)
+      (removed-taken now q s _ _ taken there))
 
 -- an option that has no value
 pub none-of : {A : Type 0} (o : Option A) → is_some o ≡ false → o ≡ None

@@ -1,11 +1,12 @@
 //! The messages of one change, by the node that it touches.
-ghost use Rattle.std.specs.Prelude.{◌≡◌, ℕ, Bool, true, false, [], ◌+◌, ◌<◌, ◌≤◌, ◌^◌, ◌++◌, None, IfOk, OnOk, map, option_and_then, vec_len};
-ghost use Rattle.std.specs.Option.{option_copied, option_to_list};
+ghost use Rattle.std.specs.Prelude.{◌≡◌, ℕ, Bool, true, false, [], ◌+◌, ◌<◌, ◌≤◌, ◌^◌, ◌++◌, None, IfOk, map, option_and_then, vec_len, nat_lt, if◌then◌else◌};
+ghost use Rattle.std.specs.Option.{option_copied, option_map_or, option_to_list};
 ghost use Rattle.lq_value.specs.Refusal.{IsRefusedBy};
 ghost use Rattle.lq_formula.specs.Query.{Query};
 ghost use Rattle.lq_predicate.specs.Span.{spans_of};
 ghost use Rattle.lq_volume.specs.Change.{after, node_of, IsLawful};
 ghost use Rattle.lq_volume.specs.Result.{entry_if};
+ghost use Rattle.lq_volume.specs.State.{IsVolume};
 ghost use Rattle.lq_update.specs.declared.message.Opcode.TheVariants.{Removed, Moved};
 ghost use Rattle.lq_update.specs.Updates.{numbered, step_of};
 ghost use Rattle.lq_update.specs.Touched.{entry_at, left, left_at, told_first, told_last};
@@ -14,7 +15,7 @@ use crate::message::{Message, Opcode};
 use lq_predicate::{Predicate, Spans, holds, truth_stays_beside_spans};
 use lq_value::{Entry, Refusal};
 use lq_volume::{
-    Change, Planned, Seen, Volume, accepted_changes_keep_trees, clobbered_nodes_go,
+    Applied, Change, Planned, Seen, Volume, accepted_changes_keep_trees, clobbered_nodes_go,
     untouched_nodes_stay,
 };
 use std::alloc::Global;
@@ -136,22 +137,113 @@ fn tell_difference<'s, 'a>(
         planned.now.before planned.now.change first_seq) }
     ensures few { IfOk result (λ messages. vec_len messages ≤ 3) }
 {
-    accepted_changes_keep_trees();
-    untouched_nodes_stay();
-    clobbered_nodes_go();
     let made = planned.applied();
-    let number = made.change;
     let left = copied(alloc, left, made.node)?;
     let came = copied(alloc, came, made.node)?;
     let (removed, last) = join(moved, left, came);
-    let Some((other, seen)) = planned.clobbered() else {
-        return Ok(tell(alloc, removed, None, last, number, first_seq)?);
-    };
-    let gone = copied(alloc, matching(predicate, Some(seen)), other)?;
-    if other < made.node {
+    tell_joined(alloc, predicate, planned, made, removed, last, first_seq)
+}
+
+// What is told where these are told of the change's own node, and with them what is told of the
+// node that it takes away, if there is one.
+fn tell_joined(
+    alloc: Global,
+    predicate: &Predicate,
+    planned: &Planned<'_>,
+    made: Applied,
+    removed: Option<Entry>,
+    last: Option<(Opcode, Entry)>,
+    first_seq: u64,
+) -> Result<Vec<Message>, Refusal>
+    requires room { first_seq + 2 < 2 ^ 64 }
+    requires made { made ≡ record {
+      change = planned.now.before.number + 1;
+      node = node_of planned.now.before planned.now.change;
+    } }
+    requires lawful { IsLawful planned.now.before planned.now.change }
+    requires volume { IsVolume planned.now.before }
+    ensures refused { IsRefusedBy result None }
+    ensures messages { (moved : Bool)
+        → removed ≡ told_first moved
+        (left_at predicate.now planned.now.before (after planned.now.before planned.now.change)
+        (node_of planned.now.before planned.now.change))
+        (left_at predicate.now (after planned.now.before planned.now.change) planned.now.before
+        (node_of planned.now.before planned.now.change))
+        → last ≡ told_last moved
+        (left_at predicate.now planned.now.before (after planned.now.before planned.now.change)
+        (node_of planned.now.before planned.now.change))
+        (left_at predicate.now (after planned.now.before planned.now.change) planned.now.before
+        (node_of planned.now.before planned.now.change))
+        → IfOk result (λ messages. messages.items
+        ≡ step_of predicate.now moved planned.now.before planned.now.change first_seq) }
+    ensures few { IfOk result (λ messages. vec_len messages ≤ 3) }
+{
+    accepted_changes_keep_trees();
+    untouched_nodes_stay();
+    clobbered_nodes_go();
+    let taken = planned.clobbered();
+    let gone = gone_of(alloc, predicate, taken)?;
+    tell_by_node(
+        alloc,
+        removed,
+        gone,
+        is_below(taken, made.node),
+        last,
+        made.change,
+        first_seq,
+    )
+}
+
+// The entry of the node that a change takes away, where it matched.
+fn gone_of(
+    alloc: Global,
+    predicate: &Predicate,
+    taken: Option<(u64, &Seen<'_>)>,
+) -> Result<Option<Entry>, Refusal>
+    ensures refused { IsRefusedBy result None }
+    ensures value { IfOk result (λ gone. gone
+        ≡ option_and_then (λ e. entry_if predicate.now (e.0, e.1.now)) taken.entry) }
+{
+    match taken {
+        None => Ok(None),
+        Some((node, seen)) => copied(alloc, matching(predicate, Some(seen)), node),
+    }
+}
+
+// Whether a change takes away a node below this one.
+fn is_below(taken: Option<(u64, &Seen<'_>)>, node: u64) -> bool
+    ensures { result ≡ option_map_or (λ e. nat_lt e.0 node) taken.entry false }
+{
+    match taken {
+        None => false,
+        Some((other, _)) => other < node,
+    }
+}
+
+// The messages of the entry that left at the change's own node and of the one of the node that it
+// takes away, by rising node, and of one that came or moved.
+fn tell_by_node(
+    alloc: Global,
+    removed: Option<Entry>,
+    gone: Option<Entry>,
+    gone_is_low: bool,
+    last: Option<(Opcode, Entry)>,
+    number: u64,
+    first_seq: u64,
+) -> Result<Vec<Message>, Refusal>
+    requires { first_seq + 2 < 2 ^ 64 }
+    ensures refused { IsRefusedBy result None }
+    ensures messages { IfOk result (λ messages. messages.items ≡ numbered first_seq number
+        (map (λ e. (Removed, e)) (if gone_is_low
+        then option_to_list gone ++ option_to_list removed
+        else option_to_list removed ++ option_to_list gone)
+        ++ option_to_list last)) }
+    ensures few { IfOk result (λ messages. vec_len messages ≤ 3) }
+{
+    if gone_is_low {
         Ok(tell(alloc, gone, removed, last, number, first_seq)?)
     } else {
-        Ok(tell(alloc, removed, gone, last, number, first_seq)?)
+        tell(alloc, removed, gone, last, number, first_seq)
     }
 }
 
@@ -275,41 +367,55 @@ fn tell(
 {
     let mut messages = Vec::new(alloc);
     match (first, second) {
-        (None, None) => {
-            put_last(&mut messages, last, change, seq)?;
-            Ok(messages)
+        (Some(low), Some(high)) => {
+            messages.push(message(Opcode::Removed, low, change, seq, false))?;
+            put_rest(messages, Some(high), last, change, seq + 1)
         }
-        (Some(entry), None) | (None, Some(entry)) => {
+        (None, entry) | (entry, None) => put_rest(messages, entry, last, change, seq),
+    }
+}
+
+// Behind these the message of the entry that left, if one did, and of the one that came or moved,
+// if one did: the last ones of their change.
+fn put_rest(
+    mut messages: Vec<Message>,
+    entry: Option<Entry>,
+    last: Option<(Opcode, Entry)>,
+    change: u64,
+    seq: u64,
+) -> Result<Vec<Message>, Refusal>
+    requires { seq + 1 < 2 ^ 64 }
+    ensures refused { IsRefusedBy result None }
+    ensures messages { IfOk result (λ rest. rest.items ≡ messages.items ++ numbered seq change
+        (map (λ e. (Removed, e)) (option_to_list entry) ++ option_to_list last)) }
+    ensures few { IfOk result (λ rest. vec_len rest ≤ vec_len messages + 2) }
+{
+    match entry {
+        None => put_last(messages, last, change, seq),
+        Some(entry) => {
             let is_last = last.is_none();
             messages.push(message(Opcode::Removed, entry, change, seq, is_last))?;
-            put_last(&mut messages, last, change, seq + 1)?;
-            Ok(messages)
-        }
-        (Some(low), Some(high)) => {
-            let is_last = last.is_none();
-            messages.push(message(Opcode::Removed, low, change, seq, false))?;
-            messages.push(message(Opcode::Removed, high, change, seq + 1, is_last))?;
-            put_last(&mut messages, last, change, seq + 2)?;
-            Ok(messages)
+            put_last(messages, last, change, seq + 1)
         }
     }
 }
 
-// The message of an entry that came or moved, if one did: the last one of its change.
+// Behind these the message of an entry that came or moved, if one did: the last one of its change.
 fn put_last(
-    messages: &mut Vec<Message>,
+    mut messages: Vec<Message>,
     last: Option<(Opcode, Entry)>,
     change: u64,
     seq: u64,
-) -> Result<(), Refusal>
+) -> Result<Vec<Message>, Refusal>
     ensures refused { IsRefusedBy result None }
-    ensures messages { OnOk result (messages.new.items ≡
-        messages.old.items ++ numbered seq change (option_to_list last)) }
+    ensures messages { IfOk result (λ rest. rest.items
+        ≡ messages.items ++ numbered seq change (option_to_list last)) }
+    ensures few { IfOk result (λ rest. vec_len rest ≤ vec_len messages + 1) }
 {
     if let Some((op, entry)) = last {
         messages.push(message(op, entry, change, seq, true))?;
     }
-    Ok(())
+    Ok(messages)
 }
 
 fn message(op: Opcode, entry: Entry, change: u64, seq: u64, last: bool) -> Message
