@@ -1,7 +1,7 @@
 -- Read in this order. Update lists: Lists. What a change tells: ToldLemmas, TouchedLemmas. A set of
 -- entries: EntryLemmas, PlaceLemmas, LocationLemmas (in a map). Folding: FoldLemmas (one
--- difference), FoldLaws (many changes), Taking (what a rebuild refuses). Changes that tell
--- nothing: PassingOver. Example has books.
+-- difference), FoldLaws (many changes), FollowLemmas and Taking (what a rebuild refuses). Changes
+-- that tell nothing: PassingOver. Example has books.
 pub mod Lists
 pub mod ToldLemmas
 pub mod TouchedLemmas
@@ -10,6 +10,7 @@ pub mod PlaceLemmas
 pub mod LocationLemmas
 pub mod FoldLemmas
 pub mod FoldLaws
+pub mod FollowLemmas
 pub mod Taking
 pub mod PassingOver
 mod Example
