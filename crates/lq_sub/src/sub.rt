@@ -184,7 +184,7 @@ impl Sub {
         ensures err { OnErr result (self.new ≡ self.old) }
     {
         let planned = volume.plan(change)?;
-        Ok(self.ready_planned(&planned)?)
+        self.ready_planned(&planned)
     }
 
     /// Makes the messages of a change that was planned: as `ready` on the volume and the change of
@@ -210,7 +210,7 @@ impl Sub {
             self.forget_ready(before);
             return Ok(());
         }
-        Ok(self.make_ready(planned, before)?)
+        self.make_ready(planned, before)
     }
 
     // Makes the messages of a change that may tell some, after so many changes. It stands apart:

@@ -21,7 +21,7 @@ returns-then-passes_over-clause-ok c =
           ap (passes_over (names_of h.query)) (sym c.change.ensures)
           ∙ (sym c.passes_over.ensures ∙ w.if-passes_over.true) in
           step-empty c.changes_pass_over.ensures c.truth_goes_by_names.ensures h.query h.moved
-          s change (h.sent + 1) c.applied.ensures.volume over
+          s change (h.sent + 1) c.applied-before.ensures.volume over
       | then-passes_over-via-else-passes_over+then-writes_beside w ↦
           let spans : c.self.inside.spans ≡ spans_of h.query = c.self.invariant.3
           ∙ ap (λ (x : Prepared). spans_of x.held.query) c.self.view_is in
@@ -32,10 +32,10 @@ returns-then-passes_over-clause-ok c =
           ∙ w.may_tell.ensures h.moved (h.sent + 1) w.if-not-may_tell.true
     ] in
     let p = c.args.self.now in
-    let before : c.applied.result.change - 1 ≡ s.number =
-    omega (arith, ap (λ (a : Applied). a.change) c.applied.ensures.value) in
+    let before : c.applied-before.result.change - 1 ≡ s.number =
+    omega (arith, ap (λ (a : Applied). a.change) c.applied-before.ensures.value) in
     c.forget_ready.ensures
-    ∙ (ap (λ messages. record p { ready = messages; before = c.applied.result.change - 1 })
+    ∙ (ap (λ messages. record p { ready = messages; before = c.applied-before.result.change - 1 })
     (sym none)
     ∙ ap
     (λ n. record p { ready = step_of h.query h.moved s change (h.sent + 1); before = n }) before)
