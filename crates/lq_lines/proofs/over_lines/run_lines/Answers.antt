@@ -1,8 +1,8 @@
-use Rattle.std.proofs.Common.{refl, ◌∙◌, rules, arith, ap, Err, ◌≡◌, []}
+use Rattle.std.proofs.Common.{refl, sym, ◌∙◌, rules, arith, Err, ◌≡◌, [], inl}
 use Rattle.std.proofs.KnownBytes.{Consumes-kept, Consumes-nil}
 use Rattle.std.proofs.lemmas.Result.{on_err_weaker, on_ok_weaker}
-use Rattle.lq_lines.specs.declared.run_fault.RunFault.TheVariants.{Limit}
-use Rattle.lq_lines.proofs.ResultLemmas.{on_err_any}
+use Rattle.lq_lines.specs.declared.run_fault.RunFault.TheVariants.{Limit, Read, Thread, Write}
+use Rattle.lq_lines.proofs.ResultLemmas.{no_ok, no_other, on_err_any}
 use Rattle.lq_lines.proofs.ProgressLemmas.{fronts_all, fronts_handed, stands_empty, stands_handed, stands_stops}
 use Rattle.lq_lines.proofs.RunLemmas.{less_left, read_none, run_answered, run_ended, run_passed, run_reads, run_stopped, stands_none}
 use Rattle.lq_lines.proofs.over_lines.run_lines.Goals as goal
@@ -19,24 +19,50 @@ loop-out-init g c = record {
   writer_moves = c.requires.writer_moves;
 }
 
-pub returns-in_err-write_replies-clause-err : goal.returns-in_err-write_replies-clause-err
-returns-in_err-write_replies-clause-err g c = on_err_any c.from_residual.result (
+-- a fault of the writer before a read
+pub returns-in_err-write_replies : goal.returns-in_err-write_replies
+returns-in_err-write_replies g c =
+    let is : c.from_residual.result ≡ Err Write = search rules in
     let i = c.loop-out.invariant in
-    let part = c.in_err-write_replies.ensures.err in
-    run_stopped g.S.Responder.rules _ _ _ _ i.given _ i.consumed (fronts_handed g.S.Responder.rules
-    _ i.given _ _ _ part.0 (stands_stops g.S.Responder.rules _ i.given _ _ _ _ i.stands) part.1))
+    let part = c.in_err-write_replies.ensures.err in record {
+      ok = no_ok _ c.from_residual.result _ is;
+      flushed = no_ok _ c.from_residual.result _ is;
+      works = no_ok _ c.from_residual.result _ is;
+      err = on_err_any c.from_residual.result (
+          run_stopped g.S.Responder.rules _ _ _ _ i.given _ i.consumed
+          (fronts_handed g.S.Responder.rules _ i.given _ _ _ part.0
+          (stands_stops g.S.Responder.rules _ i.given _ _ _ _ i.stands) part.1));
+      flush = on_err_any c.from_residual.result (inl is);
+      read = λ h. no_other Write Read is refl h;
+      limit = λ h. no_other Write Limit is refl h;
+      read_fails = λ h. no_other Write Read is refl h;
+      write_fails = λ _. c.in_err-write_replies.ensures.cause;
+      no_thread = λ h. no_other Write Thread is refl h;
+    }
 
-pub returns-in_err-write_and_flush-clause-err : goal.returns-in_err-write_and_flush-clause-err
-returns-in_err-write_and_flush-clause-err g c =
-    on_err_any c.from_residual-in_err-write_and_flush.result (
+-- a fault of the writer after a read fault
+pub returns-in_err-write_and_flush : goal.returns-in_err-write_and_flush
+returns-in_err-write_and_flush g c =
+    let r = c.from_residual-in_err-write_and_flush.result in
+    let is : r ≡ Err Write = search rules in
     let i = c.loop-out.invariant in
     let stood = stands_empty g.S.Responder.rules _ i.given _ _ _ _ _ _ i.stands
     c.in_ok-write_replies.ensures.ok c.write_replies.ensures.empty in
-    let part = c.in_err-write_and_flush.ensures.err in
-    run_stopped g.S.Responder.rules _ _ _ _ i.given _
-    (Consumes-kept _ _ _ _ i.consumed c.in_default.ensures.bytes)
-    (fronts_handed g.S.Responder.rules _ i.given _ _ _ part.0
-    (stands_stops g.S.Responder.rules _ i.given _ _ _ _ stood) part.1))
+    let part = c.in_err-write_and_flush.ensures.err in record {
+      ok = no_ok _ r _ is;
+      flushed = no_ok _ r _ is;
+      works = no_ok _ r _ is;
+      err = on_err_any r (run_stopped g.S.Responder.rules _ _ _ _ i.given _
+          (Consumes-kept _ _ _ _ i.consumed c.in_default.ensures.bytes)
+          (fronts_handed g.S.Responder.rules _ i.given _ _ _ part.0
+          (stands_stops g.S.Responder.rules _ i.given _ _ _ _ stood) part.1));
+      flush = on_err_any r (inl is);
+      read = λ h. no_other Write Read is refl h;
+      limit = λ h. no_other Write Limit is refl h;
+      read_fails = λ h. no_other Write Read is refl h;
+      write_fails = λ _. c.in_err-write_and_flush.ensures.cause;
+      no_thread = λ h. no_other Write Thread is refl h;
+    }
 
 pub returns-in_default-clause-err : goal.returns-in_default-clause-err
 returns-in_default-clause-err g c =
@@ -102,19 +128,25 @@ loop-out-preserved g c =
           ∙ i.writer_moves;
     }
 
-pub returns-in_err-take_block-clause-err : goal.returns-in_err-take_block-clause-err
-returns-in_err-take_block-clause-err g c = on_err_any c.from_residual-in_err-take_block.result (
+-- a fault of a piece
+pub returns-in_err-take_block : goal.returns-in_err-take_block
+returns-in_err-take_block g c =
+    let r = c.from_residual-in_err-take_block.result in
+    let is : r ≡ Err c.in_err-take_block.field-0.0 = search rules in
+    let says = c.in_err-take_block.ensures in
     let i = c.loop-out.invariant in
     let stood = stands_empty g.S.Responder.rules _ i.given _ _ _ _ _ _ i.stands
-    c.in_ok-write_replies.ensures.ok c.write_replies.ensures.empty in
-    run_stopped g.S.Responder.rules _ _ _ _ _ _ (run_reads _ _ _ i.given _ _ i.consumed
-    c.in-Ok.ensures.bytes.0 refl) (c.in_err-take_block.ensures.err _ i.given stood))
-
-pub returns-in_err-take_block-clause-limit : goal.returns-in_err-take_block-clause-limit
-returns-in_err-take_block-clause-limit g c = λ limit.
-    let is : c.in_err-take_block.field-0.0 ≡ Limit = search rules in
-    let i = c.loop-out.invariant in
-    let stood = stands_empty g.S.Responder.rules _ i.given _ _ _ _ _ _ i.stands
-    c.in_ok-write_replies.ensures.ok c.write_replies.ensures.empty in
-    run_passed g.S.Responder.rules _ _ _ _ _ i.given _ _ _ _ i.consumed c.in-Ok.ensures.bytes.0 refl
-    (c.in_err-take_block.ensures.limit (ap Err is) _ i.given stood)
+    c.in_ok-write_replies.ensures.ok c.write_replies.ensures.empty in record {
+      ok = no_ok _ r _ is;
+      flushed = no_ok _ r _ is;
+      works = no_ok _ r _ is;
+      err = on_err_any r (run_stopped g.S.Responder.rules _ _ _ _ _ _ (run_reads _ _ _ i.given _ _
+          i.consumed c.in-Ok.ensures.bytes.0 refl) (says.err _ i.given stood));
+      flush = on_err_any r (rw is says.flushed);
+      read = λ h. absurd (says.not_read (sym is ∙ h));
+      limit = λ h. run_passed g.S.Responder.rules _ _ _ _ _ i.given _ _ _ _ i.consumed
+          c.in-Ok.ensures.bytes.0 refl (says.limit (sym is ∙ h) _ i.given stood);
+      read_fails = λ h. absurd (says.not_read (sym is ∙ h));
+      write_fails = λ h. says.cause (sym is ∙ h);
+      no_thread = λ h. says.not_thread (sym is ∙ h);
+    }

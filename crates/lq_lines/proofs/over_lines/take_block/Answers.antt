@@ -1,6 +1,6 @@
-use Rattle.std.proofs.Common.{◌≡◌, ◌++◌, Err, rules, sym, ◌∙◌, inl, inr}
+use Rattle.std.proofs.Common.{◌≡◌, ◌++◌, Err, rules, refl, inl, inr}
 use Rattle.lq_lines.specs.declared.run_fault.RunFault.TheVariants.{Limit, Read, Thread, Write}
-use Rattle.lq_lines.proofs.ResultLemmas.{on_err_any}
+use Rattle.lq_lines.proofs.ResultLemmas.{no_other, on_err_any}
 use Rattle.lq_lines.proofs.ProgressLemmas.{fronts_all, fronts_handed, meets_handed}
 use Rattle.lq_lines.proofs.over_lines.take_block.Goals as goal
 
@@ -14,10 +14,10 @@ returns-in_err-write_and_flush-in-Err g c =
           let part = c.in_err-write_and_flush-in-Err.ensures.err in
           rw c.write_and_flush.ensures.empty (fronts_handed g.S.Responder.rules began
           (given ++ c.args.piece.now) _ _ _ part.0 (c.in-Err.ensures.err began given s) part.1));
-      limit = λ h. absurd (let no : Err Write ≡ Err Limit = sym is ∙ h in cc);
+      limit = λ h. no_other Write Limit is refl h;
       flushed = on_err_any c.from_residual.result (inl is);
-      not_read = λ h. let no : Err Write ≡ Err Read = sym is ∙ h in cc;
-      not_thread = λ h. let no : Err Write ≡ Err Thread = sym is ∙ h in cc;
+      not_read = λ h. no_other Write Read is refl h;
+      not_thread = λ h. no_other Write Thread is refl h;
       cause = λ _. c.in_err-write_and_flush-in-Err.ensures.cause;
     }
 

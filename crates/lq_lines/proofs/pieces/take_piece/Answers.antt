@@ -4,7 +4,7 @@ use Rattle.lq_lines.specs.declared.intake.Intake.{Intake}
 use Rattle.lq_lines.specs.declared.run_fault.RunFault.TheVariants.{Limit, Memory, Read, Thread, Write}
 use Rattle.lq_lines.specs.Lines.{Rules}
 use Rattle.lq_lines.specs.Progress.{Began, Stands}
-use Rattle.lq_lines.proofs.ResultLemmas.{neither, no_ok, on_err_any}
+use Rattle.lq_lines.proofs.ResultLemmas.{neither, no_ok, no_other, on_err_any}
 use Rattle.lq_lines.proofs.ProgressLemmas.{no_bytes, some_bytes, stands_ahead, stands_run, stopped_at, stopped_in}
 use Rattle.lq_lines.proofs.pieces.take_piece.Goals as goal
 use Rattle.lq_lines.proofs.pieces.take_piece.Goals.{then-intake-ge-MAX_LINES-via-then-intake-ge-MAX_LINES, then-intake-ge-MAX_LINES-via-else-intake-ge-MAX_LINES+then-intake-ge-MAX_BYTES}
@@ -62,10 +62,10 @@ returns-in_err-keep g c =
       err = on_err_any c.from_residual-in_err-keep.result (λ began given s.
           stopped_at g.S.Responder.rules began given c.args.piece.now c.loop-at.at _ _ _ _
           (c.loop-at.invariant.stands began given s));
-      limit = λ h. let no : Err Memory ≡ Err Limit = sym is ∙ h in cc;
-      not_read = λ h. let no : Err Memory ≡ Err Read = sym is ∙ h in cc;
-      not_thread = λ h. let no : Err Memory ≡ Err Thread = sym is ∙ h in cc;
-      cause = λ h. let no : Err Memory ≡ Err Write = sym is ∙ h in cc;
+      limit = λ h. no_other Memory Limit is refl h;
+      not_read = λ h. no_other Memory Read is refl h;
+      not_thread = λ h. no_other Memory Thread is refl h;
+      cause = λ h. no_other Memory Write is refl h;
     }
 
 pub returns-in_err-end_line : goal.returns-in_err-end_line
@@ -82,12 +82,9 @@ returns-in_err-end_line g c =
           (no_bytes c.run_at-run.result.now (sym c.if-is_empty.ensures)))
           (c.in_err-end_line.ensures.err (drop (c.loop-at.at + 1) c.args.piece.now) began _
           (c.loop-at.invariant.stands began given s)));
-      limit = λ h. elim (neither (Err c.in_err-end_line.field-0.0) Limit two (λ no. cc)
-          (λ no. cc) (sym is ∙ h)) [ ];
-      not_read = λ h. neither (Err c.in_err-end_line.field-0.0) Read two (λ no. cc)
-          (λ no. cc) (sym is ∙ h);
-      not_thread = λ h. neither (Err c.in_err-end_line.field-0.0) Thread two (λ no. cc)
-          (λ no. cc) (sym is ∙ h);
+      limit = λ h. neither (Err c.in_err-end_line.field-0.0) Limit two refl refl (sym is ∙ h);
+      not_read = λ h. neither (Err c.in_err-end_line.field-0.0) Read two refl refl (sym is ∙ h);
+      not_thread = λ h. neither (Err c.in_err-end_line.field-0.0) Thread two refl refl (sym is ∙ h);
       cause = λ h. c.in_err-end_line.ensures.cause (sym is ∙ h);
     }
 
