@@ -39,15 +39,19 @@ differ e f other same =
     grind (arith, nat_tests)
 
 -- one fault is no other
-pub no_other : {P : Type 0} {r : Result (Unit {0}) RunFault} (e f : RunFault) → r ≡ Err e
-    → (place e == place f) ≡ false → r ≡ Err f → P
-no_other e f is other h =
-    absurd (differ e f other (let same : Err e ≡ Err f = sym is ∙ h in cc))
+pub no_other : {r : Result (Unit {0}) RunFault} (e f : RunFault) → r ≡ Err e
+    → (place e == place f) ≡ false → r ≡ Err f → ⊥
+no_other e f is other h = differ e f other (let same : Err e ≡ Err f = sym is ∙ h in cc)
+
+-- a success is no fault
+pub no_fault : (r : Result (Unit {0}) RunFault) (f : RunFault) → is_err r ≡ false → r ≡ Err f → ⊥
+no_fault (Ok x) f ok h = cc
+no_fault (Err e) f ok h = let no : true ≡ false = ok in cc
 
 -- a fault of the writer or of memory is no other fault
-pub neither : {P : Type 0} (r : Result (Unit {0}) RunFault) (f : RunFault)
+pub neither : (r : Result (Unit {0}) RunFault) (f : RunFault)
     → IfErr r (λ e. (e ≡ Write) ⊎ (e ≡ Memory)) → (place Write == place f) ≡ false
-    → (place Memory == place f) ≡ false → r ≡ Err f → P
+    → (place Memory == place f) ≡ false → r ≡ Err f → ⊥
 neither (Ok x) f two w m h = cc
 neither (Err e) f (inl is) w m h = no_other Write f (ap Err is) w h
 neither (Err e) f (inr is) w m h = no_other Memory f (ap Err is) m h

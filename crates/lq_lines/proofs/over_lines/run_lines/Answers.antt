@@ -33,9 +33,9 @@ returns-in_err-write_replies g c =
           (fronts_handed g.S.Responder.rules _ i.given _ _ _ part.0
           (stands_stops g.S.Responder.rules _ i.given _ _ _ _ i.stands) part.1));
       flush = on_err_any c.from_residual.result (inl is);
-      read = λ h. no_other Write Read is refl h;
-      limit = λ h. no_other Write Limit is refl h;
-      read_fails = λ h. no_other Write Read is refl h;
+      read = λ h. elim (no_other Write Read is refl h) [ ];
+      limit = λ h. elim (no_other Write Limit is refl h) [ ];
+      read_fails = λ h. elim (no_other Write Read is refl h) [ ];
       write_fails = λ _. c.in_err-write_replies.ensures.cause;
       no_thread = λ h. no_other Write Thread is refl h;
     }
@@ -57,9 +57,9 @@ returns-in_err-write_and_flush g c =
           (fronts_handed g.S.Responder.rules _ i.given _ _ _ part.0
           (stands_stops g.S.Responder.rules _ i.given _ _ _ _ stood) part.1));
       flush = on_err_any r (inl is);
-      read = λ h. no_other Write Read is refl h;
-      limit = λ h. no_other Write Limit is refl h;
-      read_fails = λ h. no_other Write Read is refl h;
+      read = λ h. elim (no_other Write Read is refl h) [ ];
+      limit = λ h. elim (no_other Write Limit is refl h) [ ];
+      read_fails = λ h. elim (no_other Write Read is refl h) [ ];
       write_fails = λ _. c.in_err-write_and_flush.ensures.cause;
       no_thread = λ h. no_other Write Thread is refl h;
     }
@@ -143,10 +143,10 @@ returns-in_err-take_block g c =
       err = on_err_any r (run_stopped g.S.Responder.rules _ _ _ _ _ _ (run_reads _ _ _ i.given _ _
           i.consumed c.in-Ok.ensures.bytes.0 refl) (says.err _ i.given stood));
       flush = on_err_any r (rw is says.flushed);
-      read = λ h. absurd (says.not_read (sym is ∙ h));
+      read = λ h. elim (says.not_read (sym is ∙ h)) [ ];
       limit = λ h. run_passed g.S.Responder.rules _ _ _ _ _ i.given _ _ _ _ i.consumed
           c.in-Ok.ensures.bytes.0 refl (says.limit (sym is ∙ h) _ i.given stood);
-      read_fails = λ h. absurd (says.not_read (sym is ∙ h));
+      read_fails = λ h. elim (says.not_read (sym is ∙ h)) [ ];
       write_fails = λ h. says.cause (sym is ∙ h);
       no_thread = λ h. says.not_thread (sym is ∙ h);
     }

@@ -17,7 +17,7 @@ returns-in_err-write_and_flush g c =
       flushed = no_ok _ c.from_residual.result _ is;
       fault = rw is (inl refl);
       cause = λ _. c.in_err-write_and_flush.ensures.cause;
-      memory_flushed = λ h. no_other Write Memory is refl h;
+      memory_flushed = λ h. elim (no_other Write Memory is refl h) [ ];
     }
 
 pub returns-then-is_err : goal.returns-then-is_err
@@ -30,7 +30,7 @@ returns-then-is_err g c =
           c.in_ok-write_and_flush.ensures.ok;
       flushed = tt;
       fault = inr refl;
-      cause = λ h. no_other Memory Write refl refl h;
+      cause = λ h. elim (no_other Memory Write refl refl h) [ ];
       memory_flushed = λ _. c.in_ok-write_and_flush.ensures.flushed;
     }
 
@@ -47,7 +47,7 @@ returns-in_err-write_replies g c =
       flushed = no_ok _ c.from_residual-in_err-write_replies.result _ is;
       fault = rw is (inl refl);
       cause = λ _. c.in_err-write_replies.ensures.cause;
-      memory_flushed = λ h. no_other Write Memory is refl h;
+      memory_flushed = λ h. elim (no_other Write Memory is refl h) [ ];
     }
 
 pub returns-in-Ok-clause-ok : goal.returns-in-Ok-clause-ok

@@ -62,10 +62,10 @@ returns-in_err-keep g c =
       err = on_err_any c.from_residual-in_err-keep.result (λ began given s.
           stopped_at g.S.Responder.rules began given c.args.piece.now c.loop-at.at _ _ _ _
           (c.loop-at.invariant.stands began given s));
-      limit = λ h. no_other Memory Limit is refl h;
+      limit = λ h. elim (no_other Memory Limit is refl h) [ ];
       not_read = λ h. no_other Memory Read is refl h;
       not_thread = λ h. no_other Memory Thread is refl h;
-      cause = λ h. no_other Memory Write is refl h;
+      cause = λ h. elim (no_other Memory Write is refl h) [ ];
     }
 
 pub returns-in_err-end_line : goal.returns-in_err-end_line
@@ -82,7 +82,8 @@ returns-in_err-end_line g c =
           (no_bytes c.run_at-run.result.now (sym c.if-is_empty.ensures)))
           (c.in_err-end_line.ensures.err (drop (c.loop-at.at + 1) c.args.piece.now) began _
           (c.loop-at.invariant.stands began given s)));
-      limit = λ h. neither (Err c.in_err-end_line.field-0.0) Limit two refl refl (sym is ∙ h);
+      limit = λ h.
+          elim (neither (Err c.in_err-end_line.field-0.0) Limit two refl refl (sym is ∙ h)) [ ];
       not_read = λ h. neither (Err c.in_err-end_line.field-0.0) Read two refl refl (sym is ∙ h);
       not_thread = λ h. neither (Err c.in_err-end_line.field-0.0) Thread two refl refl (sym is ∙ h);
       cause = λ h. c.in_err-end_line.ensures.cause (sym is ∙ h);
