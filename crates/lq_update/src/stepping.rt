@@ -5,6 +5,7 @@ ghost use Rattle.lq_value.specs.Refusal.{IsRefusedBy};
 ghost use Rattle.lq_formula.specs.Query.{Query};
 ghost use Rattle.lq_predicate.specs.Span.{spans_of};
 ghost use Rattle.lq_volume.specs.Change.{after, node_of, IsLawful};
+ghost use Rattle.lq_volume.specs.Laws.{ChangesKeepTrees, ClobberedGo, UntouchedStay};
 ghost use Rattle.lq_volume.specs.Result.{entry_if};
 ghost use Rattle.lq_volume.specs.State.{IsVolume};
 ghost use Rattle.lq_update.specs.declared.message.Opcode.TheVariants.{Removed, Moved};
@@ -77,9 +78,7 @@ pub fn may_tell(predicate: &Predicate, planned: &Planned<'_>) -> bool
     ensures { (moved : Bool) → (seq : ℕ) → result ≡ false
         → step_of predicate.now moved planned.now.before planned.now.change seq ≡ [] }
 {
-    accepted_changes_keep_trees();
-    untouched_nodes_stay();
-    clobbered_nodes_go();
+    changes_touch_few();
     // For its clauses `lawful` and `volume`.
     let _ = planned.applied();
     let (left, came) = difference(predicate, planned);
@@ -98,9 +97,7 @@ pub fn writes_beside(spans: &Spans, planned: &Planned<'_>) -> bool
         → step_of q moved planned.now.before planned.now.change seq ≡ [] }
 {
     truth_stays_beside_spans();
-    accepted_changes_keep_trees();
-    untouched_nodes_stay();
-    clobbered_nodes_go();
+    changes_touch_few();
     // For its clauses `lawful` and `volume`.
     let _ = planned.applied();
     let Change::Write { size, time, .. } = planned.change() else {
@@ -178,9 +175,7 @@ fn tell_joined(
         ≡ step_of predicate.now moved planned.now.before planned.now.change first_seq) }
     ensures few { IfOk result (λ messages. vec_len messages ≤ 3) }
 {
-    accepted_changes_keep_trees();
-    untouched_nodes_stay();
-    clobbered_nodes_go();
+    changes_touch_few();
     let taken = planned.clobbered();
     let gone = gone_of(alloc, predicate, taken)?;
     tell_by_node(
@@ -245,6 +240,17 @@ fn tell_by_node(
     } else {
         tell(alloc, removed, gone, last, number, first_seq)
     }
+}
+
+// A change keeps the tree, and alters no more than its own node and the one that it takes away.
+fn changes_touch_few()
+    ensures trees { ChangesKeepTrees }
+    ensures stay { UntouchedStay }
+    ensures go { ClobberedGo }
+{
+    accepted_changes_keep_trees();
+    untouched_nodes_stay();
+    clobbered_nodes_go();
 }
 
 // What left the result at the change's own node, and what came into it there.

@@ -13,7 +13,7 @@ returns-then-is_none-3 c moved seq is =
     let node = node_of s change in
     let volume = c.applied.ensures.volume in
     let lawful = c.applied.ensures.lawful in
-    let kept = c.accepted_changes_keep_trees.ensures s change volume lawful in
+    let kept = c.changes_touch_few.ensures.trees s change volume lawful in
     let left_is : left_at q s (after s change) node ≡ None = sym c.difference.ensures.removed
     ∙ ap (λ o. entry_at node (option_copied o)) (none-of _ (c.if-is_none.ensures)) in
     let came_is : left_at q (after s change) s node ≡ None = sym c.difference.ensures.created
@@ -22,5 +22,5 @@ returns-then-is_none-3 c moved seq is =
     let none : clobbered s change ≡ None = sym c.clobbered.ensures.node
     ∙ ap (option_map (λ e. e.0)) (none-of _ (c.if-is_none-3.ensures)) in
     sym (told-alone q moved s change seq (s.number + 1) None None
-    volume kept (λ n off. c.untouched_nodes_stay.ensures s change n volume lawful off)
-    (λ n is. c.clobbered_nodes_go.ensures s change n volume is) refl nothing.0 nothing.1 none)
+    volume kept (λ n off. c.changes_touch_few.ensures.stay s change n volume lawful off)
+    (λ n is. c.changes_touch_few.ensures.go s change n volume is) refl nothing.0 nothing.1 none)

@@ -9,9 +9,9 @@ returns-clause-messages c moved removed last =
     let volume = c.requires.volume in
     let lawful = c.requires.lawful in
     rw (told-taken c.args.predicate.now moved s change c.args.first_seq _ _ _ volume
-    (c.accepted_changes_keep_trees.ensures s change volume lawful)
-    (λ n off. c.untouched_nodes_stay.ensures s change n volume lawful off)
-    (λ n is. c.clobbered_nodes_go.ensures s change n volume is)
+    (c.changes_touch_few.ensures.trees s change volume lawful)
+    (λ n off. c.changes_touch_few.ensures.stay s change n volume lawful off)
+    (λ n is. c.changes_touch_few.ensures.go s change n volume is)
     (ap (λ m. m.change) c.requires.made) removed last
     (λ r. r.now) c.clobbered-taken.result c.in_ok-gone.gone c.is_below.result c.args.made.node
     c.clobbered-taken.ensures.node c.clobbered-taken.ensures.entry c.in_ok-gone.ensures.value

@@ -53,7 +53,7 @@ returns-then-is_beside_sizes c q moved seq is spans_are =
     let none : clobbered s change ≡ None = ap (clobbered s) write in
     let volume = c.applied.ensures.volume in
     let lawful = c.applied.ensures.lawful in
-    let kept = c.accepted_changes_keep_trees.ensures s change volume lawful in
+    let kept = c.changes_touch_few.ensures.trees s change volume lawful in
     sym (told-alone q moved s change seq (s.number + 1) None None
-    volume kept (λ n off. c.untouched_nodes_stay.ensures s change n volume lawful off)
-    (λ n is. c.clobbered_nodes_go.ensures s change n volume is) refl nothing.0 nothing.1 none)
+    volume kept (λ n off. c.changes_touch_few.ensures.stay s change n volume lawful off)
+    (λ n is. c.changes_touch_few.ensures.go s change n volume is) refl nothing.0 nothing.1 none)

@@ -13,7 +13,6 @@ returns-in_err-fold-clause-refused c =
     let follows =
     ap (λ (f : Folding). may_follow f.seq f.change f.settled m) (sym c.self.view_is)
     ∙ sym c.if-not-is_followed_by.ensures in
-    rw is (tt, c.in_err-fold.ensures.refused.1
-    ∙ ap (λ (f : Folding). unwrap_or (if fits_in f.entries m then None else Some Mismatch) NoMemory)
-    c.self.view_is
-    ∙ ap (λ o. unwrap_or o NoMemory) (sym (refusal-following c.args.self.now m follows)))
+    let said = λ (f : Folding). if fits_in f.entries m then None else Some Mismatch in
+    let same = ap said c.self.view_is ∙ sym (refusal-following c.args.self.now m follows) in
+    rw is (tt, c.in_err-fold.ensures.refused.1 ∙ ap (λ o. unwrap_or o NoMemory) same)
