@@ -22,7 +22,8 @@ returns-in_err-write_and_flush g c =
 
 pub returns-then-is_err : goal.returns-then-is_err
 returns-then-is_err g c =
-    let same = when_err c.answer.result (sym c.if-is_err.ensures.value) c.answer.ensures.err in record {
+    let failed = sym c.if-is_err.ensures.value in
+    let same = when_err c.answer.result failed c.answer.ensures.err in record {
       ok = tt;
       works = tt;
       err = λ began given s. fronts_all g.S.Responder.rules began given _ _ _
