@@ -10,7 +10,8 @@ use Rattle.lq_update.specs.declared.mark.Mark.{Mark}
 use Rattle.lq_update.specs.declared.mark.Cause.TheVariants.{Overrun}
 use Rattle.lq_update.specs.declared.parcel.Parcel.{Parcel}
 use Rattle.lq_update.specs.declared.parcel.Parcel.TheVariants.{Update, Fin}
-use Rattle.lq_sub.specs.Held.{Held, next_of, next_parcel, without}
+use Rattle.lq_sub.specs.Held.{Held, Prepared, next_of, next_parcel, without, with_back}
+use Rattle.lq_sub.specs.Laws.{PuttingBackUndoes}
 use Rattle.lq_port.specs.End.{End, all_put, IsSamePort, Gains}
 use Rattle.lq_subscription.specs.declared.delivery.Delivery.{Delivery}
 use Rattle.lq_subscription.specs.declared.delivery.Opening.{Opening}
@@ -19,7 +20,7 @@ use Rattle.lq_subscription.specs.declared.subscription.Subscription.{Subscriptio
 use Rattle.lq_subscription.specs.Updates.{updates}
 use Rattle.lq_subscription.specs.Rule.{book_of, floor_of, query_of, message_of, mark_or, messages_in, mark_in, IsMark, Tells, MayFollow}
 use Rattle.lq_subscription.specs.LegalList.{known_by}
-use Rattle.lq_subscription.specs.Standing.{given, upto, moved_mark, Stands, SameHeld, SameButPuts, mark_left, left_of, IsOut, IsOverrun}
+use Rattle.lq_subscription.specs.Standing.{given, upto, moved_mark, Stands, StandsAt, SameHeld, SameButPuts, mark_left, left_of, IsOut, IsStuck, IsDrained, IsOverrun, SideBySide}
 use Rattle.lq_subscription.proofs.Books.{extends_self}
 use Rattle.lq_subscription.proofs.UpdateLemmas.{updates-front}
 use Rattle.lq_subscription.proofs.PortLemmas.{prefix_trans, messages_in-snoc, mark_in-append, last_book-snoc}
@@ -290,3 +291,76 @@ alike_trans s t u a b = record {
   shut = b.shut ∙ a.shut;
   given_same = b.given_same ∙ a.given_same;
 }
+
+-- where there is no next parcel, what is held is what was held
+pub none_out : (h h' : Held) → next_parcel h ≡ None → h' ≡ without h (next_parcel h) → h' ≡ h
+none_out h h' none rest = rest ∙ ap (without h) none
+
+-- with the next parcel taken out and put back, what is held is what was held
+pub back_out : PuttingBackUndoes → (h h' h'' : Held) (p q : Parcel) → next_parcel h ≡ Some p
+    → h' ≡ without h (next_parcel h) → q ≡ p → h'' ≡ with_back h' q → h'' ≡ h
+back_out undoes h h' h'' p q next rest same back =
+    back ∙ (λ i. with_back ((rest ∙ ap (without h) next) i) (same i)) ∙ undoes h p next
+
+-- with the same held and the same end of the port, a subscription is as before
+pub alike_held : (s : Subscription) (sub : Prepared) (input : End Delivery Opening)
+    → sub.held ≡ s.sub.held → input ≡ s.input
+    → SameButPuts s (record s { sub = sub; input = input })
+alike_held s sub input held same = record {
+  port = (
+    ap (λ (e : End Delivery Opening). e.port) same,
+    ap (λ (e : End Delivery Opening). e.places) same,
+    ap (λ (e : End Delivery Opening). e.floor) same,
+  );
+  held = subst (SameHeld s.sub.held) (sym held) (held_self s.sub.held);
+  places = refl;
+  asks = refl;
+  shut = refl;
+  given_same = λ i. given (held i) (same i);
+}
+
+-- a look side by side stays one, where a subscription is as before and its end of the port the same
+pub beside_stays : (s t u : Subscription) (d e : End Delivery Opening) (book : Book) (n : ℕ)
+    → SideBySide s t d e book n → StandsAt u book → SameButPuts t u → u.input ≡ t.input
+    → SideBySide s u d e book n
+beside_stays s t u d e book n at stands alike same = record {
+  stands = stands;
+  alike = alike_trans s t u at.alike alike;
+  port = at.port;
+  floor = at.floor ∙ sym (ap (λ (e : End Delivery Opening). e.floor) same);
+  taken = at.taken;
+  ahead = ap (λ (e : End Delivery Opening). e.ahead) same ∙ at.ahead;
+  all = at.all ∙ sym (ap all_put same);
+  known = at.known;
+  value = at.value;
+  legal = at.legal;
+}
+
+-- a look, a put and another look are one look side by side
+pub beside_trans : (s t u v : Subscription) (d e f : End Delivery Opening) (book : Book) (m n : ℕ)
+    → SideBySide s t d e book m → SameButPuts t u → SideBySide u v e f book n
+    → SideBySide s v d f book n
+beside_trans s t u v d e f book m n at alike next = record {
+  stands = next.stands;
+  alike = alike_trans s t v at.alike (alike_trans t u v alike next.alike);
+  port = (
+    next.port.0 ∙ at.port.0,
+    next.port.1 ∙ at.port.1,
+    next.port.2 ∙ at.port.2,
+  );
+  floor = next.floor;
+  taken = next.taken ∙ at.taken;
+  ahead = next.ahead;
+  all = next.all;
+  known = prefix_trans d.ahead e.ahead f.ahead at.known next.known;
+  value = next.value;
+  legal = next.legal;
+}
+
+-- with both ends seen side by side, what is stuck is drained
+pub stuck_drained : (s t u : Subscription) (d e : End Delivery Opening) (book : Book) (n : ℕ)
+    → SideBySide s t d e book n → u.input ≡ t.input → IsStuck u → IsDrained u n
+stuck_drained s t u d e book n at same stuck =
+    subst (λ (k : ℕ). IsOut u.sub.held ⊎ (u.places ≤ k))
+    (ap (λ (e : End Delivery Opening). length e.ahead) same ∙ ap (length {A = Delivery}) at.ahead
+    ∙ sym at.value) stuck

@@ -330,6 +330,17 @@ module _ (d e : End Delivery Opening) (x : Delivery) (same : IsSamePort d e) (lo
                 (fin_then ∙ sym (received_is e hand' result r.got t.all)) fits,
           )
 
+-- with a message in hand, the mark was not read
+pub hand_first : (e : End Delivery Opening) (result : Folding) (hand : Option Message) (m : Message)
+    (ended : Bool) → Reads e result hand ended → hand ≡ Some m → IsSome (mark_in e.taken) → ⊥
+hand_first e result hand m ended r is some =
+    let none : hand ≡ None = r.no_hand (r.over ∙ some) in cc
+
+-- before the end, the mark was not read
+pub live_unmarked : (e : End Delivery Opening) (result : Folding) (hand : Option Message)
+    (ended : Bool) → Reads e result hand ended → ended ≡ false → IsSome (mark_in e.taken) → ⊥
+live_unmarked e result hand ended r live some = true≢false (sym (r.over ∙ some) ∙ live)
+
 -- there is no mark, where the test says so
 none_of : (o : Option Mark) → false ≡ is_some o → o ≡ None
 none_of (Some k) e = absurd (cc)

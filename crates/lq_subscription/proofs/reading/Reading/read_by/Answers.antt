@@ -1,10 +1,15 @@
-use Rattle.std.proofs.Common.{◌≡◌, Some, None, true, Option, sym, subst}
+use Rattle.std.proofs.Common.{◌≡◌, Some, None, true, Option, refl, sym, subst}
+use Rattle.std.specs.Prelude.{IsSome}
 use Rattle.lq_volume.specs.Book.{Extends}
 use Rattle.lq_update.specs.declared.message.Message.{Message}
+use Rattle.lq_port.specs.End.{End}
+use Rattle.lq_subscription.specs.declared.delivery.Delivery.{Delivery}
+use Rattle.lq_subscription.specs.declared.delivery.Opening.{Opening}
 use Rattle.lq_subscription.specs.LegalList.{known_by}
-use Rattle.lq_subscription.specs.Reading.{ReadingHold, Reads, Gives, Fails, known}
+use Rattle.lq_subscription.specs.Reading.{ReadingHold, Reads, Gives, Fails, known, mark_read}
 use Rattle.lq_sub.specs.declared.read.Read.TheVariants.{Update, Fin}
-use Rattle.lq_subscription.proofs.ReadLemmas.{hold, received_front, hand_fits, kept_hand, stays_hand, fails_hand, later, update_fits, took, took_in_hand, took_gives, took_fails, took_mark, gives_mark, opened_then, on_err, ok_with, either}
+use Rattle.lq_subscription.proofs.Books.{extends_self}
+use Rattle.lq_subscription.proofs.ReadLemmas.{hold, received_front, hand_fits, kept_hand, stays_hand, fails_hand, later, update_fits, took, took_in_hand, took_gives, took_fails, took_mark, gives_mark, opened_then, hand_first, live_unmarked, on_err, ok_with, either}
 use Rattle.lq_subscription.proofs.reading.Reading.read_by.Goals as goal
 
 pub keep-requires : goal.keep-requires
@@ -177,3 +182,57 @@ returns-in-Update-clause-fails g c =
     (took_fails i.output c.take_one.new.output c.in-Some-take_one.item a.port a.some a.follows
     i.rebuild i.hand i.ended none c.if-self.false c.self.invariant.0 c.in-Update.message
     c.in-Update.is k.new.rebuild k.new.hand f))
+
+pub returns-in-Some-clause-known : goal.returns-in-Some-clause-known
+returns-in-Some-clause-known g c =
+    let e = c.self.inside.output in
+    subst (λ (z : ReadingHold). Extends (known_by e.floor e.taken) (known z)) c.self.view_is
+    (extends_self (known_by e.floor e.taken))
+
+pub returns-then-self-clause-known : goal.returns-then-self-clause-known
+returns-then-self-clause-known g c =
+    let e = c.self.inside.output in
+    subst (λ (z : ReadingHold). Extends (known_by e.floor e.taken) (known z)) c.self.view_is
+    (extends_self (known_by e.floor e.taken))
+
+pub returns-in_default-take_one-clause-known : goal.returns-in_default-take_one-clause-known
+returns-in_default-take_one-clause-known g c =
+    let e = c.take_one.new.output in
+    subst (λ (z : ReadingHold). Extends (known_by e.floor e.taken) (known z)) c.self.view_is
+    (subst (λ (d : End Delivery Opening). Extends (known_by e.floor e.taken)
+    (known_by d.floor d.taken)) c.in_default-take_one.ensures.none
+    (extends_self (known_by e.floor e.taken)))
+
+pub returns-in-Some-clause-hand : goal.returns-in-Some-clause-hand
+returns-in-Some-clause-hand g c =
+    on_err c.keep.result _ _ c.keep.ensures.err (λ f. subst IsSome (sym f.1) refl)
+
+pub returns-in-Update-clause-hand : goal.returns-in-Update-clause-hand
+returns-in-Update-clause-hand g c =
+    on_err c.keep-in-Update.result _ _ c.keep-in-Update.ensures.err
+    (λ f. subst IsSome (sym f.1) refl)
+
+pub returns-in-Some-clause-over : goal.returns-in-Some-clause-over
+returns-in-Some-clause-over g c = λ some.
+    let i = c.self.inside in
+    let there : i.hand ≡ Some c.in-Some.message = cc in
+    absurd (hand_first i.output i.rebuild i.hand c.in-Some.message i.ended c.self.invariant.0 there
+    (subst (λ (z : ReadingHold). IsSome (mark_read z)) (sym c.self.view_is) some))
+
+pub returns-in_default-take_one-clause-over : goal.returns-in_default-take_one-clause-over
+returns-in_default-take_one-clause-over g c = λ some.
+    let i = c.self.inside in
+    absurd (live_unmarked i.output i.rebuild i.hand i.ended c.self.invariant.0 c.if-self.false
+    (subst (λ (z : ReadingHold). IsSome (mark_read z)) (sym c.self.view_is) some))
+
+pub returns-in-Fin-clause-over : goal.returns-in-Fin-clause-over
+returns-in-Fin-clause-over g c = λ some.
+    let i = c.self.inside in
+    absurd (live_unmarked i.output i.rebuild i.hand i.ended c.self.invariant.0 c.if-self.false
+    (subst (λ (z : ReadingHold). IsSome (mark_read z)) (sym c.self.view_is) some))
+
+pub returns-in-Update-clause-over : goal.returns-in-Update-clause-over
+returns-in-Update-clause-over g c = λ some.
+    let i = c.self.inside in
+    absurd (live_unmarked i.output i.rebuild i.hand i.ended c.self.invariant.0 c.if-self.false
+    (subst (λ (z : ReadingHold). IsSome (mark_read z)) (sym c.self.view_is) some))
