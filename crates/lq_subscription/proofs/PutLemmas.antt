@@ -13,6 +13,7 @@ use Rattle.lq_update.specs.declared.parcel.Parcel.TheVariants.{Update, Fin}
 use Rattle.lq_sub.specs.Held.{Held, Prepared, next_of, next_parcel, without, with_back}
 use Rattle.lq_sub.specs.Laws.{PuttingBackUndoes}
 use Rattle.lq_port.specs.End.{End, all_put, IsSamePort, Gains}
+use Rattle.lq_port.specs.Port.{IsLegal}
 use Rattle.lq_subscription.specs.declared.delivery.Delivery.{Delivery}
 use Rattle.lq_subscription.specs.declared.delivery.Opening.{Opening}
 use Rattle.lq_subscription.specs.declared.identity.Shut.{Shut}
@@ -23,7 +24,7 @@ use Rattle.lq_subscription.specs.LegalList.{known_by}
 use Rattle.lq_subscription.specs.Standing.{given, upto, moved_mark, Stands, StandsAt, SameHeld, SameButPuts, mark_left, left_of, IsOut, IsStuck, IsDrained, IsOverrun, SideBySide}
 use Rattle.lq_subscription.proofs.Books.{extends_self}
 use Rattle.lq_subscription.proofs.UpdateLemmas.{updates-front}
-use Rattle.lq_subscription.proofs.PortLemmas.{prefix_trans, messages_in-snoc, mark_in-append, last_book-snoc}
+use Rattle.lq_subscription.proofs.PortLemmas.{prefix_self, prefix_trans, messages_in-snoc, mark_in-append, last_book-snoc}
 
 -- the next parcel is the first held message, or the mark
 abbrev NextIs : List Message → Option Mark → Bool → Parcel → Type 0
@@ -336,31 +337,83 @@ beside_stays s t u d e book n at stands alike same = record {
   legal = at.legal;
 }
 
--- a look, a put and another look are one look side by side
-pub beside_trans : (s t u v : Subscription) (d e f : End Delivery Opening) (book : Book) (m n : ℕ)
-    → SideBySide s t d e book m → SameButPuts t u → SideBySide u v e f book n
-    → SideBySide s v d f book n
-beside_trans s t u v d e f book m n at alike next = record {
-  stands = next.stands;
-  alike = alike_trans s t v at.alike (alike_trans t u v alike next.alike);
-  port = (
-    next.port.0 ∙ at.port.0,
-    next.port.1 ∙ at.port.1,
-    next.port.2 ∙ at.port.2,
-  );
-  floor = next.floor;
-  taken = next.taken ∙ at.taken;
-  ahead = next.ahead;
-  all = next.all;
-  known = prefix_trans d.ahead e.ahead f.ahead at.known next.known;
-  value = next.value;
-  legal = next.legal;
+-- a port as it is drained: the two ends, and all that is the same as when the drain began
+pub record Drains (s t : Subscription) (d e : End Delivery Opening) (book : Book) : Type 0 where
+  pub stands : StandsAt t book
+  pub alike : SameButPuts s t
+  pub port : e.port ≡ t.input.port
+  pub same : IsSamePort d e
+  pub taken : e.taken ≡ d.taken
+  pub known : IsPrefix d.ahead e.ahead
+
+-- a drain begins with what is there
+pub drains_none : (s : Subscription) (d : End Delivery Opening) (book : Book) → StandsAt s book
+    → d.port ≡ s.input.port → Drains s s d d book
+drains_none s d book stands port = record {
+  stands = stands;
+  alike = alike_held s s.sub s.input refl refl;
+  port = port;
+  same = (refl, refl, refl);
+  taken = refl;
+  known = prefix_self d.ahead;
 }
 
+-- a look at both ends, as a port is drained, is one since the drain began
+module _ (s t : Subscription) (c d e input : End Delivery Opening) (book : Book) (n : ℕ)
+    (at : Drains s t c d book) (value : n ≡ length e.ahead) (put : all_put e ≡ all_put t.input)
+    (taken : e.taken ≡ d.taken) (known : IsPrefix d.ahead e.ahead)
+    (ends : (input.taken ≡ e.taken) × (input.ahead ≡ e.ahead)) (floor : d.floor ≡ t.input.floor)
+    (legal : IsLegal MayFollow e.floor (all_put e))
+    (ports : IsSamePort d e × IsSamePort t.input input) where
+  -- what the end for puts knows to be put is what the other knows
+  all_seen : all_put input ≡ all_put e
+  all_seen = λ i. ends.0 i ++ ends.1 i
+
+  -- the two ends were seen side by side
+  pub looks : SideBySide s (record t { input = input }) c e book n
+  looks = record {
+    stands = same_put t.sub.held t.input input t.places t.shut book ports.1 (all_seen ∙ put)
+        at.stands;
+    alike = alike_trans s t (record t { input = input }) at.alike (record {
+      port = ports.1;
+      held = held_self t.sub.held;
+      places = refl;
+      asks = refl;
+      shut = refl;
+      given_same = ap (λ (ps : List Delivery). messages_in ps ++ t.sub.held.messages)
+          (all_seen ∙ put);
+    });
+    port = (
+      ports.0.0 ∙ at.same.0,
+      ports.0.1 ∙ at.same.1,
+      ports.0.2 ∙ at.same.2,
+    );
+    floor = ports.0.2 ∙ floor ∙ sym ports.1.2;
+    taken = taken ∙ at.taken;
+    ahead = ends.1;
+    all = sym all_seen;
+    known = prefix_trans c.ahead d.ahead e.ahead at.known known;
+    value = value;
+    legal = legal;
+  }
+
+  -- and with a put behind that the port is drained further
+  pub drains_on : (u : Subscription) → StandsAt u book
+      → SameButPuts (record t { input = input }) u → Drains s u c e book
+  unfolding looks
+  drains_on u stands alike = record {
+    stands = stands;
+    alike = alike_trans s (record t { input = input }) u looks.alike alike;
+    port = ports.0.0 ∙ at.port ∙ sym (alike.port.0 ∙ ports.1.0);
+    same = looks.port;
+    taken = looks.taken;
+    known = looks.known;
+  }
+
 -- with both ends seen side by side, what is stuck is drained
-pub stuck_drained : (s t u : Subscription) (d e : End Delivery Opening) (book : Book) (n : ℕ)
-    → SideBySide s t d e book n → u.input ≡ t.input → IsStuck u → IsDrained u n
-stuck_drained s t u d e book n at same stuck =
+pub stuck_drained : (input e : End Delivery Opening) (u : Subscription) (n : ℕ)
+    → input.ahead ≡ e.ahead → n ≡ length e.ahead → u.input ≡ input → IsStuck u → IsDrained u n
+stuck_drained input e u n ahead value same stuck =
     subst (λ (k : ℕ). IsOut u.sub.held ⊎ (u.places ≤ k))
-    (ap (λ (e : End Delivery Opening). length e.ahead) same ∙ ap (length {A = Delivery}) at.ahead
-    ∙ sym at.value) stuck
+    (ap (λ (e : End Delivery Opening). length e.ahead) same ∙ ap (length {A = Delivery}) ahead
+    ∙ sym value) stuck

@@ -97,26 +97,13 @@ pub fn drain<R: Wait>(
     ensures hand { reading.new.hand ≡ reading.old.hand }
     ensures result { reading.new.result ≡ reading.old.result }
 {
-    let mut waiting = beside(keeper, slot, reading);
-    while waiting < slot.places {
+    loop {
+        let waiting = reading.beside(&mut slot.input);
+        if waiting >= slot.places {
+            return waiting;
+        }
         if !put_one(rt, keeper, slot) {
             return waiting;
         }
-        waiting = beside(keeper, slot, reading);
     }
-    waiting
-}
-
-// How many parcels wait, where the two ends stand side by side.
-fn beside(keeper: &Keeper<Identity>, slot: &mut Subscription, reading: &mut Reading) -> u64
-    requires port { reading.old.port.port ≡ slot.old.input.port }
-    requires stands { StandsAt slot.old keeper.now.book }
-    ensures between { SideBySide slot.old slot.new reading.old.port reading.new.port
-        keeper.now.book result }
-    ensures left { left slot.new ≡ left slot.old }
-    ensures hand { reading.new.hand ≡ reading.old.hand }
-    ensures result { reading.new.result ≡ reading.old.result }
-{
-    let _ = keeper;
-    reading.beside(&mut slot.input)
 }

@@ -91,10 +91,12 @@ returns-in-Err-clause-stands g c =
     let s = c.args.slot.now in
     subst (λ (z : Held × End Delivery Opening). Stands z.0 z.1 s.places s.shut
     c.args.keeper.now.book)
-    (λ i. (sym (back_out c.putting_back_undoes.ensures s.sub.held c.next.new.self.held
-    c.put_back.new.self.held c.in-Some.parcel c.in-Err.back (sym c.in-Some.ensures.value)
-    c.next.ensures.rest c.in-Err.ensures.back c.put_back.ensures.held) i,
-    sym c.in-Err.ensures.err.0 i)) c.requires
+    (λ i. (
+      sym (back_out c.putting_back_undoes.ensures s.sub.held c.next.new.self.held
+          c.put_back.new.self.held c.in-Some.parcel c.in-Err.back (sym c.in-Some.ensures.value)
+          c.next.ensures.rest c.in-Err.ensures.back c.put_back.ensures.held) i,
+      sym c.in-Err.ensures.err.0 i,
+    )) c.requires
 
 pub returns-in-Err-clause-alike : goal.returns-in-Err-clause-alike
 returns-in-Err-clause-alike g c =
