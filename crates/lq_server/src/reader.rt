@@ -17,7 +17,6 @@ ghost use Rattle.lq_server.specs.Syncing.{IsRead, IsUnread};
 use crate::server::Server;
 use lq_board::Seat;
 use lq_locked::Named;
-use lq_slots::Opened;
 use lq_sub::Read;
 use lq_subscription::{Identity, Reading, books_extend_themselves};
 use lq_value::{Entry, Refusal};
@@ -54,23 +53,6 @@ impl Model for Reader {
 }
 
 impl Reader {
-    // A reader of a subscription that was just opened.
-    pub(crate) fn new(opened: Opened) -> Reader
-        ensures { result ≡ record {
-          reading = opened.reading;
-          seat = opened.seat;
-          slot = opened.slot;
-          hang_up_asked = false;
-        } }
-    {
-        Reader {
-            reading: opened.reading,
-            seat: opened.seat,
-            slot: opened.slot,
-            hang_up_asked: false,
-        }
-    }
-
     /// Its slot, 1 to 64. It takes no lock.
     pub fn slot(&self) -> u64
         ensures { result ≡ self.now.slot }

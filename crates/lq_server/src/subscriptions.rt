@@ -51,7 +51,12 @@ impl<N: Named> Server<N> {
             .state
             .lock(rt)
             .open(&self.board, seat, predicate, port, backlog, moved)?;
-        Ok(Reader::new(opened))
+        Ok(Reader {
+            reading: opened.reading,
+            seat: opened.seat,
+            slot: opened.slot,
+            hang_up_asked: false,
+        })
     }
 
     /// How far the reader's subscription is, over the book that the reader's seat then knows.

@@ -1,0 +1,161 @@
+-- Readers whose seat is their own, and what a read leaves of them.
+use Rattle.std.proofs.Common.{◌≡◌, ℕ, ◌<◌, Bool, false, ◌++◌, Option, Some, None, inr, refl, sym, ap, ◌∙◌, subst, append_assoc}
+use Rattle.std.specs.Prelude.{IsSome, IsSomeAnd, IfOk, OnErr, Result, Ok, Err, option_to_list}
+use mathlib.Core.List.{List, IsPrefix}
+use Rattle.atomic_table.specs.Seated.{TableId}
+use Rattle.lq_value.specs.declared.refusal.Refusal.{Refusal}
+use Rattle.lq_formula.specs.Query.{Query}
+use Rattle.lq_volume.specs.Book.{Book}
+use Rattle.lq_board.specs.Token.{SeatToken}
+use Rattle.lq_update.specs.declared.message.Message.{Message}
+use Rattle.lq_port.specs.End.{End, IsSamePort}
+use Rattle.lq_sub.specs.declared.read.Read.{Read}
+use Rattle.lq_subscription.specs.declared.delivery.Delivery.{Delivery}
+use Rattle.lq_subscription.specs.declared.delivery.Opening.{Opening}
+use Rattle.lq_subscription.specs.declared.identity.Identity.{Identity}
+use Rattle.lq_subscription.specs.declared.identity.Shut.{Shut}
+use Rattle.lq_subscription.specs.Identity.{port_id}
+use Rattle.lq_subscription.specs.Rule.{query_of, whole}
+use Rattle.lq_subscription.specs.Reading.{ReadingHold, Gives, Fails, IsTold, known, received, is_marked}
+use Rattle.lq_slots.specs.declared.open.Opened.{Opened}
+use Rattle.lq_slots.specs.Opening.{IdentityFits, IsNamed, IsOpened, asks_after, name_or}
+use Rattle.lq_server.specs.Hold.{ReaderHold}
+use Rattle.lq_server.specs.Own.{IsOwn}
+use Rattle.lq_server.specs.Opened.{IsNewReader}
+use Rattle.lq_server.specs.Syncing.{IsSynced, IsRead, IsUnread}
+use Rattle.lq_server.specs.declared.server.Synced.{Synced}
+
+-- what a contract sees of a reader's parts
+abbrev pub hold : ReadingHold → SeatToken Identity → ℕ → Bool → ReaderHold
+hold reading seat slot hang_up_asked =
+    record { reading = reading; seat = seat; slot = slot; hang_up_asked = hang_up_asked }
+
+-- what an own reader has of the name of its seat
+abbrev IsNameOf : ReaderHold → Identity → Type 0
+IsNameOf r t =
+    IdentityFits t r.reading.port × (r.seat.asks ≡ asks_after t.asks r.hang_up_asked)
+    × (t.asks < 1000000000000)
+
+-- what follows of what is there
+and_then : {A : Type 0} (o : Option A) (P Q : A → Type 0) → ((a : A) → P a → Q a)
+    → IsSomeAnd o P → IsSomeAnd o Q
+and_then (Some a) P Q f h = f a h
+and_then None P Q f h = absurd h
+
+-- where something is so of what is there, it is there
+and_some : {A : Type 0} (o : Option A) (P : A → Type 0) → IsSomeAnd o P → IsSome o
+and_some (Some a) P h = refl
+and_some None P h = absurd h
+
+-- and it is so of the name that is there
+and_name : (o : Option Identity) (P : Identity → Type 0) → IsSomeAnd o P → P (name_or o)
+and_name (Some t) P h = h
+and_name None P h = absurd h
+
+-- the seat of an own reader has a name
+pub own_named : (r : ReaderHold) → IsOwn r → IsSome r.seat.name
+own_named r own = and_some r.seat.name (IsNameOf r) own.name
+
+-- and has asked as often as its reader
+pub own_asked : (r : ReaderHold) → IsOwn r
+    → IsSomeAnd r.seat.name (λ t. r.seat.asks ≡ asks_after t.asks r.hang_up_asked)
+own_asked r own =
+    and_then r.seat.name (IsNameOf r) (λ t. r.seat.asks ≡ asks_after t.asks r.hang_up_asked)
+    (λ t h. h.1) own.name
+
+-- a reader whose seat knows another book stays own
+pub own_knows : (r : ReaderHold) (seat : SeatToken Identity) (book : Book)
+    → seat ≡ record r.seat { book = book } → IsOwn r → IsOwn (record r { seat = seat })
+own_knows r seat book same own =
+    subst (λ (s : SeatToken Identity). IsOwn (record r { seat = s })) (sym same)
+    (record { low = own.low; high = own.high; slot = own.slot; name = own.name })
+
+-- a name that fits a port fits it at each time
+fits_then : (t : Identity) (d e : End Delivery Opening) → IsSamePort d e → IdentityFits t d
+    → IdentityFits t e
+fits_then t d e port fits = record {
+  query = fits.query ∙ ap query_of (sym port.2);
+  moved = fits.moved ∙ ap (λ (f : Opening). f.moved) (sym port.2);
+  opened = fits.opened ∙ ap (λ (f : Opening). f.opened) (sym port.2);
+  places = fits.places ∙ sym port.1;
+  port = fits.port ∙ ap port_id (sym port.0);
+}
+
+-- a reader that has read of its port stays own
+pub own_reads : (r : ReaderHold) (reading : ReadingHold) → IsSamePort r.reading.port reading.port
+    → IsOwn r → IsOwn (record r { reading = reading })
+own_reads r reading port own = record {
+  low = own.low;
+  high = own.high;
+  slot = own.slot;
+  name = and_then r.seat.name (IsNameOf r) (IsNameOf (record r { reading = reading }))
+      (λ t h. (fits_then t r.reading.port reading.port port h.0, h.1, h.2)) own.name;
+}
+
+-- a reader whose seat's name tells of a close stays own
+pub own_closed : (r : ReaderHold) (seat : SeatToken Identity) (book : Book) (shut : Shut)
+    → seat ≡ record r.seat { book = book; name = seat.name }
+    → seat.name ≡ Some (record (name_or r.seat.name) { shut = shut })
+    → IsOwn r → IsOwn (record r { seat = seat })
+own_closed r seat book shut same name own =
+    let n = and_name r.seat.name (IsNameOf r) own.name in
+    let named : IsNameOf r (record (name_or r.seat.name) { shut = shut }) = (
+      record {
+        query = n.0.query;
+        moved = n.0.moved;
+        opened = n.0.opened;
+        places = n.0.places;
+        port = n.0.port;
+      },
+      n.1,
+      n.2,
+    ) in
+    subst (λ (s : SeatToken Identity). IsOwn (record r { seat = s })) (sym same)
+    (record {
+      low = own.low;
+      high = own.high;
+      slot = own.slot;
+      name = subst (λ (o : Option Identity). IsSomeAnd o (IsNameOf r)) (sym name) named;
+    })
+
+-- a reader of a subscription that was just opened is new
+pub new_reader : (o : Opened) (board : TableId) (book : Book) (q : Query) (mv : Bool)
+    (port backlog : ℕ) → IsOpened o board book q mv port backlog
+    → IsNewReader (hold o.reading o.seat o.slot false) board book q mv port backlog
+new_reader o board book q mv port backlog s = record {
+  own = record {
+    low = s.low;
+    high = s.high;
+    slot = s.slot_is;
+    name = and_then o.seat.name (λ t. IsNamed t o backlog)
+        (IsNameOf (hold o.reading o.seat o.slot false)) (λ t n. (n.fits, n.asks, n.few)) s.named;
+  };
+  hang_up_asked = refl;
+  opened = s;
+}
+
+-- what was received is a front of the updates over the known book
+pub received_front : (r : ReadingHold) → IsTold r
+    → IsPrefix (received r) (whole r.port.floor (known r))
+received_front r told =
+    let hand : List Message = option_to_list r.hand in
+    let front = told.legal_list.front in (
+      hand ++ front.0,
+      sym (append_assoc (received r) hand front.0)
+          ∙ ap (λ (l : List Message). l ++ front.0) (sym told.all) ∙ front.1,
+    )
+
+-- what a reader reads behind the pump of its slot
+module _ (old mid : ReaderHold) (reading : ReadingHold) (x : Synced)
+    (live : is_marked old.reading ≡ false) (s : IsSynced old mid x) where
+  -- an answer is a read behind the pump
+  pub reads_on : (r : Result Read Refusal) → IfOk r (Gives mid.reading reading)
+      → IfOk r (IsRead old (record mid { reading = reading }))
+  reads_on (Ok a) h = inr (live, (mid, x, s, h, refl))
+  reads_on (Err e) h = tt
+
+  -- and so is an error one that found no memory
+  pub unread_on : (r : Result Read Refusal) → OnErr r (Fails mid.reading reading)
+      → OnErr r (IsUnread old (record mid { reading = reading }))
+  unread_on (Ok a) h = tt
+  unread_on (Err e) h = (live, (mid, x, s, h, refl))

@@ -1,0 +1,19 @@
+use Rattle.std.proofs.Common.{sym, subst}
+use Rattle.lq_server.specs.Hold.{ReaderHold}
+use Rattle.lq_server.specs.Own.{IsOwn}
+use Rattle.lq_server.proofs.OwnLemmas.{hold, own_named, own_closed}
+use Rattle.lq_server.proofs.server.Server.close.Goals as goal
+
+pub close-closed-requires-clause-seat : goal.close-closed-requires-clause-seat
+close-closed-requires-clause-seat g c =
+    let i = c.reader.inside in
+    let old : ReaderHold = hold i.reading i.seat i.slot i.hang_up_asked in
+    let own : IsOwn old = subst IsOwn (sym c.reader.view_is) c.requires.own in
+    (own.slot, own_named old own)
+
+pub returns-clause-own : goal.returns-clause-own
+returns-clause-own g c =
+    let i = c.reader.inside in
+    own_closed (hold i.reading i.seat i.slot i.hang_up_asked) c.close-closed.new.seat _ _
+    c.close-closed.ensures.seat c.close-closed.ensures.name
+    (subst IsOwn (sym c.reader.view_is) c.requires.own)
