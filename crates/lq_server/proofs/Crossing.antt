@@ -13,7 +13,6 @@ use Rattle.lq_pattern.proofs.literal.Literal.TheSendSync as found_literal
 use Rattle.lq_pattern.proofs.op.Op.TheSendSync as found_op
 use Rattle.lq_predicate.proofs.tree.Tree.TheLaws.TheKnot.{crosses as tree_crosses}
 use Rattle.lq_predicate.specs.contracts.predicate.Predicate as predicate
-use Rattle.lq_predicate.proofs.spans.Spans.TheSendSync as found_spans
 use Rattle.lq_update.proofs.message.Message.TheSendSync as found_message
 use Rattle.lq_update.proofs.mark.Mark.TheSendSync as found_mark
 use Rattle.lq_volume.proofs.volume.Volume.TheSendSync as found_volume
@@ -55,7 +54,6 @@ sub_send =
       sendable,
       crosses,
       predicate_send,
-      found_spans.the_send,
       found_attr.the_send,
       found_message.the_send,
       found_mark.the_send,

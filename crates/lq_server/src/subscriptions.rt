@@ -1,5 +1,5 @@
 //! Calls of a server on its subscriptions.
-ghost use Rattle.std.specs.Prelude.{◌≡◌, ◌+◌, ◌<◌, ◌≤◌, ◌^◌, length, IfOk, IfErr, IfSome, IfNone, OnOk, is_some, is_ok, Some, Err, true, false};
+ghost use Rattle.std.specs.Prelude.{◌≡◌, ◌+◌, ◌<◌, ◌≤◌, ◌^◌, length, IfOk, IfErr, IfSome, IfNone, OnOk, is_ok, Some, Err, true, false};
 ghost use Rattle.lq_value.specs.declared.refusal.Refusal.TheVariants.{NotOpen, StillOpen};
 ghost use Rattle.lq_volume.specs.Book.{Extends};
 ghost use Rattle.lq_subscription.specs.declared.identity.Shut.TheVariants.{Never};
@@ -16,7 +16,7 @@ use crate::server::{Server, Synced};
 use lq_board::Seat;
 use lq_locked::Named;
 use lq_predicate::Predicate;
-use lq_subscription::{Identity, Reading};
+use lq_subscription::Identity;
 use lq_value::Refusal;
 use std::sync::Wait;
 
@@ -76,7 +76,12 @@ impl<N: Named> Server<N> {
             &mut reader.seat,
             &mut reader.reading,
         );
-        let waiting = waiting(&reader.reading, progress.waiting, progress.out);
+        let waiting = waiting(
+            progress.waiting,
+            reader.reading.has_hand(),
+            progress.out,
+            reader.reading.is_ended(),
+        );
         Synced {
             change: progress.change,
             waiting,
@@ -149,21 +154,16 @@ impl<N: Named> Server<N> {
     }
 }
 
-// How many updates wait in a port of so many parcels, or in hand.
-fn waiting(reading: &Reading, parcels: u64, out: bool) -> u64
-    requires marks { bit (in_port out (is_marked reading.now))
-        ≤ parcels + bit (is_some reading.now.hand) }
+// How many updates wait in a port of so many parcels, or in hand, where the mark may be out, and
+// then in the port or read.
+fn waiting(parcels: u64, in_hand: bool, out: bool, ended: bool) -> u64
+    requires marks { bit (in_port out ended) ≤ parcels + bit in_hand }
     requires few { parcels < 2 ^ 63 }
-    ensures { result + bit (in_port out (is_marked reading.now))
-        ≡ parcels + bit (is_some reading.now.hand) }
+    ensures { result + bit (in_port out ended) ≡ parcels + bit in_hand }
 {
-    let all = if reading.has_hand() {
-        parcels + 1
-    } else {
-        parcels
-    };
+    let all = if in_hand { parcels + 1 } else { parcels };
     if out {
-        if reading.is_ended() { all } else { all - 1 }
+        if ended { all } else { all - 1 }
     } else {
         all
     }

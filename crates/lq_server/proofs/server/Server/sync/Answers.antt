@@ -34,10 +34,8 @@ waiting-waiting-requires-clause-marks g c =
       seat = c.sync-progress.new.seat;
     } in
     let own : IsOwn old = subst IsOwn (sym c.reader.view_is) c.requires.own in
-    subst
-    (λ (z : Bool × ℕ).
-    bit (in_port z.0 (is_some (mark_read new.reading))) ≤ z.1 + bit (is_some new.reading.hand))
-    (λ i. (sym v.1.out i, sym v.1.waiting i))
+    subst (λ (z : Bool × Bool × Bool × ℕ). bit (in_port z.0 z.1) ≤ z.3 + bit z.2)
+    (λ i. (sym v.1.out i, sym c.is_ended.ensures i, sym c.has_hand.ensures i, sym v.1.waiting i))
     (marks_few v.0 old new c.sync-progress.result v.1 (refl, refl) c.told.ensures own)
 
 pub returns : goal.returns
@@ -59,11 +57,9 @@ returns g c =
     } in
     let waits : x.waiting + bit (in_port v.0.sub.held.mark_out (is_some (mark_read new.reading)))
     ≡ length new.reading.port.ahead + bit (is_some new.reading.hand) =
-    subst
-    (λ (z : Bool × ℕ).
-    x.waiting + bit (in_port z.0 (is_some (mark_read new.reading)))
-    ≡ z.1 + bit (is_some new.reading.hand))
-    (λ i. (v.1.out i, v.1.waiting i)) c.waiting-waiting.ensures in
+    subst (λ (z : Bool × Bool × Bool × ℕ). x.waiting + bit (in_port z.0 z.1) ≡ z.3 + bit z.2)
+    (λ i. (v.1.out i, c.is_ended.ensures i, c.has_hand.ensures i, v.1.waiting i))
+    c.waiting-waiting.ensures in
     subst (λ (z : ReaderHold). IsSynced z new x) c.reader.view_is
     (synced v.0 old new c.sync-progress.result v.1 (refl, refl) c.told.ensures own x refl
     (w_is v.0 old new c.sync-progress.result v.1 (refl, refl) c.told.ensures own x.waiting waits)
