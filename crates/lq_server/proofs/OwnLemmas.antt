@@ -118,6 +118,14 @@ own_closed r seat book shut same name own =
       name = subst (λ (o : Option Identity). IsSomeAnd o (IsNameOf r)) (sym name) named;
     })
 
+-- only its book and its name differ of a seat whose book is known
+pub seat_closed : (r : ReaderHold) (seat : SeatToken Identity) (book : Book)
+    → seat ≡ record r.seat { book = book; name = seat.name }
+    → seat ≡ record r.seat { book = seat.book; name = seat.name }
+seat_closed r seat book same =
+    let known : book ≡ seat.book = sym (ap (λ (s : SeatToken Identity). s.book) same) in
+    same ∙ (λ k. record r.seat { book = known k; name = seat.name })
+
 -- a reader of a subscription that was just opened is new
 pub new_reader : (o : Opened) (board : TableId) (book : Book) (q : Query) (mv : Bool)
     (port backlog : ℕ) → IsOpened o board book q mv port backlog

@@ -8,7 +8,7 @@ use Rattle.lq_subscription.specs.Reading.{Gives, Fails, known, received, mark_re
 use Rattle.lq_server.specs.Hold.{ReaderHold}
 use Rattle.lq_server.specs.Own.{IsOwn}
 use Rattle.lq_server.specs.Syncing.{IsRead, IsUnread}
-use Rattle.lq_server.proofs.OwnLemmas.{own_reads, received_front, reads_on, unread_on}
+use Rattle.lq_server.proofs.OwnLemmas.{hold, own_reads, received_front, reads_on, unread_on}
 use Rattle.lq_server.proofs.reader.Reader.read_waiting.Goals as goal
 
 pub returns-then-is_ended-clause-gives : goal.returns-then-is_ended-clause-gives
@@ -69,3 +69,17 @@ returns-clause-over g c = λ some.
     let live = subst (λ (r : ReaderHold). is_marked r.reading ≡ false) c.self.view_is
     (sym c.if-is_ended.ensures) in
     absurd (true≢false (sym some ∙ live))
+
+pub returns-clause-seat : goal.returns-clause-seat
+returns-clause-seat g c =
+    subst (λ (r : ReaderHold). r.seat ≡ record c.args.self.now.seat { book = r.seat.book })
+    (sym c.self-2.view_is) c.pump.ensures.1.seat
+
+pub returns-clause-rest : goal.returns-clause-rest
+returns-clause-rest g c =
+    let new = c.read_waiting.new.self in
+    let old = c.args.self.now in
+    let s = c.pump.ensures.1 in
+    subst (λ (r : ReaderHold). hold new r.seat r.slot r.hang_up_asked
+    ≡ hold new r.seat old.slot old.hang_up_asked) (sym c.self-2.view_is)
+    (λ k. hold new c.pump.new.reader.seat (s.slot k) (s.hang_up_asked k))

@@ -1,7 +1,7 @@
-use Rattle.std.proofs.Common.{sym, subst}
+use Rattle.std.proofs.Common.{◌≡◌, sym, subst}
 use Rattle.lq_server.specs.Hold.{ReaderHold}
 use Rattle.lq_server.specs.Own.{IsOwn}
-use Rattle.lq_server.proofs.OwnLemmas.{hold, own_named, own_closed}
+use Rattle.lq_server.proofs.OwnLemmas.{hold, own_named, own_closed, seat_closed}
 use Rattle.lq_server.proofs.server.Server.close.Goals as goal
 
 pub close-closed-requires-clause-seat : goal.close-closed-requires-clause-seat
@@ -17,3 +17,11 @@ returns-clause-own g c =
     own_closed (hold i.reading i.seat i.slot i.hang_up_asked) c.close-closed.new.seat _ _
     c.close-closed.ensures.seat c.close-closed.ensures.name
     (subst IsOwn (sym c.reader.view_is) c.requires.own)
+
+pub returns-clause-seat : goal.returns-clause-seat
+returns-clause-seat g c =
+    let i = c.reader.inside in
+    let new = c.close-closed.new.seat in
+    subst (λ (r : ReaderHold). new ≡ record r.seat { book = new.book; name = new.name })
+    c.reader.view_is
+    (seat_closed (hold i.reading i.seat i.slot i.hang_up_asked) new _ c.close-closed.ensures.seat)
