@@ -1,20 +1,25 @@
 -- Read in this order. Records by rising node: RecordLemmas. Lists in order, and the records of a
--- map in order: OrderLemmas, ByNode. Walks up, and what keeps the tree: Climbs, Tree. What each
--- accepted change keeps: Changes, Keeps, Touches. The places of the records: PlaceLemmas. The index
--- of places, with a record more, less or altered: IndexLemmas; after a move: IndexMoves; and the
--- folders that have names: IndexFolders. Attributes in a list, and under numbers: AttributeLemmas,
--- NumberedLemmas.
+-- map in order: OrderLemmas, ByNode; what a walk over a map finds: Finds. Walks up, and what keeps
+-- the tree: Climbs, Tree. What each accepted change keeps: Changes, Keeps, Touches; that the numbers
+-- fit: Fits; why a move is refused: Rows. The places of the records: PlaceLemmas. The index of
+-- places, with a record more, less or altered: IndexLemmas; after a move: IndexMoves; the steps of a
+-- put: Puts; and the folders that have names: IndexFolders. Attributes in a list, and under numbers:
+-- AttributeLemmas, NumberedLemmas.
 pub mod OrderLemmas
 pub mod RecordLemmas
 pub mod ByNode
 pub mod Climbs
 pub mod Tree
 pub mod Changes
+pub mod Rows
 pub mod Keeps
+pub mod Fits
 pub mod PlaceLemmas
 pub mod IndexLemmas
 pub mod IndexMoves
 pub mod IndexFolders
+pub mod Puts
+pub mod Finds
 pub mod AttributeLemmas
 pub mod NumberedLemmas
 pub mod Touches

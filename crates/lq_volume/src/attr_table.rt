@@ -226,7 +226,17 @@ fn copied(alloc: Global, list: &[(AttrName, Value)]) -> Result<Vec<(AttrName, Va
 {
     let mut copy = Vec::with_capacity(alloc, list.len())?;
     for pair in list {
-        copy.push((pair.0.copy(alloc)?, pair.1.copy(alloc)?))?;
+        copy.push(copied_pair(alloc, pair)?)?;
     }
     Ok(copy)
+}
+
+/// A name with its value, copied. Refused: `NoMemory`.
+pub fn copied_pair(alloc: Global, pair: &(AttrName, Value)) -> Result<(AttrName, Value), Refusal>
+    ensures refused { IsRefusedBy result None }
+    ensures value { IfOk result (λ copy. copy ≡ pair.now) }
+{
+    let attr = pair.0.copy(alloc)?;
+    let value = pair.1.copy(alloc)?;
+    Ok((attr, value))
 }

@@ -8,6 +8,7 @@ ghost use Rattle.std.specs.Option.{option_copied, option_map};
 ghost use Rattle.std.specs.Ordering.{nat_cmp};
 ghost use Rattle.lq_value.specs.Refusal.{IsRefusedBy};
 
+use crate::attr_table::copied_pair;
 use lq_value::{AttrName, Refusal, Value};
 use std::alloc::Global;
 use std::collections::BTreeMap;
@@ -179,7 +180,7 @@ impl Many {
     {
         let mut list = Vec::new(alloc);
         for pair in self.list.values() {
-            list.push((pair.0.copy(alloc)?, pair.1.copy(alloc)?))?;
+            list.push(copied_pair(alloc, pair)?)?;
         }
         Ok(list)
     }

@@ -7,6 +7,10 @@ use Rattle.lq_volume.specs.Attributes.{value_of}
 use Rattle.lq_volume.proofs.NumberedLemmas.{at-none, at-number, found-number, value_of-none, with_attr-number, AreNumbered-set}
 use Rattle.lq_volume.proofs.many.Many.replace.Goals as goal
 
+-- no value is none
+not-there : IsSome {T = Value} None → ⊥
+not-there h = cc
+
 pub write_at-requires : goal.write_at-requires
 write_at-requires c =
     let es = c.self.inside.list.entries in
@@ -42,5 +46,4 @@ returns-in_default c =
     let there : IsSome (value_of (values_of es) c.args.attr) = rw c.self.view_is c.requires in
     let gone : value_of (values_of es) c.args.attr ≡ None =
     value_of-none es _ (at-none es _ _ none (c.self.invariant.named c.args.attr)) in
-    let clash : IsSome {T = Value} None = subst (λ (o : Option Value). IsSome o) gone there in
-    cc
+    absurd (not-there (subst (λ (o : Option Value). IsSome o) gone there))

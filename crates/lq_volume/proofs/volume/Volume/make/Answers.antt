@@ -1,7 +1,11 @@
-use Rattle.std.proofs.Common.{◌≡◌, [], sym, subst, None}
+use Rattle.std.proofs.Common.{◌≡◌, [], refl, rules, sym, subst, None}
+use Rattle.std.proofs.Math.Facts.{to_z-of_z}
+use mir.Syntax.{w64}
+use mir.Val.{SFits}
 use Rattle.lq_volume.specs.State.{State, Record}
 use Rattle.lq_volume.specs.Change.{refused}
 use Rattle.lq_volume.specs.declared.change.Change.TheVariants.{Create, Remove, Move, Write, SetAttr, RemoveAttr}
+use Rattle.lq_volume.proofs.Fits.{number-fits, next-fits}
 use Rattle.lq_volume.proofs.Keeps.{can-move, free-create, keeps-all}
 use Rattle.lq_volume.proofs.volume.Volume.make.Goals as goal
 use Rattle.lq_volume.proofs.volume.Volume.make.Goals.{in-Create+in_ok-copy-in-Create+in_ok-add-in-Create, in-Remove, in-Move+in_ok-shift-in-Move, in-Write, in-SetAttr+in_ok-set_attr-in-SetAttr, in-RemoveAttr}
@@ -66,3 +70,73 @@ invariant_of-self-2 c =
       | in-RemoveAttr w ↦ rw (w.self-inside-is, w.remove_attr.ensures)
           (keeps-all _ (RemoveAttr _ _) c.self.invariant (rw w.in-RemoveAttr.is at may))
     ]
+
+pub invariant_of-self : goal.invariant_of-self
+invariant_of-self c = rw c.in_err-add-in-Create.ensures.err c.self.invariant
+
+pub invariant_of-self-in_err-shift-in-Move : goal.invariant_of-self-in_err-shift-in-Move
+invariant_of-self-in_err-shift-in-Move c =
+    rw c.in_err-shift-in-Move.ensures.err c.self.invariant
+
+pub overflow_add-applied : goal.overflow_add-applied
+overflow_add-applied c = number-fits _ c.self.invariant.numbered
+
+pub overflow_add-self : goal.overflow_add-self
+overflow_add-self c = next-fits _ c.self.invariant.numbered
+
+-- no change before the last step counts
+pub overflow_add-self-2 : goal.overflow_add-self-2
+overflow_add-self-2 c =
+    let fits = number-fits _ c.self.invariant.numbered in
+    elim c.match-change.branch [
+      | in-Create+in_ok-copy-in-Create+in_ok-add-in-Create w ↦ rw w.self-inside-is fits
+      | in-Remove w ↦ rw w.self-inside-is fits
+      | in-Move+in_ok-shift-in-Move w ↦ rw w.self-inside-is fits
+      | in-Write w ↦ rw w.self-inside-is fits
+      | in-SetAttr+in_ok-set_attr-in-SetAttr w ↦ rw w.self-inside-is fits
+      | in-RemoveAttr w ↦ rw w.self-inside-is fits
+    ]
+
+pub returns-clause-value : goal.returns-clause-value
+returns-clause-value c = rw (c.node_of.ensures, ← c.self.view_is) refl
+
+pub returns-clause-ok : goal.returns-clause-ok
+returns-clause-ok c = elim c.match-change.branch [
+  | in-Create+in_ok-copy-in-Create+in_ok-add-in-Create w ↦
+      let fits : SFits w64 w.in-Create.time = search rules in
+      rw (
+        w.self-inside-is,
+        w.in_ok-add-in-Create.ensures.ok,
+        w.new-record.ensures,
+        w.in_ok-copy-in-Create.ensures.value,
+        w.in-Create.is,
+        ← c.self.view_is,
+        to_z-of_z fits,
+      ) refl
+  | in-Remove w ↦
+      rw (w.self-inside-is, w.remove.ensures, w.in-Remove.is, ← c.self.view_is) refl
+  | in-Move+in_ok-shift-in-Move w ↦ rw (
+    w.self-inside-is,
+    w.in_ok-shift-in-Move.ensures.ok,
+    w.other_at-other.ensures,
+    w.in-Move.is,
+    ← c.self.view_is,
+  ) refl
+  | in-Write w ↦
+      let fits : SFits w64 w.in-Write.time = search rules in
+      rw (
+        w.self-inside-is,
+        w.write.ensures,
+        w.in-Write.is,
+        ← c.self.view_is,
+        to_z-of_z fits,
+      ) refl
+  | in-SetAttr+in_ok-set_attr-in-SetAttr w ↦ rw (
+    w.self-inside-is,
+    w.in_ok-set_attr-in-SetAttr.ensures.ok,
+    w.in-SetAttr.is,
+    ← c.self.view_is,
+  ) refl
+  | in-RemoveAttr w ↦
+      rw (w.self-inside-is, w.remove_attr.ensures, w.in-RemoveAttr.is, ← c.self.view_is) refl
+]

@@ -1,0 +1,131 @@
+-- A move: its table of refusals, where the first rows have been tried, and the other node.
+use Rattle.std.proofs.Common.{◌≡◌, ℕ, Bool, true, false, List, [], ◌∷◌, ◌∙◌, ap, refl, subst, sym}
+use Rattle.std.specs.Prelude.{◌==◌, ◌&&◌, not, IfSome, Option, Some, None, is_none}
+use Rattle.std.specs.Bool.{beq}
+use Rattle.std.specs.Borrow.{Bor}
+use Rattle.std.specs.Option.{option_map, option_map_or}
+use Rattle.lq_value.specs.declared.kind.Kind.{Kind}
+use Rattle.lq_value.specs.declared.refusal.Refusal.{Refusal}
+use Rattle.lq_value.specs.declared.refusal.Refusal.TheVariants.{NoNode, NotFolder, Reserved, WouldLoop, Exists, KindClash, NotEmpty, Exhausted}
+use Rattle.lq_value.specs.Refusal.{first_refusal}
+use Rattle.lq_volume.specs.declared.change.Change.TheVariants.{Move}
+use Rattle.lq_volume.specs.Kind.{is_folder}
+use Rattle.lq_volume.specs.State.{State, Record, root, record_at, kind_at, is_folder_at, has_entries, reaches}
+use Rattle.lq_volume.specs.Change.{differ, is_file_at, is_full, is_other, other_at, refused}
+
+-- two rows that refuse nothing leave it to the others
+two-pass : (a b : Bool) (x y : Refusal) (rows : List (Bool × Refusal)) (o : Option Refusal)
+    → first_refusal ((a, x) ∷ (b, y) ∷ []) ≡ None → first_refusal rows ≡ o
+    → first_refusal ((a, x) ∷ (b, y) ∷ rows) ≡ o
+two-pass true b x y rows o h k = cc
+two-pass false true x y rows o h k = cc
+two-pass false false x y rows o h k = k
+
+-- whether two kinds differ, by two tests
+differ-tests : (a b : Bool) → differ a b ≡ not (beq a b)
+differ-tests true true = refl
+differ-tests true false = refl
+differ-tests false true = refl
+differ-tests false false = refl
+
+-- whether the kinds of two nodes differ
+pub kinds-differ : (s : State) (x node : ℕ) (j k : Kind) (a b is : Bool) → kind_at s x ≡ Some j
+    → kind_at s node ≡ Some k → a ≡ is_folder j → b ≡ is_folder k → not (beq a b) ≡ is
+    → differ (is_folder_at s x) (is_folder_at s node) ≡ is
+kinds-differ s x node j k a b is at_x at_node one two test =
+    let p : is_folder_at s x ≡ a =
+    ap (λ (o : Option Kind). option_map_or is_folder o false) at_x ∙ sym one in
+    let q : is_folder_at s node ≡ b =
+    ap (λ (o : Option Kind). option_map_or is_folder o false) at_node ∙ sym two in
+    ap (λ (v : Bool). differ v (is_folder_at s node)) p
+    ∙ (ap (λ (v : Bool). differ a v) q ∙ (differ-tests a b ∙ test))
+
+-- whether a node is a folder with an entry
+pub filled-is : (s : State) (x : ℕ) (j : Kind) (a is : Bool) → kind_at s x ≡ Some j
+    → a ≡ (is_folder j && has_entries s x) → a ≡ is → (is_folder_at s x && has_entries s x) ≡ is
+filled-is s x j a is at_x test value =
+    ap (λ (o : Option Kind). option_map_or is_folder o false && has_entries s x) at_x
+    ∙ (sym test ∙ value)
+
+-- the node of what is seen of the other entry
+pub node-seen : (o : Option (ℕ × Bor Record))
+    → option_map (λ (e : ℕ × Record). e.0) (option_map (λ e. (e.0, e.1.now)) o)
+    ≡ option_map (λ e. e.0) o
+node-seen None = refl
+node-seen (Some e) = refl
+
+-- what is seen of the other entry is its record
+pub record-seen : (s : State) (o : Option (ℕ × Bor Record))
+    → IfSome o (λ e. record_at s e.0 ≡ Some e.1.now)
+    → IfSome {T = ℕ × Record} (option_map (λ e. (e.0, e.1.now)) o)
+    (λ e. record_at s e.0 ≡ Some e.1)
+record-seen s None h = h
+record-seen s (Some e) h = h
+
+-- where the entry and the folder are there, which the first four rows say
+module _ (s : State) (node dir : ℕ) (name : List ℕ) (clobber : Bool)
+    (entry : first_refusal ((is_none (kind_at s node), NoNode) ∷ (node == root, Reserved) ∷ [])
+    ≡ None)
+    (folder : first_refusal ((is_none (kind_at s dir), NoNode)
+    ∷ (is_file_at s dir, NotFolder) ∷ []) ≡ None) where
+  -- the rows after them
+  abbrev later : Option ℕ → List (Bool × Refusal)
+  later other =
+      (reaches s dir node, WouldLoop)
+      ∷ (is_other other (λ x. not clobber), Exists)
+      ∷ (is_other other (λ x. differ (is_folder_at s x) (is_folder_at s node)), KindClash)
+      ∷ (is_other other (λ x. is_folder_at s x && has_entries s x), NotEmpty)
+      ∷ (is_full s, Exhausted)
+      ∷ []
+
+  -- these decide
+  by-later : (other : Option ℕ) (o : Option Refusal) → other ≡ other_at s node dir name
+      → first_refusal (later other) ≡ o → refused s (Move node dir name clobber) ≡ o
+  by-later other o is h =
+      two-pass (is_none (kind_at s node)) (node == root) NoNode Reserved
+      ((is_none (kind_at s dir), NoNode) ∷ (is_file_at s dir, NotFolder)
+      ∷ later (other_at s node dir name)) o entry
+      (two-pass (is_none (kind_at s dir)) (is_file_at s dir) NoNode NotFolder
+      (later (other_at s node dir name)) o folder
+      (subst (λ (x : Option ℕ). first_refusal (later x) ≡ o) is h))
+
+  -- into itself
+  pub move-loops : reaches s dir node ≡ true
+      → refused s (Move node dir name clobber) ≡ Some WouldLoop
+  move-loops loops = by-later (other_at s node dir name) (Some WouldLoop) refl (rw loops refl)
+
+  -- onto another node, which stays
+  pub move-exists : (x : ℕ) → Some x ≡ other_at s node dir name → reaches s dir node ≡ false
+      → clobber ≡ false → refused s (Move node dir name clobber) ≡ Some Exists
+  move-exists x is below stays = by-later (Some x) (Some Exists) is (rw (below, stays) refl)
+
+  -- onto a node of another kind
+  pub move-clashes : (x : ℕ) → Some x ≡ other_at s node dir name → reaches s dir node ≡ false
+      → clobber ≡ true → differ (is_folder_at s x) (is_folder_at s node) ≡ true
+      → refused s (Move node dir name clobber) ≡ Some KindClash
+  move-clashes x is below goes kinds =
+      by-later (Some x) (Some KindClash) is (rw (below, goes, kinds) refl)
+
+  -- onto a folder with an entry
+  pub move-filled : (x : ℕ) → Some x ≡ other_at s node dir name → reaches s dir node ≡ false
+      → clobber ≡ true → differ (is_folder_at s x) (is_folder_at s node) ≡ false
+      → (is_folder_at s x && has_entries s x) ≡ true
+      → refused s (Move node dir name clobber) ≡ Some NotEmpty
+  move-filled x is below goes kinds filled =
+      by-later (Some x) (Some NotEmpty) is (rw (below, goes, kinds, filled) refl)
+
+  -- onto a node that may go
+  pub move-over : (x : ℕ) → Some x ≡ other_at s node dir name → reaches s dir node ≡ false
+      → clobber ≡ true → differ (is_folder_at s x) (is_folder_at s node) ≡ false
+      → (is_folder_at s x && has_entries s x) ≡ false → (full : Bool) → is_full s ≡ full
+      → refused s (Move node dir name clobber) ≡ first_refusal ((full, Exhausted) ∷ [])
+  move-over x is below goes kinds empty full last =
+      by-later (Some x) (first_refusal ((full, Exhausted) ∷ [])) is
+      (rw (below, goes, kinds, empty, last) refl)
+
+  -- to a free place
+  pub move-free : None ≡ other_at s node dir name → reaches s dir node ≡ false
+      → (full : Bool) → is_full s ≡ full
+      → refused s (Move node dir name clobber) ≡ first_refusal ((full, Exhausted) ∷ [])
+  move-free is below full last =
+      by-later None (first_refusal ((full, Exhausted) ∷ [])) is (rw (below, last) refl)
