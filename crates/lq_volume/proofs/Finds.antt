@@ -1,5 +1,5 @@
 -- What a walk over a map has found so far.
-use Rattle.std.proofs.Common.{◌≡◌, ℕ, Bool, true, false, List, [], ◌∷◌, ◌++◌, ◌∙◌, ap, arith, cond, filter, map, refl, sym}
+use Rattle.std.proofs.Common.{◌≡◌, ℕ, Bool, true, false, List, [], ◌∷◌, ◌++◌, ◌∙◌, ap, arith, cond, filter, length, map, refl, sym}
 use Rattle.std.specs.Borrow.{Bor}
 use Rattle.std.specs.Map.Iter.{deref_pair}
 use Rattle.std.proofs.lemmas.Bool.Decides.{nat_tests}
@@ -13,6 +13,11 @@ last-mapped : {X Z : Type 0} (f : X → Z) (xs : List X) (x : X)
     → map f (xs ++ x ∷ []) ≡ map f xs ++ f x ∷ []
 last-mapped f [] x = refl
 last-mapped f (y ∷ xs) x = ap (λ l. f y ∷ l) (last-mapped f xs x)
+
+-- a list with none more
+with-none : {X : Type 0} (l : List X) → l ≡ l ++ []
+with-none [] = refl
+with-none (x ∷ l) = ap (λ m. x ∷ m) (with-none l)
 
 -- one pair more is one record more
 pub pairs-more : (ps : List (ℕ × Bor Record)) (ys : List (Bor ℕ × Bor Record))
@@ -46,9 +51,11 @@ pub finds-same : (test : ℕ × Record → Bool) (ys : List (Bor ℕ × Bor Reco
     → finds ≡ map entry_of (filter test (map deref_pair (ys ++ y ∷ [])))
 finds-same test ys y finds so fails =
     let last = found-last test (map deref_pair ys) (deref_pair y) in
-    let none : finds ≡ finds ++ [] = ends finds in
+    let none = with-none finds in
     rw (last-mapped deref_pair ys y, last, fails, ← so) none
-  where
-    ends : (l : List Entry) → l ≡ l ++ []
-    ends [] = refl
-    ends (x ∷ l) = ap (λ m. x ∷ m) (ends l)
+
+-- what was copied is all, where nothing is left
+pub walk-ends : (es : List (ℕ × Record)) (rest : List (ℕ × Bor Record)) (all : List (ℕ × Record))
+    → length rest ≡ 0 → es ++ map shown_pair rest ≡ all → es ≡ all
+walk-ends es [] all h k = with-none es ∙ k
+walk-ends es (p ∷ rest) all h k = absurd (omega arith)

@@ -1,9 +1,10 @@
-use Rattle.std.proofs.Common.{◌≡◌, ℕ, ◌∷◌, ◌++◌, ◌∙◌, ap, map, sym}
+use Rattle.std.proofs.Common.{◌≡◌, ℕ, ◌∷◌, ◌++◌, ◌∙◌, ap, arith, length, map, sym}
 use Rattle.std.specs.Vec.Iter.{into_iter_items}
 use Rattle.lq_volume.specs.Order.{shown_pair}
 use Rattle.lq_volume.specs.State.{Record}
 use Rattle.lq_volume.proofs.AttributeLemmas.{append-one}
 use Rattle.lq_volume.proofs.RecordLemmas.{Entries, Rises-front, Rises-start}
+use Rattle.lq_volume.proofs.Finds.{walk-ends}
 use Rattle.lq_volume.proofs.PlaceLemmas.{node_in-next}
 use Rattle.lq_volume.proofs.entries.Entries.copy.Goals as goal
 
@@ -30,3 +31,10 @@ loop-node-preserved c =
     ∙ c.loop-node.invariant in
     rw (c.in_ok-add.ensures.ok, c.in_ok-copy.ensures.value)
     (append-one c.loop-node.copy left e ∙ all)
+
+pub returns-clause-value : goal.returns-clause-value
+returns-clause-value c =
+    let it = c.loop-node.node-iterator in
+    let none : length (into_iter_items it) ≡ 0 =
+    omega (arith, it.rest.ok.0, c.in-None.ensures.steps.0) in
+    walk-ends c.loop-node.copy (into_iter_items it) c.args.self.now none c.loop-node.invariant
