@@ -13,3 +13,14 @@ pub invariant_of-self-in-Continue-branch-3 : goal.invariant_of-self-in-Continue-
 invariant_of-self-in-Continue-branch-3 c =
     let own : HasOwnNames c.in-Some.many.value = rw c.in-Some.is at c.self.invariant in
     rw (c.in_ok-set-in-Some.ensures.ok, c.deref_mut.ensures.value) (HasOwnNames-with _ _ _ own)
+
+pub invariant_of-self-in_err-put-in-None : goal.invariant_of-self-in_err-put-in-None
+invariant_of-self-in_err-put-in-None c =
+    let own : HasOwnNames c.self.inside.few.items = rw c.in-None.is at c.self.invariant in
+    let same : HasOwnNames c.put.new.list.items = rw c.in_err-put-in-None.ensures.err own in
+    rw c.in-None.is same
+
+pub invariant_of-self-in_err-set-in-Some : goal.invariant_of-self-in_err-set-in-Some
+invariant_of-self-in_err-set-in-Some c =
+    let own : HasOwnNames c.in-Some.many.value = rw c.in-Some.is at c.self.invariant in
+    rw (c.in_err-set-in-Some.ensures.err, c.deref_mut.ensures.value) own

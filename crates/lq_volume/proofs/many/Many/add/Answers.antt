@@ -1,4 +1,4 @@
-use Rattle.std.proofs.Common.{◌≡◌, ◌∙◌, ℕ, List, refl, sym, Some, None, cond}
+use Rattle.std.proofs.Common.{◌≡◌, ◌∙◌, ℕ, List, ap, refl, sym, Some, None, cond}
 use Rattle.std.proofs.lemmas.Map.Text.{btree_map_updates_text}
 use Rattle.std.specs.BTreeMap.{get_by_text}
 use Rattle.std.specs.Map.{values_of}
@@ -7,6 +7,7 @@ use Rattle.std.specs.String.{string_bytes}
 use Rattle.lq_volume.specs.Attributes.{value_of}
 use Rattle.lq_volume.proofs.AttributeLemmas.{with_attr-new}
 use Rattle.lq_volume.proofs.NumberedLemmas.{remove_entry-next, values_of-push, AreNumbered-push, AreNumbered-same}
+use Rattle.lq_volume.proofs.RecordLemmas.{on_err}
 use Rattle.lq_volume.proofs.many.Many.add.Goals as goal
 use Rattle.lq_volume.proofs.many.Many.add.Goals.{in-Ok, in-Err}
 
@@ -67,3 +68,13 @@ returns-clause-err c =
         is,
       ) refl
     ]
+
+pub push_at-requires : goal.push_at-requires
+push_at-requires c = c.self.invariant.above
+
+pub invariant_of-self : goal.invariant_of-self
+invariant_of-self c = rw c.in_err-push_at.ensures.err c.self.invariant
+
+pub returns-in_err-push_at-clause-err : goal.returns-in_err-push_at-clause-err
+returns-in_err-push_at-clause-err c =
+    on_err _ (ap values_of c.in_err-push_at.ensures.err ∙ c.self.view_is)

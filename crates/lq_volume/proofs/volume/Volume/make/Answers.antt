@@ -3,7 +3,7 @@ use Rattle.std.proofs.Math.Facts.{to_z-of_z}
 use mir.Syntax.{w64}
 use mir.Val.{SFits}
 use Rattle.lq_volume.specs.State.{State, Record}
-use Rattle.lq_volume.specs.Change.{refused}
+use Rattle.lq_volume.specs.Change.{after, refused}
 use Rattle.lq_volume.specs.declared.change.Change.TheVariants.{Create, Remove, Move, Write, SetAttr, RemoveAttr}
 use Rattle.lq_volume.proofs.Fits.{number-fits, next-fits}
 use Rattle.lq_volume.proofs.Keeps.{can-move, free-create, keeps-all}
@@ -101,42 +101,55 @@ pub returns-clause-value : goal.returns-clause-value
 returns-clause-value c = rw (c.node_of.ensures, ← c.self.view_is) refl
 
 pub returns-clause-ok : goal.returns-clause-ok
-returns-clause-ok c = elim c.match-change.branch [
-  | in-Create+in_ok-copy-in-Create+in_ok-add-in-Create w ↦
-      let fits : SFits w64 w.in-Create.time = search rules in
-      rw (
+returns-clause-ok c =
+    let s : State = record {
+      limit = c.self.inside.limit;
+      number = c.self.inside.changes;
+      next = c.self.inside.next;
+      records = c.self.inside.entries;
+    } in
+    elim c.match-change.branch [
+      | in-Create+in_ok-copy-in-Create+in_ok-add-in-Create w ↦
+          let fits : SFits w64 w.in-Create.time = search rules in
+          rw (
+            w.self-inside-is,
+            w.in_ok-add-in-Create.ensures.ok,
+            w.new-record.ensures,
+            w.in_ok-copy-in-Create.ensures.value,
+            w.in-Create.is,
+            ← c.self.view_is,
+            to_z-of_z fits,
+          )
+              (refl {a = after s (Create w.in-Create.dir w.in-Create.name w.in-Create.kind
+              w.in-Create.size w.in-Create.time)})
+      | in-Remove w ↦
+          rw (w.self-inside-is, w.remove.ensures, w.in-Remove.is, ← c.self.view_is)
+              (refl {a = after s (Remove w.in-Remove.node)})
+      | in-Move+in_ok-shift-in-Move w ↦ rw (
         w.self-inside-is,
-        w.in_ok-add-in-Create.ensures.ok,
-        w.new-record.ensures,
-        w.in_ok-copy-in-Create.ensures.value,
-        w.in-Create.is,
+        w.in_ok-shift-in-Move.ensures.ok,
+        w.other_at-other.ensures,
+        w.in-Move.is,
         ← c.self.view_is,
-        to_z-of_z fits,
-      ) refl
-  | in-Remove w ↦
-      rw (w.self-inside-is, w.remove.ensures, w.in-Remove.is, ← c.self.view_is) refl
-  | in-Move+in_ok-shift-in-Move w ↦ rw (
-    w.self-inside-is,
-    w.in_ok-shift-in-Move.ensures.ok,
-    w.other_at-other.ensures,
-    w.in-Move.is,
-    ← c.self.view_is,
-  ) refl
-  | in-Write w ↦
-      let fits : SFits w64 w.in-Write.time = search rules in
-      rw (
+      )
+          (refl {a = after s (Move w.in-Move.node w.in-Move.dir w.in-Move.name w.in-Move.clobber)})
+      | in-Write w ↦
+          let fits : SFits w64 w.in-Write.time = search rules in
+          rw (
+            w.self-inside-is,
+            w.write.ensures,
+            w.in-Write.is,
+            ← c.self.view_is,
+            to_z-of_z fits,
+          ) (refl {a = after s (Write w.in-Write.node w.in-Write.size w.in-Write.time)})
+      | in-SetAttr+in_ok-set_attr-in-SetAttr w ↦ rw (
         w.self-inside-is,
-        w.write.ensures,
-        w.in-Write.is,
+        w.in_ok-set_attr-in-SetAttr.ensures.ok,
+        w.in-SetAttr.is,
         ← c.self.view_is,
-        to_z-of_z fits,
-      ) refl
-  | in-SetAttr+in_ok-set_attr-in-SetAttr w ↦ rw (
-    w.self-inside-is,
-    w.in_ok-set_attr-in-SetAttr.ensures.ok,
-    w.in-SetAttr.is,
-    ← c.self.view_is,
-  ) refl
-  | in-RemoveAttr w ↦
-      rw (w.self-inside-is, w.remove_attr.ensures, w.in-RemoveAttr.is, ← c.self.view_is) refl
-]
+      )
+          (refl {a = after s (SetAttr w.in-SetAttr.node w.in-SetAttr.attr w.in-SetAttr.value)})
+      | in-RemoveAttr w ↦
+          rw (w.self-inside-is, w.remove_attr.ensures, w.in-RemoveAttr.is, ← c.self.view_is)
+              (refl {a = after s (RemoveAttr w.in-RemoveAttr.node w.in-RemoveAttr.attr)})
+    ]
