@@ -22,3 +22,9 @@ returns-clause-err c =
     let last : AllByRecursion (λ e. e.0 < c.args.node) c.self.inside.records =
     rw c.self.view_is c.requires.last in
     rw (c.remove.ensures.left, c.in-Ok.ensures.ok) (filter-added _ _ _ last ∙ c.self.view_is)
+
+pub invariant_of-self : goal.invariant_of-self
+invariant_of-self c = rw c.in-Err.ensures.err c.self.invariant
+
+pub returns-in-Ok-put-clause-ok : goal.returns-in-Ok-put-clause-ok
+returns-in-Ok-put-clause-ok c = rw (← c.self.view_is) c.in-Ok.ensures.ok

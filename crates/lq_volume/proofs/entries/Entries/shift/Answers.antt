@@ -2,6 +2,7 @@ use Rattle.std.proofs.Common.{sym, subst, None, ◌∙◌}
 use Rattle.std.specs.Prelude.{IsSome, Option}
 use Rattle.lq_volume.specs.State.{Record}
 use Rattle.lq_volume.specs.Places.{CanMove}
+use Rattle.lq_volume.proofs.IndexLemmas.{index-same}
 use Rattle.lq_volume.proofs.IndexMoves.{index-moved, index-stays}
 use Rattle.lq_volume.proofs.entries.Entries.shift.Goals as goal
 use Rattle.lq_volume.proofs.entries.Entries.shift.Goals.{in-Some+then-not-is_at+in_ok-put, in-Some+else-not-is_at, in_default}
@@ -44,3 +45,6 @@ invariant_of-self-2 c =
           subst (λ (o : Option Record). IsSome o) (sym w.in_default.ensures.record) moves.there in
           cc
     ]
+
+pub invariant_of-self : goal.invariant_of-self
+invariant_of-self c = index-same _ _ _ c.in_err-put.ensures.err c.self.invariant
