@@ -1,10 +1,11 @@
--- Read in this order. Records by rising node: RecordLemmas. Lists in order, and the records of a
--- map in order: OrderLemmas, ByNode; what a walk over a map finds: Finds. Walks up, and what keeps
--- the tree: Climbs, Tree. What each accepted change keeps: Changes, Keeps, Touches; that the numbers
--- fit: Fits; why a move is refused: Rows. The places of the records: PlaceLemmas. The index of
--- places, with a record more, less or altered: IndexLemmas; after a move: IndexMoves; the steps of a
--- put: Puts; and the folders that have names: IndexFolders. Attributes in a list, and under numbers:
--- AttributeLemmas, NumberedLemmas.
+-- Read in this order. What is none: Options. Records by rising node: RecordLemmas. Lists in order,
+-- and the records of a map in order: OrderLemmas, ByNode; what a walk over a map finds: Finds.
+-- Walks up, and what keeps the tree: Climbs, Tree. What each accepted change keeps: Changes, Keeps,
+-- Touches; that the numbers fit: Fits; why a move is refused: Rows. The places of the records:
+-- PlaceLemmas. The index of places, with a record more, less or altered: IndexLemmas; after a move:
+-- IndexMoves; the steps of a put: Puts; and the folders that have names: IndexFolders. Attributes
+-- in a list, and under numbers: AttributeLemmas, NumberedLemmas.
+pub mod Options
 pub mod OrderLemmas
 pub mod RecordLemmas
 pub mod ByNode

@@ -1,15 +1,11 @@
-use Rattle.std.proofs.Common.{◌≡◌, subst, sym, Some, None}
+use Rattle.std.proofs.Common.{◌≡◌, sym, Some, None}
 use Rattle.std.specs.BTreeMap.{get_by_text}
 use Rattle.std.specs.Map.{values_of}
-use Rattle.std.specs.Prelude.{IsSome, Option}
-use Rattle.lq_value.specs.declared.value.Value.{Value}
+use Rattle.std.specs.Prelude.{IsSome}
 use Rattle.lq_volume.specs.Attributes.{value_of}
 use Rattle.lq_volume.proofs.NumberedLemmas.{at-none, at-number, found-number, value_of-none, with_attr-number, AreNumbered-set}
+use Rattle.lq_volume.proofs.Options.{not-there}
 use Rattle.lq_volume.proofs.many.Many.replace.Goals as goal
-
--- no value is none
-not-there : IsSome {T = Value} None → ⊥
-not-there h = cc
 
 pub write_at-requires : goal.write_at-requires
 write_at-requires c =
@@ -46,4 +42,4 @@ returns-in_default c =
     let there : IsSome (value_of (values_of es) c.args.attr) = rw c.self.view_is c.requires in
     let gone : value_of (values_of es) c.args.attr ≡ None =
     value_of-none es _ (at-none es _ _ none (c.self.invariant.named c.args.attr)) in
-    absurd (not-there (subst (λ (o : Option Value). IsSome o) gone there))
+    absurd (not-there _ gone there)
