@@ -15,8 +15,8 @@ ghost use Rattle.lq_stack.specs.Stack.{compared, compared_if, star_if, starred};
 use crate::fitting::{fits_pattern, fits_plain, fits_starred};
 use crate::operand::Operand;
 use crate::stack_op::StackOp;
-use lq_predicate::Predicate;
 use lq_pattern::{Element, Literal, Op, Pattern};
+use lq_predicate::Predicate;
 use lq_value::{AttrName, Refusal, Text};
 use std::alloc::Global;
 

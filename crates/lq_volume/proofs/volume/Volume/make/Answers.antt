@@ -120,11 +120,11 @@ returns-clause-ok c =
             ← c.self.view_is,
             to_z-of_z fits,
           )
-              (refl {a = after s (Create w.in-Create.dir w.in-Create.name w.in-Create.kind
-              w.in-Create.size w.in-Create.time)})
+          (refl {a = after s (Create w.in-Create.dir w.in-Create.name w.in-Create.kind
+          w.in-Create.size w.in-Create.time)})
       | in-Remove w ↦
           rw (w.self-inside-is, w.remove.ensures, w.in-Remove.is, ← c.self.view_is)
-              (refl {a = after s (Remove w.in-Remove.node)})
+          (refl {a = after s (Remove w.in-Remove.node)})
       | in-Move+in_ok-shift-in-Move w ↦ rw (
         w.self-inside-is,
         w.in_ok-shift-in-Move.ensures.ok,
@@ -151,5 +151,5 @@ returns-clause-ok c =
           (refl {a = after s (SetAttr w.in-SetAttr.node w.in-SetAttr.attr w.in-SetAttr.value)})
       | in-RemoveAttr w ↦
           rw (w.self-inside-is, w.remove_attr.ensures, w.in-RemoveAttr.is, ← c.self.view_is)
-              (refl {a = after s (RemoveAttr w.in-RemoveAttr.node w.in-RemoveAttr.attr)})
+          (refl {a = after s (RemoveAttr w.in-RemoveAttr.node w.in-RemoveAttr.attr)})
     ]
