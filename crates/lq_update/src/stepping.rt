@@ -143,6 +143,7 @@ fn tell_difference<'s, 'a>(
 
 // What is told where these are told of the change's own node, and with them what is told of the
 // node that it takes away, if there is one.
+#[inline(always)]
 fn tell_joined(
     alloc: Global,
     predicate: &Predicate,
@@ -190,6 +191,7 @@ fn tell_joined(
 }
 
 // The entry of the node that a change takes away, where it matched.
+#[inline(always)]
 fn gone_of(
     alloc: Global,
     predicate: &Predicate,
@@ -206,6 +208,7 @@ fn gone_of(
 }
 
 // Whether a change takes away a node below this one.
+#[inline(always)]
 fn is_below(taken: Option<(u64, &Seen<'_>)>, node: u64) -> bool
     ensures { result ≡ option_map_or (λ e. nat_lt e.0 node) taken.entry false }
 {
@@ -217,6 +220,7 @@ fn is_below(taken: Option<(u64, &Seen<'_>)>, node: u64) -> bool
 
 // The messages of the entry that left at the change's own node and of the one of the node that it
 // takes away, by rising node, and of one that came or moved.
+#[inline(always)]
 fn tell_by_node(
     alloc: Global,
     removed: Option<Entry>,
@@ -383,6 +387,7 @@ fn tell(
 
 // Behind these the message of the entry that left, if one did, and of the one that came or moved,
 // if one did: the last ones of their change.
+#[inline(always)]
 fn put_rest(
     mut messages: Vec<Message>,
     entry: Option<Entry>,
@@ -407,6 +412,7 @@ fn put_rest(
 }
 
 // Behind these the message of an entry that came or moved, if one did: the last one of its change.
+#[inline(always)]
 fn put_last(
     mut messages: Vec<Message>,
     last: Option<(Opcode, Entry)>,
