@@ -6,7 +6,9 @@ ghost use Rattle.lq_value.specs.Number.{digits_number, number_of};
 /// The most digits that a number has.
 const MAX_DIGITS: usize = 20;
 
-/// The number that the bytes write, if they write one.
+/// The whole number that the bytes write: an optional `-` and 1 to 20 decimal digits.
+///
+/// `None` where they write none. It takes no memory. The form is this project's own.
 pub fn number_of_bytes(bytes: &[u8]) -> Option<i128>
     ensures { result ≡ number_of bytes.now }
 {
