@@ -1,7 +1,7 @@
 //! The program `lq`: its words at the standard streams.
 #![tactic(auto)]
 
-use lq_threads::{Host, Sink, program};
+use lq_script::{Host, Sink, program};
 use std::alloc::{AllocError, Global};
 use std::process::ExitCode;
 use std::{env, io};

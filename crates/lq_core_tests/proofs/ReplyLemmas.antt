@@ -13,10 +13,10 @@ use Rattle.lq_update.specs.declared.message.Message.{Message}
 use Rattle.lq_update.specs.declared.message.Opcode.{Opcode}
 use Rattle.lq_update.specs.declared.message.Opcode.TheVariants.{Created, Removed, Moved}
 use Rattle.lq_update.specs.declared.parcel.Parcel.TheVariants.{Update, Fin}
-use Rattle.lq_world.specs.Events as world
-use Rattle.lq_world.specs.Events.{Answer, Changed, Opened, Read, Empty, Ended, Asked, Noticed, Shut, Finished, Refused}
-use Rattle.lq_reply.specs.Reply.{answer_data, attr_data, data_by, entry_data, fault_data, place_of, response_data, value_data}
-use Rattle.lq_reply.specs.Response.{Response, Answers, Refuses, Found, Listed, Fetched, Rebuilt}
+use Rattle.lq_desk_world.specs.Events as world
+use Rattle.lq_desk_world.specs.Events.{Answer, Changed, Opened, Read, Empty, Ended, Asked, Noticed, Shut, Finished, Refused}
+use Rattle.lq_script_reply.specs.Reply.{answer_data, attr_data, data_by, entry_data, fault_data, place_of, response_data, value_data}
+use Rattle.lq_script_reply.specs.Response.{Response, Answers, Refuses, Found, Listed, Fetched, Rebuilt}
 
 -- a whole number has no float
 integer-no_float : (n : ℤ) → has_float (number (of_integer n)) ≡ false

@@ -1,4 +1,4 @@
-//! Tests of lq_sub, lq_reply, lq_board and lq_port, a module each, and the plain way to a reply
+//! Tests of lq_desk_sub, lq_script_reply, lq_board and lq_port, a module each, and the plain way to a reply
 //! (`plain`) beside that by pieces.
 #![tactic(auto)]
 

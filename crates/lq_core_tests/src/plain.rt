@@ -6,12 +6,12 @@ ghost use Rattle.serde_json.specs.Data.{array, object, no_members, put as with_m
 ghost use Rattle.lq_value.specs.Refusal.{IsRefusedBy};
 ghost use Rattle.lq_desk.specs.Reply.{answer_of, answer_of_read};
 ghost use Rattle.lq_volume.specs.Lookup.{listed};
-ghost use Rattle.lq_reply.specs.Answer.{response_of};
-ghost use Rattle.lq_lines.specs.Lines.{Begins};
-ghost use Rattle.lq_reply.specs.Reply.{answer_data, attr_data, count, entry_data, listing_data, message_data, place_of, refusal_data, reply_text, response_data, type_name, value_data, word};
+ghost use Rattle.lq_script_reply.specs.Answer.{response_of};
+ghost use Rattle.lq_script_lines.specs.Lines.{Begins};
+ghost use Rattle.lq_script_reply.specs.Reply.{answer_data, attr_data, count, entry_data, listing_data, message_data, place_of, refusal_data, reply_text, response_data, type_name, value_data, word};
 
 use lq_desk::{Read, Reply};
-use lq_reply::Response;
+use lq_script_reply::Response;
 use lq_update::{Cause, Message, Opcode};
 use lq_value::{AttrName, Entry, Kind, Refusal};
 use lq_volume::Listing;

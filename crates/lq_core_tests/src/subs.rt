@@ -1,7 +1,7 @@
 //! A subscription is told a change that is checked, not planned: so one does with a volume alone.
 use crate::boards::lawful_file;
+use lq_desk_sub::Sub;
 use lq_predicate::read;
-use lq_sub::Sub;
 use lq_value::Refusal;
 use lq_volume::Volume;
 use std::alloc::Global;

@@ -6,20 +6,20 @@ use Rattle.std.specs.List.{AllByRecursion}
 use Rattle.std.proofs.lemmas.Bool.Decides.{nat_tests}
 use Rattle.std.proofs.lemmas.List.{length-map, length-set, map-set}
 use Rattle.lq_value.specs.declared.refusal.Refusal.{Refusal}
-use Rattle.lq_formula.specs.Query.{Query}
+use Rattle.lq_predicate_formula.specs.Query.{Query}
 use Rattle.lq_volume.specs.declared.change.Change.{Change as Change_}
 use Rattle.lq_volume.specs.State.{State, IsVolume}
 use Rattle.lq_volume.specs.Change.{IsLawful}
 use Rattle.lq_volume.specs.Book.{Book}
 use Rattle.lq_volume.specs.Laws.{ChangesCount}
 use Rattle.lq_update.specs.Laws.{StepsAreFew}
-use Rattle.lq_world.specs.World.{first_world}
-use Rattle.lq_world.specs.declared.event.Event.{Event}
-use Rattle.lq_world.specs.declared.event.Event.TheVariants.{Change, Open, At}
-use Rattle.lq_world.specs.Events.{Answer, next, outcome}
-use Rattle.lq_world.specs.Turns.{after_all}
-use Rattle.lq_world.specs.Laws.{FirstWorldsAreFair}
-use Rattle.lq_world.specs.declared.event.Act.{Act}
+use Rattle.lq_desk_world.specs.World.{first_world}
+use Rattle.lq_desk_world.specs.declared.event.Event.{Event}
+use Rattle.lq_desk_world.specs.declared.event.Event.TheVariants.{Change, Open, At}
+use Rattle.lq_desk_world.specs.Events.{Answer, next, outcome}
+use Rattle.lq_desk_world.specs.Turns.{after_all}
+use Rattle.lq_desk_world.specs.Laws.{FirstWorldsAreFair}
+use Rattle.lq_desk_world.specs.declared.event.Act.{Act}
 use Rattle.lq_desk.specs.Slot.{KeptSlot, PreparedSlot, slot_of, fresh_slot}
 use Rattle.lq_desk.specs.Act.{outcome_in}
 use Rattle.lq_desk.specs.Kept.{Kept, IsDesk, IsFew, Shows, first_free, opening_refusal, opened, open_if, changed, change_if, kept_outcome, slot_for}

@@ -6,8 +6,8 @@ use Rattle.std.specs.List.{AllByRecursion}
 use Rattle.std.proofs.lemmas.List.{length-map, length-set, map-append}
 use Rattle.std.proofs.lemmas.Option.{slice_get-map}
 use Rattle.lq_value.specs.declared.refusal.Refusal.TheVariants.{NotOpen}
-use Rattle.lq_world.specs.Events.{Answer, Refused}
-use Rattle.lq_world.specs.declared.event.Act.{Act}
+use Rattle.lq_desk_world.specs.Events.{Answer, Refused}
+use Rattle.lq_desk_world.specs.declared.event.Act.{Act}
 use Rattle.lq_desk.specs.Act.{outcome_at, outcome_in}
 use Rattle.lq_desk.specs.Slot.{KeptSlot, PreparedSlot, slot_of, done_at, has_ready, with_free}
 use Rattle.lq_desk.specs.Words.{IsMarked}

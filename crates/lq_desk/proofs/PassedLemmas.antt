@@ -6,12 +6,12 @@ use Rattle.std.proofs.lemmas.Bool.{ltb-false, ltb-true}
 use Rattle.std.proofs.lemmas.List.{drop_all}
 use Rattle.lq_value.specs.declared.refusal.Refusal.{Refusal}
 use Rattle.lq_update.specs.declared.parcel.Parcel.TheVariants.{Update, Fin}
-use Rattle.lq_world.specs.World.{World, Subscribed, End, updates_due, whole, in_port, waiting, to_come, mark_behind}
-use Rattle.lq_world.specs.declared.event.Event.{Event}
-use Rattle.lq_world.specs.Events.{Answer, Refused}
-use Rattle.lq_world.specs.Runs.{Step}
-use Rattle.lq_world.specs.Fair.{IsFair, IsFairSlot}
-use Rattle.lq_world.specs.Laws.{ListsArePassedOn, RefusalsLeaveWorlds}
+use Rattle.lq_desk_world.specs.World.{World, Subscribed, End, updates_due, whole, in_port, waiting, to_come, mark_behind}
+use Rattle.lq_desk_world.specs.declared.event.Event.{Event}
+use Rattle.lq_desk_world.specs.Events.{Answer, Refused}
+use Rattle.lq_desk_world.specs.Runs.{Step}
+use Rattle.lq_desk_world.specs.Fair.{IsFair, IsFairSlot}
+use Rattle.lq_desk_world.specs.Laws.{ListsArePassedOn, RefusalsLeaveWorlds}
 use Rattle.lq_desk.specs.Kept.{Kept, Shows, mark_of, held_for, slot_for, kept_at, kept_of}
 use Rattle.lq_desk.specs.Reply.{Moves}
 use Rattle.lq_desk.specs.Laws.{KeptPassesListsOn, mark_left}

@@ -4,8 +4,8 @@ use Rattle.std.specs.Prelude.{◌&&◌, nat_lt, is_some, unwrap_or}
 use Rattle.std.proofs.lemmas.Bool.{and_parts, ltb-true}
 use Rattle.lq_update.specs.declared.parcel.Parcel.{Parcel}
 use Rattle.lq_update.specs.declared.parcel.Parcel.TheVariants.{Update, Fin}
-use Rattle.lq_world.specs.Events.{Answer, Moved}
-use Rattle.lq_sub.specs.Held.{next_parcel}
+use Rattle.lq_desk_world.specs.Events.{Answer, Moved}
+use Rattle.lq_desk_sub.specs.Held.{next_parcel}
 use Rattle.lq_desk.specs.Slot.{KeptSlot, put_if, put_slot, after_put, after_puts, can_move, filled, is_ending}
 
 -- a put leaves the slot taken

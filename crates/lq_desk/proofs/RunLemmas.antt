@@ -1,9 +1,9 @@
 -- A run of a desk goes on by one event.
 use Rattle.std.proofs.Common.{◌≡◌, List, [], ◌∷◌, ◌++◌, refl, ap, subst, map}
-use Rattle.lq_world.specs.World.{World}
-use Rattle.lq_world.specs.declared.event.Event.{Event}
-use Rattle.lq_world.specs.Events.{Answer}
-use Rattle.lq_world.specs.Runs.{Step, Run}
+use Rattle.lq_desk_world.specs.World.{World}
+use Rattle.lq_desk_world.specs.declared.event.Event.{Event}
+use Rattle.lq_desk_world.specs.Events.{Answer}
+use Rattle.lq_desk_world.specs.Runs.{Step, Run}
 use Rattle.lq_desk.specs.Kept.{Kept}
 use Rattle.lq_desk.specs.Reply.{Moves, Runs}
 

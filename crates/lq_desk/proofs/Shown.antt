@@ -9,7 +9,7 @@ use Rattle.lq_value.specs.declared.entry.Entry.{Entry}
 use Rattle.lq_value.specs.declared.refusal.Refusal.{Refusal}
 use Rattle.lq_value.specs.declared.refusal.Refusal.TheVariants.{BadPort, BadBacklog, NoSlot, Exhausted}
 use Rattle.lq_value.specs.Refusal.{first_refusal}
-use Rattle.lq_formula.specs.Query.{Query}
+use Rattle.lq_predicate_formula.specs.Query.{Query}
 use Rattle.lq_volume.specs.declared.change.Change.{Change as Change_}
 use Rattle.lq_volume.specs.Change.{refused as refused_by, node_of, after}
 use Rattle.lq_volume.specs.Result.{result_of}
@@ -17,14 +17,14 @@ use Rattle.lq_volume.specs.Laws.{ChangesCount}
 use Rattle.lq_volume.specs.Book.{Book, grown, number_of, state_of, state_at}
 use Rattle.lq_update.specs.Updates.{updates_of, updates_from}
 use Rattle.lq_update.specs.Laws.{UpdatesJoin}
-use Rattle.lq_world.specs.World.{World, Subscribed, updates_due, slot_at, after_change, taken_before_free}
-use Rattle.lq_world.specs.declared.event.Event.{Event}
-use Rattle.lq_world.specs.declared.event.Event.TheVariants.{Change, Open, At}
-use Rattle.lq_world.specs.declared.event.Act.TheVariants as act
-use Rattle.lq_world.specs.Events.{Answer, Changed, Opened, changing, with_change, opening, opened_now, open_refusal, putting, reading, hanging_up, noticing, closing, finishing, at_slot, answer, next}
-use Rattle.lq_world.specs.Runs.{MayRunOut}
-use Rattle.lq_world.specs.Fair.{IsFair, IsFairSlot, IsFairWorld}
-use Rattle.lq_world.specs.Laws.{RunsKeepWorldsFair}
+use Rattle.lq_desk_world.specs.World.{World, Subscribed, updates_due, slot_at, after_change, taken_before_free}
+use Rattle.lq_desk_world.specs.declared.event.Event.{Event}
+use Rattle.lq_desk_world.specs.declared.event.Event.TheVariants.{Change, Open, At}
+use Rattle.lq_desk_world.specs.declared.event.Act.TheVariants as act
+use Rattle.lq_desk_world.specs.Events.{Answer, Changed, Opened, changing, with_change, opening, opened_now, open_refusal, putting, reading, hanging_up, noticing, closing, finishing, at_slot, answer, next}
+use Rattle.lq_desk_world.specs.Runs.{MayRunOut}
+use Rattle.lq_desk_world.specs.Fair.{IsFair, IsFairSlot, IsFairWorld}
+use Rattle.lq_desk_world.specs.Laws.{RunsKeepWorldsFair}
 use Rattle.lq_desk.specs.Slot.{KeptSlot, fresh_slot, slot_after, put_slot, read_slot, ask_slot, notice_slot, close_slot, finish_slot}
 use Rattle.lq_desk.specs.Kept.{Kept, Shows, KeptMayRunOut, KeptStep, kept_of, slot_for, kept_at, at_place, at_kept, first_free, opening_refusal, opened, open_if, changed, change_if, kept_outcome}
 use Rattle.lq_desk.specs.Reply.{Moves}

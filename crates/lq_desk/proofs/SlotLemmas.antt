@@ -15,11 +15,11 @@ use Rattle.lq_update.specs.declared.parcel.Parcel.{Parcel}
 use Rattle.lq_update.specs.declared.parcel.Parcel.TheVariants.{Update, Fin}
 use Rattle.lq_update.specs.Updates.{updates_of, step_of}
 use Rattle.lq_update.specs.Laws.{UpdatesJoin}
-use Rattle.lq_world.specs.World.{Subscribed, End, covered_by, covered, updates_due, mark_behind, whole, is_live, is_over, with_end, one_more_put, first_in_port, overruns, overrun_if, after_change}
-use Rattle.lq_world.specs.Events.{Moved, Read, Ended, Empty, Noticed, Shut, putting_if, putting, reading_if, reading, hanging_up, noticing_if, noticing, closing_if, closing, finishing_if, finishing}
-use Rattle.lq_world.specs.Fair.{IsFair}
-use Rattle.lq_sub.specs.Held.{Held, next_of, without, ended_by, after_messages_by, with_messages, next_parcel}
-use Rattle.lq_sub.specs.Held as h
+use Rattle.lq_desk_world.specs.World.{Subscribed, End, covered_by, covered, updates_due, mark_behind, whole, is_live, is_over, with_end, one_more_put, first_in_port, overruns, overrun_if, after_change}
+use Rattle.lq_desk_world.specs.Events.{Moved, Read, Ended, Empty, Noticed, Shut, putting_if, putting, reading_if, reading, hanging_up, noticing_if, noticing, closing_if, closing, finishing_if, finishing}
+use Rattle.lq_desk_world.specs.Fair.{IsFair}
+use Rattle.lq_desk_sub.specs.Held.{Held, next_of, without, ended_by, after_messages_by, with_messages, next_parcel}
+use Rattle.lq_desk_sub.specs.Held as h
 use Rattle.lq_desk.specs.Slot.{KeptSlot, slot_after, put_if, put_slot, is_read, read_if, read_slot, ask_slot, notice_if, notice_slot, close_if, close_slot, finish_if, finish_slot}
 use Rattle.lq_desk.specs.Kept.{mark_of, held_for, slot_for}
 use Rattle.lq_desk.proofs.ListLemmas.{take-one_more, get-between, lt-get, above-zero, lt-suc}

@@ -16,12 +16,12 @@ use Rattle.lq_update.specs.declared.parcel.Parcel.{Parcel}
 use Rattle.lq_update.specs.declared.parcel.Parcel.TheVariants.{Update, Fin}
 use Rattle.lq_update.specs.Updates.{step_of}
 use Rattle.lq_update.specs.Laws.{StepsAreFew}
-use Rattle.lq_world.specs.Events.{Answer, Refused}
+use Rattle.lq_desk_world.specs.Events.{Answer, Refused}
 use Rattle.lq_value.specs.declared.refusal.Refusal.TheVariants.{NotOpen}
-use Rattle.lq_world.specs.declared.event.Event.TheVariants.{At}
-use Rattle.lq_world.specs.declared.event.Act.{Act}
-use Rattle.lq_world.specs.declared.event.Act.TheVariants as act
-use Rattle.lq_sub.specs.Held.{Held, is_live, held_after, committed, ended_by, after_messages, after_messages_by, overruns}
+use Rattle.lq_desk_world.specs.declared.event.Event.TheVariants.{At}
+use Rattle.lq_desk_world.specs.declared.event.Act.{Act}
+use Rattle.lq_desk_world.specs.declared.event.Act.TheVariants as act
+use Rattle.lq_desk_sub.specs.Held.{Held, is_live, held_after, committed, ended_by, after_messages, after_messages_by, overruns}
 use Rattle.lq_desk.specs.Slot.{KeptSlot, PreparedSlot, slot_of, prepared_slot, committed_slot, slot_after, put_if, read_if, notice_if, close_if, finish_if, done_at, filled, has_ready, is_ending, noticed}
 use Rattle.lq_desk.specs.Act.{act_of, outcome_at, outcome_in}
 use Rattle.lq_desk.specs.Kept.{Kept, IsFew, kept_at, at_place, kept_outcome}

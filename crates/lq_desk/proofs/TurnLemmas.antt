@@ -10,15 +10,15 @@ use Rattle.lq_volume.specs.declared.change.Change.{Change as Change_}
 use Rattle.lq_volume.specs.State.{State}
 use Rattle.lq_volume.specs.Book.{Book}
 use Rattle.lq_volume.specs.Change.{refused}
-use Rattle.lq_world.specs.World.{World, Subscribed}
-use Rattle.lq_world.specs.declared.event.Event.{Event}
-use Rattle.lq_world.specs.declared.event.Event.TheVariants.{Change, Open, At}
-use Rattle.lq_world.specs.declared.event.Act.{Act}
-use Rattle.lq_world.specs.declared.event.Act.TheVariants as act
-use Rattle.lq_world.specs.Events.{Answer, outcome, next}
-use Rattle.lq_world.specs.Turns.{Turn, turn_of, ports_of, places_at, places_in, at_slot_of, at_each, one_notice, puts, notices, all_puts, after_all, carried_out}
+use Rattle.lq_desk_world.specs.World.{World, Subscribed}
+use Rattle.lq_desk_world.specs.declared.event.Event.{Event}
+use Rattle.lq_desk_world.specs.declared.event.Event.TheVariants.{Change, Open, At}
+use Rattle.lq_desk_world.specs.declared.event.Act.{Act}
+use Rattle.lq_desk_world.specs.declared.event.Act.TheVariants as act
+use Rattle.lq_desk_world.specs.Events.{Answer, outcome, next}
+use Rattle.lq_desk_world.specs.Turns.{Turn, turn_of, ports_of, places_at, places_in, at_slot_of, at_each, one_notice, puts, notices, all_puts, after_all, carried_out}
 use Rattle.lq_update.specs.declared.mark.Cause.TheVariants.{HungUp}
-use Rattle.lq_sub.specs.Held.{is_live, held_after, ended_by}
+use Rattle.lq_desk_sub.specs.Held.{is_live, held_after, ended_by}
 use Rattle.lq_desk.specs.Slot.{KeptSlot, put_slot, notice_if, notice_slot, close_if, close_slot, slot_after, after_put, after_puts, done_at, filled, noticed}
 use Rattle.lq_desk.specs.Kept.{Kept, KeptStep, Shows, slot_for, kept_at, at_place, at_kept, kept_outcome, change_if}
 use Rattle.lq_desk.specs.Reply.{Moves, Runs}

@@ -2,9 +2,9 @@
 use Rattle.std.specs.Prelude.{ℕ, List, Option, Some, None, slice_get, slice_set}
 use Rattle.std.specs.Option.{option_flatten}
 use Rattle.lq_value.specs.declared.refusal.Refusal.TheVariants.{NotOpen}
-use Rattle.lq_world.specs.declared.event.Act.{Act}
-use Rattle.lq_world.specs.declared.event.Act.TheVariants as act
-use Rattle.lq_world.specs.Events.{Answer, Refused}
+use Rattle.lq_desk_world.specs.declared.event.Act.{Act}
+use Rattle.lq_desk_world.specs.declared.event.Act.TheVariants as act
+use Rattle.lq_desk_world.specs.Events.{Answer, Refused}
 use Rattle.lq_desk.specs.Slot.{KeptSlot, put_slot, read_slot, ask_slot, notice_slot, close_slot, finish_slot}
 
 -- what an act does at a taken slot, and its answer

@@ -11,12 +11,12 @@ use Rattle.lq_volume.specs.Change.{after, refused, node_of}
 use Rattle.lq_volume.specs.Result.{result_of}
 use Rattle.lq_volume.specs.Book.{Book, state_of}
 use Rattle.lq_update.specs.declared.mark.Mark.{Mark}
-use Rattle.lq_world.specs.World.{World, Subscribed, End, updates_due, waiting, in_port}
-use Rattle.lq_world.specs.declared.event.Event.{Event}
-use Rattle.lq_world.specs.declared.event.Event.TheVariants.{Change, Open, At}
-use Rattle.lq_world.specs.Events.{Answer, Changed, Opened, Refused, opening_refusals}
-use Rattle.lq_world.specs.Fair.{IsFairWorld}
-use Rattle.lq_sub.specs.Held.{Held}
+use Rattle.lq_desk_world.specs.World.{World, Subscribed, End, updates_due, waiting, in_port}
+use Rattle.lq_desk_world.specs.declared.event.Event.{Event}
+use Rattle.lq_desk_world.specs.declared.event.Event.TheVariants.{Change, Open, At}
+use Rattle.lq_desk_world.specs.Events.{Answer, Changed, Opened, Refused, opening_refusals}
+use Rattle.lq_desk_world.specs.Fair.{IsFairWorld}
+use Rattle.lq_desk_sub.specs.Held.{Held}
 use Rattle.lq_desk.specs.Slot.{KeptSlot, fresh_slot, slot_after}
 use Rattle.lq_desk.specs.Act.{act_of}
 

@@ -3,11 +3,11 @@ use Rattle.std.specs.Prelude.{◌≡◌, ℕ, List, [], ◌++◌, map, take, Som
 use Rattle.std.specs.Option.{option_to_list}
 use Rattle.lq_update.specs.declared.parcel.Parcel.{Parcel}
 use Rattle.lq_update.specs.declared.parcel.Parcel.TheVariants.{Update, Fin}
-use Rattle.lq_world.specs.World.{World, Subscribed, whole, slot_at}
-use Rattle.lq_world.specs.declared.event.Event.{Event}
-use Rattle.lq_world.specs.Events.{answer, next}
-use Rattle.lq_world.specs.Turns.{turn_outcome}
-use Rattle.lq_sub.specs.Held.{Held}
+use Rattle.lq_desk_world.specs.World.{World, Subscribed, whole, slot_at}
+use Rattle.lq_desk_world.specs.declared.event.Event.{Event}
+use Rattle.lq_desk_world.specs.Events.{answer, next}
+use Rattle.lq_desk_world.specs.Turns.{turn_outcome}
+use Rattle.lq_desk_sub.specs.Held.{Held}
 use Rattle.lq_desk.specs.Slot.{KeptSlot}
 use Rattle.lq_desk.specs.Kept.{Kept, Shows, kept_at, kept_outcome}
 use Rattle.lq_desk.specs.Turn.{kept_turn_outcome}

@@ -1,14 +1,14 @@
 -- The code's replies, as the world's answers.
 use Rattle.std.specs.Prelude.{List}
 use Rattle.lq_update.specs.declared.parcel.Parcel.TheVariants.{Update, Fin}
-use Rattle.lq_sub.specs.declared.read.Read.{Read as Read_}
-use Rattle.lq_sub.specs.declared.read.Read.TheVariants as read
+use Rattle.lq_desk_sub.specs.declared.read.Read.{Read as Read_}
+use Rattle.lq_desk_sub.specs.declared.read.Read.TheVariants as read
 use Rattle.lq_desk.specs.declared.reply.Reply.{Reply}
 use Rattle.lq_desk.specs.declared.reply.Reply.TheVariants as reply
-use Rattle.lq_world.specs.World.{World}
-use Rattle.lq_world.specs.declared.event.Event.{Event}
-use Rattle.lq_world.specs.Events.{Answer, Changed, Opened, Moved, Read, Empty, Ended, Asked, Noticed, Shut, Finished, Refused}
-use Rattle.lq_world.specs.Runs.{Step, Run}
+use Rattle.lq_desk_world.specs.World.{World}
+use Rattle.lq_desk_world.specs.declared.event.Event.{Event}
+use Rattle.lq_desk_world.specs.Events.{Answer, Changed, Opened, Moved, Read, Empty, Ended, Asked, Noticed, Shut, Finished, Refused}
+use Rattle.lq_desk_world.specs.Runs.{Step, Run}
 use Rattle.lq_desk.specs.Kept.{Kept, Shows}
 
 -- the world's answer to a read

@@ -2,13 +2,13 @@
 use Rattle.std.specs.Prelude.{ℕ, zero, suc, ◌-◌, List, [], ◌∷◌, ◌++◌, length, drop, replicate, Bool, true, false, ◌&&◌, ◌==◌, nat_lt, Option, Some, None, is_some, unwrap_or, slice_get, slice_set, if◌then◌else◌}
 use Rattle.std.specs.Option.{option_map, option_flatten}
 use Rattle.lq_value.specs.declared.refusal.Refusal.TheVariants.{NotOpen, StillOpen}
-use Rattle.lq_formula.specs.Query.{Query}
+use Rattle.lq_predicate_formula.specs.Query.{Query}
 use Rattle.lq_volume.specs.declared.change.Change.{Change}
 use Rattle.lq_volume.specs.State.{State}
 use Rattle.lq_update.specs.declared.parcel.Parcel.{Parcel}
 use Rattle.lq_update.specs.declared.mark.Cause.TheVariants.{Closed, HungUp}
-use Rattle.lq_world.specs.Events.{Answer, Moved, Read, Empty, Ended, Asked, Noticed, Shut, Finished, Refused}
-use Rattle.lq_sub.specs.Held.{Held, Prepared, opened_with, is_live, held_after, prepared, committed, ended_by, next_parcel, without}
+use Rattle.lq_desk_world.specs.Events.{Answer, Moved, Read, Empty, Ended, Asked, Noticed, Shut, Finished, Refused}
+use Rattle.lq_desk_sub.specs.Held.{Held, Prepared, opened_with, is_live, held_after, prepared, committed, ended_by, next_parcel, without}
 
 -- the subscription, how many places its port has, the parcels in it, and whether its end was asked
 -- for

@@ -1,10 +1,10 @@
 -- What a desk does in one turn: an event, and what it does about it of itself.
 use Rattle.std.specs.Prelude.{◌≡◌, ◌++◌, ◌∷◌, ℕ, List, length, map, Option}
 use Rattle.std.specs.Option.{option_map}
-use Rattle.lq_world.specs.World.{World}
-use Rattle.lq_world.specs.declared.event.Event.{Event}
-use Rattle.lq_world.specs.Events.{Answer}
-use Rattle.lq_world.specs.Turns.{Turn, turn_of, events_in, after_all, carried_out}
+use Rattle.lq_desk_world.specs.World.{World}
+use Rattle.lq_desk_world.specs.declared.event.Event.{Event}
+use Rattle.lq_desk_world.specs.Events.{Answer}
+use Rattle.lq_desk_world.specs.Turns.{Turn, turn_of, events_in, after_all, carried_out}
 use Rattle.lq_desk.specs.Slot.{KeptSlot}
 use Rattle.lq_desk.specs.Kept.{Kept, KeptStep, kept_outcome}
 use Rattle.lq_desk.specs.Reply.{Runs}

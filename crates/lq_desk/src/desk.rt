@@ -9,15 +9,15 @@ mod turn;
 use crate::reply::Reply;
 use crate::slot::Slot;
 use crate::slots::{SLOTS, Slots};
-use lq_predicate::Predicate;
-use lq_sub::MAX_BACKLOG;
-use lq_update::{steps_are_few, updates_join};
-use lq_value::Refusal;
-use lq_volume::{Applied, Change, Volume, changes_are_counted};
-use lq_world::{
+use lq_desk_sub::MAX_BACKLOG;
+use lq_desk_world::{
     Act, Event, first_worlds_are_fair, readers_are_told, refusals_leave_worlds,
     runs_keep_worlds_fair,
 };
+use lq_predicate::Predicate;
+use lq_update::{steps_are_few, updates_join};
+use lq_value::Refusal;
+use lq_volume::{Applied, Change, Volume, changes_are_counted};
 use std::alloc::Global;
 use std::marker::Model;
 
@@ -73,11 +73,11 @@ impl Model for Desk {
 
 impl Desk {
     ghost use Rattle.lq_volume.specs.Result.{result_of};
-    ghost use Rattle.lq_world.specs.World.{World, first_world};
-    ghost use Rattle.lq_world.specs.declared.event.Event.TheVariants.{At};
-    ghost use Rattle.lq_world.specs.Events.{Opened, Refused};
+    ghost use Rattle.lq_desk_world.specs.World.{World, first_world};
+    ghost use Rattle.lq_desk_world.specs.declared.event.Event.TheVariants.{At};
+    ghost use Rattle.lq_desk_world.specs.Events.{Opened, Refused};
     ghost use Rattle.lq_value.specs.declared.refusal.Refusal.{Refusal};
-    ghost use Rattle.lq_world.specs.Headline.{ReadersAreTold};
+    ghost use Rattle.lq_desk_world.specs.Headline.{ReadersAreTold};
     ghost use Rattle.lq_desk.specs.Slot.{fresh_slot};
     ghost use Rattle.lq_desk.specs.Kept.{Kept, KeptStep, Shows, changed, opened, opening_refusal, kept_outcome};
     ghost use Rattle.lq_desk.specs.Kept as kept;

@@ -1,9 +1,9 @@
 //! Laws of desks: each is the contract of a function that does nothing.
 ghost use Rattle.lq_desk.specs.Laws.{KeptPassesListsOn, KeptShowsWorlds, KeptTurnsShowWorlds};
 
+use lq_desk_world::{lists_are_passed_on, runs_keep_worlds_fair};
 use lq_update::updates_join;
 use lq_volume::changes_are_counted;
-use lq_world::{lists_are_passed_on, runs_keep_worlds_fair};
 
 /// What a desk keeps answers each event as any world that it shows, and goes on showing it.
 pub fn kept_shows_worlds()

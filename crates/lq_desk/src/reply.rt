@@ -1,5 +1,5 @@
 //! What the desk answers.
-use lq_sub::Read;
+use lq_desk_sub::Read;
 use lq_value::{Entry, Refusal};
 use lq_volume::Applied;
 

@@ -8,12 +8,12 @@ ghost use Rattle.lq_desk.specs.Act.{outcome_at};
 ghost use Rattle.lq_desk.specs.Reply.{answer_of};
 
 use crate::reply::Reply;
+use lq_desk_sub::{Read, Sub};
+use lq_desk_world::Act;
 use lq_predicate::Predicate;
-use lq_sub::{Read, Sub};
 use lq_update::{Cause, Parcel};
 use lq_value::Refusal;
 use lq_volume::Planned;
-use lq_world::Act;
 use std::alloc::Global;
 use std::collections::VecDeque;
 use std::marker::Model;
@@ -49,8 +49,8 @@ impl Model for Slot {
 }
 
 impl Slot {
-    ghost use Rattle.lq_world.specs.Events.{Answer, Moved, Noticed};
-    ghost use Rattle.lq_sub.specs.Held.{is_live, ended_by};
+    ghost use Rattle.lq_desk_world.specs.Events.{Answer, Moved, Noticed};
+    ghost use Rattle.lq_desk_sub.specs.Held.{is_live, ended_by};
     ghost use Rattle.lq_desk.specs.Slot.{KeptSlot, PreparedSlot, fresh_slot, put_slot, read_slot, notice_slot, is_read};
     ghost use Rattle.lq_desk.specs.Reply.{answer_of_read};
     ghost use Rattle.lq_update.specs.declared.mark.Cause.TheVariants.{Closed};

@@ -15,9 +15,9 @@ use crate::slot::{
     Slot, act_at, can_move_at, commit_at, fill_at, is_ending_at, notice_at, ready_at,
 };
 use crate::word::{has_bit, with_bit};
+use lq_desk_world::Act;
 use lq_value::Refusal;
 use lq_volume::Planned;
-use lq_world::Act;
 use std::alloc::Global;
 use std::marker::Model;
 

@@ -2,18 +2,18 @@
 use Rattle.std.proofs.Common.{◌≡◌, ℕ, ◌<◌, Bool, false, List, ◌++◌, Option, Some, None, refl, sym, ap, ◌∙◌, subst, append_assoc}
 use Rattle.std.specs.Prelude.{IsSomeAnd}
 use Rattle.atomic_table.specs.Seated.{TableId}
-use Rattle.lq_formula.specs.Query.{Query}
+use Rattle.lq_predicate_formula.specs.Query.{Query}
 use Rattle.lq_volume.specs.declared.change.Change.{Change}
 use Rattle.lq_volume.specs.Book.{Book, Extends, grown}
 use Rattle.lq_board.specs.Token.{SeatToken}
 use Rattle.lq_update.specs.declared.message.Message.{Message}
 use Rattle.lq_update.specs.Updates.{updates_of}
-use Rattle.lq_subscription.specs.declared.identity.Identity.{Identity}
-use Rattle.lq_subscription.specs.Updates.{updates}
-use Rattle.lq_subscription.specs.Rule.{query_of}
-use Rattle.lq_subscription.specs.Reading.{received}
-use Rattle.lq_subscription.specs.Standing.{upto}
-use Rattle.lq_slots.specs.Opening.{IdentityFits, asks_after}
+use Rattle.lq_server_subscription.specs.declared.identity.Identity.{Identity}
+use Rattle.lq_server_subscription.specs.Updates.{updates}
+use Rattle.lq_server_subscription.specs.Rule.{query_of}
+use Rattle.lq_server_subscription.specs.Reading.{received}
+use Rattle.lq_server_subscription.specs.Standing.{upto}
+use Rattle.lq_server_slots.specs.Opening.{IdentityFits, asks_after}
 use Rattle.lq_server.specs.declared.server.Synced.{Synced}
 use Rattle.lq_server.specs.declared.server.Retired.{Retired}
 use Rattle.lq_server.specs.Hold.{ReaderHold}

@@ -1,11 +1,11 @@
 -- What is left where a query was followed.
 use Rattle.std.specs.Prelude.{◌≡◌, false, length}
 use mathlib.Core.List.{IsPrefix}
-use Rattle.lq_formula.specs.Query.{Query}
+use Rattle.lq_predicate_formula.specs.Query.{Query}
 use Rattle.lq_volume.specs.Book.{Book}
 use Rattle.lq_update.specs.Updates.{updates_of}
-use Rattle.lq_subscription.specs.Reading.{received}
-use Rattle.lq_subscription.specs.Standing.{upto}
+use Rattle.lq_server_subscription.specs.Reading.{received}
+use Rattle.lq_server_subscription.specs.Standing.{upto}
 use Rattle.lq_server.specs.Hold.{ReaderHold}
 use Rattle.lq_server.specs.Own.{IsOwn}
 use Rattle.lq_server.specs.Retired.{IsRetired}

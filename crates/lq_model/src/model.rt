@@ -4,10 +4,10 @@ ghost use Rattle.lq_server.specs.Own.{IsOwn};
 ghost use Rattle.lq_model.specs.Followed.{GoesOn, IsFollowed};
 
 use lq_board::Seat;
+use lq_desk_sub::Read;
 use lq_predicate::Predicate;
 use lq_server::{Base, Named, Reader, Retired, Server, Synced, Work, join_over};
-use lq_sub::Read;
-use lq_subscription::Identity;
+use lq_server_subscription::Identity;
 use lq_value::Refusal;
 use lq_volume::Change;
 use std::sync::Wait;

@@ -4,8 +4,8 @@ use Rattle.std.proofs.Common.{◌+◌, ◌<◌, length, drop, get_or}
 use Rattle.std.specs.Prelude.{codes, if◌then◌else◌}
 use Rattle.std.specs.List.{list_all}
 use Rattle.lq_predicate.proofs.PartLemmas.{parts_here}
-use Rattle.lq_formula.specs.Query.{Query, Compare, Not, And, Or, Queries, no_more, and_then, queries}
-use Rattle.lq_formula.specs.Canonical.{is_bare_byte, quoted, in_marks, attr_then, op_text, literal_text, written, parts_written, others_written, canonical}
+use Rattle.lq_predicate_formula.specs.Query.{Query, Compare, Not, And, Or, Queries, no_more, and_then, queries}
+use Rattle.lq_predicate_formula.specs.Canonical.{is_bare_byte, quoted, in_marks, attr_then, op_text, literal_text, written, parts_written, others_written, canonical}
 
 -- what follows a text between marks may be added after it
 in_marks-append : (raw xs rest : List ℕ) → in_marks raw (xs ++ rest) ≡ in_marks raw xs ++ rest

@@ -1,8 +1,8 @@
 -- No query has depth 0.
 use Rattle.std.proofs.Common.{◌≡◌, ◌∙◌, ap, sym, false, ℕ, nat_le, refl}
 use Rattle.std.proofs.Math.Dec.{leb-suc-zero}
-use Rattle.lq_formula.specs.Query.{Query, Compare, Not, And, Or}
-use Rattle.lq_formula.specs.Canonical.{depth, deepest}
+use Rattle.lq_predicate_formula.specs.Query.{Query, Compare, Not, And, Or}
+use Rattle.lq_predicate_formula.specs.Canonical.{depth, deepest}
 
 -- no depth is within 0
 over_zero : (q : Query) → false ≡ nat_le (depth q) 0

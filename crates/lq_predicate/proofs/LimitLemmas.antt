@@ -2,20 +2,20 @@
 use Rattle.std.proofs.Common.{◌≡◌, ◌≤◌, ◌<◌, ℕ, zero, suc, Bool, true, false, ◌&&◌, List, [], ◌∷◌, length, get_or, Some, refl, ap, ◌∙◌, subst, arith, inl, inr}
 use Rattle.std.specs.Prelude.{nat_le}
 use Rattle.std.proofs.lemmas.Bool.{le-leb, and_parts}
-use Rattle.lq_pattern.specs.Compare.{suits}
-use Rattle.lq_pattern.specs.declared.op.Op.{Op}
-use Rattle.lq_pattern.specs.declared.op.Op.TheVariants.{Eq, Ne, Lt, Le, Gt, Ge}
-use Rattle.lq_pattern.specs.declared.literal.Literal.{Literal}
-use Rattle.lq_pattern.specs.declared.literal.Literal.TheVariants as literal
-use Rattle.lq_pattern.specs.declared.element.Element.{Element}
-use Rattle.lq_pattern.specs.Source.{pattern_of}
+use Rattle.lq_value.specs.Compare.{suits}
+use Rattle.lq_value.specs.declared.op.Op.{Op}
+use Rattle.lq_value.specs.declared.op.Op.TheVariants.{Eq, Ne, Lt, Le, Gt, Ge}
+use Rattle.lq_value.specs.declared.literal.Literal.{Literal}
+use Rattle.lq_value.specs.declared.literal.Literal.TheVariants as literal
+use Rattle.lq_value.specs.declared.element.Element.{Element}
+use Rattle.lq_value.specs.Source.{pattern_of}
 use Rattle.std.specs.Prelude.{Result, Ok, Err}
-use Rattle.lq_formula.specs.Tokens.{Token, bare}
-use Rattle.lq_formula.specs.Query.{Query, And, Or, Queries, queries, both_of, either_of}
-use Rattle.lq_formula.specs.Literals.{literal_of, pattern_literal}
-use Rattle.lq_formula.specs.Grammar.{Reading, Follows, IsAnd, IsOr, IsComparison, IsNot, nesting}
-use Rattle.lq_formula.specs.Canonical.{canonical, depth, comparisons}
-use Rattle.lq_formula.specs.Faults.{Reads}
+use Rattle.lq_predicate_formula.specs.Tokens.{Token, bare}
+use Rattle.lq_predicate_formula.specs.Query.{Query, And, Or, Queries, queries, both_of, either_of}
+use Rattle.lq_predicate_formula.specs.Literals.{literal_of, pattern_literal}
+use Rattle.lq_predicate_formula.specs.Grammar.{Reading, Follows, IsAnd, IsOr, IsComparison, IsNot, nesting}
+use Rattle.lq_predicate_formula.specs.Canonical.{canonical, depth, comparisons}
+use Rattle.lq_predicate_formula.specs.Faults.{Reads}
 use Rattle.lq_predicate.specs.Limits.{is_formed, are_formed, part_count, is_predicate}
 
 -- four tests that are true are true together

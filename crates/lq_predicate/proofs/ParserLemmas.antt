@@ -1,16 +1,16 @@
 -- A word that the machine can take is no name and no literal that is refused.
 use Rattle.std.proofs.Common.{◌≡◌, ℕ, Bool, true, false, List, Option, Some, None, refl}
 use Rattle.std.specs.Prelude.{if◌then◌else◌, IsSome, is_some, option_map, Result, Ok, Err}
-use Rattle.lq_pattern.specs.declared.element.Element.{Element}
-use Rattle.lq_pattern.specs.declared.literal.Literal.{Literal}
-use Rattle.lq_pattern.specs.declared.literal.Literal.TheVariants.{Plain}
-use Rattle.lq_pattern.specs.declared.op.Op.{Op}
+use Rattle.lq_value.specs.declared.element.Element.{Element}
+use Rattle.lq_value.specs.declared.literal.Literal.{Literal}
+use Rattle.lq_value.specs.declared.literal.Literal.TheVariants.{Plain}
+use Rattle.lq_value.specs.declared.op.Op.{Op}
 use Rattle.lq_value.specs.declared.refusal.Refusal.TheVariants.{BadName, BadQuery}
-use Rattle.lq_pattern.specs.Source.{pattern_of}
-use Rattle.lq_formula.specs.Literals.{bad_place, literal_refusal, name_of, name_refusal, pattern_literal, takes_pattern, unescaped}
-use Rattle.lq_formula.specs.Machine.{State, after_attr, at_op, at_operand, completed}
-use Rattle.lq_formula.specs.Query.{Compare}
-use Rattle.lq_formula.specs.Tokens.{word}
+use Rattle.lq_value.specs.Source.{pattern_of}
+use Rattle.lq_predicate_formula.specs.Literals.{bad_place, literal_refusal, name_of, name_refusal, pattern_literal, takes_pattern, unescaped}
+use Rattle.lq_predicate_formula.specs.Machine.{State, after_attr, at_op, at_operand, completed}
+use Rattle.lq_predicate_formula.specs.Query.{Compare}
+use Rattle.lq_predicate_formula.specs.Tokens.{word}
 
 -- what leads on from a name is one
 name_by : (f : List ℕ → State) (o : Option (List ℕ)) → IsSome (option_map f o)

@@ -1,8 +1,8 @@
 -- The parts of a query, from one place on.
 use Rattle.std.proofs.Common.{◌≡◌, ℕ, zero, suc, ◌+◌, ◌<◌, ◌≤◌, List, [], ◌∷◌, length, drop, get_or, sym, ap, ◌∙◌, arith}
 use Rattle.std.proofs.lemmas.List.{at_drop_more, at_drop_all}
-use Rattle.lq_formula.specs.Query.{Query, Queries, no_more, and_then, queries}
-use Rattle.lq_formula.specs.Canonical.{depth, deepest}
+use Rattle.lq_predicate_formula.specs.Query.{Query, Queries, no_more, and_then, queries}
+use Rattle.lq_predicate_formula.specs.Canonical.{depth, deepest}
 
 -- what is made of the parts from a place on, at a part and at the end
 pub parts_here : {Y : Type 0} (F : Queries → Y) (parts : List Query) (i : ℕ) (q : Query)

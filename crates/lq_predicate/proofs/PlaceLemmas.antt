@@ -2,16 +2,16 @@
 use Rattle.std.proofs.Common.{◌≡◌, ◌≤◌, ◌+◌, ◌-◌, ℕ, suc, Bool, true, false, List, [], ◌∷◌, length, take, Option, Some, None, refl, ap, arith}
 use Rattle.std.specs.Prelude.{if◌then◌else◌, ◌==◌, ◌||◌}
 use Rattle.std.proofs.lemmas.List.{length-take, length-drop}
-use Rattle.lq_pattern.specs.declared.op.Op.{Op}
-use Rattle.lq_pattern.specs.declared.op.Op.TheVariants.{Eq, Ne, Lt, Le, Gt, Ge}
-use Rattle.lq_pattern.specs.declared.element.Element.{Element}
-use Rattle.lq_pattern.specs.Sign.{signs_of, signs_len}
-use Rattle.lq_pattern.specs.Source.{Pieces, whole, stuck, pieces_of, element_at, elements_or_place}
-use Rattle.lq_formula.specs.Tokens.{Token, opens, closes, bang, ands, ors, op, word, lone, cut, Placed, Front, fixed, begins_with, longer, quoted_front, word_front, is_symbol, symbol_front, front, front_at, Yields, trimmed}
-use Rattle.lq_formula.specs.Bytes.{spaces, quoted_bytes, word_bytes}
-use Rattle.lq_formula.specs.Literals.{bad_place, literal_fault}
-use Rattle.lq_formula.specs.Machine.{Expected, operand, after_attr, after_op, after_operand}
-use Rattle.lq_formula.specs.Reading.{fault_place, fault_place_of, place_with, pattern_fault_of_word}
+use Rattle.lq_value.specs.declared.op.Op.{Op}
+use Rattle.lq_value.specs.declared.op.Op.TheVariants.{Eq, Ne, Lt, Le, Gt, Ge}
+use Rattle.lq_value.specs.declared.element.Element.{Element}
+use Rattle.lq_value.specs.Sign.{signs_of, signs_len}
+use Rattle.lq_value.specs.Source.{Pieces, whole, stuck, pieces_of, element_at, elements_or_place}
+use Rattle.lq_predicate_formula.specs.Tokens.{Token, opens, closes, bang, ands, ors, op, word, lone, cut, Placed, Front, fixed, begins_with, longer, quoted_front, word_front, is_symbol, symbol_front, front, front_at, Yields, trimmed}
+use Rattle.lq_predicate_formula.specs.Bytes.{spaces, quoted_bytes, word_bytes}
+use Rattle.lq_predicate_formula.specs.Literals.{bad_place, literal_fault}
+use Rattle.lq_predicate_formula.specs.Machine.{Expected, operand, after_attr, after_op, after_operand}
+use Rattle.lq_predicate_formula.specs.Reading.{fault_place, fault_place_of, place_with, pattern_fault_of_word}
 use Rattle.lq_predicate.specs.ParserView.{pattern_fault}
 use Rattle.lq_predicate.specs.PlainPlace.{place_or_end, plain_place}
 

@@ -1,9 +1,9 @@
 -- How great a query is by its parts.
 use Rattle.std.proofs.Common.{◌≡◌, ◌⊎◌, inl, inr, ◌<◌, ◌+◌, max, ℕ, zero, suc, List, [], ◌∷◌, ◌++◌, length, refl, sym, ap, ◌∙◌, arith, length-append}
-use Rattle.lq_formula.specs.Canonical.{canonical, depth, deepest}
-use Rattle.lq_formula.specs.Capped.{capped}
-use Rattle.lq_formula.specs.Machine.{negate}
-use Rattle.lq_formula.specs.Query.{Query, Not, And, queries, both_of, either_of}
+use Rattle.lq_predicate_formula.specs.Canonical.{canonical, depth, deepest}
+use Rattle.lq_predicate_formula.specs.Capped.{capped}
+use Rattle.lq_predicate_formula.specs.Machine.{negate}
+use Rattle.lq_predicate_formula.specs.Query.{Query, Not, And, queries, both_of, either_of}
 use Rattle.lq_predicate.specs.Validator.{query_size, parts_of}
 use Rattle.lq_predicate.specs.declared.query_size.QuerySize.{QuerySize}
 use Rattle.lq_predicate.specs.declared.query_size.Parts.{Parts}

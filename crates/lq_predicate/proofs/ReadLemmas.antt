@@ -2,14 +2,14 @@
 use Rattle.std.proofs.Common.{◌≡◌, ◌≤◌, ◌<◌, ◌+◌, ◌^◌, ◌∷◌, ◌⊎◌, ℕ, Bool, true, false, Option, None, refl, sym, ◌&&◌, List, length, Some, ap, ◌∙◌, arith, inl, inr}
 use Rattle.std.specs.Prelude.{nat_le, if◌then◌else◌, IfSome, IsSome, MatchOption, Result, Ok, Err}
 use Rattle.std.proofs.lemmas.Bool.{le-leb, lt-leb}
-use Rattle.lq_formula.specs.Query.{Query}
-use Rattle.lq_formula.specs.Canonical.{canonical, depth}
-use Rattle.lq_formula.specs.Faults.{most_bytes, most_depth}
-use Rattle.lq_formula.specs.Machine.{State, step}
-use Rattle.lq_formula.specs.Tokens.{Placed, Yields, tokens_from}
-use Rattle.lq_formula.specs.Reading.{finished, reading_of}
-use Rattle.lq_formula.specs.Laws.{FormulasAreRead}
-use Rattle.lq_formula.specs.Capped.{capped}
+use Rattle.lq_predicate_formula.specs.Query.{Query}
+use Rattle.lq_predicate_formula.specs.Canonical.{canonical, depth}
+use Rattle.lq_predicate_formula.specs.Faults.{most_bytes, most_depth}
+use Rattle.lq_predicate_formula.specs.Machine.{State, step}
+use Rattle.lq_predicate_formula.specs.Tokens.{Placed, Yields, tokens_from}
+use Rattle.lq_predicate_formula.specs.Reading.{finished, reading_of}
+use Rattle.lq_predicate_formula.specs.Laws.{FormulasAreRead}
+use Rattle.lq_predicate_formula.specs.Capped.{capped}
 use Rattle.lq_predicate.specs.declared.query_size.QuerySize.{QuerySize}
 use Rattle.lq_predicate.specs.Validator.{query_size}
 use Rattle.lq_predicate.specs.Limits.{is_predicate}

@@ -2,9 +2,9 @@
 use Rattle.std.proofs.Common.{◌≡◌, ◌+◌, ◌<◌, ℕ, List, [], ◌∷◌, length, drop, get_or, refl, ap, ◌∙◌, arith}
 use Rattle.std.proofs.lemmas.List.{length-append}
 use Rattle.std.specs.Prelude.{codes}
-use Rattle.lq_formula.specs.Query.{Query, And, Or, Queries, no_more, and_then, queries}
-use Rattle.lq_formula.specs.Canonical.{written, parts_written, others_written, canonical}
-use Rattle.lq_formula.specs.Capped.{capped}
+use Rattle.lq_predicate_formula.specs.Query.{Query, And, Or, Queries, no_more, and_then, queries}
+use Rattle.lq_predicate_formula.specs.Canonical.{written, parts_written, others_written, canonical}
+use Rattle.lq_predicate_formula.specs.Capped.{capped}
 use Rattle.lq_predicate.proofs.PartLemmas.{parts_here}
 use Rattle.lq_predicate.proofs.CanonicalLemmas.{written-append}
 

@@ -3,13 +3,13 @@ use Rattle.std.proofs.Common.{◌≡◌, ◌≤◌, ◌<◌, ◌+◌, ◌^◌, �
 use Rattle.std.specs.Prelude.{if◌then◌else◌, IsSome, nat_le, Result, Err}
 use Rattle.std.proofs.lemmas.Bool.{lt-leb, le-leb, leb-true}
 use Rattle.std.proofs.lemmas.List.{append-nil}
-use Rattle.lq_formula.specs.Words.{WordIs, WordsAre}
-use Rattle.lq_formula.specs.Tokens.{Placed, Yields, bare, tokens_from, tokens_of}
-use Rattle.lq_formula.specs.Query.{Query}
-use Rattle.lq_formula.specs.Grammar.{nesting}
-use Rattle.lq_formula.specs.Machine.{State, start, step, whole, weight}
-use Rattle.lq_formula.specs.Faults.{most_bytes, most_comparisons}
-use Rattle.lq_formula.specs.Reading.{after_token, fault_place, finished, read_tokens, reading_of, word_count}
+use Rattle.lq_predicate_formula.specs.Words.{WordIs, WordsAre}
+use Rattle.lq_predicate_formula.specs.Tokens.{Placed, Yields, bare, tokens_from, tokens_of}
+use Rattle.lq_predicate_formula.specs.Query.{Query}
+use Rattle.lq_predicate_formula.specs.Grammar.{nesting}
+use Rattle.lq_predicate_formula.specs.Machine.{State, start, step, whole, weight}
+use Rattle.lq_predicate_formula.specs.Faults.{most_bytes, most_comparisons}
+use Rattle.lq_predicate_formula.specs.Reading.{after_token, fault_place, finished, read_tokens, reading_of, word_count}
 use Rattle.lq_predicate.specs.ParserView.{pattern_fault}
 use Rattle.lq_predicate.specs.PlainPlace.{plain_place}
 use Rattle.lq_predicate.specs.Refusals.{fault_of}

@@ -12,10 +12,10 @@ use Rattle.std.proofs.lemmas.Int.{ints, clamps}
 use Rattle.std.proofs.lemmas.List.Sums.{fold-append}
 use Rattle.std.proofs.lemmas.Slice.Eq.{bytes_eq-Decides}
 use Rattle.lq_value.specs.Held.{Held, Number}
-use Rattle.lq_pattern.specs.Compare.{compares_number, literal_number}
-use Rattle.lq_pattern.specs.declared.literal.Literal.{Literal}
-use Rattle.lq_pattern.specs.declared.op.Op.{Op}
-use Rattle.lq_formula.specs.Query.{Query, Compare, Not, And, Or, Queries, no_more, and_then}
+use Rattle.lq_value.specs.Compare.{compares_number, literal_number}
+use Rattle.lq_value.specs.declared.literal.Literal.{Literal}
+use Rattle.lq_value.specs.declared.op.Op.{Op}
+use Rattle.lq_predicate_formula.specs.Query.{Query, Compare, Not, And, Or, Queries, no_more, and_then}
 use Rattle.lq_predicate.specs.declared.span.Span.{Span}
 use Rattle.lq_predicate.specs.Laws.{TruthStaysBesideSpans}
 use Rattle.lq_predicate.specs.Span.{numbers_of, all_numbers, widened, no_span, is_beside}

@@ -5,7 +5,7 @@ use Rattle.std.specs.List.{list_any, AllByRecursion}
 use Rattle.std.specs.Str.{bytes_eq}
 use Rattle.std.proofs.lemmas.Slice.Eq.{bytes_eq-Decides}
 use Rattle.std.proofs.lemmas.Bool.{or_right}
-use Rattle.lq_formula.specs.Query.{Query, Compare, Not, And, Or, Queries, no_more, and_then}
+use Rattle.lq_predicate_formula.specs.Query.{Query, Compare, Not, And, Or, Queries, no_more, and_then}
 use Rattle.lq_predicate.specs.Names.{attributes, all_attributes, is_among, with_name, each_once, names_of}
 use Rattle.lq_predicate.specs.Truth.{Look, compares_if_present, truth, all_true, some_true}
 use Rattle.lq_predicate.specs.Laws.{TruthGoesByNames}

@@ -3,15 +3,15 @@ use Rattle.std.proofs.Common.{◌≡◌, ◌≤◌, ◌+◌, ◌-◌, ℕ, suc, 
 use Rattle.std.specs.Prelude.{option_map, Ok, Err}
 use Rattle.std.proofs.lemmas.List.{reverse-append, length-reverse, length-map}
 use Rattle.arrayvec.specs.ArrayVec.{ArrayVec, array_vec_len}
-use Rattle.lq_pattern.specs.declared.literal.Literal.{Literal}
-use Rattle.lq_pattern.specs.declared.op.Op.{Op}
-use Rattle.lq_formula.specs.Capped.{capped}
-use Rattle.lq_formula.specs.Canonical.{canonical}
-use Rattle.lq_formula.specs.Literals.{name_of, literal_of, literal_fault}
-use Rattle.lq_formula.specs.Machine.{Frame, operand, after_attr, after_op, after_operand, State, empty_frame, completed, deeper, close, said_by, open_weight, weight}
-use Rattle.lq_formula.specs.Query.{Query, Compare}
-use Rattle.lq_formula.specs.Sizes.{literal_bytes, name_bytes}
-use Rattle.lq_formula.specs.Tokens.{opens, closes, bang, ands, ors, op, word}
+use Rattle.lq_value.specs.declared.literal.Literal.{Literal}
+use Rattle.lq_value.specs.declared.op.Op.{Op}
+use Rattle.lq_predicate_formula.specs.Capped.{capped}
+use Rattle.lq_predicate_formula.specs.Canonical.{canonical}
+use Rattle.lq_predicate_formula.specs.Literals.{name_of, literal_of, literal_fault}
+use Rattle.lq_predicate_formula.specs.Machine.{Frame, operand, after_attr, after_op, after_operand, State, empty_frame, completed, deeper, close, said_by, open_weight, weight}
+use Rattle.lq_predicate_formula.specs.Query.{Query, Compare}
+use Rattle.lq_predicate_formula.specs.Sizes.{literal_bytes, name_bytes}
+use Rattle.lq_predicate_formula.specs.Tokens.{opens, closes, bang, ands, ors, op, word}
 use Rattle.lq_predicate.specs.Validator.{IsStepAt, Shows, behind_or, query_size, size_frame}
 use Rattle.lq_predicate.specs.declared.query_size.QuerySize.{QuerySize}
 use Rattle.lq_predicate.specs.declared.query_size.SizeFrame.{SizeFrame}

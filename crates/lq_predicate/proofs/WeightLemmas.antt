@@ -1,10 +1,10 @@
 -- No step adds to the weight of a state.
 use Rattle.std.proofs.Common.{◌≡◌, ◌≤◌, ◌+◌, ℕ, zero, suc, List, [], ◌∷◌, Option, Some, None, subst, arith}
 use Rattle.std.specs.Prelude.{option_map}
-use Rattle.lq_formula.specs.Tokens.{Token, opens, closes, bang, ands, ors, op, word, lone, cut}
-use Rattle.lq_formula.specs.Literals.{name_of, literal_of}
-use Rattle.lq_formula.specs.Query.{Compare}
-use Rattle.lq_formula.specs.Machine.{Frame, Expected, operand, after_attr, after_op, after_operand, State, completed, step, open_weight, weight}
+use Rattle.lq_predicate_formula.specs.Tokens.{Token, opens, closes, bang, ands, ors, op, word, lone, cut}
+use Rattle.lq_predicate_formula.specs.Literals.{name_of, literal_of}
+use Rattle.lq_predicate_formula.specs.Query.{Compare}
+use Rattle.lq_predicate_formula.specs.Machine.{Frame, Expected, operand, after_attr, after_op, after_operand, State, completed, step, open_weight, weight}
 
 -- nothing is both None and Some
 fails : {A : Type 0} {X : Type 0} (x : A) → None ≡ Some x → X

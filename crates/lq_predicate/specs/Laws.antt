@@ -2,7 +2,7 @@
 use Rattle.std.specs.Prelude.{◌≡◌, ◌⊎◌, ℕ, List, true}
 use Rattle.std.specs.List.{list_any}
 use Rattle.std.specs.Str.{bytes_eq}
-use Rattle.lq_formula.specs.Query.{Query}
+use Rattle.lq_predicate_formula.specs.Query.{Query}
 use Rattle.lq_predicate.specs.Names.{names_of}
 use Rattle.lq_predicate.specs.Span.{StaysBeside, span_of}
 use Rattle.lq_predicate.specs.Truth.{Look, truth}

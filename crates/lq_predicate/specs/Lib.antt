@@ -5,9 +5,11 @@ pub mod TreeFalls
 pub mod ParserView
 pub mod PlainPlace
 pub mod Refusals
-pub mod Field
 pub mod Truth
 pub mod Names
 pub mod Span
 pub mod Laws
 pub mod Validator
+pub mod Operand
+pub mod Stacked
+pub mod Stack

@@ -1,9 +1,9 @@
 -- Which queries a predicate may be: its literals suit its operators, its
 -- lists have two parts or more, and it is within the limits.
 use Rattle.std.specs.Prelude.{ℕ, suc, Bool, true, ◌&&◌, length, nat_le, Option, Some, None, if◌then◌else◌}
-use Rattle.lq_pattern.specs.Compare.{suits}
-use Rattle.lq_formula.specs.Canonical.{canonical, depth, comparisons}
-use Rattle.lq_formula.specs.Query.{Query, Compare, Not, And, Or, Queries, no_more, and_then}
+use Rattle.lq_value.specs.Compare.{suits}
+use Rattle.lq_predicate_formula.specs.Canonical.{canonical, depth, comparisons}
+use Rattle.lq_predicate_formula.specs.Query.{Query, Compare, Not, And, Or, Queries, no_more, and_then}
 
 abbrev pub part_count : Queries → ℕ
 part_count no_more = 0

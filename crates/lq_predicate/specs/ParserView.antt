@@ -1,9 +1,9 @@
 -- The parser, seen as the machine's state that it is in.
 use Rattle.std.specs.Prelude.{ℕ, List, map, reverse, Vec, Option, None}
 use Rattle.std.specs.declared.alloc.Global.{Global}
-use Rattle.lq_formula.specs.Tokens.{Token, opens, closes, bang, ands, ors, op, word, lone, cut}
-use Rattle.lq_formula.specs.Machine.{Frame, Expected, operand, after_attr, after_op, after_operand, State}
-use Rattle.lq_formula.specs.Reading.{pattern_fault_of_word}
+use Rattle.lq_predicate_formula.specs.Tokens.{Token, opens, closes, bang, ands, ors, op, word, lone, cut}
+use Rattle.lq_predicate_formula.specs.Machine.{Frame, Expected, operand, after_attr, after_op, after_operand, State}
+use Rattle.lq_predicate_formula.specs.Reading.{pattern_fault_of_word}
 use Rattle.lq_predicate.specs.declared.parser.TreeFrame.{TreeFrame}
 use Rattle.lq_predicate.specs.declared.parser.Expected.{Expected as Expects}
 use Rattle.lq_predicate.specs.declared.parser.Expected.TheVariants as expects

@@ -1,7 +1,7 @@
 -- The place of a token's fault, where it has no pattern with
 -- a fault: a cut text has it at the end of all.
 use Rattle.std.specs.Prelude.{ℕ}
-use Rattle.lq_formula.specs.Tokens.{Token, opens, closes, bang, ands, ors, op, word, lone, cut, Placed}
+use Rattle.lq_predicate_formula.specs.Tokens.{Token, opens, closes, bang, ands, ors, op, word, lone, cut, Placed}
 
 abbrev pub place_or_end : ℕ → ℕ → Token → ℕ
 place_or_end end place opens = place

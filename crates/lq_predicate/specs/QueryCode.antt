@@ -2,9 +2,9 @@
 use Rattle.std.proofs.Common.{◌≡◌, ◌≢◌, ℕ, refl, ap, arith}
 use Rattle.std.specs.Coded.{Coded, coded_list, coded_ℕ}
 use base.Stored.{Gv, gnil, gnum, gcons}
-use Rattle.lq_pattern.specs.contracts.literal.Literal as literal
-use Rattle.lq_pattern.specs.contracts.op.Op as op
-use Rattle.lq_formula.specs.Query.{Query, Compare, Not, And, Or, Queries, no_more, and_then}
+use Rattle.lq_value.specs.contracts.literal.Literal as literal
+use Rattle.lq_value.specs.contracts.op.Op as op
+use Rattle.lq_predicate_formula.specs.Query.{Query, Compare, Not, And, Or, Queries, no_more, and_then}
 
 abbrev head : Gv → Gv
 head gnil = gnil

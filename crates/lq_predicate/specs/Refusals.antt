@@ -2,7 +2,7 @@
 use Rattle.std.specs.Prelude.{ℕ, Option, Some, None, Result, Ok, Err}
 use Rattle.lq_value.specs.declared.refusal.Refusal.{Refusal}
 use Rattle.lq_value.specs.declared.refusal.Refusal.TheVariants.{BadQuery}
-use Rattle.lq_formula.specs.Query.{Query}
+use Rattle.lq_predicate_formula.specs.Query.{Query}
 
 -- the refusal of a reading: none of a query, and of a fault its place
 abbrev pub refusal_of : Result Query ℕ → Option Refusal

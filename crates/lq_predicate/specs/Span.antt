@@ -5,8 +5,8 @@ use Rattle.std.specs.List.{fold}
 use Rattle.std.specs.Option.{option_to_list}
 use Rattle.std.specs.Str.{bytes_eq}
 use Rattle.lq_value.specs.Held.{Held, Number}
-use Rattle.lq_pattern.specs.Compare.{literal_number}
-use Rattle.lq_formula.specs.Query.{Query, Compare, Not, And, Or, Queries, no_more, and_then}
+use Rattle.lq_value.specs.Compare.{literal_number}
+use Rattle.lq_predicate_formula.specs.Query.{Query, Compare, Not, And, Or, Queries, no_more, and_then}
 use Rattle.lq_predicate.specs.declared.span.Span.{Span}
 use Rattle.lq_predicate.specs.declared.spans.Spans.{Spans}
 

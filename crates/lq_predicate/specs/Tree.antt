@@ -1,5 +1,5 @@
 -- The query that a node of a tree stands for.
-use Rattle.lq_formula.specs.Query.{Query, Compare, Not, And, Or, queries}
+use Rattle.lq_predicate_formula.specs.Query.{Query, Compare, Not, And, Or, queries}
 use Rattle.lq_predicate.specs.declared.tree.TreeNode.{TreeNode}
 use Rattle.lq_predicate.specs.declared.tree.TreeNode.TheVariants as node
 

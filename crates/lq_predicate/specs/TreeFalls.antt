@@ -2,8 +2,8 @@
 use Rattle.std.specs.Prelude.{◌+◌, ◌≤◌, max, List, [], ◌∷◌}
 use Rattle.std.proofs.Common.{arith}
 use denote.Param.Weighed.{most}
-use Rattle.lq_formula.specs.Query.{Query, queries}
-use Rattle.lq_formula.specs.Canonical.{depth, deepest}
+use Rattle.lq_predicate_formula.specs.Query.{Query, queries}
+use Rattle.lq_predicate_formula.specs.Canonical.{depth, deepest}
 use Rattle.lq_predicate.specs.Tree.{tree_query}
 use Rattle.lq_predicate.specs.declared.tree.TreeNode.{TreeNode}
 use Rattle.lq_predicate.specs.declared.tree.TreeNode.TheVariants as node

@@ -1,10 +1,10 @@
 -- When a predicate holds of a row. A row is seen as what it shows under each attribute's name.
 use Rattle.std.specs.Prelude.{ℕ, List, Bool, true, false, not, ◌&&◌, ◌||◌, Option, Some, None}
-use Rattle.lq_pattern.specs.declared.op.Op.{Op}
-use Rattle.lq_pattern.specs.declared.literal.Literal.{Literal}
+use Rattle.lq_value.specs.declared.op.Op.{Op}
+use Rattle.lq_value.specs.declared.literal.Literal.{Literal}
 use Rattle.lq_value.specs.Held.{Held}
-use Rattle.lq_pattern.specs.Compare.{compares}
-use Rattle.lq_formula.specs.Query.{Query, Compare, Not, And, Or, Queries, no_more, and_then}
+use Rattle.lq_value.specs.Compare.{compares}
+use Rattle.lq_predicate_formula.specs.Query.{Query, Compare, Not, And, Or, Queries, no_more, and_then}
 
 -- what a row shows under each name
 abbrev pub Look : Type 0

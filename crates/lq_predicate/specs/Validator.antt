@@ -1,11 +1,11 @@
 -- What the validator, which has no memory, knows of what the machine has read.
 use Rattle.std.specs.Prelude.{◌≡◌, ◌++◌, ℕ, List, [], ◌∷◌, length, map, reverse, Option, None, Some, Result, Ok, Err, ⊤}
-use Rattle.lq_formula.specs.Canonical.{canonical, depth}
-use Rattle.lq_formula.specs.Capped.{capped}
-use Rattle.lq_formula.specs.Machine.{Frame, Expected, operand, after_attr, after_op, after_operand, State, step_at, whole}
-use Rattle.lq_formula.specs.Query.{Query, And, both_of, queries}
-use Rattle.lq_formula.specs.Sizes.{name_bytes}
-use Rattle.lq_formula.specs.Tokens.{Token}
+use Rattle.lq_predicate_formula.specs.Canonical.{canonical, depth}
+use Rattle.lq_predicate_formula.specs.Capped.{capped}
+use Rattle.lq_predicate_formula.specs.Machine.{Frame, Expected, operand, after_attr, after_op, after_operand, State, step_at, whole}
+use Rattle.lq_predicate_formula.specs.Query.{Query, And, both_of, queries}
+use Rattle.lq_predicate_formula.specs.Sizes.{name_bytes}
+use Rattle.lq_predicate_formula.specs.Tokens.{Token}
 use Rattle.lq_predicate.specs.ParserView.{pattern_fault}
 use Rattle.lq_predicate.specs.declared.query_size.QuerySize.{QuerySize}
 use Rattle.lq_predicate.specs.declared.query_size.Parts.{Parts}

@@ -1,14 +1,14 @@
 //! The place of a formula's fault, found without memory.
 ghost use Rattle.std.specs.Prelude.{◌≡◌, ◌≤◌, ◌<◌, ◌+◌, ◌^◌, IfSome, MatchOption, length};
-ghost use Rattle.lq_formula.specs.Reading.{reading_of, word_count};
-ghost use Rattle.lq_formula.specs.TokenView.{placed_of, token_of};
+ghost use Rattle.lq_predicate_formula.specs.Reading.{reading_of, word_count};
+ghost use Rattle.lq_predicate_formula.specs.TokenView.{placed_of, token_of};
 ghost use Rattle.lq_predicate.specs.PlainPlace.{plain_place};
 ghost use Rattle.lq_predicate.specs.Refusals.{fault_of};
 
 use crate::query_size::new_size_frame;
 use crate::validator::{Expected, NESTING, Validator, size_at_end, validate_token};
 use arrayvec::ArrayVec;
-use lq_formula::{Cursor, Placed, Token, next_token};
+use lq_predicate_formula::{Cursor, Placed, Token, next_token};
 
 /// The most bytes of a formula, and of a predicate's canonical text.
 const MOST_BYTES: usize = 4096;

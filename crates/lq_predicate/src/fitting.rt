@@ -1,7 +1,7 @@
 //! Whether what is made of predicates is within the limits of one.
 ghost use Rattle.std.specs.Prelude.{◌≡◌, ◌≤◌, ◌∷◌, []};
-ghost use Rattle.lq_formula.specs.Canonical.{comparisons};
-ghost use Rattle.lq_formula.specs.Query.{And, Not, Or, queries};
+ghost use Rattle.lq_predicate_formula.specs.Canonical.{comparisons};
+ghost use Rattle.lq_predicate_formula.specs.Query.{And, Not, Or, queries};
 ghost use Rattle.lq_predicate.specs.Limits.{is_within};
 
 use crate::tree::Tree;
@@ -13,7 +13,7 @@ const MAX_DEPTH: usize = 64;
 const MAX_COMPARISONS: u64 = 256;
 
 /// The most bytes of a predicate's canonical text.
-const MAX_CANONICAL: usize = 4096;
+pub(crate) const MAX_CANONICAL: usize = 4096;
 
 // Whether `Not` of a tree is within the limits.
 pub(crate) fn fits_not(tree: &Tree) -> bool

@@ -1,34 +1,40 @@
-//! Predicates: from formulas or of other predicates, written, and when they hold of a row.
+//! Predicates: from formulas, from pushes in postfix order or of other predicates; written, and when
+//! they hold of a row.
 //!
-//! A contract sees a predicate as a `Query` of lq_formula, which is within the limits of
-//! `specs/Limits`, and a row as what it shows under each attribute's name (`specs/Truth`). Nothing
-//! here waits, and `holds` takes no memory.
-//! Begin with `predicate`, then `truth`, then `reader`.
+//! A contract sees a predicate as a `Query` of lq_predicate_formula, which is within the limits of
+//! `specs/Limits`, a row as what it shows under each attribute's name (`specs/Truth`), and a stack
+//! as its items and the number of pushes accepted (`specs/Stacked`; `specs/Stack` has what each push
+//! gives, and when it doesn't fit). Nothing here waits, and `holds` takes no memory.
+//! Begin with `predicate`, then `truth`, then `reader`, then `stack`.
 #![tactic(auto)]
 
 mod attributes;
 mod canonical;
-mod column;
 mod fault_place;
-mod field;
 mod fitting;
 mod laws;
+mod operand;
 mod parser;
 mod predicate;
 mod query_size;
 mod reader;
 mod span;
 mod spans;
+mod stack;
+mod stack_comparison;
+mod stack_fitting;
+mod stack_item;
+mod stack_op;
 mod tree;
 mod truth;
 mod validator;
 
 pub use attributes::names;
 pub use canonical::write;
-pub use column::Column;
-pub use field::Field;
 pub use laws::{truth_goes_by_names, truth_stays_beside_spans};
 pub use predicate::Predicate;
 pub use reader::read;
 pub use spans::Spans;
+pub use stack::Stack;
+pub use stack_op::StackOp;
 pub use truth::{Row, holds};

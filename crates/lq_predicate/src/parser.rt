@@ -1,17 +1,16 @@
 //! Building what a formula says: from its tokens, from the left, with a stack of what is begun. The
 //! formula is known to read, so each token can be taken, and for want of memory alone none is.
 ghost use Rattle.std.specs.Prelude.{◌≡◌, ◌≤◌, ◌<◌, ◌+◌, ◌^◌, None, Some, IfOk, IsSome};
-ghost use Rattle.lq_formula.specs.Machine.{at_end, at_operand, completed, empty_frame as no_parts, after_operand, operand, said_by, start, step, weight, whole};
-ghost use Rattle.lq_formula.specs.Grammar.{nesting};
-ghost use Rattle.lq_formula.specs.TokenView.{token_of};
+ghost use Rattle.lq_predicate_formula.specs.Machine.{at_end, at_operand, completed, empty_frame as no_parts, after_operand, operand, said_by, start, step, weight, whole};
+ghost use Rattle.lq_predicate_formula.specs.Grammar.{nesting};
+ghost use Rattle.lq_predicate_formula.specs.TokenView.{token_of};
 ghost use Rattle.lq_value.specs.Refusal.{IsRefusedBy};
 ghost use Rattle.lq_predicate.specs.ParserView.{below_of, frame_of, state_at, state_of};
 
 use crate::tree::Tree;
 use crate::validator::NESTING;
-use lq_formula::{Token, read_literal, read_name};
-use lq_pattern::Op;
-use lq_value::{AttrName, Refusal};
+use lq_predicate_formula::{Token, read_literal, read_name};
+use lq_value::{AttrName, Op, Refusal};
 use std::alloc::{AllocError, Global};
 
 // A formula that is begun: the parts of its or that are done, those of its last and, and the `!`

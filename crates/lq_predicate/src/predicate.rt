@@ -1,12 +1,11 @@
 //! The predicate.
 ghost use Rattle.std.specs.Prelude.{◌≡◌, ◌≤◌, ◌∷◌, [], None, IfOk, OnErr, IsTrue};
 ghost use Rattle.lq_value.specs.Refusal.{IsRefusedBy};
-ghost use Rattle.lq_pattern.specs.Compare.{suits};
+ghost use Rattle.lq_value.specs.Compare.{suits};
 
 use crate::fitting::{fit_joined, fits_not};
 use crate::tree::Tree;
-use lq_pattern::{Literal, Op};
-use lq_value::{AttrName, Refusal};
+use lq_value::{AttrName, Literal, Op, Refusal};
 use std::alloc::Global;
 use std::marker::Model;
 
@@ -19,20 +18,21 @@ use std::marker::Model;
 /// as a `Query`.
 pub struct Predicate {
     tree: Tree,
+    alloc: Global,
 }
 
 // One call takes it apart, wherever one is dropped.
 impl Drop for Predicate {
     fn drop(self) {
-        let Predicate { tree: _ } = self;
+        let Predicate { tree: _, alloc: _ } = self;
     }
 }
 
 impl Model for Predicate {
     ghost use Rattle.std.specs.Prelude.{IsTrue};
-    ghost use Rattle.lq_formula.specs.Query.{Query};
+    ghost use Rattle.lq_predicate_formula.specs.Query.{Query};
     ghost use Rattle.lq_predicate.specs.QueryCode.{coded_query};
-    ghost use Rattle.lq_formula.specs.Limits.{IsProper};
+    ghost use Rattle.lq_predicate_formula.specs.Limits.{IsProper};
     ghost use Rattle.lq_predicate.specs.Limits.{is_predicate};
 
     ghost Value = { Query };
@@ -45,33 +45,33 @@ impl Model for Predicate {
 }
 
 impl Predicate {
-    ghost use Rattle.lq_formula.specs.Query.{And, Compare, Not, Or, queries};
-    ghost use Rattle.lq_formula.specs.Canonical.{comparisons};
-    ghost use Rattle.lq_formula.specs.Limits.{IsProper};
+    ghost use Rattle.lq_predicate_formula.specs.Query.{And, Compare, Not, Or, queries};
+    ghost use Rattle.lq_predicate_formula.specs.Canonical.{comparisons};
+    ghost use Rattle.lq_predicate_formula.specs.Limits.{IsProper};
     ghost use Rattle.lq_predicate.specs.Limits.{if_within, is_formed, is_predicate, is_within};
 
     /// The comparison of an attribute with a literal that suits the operator. It takes no memory.
     ///
     /// The comparison is within the limits of a predicate, and a pattern is one that some text
     /// writes.
-    pub fn compare(attr: AttrName, op: Op, literal: Literal) -> Predicate
+    pub fn compare(alloc: Global, attr: AttrName, op: Op, literal: Literal) -> Predicate
         requires suits { IsTrue (suits literal op) }
         requires within { IsTrue (is_within (Compare attr op literal)) }
         requires proper { IsProper (Compare attr op literal) }
         ensures { result ≡ Compare attr op literal }
     {
-        Predicate {
-            tree: Tree::compare(attr, op, literal),
-        }
+        Predicate::of(alloc, Tree::compare(attr, op, literal))
     }
 
     /// Another predicate that is the same. Refused: `NoMemory`.
-    pub fn copy(&self, alloc: Global) -> Result<Predicate, Refusal>
+    pub fn copy(&self) -> Result<Predicate, Refusal>
         ensures refused { IsRefusedBy result None }
         ensures value { IfOk result (λ copy. copy ≡ self.now) }
     {
+        let tree = self.tree.copy(self.alloc)?;
         Ok(Predicate {
-            tree: self.tree.copy(alloc)?,
+            tree,
+            alloc: self.alloc,
         })
     }
 
@@ -79,7 +79,7 @@ impl Predicate {
     ///
     /// `None` where it would pass a limit: its depth and its text are 1 greater. That takes no
     /// memory. Refused otherwise: `NoMemory`.
-    pub fn not(&self, alloc: Global) -> Result<Option<Predicate>, Refusal>
+    pub fn not(&self) -> Result<Option<Predicate>, Refusal>
         ensures value { IfOk result (λ made. made ≡ if_within (Not self.now)) }
         ensures refused { IsRefusedBy result None }
         ensures err { OnErr result (IsTrue (is_within (Not self.now))) }
@@ -88,14 +88,15 @@ impl Predicate {
         if !fits_not(tree) {
             return Ok(None);
         }
-        Ok(Some(Predicate::of(tree.copy(alloc)?.negated(alloc, 1)?)))
+        let negated = tree.copy(self.alloc)?.negated(self.alloc, 1)?;
+        Ok(Some(Predicate::of(self.alloc, negated)))
     }
 
     /// The predicate that holds where this one and another do, as BQuery's `And`: this one is its
     /// first part.
     ///
     /// `None` where it would pass a limit, which takes no memory. Refused otherwise: `NoMemory`.
-    pub fn both(&self, alloc: Global, other: &Predicate) -> Result<Option<Predicate>, Refusal>
+    pub fn both(&self, other: &Predicate) -> Result<Option<Predicate>, Refusal>
         ensures value { IfOk result
             (λ made. made ≡ if_within (And (queries (self.now ∷ other.now ∷ [])))) }
         ensures refused { IsRefusedBy result None }
@@ -105,15 +106,15 @@ impl Predicate {
         if !fit_joined(self.tree(), other.tree()) {
             return Ok(None);
         }
-        let parts = self.beside(alloc, other)?;
-        Ok(Some(Predicate::of(Tree::both(parts))))
+        let parts = self.beside(other)?;
+        Ok(Some(Predicate::of(self.alloc, Tree::both(parts))))
     }
 
     /// The predicate that holds where this one or another does, as BQuery's `Or`: this one is its
     /// first part.
     ///
     /// `None` where it would pass a limit, which takes no memory. Refused otherwise: `NoMemory`.
-    pub fn either(&self, alloc: Global, other: &Predicate) -> Result<Option<Predicate>, Refusal>
+    pub fn either(&self, other: &Predicate) -> Result<Option<Predicate>, Refusal>
         ensures value { IfOk result
             (λ made. made ≡ if_within (Or (queries (self.now ∷ other.now ∷ [])))) }
         ensures refused { IsRefusedBy result None }
@@ -123,28 +124,28 @@ impl Predicate {
         if !fit_joined(self.tree(), other.tree()) {
             return Ok(None);
         }
-        let parts = self.beside(alloc, other)?;
-        Ok(Some(Predicate::of(Tree::either(parts))))
+        let parts = self.beside(other)?;
+        Ok(Some(Predicate::of(self.alloc, Tree::either(parts))))
     }
 
     // What two predicates say, in a list.
-    fn beside(&self, alloc: Global, other: &Predicate) -> Result<Vec<Tree>, Refusal>
+    fn beside(&self, other: &Predicate) -> Result<Vec<Tree>, Refusal>
         ensures refused { IsRefusedBy result None }
         ensures value { IfOk result (λ parts. parts.items ≡ self.now ∷ other.now ∷ []) }
     {
-        let mut parts = Vec::new(alloc);
-        parts.push(self.tree.copy(alloc)?)?;
-        parts.push(other.tree.copy(alloc)?)?;
+        let mut parts = Vec::new(self.alloc);
+        parts.push(self.tree.copy(self.alloc)?)?;
+        parts.push(other.tree.copy(self.alloc)?)?;
         Ok(parts)
     }
 
     // The predicate that a tree within the limits is.
-    pub(crate) fn of(tree: Tree) -> Predicate
+    pub(crate) fn of(alloc: Global, tree: Tree) -> Predicate
         requires valid { IsTrue (is_predicate tree) }
         requires proper { IsProper tree }
         ensures { result ≡ tree }
     {
-        Predicate { tree }
+        Predicate { tree, alloc }
     }
 
     // What it says, which is within the limits.

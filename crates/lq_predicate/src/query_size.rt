@@ -1,7 +1,7 @@
 //! How great what is read so far is, where it isn't kept.
 ghost use Rattle.std.specs.Prelude.{◌≡◌, ◌++◌, ◌∷◌, [], List};
-ghost use Rattle.lq_formula.specs.Machine.{Frame, empty_frame, negate, said_by};
-ghost use Rattle.lq_formula.specs.Query.{Query, both_of, either_of};
+ghost use Rattle.lq_predicate_formula.specs.Machine.{Frame, empty_frame, negate, said_by};
+ghost use Rattle.lq_predicate_formula.specs.Query.{Query, both_of, either_of};
 ghost use Rattle.lq_predicate.specs.Validator.{query_size, size_frame, parts_of};
 
 // How deep a query is, and how many bytes its canonical text has; the greatest usize for more.

@@ -1,10 +1,10 @@
 //! Reading a formula.
 ghost use Rattle.std.specs.Prelude.{◌≡◌, ℕ, None, Ok, IfOk, IfErr, OnOk};
 ghost use Rattle.std.specs.Str.{IsUtf8};
-ghost use Rattle.lq_formula.specs.Faults.{Reads, IsFaulty};
-ghost use Rattle.lq_formula.specs.Reading.{reading_of};
-ghost use Rattle.lq_formula.specs.Tokens.{bare, tokens_of};
-ghost use Rattle.lq_formula.specs.Words.{WordsAre};
+ghost use Rattle.lq_predicate_formula.specs.Faults.{Reads, IsFaulty};
+ghost use Rattle.lq_predicate_formula.specs.Reading.{reading_of};
+ghost use Rattle.lq_predicate_formula.specs.Tokens.{bare, tokens_of};
+ghost use Rattle.lq_predicate_formula.specs.Words.{WordsAre};
 ghost use Rattle.lq_value.specs.declared.refusal.Refusal.TheVariants.{BadQuery};
 ghost use Rattle.lq_value.specs.Refusal.{IsRefusedBy};
 ghost use Rattle.lq_predicate.specs.Refusals.{fault_of, refusal_of};
@@ -13,7 +13,7 @@ use crate::fault_place::fault_place;
 use crate::parser::{end_of, new_parser, read_token};
 use crate::predicate::Predicate;
 use crate::tree::Tree;
-use lq_formula::{Cursor, faults_are_found, formulas_are_read, next_token, read_is_good};
+use lq_predicate_formula::{Cursor, faults_are_found, formulas_are_read, next_token, read_is_good};
 use lq_value::Refusal;
 use std::alloc::Global;
 
@@ -41,7 +41,7 @@ pub fn read(alloc: Global, formula: &str) -> Result<Predicate, Refusal>
         return Err(Refusal::BadQuery { place });
     }
     let tree = build(alloc, formula)?;
-    Ok(Predicate::of(tree))
+    Ok(Predicate::of(alloc, tree))
 }
 
 // The query of a text that reads as one.

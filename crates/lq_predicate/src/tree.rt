@@ -1,22 +1,20 @@
 //! What a formula says, whether it is within the limits of a predicate or not.
 ghost use Rattle.std.specs.Prelude.{◌≡◌, ◌≤◌, ◌++◌, ◌∷◌, [], None, IfOk, IsTrue, length, nat_le};
 ghost use Rattle.std.specs.String.{string_bytes};
-ghost use Rattle.lq_formula.specs.Canonical.{canonical, comparisons, depth, parts_written};
-ghost use Rattle.lq_formula.specs.Machine.{negate};
-ghost use Rattle.lq_formula.specs.Query.{Compare, both_of, either_of, queries};
+ghost use Rattle.lq_predicate_formula.specs.Canonical.{canonical, comparisons, depth, parts_written};
+ghost use Rattle.lq_predicate_formula.specs.Machine.{negate};
+ghost use Rattle.lq_predicate_formula.specs.Query.{Compare, both_of, either_of, queries};
 ghost use Rattle.lq_value.specs.Refusal.{IsRefusedBy};
-ghost use Rattle.lq_formula.specs.Capped.{capped};
+ghost use Rattle.lq_predicate_formula.specs.Capped.{capped};
 ghost use Rattle.lq_predicate.specs.Limits.{is_formed};
 ghost use Rattle.lq_predicate.specs.Names.{attributes, each_once, is_among};
 ghost use Rattle.lq_predicate.specs.Span.{numbers_of, span_of, widened};
 ghost use Rattle.lq_predicate.specs.Truth.{truth};
 
-use crate::column::Column;
 use crate::span::Span;
 use crate::truth::Row;
-use lq_formula::{comparison_size, put_comparison};
-use lq_pattern::{Literal, Op, compare};
-use lq_value::{AttrName, Refusal, same_text};
+use lq_predicate_formula::{comparison_size, put_comparison};
+use lq_value::{AttrName, Literal, Op, Refusal, compare, same_text};
 use std::alloc::{AllocError, Global};
 use std::marker::Model;
 
@@ -30,15 +28,15 @@ pub(crate) struct Tree {
 #[cycle(tree)]
 #[derive(Drop)]
 enum TreeNode {
-    Compare(Column, Op, Literal),
+    Compare(AttrName, Op, Literal),
     Not(Box<Tree>),
     And(Vec<Tree>),
     Or(Vec<Tree>),
 }
 
 impl Model for Tree {
-    ghost use Rattle.lq_formula.specs.Query.{Query};
-    ghost use Rattle.lq_formula.specs.Canonical.{depth};
+    ghost use Rattle.lq_predicate_formula.specs.Query.{Query};
+    ghost use Rattle.lq_predicate_formula.specs.Canonical.{depth};
     ghost use Rattle.lq_predicate.specs.QueryCode.{coded_query};
 
     ghost Value = { Query };
@@ -61,7 +59,7 @@ impl Tree {
         ensures { result ≡ Compare attr op literal }
     {
         Tree {
-            node: TreeNode::Compare(Column::new(attr), op, literal),
+            node: TreeNode::Compare(attr, op, literal),
         }
     }
 
@@ -134,9 +132,7 @@ impl Tree {
         ensures { result ≡ capped (length (canonical self.now)) }
     {
         match &self.node {
-            TreeNode::Compare(column, op, literal) => {
-                comparison_size(column.name(), *op, literal)
-            }
+            TreeNode::Compare(attr, op, literal) => comparison_size(attr, *op, literal),
             TreeNode::Not(part) => part.size().saturating_add(1),
             TreeNode::And(parts) => {
                 if parts.is_empty() {
@@ -186,8 +182,8 @@ impl Tree {
         ensures value { IfOk result (λ copy. copy ≡ self.now) }
     {
         let node = match &self.node {
-            TreeNode::Compare(column, op, literal) => {
-                TreeNode::Compare(column.copy(alloc)?, *op, literal.copy(alloc)?)
+            TreeNode::Compare(attr, op, literal) => {
+                TreeNode::Compare(attr.copy(alloc)?, *op, literal.copy(alloc)?)
             }
             TreeNode::Not(part) => TreeNode::Not(Box::new(alloc, part.copy(alloc)?)?),
             TreeNode::And(parts) => TreeNode::And(copy_parts(alloc, parts.as_slice())?),
@@ -202,7 +198,7 @@ impl Tree {
         ensures { result ≡ truth self.now (R.looks row.now) }
     {
         match &self.node {
-            TreeNode::Compare(column, op, literal) => match row.look(column) {
+            TreeNode::Compare(attr, op, literal) => match row.look(attr) {
                 None => false,
                 Some(view) => compare(view, *op, literal),
             },
@@ -234,9 +230,7 @@ impl Tree {
             (λ _. string_bytes out.new ≡ string_bytes out.old ++ canonical self.now) }
     {
         match &self.node {
-            TreeNode::Compare(column, op, literal) => {
-                put_comparison(column.name(), *op, literal, out)
-            }
+            TreeNode::Compare(attr, op, literal) => put_comparison(attr, *op, literal, out),
             TreeNode::Not(part) => {
                 out.push_str("!")?;
                 part.put(out)
@@ -253,8 +247,7 @@ impl Tree {
             (λ _. names.new.items ≡ each_once names.old.items (attributes self.now)) }
     {
         match &self.node {
-            TreeNode::Compare(column, _, _) => {
-                let attr = column.name();
+            TreeNode::Compare(attr, _, _) => {
                 if !is_among(names.as_slice(), attr) {
                     names.push(attr.copy(alloc)?)?;
                 }
@@ -283,8 +276,8 @@ impl Tree {
         ensures { span.new ≡ widened span.old (numbers_of attr.now self.now) }
     {
         match &self.node {
-            TreeNode::Compare(column, _, literal) => {
-                if same_text(column.name().as_str(), attr)
+            TreeNode::Compare(compared, _, literal) => {
+                if same_text(compared.as_str(), attr)
                     && let Some(number) = literal.number()
                 {
                     span.add(number);

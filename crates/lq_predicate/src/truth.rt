@@ -4,9 +4,8 @@ ghost use Rattle.std.specs.Option.{option_map};
 ghost use Rattle.lq_value.specs.Held.{held_of};
 ghost use Rattle.lq_predicate.specs.Truth.{truth};
 
-use crate::column::Column;
 use crate::predicate::Predicate;
-use lq_value::View;
+use lq_value::{AttrName, View};
 
 /// What has attributes: an entry, or any other row.
 pub trait Row {
@@ -15,9 +14,9 @@ pub trait Row {
     /// What it shows under each name.
     ghost looks: { Self → List ℕ → Option Held };
 
-    /// What the row shows in a column; `None` where it has no attribute of that name.
-    fn look(&self, column: &Column) -> Option<View<'_>>
-        ensures { option_map held_of result ≡ looks self.now column.now };
+    /// What the row shows under a name; `None` where it has no attribute of that name.
+    fn look(&self, attr: &AttrName) -> Option<View<'_>>
+        ensures { option_map held_of result ≡ looks self.now attr.now };
 }
 
 /// Whether the predicate holds of the row. It takes no memory.

@@ -1,15 +1,15 @@
 //! Reading tokens from the left without memory: what is read isn't kept, only how great it is.
 ghost use Rattle.std.specs.Prelude.{◌≡◌, ◌≤◌, ◌+◌, ℕ, List, map, reverse};
-ghost use Rattle.lq_formula.specs.Machine.{Frame, State, after_attr, after_op, after_operand, completed, operand, weight};
-ghost use Rattle.lq_formula.specs.Query.{Query};
-ghost use Rattle.lq_formula.specs.Sizes.{name_bytes};
-ghost use Rattle.lq_formula.specs.TokenView.{token_of};
+ghost use Rattle.lq_predicate_formula.specs.Machine.{Frame, State, after_attr, after_op, after_operand, completed, operand, weight};
+ghost use Rattle.lq_predicate_formula.specs.Query.{Query};
+ghost use Rattle.lq_predicate_formula.specs.Sizes.{name_bytes};
+ghost use Rattle.lq_predicate_formula.specs.TokenView.{token_of};
 ghost use Rattle.lq_predicate.specs.Validator.{IsEndOf, IsStepAt, IsStepOf, Shows, behind_or, query_size, size_frame};
 
 use crate::query_size::{QuerySize, SizeFrame, negated, new_size_frame, said, together, with_part};
 use arrayvec::ArrayVec;
-use lq_formula::{Token, joined_size, raw_literal_size, raw_name_size};
-use lq_pattern::Op;
+use lq_predicate_formula::{Token, joined_size, raw_literal_size, raw_name_size};
+use lq_value::Op;
 
 /// How deep parentheses and `!` may nest.
 pub(crate) const NESTING: usize = 64;

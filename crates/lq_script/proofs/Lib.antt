@@ -1,8 +1,6 @@
--- Read in this order. Lines: FoldLemmas, ScriptLemmas. The program's words: CommandWalkLemmas (what
--- clap's walk does with them), CommandLineLemmas (what a parse says of them), WordsLemmas (what is
--- written of them).
-pub mod FoldLemmas
-pub mod ScriptLemmas
+-- Read in this order: CommandWalkLemmas (what clap's walk does with the words), CommandLineLemmas
+-- (what a parse says of them), WordsLemmas (what is written of them), ThreadsWordLemmas.
 mod CommandWalkLemmas
 mod CommandLineLemmas
 mod WordsLemmas
+pub mod ThreadsWordLemmas

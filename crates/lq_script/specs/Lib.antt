@@ -1,7 +1,3 @@
-pub mod Folds
-pub mod Session
-pub mod Answered
-pub mod Script
 pub mod Check
 pub mod Words
 pub mod CommandLine

@@ -5,14 +5,14 @@ use Rattle.std.specs.List.{starts_with}
 use Rattle.std.specs.String.{string_bytes}
 use Rattle.std.specs.Fmt.{decimal}
 use Rattle.std.specs.Io.KnownBytes.{Appends}
-use Rattle.lq_formula.specs.Query.{Query}
-use Rattle.lq_formula.specs.Faults.{Reads}
-use Rattle.lq_formula.specs.Canonical.{canonical}
-use Rattle.lq_lines.specs.Lines.{Begins}
-use Rattle.lq_lines.specs.Output.{Ended, Passed}
-use Rattle.lq_lines.specs.declared.run_fault.RunFault.{RunFault}
-use Rattle.lq_lines.specs.declared.run_fault.RunFault.TheVariants.{Read, Write, Limit, Memory, Thread}
-use Rattle.lq_script.specs.Script.{script_session, world_rules}
+use Rattle.lq_predicate_formula.specs.Query.{Query}
+use Rattle.lq_predicate_formula.specs.Faults.{Reads}
+use Rattle.lq_predicate_formula.specs.Canonical.{canonical}
+use Rattle.lq_script_lines.specs.Lines.{Begins}
+use Rattle.lq_script_lines.specs.Output.{Ended, Passed}
+use Rattle.lq_script_lines.specs.declared.run_fault.RunFault.{RunFault}
+use Rattle.lq_script_lines.specs.declared.run_fault.RunFault.TheVariants.{Read, Write, Limit, Memory, Thread}
+use Rattle.lq_script_desk.specs.Script.{script_session, world_rules}
 use Rattle.lq_script.specs.declared.command_line.Subcommand.{Subcommand}
 use Rattle.lq_script.specs.declared.command_line.Subcommand.TheVariants.{Run, Check}
 
@@ -103,3 +103,12 @@ IsFaultOf Limit left left' fails written written' failed stalled =
     Passed world_rules script_session left left' written written'
 IsFaultOf Memory left left' fails written written' failed stalled = Unit {0}
 IsFaultOf Thread left left' fails written written' failed stalled = ⊥
+
+-- `threads`
+abbrev pub IsThreads : List (List ℕ) → Type 0
+IsThreads words = words ≡ codes "threads" ∷ []
+
+-- any words but `threads` and those that ask for something else
+pub record IsOther (words : List (List ℕ)) : Type 0 where
+  pub usage : IsUsage words
+  pub not_threads : ¬ IsThreads words

@@ -1,19 +1,17 @@
-//! The script library: what each line of a script asks of a desk, and the program's words.
+//! The script library: what the program `lq` does with its words, and scripts by one thread or more.
 //!
-//! A contract sees a session as what its desk keeps and the result that was read of each slot
-//! (`specs/Folds`), and the output of a script as the texts of what a world answers its lines
-//! (`specs/Script`); the program's words are texts (`specs/Words`). Nothing here waits. Begin with
-//! `session`, then `script`, then `words`.
+//! A contract sees the program's words as texts (`specs/Words`), and what is written of a script as
+//! the texts of what a world answers its lines (`specs/Script` of lq_script_desk). `run_threads` may
+//! wait. Begin with `words`, then `run` and `run_threads`.
 #![tactic(auto)]
 
 mod checking;
 mod command_line;
-mod rebuilds;
-mod script;
-mod session;
+mod plain_words;
 mod words;
 
 pub use checking::check;
-pub use lq_lines::{Failed, Host, RunFault, Sink, Source};
-pub use script::run;
+pub use lq_script_desk::run;
+pub use lq_script_lines::{Failed, Host, RunFault, Sink, Source};
+pub use lq_script_threads::{Gate, OpenGate, run_threads};
 pub use words::program;

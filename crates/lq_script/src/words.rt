@@ -1,30 +1,26 @@
-//! The program's words, and its status.
-ghost use Rattle.std.specs.Prelude.{◌≡◌, ◌⊎◌, ◌≤◌, ℕ, List, false, true, Some, Err, IfErr, IfOk, OnErr, OnOk};
-ghost use Rattle.std.specs.Io.KnownBytes.{Appends};
-ghost use Rattle.std.specs.String.{string_bytes};
-ghost use Rattle.lq_formula.specs.Reading.{reading_of};
-ghost use Rattle.lq_lines.specs.Output.{Answered, Stopped};
-ghost use Rattle.lq_predicate.specs.Refusals.{refusal_of};
-ghost use Rattle.lq_script.specs.Check.{IsCanonicalOf};
-ghost use Rattle.lq_script.specs.Script.{script_session, world_rules};
-ghost use Rattle.lq_script.specs.Words.{IsCheckOf, IsFaultOf, IsRun, IsUsage, Prints, PrintsFront, Tells, WritesFront};
-ghost use Rattle.lq_script.specs.Words.{fault_line, line_with, refusal_line, texts_of, usage_line};
+//! The program's words, with `threads` among them.
+ghost use Rattle.std.specs.Prelude.{◌≡◌, ◌↔◌, ◌⊎◌, ◌≤◌, ℕ, List, false, true, Err};
+ghost use Rattle.lq_predicate_formula.specs.Reading.{reading_of};
+ghost use Rattle.lq_script_lines.specs.Output.{Answered, Stopped};
+ghost use Rattle.lq_script_desk.specs.Script.{script_session, world_rules};
+ghost use Rattle.lq_script.specs.Words.{IsCheckOf, IsFaultOf, IsRun, IsUsage, Prints, PrintsFront, Tells};
+ghost use Rattle.lq_script.specs.Words.{fault_line, refusal_line, texts_of, usage_line};
+ghost use Rattle.lq_script.specs.Words.{IsOther, IsThreads};
 
-use crate::checking::check;
-use crate::command_line::{Subcommand, WordsFault, subcommand_of};
-use crate::script::run;
-use lq_lines::{Failed, RunFault, Sink, Source, write_all};
-use lq_value::Refusal;
-use std::alloc::{AllocError, Global};
+use crate::plain_words::plain_program;
+use lq_script_lines::{RunFault, Sink, Source, write_all};
+use lq_script_threads::{OpenGate, run_threads};
+use std::alloc::Global;
+use std::sync::Wait;
+use std::thread::Threads;
 
 /// Does what the words after the program's name ask for, and answers its status.
 ///
-/// `run` carries out the reader's script, `check FORMULA` writes the formula's canonical text and
-/// LF; a formula that begins with `-` stands behind `--`. Status 0: done; 1: a `RunFault`, a fault
-/// of the writer in `check`, or want of memory in `check` or for the words, with one line on
-/// `faults`; 2: a formula that is refused, with `lq: BadQuery at P` there, or any other words, with
-/// `lq: usage`. A fault of `faults` is ignored.
-pub fn program<R: Source, W: Sink, F: Sink>(
+/// `threads` alone carries out the reader's script by `run_threads` with an open gate. Status 0:
+/// done; 1: a `RunFault`, with its line on `faults`, whose own faults are ignored. All other words
+/// are those of lq_script_desk's `program`.
+pub fn program<T: Threads + Wait + Sync, R: Source, W: Sink, F: Sink>(
+    rt: &T,
     alloc: Global,
     words: &[String],
     reader: &mut R,
@@ -42,7 +38,7 @@ pub fn program<R: Source, W: Sink, F: Sink>(
         (R.left reader.old) (R.left reader.new) (W.written writer.old) (W.written writer.new) }
     ensures check_done { (formula : List ℕ) → IsCheckOf (texts_of words.now) formula → result ≡ 0 →
         Prints formula (W.written writer.old) (W.written writer.new) }
-    ensures flushed { result ≡ 0 → W.flushed writer.new ≡ true }
+    ensures flushed { ¬ IsThreads (texts_of words.now) → result ≡ 0 → W.flushed writer.new ≡ true }
     ensures quiet { result ≡ 0 → faults.new ≡ faults.old }
 
     // 1: what was written is a front of that, and a fault is told.
@@ -52,7 +48,7 @@ pub fn program<R: Source, W: Sink, F: Sink>(
     ensures check_stopped { (formula : List ℕ) → IsCheckOf (texts_of words.now) formula
         → result ≡ 1 → (writer.new ≡ writer.old)
         ⊎ PrintsFront formula (W.written writer.old) (W.written writer.new) }
-    ensures fault { result ≡ 1 → (fault : RunFault)
+    ensures fault { ¬ IsThreads (texts_of words.now) → result ≡ 1 → (fault : RunFault)
         × (Tells (fault_line fault) (F.written faults.old) (F.written faults.new)
         (F.failed faults.new) (F.stalled faults.new)
         × IsFaultOf fault (R.left reader.old) (R.left reader.new) (R.failed reader.new)
@@ -69,126 +65,39 @@ pub fn program<R: Source, W: Sink, F: Sink>(
         (F.failed faults.new) (F.stalled faults.new) }
     ensures writes_nothing { result ≡ 2 → writer.new ≡ writer.old }
 
-    // `run` is never refused, other words are never done, and only a script is read.
+    // `run` and `threads` are never refused, other words never done; only a script is read.
     ensures run_status { IsRun (texts_of words.now) → result ≤ 1 }
-    ensures usage_status { IsUsage (texts_of words.now) →
+    ensures threads_status { IsThreads (texts_of words.now) → result ≤ 1 }
+    ensures usage_status { IsOther (texts_of words.now) →
         (1 ≤ result) × (writer.new ≡ writer.old) }
-    ensures reads_nothing { ¬ IsRun (texts_of words.now) → reader.new ≡ reader.old }
+    ensures reads_nothing { ¬ IsRun (texts_of words.now) → ¬ IsThreads (texts_of words.now)
+        → reader.new ≡ reader.old }
 {
-    match subcommand_of(alloc, words) {
-        Ok(Subcommand::Run) => match run(alloc, reader, writer) {
-            Ok(()) => 0,
-            Err(fault) => tell_fault(fault, faults),
-        },
-        Ok(Subcommand::Check(formula)) => check_formula(alloc, formula, writer, faults),
-        Err(WordsFault::NoMemory) => tell_fault(RunFault::Memory, faults),
-        Err(WordsFault::Usage) => {
-            tell("lq: usage\n", faults);
-            2
+    if !asks_threads(words) {
+        return plain_program(alloc, words, reader, writer, faults);
+    }
+    match run_threads(rt, alloc, reader, writer, &OpenGate) {
+        Ok(()) => 0,
+        Err(fault) => {
+            // A fault there is told to nobody.
+            let _ = write_all(faults, line_of(fault).as_bytes());
+            1
         }
     }
 }
 
-// Prints a formula's canonical text and LF, and answers the status.
-fn check_formula<W: Sink, F: Sink>(
-    alloc: Global,
-    formula: &str,
-    writer: &mut W,
-    faults: &mut F,
-) -> u8
-    ensures status { result ≤ 2 }
-    ensures done { result ≡ 0 → Prints formula.now (W.written writer.old) (W.written writer.new) }
-    ensures flushed { result ≡ 0 → W.flushed writer.new ≡ true }
-    ensures quiet { result ≡ 0 → faults.new ≡ faults.old }
-    ensures stopped { result ≡ 1 → (writer.new ≡ writer.old)
-        ⊎ PrintsFront formula.now (W.written writer.old) (W.written writer.new) }
-    ensures fault { result ≡ 1 →
-        Tells (fault_line RunFault.Memory) (F.written faults.old) (F.written faults.new)
-        (F.failed faults.new) (F.stalled faults.new)
-        ⊎ (Tells (fault_line RunFault.Write) (F.written faults.old) (F.written faults.new)
-        (F.failed faults.new) (F.stalled faults.new)
-        × ((W.failed writer.new ≡ true) ⊎ (W.stalled writer.new ≡ true))) }
-    ensures refused { result ≡ 2 → (place : ℕ) × ((reading_of formula.now ≡ Err place)
-        × Tells (refusal_line place) (F.written faults.old) (F.written faults.new)
-        (F.failed faults.new) (F.stalled faults.new)) }
-    ensures writes_nothing { result ≡ 2 → writer.new ≡ writer.old }
+// Whether the words are `threads` alone.
+fn asks_threads(words: &[String]) -> bool
+    ensures { (result ≡ true) ↔ IsThreads (texts_of words.now) }
 {
-    match line_for(alloc, formula) {
-        Ok(line) => match write_line(line.as_str(), writer) {
-            Ok(()) => 0,
-            Err(Failed) => tell_fault(RunFault::Write, faults),
-        },
-        Err(Refusal::BadQuery { place }) => tell_refusal(alloc, place, faults),
-        // Any other is want of memory.
-        Err(_) => tell_fault(RunFault::Memory, faults),
+    match words {
+        [word] => word.as_str() == "threads",
+        _ => false,
     }
-}
-
-// The canonical text of a formula, and LF.
-fn line_for(alloc: Global, formula: &str) -> Result<String, Refusal>
-    ensures value { IfOk result (λ line. (text : List ℕ)
-        × (IsCanonicalOf formula.now text × (string_bytes line ≡ line_with text))) }
-    ensures refused { IfErr result (λ e. (e ≡ Refusal.NoMemory)
-        ⊎ (refusal_of (reading_of formula.now) ≡ Some e)) }
-{
-    let mut line = check(alloc, formula)?;
-    line.push('\n')?;
-    Ok(line)
-}
-
-// Writes a line, and flushes.
-fn write_line<W: Sink>(line: &str, writer: &mut W) -> Result<(), Failed>
-    ensures ok { OnOk result (Appends (W.written writer.old) (W.written writer.new) line.now) }
-    ensures flushed { OnOk result (W.flushed writer.new ≡ true) }
-    ensures err { OnErr result
-        (WritesFront line.now (W.written writer.old) (W.written writer.new)) }
-    ensures fails { OnErr result ((W.failed writer.new ≡ true) ⊎ (W.stalled writer.new ≡ true)) }
-{
-    write_all(writer, line.as_bytes())?;
-    writer.flush()
-}
-
-// Tells that a formula has its leftmost fault at this place, and answers the status.
-fn tell_refusal<F: Sink>(alloc: Global, place: u64, faults: &mut F) -> u8
-    ensures status { (result ≡ 1) ⊎ (result ≡ 2) }
-    ensures told { result ≡ 2 →
-        Tells (refusal_line place) (F.written faults.old) (F.written faults.new)
-        (F.failed faults.new) (F.stalled faults.new) }
-    ensures memory { result ≡ 1 →
-        Tells (fault_line RunFault.Memory) (F.written faults.old) (F.written faults.new)
-        (F.failed faults.new) (F.stalled faults.new) }
-{
-    match format!(in alloc; "lq: BadQuery at {place}\n") {
-        Ok(line) => {
-            tell(line.as_str(), faults);
-            2
-        }
-        Err(AllocError) => tell_fault(RunFault::Memory, faults),
-    }
-}
-
-// Tells a fault, and answers its status.
-fn tell_fault<F: Sink>(fault: RunFault, faults: &mut F) -> u8
-    ensures status { result ≡ 1 }
-    ensures told { Tells (fault_line fault) (F.written faults.old) (F.written faults.new)
-        (F.failed faults.new) (F.stalled faults.new) }
-{
-    tell(line_of(fault), faults);
-    1
-}
-
-// Writes a line to standard error. A fault there is told to nobody.
-fn tell<F: Sink>(line: &str, faults: &mut F)
-    ensures { Tells line.now (F.written faults.old) (F.written faults.new)
-        (F.failed faults.new) (F.stalled faults.new) }
-{
-    let _ = write_all(faults, line.as_bytes());
 }
 
 // The line on standard error.
-fn line_of(fault: RunFault) -> &'static str
-    ensures { result.now ≡ fault_line fault }
-{
+fn line_of(fault: RunFault) -> &'static str {
     match fault {
         RunFault::Read => "lq: read fault\n",
         RunFault::Write => "lq: write fault\n",

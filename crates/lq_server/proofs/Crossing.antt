@@ -9,8 +9,8 @@ use Rattle.std.specs.contracts.sync.Mutex as mutex
 use Rattle.std.specs.contracts.marker.PhantomData as phantom
 use Rattle.std.below.core.specs.contracts.marker.ClosureMark as mark
 use Rattle.lq_value.proofs.attr_name.AttrName.TheSendSync as found_attr
-use Rattle.lq_pattern.proofs.literal.Literal.TheSendSync as found_literal
-use Rattle.lq_pattern.proofs.op.Op.TheSendSync as found_op
+use Rattle.lq_value.proofs.literal.Literal.TheSendSync as found_literal
+use Rattle.lq_value.proofs.op.Op.TheSendSync as found_op
 use Rattle.lq_predicate.proofs.tree.Tree.TheLaws.TheKnot.{crosses as tree_crosses}
 use Rattle.lq_predicate.specs.contracts.predicate.Predicate as predicate
 use Rattle.lq_update.proofs.message.Message.TheSendSync as found_message
@@ -19,19 +19,19 @@ use Rattle.lq_volume.proofs.volume.Volume.TheSendSync as found_volume
 use Rattle.lq_board.specs.contracts.board.Board as board
 use Rattle.lq_board.proofs.tokens.Keeper.TheSendSync as found_keeper
 use Rattle.lq_board.proofs.board.Board.TheSendSync as found_board
-use Rattle.lq_sub.specs.contracts.sub.Sub as sub
+use Rattle.lq_desk_sub.specs.contracts.sub.Sub as sub
 use Rattle.lq_port.specs.contracts.ends.PortIn as port_in
 use Rattle.lq_port.proofs.ends.PortIn.TheSendSync as found_in
-use Rattle.lq_subscription.specs.contracts.delivery.Delivery as delivery
-use Rattle.lq_subscription.specs.contracts.delivery.Opening as opening_at
-use Rattle.lq_subscription.specs.contracts.delivery.DeliveryFollows.TheImpl.{ghosts}
-use Rattle.lq_subscription.specs.contracts.identity.Identity as identity
-use Rattle.lq_subscription.specs.contracts.subscription.Subscription as slot
-use Rattle.lq_subscription.proofs.delivery.Delivery.TheSendSync as found_delivery
-use Rattle.lq_locked.specs.declared.named.Named.{Ghosts}
-use Rattle.lq_locked.specs.contracts.locked.Locked as locked
-use Rattle.lq_slots.specs.contracts.slots.Slots as slots
-use Rattle.lq_locked.specs.contracts.locked.Locked.TheInside as in_locked
+use Rattle.lq_server_subscription.specs.contracts.delivery.Delivery as delivery
+use Rattle.lq_server_subscription.specs.contracts.delivery.Opening as opening_at
+use Rattle.lq_server_subscription.specs.contracts.delivery.DeliveryFollows.TheImpl.{ghosts}
+use Rattle.lq_server_subscription.specs.contracts.identity.Identity as identity
+use Rattle.lq_server_subscription.specs.contracts.subscription.Subscription as slot
+use Rattle.lq_server_subscription.proofs.delivery.Delivery.TheSendSync as found_delivery
+use Rattle.lq_server.specs.declared.named.Named.{Ghosts}
+use Rattle.lq_server.specs.contracts.locked.Locked as locked
+use Rattle.lq_server_slots.specs.contracts.slots.Slots as slots
+use Rattle.lq_server.specs.contracts.locked.Locked.TheInside as in_locked
 use Rattle.lq_server.specs.contracts.server.Server as server
 use Rattle.lq_server.specs.contracts.server.Server.TheInside as in_server
 

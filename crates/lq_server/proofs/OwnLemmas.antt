@@ -4,21 +4,21 @@ use Rattle.std.specs.Prelude.{IsSome, IsSomeAnd, IfOk, OnErr, Result, Ok, Err, o
 use mathlib.Core.List.{List, IsPrefix}
 use Rattle.atomic_table.specs.Seated.{TableId}
 use Rattle.lq_value.specs.declared.refusal.Refusal.{Refusal}
-use Rattle.lq_formula.specs.Query.{Query}
+use Rattle.lq_predicate_formula.specs.Query.{Query}
 use Rattle.lq_volume.specs.Book.{Book}
 use Rattle.lq_board.specs.Token.{SeatToken}
 use Rattle.lq_update.specs.declared.message.Message.{Message}
 use Rattle.lq_port.specs.End.{End, IsSamePort}
-use Rattle.lq_sub.specs.declared.read.Read.{Read}
-use Rattle.lq_subscription.specs.declared.delivery.Delivery.{Delivery}
-use Rattle.lq_subscription.specs.declared.delivery.Opening.{Opening}
-use Rattle.lq_subscription.specs.declared.identity.Identity.{Identity}
-use Rattle.lq_subscription.specs.declared.identity.Shut.{Shut}
-use Rattle.lq_subscription.specs.Identity.{port_id}
-use Rattle.lq_subscription.specs.Rule.{query_of, whole}
-use Rattle.lq_subscription.specs.Reading.{ReadingHold, Gives, Fails, IsTold, known, received, is_marked}
-use Rattle.lq_slots.specs.declared.open.Opened.{Opened}
-use Rattle.lq_slots.specs.Opening.{IdentityFits, IsNamed, IsOpened, asks_after, name_or}
+use Rattle.lq_desk_sub.specs.declared.read.Read.{Read}
+use Rattle.lq_server_subscription.specs.declared.delivery.Delivery.{Delivery}
+use Rattle.lq_server_subscription.specs.declared.delivery.Opening.{Opening}
+use Rattle.lq_server_subscription.specs.declared.identity.Identity.{Identity}
+use Rattle.lq_server_subscription.specs.declared.identity.Shut.{Shut}
+use Rattle.lq_server_subscription.specs.Identity.{port_id}
+use Rattle.lq_server_subscription.specs.Rule.{query_of, whole}
+use Rattle.lq_server_subscription.specs.Reading.{ReadingHold, Gives, Fails, IsTold, known, received, is_marked}
+use Rattle.lq_server_slots.specs.declared.open.Opened.{Opened}
+use Rattle.lq_server_slots.specs.Opening.{IdentityFits, IsNamed, IsOpened, asks_after, name_or}
 use Rattle.lq_server.specs.Hold.{ReaderHold}
 use Rattle.lq_server.specs.Own.{IsOwn}
 use Rattle.lq_server.specs.Opened.{IsNewReader}

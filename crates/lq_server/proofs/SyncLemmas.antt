@@ -11,21 +11,21 @@ use Rattle.lq_update.specs.declared.parcel.Parcel.{Parcel}
 use Rattle.lq_update.specs.declared.parcel.Parcel.TheVariants.{Update, Fin}
 use Rattle.lq_port.specs.End.{End, all_put}
 use Rattle.lq_port.specs.Port.{IsLegal}
-use Rattle.lq_subscription.specs.declared.delivery.Delivery.{Delivery}
-use Rattle.lq_subscription.specs.declared.delivery.Opening.{Opening}
-use Rattle.lq_subscription.specs.declared.identity.Identity.{Identity}
-use Rattle.lq_subscription.specs.declared.subscription.Subscription.{Subscription}
-use Rattle.lq_subscription.specs.Updates.{updates}
-use Rattle.lq_subscription.specs.Rule.{floor_of, query_of, message_of, mark_or, messages_in, mark_in, MayFollow}
-use Rattle.lq_subscription.specs.LegalList.{known_by}
-use Rattle.lq_subscription.specs.Marking.{hung_mark}
-use Rattle.lq_subscription.specs.Identity.{identity_of, port_id}
-use Rattle.lq_subscription.specs.Reading.{received, ready, mark_read, what_of, IsTold}
-use Rattle.lq_subscription.specs.Standing.{given, upto, moved_mark, IsOut, ShutFits, IsOverrun}
+use Rattle.lq_server_subscription.specs.declared.delivery.Delivery.{Delivery}
+use Rattle.lq_server_subscription.specs.declared.delivery.Opening.{Opening}
+use Rattle.lq_server_subscription.specs.declared.identity.Identity.{Identity}
+use Rattle.lq_server_subscription.specs.declared.subscription.Subscription.{Subscription}
+use Rattle.lq_server_subscription.specs.Updates.{updates}
+use Rattle.lq_server_subscription.specs.Rule.{floor_of, query_of, message_of, mark_or, messages_in, mark_in, MayFollow}
+use Rattle.lq_server_subscription.specs.LegalList.{known_by}
+use Rattle.lq_server_subscription.specs.Marking.{hung_mark}
+use Rattle.lq_server_subscription.specs.Identity.{identity_of, port_id}
+use Rattle.lq_server_subscription.specs.Reading.{received, ready, mark_read, what_of, IsTold}
+use Rattle.lq_server_subscription.specs.Standing.{given, upto, moved_mark, IsOut, ShutFits, IsOverrun}
 use Rattle.lq_server.specs.Own.{IsOwn}
-use Rattle.lq_slots.specs.Opening.{IdentityFits, asks_after}
-use Rattle.lq_slots.specs.Progress.{ShowsProgress}
-use Rattle.lq_slots.specs.declared.sync.Progress.{Progress}
+use Rattle.lq_server_slots.specs.Opening.{IdentityFits, asks_after}
+use Rattle.lq_server_slots.specs.Progress.{ShowsProgress}
+use Rattle.lq_server_slots.specs.declared.sync.Progress.{Progress}
 use Rattle.lq_server.specs.Syncing.{bit, in_port, fin_list, IsSynced}
 use Rattle.lq_server.specs.Hold.{ReaderHold}
 use Rattle.lq_server.specs.declared.server.Synced.{Synced}

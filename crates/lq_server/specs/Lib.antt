@@ -5,3 +5,4 @@ pub mod Syncing
 pub mod Retired
 pub mod Lending
 pub mod Works
+pub mod Applied

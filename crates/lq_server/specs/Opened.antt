@@ -1,10 +1,10 @@
 -- A reader that was just opened.
 use Rattle.std.specs.Prelude.{◌≡◌, ℕ, Bool, false}
 use Rattle.atomic_table.specs.Seated.{TableId}
-use Rattle.lq_formula.specs.Query.{Query}
+use Rattle.lq_predicate_formula.specs.Query.{Query}
 use Rattle.lq_volume.specs.Book.{Book}
-use Rattle.lq_slots.specs.declared.open.Opened.{Opened}
-use Rattle.lq_slots.specs.Opening.{IsOpened}
+use Rattle.lq_server_slots.specs.declared.open.Opened.{Opened}
+use Rattle.lq_server_slots.specs.Opening.{IsOpened}
 use Rattle.lq_server.specs.Hold.{ReaderHold}
 use Rattle.lq_server.specs.Own.{IsOwn}
 

@@ -1,6 +1,6 @@
 -- A reader whose seat is its own.
 use Rattle.std.specs.Prelude.{◌≡◌, ◌<◌, IsSomeAnd}
-use Rattle.lq_slots.specs.Opening.{IdentityFits, asks_after}
+use Rattle.lq_server_slots.specs.Opening.{IdentityFits, asks_after}
 use Rattle.lq_server.specs.Hold.{ReaderHold}
 
 -- its seat is that of its slot and of its port, and has asked as often as the reader

@@ -7,13 +7,13 @@ use Rattle.lq_update.specs.declared.mark.Cause.TheVariants.{Overrun}
 use Rattle.lq_update.specs.declared.parcel.Parcel.{Parcel}
 use Rattle.lq_update.specs.declared.parcel.Parcel.TheVariants.{Update, Fin}
 use Rattle.lq_port.specs.End.{IsSamePort}
-use Rattle.lq_subscription.specs.Updates.{updates}
-use Rattle.lq_subscription.specs.Rule.{query_of}
-use Rattle.lq_subscription.specs.Marking.{hung_mark}
-use Rattle.lq_sub.specs.declared.read.Read.{Read}
-use Rattle.lq_sub.specs.declared.read.Read.TheVariants.{Ended}
-use Rattle.lq_subscription.specs.Reading.{known, received, ready, mark_read, is_marked, Gives, Fails}
-use Rattle.lq_subscription.specs.Standing.{upto, ShutFits, IsOverrun}
+use Rattle.lq_server_subscription.specs.Updates.{updates}
+use Rattle.lq_server_subscription.specs.Rule.{query_of}
+use Rattle.lq_server_subscription.specs.Marking.{hung_mark}
+use Rattle.lq_desk_sub.specs.declared.read.Read.{Read}
+use Rattle.lq_desk_sub.specs.declared.read.Read.TheVariants.{Ended}
+use Rattle.lq_server_subscription.specs.Reading.{known, received, ready, mark_read, is_marked, Gives, Fails}
+use Rattle.lq_server_subscription.specs.Standing.{upto, ShutFits, IsOverrun}
 use Rattle.lq_server.specs.Own.{IsOwn}
 use Rattle.lq_server.specs.Hold.{ReaderHold}
 use Rattle.lq_server.specs.declared.server.Synced.{Synced}

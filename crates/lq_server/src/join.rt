@@ -3,8 +3,8 @@ ghost use Rattle.std.specs.Prelude.{◌≡◌, All, IfOk, None};
 ghost use Rattle.lq_value.specs.Refusal.{IsRefusedBy};
 ghost use Rattle.lq_server.specs.Works.{AllGive};
 
+use crate::named::Named;
 use crate::server::Server;
-use lq_locked::Named;
 use lq_value::Refusal;
 use std::sync::Wait;
 use std::thread::{Threads, join, map_vec};

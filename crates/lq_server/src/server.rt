@@ -4,9 +4,10 @@ ghost use Rattle.lq_value.specs.declared.refusal.Refusal.TheVariants.{NoSeat};
 ghost use Rattle.lq_volume.specs.Book.{Extends};
 ghost use Rattle.lq_server.specs.Retired.{IsRetired};
 
+use crate::locked::Locked;
+use crate::named::{Base, Named};
 use lq_board::{Board, Seat};
-use lq_locked::{Base, Locked, Named};
-use lq_subscription::Identity;
+use lq_server_subscription::Identity;
 use lq_update::Mark;
 use lq_value::Refusal;
 use lq_volume::Volume;

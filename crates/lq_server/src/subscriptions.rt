@@ -2,21 +2,21 @@
 ghost use Rattle.std.specs.Prelude.{◌≡◌, ◌+◌, ◌<◌, ◌≤◌, ◌^◌, length, IfOk, IfErr, IfSome, IfNone, OnOk, is_ok, Some, Err, true, false};
 ghost use Rattle.lq_value.specs.declared.refusal.Refusal.TheVariants.{NotOpen, StillOpen};
 ghost use Rattle.lq_volume.specs.Book.{Extends};
-ghost use Rattle.lq_subscription.specs.declared.identity.Shut.TheVariants.{Never};
-ghost use Rattle.lq_subscription.specs.Marking.{first_close};
-ghost use Rattle.lq_subscription.specs.Reading.{is_marked};
-ghost use Rattle.lq_slots.specs.Opening.{IsOpeningRefused, name_or, opening_refusal};
+ghost use Rattle.lq_server_subscription.specs.declared.identity.Shut.TheVariants.{Never};
+ghost use Rattle.lq_server_subscription.specs.Marking.{first_close};
+ghost use Rattle.lq_server_subscription.specs.Reading.{is_marked};
+ghost use Rattle.lq_server_slots.specs.Opening.{IsOpeningRefused, name_or, opening_refusal};
 ghost use Rattle.lq_server.specs.declared.server.Synced.{Synced as SyncedOf};
 ghost use Rattle.lq_server.specs.Opened.{IsNewReader};
 ghost use Rattle.lq_server.specs.Own.{IsOwn};
 ghost use Rattle.lq_server.specs.Syncing.{IsSynced, bit, in_port};
 
+use crate::named::Named;
 use crate::reader::Reader;
 use crate::server::{Server, Synced};
 use lq_board::Seat;
-use lq_locked::Named;
 use lq_predicate::Predicate;
-use lq_subscription::Identity;
+use lq_server_subscription::Identity;
 use lq_value::Refusal;
 use std::sync::Wait;
 

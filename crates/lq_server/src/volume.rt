@@ -7,13 +7,14 @@ ghost use Rattle.lq_volume.specs.Change.{refused};
 ghost use Rattle.lq_volume.specs.Result.{result_of};
 ghost use Rattle.lq_volume.specs.State.{record_at, node_in};
 ghost use Rattle.lq_volume.specs.Lookup.{find_refusals, entry_refusals, listed};
-ghost use Rattle.lq_locked.specs.Applied.{IsAdded};
+ghost use Rattle.lq_server.specs.Applied.{IsAdded};
 
+use crate::locked::Found;
+use crate::named::Named;
 use crate::server::{Accepted, Server};
 use lq_board::Seat;
-use lq_locked::{Found, Named};
 use lq_predicate::Predicate;
-use lq_subscription::Identity;
+use lq_server_subscription::Identity;
 use lq_value::{Name, Refusal};
 use lq_volume::{Change, Listing};
 use std::sync::Wait;

@@ -1,9 +1,9 @@
 //! What readers have to be told of accepted changes: for each, the difference of two whole results.
 use crate::acts::Told;
 use crate::draws::Asked;
+use lq_desk_sub::Read;
 use lq_predicate::{Predicate, read};
 use lq_server::Accepted;
-use lq_sub::Read;
 use lq_update::{Mark, Message, Opcode};
 use lq_value::{Entry, Refusal};
 use lq_volume::{Change, Volume};

@@ -1,5 +1,5 @@
 //! Display texts of refusals and of faults.
-use lq_lines::RunFault;
+use lq_script_lines::RunFault;
 use lq_value::Refusal;
 use std::alloc::{AllocError, Global};
 use std::fmt::Display;

@@ -1,6 +1,6 @@
-//! Texts at the borders of what serde_json takes, read by it and by lq_json.
+//! Texts at the borders of what serde_json takes, read by it and by lq_script_json.
 use json::{Scratch, Value};
-use lq_json::{bool_of, field, i64_of, read, text_of, u64_of};
+use lq_script_json::{bool_of, field, i64_of, read, text_of, u64_of};
 use lq_value::Refusal;
 use std::alloc::{AllocError, Global};
 use std::test::Fail;
@@ -90,7 +90,7 @@ fn has_same(plain: &serde_json::Value, value: &Value<'_>, key: &str) -> bool {
     }
 }
 
-// Whether serde_json and lq_json have the same fields `a` and `b` of a text, or both refuse it.
+// Whether serde_json and lq_script_json have the same fields `a` and `b` of a text, or both refuse it.
 fn is_read_alike(alloc: Global, scratch: &mut Scratch, text: &str) -> bool {
     let Ok(plain) = serde_json::Value::from_str(alloc, text) else {
         return read(alloc, scratch, text).err() == Some(Refusal::NotJson);

@@ -1,8 +1,8 @@
-//! Of lq_lines: runs over devices that give and take little at a time, and fail.
+//! Of lq_script_lines: runs over devices that give and take little at a time, and fail.
 ghost use Rattle.std.specs.Prelude.{ℕ, [], ◌∷◌, ◌++◌, None};
-ghost use Rattle.lq_lines.specs.Lines.{Rules};
+ghost use Rattle.lq_script_lines.specs.Lines.{Rules};
 
-use lq_lines::{Failed, Responder, RunFault, Sink, Source, run_lines};
+use lq_script_lines::{Failed, Responder, RunFault, Sink, Source, run_lines};
 use lq_value::Refusal;
 use std::alloc::{AllocError, Global};
 use std::cell::Cell;

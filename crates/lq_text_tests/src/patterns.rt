@@ -1,6 +1,5 @@
-//! Of lq_pattern: sources that a formula can't have, since a `\` ends them.
-use lq_pattern::Pattern;
-use lq_value::Refusal;
+//! Of lq_value: sources that a formula can't have, since a `\` ends them.
+use lq_value::{Pattern, Refusal};
 use std::test::Fail;
 
 // a source and the byte place of its leftmost fault

@@ -1,6 +1,5 @@
-//! Of lq_stack: predicates from pushes, which no script makes.
-use lq_predicate::write;
-use lq_stack::{Stack, StackOp};
+//! Of lq_predicate: predicates from pushes, which no script makes.
+use lq_predicate::{Stack, StackOp, write};
 use lq_value::Refusal;
 use std::alloc::Global;
 use std::test::Fail;

@@ -1,8 +1,7 @@
 //! Reads side by side, and devices that fail in mid-stream, beside the run by one thread.
 ghost use Rattle.std.specs.Prelude.{◌≡◌, ◌<◌, false, true, None};
 
-use lq_script::run;
-use lq_threads::{Failed, Gate, Host, OpenGate, RunFault, Sink, Source, run_threads};
+use lq_script::{Failed, Gate, Host, OpenGate, RunFault, Sink, Source, run, run_threads};
 use std::alloc::Global;
 use std::sync::Wait;
 use std::sync::atomic::{AtomicBool, Ordering};

@@ -1,10 +1,10 @@
 -- The definitions compute: a file of 200 bytes comes, moves and goes under `size>100`.
 use Rattle.std.proofs.Common.{◌≡◌, [], ◌∷◌, refl, true, false, pos}
 use Rattle.std.specs.Prelude.{codes}
-use Rattle.lq_pattern.specs.declared.op.Op.TheVariants.{Gt}
-use Rattle.lq_pattern.specs.declared.literal.Literal.TheVariants.{Plain}
+use Rattle.lq_value.specs.declared.op.Op.TheVariants.{Gt}
+use Rattle.lq_value.specs.declared.literal.Literal.TheVariants.{Plain}
 use Rattle.lq_value.specs.declared.kind.Kind.TheVariants.{File}
-use Rattle.lq_formula.specs.Query.{Query, Compare}
+use Rattle.lq_predicate_formula.specs.Query.{Query, Compare}
 use Rattle.lq_volume.specs.declared.change.Change.TheVariants.{Create, Remove, Move}
 use Rattle.lq_volume.specs.State.{empty_state}
 use Rattle.lq_volume.specs.Book.{Book}

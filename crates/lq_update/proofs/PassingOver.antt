@@ -11,7 +11,7 @@ use Rattle.std.proofs.lemmas.Map.Entries.{lookup-filter-keys}
 use Rattle.std.proofs.lemmas.Slice.Eq.{bytes_eq-Decides}
 use Rattle.lq_value.specs.declared.entry.Entry.{Entry}
 use Rattle.lq_value.specs.declared.value.Value.{Value}
-use Rattle.lq_formula.specs.Query.{Query}
+use Rattle.lq_predicate_formula.specs.Query.{Query}
 use Rattle.lq_predicate.specs.Laws.{TruthStaysBesideSpans}
 use Rattle.lq_predicate.specs.Span.{StaysBeside, is_beside, span_of}
 use Rattle.lq_predicate.specs.Truth.{truth}

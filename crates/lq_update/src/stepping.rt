@@ -2,7 +2,7 @@
 ghost use Rattle.std.specs.Prelude.{◌≡◌, ℕ, Bool, true, false, [], ◌+◌, ◌<◌, ◌≤◌, ◌^◌, ◌++◌, None, IfOk, map, option_and_then, vec_len, nat_lt, if◌then◌else◌};
 ghost use Rattle.std.specs.Option.{option_copied, option_map_or, option_to_list};
 ghost use Rattle.lq_value.specs.Refusal.{IsRefusedBy};
-ghost use Rattle.lq_formula.specs.Query.{Query};
+ghost use Rattle.lq_predicate_formula.specs.Query.{Query};
 ghost use Rattle.lq_predicate.specs.Span.{spans_of};
 ghost use Rattle.lq_volume.specs.Change.{after, node_of, IsLawful};
 ghost use Rattle.lq_volume.specs.Laws.{ChangesKeepTrees, ClobberedGo, UntouchedStay};

@@ -1,14 +1,23 @@
 //! The name of an attribute.
-ghost use Rattle.std.specs.Prelude.{◌≡◌, ◌==◌, not, Some, None, IfOk, IsTrue, if◌then◌else◌};
+ghost use Rattle.std.specs.Prelude.{◌≡◌, ◌==◌, not, Some, None, IfOk, IsTrue, nat_eq, if◌then◌else◌};
+ghost use Rattle.std.proofs.Common.{rules};
+ghost use Rattle.std.specs.Cmp.{partial_equiv_from_equiv};
+ghost use Rattle.std.specs.Cmp.Rules.{hashing};
+ghost use Rattle.std.specs.Hash as fed;
+ghost use Rattle.std.specs.Cmp.Lexicographic.{pointwise, nat_list_eq_equiv};
 ghost use Rattle.std.specs.List.{list_all};
 ghost use Rattle.lq_value.specs.declared.refusal.Refusal.TheVariants.{BadName};
 ghost use Rattle.lq_value.specs.Refusal.{IsRefusedBy};
 ghost use Rattle.lq_value.specs.Name.{is_attr_name};
+ghost use Rattle.lq_value.specs.Field.{field_of};
 
+use crate::field::Field;
 use crate::refusal::Refusal;
 use crate::shared_text::SharedText;
+use crate::text::same_text;
 use std::alloc::Global;
 use std::fmt;
+use std::hash::{Hash, Hasher};
 use std::marker::Model;
 
 /// The longest name of an attribute, in bytes.
@@ -17,15 +26,17 @@ pub const MAX_ATTR_NAME: usize = 255;
 /// The name of an attribute: 1 to 255 bytes of UTF-8 without NUL.
 ///
 /// A contract sees it as its bytes. A name and its copies share one text, which is counted and goes
-/// with the last of them.
+/// with the last of them. The field that it names is found once, when it is read, so that no row
+/// compares texts for it.
 pub struct AttrName {
     text: SharedText,
+    field: Field,
 }
 
 // One call takes it apart, wherever one is dropped.
 impl Drop for AttrName {
     fn drop(self) {
-        let AttrName { text: _ } = self;
+        let AttrName { text: _, field: _ } = self;
     }
 }
 
@@ -36,14 +47,16 @@ impl fmt::Debug for AttrName {
 }
 
 impl Model for AttrName {
-    ghost use Rattle.std.specs.Prelude.{ℕ, List, IsTrue};
+    ghost use Rattle.std.specs.Prelude.{◌≡◌, ℕ, List, IsTrue};
+    ghost use Rattle.lq_value.specs.Field.{field_of};
     ghost use Rattle.lq_value.specs.Name.{is_attr_name};
 
     ghost Value = { List ℕ };
 
     ghost view = { λ name. name.text };
 
-    ghost invariant = { λ name. IsTrue (is_attr_name name.text) };
+    ghost invariant = { λ name.
+        IsTrue (is_attr_name name.text) × (name.field ≡ field_of name.text) };
 }
 
 impl AttrName {
@@ -61,6 +74,7 @@ impl AttrName {
         }
         Ok(AttrName {
             text: SharedText::new(alloc, text)?,
+            field: field_of_text(text),
         })
     }
 
@@ -70,6 +84,13 @@ impl AttrName {
         ensures valid { IsTrue (is_attr_name self.now) }
     {
         self.text.as_str()
+    }
+
+    /// The field of an entry that the name stands for, or `Attribute`. It takes no memory.
+    pub fn field(&self) -> Field
+        ensures { result ≡ field_of self.now }
+    {
+        self.field
     }
 
     /// Another name with the same text, which the two share: it takes no memory.
@@ -82,7 +103,44 @@ impl AttrName {
     {
         Ok(AttrName {
             text: self.text.copy(alloc)?,
+            field: self.field,
         })
+    }
+}
+
+// Names are equal where their texts are.
+impl PartialEq for AttrName {
+    ghost eq = { pointwise nat_eq };
+
+    ghost laws = { partial_equiv_from_equiv nat_list_eq_equiv };
+
+    fn eq(&self, other: &AttrName) -> bool {
+        same_text(self.as_str(), other.as_str())
+    }
+}
+
+impl Eq for AttrName {
+    ghost laws = { nat_list_eq_equiv };
+}
+
+impl Hash for AttrName {
+    ghost hash_input = { λ name. fed.str name };
+
+    ghost respects_eq = { Prim.search (hashing, rules) };
+
+    fn hash<H: Hasher>(&self, state: &mut H) {
+        self.as_str().hash(state);
+    }
+}
+
+fn field_of_text(text: &str) -> Field
+    ensures { result ≡ field_of text.now }
+{
+    match text {
+        "name" => Field::Name,
+        "size" => Field::Size,
+        "last_modified" => Field::LastModified,
+        _ => Field::Attribute,
     }
 }
 

@@ -4,7 +4,7 @@ ghost use Rattle.lq_value.specs.Refusal.{IsRefusedBy};
 
 use crate::refusal::Refusal;
 use crate::shared_text::SharedText;
-use lq_short_text::ShortText;
+use lq_value_short_text::ShortText;
 use std::alloc::Global;
 use std::marker::Model;
 

@@ -3,41 +3,68 @@ ghost use Rattle.std.specs.Prelude.{◌≡◌};
 ghost use Rattle.lq_value.specs.declared.refusal.Refusal.TheVariants.{NoMemory};
 
 use std::alloc::{AllocError, AllocFailed};
-use std::error::Error;
 use std::fmt;
+use thiserror::Error;
 
 /// Why a call was refused: a numbered answer that changes nothing.
 ///
 /// The numbers and names are this project's own; the display text is the name, and that of
 /// `BadQuery` also has the byte place of the fault, counted from 0.
-#[derive(Clone, Copy, PartialEq, Eq)]
+#[derive(Clone, Copy, PartialEq, Eq, Error)]
 pub enum Refusal {
+    #[error("BadName")]
     BadName,
+    #[error("NoNode")]
     NoNode,
+    #[error("NotFolder")]
     NotFolder,
+    #[error("NoEntry")]
     NoEntry,
+    #[error("Exists")]
     Exists,
+    #[error("WouldLoop")]
     WouldLoop,
+    #[error("NotEmpty")]
     NotEmpty,
+    #[error("KindClash")]
     KindClash,
+    #[error("IsFolder")]
     IsFolder,
+    #[error("NoAttr")]
     NoAttr,
+    #[error("Reserved")]
     Reserved,
+    #[error("TooLong")]
     TooLong,
+    #[error("Exhausted")]
     Exhausted,
+    #[error("NoMemory")]
     NoMemory,
+    #[error("BadQuery at {place}")]
     BadQuery { place: u64 },
+    #[error("BadPort")]
     BadPort,
+    #[error("BadBacklog")]
     BadBacklog,
+    #[error("NoSlot")]
     NoSlot,
+    #[error("NoSeat")]
     NoSeat,
+    #[error("NotOpen")]
     NotOpen,
+    #[error("StillOpen")]
     StillOpen,
+    #[error("LongLine")]
     LongLine,
+    #[error("NotUtf8")]
     NotUtf8,
+    #[error("NotJson")]
     NotJson,
+    #[error("BadLine")]
     BadLine,
+    #[error("OutOfStep")]
     OutOfStep,
+    #[error("Mismatch")]
     Mismatch,
 }
 
@@ -115,22 +142,11 @@ impl Refusal {
     }
 }
 
-impl fmt::Display for Refusal {
-    fn fmt<W: fmt::Write>(&self, f: &mut fmt::Formatter<W>) -> fmt::Result {
-        match self {
-            Refusal::BadQuery { place } => write!(f, "BadQuery at {place}"),
-            refusal => f.write_str(refusal.name()),
-        }
-    }
-}
-
 impl fmt::Debug for Refusal {
     fn fmt<W: fmt::Write>(&self, f: &mut fmt::Formatter<W>) -> fmt::Result {
         fmt::Display::fmt(self, f)
     }
 }
-
-impl Error for Refusal {}
 
 impl From<AllocError> for Refusal {
     ghost from_gives = { λ _ e. e ≡ NoMemory };

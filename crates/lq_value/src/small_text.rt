@@ -3,7 +3,7 @@ ghost use Rattle.std.specs.Prelude.{◌≡◌, None, IfOk};
 ghost use Rattle.lq_value.specs.Refusal.{IsRefusedBy};
 
 use crate::refusal::Refusal;
-use lq_short_text::ShortText;
+use lq_value_short_text::ShortText;
 use std::alloc::Global;
 use std::marker::Model;
 

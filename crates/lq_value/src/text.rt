@@ -56,6 +56,14 @@ impl Text {
         self.text.as_str()
     }
 
+    /// The `String` that the text was made from. It takes no memory.
+    pub fn into_string(self) -> String
+        ensures { string_bytes result ≡ self }
+    {
+        let Text { text, number: _ } = self;
+        text
+    }
+
     /// Another text with the same bytes. Refused: `NoMemory`.
     pub fn copy(&self, alloc: Global) -> Result<Text, Refusal>
         ensures refused { IsRefusedBy result None }

@@ -6,8 +6,8 @@ ghost use Rattle.lq_volume.specs.Attributes.{value_of};
 ghost use Rattle.lq_volume.specs.Seen.{attrs_of};
 
 use crate::attributes::Attributes;
-use lq_predicate::{Column, Field, Row};
-use lq_value::{AttrName, Entry, Kind, Name, Refusal, Value, View, same_text};
+use lq_predicate::Row;
+use lq_value::{AttrName, Entry, Field, Kind, Name, Refusal, Value, View, same_text};
 use std::alloc::Global;
 use std::marker::Model;
 
@@ -157,12 +157,12 @@ impl<'a> Row for Seen<'a> {
 
     ghost looks = { shown };
 
-    fn look(&self, column: &Column) -> Option<View<'_>> {
-        match column.field() {
+    fn look(&self, attr: &AttrName) -> Option<View<'_>> {
+        match attr.field() {
             Field::Name => Some(View::Text(self.name.as_str())),
             Field::Size => Some(View::Int64(self.size as i64)),
             Field::LastModified => Some(View::Int64(self.time)),
-            Field::Attribute => match self.value(column.name()) {
+            Field::Attribute => match self.value(attr) {
                 None => None,
                 Some(value) => Some(value.view()),
             },

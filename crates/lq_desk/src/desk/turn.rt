@@ -1,10 +1,10 @@
 //! The turns of a desk: an event, and what the desk does about it of itself.
 ghost use Rattle.std.specs.Prelude.{◌≡◌, ◌⊎◌};
 ghost use Rattle.lq_value.specs.declared.refusal.Refusal.TheVariants.{NoMemory};
-ghost use Rattle.lq_world.specs.World.{World};
-ghost use Rattle.lq_world.specs.declared.event.Event.TheVariants.{At};
-ghost use Rattle.lq_world.specs.Events.{Refused};
-ghost use Rattle.lq_world.specs.Turns.{all_puts, notices, places_at, puts};
+ghost use Rattle.lq_desk_world.specs.World.{World};
+ghost use Rattle.lq_desk_world.specs.declared.event.Event.TheVariants.{At};
+ghost use Rattle.lq_desk_world.specs.Events.{Refused};
+ghost use Rattle.lq_desk_world.specs.Turns.{all_puts, notices, places_at, puts};
 ghost use Rattle.lq_desk.specs.Kept.{Shows, kept_outcome};
 ghost use Rattle.lq_desk.specs.Reply.{answer_of};
 ghost use Rattle.lq_desk.specs.Turn.{TurnRuns, TurnStep, kept_after, kept_ports, kept_turn_outcome};
@@ -12,9 +12,9 @@ ghost use Rattle.lq_desk.specs.Turn.{TurnRuns, TurnStep, kept_after, kept_ports,
 use crate::desk::Desk;
 use crate::reply::Reply;
 use crate::slots::SLOTS;
+use lq_desk_world::{Act, Event, runs_keep_worlds_fair};
 use lq_update::updates_join;
 use lq_volume::changes_are_counted;
-use lq_world::{Act, Event, runs_keep_worlds_fair};
 
 impl Desk {
     /// Carries out one event with all that belongs to its turn, and answers the event.

@@ -2,7 +2,7 @@ use Rattle.std.proofs.Common.{subst}
 use Rattle.std.specs.Prelude.{IfOk}
 use Rattle.lq_volume.specs.Book.{Extends}
 use Rattle.lq_board.specs.Token.{SeatToken}
-use Rattle.lq_subscription.specs.declared.identity.Identity.{Identity}
+use Rattle.lq_server_subscription.specs.declared.identity.Identity.{Identity}
 use Rattle.lq_model.specs.Followed.{GoesOn}
 use Rattle.lq_model.proofs.FollowLemmas.{followed}
 use Rattle.lq_model.proofs.model.follow.Goals as goal

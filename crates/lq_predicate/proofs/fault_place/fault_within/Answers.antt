@@ -1,7 +1,7 @@
 use Rattle.std.proofs.Common.{arith, refl, reverse, ap, ◌+◌}
-use Rattle.lq_formula.specs.Grammar.{nesting}
-use Rattle.lq_formula.specs.Machine.{start}
-use Rattle.lq_formula.specs.TokenView.{placed_of}
+use Rattle.lq_predicate_formula.specs.Grammar.{nesting}
+use Rattle.lq_predicate_formula.specs.Machine.{start}
+use Rattle.lq_predicate_formula.specs.TokenView.{placed_of}
 use Rattle.lq_predicate.proofs.ReadLemmas.{fault_of-none, fits, token_fits, token_stops, too_great}
 use Rattle.lq_predicate.proofs.SoFarLemmas.{starts, goes_on, one_too_many, ends}
 use Rattle.lq_predicate.proofs.fault_place.fault_within.Goals as goal

@@ -1,5 +1,5 @@
 use Rattle.std.proofs.Common.{length}
-use Rattle.lq_formula.specs.Machine.{State}
+use Rattle.lq_predicate_formula.specs.Machine.{State}
 use Rattle.lq_predicate.specs.Validator.{Shows}
 use Rattle.lq_predicate.proofs.SoFarLemmas.{SoFar}
 use Rattle.lq_predicate.proofs.fault_place.fault_within.Given as goal

@@ -1,9 +1,9 @@
 use Rattle.std.proofs.Common.{rules, subst}
 use Rattle.std.specs.Prelude.{IsSome}
 use Rattle.lq_value.specs.Refusal.{IsRefusedBy}
-use Rattle.lq_formula.specs.Literals.{name_refusal}
-use Rattle.lq_formula.specs.Machine.{at_operand, operand}
-use Rattle.lq_formula.specs.Tokens.{word}
+use Rattle.lq_predicate_formula.specs.Literals.{name_refusal}
+use Rattle.lq_predicate_formula.specs.Machine.{at_operand, operand}
+use Rattle.lq_predicate_formula.specs.Tokens.{word}
 use Rattle.lq_predicate.specs.ParserView.{state_at}
 use Rattle.lq_predicate.proofs.ParserLemmas.{name_taken}
 use Rattle.lq_predicate.proofs.parser.read_operand.Goals as goal

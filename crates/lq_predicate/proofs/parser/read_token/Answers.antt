@@ -1,9 +1,9 @@
 use Rattle.std.proofs.Common.{rules, subst}
 use Rattle.std.specs.Prelude.{IsSome}
 use Rattle.lq_value.specs.Refusal.{IsRefusedBy}
-use Rattle.lq_formula.specs.Literals.{literal_refusal}
-use Rattle.lq_formula.specs.Machine.{after_op, at_op}
-use Rattle.lq_formula.specs.Tokens.{word}
+use Rattle.lq_predicate_formula.specs.Literals.{literal_refusal}
+use Rattle.lq_predicate_formula.specs.Machine.{after_op, at_op}
+use Rattle.lq_predicate_formula.specs.Tokens.{word}
 use Rattle.lq_predicate.specs.ParserView.{state_at}
 use Rattle.lq_predicate.proofs.ParserLemmas.{literal_taken}
 use Rattle.lq_predicate.proofs.parser.read_token.Goals as goal

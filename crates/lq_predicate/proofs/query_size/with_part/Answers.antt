@@ -1,5 +1,5 @@
 use Rattle.std.proofs.Common.{◌∙◌, ap, ◌+◌, max}
-use Rattle.lq_formula.specs.Capped.{capped}
+use Rattle.lq_predicate_formula.specs.Capped.{capped}
 use Rattle.lq_predicate.proofs.QuerySizeLemmas.{two_parts, more_parts}
 use Rattle.lq_predicate.proofs.query_size.with_part.Goals as goal
 

@@ -1,5 +1,5 @@
 use Rattle.std.proofs.Common.{◌∙◌, sym, ap, refl}
-use Rattle.lq_formula.specs.TokenView.{placed_of}
+use Rattle.lq_predicate_formula.specs.TokenView.{placed_of}
 use Rattle.lq_predicate.specs.Refusals.{fault_of}
 use Rattle.lq_predicate.proofs.ReadLemmas.{ends_whole, reads_whole}
 use Rattle.lq_predicate.proofs.SoFarLemmas.{all_texts, ends, no_texts, one_text, reads_further, reads_short, starts, takes}

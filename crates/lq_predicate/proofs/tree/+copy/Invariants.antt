@@ -1,6 +1,6 @@
 use Rattle.std.proofs.Common.{◌≡◌, ◌+◌, ◌*◌, take}
-use Rattle.lq_formula.specs.Query.{queries}
-use Rattle.lq_formula.specs.Canonical.{depth, deepest}
+use Rattle.lq_predicate_formula.specs.Query.{queries}
+use Rattle.lq_predicate_formula.specs.Canonical.{depth, deepest}
 use Rattle.lq_predicate.proofs.tree.+copy.Given as goal
 
 abbrev pub decreases-Tree::copy : goal.decreases-Tree::copy

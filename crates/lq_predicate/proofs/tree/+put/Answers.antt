@@ -1,6 +1,6 @@
 use Rattle.std.proofs.Common.{◌≡◌, ◌∷◌, ap, arith, rules}
-use Rattle.lq_formula.specs.Query.{queries}
-use Rattle.lq_formula.specs.Canonical.{deepest}
+use Rattle.lq_predicate_formula.specs.Query.{queries}
+use Rattle.lq_predicate_formula.specs.Canonical.{deepest}
 use Rattle.lq_predicate.proofs.PartLemmas.{depth_le-deepest}
 use Rattle.lq_predicate.proofs.CanonicalLemmas.{parts_begun, parts_on}
 use Rattle.lq_predicate.proofs.tree.+put.Goals as goal

@@ -1,8 +1,8 @@
 use Rattle.std.proofs.Common.{◌≡◌, ◌+◌, ◌*◌, ◌++◌, ◌∷◌, [], drop}
 use Rattle.std.specs.String.{string_bytes}
-use Rattle.lq_formula.specs.Query.{queries}
-use Rattle.lq_formula.specs.Canonical.{depth, deepest}
-use Rattle.lq_formula.specs.Canonical.{parts_written, others_written}
+use Rattle.lq_predicate_formula.specs.Query.{queries}
+use Rattle.lq_predicate_formula.specs.Canonical.{depth, deepest}
+use Rattle.lq_predicate_formula.specs.Canonical.{parts_written, others_written}
 use Rattle.lq_predicate.proofs.tree.+put.Given as goal
 
 abbrev pub decreases-Tree::put : goal.decreases-Tree::put

@@ -10,7 +10,7 @@ use denote.Param.{param}
 use denote.Param.Send.{IsSend, IsSync, param_send, arg_send, shr_send}
 use denote.Param.SendFields.{declared_send, as_row_send}
 use Rattle.std.below.core.specs.contracts.marker.ClosureMark as mark
-use Rattle.lq_locked.specs.declared.named.Named.{Ghosts}
+use Rattle.lq_server.specs.declared.named.Named.{Ghosts}
 use Rattle.lq_server.specs.contracts.server.Server as server
 use Rattle.lq_server.proofs.Crossing.{server_sync, mark_send}
 use Rattle.lq_server.proofs.join.join_over.Goals as goal

@@ -10,7 +10,7 @@ use denote.Param.{param}
 use denote.Param.Send.{IsSync, param_sync, arg_sync, shr_sync}
 use denote.Param.SendFields.{declared_sync}
 use Rattle.std.below.core.specs.contracts.marker.ClosureMark as mark
-use Rattle.lq_locked.specs.declared.named.Named.{Ghosts}
+use Rattle.lq_server.specs.declared.named.Named.{Ghosts}
 use Rattle.lq_server.specs.contracts.server.Server as server
 use Rattle.lq_server.proofs.Crossing.{server_sync, mark_sync}
 use Rattle.lq_server.proofs.join.map_over.Goals as goal

@@ -9,7 +9,7 @@ use denote.Exit.{no}
 use denote.Param.{param}
 use denote.Param.Send.{IsSync, sendable, param_sync, arg_sync}
 use Rattle.std.specs.contracts.alloc.Global as global
-use Rattle.lq_locked.specs.declared.named.Named.{Ghosts}
+use Rattle.lq_server.specs.declared.named.Named.{Ghosts}
 use Rattle.lq_server.specs.contracts.server.Server as server
 use Rattle.std.proofs.Crossing.{crosses}
 use Rattle.lq_server.proofs.Crossing.{server_sync}

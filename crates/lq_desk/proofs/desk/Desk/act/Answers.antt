@@ -1,5 +1,5 @@
 use Rattle.std.proofs.Common.{◌≡◌, ◌≤◌, ◌-◌, ◌*◌, ◌^◌, length, arith, ap, ◌∙◌, sym, map, None, inl, inr}
-use Rattle.lq_world.specs.declared.event.Event.TheVariants.{At}
+use Rattle.lq_desk_world.specs.declared.event.Event.TheVariants.{At}
 use Rattle.lq_desk.specs.Act.{outcome_in}
 use Rattle.lq_desk.specs.Kept.{Kept, kept_at, kept_outcome}
 use Rattle.lq_desk.specs.Reply.{answer_of}

@@ -1,6 +1,6 @@
 use Rattle.std.proofs.Common.{◌≡◌, ◌≤◌, ◌-◌, ◌*◌, length, arith, ap, ◌∙◌, sym, subst, map, inl, inr, None}
 use Rattle.std.proofs.lemmas.List.{length-set}
-use Rattle.lq_world.specs.Turns.{places_at, puts}
+use Rattle.lq_desk_world.specs.Turns.{places_at, puts}
 use Rattle.lq_desk.specs.Slot.{done_at, filled}
 use Rattle.lq_desk.specs.Kept.{Kept, IsDesk, kept_at}
 use Rattle.lq_desk.specs.Turn.{kept_after, kept_ports}

@@ -1,10 +1,10 @@
 use Rattle.std.proofs.Common.{◌<◌, length, arith, ap, sym, subst, List, map}
 use Rattle.std.proofs.lemmas.List.{take_more, take_all}
 use Rattle.lq_volume.specs.State.{State}
-use Rattle.lq_world.specs.declared.event.Event.{Event}
+use Rattle.lq_desk_world.specs.declared.event.Event.{Event}
 use Rattle.lq_desk.specs.Kept.{Kept, Shows}
 use Rattle.lq_desk.specs.Reply.{Runs, answer_of}
-use Rattle.lq_world.specs.Headline.{ReadersAreTold}
+use Rattle.lq_desk_world.specs.Headline.{ReadersAreTold}
 use Rattle.lq_desk.proofs.RunLemmas.{runs-more, map-more}
 use Rattle.lq_desk.proofs.desk.Desk.run.Goals as goal
 

@@ -2,7 +2,7 @@ use Rattle.std.proofs.Common.{◌≡◌, ◌<◌, ◌≤◌, ◌^◌, ◌-◌, a
 use Rattle.std.specs.List.{AllByRecursion}
 use Rattle.std.proofs.lemmas.List.{length-map}
 use Rattle.lq_value.specs.declared.refusal.Refusal.TheVariants.{NotOpen}
-use Rattle.lq_world.specs.Events.{Answer, Refused}
+use Rattle.lq_desk_world.specs.Events.{Answer, Refused}
 use Rattle.lq_desk.specs.Act.{outcome_in}
 use Rattle.lq_desk.specs.Slot.{KeptSlot, PreparedSlot}
 use Rattle.lq_desk.specs.Words.{SetsBit}

@@ -1,5 +1,5 @@
 use Rattle.std.proofs.Common.{sym, ap, ◌∙◌, drop, ◌+◌}
-use Rattle.lq_formula.specs.Query.{queries}
+use Rattle.lq_predicate_formula.specs.Query.{queries}
 use Rattle.lq_predicate.specs.Names.{attributes, all_attributes, each_once}
 use Rattle.lq_predicate.proofs.NameLemmas.{each_once-append}
 use Rattle.lq_predicate.proofs.PartLemmas.{parts_here}

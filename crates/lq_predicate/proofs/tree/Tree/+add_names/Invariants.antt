@@ -1,5 +1,5 @@
 use Rattle.std.proofs.Common.{◌≡◌, drop}
-use Rattle.lq_formula.specs.Query.{queries}
+use Rattle.lq_predicate_formula.specs.Query.{queries}
 use Rattle.lq_predicate.specs.Names.{attributes, all_attributes, each_once}
 use Rattle.lq_predicate.proofs.tree.Tree.+add_names.Given as goal
 

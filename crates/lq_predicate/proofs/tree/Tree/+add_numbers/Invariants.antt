@@ -1,5 +1,5 @@
 use Rattle.std.proofs.Common.{◌≡◌, drop}
-use Rattle.lq_formula.specs.Query.{queries}
+use Rattle.lq_predicate_formula.specs.Query.{queries}
 use Rattle.lq_predicate.specs.Span.{numbers_of, all_numbers, widened}
 use Rattle.lq_predicate.proofs.tree.Tree.+add_numbers.Given as goal
 

@@ -1,6 +1,6 @@
 use Rattle.std.proofs.Common.{◌≡◌, ◌+◌, drop}
-use Rattle.lq_formula.specs.Query.{queries}
-use Rattle.lq_formula.specs.Canonical.{comparisons, all_comparisons}
+use Rattle.lq_predicate_formula.specs.Query.{queries}
+use Rattle.lq_predicate_formula.specs.Canonical.{comparisons, all_comparisons}
 use Rattle.lq_predicate.proofs.tree.Tree.+comparisons.Given as goal
 
 abbrev pub invariant-loop-part : goal.invariant-loop-part

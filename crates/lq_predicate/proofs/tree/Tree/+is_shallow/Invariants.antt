@@ -1,6 +1,6 @@
 use Rattle.std.proofs.Common.{◌≡◌, drop, nat_le, ◌-◌}
-use Rattle.lq_formula.specs.Query.{queries}
-use Rattle.lq_formula.specs.Canonical.{depth, deepest}
+use Rattle.lq_predicate_formula.specs.Query.{queries}
+use Rattle.lq_predicate_formula.specs.Canonical.{depth, deepest}
 use Rattle.lq_predicate.proofs.tree.Tree.+is_shallow.Given as goal
 
 abbrev pub invariant-loop-part : goal.invariant-loop-part

@@ -1,6 +1,6 @@
 use Rattle.std.proofs.Common.{◌≡◌, ap, arith, rules}
-use Rattle.lq_formula.specs.Query.{And, Or, queries}
-use Rattle.lq_formula.specs.Canonical.{depth}
+use Rattle.lq_predicate_formula.specs.Query.{And, Or, queries}
+use Rattle.lq_predicate_formula.specs.Canonical.{depth}
 use Rattle.lq_predicate.proofs.PartLemmas.{depth_le-deepest}
 use Rattle.lq_predicate.proofs.LimitLemmas.{and_formed_parts, or_formed_parts, part_formed}
 use Rattle.lq_predicate.proofs.tree.Tree.+is_true_of.Goals as goal

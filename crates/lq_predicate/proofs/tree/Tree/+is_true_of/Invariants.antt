@@ -1,5 +1,5 @@
 use Rattle.std.proofs.Common.{◌≡◌, drop}
-use Rattle.lq_formula.specs.Query.{queries}
+use Rattle.lq_predicate_formula.specs.Query.{queries}
 use Rattle.lq_predicate.specs.Truth.{truth, all_true, some_true}
 use Rattle.lq_predicate.proofs.tree.Tree.+is_true_of.Given as goal
 

@@ -1,5 +1,5 @@
 use Rattle.std.proofs.Common.{◌≡◌, ◌<◌, length, arith, rules}
-use Rattle.lq_formula.specs.Query.{And, Or, queries}
+use Rattle.lq_predicate_formula.specs.Query.{And, Or, queries}
 use Rattle.lq_predicate.proofs.SizeLemmas.{begun_and, begun_or}
 use Rattle.lq_predicate.proofs.tree.Tree.+size.Goals as goal
 

@@ -1,7 +1,7 @@
 use Rattle.std.proofs.Common.{◌≡◌, ◌≤◌, ◌+◌, ◌-◌, ◌^◌, drop, length}
-use Rattle.lq_formula.specs.Query.{queries}
-use Rattle.lq_formula.specs.Canonical.{canonical}
-use Rattle.lq_formula.specs.Capped.{capped}
+use Rattle.lq_predicate_formula.specs.Query.{queries}
+use Rattle.lq_predicate_formula.specs.Canonical.{canonical}
+use Rattle.lq_predicate_formula.specs.Capped.{capped}
 use Rattle.lq_predicate.proofs.SizeLemmas.{parts_size}
 use Rattle.lq_predicate.proofs.tree.Tree.+size.Given as goal
 

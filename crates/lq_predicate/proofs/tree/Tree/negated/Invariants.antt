@@ -1,5 +1,5 @@
 use Rattle.std.proofs.Common.{◌≡◌}
-use Rattle.lq_formula.specs.Machine.{negate}
+use Rattle.lq_predicate_formula.specs.Machine.{negate}
 use Rattle.lq_predicate.proofs.tree.Tree.negated.Given as goal
 
 abbrev pub invariant-loop-left : goal.invariant-loop-left

@@ -1,6 +1,6 @@
 use Rattle.std.proofs.Common.{Option, Some, None}
 use Rattle.std.specs.Prelude.{IfNone}
-use Rattle.lq_slots.specs.Opening.{opening_refusal}
+use Rattle.lq_server_slots.specs.Opening.{opening_refusal}
 use Rattle.lq_server.proofs.OwnLemmas.{new_reader}
 use Rattle.lq_server.proofs.server.Server.open.Goals as goal
 

@@ -1,3 +1,0 @@
--- Read in this order: FrontLemmas, EscapeLemmas.
-pub mod EscapeLemmas
-pub mod FrontLemmas

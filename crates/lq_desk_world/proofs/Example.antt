@@ -1,0 +1,176 @@
+-- The definitions compute: scenarios of one query that every entry matches.
+use Rattle.std.proofs.Common.{◌≡◌, ℕ, None, List, [], ◌∷◌, refl, true, false, pos, arith}
+use Rattle.std.specs.Prelude.{codes}
+use Rattle.lq_value.specs.declared.op.Op.TheVariants.{Ge}
+use Rattle.lq_value.specs.declared.literal.Literal.TheVariants.{Plain}
+use Rattle.lq_value.specs.declared.kind.Kind.TheVariants.{File}
+use Rattle.lq_value.specs.declared.refusal.Refusal.TheVariants.{BadPort, BadBacklog, NoSlot, NotOpen, StillOpen, Exhausted}
+use Rattle.lq_predicate_formula.specs.Query.{Query, Compare}
+use Rattle.lq_volume.specs.declared.change.Change.TheVariants.{Create, Move}
+use Rattle.lq_volume.specs.State.{empty_state}
+use Rattle.lq_update.specs.declared.message.Message.{Message}
+use Rattle.lq_update.specs.declared.message.Opcode.TheVariants.{Created, Moved as MovedFrom}
+use Rattle.lq_update.specs.declared.mark.Cause.TheVariants.{Closed, HungUp, Overrun}
+use Rattle.lq_update.specs.declared.parcel.Parcel.TheVariants.{Update, Fin}
+use Rattle.lq_desk_world.specs.Headline.{ReadersAreTold}
+use Rattle.lq_desk_world.specs.World.{World, first_world}
+use Rattle.lq_desk_world.specs.declared.event.Event.{Event}
+use Rattle.lq_desk_world.specs.declared.event.Event.TheVariants.{Change, Open, At}
+use Rattle.lq_desk_world.specs.declared.event.Act.TheVariants as act
+use Rattle.lq_desk_world.specs.Events.{Answer, Changed, Opened, Moved, Read, Empty, Ended, Asked, Noticed, Shut, Finished, Refused, answer, next}
+
+-- what events are answered, one after another
+abbrev answers_from : World → List Event → List Answer
+answers_from w [] = []
+answers_from w (e ∷ events) = answer w e ∷ answers_from (next w e) events
+
+-- what events are answered from the first world on
+abbrev answers_to : List Event → List Answer
+answers_to events =
+    answers_from (first_world (record { start = empty_state 10; changes = [] })) events
+
+-- the query that every entry matches
+abbrev every : Query
+every = Compare (codes "size") Ge (Plain (codes "0"))
+
+-- a file with this name is created in the root
+abbrev creating : List ℕ → Event
+creating name = Change (Create 1 name File 0 (pos 0))
+
+-- a file `a` is created in the root
+abbrev create : Event
+create = creating (codes "a")
+
+-- the acts at slot 1
+abbrev put : Event
+put = At 1 act.Put
+
+abbrev read : Event
+read = At 1 act.Read
+
+abbrev hang_up : Event
+hang_up = At 1 act.HangUp
+
+abbrev notice : Event
+notice = At 1 act.Notice
+
+abbrev close : Event
+close = At 1 act.Close
+
+abbrev finish : Event
+finish = At 1 act.Finish
+
+-- the message of an entry of the root that was created
+abbrev created_as : ℕ → ℕ → List ℕ → ℕ → Message
+created_as seq change name node = record
+    { seq = seq; change = change; last = true; op = Created; dir = 1; name = name; node = node }
+
+-- the message of that file as the first update
+abbrev created : Message
+created = created_as 1 1 (codes "a") 2
+
+-- a close on a full port: what was held is still read, then the mark, then the slot is free
+close_on_full_port :
+    answers_to (Open every 1 1 false ∷ create ∷ close ∷ put ∷ put ∷ read
+    ∷ read ∷ put ∷ read ∷ put ∷ read ∷ finish ∷ read ∷ [])
+    ≡ Opened 1 0 [] ∷ Changed (record { change = 1; node = 2 }) ∷ Shut 1 ∷ Moved true ∷ Moved false
+    ∷ Read (Update created) ∷ Empty ∷ Moved true
+    ∷ Read (Fin (record { seq = 2; change = 1; cause = Closed })) ∷ Moved false ∷ Ended ∷ Finished
+    ∷ Refused NotOpen ∷ []
+close_on_full_port = refl
+
+-- a hang-up that is noticed after a change ends the list with that change's update
+hang_up_told_after :
+    answers_to (Open every 2 2 false ∷ hang_up ∷ create ∷ notice ∷ notice
+    ∷ close ∷ put ∷ put ∷ read ∷ read ∷ [])
+    ≡ Opened 1 0 [] ∷ Asked ∷ Changed (record { change = 1; node = 2 }) ∷ Noticed true
+    ∷ Noticed false ∷ Refused NotOpen ∷ Moved true ∷ Moved true ∷ Read (Update created)
+    ∷ Read (Fin (record { seq = 2; change = 1; cause = HungUp })) ∷ []
+hang_up_told_after = refl
+
+-- an overrun ends a list before a hang-up that nobody has noticed
+overrun_before_notice :
+    answers_to (Open every 1 0 false ∷ hang_up ∷ create ∷ notice ∷ put
+    ∷ read ∷ [])
+    ≡ Opened 1 0 [] ∷ Asked ∷ Changed (record { change = 1; node = 2 })
+    ∷ Noticed false ∷ Moved true ∷ Read (Fin (record { seq = 1; change = 0; cause = Overrun })) ∷ []
+overrun_before_notice = refl
+
+-- a hang-up asked of one subscription does not end the next in its slot
+hang_up_does_not_carry_over :
+    answers_to (Open every 1 1 false ∷ close ∷ hang_up ∷ put ∷ read
+    ∷ finish ∷ Open every 1 1 false ∷ notice ∷ [])
+    ≡ Opened 1 0 [] ∷ Shut 0 ∷ Asked ∷ Moved true
+    ∷ Read (Fin (record { seq = 1; change = 0; cause = Closed }))
+    ∷ Finished ∷ Opened 1 0 [] ∷ Noticed false ∷ []
+hang_up_does_not_carry_over = refl
+
+-- held messages before the mark, and none of the change that overruns the backlog
+overrun_after_held :
+    answers_to (Open every 1 2 false ∷ create ∷ put
+    ∷ creating (codes "b") ∷ creating (codes "c") ∷ creating (codes "d") ∷ read ∷ put
+    ∷ read ∷ put ∷ read ∷ put ∷ read ∷ read ∷ [])
+    ≡ Opened 1 0 [] ∷ Changed (record { change = 1; node = 2 }) ∷ Moved true
+    ∷ Changed (record { change = 2; node = 3 }) ∷ Changed (record { change = 3; node = 4 })
+    ∷ Changed (record { change = 4; node = 5 }) ∷ Read (Update created) ∷ Moved true
+    ∷ Read (Update (created_as 2 2 (codes "b") 3)) ∷ Moved true
+    ∷ Read (Update (created_as 3 3 (codes "c") 4)) ∷ Moved true
+    ∷ Read (Fin (record { seq = 4; change = 3; cause = Overrun })) ∷ Ended ∷ []
+overrun_after_held = refl
+
+-- a slot used twice is two subscriptions
+close_and_reuse :
+    answers_to (Open every 1 3 false ∷ finish ∷ close ∷ put ∷ read
+    ∷ finish ∷ create ∷ Open every 1 3 false ∷ creating (codes "b") ∷ put
+    ∷ read ∷ [])
+    ≡ Opened 1 0 [] ∷ Refused StillOpen ∷ Shut 0 ∷ Moved true
+    ∷ Read (Fin (record { seq = 1; change = 0; cause = Closed })) ∷ Finished
+    ∷ Changed (record { change = 1; node = 2 })
+    ∷ Opened 1 1 (record { dir = 1; name = codes "a"; node = 2 } ∷ [])
+    ∷ Changed (record { change = 2; node = 3 }) ∷ Moved true
+    ∷ Read (Update (created_as 1 2 (codes "b") 3)) ∷ []
+close_and_reuse = refl
+
+-- the refusals of an opening in their order, over a volume
+-- that takes two changes, and the lowest free slot
+opening_refusals_in_order : answers_from (record {
+  book = record { start = empty_state 2; changes = [] };
+  openings = 0;
+  slots = None ∷ None ∷ [];
+})
+    (Open every 0 65537 false ∷ Open every 1025 0 false ∷ Open every 1 65537 false
+    ∷ Open every 1024 65536 false ∷ Open every 1 0 true ∷ Open every 1 0 true ∷ close
+    ∷ put ∷ read ∷ finish ∷ Open every 1 0 true ∷ At 0 act.Read ∷ read ∷ At 3 act.Read
+    ∷ []) ≡ Refused BadPort ∷ Refused BadPort ∷ Refused BadBacklog ∷ Opened 1 0 [] ∷ Opened 2 0 []
+    ∷ Refused NoSlot ∷ Shut 0 ∷ Moved true
+    ∷ Read (Fin (record { seq = 1; change = 0; cause = Closed })) ∷ Finished ∷ Refused Exhausted
+    ∷ Refused NotOpen ∷ Refused NotOpen ∷ Refused NotOpen ∷ []
+opening_refusals_in_order = refl
+
+-- a move is one message where that was asked for, and so
+-- fits a backlog of one; else it is two, and doesn't
+moved_saves_backlog : answers_to (create ∷ Open every 1 1 true ∷ Open every 1 1 false
+    ∷ Change (Move 2 1 (codes "b") false) ∷ put ∷ read ∷ At 2 act.Put ∷ At 2 act.Read ∷ [])
+    ≡ Changed (record { change = 1; node = 2 })
+    ∷ Opened 1 1 (record { dir = 1; name = codes "a"; node = 2 } ∷ [])
+    ∷ Opened 2 1 (record { dir = 1; name = codes "a"; node = 2 } ∷ [])
+    ∷ Changed (record { change = 2; node = 2 }) ∷ Moved true ∷ Read (Update (record {
+      seq = 1;
+      change = 2;
+      last = true;
+      op = MovedFrom 1 (codes "a");
+      dir = 1;
+      name = codes "b";
+      node = 2;
+    })) ∷ Moved true ∷ Read (Fin (record { seq = 1; change = 1; cause = Overrun })) ∷ []
+moved_saves_backlog = refl
+
+-- no reader is told that it was opened before a change that came first
+not_opened_before : ReadersAreTold (empty_state 10) (create ∷ Open every 1 1 false ∷ [])
+    (Changed (record { change = 1; node = 2 }) ∷ Opened 1 0 [] ∷ []) → ⊥
+not_opened_before told =
+    let opening = told (create ∷ []) []
+    (Changed (record { change = 1; node = 2 }) ∷ []) [] every 1 1 false 1 0 [] refl refl refl in
+    let at : ℕ = 0 in
+    let number : at ≡ 1 = opening.0.number in
+    omega arith

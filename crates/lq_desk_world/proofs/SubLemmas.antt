@@ -1,0 +1,473 @@
+-- What one event does to one subscription.
+use Rattle.std.proofs.Common.{◌≡◌, ℕ, zero, suc, ◌+◌, ◌-◌, ◌≤◌, List, [], ◌∷◌, ◌++◌, refl, ap, take, length, ◌∙◌, sym, arith, append_assoc, append-nil, length-append, length-drop, Some, None, Option, inl, inr, map, Bool, true, false}
+use Rattle.std.specs.Prelude.{slice_get, ◌⊎◌, ◌==◌, ◌&&◌, nat_lt, is_none, if◌then◌else◌}
+use Rattle.std.specs.List.{AllByRecursion}
+use Rattle.std.proofs.lemmas.Bool.Decides.{nat_tests}
+use Rattle.std.proofs.lemmas.Bool.{and_cases, and_parts, ltb-false, ltb-true}
+use Rattle.std.proofs.lemmas.List.{length-map, map-append, take-append-le}
+use Rattle.lq_volume.specs.declared.change.Change.{Change as Change_}
+use Rattle.lq_volume.specs.Book.{Book, grown, number_of, state_of}
+use Rattle.lq_update.specs.declared.message.Message.{Message}
+use Rattle.lq_update.specs.declared.mark.Mark.{Mark}
+use Rattle.lq_update.specs.declared.mark.Cause.{Cause}
+use Rattle.lq_update.specs.declared.mark.Cause.TheVariants.{Overrun, HungUp, Closed}
+use Rattle.lq_update.specs.declared.parcel.Parcel.{Parcel}
+use Rattle.lq_update.specs.declared.parcel.Parcel.TheVariants.{Update, Fin}
+use Rattle.lq_update.specs.Updates.{updates_of, step_of}
+use Rattle.lq_update.specs.Laws.{UpdatesJoin}
+use Rattle.lq_desk_world.specs.World.{Subscribed, End, covered_by, covered, updates_due, mark_behind, whole, held, is_live, is_over, with_end, with_hang_up_asked, one_more_put, one_more_taken, can_put, first_in_port, news, overruns, overrun_if, after_change}
+use Rattle.lq_desk_world.specs.Events.{Answer, Read, Ended, Empty, putting_if, putting, reading_if, reading, hanging_up, noticing_if, noticing, closing_if, closing}
+use Rattle.lq_desk_world.specs.Fair.{IsFair}
+use Rattle.lq_desk_world.specs.Headline.{parcels_in}
+use Rattle.lq_desk_world.proofs.ListLemmas.{take-one_more}
+use Rattle.lq_desk_world.proofs.WorldLemmas.{updates_of-stays, updates_of-change}
+
+-- one subscription at two points
+pub record IsSame (s t : Subscribed) : Type 0 where
+  pub query : t.query ≡ s.query
+  pub moved : t.moved ≡ s.moved
+  pub opened : t.opened ≡ s.opened
+
+-- From a book to one that extends it, it goes on and is fair, and its list
+-- grows at the end; one that has ended stays ended, with its list.
+pub record Keeps (b : Book) (s : Subscribed) (d : Book) (t : Subscribed) : Type 0 where
+  pub same : IsSame s t
+  pub fair : IsFair d t
+  pub more : List Parcel
+  pub grows : whole d t ≡ whole b s ++ more
+  pub ended : (e : End) → s.end ≡ Some e → (t.end ≡ Some e) × (more ≡ [])
+
+-- it has ended, and all was taken
+abbrev pub IsOver : Book → Subscribed → Type 0
+IsOver b s = (e : End) × (s.end ≡ Some e) × (s.taken ≡ length (whole b s))
+
+-- an answer that a list has ended
+abbrev pub IsEnded : Answer → Type 0
+IsEnded a = a ≡ Ended
+
+-- it goes on, and these reads were answered
+pub record Reads (b : Book) (s : Subscribed) (d : Book) (t : Subscribed)
+    (reads : List Answer) : Type 0 where
+  pub keeps : Keeps b s d t
+  pub front : take s.taken (whole b s) ++ parcels_in reads ≡ take t.taken (whole d t)
+  pub over : IsOver b s → IsOver d t × AllByRecursion IsEnded reads
+  pub marked : (m : Mark) → reads ≡ Read (Fin m) ∷ [] → IsOver d t
+  pub shown : reads ≡ Ended ∷ [] → IsOver b s
+
+-- an event of its slot leaves it there, and these reads were answered
+pub record Leaves (b : Book) (s : Subscribed) (reads : List Answer)
+    (o : Option Subscribed) : Type 0 where
+  pub sub : Subscribed
+  pub is : o ≡ Some sub
+  pub does : Reads b s b sub reads
+
+-- ---- the end of a subscription
+
+-- a subscription has ended or has not
+pub end-cases : (o : Option End) → (o ≡ None) ⊎ ((e : End) × (o ≡ Some e))
+end-cases None = inl refl
+end-cases (Some e) = inr (e, refl)
+
+-- one whose test says that it has no end has none
+pub live-none : (o : Option End) → is_none o ≡ true → o ≡ None
+live-none None h = refl
+live-none (Some e) h = absurd (let no : ⊥ = cc in no)
+
+-- one that is over passes the test
+pub over-true : (b : Book) (s : Subscribed) → IsOver b s → is_over b s ≡ true
+over-true b s h = by s.end (s.taken) (length (whole b s)) h.0 h.1 h.2
+  where
+    by : (o : Option End) (m n : ℕ) (e : End) → o ≡ Some e → m ≡ n
+        → (if is_none o then false else m == n) ≡ true
+    by None m n e is eq = absurd (let no : ⊥ = cc in no)
+    by (Some d) m n e is eq = grind (arith, nat_tests)
+
+-- one that passes the test is over
+pub over-from : (b : Book) (s : Subscribed) → is_over b s ≡ true → IsOver b s
+over-from b s h = by s.end (s.taken) (length (whole b s)) h
+  where
+    by : (o : Option End) (m n : ℕ) → (if is_none o then false else m == n) ≡ true
+        → (e : End) × (o ≡ Some e) × (m ≡ n)
+    by None m n is = absurd (let no : ⊥ = cc in no)
+    by (Some d) m n is = (d, refl, grind (arith, nat_tests))
+
+-- ---- its list
+
+-- the updates of a subscription up to a number
+abbrev pub updates_to : Book → Subscribed → ℕ → List Message
+updates_to b s n = updates_of s.query s.moved b s.opened n
+
+-- messages as parcels
+abbrev pub parcels : List Message → List Parcel
+parcels messages = map (λ m. Update m) messages
+
+-- the whole list of a live subscription is its updates up to now
+pub whole-live : (b : Book) (s : Subscribed) → s.end ≡ None
+    → whole b s ≡ parcels (updates_to b s (number_of b))
+whole-live b s live = ap (λ o. parcels (updates_to b s (covered_by b o))
+    ++ mark_behind (length (updates_to b s (covered_by b o))) o) live ∙ append-nil _
+
+-- what a live subscription is told is its updates up to now
+pub told-live : (b : Book) (s : Subscribed) → s.end ≡ None
+    → updates_due b s ≡ updates_to b s (number_of b)
+told-live b s live = ap (λ o. updates_to b s (covered_by b o)) live
+
+-- ---- what keeps it
+
+-- an end keeps what a fair subscription was told
+keeps-end : (b : Book) (s : Subscribed) (cause : Cause) → IsFair b s → s.end ≡ None
+    → Keeps b s b (with_end s cause (number_of b))
+keeps-end b s cause h live =
+    let n = number_of b in
+    let more : List Parcel =
+    mark_behind (length (updates_to b s n)) (Some (record { cause = cause; change = n })) in
+    let grows : whole b (with_end s cause n) ≡ whole b s ++ more =
+    ap (λ xs. xs ++ more) (sym (whole-live b s live)) in
+    record {
+      same = record { query = refl; moved = refl; opened = refl };
+      fair = record {
+        begun = h.begun;
+        places = h.places;
+        most = h.most;
+        backlog = h.backlog;
+        opened = omega (arith, h.opened, h.covered);
+        covered = omega arith;
+        taken = h.taken;
+        put = omega (arith, h.put, ap length grows, length-append (whole b s) more);
+        port = h.port;
+        held = λ no. absurd (let never : ⊥ = cc in never);
+      };
+      more = more;
+      grows = grows;
+      ended = λ e is. absurd (let no : ⊥ = cc in no);
+    }
+
+-- changes keep what a subscription that has ended was told
+pub keeps-ended : (b : Book) (cs : List Change_) (s : Subscribed) (e : End) → IsFair b s
+    → s.end ≡ Some e
+    → Keeps b s (grown b cs) s
+keeps-ended b cs s e h is =
+    let to : covered b s ≡ e.change = ap (covered_by b) is in
+    let told_same : updates_due (grown b cs) s ≡ updates_due b s =
+    ap (λ o. updates_to (grown b cs) s (covered_by (grown b cs) o)) is
+    ∙ (updates_of-stays s.query s.moved b cs s.opened e.change h.begun (omega (arith, h.opened, to))
+    (omega (arith, h.covered, to))
+    ∙ ap (λ o. updates_to b s (covered_by b o)) (sym is)) in
+    let same : whole (grown b cs) s ≡ whole b s =
+    ap (λ us. parcels us ++ mark_behind (length us) s.end) told_same in
+    let far : covered (grown b cs) s ≡ e.change = ap (covered_by (grown b cs)) is in
+    record {
+      same = record { query = refl; moved = refl; opened = refl };
+      fair = record {
+        begun = h.begun;
+        places = h.places;
+        most = h.most;
+        backlog = h.backlog;
+        opened = omega (arith, h.opened, to, far);
+        covered = omega (arith, h.covered, to, far, length-append b.changes cs);
+        taken = h.taken;
+        put = omega (arith, h.put, ap length same);
+        port = h.port;
+        held = λ live. absurd (let n = live-none s.end live in let no : ⊥ = cc in no);
+      };
+      more = [];
+      grows = same ∙ sym (append-nil _);
+      ended = λ d at. (at, refl);
+    }
+
+-- what two steps keep, they keep together
+keeps-more : (b c d : Book) (s t u : Subscribed) → Keeps b s c t → Keeps c t d u → Keeps b s d u
+keeps-more b c d s t u k l = record {
+  same = record {
+    query = l.same.query ∙ k.same.query;
+    moved = l.same.moved ∙ k.same.moved;
+    opened = l.same.opened ∙ k.same.opened;
+  };
+  fair = l.fair;
+  more = k.more ++ l.more;
+  grows = l.grows ∙ (ap (λ xs. xs ++ l.more) k.grows ∙ append_assoc (whole b s) k.more l.more);
+  ended = λ e is. let first = k.ended e is in
+      let second = l.ended e first.0 in
+      (second.0, rw (first.1, second.1) refl);
+}
+
+-- an event that leaves its end, its query and its opening
+keeps-same : (b : Book) (s : Subscribed) (t : Subscribed)
+    → IsSame s t → t.end ≡ s.end → whole b t ≡ whole b s → IsFair b t → Keeps b s b t
+keeps-same b s t same end list fair = record {
+  same = same;
+  fair = fair;
+  more = [];
+  grows = list ∙ sym (append-nil _);
+  ended = λ e is. (end ∙ is, refl);
+}
+
+-- nothing that happens keeps what was told
+pub keeps-self : (b : Book) (s : Subscribed) → IsFair b s → Keeps b s b s
+keeps-self b s h =
+    keeps-same b s s (record { query = refl; moved = refl; opened = refl }) refl refl h
+
+-- a backlog with room for more still holds no more than it may
+fits : (h k n backlog : ℕ)
+    → (nat_lt 0 k && nat_lt backlog (h + k)) ≡ false → h ≤ backlog → n ≡ h + k → n ≤ backlog
+fits h k n backlog room old is = elim (and_cases (nat_lt 0 k) (nat_lt backlog (h + k)) room) [
+  | inl none ↦ omega (arith, ltb-false 0 k none)
+  | inr few ↦ omega (arith, ltb-false backlog (h + k) few)
+]
+
+module _ (join : UpdatesJoin) where
+  -- a change that doesn't end it
+  keeps-told : (b : Book) (c : Change_) (s : Subscribed)
+      → IsFair b s → s.end ≡ None → overruns b c s ≡ false → Keeps b s (grown b (c ∷ [])) s
+  keeps-told b c s h live room =
+      let d = grown b (c ∷ []) in
+      let us = updates_to b s (number_of b) in
+      let to : covered b s ≡ number_of b = ap (covered_by b) live in
+      let far : covered d s ≡ number_of d = ap (covered_by d) live in
+      let step = step_of s.query s.moved (state_of b) c (length us + 1) in
+      let told_more : updates_to d s (number_of d) ≡ us ++ step =
+      updates_of-change join s.query s.moved b c s.opened (omega (arith, h.opened, to)) in
+      let grows : whole d s ≡ whole b s ++ parcels step =
+      whole-live d s live ∙ (ap parcels told_more ∙ (map-append (λ m. Update m) us step
+      ∙ ap (λ xs. xs ++ parcels step) (sym (whole-live b s live)))) in
+      let news_is : news b c s ≡ length step =
+      ap (λ ms. length (step_of s.query s.moved (state_of b) c (length ms + 1)))
+      (told-live b s live) in
+      let before : length (updates_due b s) ≡ length us = ap length (told-live b s live) in
+      let after : length (updates_due d s) ≡ length us + length step =
+      ap length (told-live d s live ∙ told_more) ∙ length-append us step in
+      record {
+        same = record { query = refl; moved = refl; opened = refl };
+        fair = record {
+          begun = h.begun;
+          places = h.places;
+          most = h.most;
+          backlog = h.backlog;
+          opened = omega (arith, h.opened, to, far, length-append b.changes (c ∷ []));
+          covered = omega (arith, far);
+          taken = h.taken;
+          put = omega (arith, h.put, ap length grows, length-append (whole b s) (parcels step));
+          port = h.port;
+          held = λ is.
+              let list : s.put ≤ length us = omega
+              (arith, h.put, ap length (whole-live b s live), length-map us (λ m. Update m)) in
+              fits (held b s) (news b c s) (held d s) s.backlog room (h.held is) (omega (
+                arith,
+                before,
+                after,
+                news_is,
+                list,
+                length-drop s.put (updates_due b s),
+                length-drop s.put (updates_due d s),
+              ));
+        };
+        more = parcels step;
+        grows = grows;
+        ended = λ e is. absurd (let no : ⊥ = cc in no);
+      }
+
+  -- a change
+  pub keeps-change : (b : Book) (c : Change_) (s : Subscribed) → IsFair b s
+      → Keeps b s (grown b (c ∷ [])) (after_change b c s)
+  keeps-change b c s h = by (is_live s && overruns b c s) refl
+    where
+      by : (x : Bool) → (is_live s && overruns b c s) ≡ x
+          → Keeps b s (grown b (c ∷ [])) (overrun_if b s x)
+      by true is =
+          let t = with_end s Overrun (number_of b) in
+          let ends =
+          keeps-end b s Overrun h (live-none s.end (and_parts (is_live s) (overruns b c s) is).0) in
+          keeps-more b b (grown b (c ∷ [])) s t t ends (keeps-ended b (c ∷ []) t
+          (record { cause = Overrun; change = number_of b }) ends.fair refl)
+      by false is = elim (end-cases s.end) [
+        | inl live ↦ keeps-told b c s h live (ap (λ o. is_none o && overruns b c s) (sym live) ∙ is)
+        | inr ended ↦ keeps-ended b (c ∷ []) s ended.0 h ended.1
+      ]
+
+-- a change leaves how much was taken
+pub after_change-taken : (b : Book) (c : Change_) (s : Subscribed)
+    → (after_change b c s).taken ≡ s.taken
+after_change-taken b c s = by (is_live s && overruns b c s)
+  where
+    by : (x : Bool) → (overrun_if b s x).taken ≡ s.taken
+    by true = refl
+    by false = refl
+
+-- ---- what was read
+
+-- no read
+pub reads-nothing : (b : Book) (s : Subscribed) (d : Book) (t : Subscribed)
+    → s.taken ≤ length (whole b s) → t.taken ≡ s.taken → Keeps b s d t → Reads b s d t []
+reads-nothing b s d t within taken k = record {
+  keeps = k;
+  front = append-nil _ ∙ (sym (take-append-le s.taken (whole b s) k.more within)
+      ∙ (ap (take s.taken) (sym k.grows) ∙ ap (λ n. take n (whole d t)) (sym taken)));
+  over = λ o.
+      let en = k.ended o.0 o.1 in
+      let all : length (whole d t) ≡ length (whole b s) =
+      ap length (k.grows ∙ (ap (λ xs. whole b s ++ xs) en.1 ∙ append-nil _)) in
+      ((o.0, en.0, taken ∙ (o.2 ∙ sym all)), tt);
+  marked = λ m no. absurd (let never : ⊥ = cc in never);
+  shown = λ no. absurd (let never : ⊥ = cc in never);
+}
+
+-- no more is taken than the whole list has
+pub taken_within : (b : Book) (s : Subscribed) → IsFair b s → s.taken ≤ length (whole b s)
+taken_within b s h = omega (arith, h.taken, h.put)
+
+-- nothing that happens reads nothing
+pub reads-self : (b : Book) (s : Subscribed) → IsFair b s → Reads b s b s []
+reads-self b s h = reads-nothing b s b s (taken_within b s h) refl (keeps-self b s h)
+
+-- an event that reads nothing and keeps what was told leaves the reads
+leaves : (b : Book) (s : Subscribed) (t : Subscribed) → IsFair b s → t.taken ≡ s.taken
+    → Keeps b s b t
+    → Leaves b s [] (Some t)
+leaves b s t h taken k =
+    record { sub = t; is = refl; does = reads-nothing b s b t (taken_within b s h) taken k }
+
+-- a put leaves the reads of a fair subscription
+pub putting-leaves : (b : Book) (s : Subscribed) → IsFair b s → Leaves b s [] (putting b s).1
+putting-leaves b s h = by (can_put b s) refl
+  where
+    by : (x : Bool) → can_put b s ≡ x → Leaves b s [] (putting_if s x).1
+    by true is =
+        let tests =
+        and_parts (nat_lt (s.put - s.taken) s.port) (nat_lt s.put (length (whole b s))) is in
+        let room = ltb-true _ _ tests.0 in
+        let there = ltb-true _ _ tests.1 in
+        leaves b s (one_more_put s) h refl (keeps-same b s (one_more_put s)
+        (record { query = refl; moved = refl; opened = refl }) refl refl (record {
+          begun = h.begun;
+          places = h.places;
+          most = h.most;
+          backlog = h.backlog;
+          opened = h.opened;
+          covered = h.covered;
+          taken = omega (arith, h.taken);
+          put = omega (arith, there);
+          port = omega (arith, room, h.taken);
+          held = λ live. omega (
+            arith,
+            h.held live,
+            length-drop s.put (updates_due b s),
+            length-drop (s.put + 1) (updates_due b s),
+          );
+        }))
+    by false is = leaves b s s h refl (keeps-self b s h)
+
+-- a hang-up leaves the reads of a fair subscription
+pub hanging_up-leaves : (b : Book) (s : Subscribed) → IsFair b s → Leaves b s [] (hanging_up s).1
+hanging_up-leaves b s h = leaves b s (with_hang_up_asked s) h refl
+    (keeps-same b s (with_hang_up_asked s)
+    (record { query = refl; moved = refl; opened = refl }) refl refl (record {
+      begun = h.begun;
+      places = h.places;
+      most = h.most;
+      backlog = h.backlog;
+      opened = h.opened;
+      covered = h.covered;
+      taken = h.taken;
+      put = h.put;
+      port = h.port;
+      held = h.held;
+    }))
+
+-- noticing a hang-up leaves the reads of a fair subscription
+pub noticing-leaves : (b : Book) (s : Subscribed) → IsFair b s → Leaves b s [] (noticing b s).1
+noticing-leaves b s h = by (is_live s && s.hang_up_asked) refl
+  where
+    by : (x : Bool) → (is_live s && s.hang_up_asked) ≡ x → Leaves b s [] (noticing_if b s x).1
+    by true is = leaves b s (with_end s HungUp (number_of b)) h refl
+        (keeps-end b s HungUp h (live-none s.end (and_parts (is_live s) s.hang_up_asked is).0))
+    by false is = leaves b s s h refl (keeps-self b s h)
+
+-- a close leaves the reads of a fair subscription
+pub closing-leaves : (b : Book) (s : Subscribed) → IsFair b s → Leaves b s [] (closing b s).1
+closing-leaves b s h = by (is_live s) refl
+  where
+    by : (x : Bool) → is_live s ≡ x → Leaves b s [] (closing_if b s x).1
+    by true is = leaves b s (with_end s Closed (number_of b)) h refl
+        (keeps-end b s Closed h (live-none s.end is))
+    by false is = leaves b s s h refl (keeps-self b s h)
+
+-- a mark is the last of its list
+mark-last : (us : List Message) (n i : ℕ) (o : Option End) (m : Mark)
+    → slice_get (parcels us ++ mark_behind n o) i ≡ Some (Fin m)
+    → (e : End) × (o ≡ Some e) × (i + 1 ≡ length (parcels us ++ mark_behind n o))
+mark-last [] n i None m at = absurd (let no : ⊥ = cc in no)
+mark-last [] n zero (Some e) m at = (e, refl, omega arith)
+mark-last [] n (suc i) (Some e) m at = absurd (let no : ⊥ = cc in no)
+mark-last (u ∷ us) n zero o m at = absurd (let no : ⊥ = cc in no)
+mark-last (u ∷ us) n (suc i) o m at =
+    let rest = mark-last us n i o m at in
+    (rest.0, rest.1, omega (arith, rest.2))
+
+-- a parcel that is in the port is there, and it is this one
+in_port : (x : Bool) (o : Option Parcel) (p : Parcel) → (if x then o else None) ≡ Some p
+    → (x ≡ true) × (o ≡ Some p)
+in_port true o p is = (refl, is)
+in_port false o p is = absurd (let no : ⊥ = cc in no)
+
+-- a read gives the reads of a fair subscription its answer
+pub reading-leaves : (b : Book) (s : Subscribed) → IsFair b s
+    → Leaves b s ((reading b s).0 ∷ []) (reading b s).1
+reading-leaves b s h = by (first_in_port b s) refl
+  where
+    none_given : (x : Bool) → [] ≡ parcels_in ((if x then Ended else Empty) ∷ [])
+    none_given true = refl
+    none_given false = refl
+
+    is_ended : (x : Bool) → (if x then Ended else Empty) ∷ [] ≡ Ended ∷ [] → x ≡ true
+    is_ended true is = refl
+    is_ended false is = absurd (let no : ⊥ = cc in no)
+
+    no_mark : (x : Bool) (m : Mark) → (if x then Ended else Empty) ∷ [] ≡ Read (Fin m) ∷ [] → ⊥
+    no_mark true m is = cc
+    no_mark false m is = cc
+
+    by : (o : Option Parcel) → first_in_port b s ≡ o
+        → Leaves b s ((reading_if b s o).0 ∷ []) (reading_if b s o).1
+    by None is = record {
+      sub = s;
+      is = refl;
+      does = record {
+        keeps = keeps-self b s h;
+        front = ap (λ ps. take s.taken (whole b s) ++ ps) (sym (none_given (is_over b s)))
+            ∙ append-nil _;
+        over = λ o. (o, (ap (λ x. if x then Ended else Empty) (over-true b s o), tt));
+        marked = λ m is. absurd (no_mark (is_over b s) m is);
+        shown = λ is. over-from b s (is_ended (is_over b s) is);
+      };
+    }
+    by (Some p) is =
+        let at = in_port (nat_lt s.taken s.put) (slice_get (whole b s) s.taken) p is in
+        let there = ltb-true s.taken s.put at.0 in
+        let more = take-one_more (whole b s) s.taken p at.1 in
+        record {
+          sub = one_more_taken s;
+          is = refl;
+          does = record {
+            keeps = keeps-same b s (one_more_taken s)
+                (record { query = refl; moved = refl; opened = refl }) refl refl (record {
+                  begun = h.begun;
+                  places = h.places;
+                  most = h.most;
+                  backlog = h.backlog;
+                  opened = h.opened;
+                  covered = h.covered;
+                  taken = omega (arith, there);
+                  put = h.put;
+                  port = omega (arith, h.port);
+                  held = h.held;
+                });
+            front = sym more.0;
+            over = λ o. absurd (omega (arith, o.2, more.1));
+            marked = λ m same.
+                let mark : p ≡ Fin m = cc in
+                let last = mark-last (updates_due b s) (length (updates_due b s)) s.taken s.end m
+                (at.1 ∙ ap (λ q. Some q) mark) in
+                (last.0, last.1, last.2);
+            shown = λ no. absurd (let never : ⊥ = cc in never);
+          };
+        }

@@ -1,0 +1,5 @@
+use Rattle.lq_desk_world.proofs.FairLemmas.{run-fair}
+use Rattle.lq_desk_world.proofs.laws.runs_keep_worlds_fair.Goals as goal
+
+pub returns : goal.returns
+returns c = run-fair c.updates_join.ensures

@@ -1,0 +1,29 @@
+-- What is so of each subscription in a world that runs.
+use Rattle.std.specs.Prelude.{◌≡◌, ◌+◌, ◌≤◌, length, true, Option, Some, None}
+use Rattle.std.specs.List.{AllByRecursion}
+use Rattle.lq_volume.specs.Book.{Book, number_of}
+use Rattle.lq_desk_world.specs.World.{World, Subscribed, covered, whole, held, is_live}
+
+pub record IsFair (b : Book) (s : Subscribed) : Type 0 where
+  -- the book's start, its opening, the last change that it
+  -- covers, and the book's last change stand in this order
+  pub begun : b.start.number ≤ s.opened
+  pub opened : s.opened ≤ covered b s
+  pub covered : covered b s ≤ number_of b
+  -- what was taken was put, what was put is of its list, and no more than its port waits between
+  pub taken : s.taken ≤ s.put
+  pub put : s.put ≤ length (whole b s)
+  pub port : s.put ≤ s.taken + s.port
+  -- its port has a place, and at most 1,024, and its backlog is at most 65,536
+  pub places : 1 ≤ s.port
+  pub most : s.port ≤ 1024
+  pub backlog : s.backlog ≤ 65536
+  -- while it is live, no more than its backlog is held
+  pub held : is_live s ≡ true → held b s ≤ s.backlog
+
+abbrev pub IsFairSlot : Book → Option Subscribed → Type 0
+IsFairSlot b None = Unit {0}
+IsFairSlot b (Some s) = IsFair b s
+
+abbrev pub IsFairWorld : World → Type 0
+IsFairWorld w = AllByRecursion (IsFairSlot w.book) w.slots

@@ -1,0 +1,113 @@
+-- What the events and answers of a run say of each subscription that they open.
+use Rattle.std.specs.Prelude.{◌≡◌, ℕ, ◌+◌, ◌≤◌, List, [], ◌∷◌, ◌++◌, length, Bool, false, ◌==◌, if◌then◌else◌}
+use Rattle.std.specs.List.{AllByRecursion}
+use Rattle.lq_value.specs.declared.entry.Entry.{Entry}
+use Rattle.lq_predicate_formula.specs.Query.{Query}
+use Rattle.lq_volume.specs.declared.change.Change.{Change as Change_}
+use Rattle.lq_volume.specs.State.{State, IsVolume}
+use Rattle.lq_volume.specs.Book.{Book, number_of, state_at, state_of}
+use Rattle.lq_volume.specs.Result.{result_of}
+use Rattle.lq_update.specs.declared.message.Message.{Message}
+use Rattle.lq_update.specs.declared.mark.Mark.{Mark}
+use Rattle.lq_update.specs.declared.parcel.Parcel.{Parcel}
+use Rattle.lq_update.specs.declared.parcel.Parcel.TheVariants.{Update, Fin}
+use Rattle.lq_update.specs.Updates.{updates_of, IsPrefixOf, IsSettled}
+use Rattle.lq_update.specs.Fold.{folded, last_change}
+use Rattle.lq_desk_world.specs.declared.event.Event.{Event}
+use Rattle.lq_desk_world.specs.declared.event.Event.TheVariants.{Change, Open, At}
+use Rattle.lq_desk_world.specs.declared.event.Act.TheVariants as act
+use Rattle.lq_desk_world.specs.Events.{Answer, Changed, Opened, Read, Ended, Finished}
+
+-- what one event answered a read of a slot, and whether it freed the slot
+abbrev pub read_by : ℕ → Event → Answer → List Answer
+read_by slot (At k act.Read) a = if k == slot then a ∷ [] else []
+read_by slot e a = []
+
+abbrev pub frees : ℕ → Event → Answer → Bool
+frees slot (At k act.Finish) Finished = k == slot
+frees slot e a = false
+
+-- what the reads of a slot were answered, until the slot was freed
+abbrev pub reads_of : ℕ → List Event → List Answer → List Answer
+reads_of slot [] answers = []
+reads_of slot (e ∷ events) [] = []
+reads_of slot (e ∷ events) (a ∷ answers) =
+    if frees slot e a then [] else read_by slot e a ++ reads_of slot events answers
+
+-- the parcels, and the updates, that such answers gave
+abbrev pub parcel_in : Answer → List Parcel
+parcel_in (Read p) = p ∷ []
+parcel_in a = []
+
+abbrev pub parcels_in : List Answer → List Parcel
+parcels_in [] = []
+parcels_in (a ∷ answers) = parcel_in a ++ parcels_in answers
+
+abbrev pub updates_among : List Parcel → List Message
+updates_among [] = []
+updates_among (Update m ∷ parcels) = m ∷ updates_among parcels
+updates_among (Fin mark ∷ parcels) = updates_among parcels
+
+abbrev pub updates_in : List Answer → List Message
+updates_in answers = updates_among (parcels_in answers)
+
+-- the accepted changes, in order
+abbrev pub accepted_by : Event → Answer → List Change_
+accepted_by (Change c) (Changed applied) = c ∷ []
+accepted_by e a = []
+
+abbrev pub accepted : List Event → List Answer → List Change_
+accepted [] answers = []
+accepted (e ∷ events) [] = []
+accepted (e ∷ events) (a ∷ answers) = accepted_by e a ++ accepted events answers
+
+-- the state before a run, and the changes that it accepted
+abbrev pub book_of : State → List Event → List Answer → Book
+book_of s events answers = record { start = s; changes = accepted events answers }
+
+-- the mark is among them
+abbrev pub HasMark : List Answer → Type 0
+HasMark reads = (m : Mark) × (front : List Answer) × (rest : List Answer)
+    × (reads ≡ front ++ Read (Fin m) ∷ rest)
+
+-- What an opening may be answered, over the book of the changes
+-- before it: their number, and the query's result after them.
+pub record IsOpening (b : Book) (q : Query) (at : ℕ) (first : List Entry) : Type 0 where
+  pub number : at ≡ number_of b
+  pub entries : first ≡ result_of q (state_of b)
+
+-- What the reads of a subscription may be answered, over a book: its
+-- query, the number of changes at its opening, and the result then.
+pub record AreReads (b : Book) (q : Query) (moved : Bool) (at : ℕ) (first : List Entry)
+    (reads : List Answer) : Type 0 where
+  -- each message once and in order: they are a prefix of its update list
+  pub prefix : IsPrefixOf (updates_in reads) (updates_of q moved b at (number_of b))
+  -- the mark comes after the whole list up to the change that it names, and only `Ended` after it
+  pub mark : (front rest : List Answer) (m : Mark) → reads ≡ front ++ Read (Fin m) ∷ rest →
+      (at ≤ m.change) × (m.change ≤ number_of b)
+      × (updates_in front ≡ updates_of q moved b at m.change)
+      × (m.seq ≡ length (updates_in front) + 1)
+      × AllByRecursion (λ a. a ≡ Ended) rest
+  -- and `Ended` only after the mark
+  pub ended : (front rest : List Answer) → reads ≡ front ++ Ended ∷ rest → HasMark front
+  -- wherever a change's last message is in, folding over the
+  -- opening's result gives the result after that change
+  pub folding : IsVolume b.start → (front rest : List Answer) → reads ≡ front ++ rest
+      → IsSettled (updates_in front) → folded first (updates_in front)
+      ≡ result_of q (state_at b (last_change at (updates_in front)))
+  -- and so it does before the mark, for the change that this names
+  pub closing : IsVolume b.start
+      → (front rest : List Answer) (m : Mark) → reads ≡ front ++ Read (Fin m) ∷ rest
+      → folded first (updates_in front) ≡ result_of q (state_at b m.change)
+
+-- Whatever came before an opening and comes after it: it is answered over the changes that the run
+-- accepted before it, and the reads of the subscription that it opened are such, over those
+-- that the whole run accepted.
+abbrev pub ReadersAreTold : State → List Event → List Answer → Type 0
+ReadersAreTold s events answers =
+    (before after : List Event) (befores afters : List Answer) (q : Query) (port backlog : ℕ)
+    (moved : Bool) (slot at : ℕ) (first : List Entry)
+    → events ≡ before ++ Open q port backlog moved ∷ after
+    → answers ≡ befores ++ Opened slot at first ∷ afters → length before ≡ length befores
+    → IsOpening (book_of s before befores) q at first
+    × AreReads (book_of s events answers) q moved at first (reads_of slot after afters)

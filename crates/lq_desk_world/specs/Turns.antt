@@ -1,0 +1,95 @@
+-- The list of events of one turn: an event with what a server does about it of itself.
+use Rattle.std.specs.Prelude.{ℕ, ◌+◌, ◌-◌, List, [], ◌∷◌, ◌++◌, map, replicate, Option, Some, None, ◌==◌, slice_get, if◌then◌else◌}
+use Rattle.std.specs.Option.{option_map, option_flatten}
+use Rattle.lq_desk_world.specs.World.{World}
+use Rattle.lq_desk_world.specs.declared.event.Event.{Event}
+use Rattle.lq_desk_world.specs.declared.event.Event.TheVariants.{Change, At}
+use Rattle.lq_desk_world.specs.declared.event.Act.TheVariants as act
+use Rattle.lq_desk_world.specs.Events.{Answer, outcome}
+
+-- ---- which slots are taken, and how many places their ports have: slot k at place k - 1
+
+abbrev pub ports_of : World → List (Option ℕ)
+ports_of w = map (option_map (λ s. s.port)) w.slots
+
+abbrev pub places_in : Option ℕ → ℕ
+places_in None = 0
+places_in (Some port) = port
+
+-- the places of a slot's port, none where it is free
+abbrev pub places_at : List (Option ℕ) → ℕ → ℕ
+places_at ports slot =
+    if slot == 0 then 0 else places_in (option_flatten (slice_get ports (slot - 1)))
+
+-- ---- lists of events
+
+-- what is done at each taken slot, in rising order, where the first of these is slot n
+abbrev pub at_slot_of : (ℕ → ℕ → List Event) → ℕ → Option ℕ → List Event
+at_slot_of events slot None = []
+at_slot_of events slot (Some port) = events slot port
+
+abbrev pub at_each : (ℕ → ℕ → List Event) → ℕ → List (Option ℕ) → List Event
+at_each events n [] = []
+at_each events n (port ∷ ports) = at_slot_of events n port ++ at_each events (n + 1) ports
+
+abbrev pub one_notice : ℕ → ℕ → List Event
+one_notice slot port = At slot act.Notice ∷ []
+
+-- As many puts as the port has places: nothing moves after them
+-- (`Laws`), and a put that moves nothing changes nothing.
+abbrev pub puts : ℕ → ℕ → List Event
+puts slot port = replicate port (At slot act.Put)
+
+-- the end of each taken slot that asks for it is noticed, and each port is filled
+abbrev pub notices : List (Option ℕ) → List Event
+notices ports = at_each one_notice 1 ports
+
+abbrev pub all_puts : List (Option ℕ) → List Event
+all_puts ports = at_each puts 1 ports
+
+-- ---- turns
+
+pub record Turn : Type 0 where
+  pub before : List Event
+  pub event : Event
+  pub after : List Event
+
+-- A change comes after all notices, and every port is filled behind it. A read and a close come
+-- after the notice of their slot, whose port is filled before the read and behind the close. Any
+-- other event comes alone.
+abbrev pub turn_of : List (Option ℕ) → Event → Turn
+turn_of ports (Change c) =
+    record { before = notices ports; event = Change c; after = all_puts ports }
+turn_of ports (At slot act.Read) = record {
+  before = At slot act.Notice ∷ puts slot (places_at ports slot);
+  event = At slot act.Read;
+  after = [];
+}
+turn_of ports (At slot act.Close) = record {
+  before = At slot act.Notice ∷ [];
+  event = At slot act.Close;
+  after = puts slot (places_at ports slot);
+}
+turn_of ports e = record { before = []; event = e; after = [] }
+
+abbrev pub events_in : Turn → List Event
+events_in t = t.before ++ t.event ∷ t.after
+
+-- ---- what becomes of them, of whatever answers events
+
+-- after events, one after another
+abbrev pub after_all : {Core : Type 0}
+    → (Core → Event → Answer × Core) → Core → List Event → Core
+after_all step s [] = s
+after_all step s (e ∷ events) = after_all step (step s e).1 events
+
+-- the answer to the event of a turn, and what stands after the turn
+abbrev pub carried_out : {Core : Type 0} → (Core → Event → Answer × Core) → Core → Turn
+    → Answer × Core
+carried_out step s t = (
+  (step (after_all step s t.before) t.event).0,
+  after_all step (step (after_all step s t.before) t.event).1 t.after,
+)
+
+abbrev pub turn_outcome : World → Event → Answer × World
+turn_outcome w e = carried_out outcome w (turn_of (ports_of w) e)

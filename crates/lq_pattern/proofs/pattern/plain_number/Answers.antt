@@ -1,9 +1,0 @@
-use Rattle.std.proofs.Common.{◌∙◌, sym, ap}
-use Rattle.lq_value.specs.Number.{number_of}
-use Rattle.lq_pattern.proofs.PatternLemmas.{number-plain}
-use Rattle.lq_pattern.proofs.pattern.plain_number.Goals as goal
-
-pub returns : goal.returns
-returns c =
-    c.number_of_bytes.ensures ∙ ap number_of c.as_bytes.ensures.value
-    ∙ sym (number-plain c.args.plain.now c.utf8.plain)

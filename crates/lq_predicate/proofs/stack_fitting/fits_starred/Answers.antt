@@ -1,0 +1,8 @@
+use Rattle.lq_value.specs.declared.literal.Literal.TheVariants as literal
+use Rattle.lq_predicate.specs.Stack.{starred}
+use Rattle.lq_predicate.proofs.FitLemmas.{capped_test}
+use Rattle.lq_predicate.proofs.stack_fitting.fits_starred.Goals as goal
+
+pub returns : goal.returns
+returns c = capped_test _ _ (c.comparison_size_with.ensures
+    (literal.Pattern (starred c.args.before c.args.text.now c.args.behind)) c.starred_size.ensures)

@@ -1,0 +1,129 @@
+-- The postfix stack: what each push gives, and when it doesn't fit.
+use Rattle.std.specs.Prelude.{◌≡◌, ℕ, ◌+◌, ◌^◌, List, [], ◌∷◌, ◌++◌, drop, length, Bool, true, false, nat_le, nat_lt, Option, Some, None, IsSome, Result, Ok, Err, option_and_then, if◌then◌else◌}
+use Rattle.std.specs.Option.{option_map}
+use Rattle.std.specs.Str.{chars}
+use Rattle.lq_value.specs.declared.element.Element.{Element}
+use Rattle.lq_value.specs.declared.element.Element.TheVariants.{Star}
+use Rattle.lq_value.specs.declared.literal.Literal.TheVariants as literal
+use Rattle.lq_value.specs.declared.op.Op.{Op}
+use Rattle.lq_value.specs.declared.op.Op.TheVariants as op
+use Rattle.lq_value.specs.declared.refusal.Refusal.{Refusal}
+use Rattle.lq_value.specs.declared.refusal.Refusal.TheVariants.{BadQuery}
+use Rattle.lq_value.specs.Name.{is_attr_name}
+use Rattle.lq_value.specs.Pattern.{plain_elements}
+use Rattle.lq_predicate_formula.specs.Query.{Query, Compare, Not, And, Or, Queries, queries}
+use Rattle.lq_predicate.specs.Limits.{if_within}
+use Rattle.lq_predicate.specs.Operand.{pattern_in}
+use Rattle.lq_predicate.specs.Stacked.{Stacked}
+use Rattle.lq_predicate.specs.declared.stack_item.StackItem.{StackItem}
+use Rattle.lq_predicate.specs.declared.stack_item.StackItem.TheVariants.{Attr, Value, Part}
+use Rattle.lq_predicate.specs.declared.stack_op.StackOp.{StackOp}
+use Rattle.lq_predicate.specs.declared.stack_op.StackOp.TheVariants as stack_op
+
+-- the stack with these items, by one push more that is accepted; the count is one of 64 bits
+abbrev pub pushed : Stacked → List StackItem → Option Stacked
+pushed stack items =
+    if nat_lt (stack.pushes + 1) (2 ^ 64)
+    then Some (record { items = items; pushes = stack.pushes + 1 })
+    else None
+
+-- an attribute's name
+abbrev pub attr_pushed : List ℕ → Stacked → Option Stacked
+attr_pushed name stack = if is_attr_name name then pushed stack (Attr name ∷ stack.items) else None
+
+-- a text
+abbrev pub text_pushed : List ℕ → Stacked → Option Stacked
+text_pushed text stack =
+    if nat_le (length text) 4096 then pushed stack (Value text ∷ stack.items) else None
+
+-- ---- operators
+
+-- a comparison with a pattern, where there is one
+abbrev pub compared_if : Op → List ℕ → Option (List Element) → Option Query
+compared_if op attr pattern =
+    option_map (λ elements. Compare attr op (literal.Pattern elements)) pattern
+
+-- the characters of a text as plain ones, with a star before them, behind them or both
+abbrev pub star_if : Bool → List Element
+star_if true = Star ∷ []
+star_if false = []
+
+abbrev pub star_count : Bool → ℕ
+star_count true = 1
+star_count false = 0
+
+abbrev pub starred : Bool → List ℕ → Bool → List Element
+starred before text behind = star_if before ++ (plain_elements (chars text) ++ star_if behind)
+
+-- the comparison of an attribute with a text
+abbrev pub compared : StackOp → List ℕ → List ℕ → Option Query
+compared stack_op.Eq attr text = compared_if op.Eq attr (pattern_in text)
+compared stack_op.Ne attr text = compared_if op.Ne attr (pattern_in text)
+compared stack_op.Gt attr text = Some (Compare attr op.Gt (literal.Plain text))
+compared stack_op.Ge attr text = Some (Compare attr op.Ge (literal.Plain text))
+compared stack_op.Lt attr text = Some (Compare attr op.Lt (literal.Plain text))
+compared stack_op.Le attr text = Some (Compare attr op.Le (literal.Plain text))
+compared stack_op.Contains attr text = compared_if op.Eq attr (Some (starred true text true))
+compared stack_op.BeginsWith attr text = compared_if op.Eq attr (Some (starred false text true))
+compared stack_op.EndsWith attr text = compared_if op.Eq attr (Some (starred true text false))
+compared stack_op.And attr text = None
+compared stack_op.Or attr text = None
+compared stack_op.Not attr text = None
+
+-- the query in place of what it is made of, if it is within the limits
+abbrev pub in_place : Option Query → List StackItem → Option (List StackItem)
+in_place query rest = option_map (λ q. Part q ∷ rest) (option_and_then if_within query)
+
+-- a value on top and an attribute below it
+abbrev pub after_comparison : StackOp → List StackItem → Option (List StackItem)
+after_comparison op (Value text ∷ Attr attr ∷ rest) = in_place (compared op attr text) rest
+after_comparison op items = None
+
+-- two predicates, the lower one first
+abbrev pub after_join : (Queries → Query) → List StackItem → Option (List StackItem)
+after_join join (Part upper ∷ Part lower ∷ rest) =
+    in_place (Some (join (queries (lower ∷ upper ∷ [])))) rest
+after_join join items = None
+
+abbrev pub after_not : List StackItem → Option (List StackItem)
+after_not (Part q ∷ rest) = in_place (Some (Not q)) rest
+after_not items = None
+
+-- the items after an operator
+abbrev pub after_op : StackOp → List StackItem → Option (List StackItem)
+after_op stack_op.Eq items = after_comparison stack_op.Eq items
+after_op stack_op.Ne items = after_comparison stack_op.Ne items
+after_op stack_op.Gt items = after_comparison stack_op.Gt items
+after_op stack_op.Ge items = after_comparison stack_op.Ge items
+after_op stack_op.Lt items = after_comparison stack_op.Lt items
+after_op stack_op.Le items = after_comparison stack_op.Le items
+after_op stack_op.Contains items = after_comparison stack_op.Contains items
+after_op stack_op.BeginsWith items = after_comparison stack_op.BeginsWith items
+after_op stack_op.EndsWith items = after_comparison stack_op.EndsWith items
+after_op stack_op.And items = after_join And items
+after_op stack_op.Or items = after_join Or items
+after_op stack_op.Not items = after_not items
+
+abbrev pub op_pushed : StackOp → Stacked → Option Stacked
+op_pushed op stack = option_and_then (pushed stack) (after_op op stack.items)
+
+-- A call made this of some items: the predicate that stands in place of the first ones, none where
+-- nothing fits, and where something fits it may have run out of memory.
+abbrev pub IsMade : Result (Option Query) Refusal → ℕ → List StackItem
+    → Option (List StackItem) → Type 0
+IsMade (Ok made) count items after = after ≡ option_map (λ p. Part p ∷ drop count items) made
+IsMade (Err e) count items after = IsSome after
+
+-- ---- the end
+
+-- the predicate, where it is all that the stack holds
+abbrev pub only_part : List StackItem → Option Query
+only_part (Part q ∷ []) = Some q
+only_part items = None
+
+-- ---- refusals
+
+-- what doesn't fit is refused at a place: the number of pushes that were accepted
+abbrev pub refusal_at : {A : Type 0} → ℕ → Option A → Option Refusal
+refusal_at place None = Some (BadQuery place)
+refusal_at place (Some new) = None

@@ -1,0 +1,12 @@
+//! What a stack holds.
+use crate::operand::Operand;
+use crate::predicate::Predicate;
+use lq_value::AttrName;
+
+/// An item of a stack: an attribute, a value's text, or a predicate.
+#[derive(Drop)]
+pub enum StackItem {
+    Attr(AttrName),
+    Value(Operand),
+    Part(Predicate),
+}

@@ -1,0 +1,203 @@
+-- One character more, and one byte more, of a text whose `\` are taken off.
+use Rattle.std.proofs.Common.{◌≡◌, ◌≤◌, ◌<◌, length, drop, get_or, ◌+◌, ◌/◌, ◌%◌, ℕ, Bool, true, false, cond, List, [], ◌∷◌, ◌++◌, refl, sym, ap, ◌∙◌, arith, append_assoc, eq-eqb}
+use Rattle.std.proofs.lemmas.Bool.{ne_eqb}
+use Rattle.std.proofs.lemmas.Str.{encode_ascii}
+use Rattle.std.proofs.Math.Dec.{ltb, lit<}
+use Rattle.std.proofs.Math.Utf8.{encode}
+use Rattle.std.specs.Prelude.{◌==◌, if◌then◌else◌, is_some, Some, None}
+use Rattle.lq_value.specs.declared.refusal.Refusal.TheVariants.{BadName}
+use Rattle.lq_value.specs.Name.{is_attr_name}
+use Rattle.lq_predicate_formula.specs.Literals.{has_no_nul, name_refusal, unescaped}
+use Rattle.lq_predicate_formula.proofs.CountLemmas.{at_byte}
+use Rattle.std.proofs.lemmas.List.{drop_all}
+
+-- no byte is `\`
+abbrev pub NoBackslash : List ℕ → Type 0
+NoBackslash [] = Unit {0}
+NoBackslash (b ∷ bs) = (b ≡ 92 → ⊥) × NoBackslash bs
+
+-- a byte that is no `\` stays, and what follows is unescaped
+one_plain : (b : ℕ) (bs : List ℕ) → (b ≡ 92 → ⊥) → unescaped false (b ∷ bs) ≡ b ∷ unescaped false bs
+one_plain b bs h = ap (λ t. cond t (unescaped true bs) (b ∷ unescaped false bs)) (ne_eqb b 92 h)
+
+-- bytes with no `\` stay, and what follows is unescaped
+all_plain : (bs rest : List ℕ) → NoBackslash bs
+    → unescaped false (bs ++ rest) ≡ bs ++ unescaped false rest
+all_plain [] rest h = refl
+all_plain (b ∷ bs) rest h = one_plain b (bs ++ rest) h.0 ∙ ap (λ l. b ∷ l) (all_plain bs rest h.1)
+
+-- an encoded character: its first byte, and no `\` after it
+pub record Opened (c : ℕ) (bs : List ℕ) : Type 0 where
+  pub first : ℕ
+  pub tail : List ℕ
+  pub split : bs ≡ first ∷ tail
+  pub plain : NoBackslash tail
+  pub first_plain : (c ≡ 92 → ⊥) → first ≡ 92 → ⊥
+
+-- each form of an encoded character has a first byte, and no `\` after it
+cases : (x y z : Bool) (c p q r u v w m n o : ℕ)
+    → Opened c (cond x (c ∷ [])
+    (cond y ((192 + p) ∷ (128 + q) ∷ [])
+    (cond z ((224 + r) ∷ (128 + u) ∷ (128 + v) ∷ [])
+    ((240 + w) ∷ (128 + m) ∷ (128 + n) ∷ (128 + o) ∷ []))))
+cases true y z c p q r u v w m n o =
+    record { first = c; tail = []; split = refl; plain = tt; first_plain = λ h. h }
+cases false true z c p q r u v w m n o = record {
+  first = 192 + p;
+  tail = (128 + q) ∷ [];
+  split = refl;
+  plain = (λ e. omega arith, tt);
+  first_plain = λ h e. omega arith;
+}
+cases false false true c p q r u v w m n o = record {
+  first = 224 + r;
+  tail = (128 + u) ∷ (128 + v) ∷ [];
+  split = refl;
+  plain = (λ e. omega arith, (λ e. omega arith, tt));
+  first_plain = λ h e. omega arith;
+}
+cases false false false c p q r u v w m n o = record {
+  first = 240 + w;
+  tail = (128 + m) ∷ (128 + n) ∷ (128 + o) ∷ [];
+  split = refl;
+  plain = (λ e. omega arith, (λ e. omega arith, (λ e. omega arith, tt)));
+  first_plain = λ h e. omega arith;
+}
+
+-- an encoded character has a first byte, and no `\` after it
+opened : (c : ℕ) → Opened c (encode c)
+unfolding encode
+opened c = cases (ltb c 128) (ltb c 2048) (ltb c 65536) c (c / 64) (c % 64) (c / 4096) (c / 64 % 64)
+    (c % 64) (c / 262144) (c / 4096 % 64) (c / 64 % 64) (c % 64)
+
+-- a character after `\` stays whole
+pub escaped_char : (c : ℕ) (rest : List ℕ)
+    → unescaped true (encode c ++ rest) ≡ encode c ++ unescaped false rest
+escaped_char c rest =
+    let o = opened c in
+    ap (λ l. unescaped true (l ++ rest)) o.split ∙ ap (λ l. o.first ∷ l)
+    (all_plain o.tail rest o.plain) ∙ sym (ap (λ l. l ++ unescaped false rest) o.split)
+
+-- a character that is no `\` stays whole
+pub plain_char : (c : ℕ) (rest : List ℕ) → (c ≡ 92 → ⊥)
+    → unescaped false (encode c ++ rest) ≡ encode c ++ unescaped false rest
+plain_char c rest h =
+    let o = opened c in
+    ap (λ l. unescaped false (l ++ rest)) o.split ∙ all_plain (o.first ∷ o.tail) rest
+    (o.first_plain h, o.plain) ∙ sym (ap (λ l. l ++ unescaped false rest) o.split)
+
+-- the character `\` is taken off and escapes the next
+pub backslash : (c : ℕ) (rest : List ℕ) → c ≡ 92
+    → unescaped false (encode c ++ rest) ≡ unescaped true rest
+backslash c rest h = ap (λ d. unescaped false (encode d ++ rest)) h
+    ∙ ap (λ l. unescaped false (l ++ rest)) (encode_ascii 92 (lit< tt))
+
+-- the characters so far, and one more
+pub one_more : (done bs whole : List ℕ) (c : ℕ) (all tail : List ℕ)
+    → done ++ all ≡ whole → bs ≡ done ++ encode c → all ≡ encode c ++ tail → bs ++ tail ≡ whole
+one_more done bs whole c all tail e f g =
+    ap (λ l. l ++ tail) f ∙ append_assoc done (encode c) tail ∙ ap (λ l. done ++ l) (sym g) ∙ e
+
+-- ---- by bytes
+
+-- one byte more of an unescaped text, by whether it is `\`
+step_by : (bs : List ℕ) (n : ℕ) → n < length bs → (e : Bool) → (get_or bs n 0 == 92) ≡ e
+    → unescaped false (drop n bs)
+    ≡ cond e (unescaped true (drop (n + 1) bs)) (get_or bs n 0 ∷ unescaped false (drop (n + 1) bs))
+step_by bs n h e f = ap (unescaped false) (at_byte bs n h) ∙ ap (λ t.
+    cond t (unescaped true (drop (n + 1) bs)) (get_or bs n 0 ∷ unescaped false (drop (n + 1) bs))) f
+
+-- a byte that is no `\`
+pub plain_byte : (bs : List ℕ) (n : ℕ) → n < length bs → (get_or bs n 0 == 92) ≡ false
+    → unescaped false (drop n bs) ≡ get_or bs n 0 ∷ unescaped false (drop (n + 1) bs)
+plain_byte bs n h e = step_by bs n h false e
+
+-- a `\` and the byte behind it
+pub escaped_byte : (bs : List ℕ) (n : ℕ) → n + 1 < length bs → (get_or bs n 0 == 92) ≡ true
+    → unescaped false (drop n bs) ≡ get_or bs (n + 1) 0 ∷ unescaped false (drop (n + 2) bs)
+escaped_byte bs n h e =
+    let two : n + 1 + 1 ≡ n + 2 = omega arith in
+    step_by bs n (omega arith) true e ∙ ap (unescaped true) (at_byte bs (n + 1) h)
+    ∙ ap (λ i. get_or bs (n + 1) 0 ∷ unescaped false (drop i bs)) two
+
+-- a last `\`
+pub last_byte : (bs : List ℕ) (n : ℕ) → n < length bs → length bs ≤ n + 1
+    → (get_or bs n 0 == 92) ≡ true → unescaped false (drop n bs) ≡ []
+last_byte bs n h k e = step_by bs n h true e ∙ ap (unescaped true) (drop_all (n + 1) bs k)
+
+-- what is counted so far, and what is left
+pub record Counted (bs : List ℕ) (n count : ℕ) : Type 0 where
+  pub bound : n ≤ length bs
+  pub size : count + length (unescaped false (drop n bs)) ≡ length (unescaped false bs)
+  pub small : count ≤ n
+  pub clean : has_no_nul (unescaped false (drop n bs)) ≡ has_no_nul (unescaped false bs)
+
+-- a byte that isn't NUL stands before others
+clear_before : (b : ℕ) (bs : List ℕ) → (b ≡ 0 → ⊥) → has_no_nul (b ∷ bs) ≡ has_no_nul bs
+clear_before b bs h = rw (ne_eqb b 0 h) refl
+
+-- and a NUL does
+nul_before : (b : ℕ) (bs : List ℕ) → b ≡ 0 → has_no_nul (b ∷ bs) ≡ false
+nul_before b bs e = rw e refl
+
+-- a byte that is no `\` is counted
+pub counted_plain : (bs : List ℕ) (n count : ℕ) → Counted bs n count → n < length bs
+    → (get_or bs n 0 ≡ 92 → ⊥) → (get_or bs n 0 ≡ 0 → ⊥) → Counted bs (n + 1) (count + 1)
+counted_plain bs n count s h p z =
+    let e = plain_byte bs n h (ne_eqb _ 92 p) in record {
+      bound = omega arith;
+      size = omega (arith, ap length e, s.size);
+      small = omega (arith, s.small);
+      clean = sym (clear_before (get_or bs n 0) (unescaped false (drop (n + 1) bs)) z)
+          ∙ sym (ap has_no_nul e) ∙ s.clean;
+    }
+
+-- a `\` and the byte behind it are counted as one
+pub counted_escaped : (bs : List ℕ) (n count : ℕ) → Counted bs n count → n + 1 < length bs
+    → get_or bs n 0 ≡ 92 → (get_or bs (n + 1) 0 ≡ 0 → ⊥) → Counted bs (n + 2) (count + 1)
+counted_escaped bs n count s h p z =
+    let e = escaped_byte bs n h (eq-eqb _ 92 p) in record {
+      bound = omega arith;
+      size = omega (arith, ap length e, s.size);
+      small = omega (arith, s.small);
+      clean = sym (clear_before (get_or bs (n + 1) 0) (unescaped false (drop (n + 2) bs)) z)
+          ∙ sym (ap has_no_nul e) ∙ s.clean;
+    }
+
+-- where nothing is left, the count is whole
+pub counted_size : (bs : List ℕ) (n count : ℕ) → Counted bs n count
+    → unescaped false (drop n bs) ≡ [] → count ≡ length (unescaped false bs)
+counted_size bs n count s e = omega (arith, ap length e, s.size)
+
+-- and no byte was NUL
+pub counted_clear : (bs : List ℕ) (n count : ℕ) → Counted bs n count
+    → unescaped false (drop n bs) ≡ [] → has_no_nul (unescaped false bs) ≡ true
+counted_clear bs n count s e = sym s.clean ∙ ap has_no_nul e
+
+-- where a NUL is next, one byte is NUL
+pub counted_nul : (bs : List ℕ) (n count b : ℕ) (rest : List ℕ) → Counted bs n count
+    → unescaped false (drop n bs) ≡ b ∷ rest → b ≡ 0 → has_no_nul (unescaped false bs) ≡ false
+counted_nul bs n count b rest s e z = sym s.clean ∙ ap has_no_nul e ∙ nul_before b rest z
+
+-- nothing is left at the end
+pub none_left : (bs : List ℕ) (n : ℕ) → length bs ≤ n → unescaped false (drop n bs) ≡ []
+none_left bs n h = ap (unescaped false) (drop_all n bs h)
+
+-- and no text is none, behind a `\` too
+pub unescaped_none : (b : Bool) (bs : List ℕ) → length bs ≡ 0 → unescaped b bs ≡ []
+unescaped_none true [] h = refl
+unescaped_none false [] h = refl
+unescaped_none true (x ∷ xs) h = absurd (omega arith)
+unescaped_none false (x ∷ xs) h = absurd (omega arith)
+
+-- a test that gives a name or None refuses a bad name just where it gives None
+refusal_by : (b : Bool) (u : List ℕ) → (if b then None else Some BadName)
+    ≡ (if is_some (if b then Some u else None) then None else Some BadName)
+refusal_by true u = refl
+refusal_by false u = refl
+
+-- why the unescaped text is refused as a name
+pub name_refused : (raw name : List ℕ) → name ≡ unescaped false raw
+    → (if is_attr_name name then None else Some BadName) ≡ name_refusal raw
+name_refused raw name e = ap (λ n. if is_attr_name n then None else Some BadName) e
+    ∙ refusal_by (is_attr_name (unescaped false raw)) (unescaped false raw)

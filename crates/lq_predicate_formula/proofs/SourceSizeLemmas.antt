@@ -1,0 +1,232 @@
+-- The size of a pattern while its source is read, a piece at a time.
+use Rattle.std.proofs.Common.{◌≡◌, ◌≤◌, ◌+◌, ◌-◌, ◌^◌, ℕ, List, [], ◌∷◌, ◌++◌, length, refl, sym, ap, ◌∙◌, arith, Bool, true, false, Option, Some, None, Bor}
+use Rattle.std.specs.Prelude.{Result, Ok, Err, if◌then◌else◌, encode_utf8}
+use Rattle.std.proofs.lemmas.Str.{encode_ascii}
+use Rattle.std.proofs.Math.Dec.{lit<}
+use Rattle.std.specs.Str.{encode_utf8_all, IsUtf8}
+use Rattle.lq_value.specs.declared.element.Element.{Element}
+use Rattle.lq_value.specs.declared.element.Element.TheVariants.{Any, Set, Star}
+use Rattle.lq_value.specs.declared.element.Item.{Item}
+use Rattle.lq_value.specs.declared.set.FirstItem.{FirstItem}
+use Rattle.lq_value.specs.declared.set.FirstItem.TheVariants as items
+use Rattle.lq_value.specs.Reading.{first_item_of}
+use Rattle.lq_value.specs.Laws.{AreWalked, SourcesAreWalked}
+use Rattle.lq_value.specs.Sign.{Signs, signs_of, signs_len}
+use Rattle.lq_value.specs.Source.{First, ends, has, faulty, Pieces, whole, stuck, begin, after_first, elements_or_place, element_at, item_at, pattern_of, pieces_of, set_with}
+use Rattle.lq_predicate_formula.specs.Canonical.{element_then, item_then, items_then}
+use Rattle.lq_predicate_formula.specs.Capped.{capped}
+use Rattle.lq_predicate_formula.specs.Sizes.{HasSize, pattern_bytes, items_bytes, pattern_sized, items_sized}
+use Rattle.lq_predicate_formula.proofs.SizeLemmas.{element_split, item_split}
+
+-- the pieces, where it is known what is first
+step_by : {A : Type 0} {first : Signs → First A} (w : AreWalked first) (ss : Signs) (r : First A)
+    → first ss ≡ r → pieces_of first ss ≡ after_first ss r (pieces_of first)
+step_by {first = first} w ss r e = w.step ss ∙ ap (λ x. after_first ss x (pieces_of first)) e
+
+-- ---- the items of a set
+
+-- an item counted now is one counted with the items after it
+item_more : (n n' p : ℕ) (i : Item) (r : Pieces Item)
+    → p ≡ length (encode_utf8_all (item_then i [])) → n' ≡ capped (n + p)
+    → items_sized n' r ≡ items_sized n (begin i r)
+item_more n n' p i (whole is rest) e new =
+    let split = item_split i is in
+    ap (λ k. Some (k, rest)) (let same : capped (n' + items_bytes is)
+    ≡ capped (n + items_bytes (i ∷ is)) = omega (arith, e, new, split) in same)
+item_more n n' p i (stuck rest) e new = refl
+
+-- while a set's source is read: one item more keeps what the whole will be
+pub items_on : SourcesAreWalked → (n n' p : ℕ) (ss rest : Signs) (i : Item)
+    (all : Option (ℕ × Signs)) → items_sized n (pieces_of item_at ss) ≡ all
+    → item_at ss ≡ has i rest → p ≡ length (encode_utf8_all (item_then i [])) → n' ≡ capped (n + p)
+    → items_sized n' (pieces_of item_at rest) ≡ all
+items_on law n n' p ss rest i all so_far is e new =
+    item_more n n' p i (pieces_of item_at rest) e new
+    ∙ sym (ap (items_sized n) (step_by law.items ss (has i rest) is)) ∙ so_far
+
+-- a set with no more items has one byte, its `]`
+end_bytes : items_bytes [] ≡ 1
+end_bytes = ap (λ t. length (t ++ [])) (encode_ascii 93 (lit< tt))
+
+-- `*` has one byte
+pub star_bytes : length (encode_utf8_all (element_then Star [])) ≡ 1
+star_bytes = ap (λ t. length (t ++ [])) (encode_ascii 42 (lit< tt))
+
+-- and so has `?`
+pub any_bytes : length (encode_utf8_all (element_then Any [])) ≡ 1
+any_bytes = ap (λ t. length (t ++ [])) (encode_ascii 63 (lit< tt))
+
+-- a set's source that ends here is as large as was counted, and its `]`
+pub items_end : SourcesAreWalked → (n n' : ℕ) (ss rest : Signs) (all : Option (ℕ × Signs))
+    → items_sized n (pieces_of item_at ss) ≡ all → item_at ss ≡ ends rest → n' ≡ capped (n + 1)
+    → all ≡ Some (n', rest)
+items_end law n n' ss rest all so_far is new =
+    sym so_far ∙ ap (items_sized n) (step_by law.items ss (ends rest) is) ∙ ap (λ k. Some (k, rest))
+    (let same : capped (n + items_bytes []) ≡ n' = omega (arith, new, end_bytes) in same)
+
+-- a set's source that is bad here is bad
+pub items_stuck : SourcesAreWalked → (n : ℕ) (ss : Signs) (all : Option (ℕ × Signs))
+    → items_sized n (pieces_of item_at ss) ≡ all → item_at ss ≡ faulty → all ≡ None
+items_stuck law n ss all so_far is =
+    sym so_far ∙ ap (items_sized n) (step_by law.items ss faulty is)
+
+-- ---- a set, which has an item at least
+
+-- the items that were measured, where they are whole
+pub record Items (r : Pieces Item) (size : ℕ) (rest : Signs) : Type 0 where
+  pub items : List Item
+  pub are : r ≡ whole items rest
+  pub size_is : size ≡ capped (items_bytes items)
+
+-- the size that was counted, or this one
+abbrev first_or : ℕ → Option (ℕ × Signs) → ℕ
+first_or n None = n
+first_or n (Some p) = p.0
+
+-- the signs that are left, or these
+abbrev second_or : Signs → Option (ℕ × Signs) → Signs
+second_or ss None = ss
+second_or ss (Some p) = p.1
+
+-- a size that was counted over a set's items is that of whole items
+items_whole : (r : Pieces Item) (size : ℕ) (rest : Signs) → items_sized 0 r ≡ Some (size, rest)
+    → Items r size rest
+items_whole (whole is behind) size rest e = record {
+  items = is;
+  are = ap (λ o. whole is (second_or rest o)) e;
+  size_is = let same = ap (first_or 0) e in omega (arith, same);
+}
+items_whole (stuck behind) size rest e = absurd (let no : ⊥ = cc in no)
+
+-- items that are not whole make no set
+items_none : (r : Pieces Item) (negated : Bool) → items_sized 0 r ≡ None
+    → set_with negated r ≡ faulty
+items_none (whole is rest) negated e = absurd (let no : ⊥ = cc in no)
+items_none (stuck rest) negated e = refl
+
+-- nothing stands between the `[` and its `]`
+pub set_empty : SourcesAreWalked → (ss rest : Signs) (negated : Bool) → item_at ss ≡ ends rest
+    → set_with negated (pieces_of item_at ss) ≡ faulty
+set_empty law ss rest negated e = ap (set_with negated) (step_by law.items ss (ends rest) e)
+
+-- a set whose items are not whole is bad
+pub set_stuck : (ss : Signs) (negated : Bool) → items_sized 0 (pieces_of item_at ss) ≡ None
+    → set_with negated (pieces_of item_at ss) ≡ faulty
+set_stuck ss negated e = items_none (pieces_of item_at ss) negated e
+
+-- a set that has begun with an item is not empty
+begun_some : (i : Item) (r : Pieces Item) (rest : Signs) → begin i r ≡ whole [] rest → ⊥
+begun_some i (whole is behind) rest e = cc
+begun_some i (stuck behind) rest e = cc
+
+-- an item, or a fault
+pub not_ended : (r : FirstItem) → ((rest : Bor (List ℕ)) → r ≡ items.End rest → ⊥)
+    → (behind : Signs) → first_item_of r ≡ ends behind → ⊥
+not_ended (items.End rest) h behind e = h rest refl
+not_ended (items.Has item rest) h behind e = cc
+not_ended items.Faulty h behind e = cc
+
+-- a set whose source doesn't end at once has an item
+some_items : SourcesAreWalked → (ss rest : Signs) → (r : First Item) → item_at ss ≡ r
+    → ((behind : Signs) → r ≡ ends behind → ⊥) → pieces_of item_at ss ≡ whole [] rest → ⊥
+some_items law ss rest (ends behind) is some e = some behind refl
+some_items law ss rest (has i behind) is some e =
+    begun_some i (pieces_of item_at behind) rest (sym (step_by law.items ss (has i behind) is) ∙ e)
+some_items law ss rest faulty is some e =
+    let same = step_by law.items ss faulty is in
+    absurd (let no : ⊥ = cc in no)
+
+-- a set's text is its `[` or `[^`, and that of its items
+set_bytes : (negated : Bool) (is : List Item)
+    → length (encode_utf8_all (element_then (Set negated is) []))
+    ≡ (if negated then 2 else 1) + items_bytes is
+set_bytes true is =
+    let one = ap (λ t. length (t ++ (encode_utf8 94 ++ encode_utf8_all (items_then is []))))
+    (encode_ascii 91 (lit< tt)) in
+    let two =
+    ap (λ t. length (t ++ encode_utf8_all (items_then is []))) (encode_ascii 94 (lit< tt)) in
+    omega (arith, one, two)
+set_bytes false is =
+    let one =
+    ap (λ t. length (t ++ encode_utf8_all (items_then is []))) (encode_ascii 91 (lit< tt)) in
+    omega (arith, one)
+
+-- a set with an item is an element
+set_of : (negated : Bool) (is : List Item) (rest : Signs) → (is ≡ [] → ⊥)
+    → set_with negated (whole is rest) ≡ has (Set negated is) rest
+set_of negated [] rest some = absurd (some refl)
+set_of negated (i ∷ is) rest some = refl
+
+-- a set that was read whole has the size that was counted, and that of its opening
+pub set_sized : SourcesAreWalked → (text rest : List ℕ) (negated : Bool) (n m : ℕ) → IsUtf8 rest
+    → ((behind : Signs) → item_at (signs_of text) ≡ ends behind → ⊥)
+    → items_sized 0 (pieces_of item_at (signs_of text)) ≡ Some (n, signs_of rest)
+    → m ≡ capped (n + (if negated then 2 else 1))
+    → HasSize (set_with negated (pieces_of item_at (signs_of text))) m rest
+set_sized law text rest negated n m utf8 some e new =
+    let w = items_whole (pieces_of item_at (signs_of text)) n (signs_of rest) e in
+    let has_some : w.items ≡ [] → ⊥ = λ none. some_items law (signs_of text) (signs_of rest)
+    (item_at (signs_of text)) refl some (w.are ∙ ap (λ is. whole is (signs_of rest)) none) in
+    let bytes = set_bytes negated w.items in
+    let size = w.size_is in
+    record {
+      element = Set negated w.items;
+      is = ap (set_with negated) w.are ∙ set_of negated w.items (signs_of rest) has_some;
+      size_is = omega (arith, new, bytes, size);
+      text = utf8;
+    }
+
+-- ---- the elements
+
+-- the size of the pattern behind so many bytes, or where its fault is
+abbrev pub measured : List ℕ → ℕ → Pieces Element → Result ℕ ℕ
+measured text n (whole es rest) = Ok (capped (n + pattern_bytes es))
+measured text n (stuck rest) = Err (length text - signs_len rest)
+
+-- nothing counted before leaves a pattern's size as it is
+measured_by : (text : List ℕ) (r : Pieces Element)
+    → measured text 0 r ≡ pattern_sized (elements_or_place text r)
+measured_by text (whole es rest) = ap Ok
+    (let same : capped (0 + pattern_bytes es) ≡ capped (pattern_bytes es) = omega arith in same)
+measured_by text (stuck rest) = refl
+
+-- before the first element, what is to be counted is the size of the whole pattern
+pub none_measured : (text : List ℕ)
+    → measured text 0 (pieces_of element_at (signs_of text)) ≡ pattern_sized (pattern_of text)
+none_measured text = measured_by text (pieces_of element_at (signs_of text))
+
+-- an element counted now is one counted with the elements after it
+element_more : (text : List ℕ) (n n' p : ℕ) (e : Element) (r : Pieces Element)
+    → p ≡ capped (length (encode_utf8_all (element_then e []))) → n' ≡ capped (n + p)
+    → measured text n' r ≡ measured text n (begin e r)
+element_more text n n' p e (whole es rest) is new =
+    let split = element_split e es in
+    ap Ok (let same : capped (n' + pattern_bytes es)
+    ≡ capped (n + pattern_bytes (e ∷ es)) = omega (arith, is, new, split) in same)
+element_more text n n' p e (stuck rest) is new = refl
+
+-- while a pattern's source is read: one element more keeps what the whole will be
+pub elements_on : SourcesAreWalked → (text : List ℕ) (n n' p : ℕ) (left rest : List ℕ)
+    (all : Result ℕ ℕ) → measured text n (pieces_of element_at (signs_of left)) ≡ all
+    → HasSize (element_at (signs_of left)) p rest → n' ≡ capped (n + p)
+    → measured text n' (pieces_of element_at (signs_of rest)) ≡ all
+elements_on law text n n' p left rest all so_far h new =
+    element_more text n n' p h.element (pieces_of element_at (signs_of rest)) h.size_is new
+    ∙ sym (ap (measured text n)
+    (step_by law.elements (signs_of left) (has h.element (signs_of rest)) h.is)) ∙ so_far
+
+-- a pattern's source that ends here is as large as was counted
+pub elements_end : SourcesAreWalked → (text : List ℕ) (n : ℕ) (left : List ℕ) (all : Result ℕ ℕ)
+    → measured text n (pieces_of element_at (signs_of left)) ≡ all
+    → element_at (signs_of left) ≡ ends [] → n ≤ 2 ^ 64 - 1 → Ok n ≡ all
+elements_end law text n left all so_far is small =
+    ap Ok (let same : n ≡ capped (n + pattern_bytes []) = omega (arith, small) in same)
+    ∙ sym (ap (measured text n) (step_by law.elements (signs_of left) (ends []) is)) ∙ so_far
+
+-- a pattern's source that is bad here is bad at this place
+pub elements_stuck : SourcesAreWalked → (text : List ℕ) (n p : ℕ) (left : List ℕ) (all : Result ℕ ℕ)
+    → IsUtf8 left → measured text n (pieces_of element_at (signs_of left)) ≡ all
+    → element_at (signs_of left) ≡ faulty → p ≡ length text - length left → Err p ≡ all
+elements_stuck law text n p left all utf8 so_far is place =
+    ap Err (place ∙ ap (λ k. length text - k) (sym (law.bytes left utf8)))
+    ∙ sym (ap (measured text n) (step_by law.elements (signs_of left) faulty is)) ∙ so_far

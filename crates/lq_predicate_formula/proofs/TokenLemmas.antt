@@ -1,0 +1,112 @@
+-- Each text has tokens, and one list of them.
+use Rattle.std.proofs.Common.{◌≡◌, ◌<◌, ◌≤◌, ◌+◌, ℕ, zero, suc, Bool, true, false, cond, List, [], ◌∷◌, length, get_or, take, drop, Option, Some, None, refl, sym, ap, ap₂, ◌∙◌, arith, subst, length-drop}
+use Rattle.std.proofs.Math.Dec.{eqb-suc-zero}
+use Rattle.std.specs.Prelude.{◌==◌, ◌||◌}
+use Rattle.lq_value.specs.declared.op.Op.TheVariants.{Eq, Ne, Lt, Le, Gt, Ge}
+use Rattle.lq_predicate_formula.specs.Bytes.{spaces, word_bytes, quoted_bytes}
+use Rattle.lq_predicate_formula.specs.Tokens.{Token, word, op, bang, ands, ors, lone, cut, Front, fixed, begins_with, longer, quoted_front, word_front, is_symbol, symbol_front, front, front_at, Placed, placed_at, Begins, trimmed, Yields, HasTokens, first_and, tokens_within, tokens_from}
+
+-- one of two that have a size has a size
+one_of : (c : Bool) (x y : Front) → 0 < x.size → 0 < y.size → 0 < (cond c x y).size
+one_of true x y h k = h
+one_of false x y h k = k
+
+-- a symbol of one byte or two has a size
+longer_size : (c : ℕ) (bs : List ℕ) (t u : Token) → 0 < (longer c bs t u).size
+longer_size c bs t u = one_of (begins_with c bs) (fixed t 2) (fixed u 1) (omega arith) (omega arith)
+
+-- a symbol has a size
+symbol_size : (b : ℕ) (bs : List ℕ) → 0 < (symbol_front b bs).size
+symbol_size b bs =
+    one_of (b == 40) _ _ (omega arith)
+    (one_of (b == 41) _ _ (omega arith) (one_of (b == 33) _ _ (longer_size 61 bs (op Ne) bang)
+    (one_of (b == 61) _ _ (longer_size 61 bs (op Eq) (op Eq)) (one_of (b == 60) _ _
+    (longer_size 61 bs (op Le) (op Lt)) (one_of (b == 62) _ _ (longer_size 61 bs (op Ge) (op Gt))
+    (one_of (b == 38) _ _ (longer_size 38 bs ands lone) (longer_size 124 bs ors lone)))))))
+
+-- a quoted text has a size
+quoted_size : (bs : List ℕ) (o : Option ℕ) → 0 < (quoted_front bs o).size
+quoted_size bs None = omega arith
+quoted_size bs (Some n) = omega arith
+
+-- a word has a size
+word_size : (b : ℕ) (bs : List ℕ) (n : ℕ) → 0 < (word_front (b ∷ bs) n).size
+word_size b bs zero = omega arith
+word_size b bs (suc n) =
+    subst (λ t. 0 < (cond t (fixed cut (length (b ∷ bs))) (record {
+      token = word (take (suc n) (b ∷ bs));
+      size = suc n;
+      inside = 0;
+    })).size) (sym (eqb-suc-zero n)) (let k : 0 < suc n = omega arith in k)
+
+-- what stands at the front of a text that is not empty has a size
+front_size : (bs : List ℕ) → 0 < length bs → 0 < (front_at bs).size
+front_size [] h = absurd (omega arith)
+front_size (b ∷ bs) h =
+    one_of (is_symbol b) _ _ (symbol_size b bs) (one_of (b == 34 || b == 39) _ _
+    (quoted_size bs (quoted_bytes b false bs)) (word_size b bs (word_bytes false (b ∷ bs))))
+
+-- what stands at the front of a text that begins with a symbol
+pub front_symbol : (bs : List ℕ) → 0 < length bs → is_symbol (get_or bs 0 0) ≡ true
+    → front_at bs ≡ symbol_front (get_or bs 0 0) (drop 1 bs)
+front_symbol [] h e = absurd (omega arith)
+front_symbol (b ∷ bs) h e = ap (λ t. cond t (symbol_front b bs) (cond (b == 34 || b == 39)
+    (quoted_front bs (quoted_bytes b false bs))
+    (word_front (b ∷ bs) (word_bytes false (b ∷ bs))))) e
+
+-- the first token and those behind it, where those are had
+has_first : (n at : ℕ) (bs cs : List ℕ) → trimmed bs ≡ cs → length cs ≤ suc n
+    → ((at : ℕ) (ds : List ℕ) → length ds ≤ n → HasTokens at ds (tokens_within n at ds))
+    → HasTokens at bs (first_and (at + spaces bs) cs (tokens_within n))
+has_first n at bs [] e h others = e
+has_first n at bs (c ∷ cs) e h others =
+    let ds = drop (front c cs).size (c ∷ cs) in
+    let some : 0 < (front c cs).size = front_size (c ∷ cs) (omega arith) in
+    let next = at + spaces bs + (front c cs).size in
+    let P : List ℕ → Type 0 =
+    λ l. Begins (at + spaces bs) l (placed_at (at + spaces bs) (front c cs)) next ds in (
+      next,
+      ds,
+      subst P (sym e) (omega arith, refl, refl, refl),
+      others next ds (omega (arith, length-drop (front c cs).size (c ∷ cs))),
+    )
+
+-- the tokens within a bound on the text's length are its tokens
+has_within : (n at : ℕ) (bs : List ℕ) → length bs ≤ n → HasTokens at bs (tokens_within n at bs)
+unfolding tokens_within
+has_within zero at [] h = refl
+has_within zero at (b ∷ bs) h = absurd (omega arith)
+has_within (suc n) at bs h = has_first n at bs (trimmed bs) refl
+    (omega (arith, length-drop (spaces bs) bs)) (λ at' ds k. has_within n at' ds k)
+
+-- each text has tokens
+pub has_tokens : (at : ℕ) (bs : List ℕ) → HasTokens at bs (tokens_from at bs)
+unfolding tokens_from
+has_tokens at bs = has_within (length bs) at bs (omega arith)
+
+-- the empty text has no byte
+none_left : (bs : List ℕ) → bs ≡ [] → 0 < length bs → ⊥
+none_left bs e h = let l : length bs ≡ 0 = ap length e in omega arith
+
+-- a text has only one list of tokens
+pub tokens_same : (ts us : List Placed) (at : ℕ) (bs : List ℕ)
+    → HasTokens at bs ts → HasTokens at bs us → ts ≡ us
+tokens_same [] [] at bs h k = refl
+tokens_same [] (u ∷ us) at bs h k = absurd (none_left (trimmed bs) h k.2.0)
+tokens_same (t ∷ ts) [] at bs h k = absurd (none_left (trimmed bs) k h.2.0)
+tokens_same (t ∷ ts) (u ∷ us) at bs h k =
+    let n : h.0 ≡ k.0 = h.2.2 ∙ sym k.2.2 in
+    let r : h.1 ≡ k.1 = h.2.3 ∙ sym k.2.3 in
+    let same : ts ≡ us = tokens_same ts us k.0 k.1
+    (subst (λ x. HasTokens x k.1 ts) n (subst (λ x. HasTokens h.0 x ts) r h.3)) k.3 in
+    ap₂ (λ x y. x ∷ y) (h.2.1 ∙ sym k.2.1) same
+
+-- the list of the tokens has the token that is yielded, and those of what is left
+pub tokens_from_yields : (at : ℕ) (bs : List ℕ) (t : Placed) (next : ℕ) (rest : List ℕ)
+    → Yields at bs t next rest → tokens_from at bs ≡ t ∷ tokens_from next rest
+tokens_from_yields at bs t next rest y = tokens_same (tokens_from at bs)
+    (t ∷ tokens_from next rest) at bs (has_tokens at bs) (next, rest, y, has_tokens next rest)
+
+-- a text of white space alone has no tokens
+pub tokens_from_none : (at : ℕ) (bs : List ℕ) → trimmed bs ≡ [] → tokens_from at bs ≡ []
+tokens_from_none at bs e = tokens_same (tokens_from at bs) [] at bs (has_tokens at bs) e

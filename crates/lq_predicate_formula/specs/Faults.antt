@@ -1,0 +1,127 @@
+-- What a text reads as by the grammar and the limits, and which faults it has at which places.
+use Rattle.std.specs.Prelude.{◌≡◌, ◌+◌, ◌<◌, ◌≤◌, ◌⊎◌, ℕ, List, [], ◌∷◌, ◌++◌, length, map, None, Some}
+use Rattle.lq_value.specs.declared.op.Op.{Op}
+use Rattle.lq_value.specs.declared.op.Op.TheVariants.{Eq}
+use Rattle.lq_predicate_formula.specs.Tokens.{Token, opens, closes, bang, ands, ors, op, word, lone, cut, Placed, HasTokens, bare}
+use Rattle.lq_predicate_formula.specs.Query.{Query}
+use Rattle.lq_predicate_formula.specs.Grammar.{IsFormula, nesting, IsBegun}
+use Rattle.lq_predicate_formula.specs.Literals.{literal_fault, name_of}
+use Rattle.lq_predicate_formula.specs.Canonical.{canonical, comparisons, depth}
+
+-- how many bytes a formula has at most, and the canonical text of its query
+abbrev pub most_bytes : ℕ
+most_bytes = 4096
+
+abbrev pub most_comparisons : ℕ
+most_comparisons = 256
+
+abbrev pub most_depth : ℕ
+most_depth = 64
+
+-- The text is a formula for the query, within the limits.
+pub record Reads (text : List ℕ) (q : Query) : Type 0 where
+  pub short : length text ≤ most_bytes
+  pub tokens : List Placed
+  pub has : HasTokens 0 text tokens
+  pub formula : IsFormula nesting (bare tokens) q
+  pub few : comparisons q ≤ most_comparisons
+  pub shallow : depth q ≤ most_depth
+  pub brief : length (canonical q) ≤ most_bytes
+
+-- ---- what stands by the grammar alone
+
+-- the kind of a token: what a word says is left out
+abbrev pub kind_of : Token → Token
+kind_of opens = opens
+kind_of closes = closes
+kind_of bang = bang
+kind_of ands = ands
+kind_of ors = ors
+kind_of (op o) = op o
+kind_of (word raw) = word []
+kind_of lone = lone
+kind_of cut = cut
+
+-- By the grammar alone, whatever the words say and however
+-- deep it nests, some formula begins with such tokens.
+pub record CanStand (ts : List Token) : Type 0 where
+  pub words : List Token
+  pub alike : map kind_of words ≡ map kind_of ts
+  pub deep : ℕ
+  pub rest : List Token
+  pub q : Query
+  pub formula : IsFormula deep (words ++ rest) q
+
+-- A word that stands behind these tokens names an attribute: an operator can follow it.
+abbrev pub AwaitsAttr : List Token → Type 0
+AwaitsAttr before = CanStand (before ++ word [] ∷ op Eq ∷ [])
+
+-- Some formula that may nest deeper begins with these tokens, and none within the limit does.
+abbrev pub IsTooDeep : List Token → Type 0
+IsTooDeep ts =
+    ((more : ℕ) × (rest : List Token) × (q : Query) × IsFormula (nesting + more) (ts ++ rest) q)
+    × (IsBegun ts → ⊥)
+
+-- how many operators there are: each comparison has one
+abbrev pub op_count : Token → ℕ
+op_count opens = 0
+op_count closes = 0
+op_count bang = 0
+op_count ands = 0
+op_count ors = 0
+op_count (op o) = 1
+op_count (word raw) = 0
+op_count lone = 0
+op_count cut = 0
+
+abbrev pub operators : List Token → ℕ
+operators [] = 0
+operators (t ∷ ts) = op_count t + operators ts
+
+-- ---- the faults
+
+-- The token behind these is at fault, and this is the place.
+pub data IsFaultOf (end : ℕ) (before : List Token) (here : Placed) (place : ℕ) : Type 0 where
+  -- a token that can't stand here
+  stray : (CanStand (before ++ here.token ∷ []) → ⊥) → (here.token ≡ cut → ⊥) → place ≡ here.place
+      → IsFaultOf end before here place
+  -- the text ends within a quoted text, or with `\`
+  cut_off : here.token ≡ cut → place ≡ end → IsFaultOf end before here place
+  -- `&` or `|` alone
+  alone : here.token ≡ lone → place ≡ here.place → IsFaultOf end before here place
+  -- a `(` or `!` that would be nested 65 deep
+  too_deep : (here.token ≡ opens) ⊎ (here.token ≡ bang)
+      → IsTooDeep (before ++ here.token ∷ []) → place ≡ here.place → IsFaultOf end before here place
+  -- the name of an attribute that is empty, has over 255 bytes or has NUL
+  bad_name : (raw : List ℕ) → here.token ≡ word raw → AwaitsAttr before → name_of raw ≡ None
+      → place ≡ here.place → IsFaultOf end before here place
+  -- the attribute of a comparison behind 256 others
+  one_more : (raw : List ℕ) → here.token ≡ word raw → AwaitsAttr before
+      → operators before ≡ most_comparisons → place ≡ here.place → IsFaultOf end before here place
+  -- a fault of the pattern behind its operator
+  bad_pattern : (front : List Token) (o : Op) (raw : List ℕ) (k : ℕ) → before ≡ front ++ op o ∷ []
+      → here.token ≡ word raw → literal_fault o raw ≡ Some k → place ≡ here.raw_place + k
+      → IsFaultOf end before here place
+
+-- None of the tokens is at fault.
+abbrev pub AreFine : ℕ → List Placed → Type 0
+AreFine end ts = (before : List Placed) (here : Placed) (after : List Placed) (place : ℕ)
+    → ts ≡ before ++ here ∷ after → IsFaultOf end (bare before) here place → ⊥
+
+-- The leftmost fault of the text is at this place.
+pub data IsFaulty (text : List ℕ) (place : ℕ) : Type 0 where
+  -- the text has more than 4,096 bytes
+  too_long : most_bytes < length text → place ≡ most_bytes → IsFaulty text place
+  -- a token is at fault, and none before it
+  at_token : length text ≤ most_bytes → (before : List Placed) (here : Placed) (after : List Placed)
+      → HasTokens 0 text (before ++ here ∷ after) → AreFine (length text) before
+      → IsFaultOf (length text) (bare before) here place → IsFaulty text place
+  -- the formula ends too early
+  ends_early : length text ≤ most_bytes → (all : List Placed) → HasTokens 0 text all
+      → AreFine (length text) all → ((q : Query) → IsFormula nesting (bare all) q → ⊥)
+      → place ≡ length text → IsFaulty text place
+  -- the query is too deep, or its canonical text too long
+  too_much : length text ≤ most_bytes → (all : List Placed) → HasTokens 0 text all
+      → AreFine (length text) all → (q : Query) → IsFormula nesting (bare all) q
+      → (most_depth < depth q) ⊎ (most_bytes < length (canonical q)) → place ≡ length text
+      → IsFaulty text place

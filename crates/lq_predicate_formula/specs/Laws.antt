@@ -1,0 +1,40 @@
+-- The laws on readings.
+use Rattle.std.specs.Prelude.{◌≡◌, ◌↔◌, ℕ, List, Ok, Err}
+use Rattle.lq_predicate_formula.specs.Query.{Query}
+use Rattle.lq_predicate_formula.specs.Faults.{IsFaulty, Reads}
+use Rattle.lq_predicate_formula.specs.Canonical.{canonical}
+use Rattle.lq_predicate_formula.specs.Limits.{IsGoodPattern, IsProper, IsProperBy, IsReadBehind, IsWithinLimits}
+use Rattle.lq_predicate_formula.specs.Words.{WordsAre}
+use Rattle.lq_predicate_formula.specs.Tokens.{bare, tokens_of}
+use Rattle.lq_value.specs.declared.element.Element.{Element}
+use Rattle.lq_value.specs.Source.{pattern_of}
+use Rattle.std.specs.Str.{IsUtf8}
+use Rattle.lq_predicate_formula.specs.Reading.{reading_of}
+
+-- the reading of a text is the query that it reads as by the grammar and the limits
+abbrev pub FormulasAreRead : Type 0
+FormulasAreRead = (text : List ℕ) (q : Query) → (reading_of text ≡ Ok q) ↔ Reads text q
+
+-- the reading of a text is a place just where the text's leftmost fault is there
+abbrev pub FaultsAreFound : Type 0
+FaultsAreFound = (text : List ℕ) (place : ℕ) → (reading_of text ≡ Err place) ↔ IsFaulty text place
+
+-- the canonical text of a query within the limits reads as that query
+abbrev pub CanonicalIsRead : Type 0
+CanonicalIsRead = (q : Query) → IsWithinLimits q → Reads (canonical q) q
+
+-- a query that is read has names for attributes, literals
+-- that suit and are read, and lists of two or more
+abbrev pub ReadIsProper : Type 0
+ReadIsProper = (text : List ℕ) (q : Query) → Reads text q → IsProperBy IsReadBehind q
+
+-- a query that is read from words of UTF-8 is one whose canonical text can be read
+abbrev pub ReadIsGood : Type 0
+ReadIsGood = (text : List ℕ) (q : Query) → Reads text q
+    → WordsAre IsUtf8 (bare (tokens_of text)) → IsProper q
+
+-- a pattern that is read from a text of UTF-8 is of
+-- characters, its sets have items, and no range falls
+abbrev pub PatternsAreGood : Type 0
+PatternsAreGood =
+    (text : List ℕ) (es : List Element) → IsUtf8 text → pattern_of text ≡ Ok es → IsGoodPattern es

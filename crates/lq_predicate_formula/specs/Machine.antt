@@ -1,0 +1,163 @@
+-- Reading tokens from the left, with a stack of what is begun.
+use Rattle.std.specs.Prelude.{ℕ, zero, suc, ◌+◌, List, [], ◌∷◌, ◌++◌, Option, Some, None, option_and_then, option_map}
+use Rattle.lq_value.specs.declared.op.Op.{Op}
+use Rattle.lq_predicate_formula.specs.Tokens.{Token, opens, closes, bang, ands, ors, op, word, lone, cut}
+use Rattle.lq_predicate_formula.specs.Literals.{name_of, literal_of}
+use Rattle.lq_predicate_formula.specs.Query.{Query, Compare, Not, both_of, either_of}
+
+-- a formula that is begun: the parts of its or that are
+-- done, those of its last and, and the `!` that wait
+pub record Frame : Type 0 where
+  pub or_parts : List Query
+  pub and_parts : List Query
+  pub bangs : ℕ
+
+pub data Expected : Type 0 where
+  operand : Expected
+  after_attr : List ℕ → Expected
+  after_op : List ℕ → Op → Expected
+  after_operand : Expected
+
+pub record State : Type 0 where
+  pub below : List Frame
+  pub top : Frame
+  pub expected : Expected
+  pub room : ℕ
+
+abbrev pub empty_frame : Frame
+empty_frame = record { or_parts = []; and_parts = []; bangs = 0 }
+
+abbrev pub start : ℕ → State
+start n = record { below = []; top = empty_frame; expected = operand; room = n }
+
+abbrev pub negate : ℕ → Query → Query
+negate zero q = q
+negate (suc n) q = negate n (Not q)
+
+-- the operand that was expected is done
+abbrev pub frame_with : Query → Frame → Frame
+frame_with q f =
+    record { or_parts = f.or_parts; and_parts = f.and_parts ++ negate f.bangs q ∷ []; bangs = 0 }
+
+abbrev pub completed : Query → List Frame → Frame → ℕ → State
+completed q below f room =
+    record { below = below; top = frame_with q f; expected = after_operand; room = room + f.bangs }
+
+-- what a frame says, once it is whole
+abbrev pub said_by : Frame → Query
+said_by f = either_of (f.or_parts ++ both_of f.and_parts ∷ [])
+
+-- one more `!`, or one more parenthesis, if there is room
+abbrev pub deeper : ℕ → (ℕ → State) → Option State
+deeper zero s = None
+deeper (suc n) s = Some (s n)
+
+abbrev pub close : List Frame → Frame → ℕ → Option State
+close [] f room = None
+close (g ∷ gs) f room = Some (completed (said_by f) gs g (suc room))
+
+abbrev pub at_operand : State → Token → Option State
+at_operand s opens = deeper s.room
+    (λ n. record { below = s.top ∷ s.below; top = empty_frame; expected = operand; room = n })
+at_operand s bang = deeper s.room (λ n. record {
+  below = s.below;
+  top = record { or_parts = s.top.or_parts; and_parts = s.top.and_parts; bangs = suc s.top.bangs };
+  expected = operand;
+  room = n;
+})
+at_operand s (word a) = option_map (λ name.
+    record { below = s.below; top = s.top; expected = after_attr name; room = s.room }) (name_of a)
+at_operand s closes = None
+at_operand s ands = None
+at_operand s ors = None
+at_operand s (op o) = None
+at_operand s lone = None
+at_operand s cut = None
+
+abbrev pub at_attr : State → List ℕ → Token → Option State
+at_attr s a (op o) =
+    Some (record { below = s.below; top = s.top; expected = after_op a o; room = s.room })
+at_attr s a opens = None
+at_attr s a closes = None
+at_attr s a bang = None
+at_attr s a ands = None
+at_attr s a ors = None
+at_attr s a (word w) = None
+at_attr s a lone = None
+at_attr s a cut = None
+
+abbrev pub at_op : State → List ℕ → Op → Token → Option State
+at_op s a o (word l) =
+    option_map (λ literal. completed (Compare a o literal) s.below s.top s.room) (literal_of o l)
+at_op s a o opens = None
+at_op s a o closes = None
+at_op s a o bang = None
+at_op s a o ands = None
+at_op s a o ors = None
+at_op s a o (op p) = None
+at_op s a o lone = None
+at_op s a o cut = None
+
+abbrev pub at_end : State → Token → Option State
+at_end s ands = Some (record {
+  below = s.below;
+  top = record { or_parts = s.top.or_parts; and_parts = s.top.and_parts; bangs = 0 };
+  expected = operand;
+  room = s.room;
+})
+at_end s ors = Some (record {
+  below = s.below;
+  top = record {
+    or_parts = s.top.or_parts ++ both_of s.top.and_parts ∷ [];
+    and_parts = [];
+    bangs = 0;
+  };
+  expected = operand;
+  room = s.room;
+})
+at_end s closes = close s.below s.top s.room
+at_end s opens = None
+at_end s bang = None
+at_end s (op o) = None
+at_end s (word w) = None
+at_end s lone = None
+at_end s cut = None
+
+abbrev pub step_at : Expected → State → Token → Option State
+step_at operand s t = at_operand s t
+step_at (after_attr a) s t = at_attr s a t
+step_at (after_op a o) s t = at_op s a o t
+step_at after_operand s t = at_end s t
+
+-- None: the token can't stand here, or would nest too deep
+abbrev pub step : State → Token → Option State
+step s t = step_at s.expected s t
+
+abbrev pub whole_at : Expected → List Frame → Frame → Option Query
+whole_at after_operand [] f = Some (said_by f)
+whole_at after_operand (g ∷ gs) f = None
+whole_at operand below f = None
+whole_at (after_attr a) below f = None
+whole_at (after_op a o) below f = None
+
+-- the query, where the formula may end here
+abbrev pub whole : State → Option Query
+whole s = whole_at s.expected s.below s.top
+
+abbrev pub run : State → List Token → Option Query
+run s [] = whole s
+run s (t ∷ ts) = option_and_then (λ s'. run s' ts) (step s t)
+
+-- the state after the tokens
+abbrev pub steps : State → List Token → Option State
+steps s [] = Some s
+steps s (t ∷ ts) = option_and_then (λ s'. steps s' ts) (step s t)
+
+-- how deep the frames below lie, with the `!` that wait in them
+abbrev pub open_weight : List Frame → ℕ
+open_weight [] = 0
+open_weight (f ∷ fs) = suc f.bangs + open_weight fs
+
+-- the nesting so far and the room that is left, which no step adds to
+abbrev pub weight : State → ℕ
+weight s = s.room + (s.top.bangs + open_weight s.below)

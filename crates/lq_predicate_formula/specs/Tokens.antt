@@ -1,0 +1,129 @@
+-- The tokens of a text, each with its place: as a relation, and as a list that is had.
+use Rattle.std.specs.Prelude.{◌≡◌, ℕ, zero, suc, ◌+◌, ◌<◌, ◌==◌, ◌||◌, if◌then◌else◌, Bool, false, List, [], ◌∷◌, length, take, drop, map, Option, Some, None}
+use Rattle.lq_value.specs.declared.op.Op.{Op}
+use Rattle.lq_value.specs.declared.op.Op.TheVariants.{Eq, Ne, Lt, Le, Gt, Ge}
+use Rattle.lq_predicate_formula.specs.Bytes.{spaces, word_bytes, quoted_bytes}
+
+pub data Token : Type 0 where
+  opens : Token
+  closes : Token
+  bang : Token
+  ands : Token
+  ors : Token
+  op : Op → Token
+  -- the raw text of a word or of a quoted text
+  word : List ℕ → Token
+  -- `&` or `|` alone
+  lone : Token
+  -- a quoted text without its end, or a `\` with nothing behind it
+  cut : Token
+
+-- a token, how many bytes it has, and at which of them its raw text begins
+pub record Front : Type 0 where
+  pub token : Token
+  pub size : ℕ
+  pub inside : ℕ
+
+abbrev pub fixed : Token → ℕ → Front
+fixed t n = record { token = t; size = n; inside = 0 }
+
+abbrev pub begins_with : ℕ → List ℕ → Bool
+begins_with c [] = false
+begins_with c (b ∷ bs) = b == c
+
+-- the longer token, if the byte stands next
+abbrev pub longer : ℕ → List ℕ → Token → Token → Front
+longer c bs t u = if begins_with c bs then fixed t 2 else fixed u 1
+
+abbrev pub quoted_front : List ℕ → Option ℕ → Front
+quoted_front bs None = fixed cut (suc (length bs))
+quoted_front bs (Some n) = record { token = word (take n bs); size = suc (suc n); inside = 1 }
+
+abbrev pub word_front : List ℕ → ℕ → Front
+word_front bs n =
+    if n == 0
+    then fixed cut (length bs)
+    else record { token = word (take n bs); size = n; inside = 0 }
+
+-- one of ( ) ! = < > & |
+abbrev pub is_symbol : ℕ → Bool
+is_symbol b = b == 40 || b == 41 || b == 33 || b == 61 || b == 60 || b == 62 || b == 38 || b == 124
+
+-- the token that begins with the symbol b, of which bs follow
+abbrev pub symbol_front : ℕ → List ℕ → Front
+symbol_front b bs =
+    if b == 40 then fixed opens 1
+    else (if b == 41 then fixed closes 1
+    else (if b == 33 then longer 61 bs (op Ne) bang
+    else (if b == 61 then longer 61 bs (op Eq) (op Eq)
+    else (if b == 60 then longer 61 bs (op Le) (op Lt)
+    else (if b == 62 then longer 61 bs (op Ge) (op Gt)
+    else (if b == 38 then longer 38 bs ands lone
+    else longer 124 bs ors lone))))))
+
+-- the token that begins with the byte b, of which bs follow
+abbrev pub front : ℕ → List ℕ → Front
+front b bs =
+    if is_symbol b then symbol_front b bs
+    else (if b == 34 || b == 39 then quoted_front bs (quoted_bytes b false bs)
+    else word_front (b ∷ bs) (word_bytes false (b ∷ bs)))
+
+-- a token with the place of its first byte and that of its raw text
+pub record Placed : Type 0 where
+  pub place : ℕ
+  pub raw_place : ℕ
+  pub token : Token
+
+abbrev pub placed_at : ℕ → Front → Placed
+placed_at at f = record { place = at; raw_place = at + f.inside; token = f.token }
+
+abbrev pub front_at : List ℕ → Front
+front_at [] = fixed cut 0
+front_at (b ∷ bs) = front b bs
+
+-- ---- the tokens as a relation
+
+-- The text begins with the token, without white space, and the rest follows it.
+abbrev pub Begins : ℕ → List ℕ → Placed → ℕ → List ℕ → Type 0
+Begins at bs t next rest = (0 < length bs) × (t ≡ placed_at at (front_at bs))
+    × (next ≡ at + (front_at bs).size) × (rest ≡ drop (front_at bs).size bs)
+
+-- the text behind its white space
+abbrev pub trimmed : List ℕ → List ℕ
+trimmed bs = drop (spaces bs) bs
+
+-- The text from a place on begins with the token behind
+-- white space; the rest stands at the next place.
+abbrev pub Yields : ℕ → List ℕ → Placed → ℕ → List ℕ → Type 0
+Yields at bs t next rest = Begins (at + spaces bs) (trimmed bs) t next rest
+
+-- The text from a place on has these tokens.
+abbrev pub HasTokens : ℕ → List ℕ → List Placed → Type 0
+HasTokens at bs [] = trimmed bs ≡ []
+HasTokens at bs (t ∷ ts) =
+    (next : ℕ) × (rest : List ℕ) × Yields at bs t next rest × HasTokens next rest ts
+
+-- ---- the tokens as a list
+
+-- the token that trimmed bytes begin with, and those behind it
+abbrev pub first_and : ℕ → List ℕ → (ℕ → List ℕ → List Placed) → List Placed
+first_and at [] others = []
+first_and at (b ∷ bs) others =
+    placed_at at (front b bs) ∷ others (at + (front b bs).size) (drop (front b bs).size (b ∷ bs))
+
+-- the tokens of so many bytes at most
+unfoldable pub tokens_within : ℕ → ℕ → List ℕ → List Placed
+tokens_within zero at bs = []
+tokens_within (suc most) at bs = first_and (at + spaces bs) (trimmed bs) (tokens_within most)
+
+-- the tokens of the text from a place on: each has a byte
+-- at least, so that there are no more than bytes
+unfoldable pub tokens_from : ℕ → List ℕ → List Placed
+tokens_from at bs = tokens_within (length bs) at bs
+
+abbrev pub tokens_of : List ℕ → List Placed
+tokens_of text = tokens_from 0 text
+
+-- the tokens without their places
+abbrev pub bare : List Placed → List Token
+bare ps = map (λ p. p.token) ps

@@ -1,0 +1,79 @@
+//! The tokens of a text, one at a time.
+ghost use Rattle.std.specs.Prelude.{◌≡◌, ◌≤◌, ◌<◌, ◌+◌, ◌^◌, ◌∷◌, [], length, IfSome, IfNone};
+ghost use Rattle.lq_predicate_formula.specs.Bytes.{spaces};
+ghost use Rattle.std.specs.Str.{IsUtf8};
+ghost use Rattle.lq_predicate_formula.specs.Words.{WordIs};
+ghost use Rattle.lq_predicate_formula.specs.Tokens.{Begins, Yields, tokens_from, trimmed};
+ghost use Rattle.lq_predicate_formula.specs.TokenView.{placed_of, token_of};
+
+use crate::count::count_spaces;
+use crate::piece::read_piece;
+use crate::token::{Cursor, Placed};
+
+/// The next token of a text with its places, and what is left behind it.
+///
+/// None where only white space is left. It takes no memory, and the token borrows the text.
+/// The tokens are this project's own.
+#[tactic(auto, using(crate::proofs::TokenLemmas::tokens_from_yields, crate::proofs::TokenLemmas::tokens_from_none))]
+pub fn next_token<'a>(cursor: Cursor<'a>) -> Option<(Placed<'a>, Cursor<'a>)>
+    requires { cursor.place + length cursor.rest.now < 2 ^ 64 }
+    ensures none { IfNone result (trimmed cursor.entry.rest.now ≡ []) }
+    ensures some { IfSome result (λ r. Yields cursor.entry.place cursor.entry.rest.now
+        (placed_of r.0) r.1.place r.1.rest.now) }
+
+    // The same on the list of all tokens.
+    ensures last { IfNone result (tokens_from cursor.entry.place cursor.entry.rest.now ≡ []) }
+    ensures first { IfSome result (λ r. tokens_from cursor.entry.place cursor.entry.rest.now
+        ≡ placed_of r.0 ∷ tokens_from r.1.place r.1.rest.now) }
+
+    // A word is a text.
+    ensures text { IfSome result (λ r. WordIs IsUtf8 (token_of r.0.token)) }
+
+    // What is left is the end of the same text, and shorter.
+    ensures place { IfSome result (λ r. r.1.place + length r.1.rest.now
+        ≡ cursor.entry.place + length cursor.entry.rest.now) }
+    ensures shorter { IfSome result (λ r. length r.1.rest.now < length cursor.entry.rest.now) }
+{
+    let (space, rest) = trim(cursor.rest);
+    if rest.is_empty() {
+        return None;
+    }
+    Some(token_at(cursor.place + space, rest))
+}
+
+// The token that begins at a place, and what is left after it.
+fn token_at<'a>(place: usize, rest: &'a str) -> (Placed<'a>, Cursor<'a>)
+    requires some { 0 < length rest.now }
+    requires small { place + length rest.now < 2 ^ 64 }
+    ensures begins { Begins place rest.entry.now (placed_of result.0)
+        result.1.place result.1.rest.now }
+    ensures text { WordIs IsUtf8 (token_of result.0.token) }
+    ensures place { result.1.place + length result.1.rest.now ≡ place + length rest.entry.now }
+    ensures shorter { length result.1.rest.now < length rest.entry.now }
+{
+    let piece = read_piece(rest);
+    let (_, after) = rest.split_at(piece.size);
+    (
+        Placed {
+            place,
+            raw_place: place + piece.inside,
+            token: piece.token,
+        },
+        Cursor {
+            place: place + piece.size,
+            rest: after,
+        },
+    )
+}
+
+// How many bytes of white space a text begins with, and the text behind them.
+fn trim<'a>(rest: &'a str) -> (usize, &'a str)
+    ensures count { result.0 ≡ spaces rest.entry.now }
+    ensures bound { result.0 ≤ length rest.entry.now }
+    ensures rest { result.1.now ≡ trimmed rest.entry.now }
+    ensures whole { result.0 + length result.1.now ≡ length rest.entry.now }
+{
+    let n = count_spaces(rest.as_bytes());
+    let (_, left) = rest.split_at(n);
+    (n, left)
+}

@@ -1,0 +1,112 @@
+//! Names of attributes and literals, from their raw texts.
+ghost use Rattle.std.specs.Prelude.{◌≡◌, Some, None, IfOk, IfSome, IfNone, is_some, false, true, length};
+ghost use Rattle.std.specs.String.{string_bytes};
+ghost use Rattle.lq_value.specs.Refusal.{IsRefusedBy};
+ghost use Rattle.lq_predicate_formula.specs.Limits.{IsGoodBehind};
+ghost use Rattle.lq_predicate_formula.specs.Literals.{has_no_nul, literal_of, literal_refusal, name_of, name_refusal, takes_pattern as patterned, unescaped};
+
+use crate::laws::patterns_are_good;
+use lq_value::{AttrName, Literal, MAX_ATTR_NAME, Op, Pattern, Refusal, Text};
+use std::alloc::Global;
+
+/// Whether a raw text is an attribute's name: with each `\` before a character taken off, it has
+/// 1 to 255 bytes and no NUL. It takes no memory. The limits are our own.
+pub fn is_name(raw: &str) -> bool
+    ensures { result ≡ is_some (name_of raw.now) }
+{
+    match count_unescaped(raw.as_bytes()) {
+        None => false,
+        Some(count) => count > 0 && count <= MAX_ATTR_NAME,
+    }
+}
+
+/// The attribute's name that a raw text is, with each `\` before a character taken off.
+///
+/// Refused, the first that fits: `BadName` where it is no such name, `NoMemory`.
+pub fn read_name(alloc: Global, raw: &str) -> Result<AttrName, Refusal>
+    ensures refused { IsRefusedBy result (name_refusal raw.now) }
+    ensures value { IfOk result (λ name. name_of raw.now ≡ Some name) }
+{
+    if !is_name(raw) {
+        return Err(Refusal::BadName);
+    }
+    let name = unescape(alloc, raw)?;
+    AttrName::read(alloc, name.as_str())
+}
+
+/// The literal that a raw text is behind an operator: behind `Eq` and `Ne` the pattern that it
+/// writes, else the text with each `\` before a character taken off.
+///
+/// Refused, the first that fits: `BadQuery` with the byte place in the raw text of the pattern's
+/// leftmost fault, `NoMemory`. The literal suits the operator, and its canonical text is a source
+/// of it.
+pub fn read_literal(alloc: Global, op: Op, raw: &str) -> Result<Literal, Refusal>
+    ensures refused { IsRefusedBy result (literal_refusal op raw.now) }
+    ensures value { IfOk result (λ literal. literal_of op raw.now ≡ Some literal) }
+    ensures good { IfOk result (λ literal. IsGoodBehind op literal) }
+{
+    if takes_pattern(op) {
+        patterns_are_good();
+        Ok(Literal::Pattern(Pattern::read(alloc, raw)?))
+    } else {
+        Ok(Literal::Plain(Text::new(unescape(alloc, raw)?)))
+    }
+}
+
+pub(crate) fn takes_pattern(op: Op) -> bool
+    ensures { result ≡ patterned op }
+{
+    match op {
+        Op::Eq | Op::Ne => true,
+        Op::Lt | Op::Le | Op::Gt | Op::Ge => false,
+    }
+}
+
+// How many bytes there are with each `\` before a byte taken off; none where one of them is NUL.
+pub(crate) fn count_unescaped(bytes: &[u8]) -> Option<usize>
+    ensures none { IfNone result (has_no_nul (unescaped false bytes.now) ≡ false) }
+    ensures some { IfSome result (λ n. n ≡ length (unescaped false bytes.now)) }
+    ensures nul { IfSome result (λ n. has_no_nul (unescaped false bytes.now) ≡ true) }
+{
+    let mut count = 0;
+    let mut n = 0;
+    while n < bytes.len() {
+        let b = bytes[n];
+        if b == b'\\' {
+            if bytes.len() - n < 2 {
+                return Some(count);
+            }
+            if bytes[n + 1] == 0 {
+                return None;
+            }
+            count += 1;
+            n += 2;
+        } else if b == 0 {
+            return None;
+        } else {
+            count += 1;
+            n += 1;
+        }
+    }
+    Some(count)
+}
+
+// The text with each `\` before a character taken off.
+fn unescape(alloc: Global, raw: &str) -> Result<String, Refusal>
+    ensures refused { IsRefusedBy result None }
+    ensures value { IfOk result (λ text. string_bytes text ≡ unescaped false raw.now) }
+{
+    let mut text = String::new(alloc);
+    let mut escaped = false;
+    for c in raw.chars() {
+        if escaped {
+            text.push(c)?;
+            escaped = false;
+        } else if c == '\\' {
+            escaped = true;
+        } else {
+            text.push(c)?;
+        }
+    }
+    Ok(text)
+}

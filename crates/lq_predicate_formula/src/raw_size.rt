@@ -1,0 +1,113 @@
+//! How many bytes names and literals have as canonical text, from their raw texts.
+ghost use Rattle.std.specs.Prelude.{◌≡◌, ◌∷◌, ◌<◌, ◌≤◌, ℕ, List, [], None, Some, IfErr, IfOk, IfSome, MatchOption, drop, false, length, option_map};
+ghost use Rattle.std.specs.List.{list_all};
+ghost use Rattle.lq_predicate_formula.specs.Canonical.{attr_then, canonical, is_bare_byte, literal_text, quoted};
+ghost use Rattle.lq_predicate_formula.specs.Capped.{capped};
+ghost use Rattle.lq_predicate_formula.specs.Literals.{literal_fault, literal_of, name_of, unescaped};
+ghost use Rattle.lq_predicate_formula.specs.Query.{Compare};
+ghost use Rattle.lq_predicate_formula.specs.Sizes.{literal_bytes, name_bytes};
+ghost use Rattle.lq_value.specs.declared.literal.Literal.{Literal};
+
+use crate::raw::{count_unescaped, takes_pattern};
+use crate::size::op_size;
+use crate::source_size::source_size;
+use crate::writing::is_bare_byte;
+use lq_value::{MAX_ATTR_NAME, Op};
+
+/// How many bytes the attribute's name that a raw text is has as canonical text, or the greatest
+/// usize where there are more; `None` where it is no such name. It takes no memory.
+pub fn raw_name_size(raw: &str) -> Option<usize>
+    ensures { result ≡ option_map name_bytes (name_of raw.now) }
+{
+    let bytes = raw.as_bytes();
+    let count = count_unescaped(bytes)?;
+    if count == 0 || count > MAX_ATTR_NAME {
+        return None;
+    }
+    if is_unescaped_bare(bytes) {
+        Some(count)
+    } else {
+        Some(unescaped_size(bytes).saturating_add(2))
+    }
+}
+
+/// How many bytes the literal that a raw text is behind an operator has between its marks as
+/// canonical text, or the greatest usize where there are more.
+///
+/// Refused with the byte place in the raw text of its pattern's leftmost fault. It takes no memory.
+pub fn raw_literal_size(op: Op, raw: &str) -> Result<usize, u64>
+    ensures ok { IfOk result (λ n. option_map literal_bytes (literal_of op raw.now) ≡ Some n) }
+    ensures fine { IfOk result (λ _. literal_fault op raw.now ≡ None) }
+    ensures err { IfErr result (λ k. literal_fault op raw.now ≡ Some k) }
+    ensures none { IfErr result (λ _. literal_of op raw.now ≡ None) }
+{
+    if takes_pattern(op) {
+        source_size(raw)
+    } else {
+        Ok(unescaped_size(raw.as_bytes()))
+    }
+}
+
+/// The size of a comparison from those of its attribute's name and its literal, as the calls above
+/// count them. It takes no memory.
+pub fn joined_size(attr: usize, op: Op, literal: usize) -> usize
+    ensures { (name : List ℕ) (l : Literal) → attr ≡ name_bytes name → literal ≡ literal_bytes l
+        → result ≡ capped (length (canonical (Compare name op l))) }
+{
+    attr.saturating_add(op_size(op))
+        .saturating_add(literal)
+        .saturating_add(4)
+}
+
+// Whether each byte may stand bare, with each `\` before a byte taken off.
+fn is_unescaped_bare(bytes: &[u8]) -> bool
+    ensures { result ≡ list_all is_bare_byte (unescaped false bytes.now) }
+{
+    let mut at = 0;
+    while let Some((byte, next)) = next_unescaped(bytes, at) {
+        if !is_bare_byte(byte) {
+            return false;
+        }
+        at = next;
+    }
+    true
+}
+
+// The size of the quoted text, with each `\` before a byte taken off.
+fn unescaped_size(bytes: &[u8]) -> usize
+    ensures { result ≡ capped (length (quoted (unescaped false bytes.now))) }
+{
+    let mut size: usize = 0;
+    let mut at = 0;
+    while let Some((byte, next)) = next_unescaped(bytes, at) {
+        size = size.saturating_add(quoted_byte_size(byte));
+        at = next;
+    }
+    size
+}
+
+fn quoted_byte_size(byte: u8) -> usize
+    ensures { result ≡ length (quoted (byte ∷ [])) }
+{
+    if byte == b'\\' || byte == b'"' { 2 } else { 1 }
+}
+
+// The next byte that isn't a `\` before another, and the place behind it.
+fn next_unescaped(bytes: &[u8], at: usize) -> Option<(u8, usize)>
+    requires { at ≤ length bytes.now }
+    ensures value { MatchOption result (unescaped false (drop at bytes.now) ≡ [])
+        (λ r. unescaped false (drop at bytes.now) ≡ r.0 ∷ unescaped false (drop r.1 bytes.now)) }
+    ensures bound { IfSome result (λ r. (at < r.1) × (r.1 ≤ length bytes.now)) }
+{
+    if at == bytes.len() {
+        return None;
+    }
+    let byte = bytes[at];
+    if byte != b'\\' {
+        return Some((byte, at + 1));
+    }
+    if bytes.len() - at < 2 {
+        return None;
+    }
+    Some((bytes[at + 1], at + 2))
+}

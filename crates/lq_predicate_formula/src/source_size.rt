@@ -1,0 +1,93 @@
+//! How many bytes a pattern has as canonical text, from its source.
+ghost use Rattle.std.specs.Prelude.{◌≡◌, ◌≤◌, ◌-◌, ◌^◌, if◌then◌else◌, None, Some, MatchOption, IfSome};
+ghost use Rattle.std.specs.Str.{IsUtf8};
+ghost use Rattle.lq_predicate_formula.specs.Sizes.{IsSized, items_sized, pattern_sized};
+ghost use Rattle.lq_value.specs.Sign.{signs_of};
+ghost use Rattle.lq_value.specs.Source.{element_at, item_at, pattern_of, pieces_of, set_with};
+
+use crate::size::{character_size, item_size};
+use lq_value::{FirstItem, FirstPiece, first_item, first_piece, sources_are_walked};
+
+// What stands first where an element is looked for: how many bytes it has as canonical text, and
+// the source behind it.
+pub(crate) enum FirstSize<'a> {
+    End,
+    Has(usize, &'a str),
+    Faulty,
+}
+
+// The size of the pattern that a source writes, or the byte place of its leftmost fault.
+pub(crate) fn source_size(source: &str) -> Result<usize, u64>
+    ensures { result ≡ pattern_sized (pattern_of source.now) }
+{
+    sources_are_walked();
+    let mut size: usize = 0;
+    let mut left = source;
+    loop {
+        match first_size(left) {
+            FirstSize::End => return Ok(size),
+            FirstSize::Has(element, rest) => {
+                size = size.saturating_add(element);
+                left = rest;
+            }
+            FirstSize::Faulty => return Err(source.len().saturating_sub(left.len()) as u64),
+        }
+    }
+}
+
+fn first_size<'a>(source: &'a str) -> FirstSize<'a>
+    ensures { IsSized (element_at (signs_of source.entry.now)) result }
+{
+    match first_piece(source) {
+        FirstPiece::End => FirstSize::End,
+        FirstPiece::Star(rest) => FirstSize::Has(1, rest),
+        FirstPiece::Any(rest) => FirstSize::Has(1, rest),
+        FirstPiece::Plain(c, rest) => FirstSize::Has(character_size(c), rest),
+        FirstPiece::Opens { negated, items } => set_size(negated, items),
+        FirstPiece::Faulty => FirstSize::Faulty,
+    }
+}
+
+// The set whose items the text begins with: it has one at least.
+fn set_size<'a>(negated: bool, text: &'a str) -> FirstSize<'a>
+    ensures { IsSized (set_with negated (pieces_of item_at (signs_of text.entry.now))) result }
+{
+    sources_are_walked();
+    if let FirstItem::End(_) = first_item(text) {
+        return FirstSize::Faulty;
+    }
+    match set_rest_size(text) {
+        None => FirstSize::Faulty,
+        Some((size, rest)) => { FirstSize::Has(size.saturating_add(begin_size(negated)), rest) }
+    }
+}
+
+// `[` or `[^`.
+fn begin_size(negated: bool) -> usize
+    ensures { result ≡ (if negated then 2 else 1) }
+{
+    if negated { 2 } else { 1 }
+}
+
+// The size of a set's items and its `]`, and the text behind them.
+fn set_rest_size<'a>(text: &'a str) -> Option<(usize, &'a str)>
+    ensures value { MatchOption result
+        (items_sized 0 (pieces_of item_at (signs_of text.entry.now)) ≡ None)
+        (λ r. items_sized 0 (pieces_of item_at (signs_of text.entry.now))
+        ≡ Some (r.0, signs_of r.1.now)) }
+    ensures text { IfSome result (λ r. IsUtf8 r.1.now) }
+{
+    sources_are_walked();
+    let mut size: usize = 0;
+    let mut left = text;
+    loop {
+        match first_item(left) {
+            FirstItem::End(rest) => return Some((size.saturating_add(1), rest)),
+            FirstItem::Has(item, rest) => {
+                size = size.saturating_add(item_size(item));
+                left = rest;
+            }
+            FirstItem::Faulty => return None,
+        }
+    }
+}

@@ -1,0 +1,40 @@
+//! Tokens of a formula's text, which borrow it.
+use lq_value::Op;
+
+/// A token of a formula.
+#[derive(Clone, Copy)]
+pub enum Token<'a> {
+    /// `(`.
+    Opens,
+    /// `)`.
+    Closes,
+    /// `!`.
+    Bang,
+    /// `&&`.
+    Ands,
+    /// `||`.
+    Ors,
+    /// An operator; `=` and `==` are one.
+    Is(Op),
+    /// The raw text of a word, or what stands between the marks of a quoted text.
+    Word(&'a str),
+    /// `&` or `|` alone.
+    Lone,
+    /// A quoted text without its end, or a `\` that ends the text.
+    Cut,
+}
+
+/// A token with the byte place of its first byte and that of its raw text.
+#[derive(Clone, Copy)]
+pub struct Placed<'a> {
+    pub place: usize,
+    pub raw_place: usize,
+    pub token: Token<'a>,
+}
+
+/// What is left of a text, and the byte place where it begins.
+#[derive(Clone, Copy)]
+pub struct Cursor<'a> {
+    pub place: usize,
+    pub rest: &'a str,
+}

@@ -1,0 +1,224 @@
+//! Writing comparisons, as canonical text.
+ghost use Rattle.std.specs.Prelude.{encode_utf8, ◌≡◌, ◌++◌, ◌∷◌, [], None, IfOk, true};
+ghost use Rattle.std.specs.List.{list_all};
+ghost use Rattle.std.specs.String.{string_bytes};
+ghost use Rattle.std.specs.Str.{chars, encode_utf8_all};
+ghost use Rattle.lq_value.specs.Elements.{elements_shown};
+ghost use Rattle.lq_value.specs.Pattern.{plain_elements};
+ghost use Rattle.lq_value.specs.Refusal.{IsRefusedBy};
+ghost use Rattle.lq_predicate_formula.specs.Query.{Compare};
+ghost use Rattle.lq_predicate_formula.specs.Canonical.{attr_then, canonical, element_then, in_set_then, is_bare_byte, item_then, items_then, literal_text, op_text, pattern_text, plain_then, quoted};
+
+use lq_value::{AttrName, Element, Elements, Item, Literal, Op, Refusal};
+
+/// Puts the canonical text of a comparison behind what is there: in parentheses, the literal
+/// between `"` marks. Refused: `NoMemory`, and then a part of it may be there.
+pub fn put_comparison(
+    attr: &AttrName,
+    op: Op,
+    literal: &Literal,
+    out: &mut String,
+) -> Result<(), Refusal>
+    ensures refused { IsRefusedBy result None }
+    ensures value { IfOk result (λ _. string_bytes out.new
+        ≡ string_bytes out.old ++ canonical (Compare attr.now op literal.now)) }
+{
+    out.push_str("(")?;
+    put_attr(attr, out)?;
+    out.push_str(op_text(op))?;
+    out.push_str("\"")?;
+    put_literal(literal, out)?;
+    out.push_str("\")")?;
+    Ok(())
+}
+
+fn op_text(op: Op) -> &'static str
+    ensures { result.now ≡ op_text op }
+{
+    match op {
+        Op::Eq => "==",
+        Op::Ne => "!=",
+        Op::Lt => "<",
+        Op::Le => "<=",
+        Op::Gt => ">",
+        Op::Ge => ">=",
+    }
+}
+
+// An attribute, bare where each of its bytes may stand bare.
+fn put_attr(attr: &AttrName, out: &mut String) -> Result<(), Refusal>
+    ensures refused { IsRefusedBy result None }
+    ensures value { IfOk result
+        (λ _. string_bytes out.new ≡ string_bytes out.old ++ attr_then attr.now []) }
+{
+    let name = attr.as_str();
+    if is_bare(name.as_bytes()) {
+        out.push_str(name)?;
+        return Ok(());
+    }
+    out.push_str("\"")?;
+    put_quoted(name, out)?;
+    out.push_str("\"")?;
+    Ok(())
+}
+
+pub(crate) fn is_bare(name: &[u8]) -> bool
+    ensures { result ≡ list_all is_bare_byte name.now }
+{
+    name.iter().all(|b| is_bare_byte(*b))
+}
+
+pub(crate) fn is_bare_byte(byte: u8) -> bool
+    ensures { result ≡ is_bare_byte byte }
+{
+    matches!(byte, b'A'..=b'Z' | b'a'..=b'z' | b'0'..=b'9' | b'_' | b':' | b'.' | b'-')
+}
+
+// With `\` before each `\` and `"`.
+fn put_quoted(text: &str, out: &mut String) -> Result<(), Refusal>
+    ensures refused { IsRefusedBy result None }
+    ensures value { IfOk result
+        (λ _. string_bytes out.new ≡ string_bytes out.old ++ quoted text.now) }
+{
+    for c in text.chars() {
+        put_quoted_char(c, out)?;
+    }
+    Ok(())
+}
+
+#[tactic(auto, using(crate::proofs::WritingLemmas::quoted_backslash, crate::proofs::WritingLemmas::quoted_mark, crate::proofs::WritingLemmas::quoted_clear))]
+fn put_quoted_char(c: char, out: &mut String) -> Result<(), Refusal>
+    ensures refused { IsRefusedBy result None }
+    ensures value { IfOk result
+        (λ _. string_bytes out.new ≡ string_bytes out.old ++ quoted (encode_utf8 c)) }
+{
+    if c == '\\' {
+        out.push_str("\\\\")?;
+        return Ok(());
+    }
+    if c == '"' {
+        out.push_str("\\\"")?;
+        return Ok(());
+    }
+    out.push(c)?;
+    Ok(())
+}
+
+fn put_literal(literal: &Literal, out: &mut String) -> Result<(), Refusal>
+    ensures refused { IsRefusedBy result None }
+    ensures value { IfOk result
+        (λ _. string_bytes out.new ≡ string_bytes out.old ++ literal_text literal.now) }
+{
+    match literal {
+        Literal::Plain(text) => put_quoted(text.as_str(), out),
+        Literal::Pattern(pattern) => put_elements(pattern.elements(), out),
+    }
+}
+
+fn put_elements(elements: Elements<'_>, out: &mut String) -> Result<(), Refusal>
+    ensures refused { IsRefusedBy result None }
+    ensures value { IfOk result (λ _. string_bytes out.new
+        ≡ string_bytes out.old ++ encode_utf8_all (pattern_text (elements_shown elements.entry))) }
+{
+    match elements {
+        Elements::Text(text) => put_plain_text(text, out),
+        Elements::List(elements) => put_list(elements, out),
+    }
+}
+
+// The pattern whose elements are the characters of a text.
+fn put_plain_text(text: &str, out: &mut String) -> Result<(), Refusal>
+    ensures refused { IsRefusedBy result None }
+    ensures value { IfOk result (λ _. string_bytes out.new ≡ string_bytes out.old
+        ++ encode_utf8_all (pattern_text (plain_elements (chars text.now)))) }
+{
+    for c in text.chars() {
+        put_plain(c, out)?;
+    }
+    Ok(())
+}
+
+fn put_list(elements: &[Element], out: &mut String) -> Result<(), Refusal>
+    ensures refused { IsRefusedBy result None }
+    ensures value { IfOk result (λ _. string_bytes out.new
+        ≡ string_bytes out.old ++ encode_utf8_all (pattern_text elements.now)) }
+{
+    for element in elements {
+        put_element(element, out)?;
+    }
+    Ok(())
+}
+
+fn put_element(element: &Element, out: &mut String) -> Result<(), Refusal>
+    ensures refused { IsRefusedBy result None }
+    ensures value { IfOk result (λ _. string_bytes out.new
+        ≡ string_bytes out.old ++ encode_utf8_all (element_then element.now [])) }
+{
+    match element {
+        Element::Star => out.push('*')?,
+        Element::Any => out.push('?')?,
+        Element::Plain(c) => put_plain(*c, out)?,
+        Element::Set { negated, items } => {
+            out.push('[')?;
+            if *negated {
+                out.push('^')?;
+            }
+            put_items(items.as_slice(), out)?;
+        }
+    }
+    Ok(())
+}
+
+// A plain character, with `\` before one of `*`, `?`, `[`, `\` and `"`.
+fn put_plain(c: char, out: &mut String) -> Result<(), Refusal>
+    ensures refused { IsRefusedBy result None }
+    ensures value { IfOk result (λ _. string_bytes out.new
+        ≡ string_bytes out.old ++ encode_utf8_all (plain_then c [])) }
+{
+    if c == '*' || c == '?' || c == '[' || c == '\\' || c == '"' {
+        out.push('\\')?;
+    }
+    out.push(c)?;
+    Ok(())
+}
+
+// The items of a set, and its `]`.
+fn put_items(items: &[Item], out: &mut String) -> Result<(), Refusal>
+    ensures refused { IsRefusedBy result None }
+    ensures value { IfOk result (λ _. string_bytes out.new
+        ≡ string_bytes out.old ++ encode_utf8_all (items_then items.now [])) }
+{
+    for item in items {
+        put_item(*item, out)?;
+    }
+    out.push(']')?;
+    Ok(())
+}
+
+fn put_item(item: Item, out: &mut String) -> Result<(), Refusal>
+    ensures refused { IsRefusedBy result None }
+    ensures value { IfOk result (λ _. string_bytes out.new
+        ≡ string_bytes out.old ++ encode_utf8_all (item_then item [])) }
+{
+    match item {
+        Item::One(c) => put_in_set(c, out),
+        Item::Range(first, last) => {
+            put_in_set(first, out)?;
+            out.push('-')?;
+            put_in_set(last, out)
+        }
+    }
+}
+
+// A character in a set, with `\` before one of `]`, `[`, `\`, `^`, `-` and `"`.
+fn put_in_set(c: char, out: &mut String) -> Result<(), Refusal>
+    ensures refused { IsRefusedBy result None }
+    ensures value { IfOk result (λ _. string_bytes out.new
+        ≡ string_bytes out.old ++ encode_utf8_all (in_set_then c [])) }
+{
+    if c == ']' || c == '[' || c == '\\' || c == '^' || c == '-' || c == '"' {
+        out.push('\\')?;
+    }
+    out.push(c)?;
+    Ok(())
+}

@@ -1,4 +1,0 @@
-pub mod Response
-pub mod Reply
-pub mod Parts
-pub mod Answer

@@ -1,0 +1,3 @@
+-- Read in this order: FoldLemmas, ScriptLemmas.
+pub mod FoldLemmas
+pub mod ScriptLemmas

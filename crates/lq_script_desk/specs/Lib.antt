@@ -1,0 +1,4 @@
+pub mod Folds
+pub mod Session
+pub mod Answered
+pub mod Script

@@ -1,0 +1,114 @@
+//! The result of each slot, rebuilt from what was read of it.
+ghost use Rattle.std.specs.Prelude.{◌≡◌, IfOk, IfErr, OnOk};
+ghost use Rattle.std.specs.Option.{option_map};
+ghost use Rattle.lq_value.specs.declared.refusal.Refusal.TheVariants.{NoMemory};
+ghost use Rattle.lq_value.specs.Refusal.{IsRefusedBy};
+ghost use Rattle.lq_desk.specs.Reply.{answer_of};
+ghost use Rattle.lq_script_desk.specs.Folds.{Rises, fed, fold_at, folds_after, no_folds, with_fold};
+
+use lq_desk::{Read, Reply, SLOTS};
+use lq_update::{IndexedRebuild, Message};
+use lq_value::Refusal;
+use std::alloc::Global;
+
+/// None for each slot. Refused: `NoMemory`.
+pub fn no_rebuilds(alloc: Global) -> Result<Vec<Option<IndexedRebuild>>, Refusal>
+    ensures refused { IsRefusedBy result None }
+    ensures none { IfOk result (λ rebuilds. rebuilds.items ≡ no_folds) }
+{
+    let mut rebuilds = Vec::with_capacity(alloc, SLOTS)?;
+    for _ in 0..SLOTS {
+        rebuilds.push_reserved(None);
+    }
+    Ok(rebuilds)
+}
+
+/// Goes on by what the event of a slot was answered: begins with what was opened, takes an update
+/// that was read, and drops what was finished.
+///
+/// Refused: `NoMemory`.
+pub fn note(
+    alloc: Global,
+    rebuilds: &mut Vec<Option<IndexedRebuild>>,
+    slot: u64,
+    reply: &Reply,
+) -> Result<(), Refusal>
+    requires rises { Rises (answer_of reply.now) }
+    ensures ok { OnOk result (rebuilds.new.items
+        ≡ folds_after slot (answer_of reply.now) rebuilds.old.items) }
+    ensures memory { IfErr result (λ e. e ≡ NoMemory) }
+{
+    match reply {
+        Reply::Opened {
+            slot: opened,
+            at,
+            result: entries,
+        } => {
+            let rebuild = IndexedRebuild::new(alloc, *at, entries)?;
+            put(rebuilds, *opened, Some(rebuild));
+            Ok(())
+        }
+        Reply::Read(Read::Update(message)) => feed_at(rebuilds, slot, message),
+        Reply::Finished => {
+            put(rebuilds, slot, None);
+            Ok(())
+        }
+        Reply::Changed(_)
+        | Reply::Moved(_)
+        | Reply::Read(Read::Fin(_) | Read::Empty | Read::Ended)
+        | Reply::Asked
+        | Reply::Noticed(_)
+        | Reply::Shut(_)
+        | Reply::Refused(_) => Ok(()),
+    }
+}
+
+// Puts this in the place of a slot, or drops it where there is none.
+fn put(rebuilds: &mut Vec<Option<IndexedRebuild>>, slot: u64, rebuild: Option<IndexedRebuild>)
+    ensures { rebuilds.new.items ≡ with_fold rebuilds.old.items slot rebuild }
+{
+    if slot == 0 || slot > rebuilds.len() as u64 {
+        return;
+    }
+    rebuilds[(slot - 1) as usize] = rebuild;
+}
+
+// What was rebuilt of a slot takes a message.
+fn feed_at(
+    rebuilds: &mut Vec<Option<IndexedRebuild>>,
+    slot: u64,
+    message: &Message,
+) -> Result<(), Refusal>
+    ensures ok { OnOk result (rebuilds.new.items ≡ with_fold rebuilds.old.items slot
+        (option_map (fed message.now) (fold_at rebuilds.old.items slot))) }
+    ensures memory { IfErr result (λ e. e ≡ NoMemory) }
+{
+    if slot == 0 || slot > rebuilds.len() as u64 {
+        return Ok(());
+    }
+    feed(&mut rebuilds[(slot - 1) as usize], message)
+}
+
+// A message that isn't the next one, or doesn't fit, is passed over.
+fn feed(rebuild: &mut Option<IndexedRebuild>, message: &Message) -> Result<(), Refusal>
+    ensures ok { OnOk result (rebuild.new ≡ option_map (fed message.now) rebuild.old) }
+    ensures memory { IfErr result (λ e. e ≡ NoMemory) }
+{
+    let Some(there) = rebuild else {
+        return Ok(());
+    };
+    match there.apply(message) {
+        Err(Refusal::NoMemory) => Err(Refusal::NoMemory),
+        Ok(()) | Err(_) => Ok(()),
+    }
+}
+
+/// What was rebuilt of a slot; `None` where it is free.
+pub fn rebuild_at(rebuilds: &[Option<IndexedRebuild>], slot: u64) -> Option<&IndexedRebuild>
+    ensures { option_map (λ r. r.now) result ≡ fold_at rebuilds.now slot }
+{
+    if slot == 0 || slot > rebuilds.len() as u64 {
+        return None;
+    }
+    rebuilds[(slot - 1) as usize].as_ref()
+}

@@ -1,0 +1,214 @@
+//! A script's session: a desk, and what was rebuilt of each slot, that answer lines.
+ghost use Rattle.std.specs.Prelude.{◌≡◌, ◌++◌, None, IfErr, OnOk, OnErr};
+ghost use Rattle.lq_value.specs.Refusal.{IsRefusedBy};
+ghost use Rattle.lq_value.specs.declared.refusal.Refusal.TheVariants.{NoMemory};
+ghost use Rattle.lq_desk.specs.Turn.{kept_turn_outcome};
+ghost use Rattle.lq_volume.specs.Result.{result_of};
+ghost use Rattle.lq_script_lines.specs.Lines.{Begins};
+ghost use Rattle.lq_script_reply.specs.Response.{Fetched, Refuses};
+ghost use Rattle.lq_script_reply.specs.Reply.{reply_text};
+ghost use Rattle.lq_script_desk.specs.Answered.{found_in, noted, rebuilt, responds, shown_in, slot_of};
+ghost use Rattle.lq_script_desk.specs.Folds.{fold_at};
+ghost use Rattle.lq_script_desk.specs.Session.{session_with};
+ghost use Rattle.lq_script_desk.specs.Script.{kept_volume};
+
+use crate::rebuilds::{note, rebuild_at};
+use lq_desk::{Desk, Event, Reply};
+use lq_predicate::Predicate;
+use lq_script_lines::Responder;
+use lq_script_reply::{Response, put_event_reply, put_reply};
+use lq_script_request::{Question, Scratch, question_in};
+use lq_update::{IndexedRebuild, results_rise};
+use lq_value::{Name, Refusal};
+use lq_volume::Volume;
+use std::alloc::Global;
+
+/// A desk, and what was rebuilt of each slot, that answer the lines of a script.
+pub struct Session {
+    alloc: Global,
+    desk: Desk,
+    rebuilds: Vec<Option<IndexedRebuild>>,
+    // What the reading of a line takes, kept from line to line.
+    scratch: Scratch,
+}
+
+// One call takes it apart, wherever one is dropped.
+impl Drop for Session {
+    fn drop(self) {
+        let Session {
+            alloc: _,
+            desk: _,
+            rebuilds: _,
+            scratch: _,
+        } = self;
+    }
+}
+
+impl Session {
+    /// A session over a desk, and what was rebuilt of each of its slots. It takes no memory.
+    pub fn new(alloc: Global, desk: Desk, rebuilds: Vec<Option<IndexedRebuild>>) -> Session
+        ensures desk { result.desk ≡ desk }
+        ensures rebuilds { result.rebuilds.items ≡ rebuilds.items }
+    {
+        Session {
+            alloc,
+            desk,
+            rebuilds,
+            scratch: Scratch::new(alloc),
+        }
+    }
+
+    // Puts the reply to a question behind `out`.
+    fn respond_to(&mut self, question: &Question, out: &mut Vec<u8>) -> Result<(), Refusal>
+        ensures ok { OnOk result (out.new.items ≡ out.old.items
+            ++ reply_text (responds kept_turn_outcome kept_volume
+            (session_with self.old.desk self.old.rebuilds.items) question.now).0) }
+        ensures after { OnOk result (session_with self.new.desk self.new.rebuilds.items ≡
+            (responds kept_turn_outcome kept_volume
+            (session_with self.old.desk self.old.rebuilds.items) question.now).1) }
+        ensures err { OnErr result (Begins out.new.items out.old.items) }
+        ensures memory { IfErr result (λ e. e ≡ NoMemory) }
+    {
+        match question {
+            Question::Event(event) => self.carry_out(event, out),
+            Question::Find { dir, name } => put_found(out, self.desk.volume(), *dir, name),
+            Question::Entry { node } => put_shown(out, self.desk.volume(), *node),
+            Question::Fetch { predicate } => put_fetched(out, self.desk.volume(), predicate),
+            Question::Rebuilt { slot } => put_rebuilt(out, &self.rebuilds, *slot),
+        }
+    }
+
+    // Carries out an event, notes what it was answered for its slot, and puts that behind `out`.
+    fn carry_out(&mut self, event: &Event, out: &mut Vec<u8>) -> Result<(), Refusal>
+        ensures ok { OnOk result (out.new.items ≡ out.old.items
+            ++ reply_text (noted (slot_of event.now) self.old.rebuilds.items
+            (kept_turn_outcome self.old.desk event.now)).0) }
+        ensures after { OnOk result (session_with self.new.desk self.new.rebuilds.items ≡
+            (noted (slot_of event.now) self.old.rebuilds.items
+            (kept_turn_outcome self.old.desk event.now)).1) }
+        ensures err { OnErr result (Begins out.new.items out.old.items) }
+        ensures memory { IfErr result (λ e. e ≡ NoMemory) }
+    {
+        results_rise();
+        let _ = self.desk.volume().changes();
+        let reply = self.desk.turn(event);
+        if let Reply::Refused(Refusal::NoMemory) = &reply {
+            return Err(Refusal::NoMemory);
+        }
+        let slot = slot_of(event);
+        note(self.alloc, &mut self.rebuilds, slot, &reply)?;
+        put_event_reply(out, slot, &reply)
+    }
+}
+
+// The slot that an event names, or 0.
+fn slot_of(event: &Event) -> u64
+    ensures { result ≡ slot_of event.now }
+{
+    match event {
+        Event::Change(_) | Event::Open { .. } => 0,
+        Event::At { slot, .. } => *slot,
+    }
+}
+
+// Puts why a line isn't carried out behind `out`. It stands apart, as all that answers no event
+// does: a call clears places for its values, and most lines are events.
+#[inline(never)]
+fn put_refusal(out: &mut Vec<u8>, refusal: Refusal) -> Result<(), Refusal>
+    ensures refused { IsRefusedBy result None }
+    ensures ok { OnOk result
+        (out.new.items ≡ out.old.items ++ reply_text (Refuses refusal)) }
+    ensures err { OnErr result (Begins out.new.items out.old.items) }
+{
+    put_reply(out, &Response::Refused(refusal))
+}
+
+// Puts what has a place behind `out`.
+#[inline(never)]
+fn put_found(out: &mut Vec<u8>, volume: &Volume, dir: u64, name: &Name) -> Result<(), Refusal>
+    ensures refused { IsRefusedBy result None }
+    ensures ok { OnOk result (out.new.items
+        ≡ out.old.items ++ reply_text (found_in volume.now dir name.now)) }
+    ensures err { OnErr result (Begins out.new.items out.old.items) }
+{
+    match volume.find(dir, name) {
+        Ok(node) => put_reply(out, &Response::Found { node }),
+        Err(refusal) => put_refusal(out, refusal),
+    }
+}
+
+// Puts the entry of a node behind `out`.
+#[inline(never)]
+fn put_shown(out: &mut Vec<u8>, volume: &Volume, node: u64) -> Result<(), Refusal>
+    ensures refused { IsRefusedBy result None }
+    ensures ok { OnOk result (out.new.items
+        ≡ out.old.items ++ reply_text (shown_in volume.now node)) }
+    ensures err { OnErr result (Begins out.new.items out.old.items) }
+{
+    match volume.listing(node) {
+        Ok(listing) => put_reply(out, &Response::Listed { node, listing }),
+        Err(Refusal::NoMemory) => Err(Refusal::NoMemory),
+        Err(refusal) => put_refusal(out, refusal),
+    }
+}
+
+// Puts the entries that a predicate holds of behind `out`.
+#[inline(never)]
+fn put_fetched(out: &mut Vec<u8>, volume: &Volume, predicate: &Predicate) -> Result<(), Refusal>
+    ensures refused { IsRefusedBy result None }
+    ensures ok { OnOk result (out.new.items ≡ out.old.items
+        ++ reply_text (Fetched volume.now.number (result_of predicate.now volume.now))) }
+    ensures err { OnErr result (Begins out.new.items out.old.items) }
+{
+    let at = volume.changes();
+    let result = volume.fetch(predicate)?;
+    put_reply(out, &Response::Fetched { at, result })
+}
+
+// Puts what was rebuilt of a slot behind `out`.
+#[inline(never)]
+fn put_rebuilt(
+    out: &mut Vec<u8>,
+    rebuilds: &[Option<IndexedRebuild>],
+    slot: u64,
+) -> Result<(), Refusal>
+    ensures refused { IsRefusedBy result None }
+    ensures ok { OnOk result (out.new.items
+        ≡ out.old.items ++ reply_text (rebuilt (fold_at rebuilds.now slot))) }
+    ensures err { OnErr result (Begins out.new.items out.old.items) }
+{
+    let Some(rebuild) = rebuild_at(rebuilds, slot) else {
+        return put_refusal(out, Refusal::NotOpen);
+    };
+    let response = Response::Rebuilt {
+        change: rebuild.last_change(),
+        result: rebuild.entries()?,
+        settled: rebuild.is_settled(),
+    };
+    put_reply(out, &response)
+}
+
+impl Responder for Session {
+    ghost use Rattle.lq_desk.specs.Kept.{Kept};
+    ghost use Rattle.lq_script_desk.specs.Session as spec;
+    ghost use Rattle.lq_script_desk.specs.Script.{kept_rules};
+
+    ghost State = { spec.Session Kept };
+
+    ghost state = { λ s. session_with s.desk s.rebuilds.items };
+
+    ghost rules = { kept_rules };
+
+    fn respond(&mut self, line: &[u8], out: &mut Vec<u8>) -> Result<(), Refusal> {
+        let asked = question_in(self.alloc, &mut self.scratch, line);
+        match &asked {
+            Ok(question) => self.respond_to(question, out),
+            Err(Refusal::NoMemory) => Err(Refusal::NoMemory),
+            Err(refusal) => put_refusal(out, *refusal),
+        }
+    }
+
+    fn respond_long(&self, out: &mut Vec<u8>) -> Result<(), Refusal> {
+        put_refusal(out, Refusal::LongLine)
+    }
+}

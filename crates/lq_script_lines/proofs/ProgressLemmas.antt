@@ -1,0 +1,303 @@
+-- What a byte, an LF, a write and the end of an input do to a run.
+use Rattle.std.proofs.Common.{◌≡◌, ◌==◌, ℕ, zero, suc, ◌+◌, ◌≤◌, ◌<◌, ◌≢◌, ◌++◌, List, [], ◌∷◌, length, take, drop, get_or, true, false, None, Some, Option, refl, sym, ap, ◌∙◌, subst, arith, append_assoc, append-nil, length-append, take-append-drop}
+use Rattle.std.proofs.lemmas.Bool.Decides.{nat_tests}
+use Rattle.std.proofs.lemmas.List.{drop_more, nil_from_length}
+use Rattle.std.proofs.KnownBytes.{Appends-trans}
+use Rattle.std.specs.Io.KnownBytes.{Appends, Keeps}
+use Rattle.lq_script_lines.specs.declared.intake.Intake.{Intake}
+use Rattle.lq_script_lines.specs.Lines.{IsUnbroken, Rules, ended_lines, line_of, lines_of, replies_to, reply_to, state_after}
+use Rattle.lq_script_lines.specs.Output.{IsWithin, output_of}
+use Rattle.lq_script_lines.specs.Progress.{Began, Fronts, IsKept, Meets, Stands, state_after_all}
+use Rattle.lq_script_lines.proofs.LineLemmas.{cut_ended, cut_line, cut_lines, cut_run, lines_one, output_cut, replies_append, replies_one, state_one}
+
+-- replies that wait are written
+pub stands_handed : {State : Type 0} (rules : Rules State) (began : Began State) (given : List ℕ)
+    (w w' : Option (List ℕ)) (state : State) (intake : Intake) (out : List ℕ)
+    → Stands rules began given w state intake out → Appends w w' out
+    → Stands rules began given w' state intake []
+stands_handed rules began given w w' state intake out s a = record {
+  lines = s.lines;
+  bytes = s.bytes;
+  text = s.text ++ out;
+  cut = s.cut;
+  kept = s.kept;
+  answered = s.answered;
+  appended = Appends-trans began.written w w' s.text out s.appended a;
+  due = append-nil (s.text ++ out) ∙ s.due;
+  lines_counted = s.lines_counted;
+  bytes_counted = s.bytes_counted;
+  lines_within = s.lines_within;
+  bytes_within = s.bytes_within;
+  full = s.full;
+}
+
+-- bytes among which is no LF are kept
+pub stands_run : {State : Type 0} (rules : Rules State) (began : Began State) (given : List ℕ)
+    (w : Option (List ℕ)) (state : State) (intake intake' : Intake) (out more : List ℕ)
+    → Stands rules began given w state intake out → IsUnbroken more
+    → ((bytes : List ℕ) → IsKept bytes intake.long intake.line.items
+    → IsKept (bytes ++ more) intake'.long intake'.line.items)
+    → intake'.lines ≡ intake.lines → intake'.bytes ≡ intake.bytes + length more
+    → intake.lines < 10000000 → intake.bytes + length more ≤ 1073741824
+    → Stands rules began (given ++ more) w state intake' out
+stands_run rules began given w state intake intake' out more s u keeps lines bytes below_lines
+    below_bytes = record {
+      lines = s.lines;
+      bytes = s.bytes ++ more;
+      text = s.text;
+      cut = cut_run given s.lines s.bytes more s.cut u;
+      kept = keeps s.bytes s.kept;
+      answered = s.answered;
+      appended = s.appended;
+      due = s.due;
+      lines_counted = lines ∙ s.lines_counted;
+      bytes_counted = omega (arith, bytes, s.bytes_counted, length-append given more);
+      lines_within = omega (arith, lines, below_lines);
+      bytes_within = omega (arith, bytes, below_bytes);
+      full = λ h. absurd (let no : ⊥ = omega (arith, lines, below_lines, h) in no);
+    }
+
+-- an LF came, and the line is answered
+pub stands_line : {State : Type 0} (rules : Rules State) (began : Began State) (given : List ℕ)
+    (w : Option (List ℕ)) (state state' : State) (intake intake' : Intake) (out out' : List ℕ)
+    (b : ℕ) → Stands rules began given w state intake out → (b == 10) ≡ true
+    → ((bytes : List ℕ) → IsKept bytes intake.long intake.line.items
+    → out' ≡ out ++ reply_to rules state (line_of bytes))
+    → ((bytes : List ℕ) → IsKept bytes intake.long intake.line.items
+    → state' ≡ state_after rules state (line_of bytes))
+    → intake'.long ≡ false → intake'.line.items ≡ [] → intake'.lines ≡ intake.lines + 1
+    → intake'.bytes ≡ intake.bytes + 1 → intake.lines < 10000000 → intake.bytes < 1073741824
+    → Stands rules began (given ++ b ∷ []) w state' intake' out'
+stands_line rules began given w state state' intake intake' out out' b s e replies after long line
+    lines bytes below_lines below_bytes = record {
+      lines = s.lines ++ s.bytes ∷ [];
+      bytes = [];
+      text = s.text;
+      cut = cut_line given s.lines s.bytes b s.cut e;
+      kept = rw (long, line) (refl, omega arith);
+      answered = after s.bytes s.kept ∙ ap (λ x. state_after rules x (line_of s.bytes)) s.answered
+          ∙ sym (state_one rules began.state s.lines s.bytes);
+      appended = s.appended;
+      due = ap (λ l. s.text ++ l) (replies s.bytes s.kept) ∙ sym (append_assoc s.text out _)
+          ∙ ap (λ l. l ++ reply_to rules state (line_of s.bytes)) s.due ∙ ap
+          (λ x. replies_to rules began.state s.lines ++ reply_to rules x (line_of s.bytes))
+          s.answered
+          ∙ sym (replies_one rules began.state s.lines s.bytes);
+      lines_counted = omega (arith, lines, s.lines_counted, length-append s.lines (s.bytes ∷ []));
+      bytes_counted = omega (arith, bytes, s.bytes_counted, length-append given (b ∷ []));
+      lines_within = omega (arith, lines, below_lines);
+      bytes_within = omega (arith, bytes, below_bytes);
+      full = λ _. refl;
+    }
+
+-- what is written is a front of the output, whatever comes next
+pub stands_fronts : {State : Type 0} (rules : Rules State) (began : Began State) (given : List ℕ)
+    (w : Option (List ℕ)) (state : State) (intake : Intake) (out : List ℕ) (rest : List ℕ)
+    → Stands rules began given w state intake out → Fronts rules began (given ++ rest) w out
+stands_fronts rules began given w state intake out rest s = record {
+  text = s.text;
+  appended = s.appended;
+  front = (
+    replies_to rules (state_after_all rules began.state s.lines) (lines_of (s.bytes ++ rest)),
+    ap (replies_to rules began.state) (s.cut.ahead rest) ∙ replies_append rules began.state s.lines
+        (lines_of (s.bytes ++ rest)) ∙ ap (λ l. l ++ replies_to rules
+        (state_after_all rules began.state s.lines) (lines_of (s.bytes ++ rest))) (sym s.due),
+  );
+}
+
+-- and so is what a write of a front of the rest leaves
+pub fronts_handed : {State : Type 0} (rules : Rules State) (began : Began State) (given : List ℕ)
+    (w w' : Option (List ℕ)) (out : List ℕ) (n : ℕ)
+    → Fronts rules began given w out → Appends w w' (take n out) → Fronts rules began given w' []
+fronts_handed rules began given w w' out n f a = record {
+  text = f.text ++ take n out;
+  appended = Appends-trans began.written w w' f.text (take n out) f.appended a;
+  front = (
+    drop n out ++ f.front.0,
+    f.front.1 ∙ ap (λ l. f.text ++ l ++ f.front.0) (sym (take-append-drop n out))
+        ∙ append_assoc f.text _ f.front.0
+        ∙ ap (λ l. f.text ++ l) (append_assoc (take n out) (drop n out) f.front.0)
+        ∙ sym (append_assoc f.text (take n out) _)
+        ∙ ap (λ l. l ++ (drop n out ++ f.front.0)) (sym (append-nil (f.text ++ take n out))),
+  );
+}
+
+-- all that waits is written, and more of it would only be a longer front
+pub fronts_all : {State : Type 0} (rules : Rules State) (began : Began State) (given : List ℕ)
+    (w w' : Option (List ℕ)) (out : List ℕ) → Fronts rules began given w out → Appends w w' out
+    → Fronts rules began given w' []
+fronts_all rules began given w w' out f a = record {
+  text = f.text ++ out;
+  appended = Appends-trans began.written w w' f.text out f.appended a;
+  front = (f.front.0, f.front.1 ∙ ap (λ l. l ++ f.front.0) (sym (append-nil (f.text ++ out))));
+}
+
+-- the last line is answered, and all is written
+pub stands_output : {State : Type 0} (rules : Rules State) (began : Began State) (given : List ℕ)
+    (w w' : Option (List ℕ)) (state : State) (intake : Intake) (out out' : List ℕ)
+    → Stands rules began given w state intake out
+    → ((bytes : List ℕ) → IsKept bytes intake.long intake.line.items
+    → out' ≡ out ++ reply_to rules state (line_of bytes))
+    → Appends w w' out' → Appends began.written w' (output_of rules began.state given)
+stands_output rules began given w w' state intake out out' s replies a =
+    subst (Appends began.written w')
+    (ap (λ l. s.text ++ l) (replies s.bytes s.kept) ∙ sym (append_assoc s.text out _)
+    ∙ ap (λ l. l ++ reply_to rules state (line_of s.bytes)) s.due ∙ ap
+    (λ x. replies_to rules began.state s.lines ++ reply_to rules x (line_of s.bytes)) s.answered
+    ∙ sym (output_cut rules began.state given s.lines s.bytes s.cut))
+    (Appends-trans began.written w w' s.text out' s.appended a)
+
+-- the last line is answered, and waits
+pub stands_last : {State : Type 0} (rules : Rules State) (began : Began State) (given : List ℕ)
+    (w : Option (List ℕ)) (state : State) (intake : Intake) (out out' : List ℕ)
+    → Stands rules began given w state intake out
+    → ((bytes : List ℕ) → IsKept bytes intake.long intake.line.items
+    → out' ≡ out ++ reply_to rules state (line_of bytes))
+    → Fronts rules began given w out'
+stands_last rules began given w state intake out out' s replies = record {
+  text = s.text;
+  appended = s.appended;
+  front = (
+    [],
+    sym (append-nil (s.text ++ out') ∙ ap (λ l. s.text ++ l) (replies s.bytes s.kept) ∙ sym
+        (append_assoc s.text out _) ∙ ap (λ l. l ++ reply_to rules state (line_of s.bytes)) s.due
+        ∙ ap (λ x. replies_to rules began.state s.lines ++ reply_to rules x (line_of s.bytes))
+        s.answered ∙ sym (output_cut rules began.state given s.lines s.bytes s.cut)),
+  );
+}
+
+-- where nothing waits, just the lines that LF ended are answered
+pub stands_ended : {State : Type 0} (rules : Rules State) (began : Began State) (given : List ℕ)
+    (w : Option (List ℕ)) (state : State) (intake : Intake)
+    → Stands rules began given w state intake []
+    → Appends began.written w (replies_to rules began.state (ended_lines given))
+stands_ended rules began given w state intake s =
+    subst (Appends began.written w)
+    (sym (append-nil s.text) ∙ s.due
+    ∙ ap (replies_to rules began.state) (sym (cut_ended given s.lines s.bytes s.cut)))
+    s.appended
+
+-- lines that have ended, and the one in progress, are within the limit together
+lines_below : (lines : List (List ℕ)) (bytes : List ℕ) (n : ℕ) → n ≡ length lines → IsUnbroken bytes
+    → n ≤ 10000000 → (n ≡ 10000000 → bytes ≡ []) → length (lines ++ lines_of bytes) ≤ 10000000
+lines_below lines [] n e u h full = omega (arith, e, h, length-append lines [])
+lines_below lines (a ∷ bytes) n e u h full =
+    let more : n ≢ 10000000 = λ k. (let no : (a ∷ bytes) ≡ [] = full k in cc) in
+    rw (lines_one a bytes u) (omega (arith, e, h, more, length-append lines ((a ∷ bytes) ∷ [])))
+
+-- what has come is within the limits
+pub stands_within : {State : Type 0} (rules : Rules State) (began : Began State) (given : List ℕ)
+    (w : Option (List ℕ)) (state : State) (intake : Intake) (out : List ℕ)
+    → Stands rules began given w state intake out → IsWithin given
+stands_within rules began given w state intake out s = (
+  rw (cut_lines given s.lines s.bytes s.cut) (lines_below s.lines s.bytes intake.lines
+      s.lines_counted s.cut.unbroken s.lines_within s.full),
+  omega (arith, s.bytes_counted, s.bytes_within),
+)
+
+-- a flush leaves what was written
+pub appends_kept : (a b c : Option (List ℕ)) (bs : List ℕ) → Appends a b bs → Keeps b c
+    → Appends a c bs
+appends_kept None b c bs p q = tt
+appends_kept (Some x) None c bs p q = absurd p
+appends_kept (Some x) (Some y) None bs p q = absurd q
+appends_kept (Some x) (Some y) (Some z) bs p q = q ∙ p
+
+-- what has come of a piece, and its rest
+given_rest : (given xs : List ℕ) (i : ℕ) → given ++ take i xs ++ drop i xs ≡ given ++ xs
+given_rest given xs i =
+    append_assoc given (take i xs) (drop i xs) ∙ ap (λ l. given ++ l) (take-append-drop i xs)
+
+-- what has come of a piece, its next byte, and the rest
+pub given_next : (given xs : List ℕ) (i b : ℕ) → i < length xs → get_or xs i 0 ≡ b
+    → given ++ take i xs ++ b ∷ drop (i + 1) xs ≡ given ++ xs
+given_next given xs i b h e =
+    ap (λ x. given ++ take i xs ++ x ∷ drop (i + 1) xs) (sym e)
+    ∙ ap (λ l. given ++ take i xs ++ l) (sym (drop_more xs i 0 h)) ∙ given_rest given xs i
+
+-- a list whose length is 0
+pub no_bytes : (xs : List ℕ) → (length xs == 0) ≡ true → xs ≡ []
+no_bytes xs h = nil_from_length xs (grind (arith, nat_tests))
+
+-- a list whose length isn't 0
+pub some_bytes : (xs : List ℕ) → (length xs == 0) ≡ false → 0 < length xs
+some_bytes [] h = cc
+some_bytes (x ∷ xs) h = omega arith
+
+-- a front of the empty list is empty
+take_none : (n : ℕ) → take {A = ℕ} n [] ≡ []
+take_none zero = refl
+take_none (suc n) = refl
+
+-- more of a list, and more again
+take_further : (xs : List ℕ) (i n : ℕ) → take i xs ++ take n (drop i xs) ≡ take (i + n) xs
+take_further [] zero n = ap (λ k. take {A = ℕ} k []) (let e : n ≡ 0 + n = omega arith in e)
+take_further [] (suc i) n = take_none n ∙ sym (take_none (suc i + n))
+take_further (x ∷ xs) zero n = ap (λ k. take k (x ∷ xs)) (let e : n ≡ 0 + n = omega arith in e)
+take_further (x ∷ xs) (suc i) n = ap (λ l. x ∷ l) (take_further xs i n)
+    ∙ ap (λ k. take k (x ∷ xs)) (let e : suc (i + n) ≡ suc i + n = omega arith in e)
+
+-- a run over a piece, some bytes further
+pub stands_ahead : {State : Type 0} (rules : Rules State) (began : Began State) (given xs : List ℕ)
+    (i n : ℕ) (w : Option (List ℕ)) (state : State) (intake : Intake) (out : List ℕ)
+    → Stands rules began (given ++ take i xs ++ take n (drop i xs)) w state intake out
+    → Stands rules began (given ++ take (i + n) xs) w state intake out
+stands_ahead rules began given xs i n w state intake out s =
+    subst (λ l. Stands rules began l w state intake out) (append_assoc given (take i xs)
+    (take n (drop i xs)) ∙ ap (λ l. given ++ l) (take_further xs i n)) s
+
+-- what stands at a place of a piece is a front of the output up to its end
+pub stopped_at : {State : Type 0} (rules : Rules State) (began : Began State) (given xs : List ℕ)
+    (i : ℕ) (w : Option (List ℕ)) (state : State) (intake : Intake) (out : List ℕ)
+    → Stands rules began (given ++ take i xs) w state intake out
+    → Fronts rules began (given ++ xs) w out
+stopped_at rules began given xs i w state intake out s =
+    subst (λ l. Fronts rules began l w out) (given_rest given xs i)
+    (stands_fronts rules began (given ++ take i xs) w state intake out (drop i xs) s)
+
+-- and so is what a write fault left at the next byte
+pub stopped_in : {State : Type 0} (rules : Rules State) (began : Began State) (given xs : List ℕ)
+    (i b : ℕ) (w : Option (List ℕ)) (out : List ℕ) → i < length xs → get_or xs i 0 ≡ b
+    → Fronts rules began (given ++ take i xs ++ b ∷ drop (i + 1) xs) w out
+    → Fronts rules began (given ++ xs) w out
+stopped_in rules began given xs i b w out h e f =
+    subst (λ l. Fronts rules began l w out) (given_next given xs i b h e) f
+
+-- and what stands at the end of an input
+pub stands_stops : {State : Type 0} (rules : Rules State) (began : Began State) (given : List ℕ)
+    (w : Option (List ℕ)) (state : State) (intake : Intake) (out : List ℕ)
+    → Stands rules began given w state intake out → Fronts rules began given w out
+stands_stops rules began given w state intake out s =
+    subst (λ l. Fronts rules began l w out) (append-nil given)
+    (stands_fronts rules began given w state intake out [] s)
+
+-- a flush leaves a front as it was
+pub fronts_kept : {State : Type 0} (rules : Rules State) (began : Began State) (given : List ℕ)
+    (w w' : Option (List ℕ)) → Fronts rules began given w [] → Keeps w w'
+    → Fronts rules began given w' []
+fronts_kept rules began given w w' f k = record {
+  text = f.text;
+  appended = appends_kept began.written w w' f.text f.appended k;
+  front = f.front;
+}
+
+-- at a limit the replies that wait are written
+pub meets_handed : {State : Type 0} (rules : Rules State) (began : Began State)
+    (given piece : List ℕ) (w w' : Option (List ℕ)) (state : State) (intake : Intake) (out : List ℕ)
+    → Meets rules began given piece w state intake out → Appends w w' out
+    → Meets rules began given piece w' state intake []
+meets_handed rules began given piece w w' state intake out m a = record {
+  count = m.count;
+  follows = m.follows;
+  stands = stands_handed rules began (given ++ take m.count piece) w w' state intake out m.stands a;
+  at_limit = m.at_limit;
+}
+
+-- replies that wait are written, and none waits
+pub stands_empty : {State : Type 0} (rules : Rules State) (began : Began State) (given : List ℕ)
+    (w w' : Option (List ℕ)) (state : State) (intake : Intake) (out out' : List ℕ)
+    → Stands rules began given w state intake out → Appends w w' out → out' ≡ []
+    → Stands rules began given w' state intake out'
+stands_empty rules began given w w' state intake out out' s a e =
+    subst (Stands rules began given w' state intake) (sym e)
+    (stands_handed rules began given w w' state intake out s a)

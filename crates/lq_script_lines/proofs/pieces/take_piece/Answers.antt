@@ -1,0 +1,134 @@
+use Rattle.std.proofs.Common.{◌≡◌, ◌∙◌, ◌<◌, ◌+◌, ◌++◌, ◌∷◌, [], ℕ, List, Option, Err, length, get_or, append-nil, arith, rules, take, drop, drop-cons, refl, sym, subst, inl, inr}
+use Rattle.std.proofs.lemmas.List.{take_all}
+use Rattle.lq_script_lines.specs.declared.intake.Intake.{Intake}
+use Rattle.lq_script_lines.specs.declared.run_fault.RunFault.TheVariants.{Limit, Memory, Read, Thread, Write}
+use Rattle.lq_script_lines.specs.Lines.{Rules}
+use Rattle.lq_script_lines.specs.Progress.{Began, Stands}
+use Rattle.lq_script_lines.proofs.ResultLemmas.{neither, no_ok, no_other, on_err_any}
+use Rattle.lq_script_lines.proofs.ProgressLemmas.{no_bytes, some_bytes, stands_ahead, stands_run, stopped_at, stopped_in}
+use Rattle.lq_script_lines.proofs.pieces.take_piece.Goals as goal
+use Rattle.lq_script_lines.proofs.pieces.take_piece.Goals.{then-intake-ge-MAX_LINES-via-then-intake-ge-MAX_LINES, then-intake-ge-MAX_LINES-via-else-intake-ge-MAX_LINES+then-intake-ge-MAX_BYTES}
+
+-- the byte at a place is the next one
+next_byte : (xs : List ℕ) (i b : ℕ) → i < length xs → get_or xs i 0 ≡ b
+    → b ∷ [] ≡ take 1 (drop i xs)
+next_byte xs i b h e = rw (drop-cons xs i 0 h, e) refl
+
+-- a run over a piece, one byte further
+stands_next : {State : Type 0} (rules : Rules State) (began : Began State) (given xs : List ℕ)
+    (i b : ℕ) (w : Option (List ℕ)) (state : State) (intake : Intake) (out : List ℕ)
+    → i < length xs → get_or xs i 0 ≡ b
+    → Stands rules began (given ++ take i xs ++ b ∷ []) w state intake out
+    → Stands rules began (given ++ take (i + 1) xs) w state intake out
+stands_next rules began given xs i b w state intake out h e s =
+    stands_ahead rules began given xs i 1 w state intake out
+    (subst (λ l. Stands rules began (given ++ take i xs ++ l) w state intake out)
+    (next_byte xs i b h e) s)
+
+pub returns-then-intake-ge-MAX_LINES-clause-err : goal.returns-then-intake-ge-MAX_LINES-clause-err
+returns-then-intake-ge-MAX_LINES-clause-err g c = λ began given s.
+    stopped_at g.S.Responder.rules began given c.args.piece.now c.loop-at.at _ _ _ _
+    (c.loop-at.invariant.stands began given s)
+
+pub returns-then-intake-ge-MAX_LINES-clause-limit :
+    goal.returns-then-intake-ge-MAX_LINES-clause-limit
+returns-then-intake-ge-MAX_LINES-clause-limit g c = λ _ began given s.
+    let stood = c.loop-at.invariant.stands began given s in record {
+      count = c.loop-at.at;
+      follows = c.loop-at-test.true;
+      stands = stood;
+      at_limit = elim c.then-intake-ge-MAX_LINES.branch [
+        | then-intake-ge-MAX_LINES-via-then-intake-ge-MAX_LINES w ↦
+            inl (omega (arith, stood.lines_within, w.if-intake-ge-MAX_LINES.true))
+        | then-intake-ge-MAX_LINES-via-else-intake-ge-MAX_LINES+then-intake-ge-MAX_BYTES w ↦
+            inr (omega (arith, stood.bytes_within, w.if-intake-ge-MAX_BYTES.true))
+      ];
+    }
+
+pub loop-at-init : goal.loop-at-init
+loop-at-init g c = record {
+  within = omega arith;
+  stands = λ began given s. rw append-nil s;
+  works = (refl, refl);
+  bytes = omega arith;
+}
+
+pub returns-in_err-keep : goal.returns-in_err-keep
+returns-in_err-keep g c =
+    let is : c.from_residual-in_err-keep.result ≡ Err Memory = search rules in record {
+      ok = no_ok _ c.from_residual-in_err-keep.result _ is;
+      bytes = no_ok _ c.from_residual-in_err-keep.result _ is;
+      works = no_ok _ c.from_residual-in_err-keep.result _ is;
+      err = on_err_any c.from_residual-in_err-keep.result (λ began given s.
+          stopped_at g.S.Responder.rules began given c.args.piece.now c.loop-at.at _ _ _ _
+          (c.loop-at.invariant.stands began given s));
+      limit = λ h. elim (no_other Memory Limit is refl h) [ ];
+      not_read = λ h. no_other Memory Read is refl h;
+      not_thread = λ h. no_other Memory Thread is refl h;
+      cause = λ h. elim (no_other Memory Write is refl h) [ ];
+    }
+
+pub returns-in_err-end_line : goal.returns-in_err-end_line
+returns-in_err-end_line g c =
+    let is : c.from_residual.result ≡ Err c.in_err-end_line.field-0.0 = search rules in
+    let two = c.in_err-end_line.ensures.fault in record {
+      ok = no_ok _ c.from_residual.result _ is;
+      bytes = no_ok _ c.from_residual.result _ is;
+      works = no_ok _ c.from_residual.result _ is;
+      err = on_err_any c.from_residual.result (λ began given s.
+          stopped_in g.S.Responder.rules began given c.args.piece.now c.loop-at.at
+          10 _ _ c.loop-at-test.true
+          (c.run_at-run.ensures.stops
+          (no_bytes c.run_at-run.result.now (sym c.if-is_empty.ensures)))
+          (c.in_err-end_line.ensures.err (drop (c.loop-at.at + 1) c.args.piece.now) began _
+          (c.loop-at.invariant.stands began given s)));
+      limit = λ h.
+          elim (neither (Err c.in_err-end_line.field-0.0) Limit two refl refl (sym is ∙ h)) [ ];
+      not_read = λ h. neither (Err c.in_err-end_line.field-0.0) Read two refl refl (sym is ∙ h);
+      not_thread = λ h. neither (Err c.in_err-end_line.field-0.0) Thread two refl refl (sym is ∙ h);
+      cause = λ h. c.in_err-end_line.ensures.cause (sym is ∙ h);
+    }
+
+pub loop-at-smaller : goal.loop-at-smaller
+loop-at-smaller g c =
+    let some = some_bytes c.run_at-run.result.now (sym c.if-is_empty.ensures) in
+    omega (arith, some, c.run_at-run.ensures.bound)
+
+pub loop-at-smaller-then-is_empty : goal.loop-at-smaller-then-is_empty
+loop-at-smaller-then-is_empty g c = omega (arith, c.loop-at-test.true)
+
+pub returns-clause-ok : goal.returns-clause-ok
+returns-clause-ok g c = λ began given s.
+    rw (take_all c.loop-at.at c.args.piece.now (omega (arith, c.loop-at-test.false)))
+    at (c.loop-at.invariant.stands began given s)
+
+pub loop-at-preserved : goal.loop-at-preserved
+loop-at-preserved g c = record {
+  within = c.run_at-run.ensures.bound;
+  stands = λ began given s.
+      stands_ahead g.S.Responder.rules began given c.args.piece.now c.loop-at.at
+      (length c.run_at-run.result.now) _ _ _ _
+      (rw (sym c.run_at-run.ensures.run) (stands_run g.S.Responder.rules began _ _ _
+      c.loop-at.intake c.keep.new.self _ c.run_at-run.result.now
+      (c.loop-at.invariant.stands began given s) c.run_at-run.ensures.unbroken
+      c.in_ok-keep.ensures.ok c.in_ok-keep.ensures.lines c.in_ok-keep.ensures.bytes
+      (omega (arith, c.if-intake-ge-MAX_LINES.false))
+      (omega (arith, c.run_at-run.ensures.most, c.if-intake-ge-MAX_BYTES.false))));
+  works = c.loop-at.invariant.works;
+  bytes = omega (arith, c.in_ok-keep.ensures.bytes, c.loop-at.invariant.bytes);
+}
+
+pub loop-at-preserved-then-is_empty : goal.loop-at-preserved-then-is_empty
+loop-at-preserved-then-is_empty g c = record {
+  within = omega (arith, c.loop-at-test.true);
+  stands = λ began given s.
+      stands_next g.S.Responder.rules began given c.args.piece.now c.loop-at.at 10 _ _ _ _
+      c.loop-at-test.true
+      (c.run_at-run.ensures.stops (no_bytes c.run_at-run.result.now (sym c.if-is_empty.ensures)))
+      (c.in_ok-end_line.ensures.ok began _ (c.loop-at.invariant.stands began given s));
+  works = (
+    c.in_ok-end_line.ensures.works.0 ∙ c.loop-at.invariant.works.0,
+    c.in_ok-end_line.ensures.works.1 ∙ c.loop-at.invariant.works.1,
+  );
+  bytes = omega (arith, c.in_ok-end_line.ensures.bytes, c.loop-at.invariant.bytes);
+}

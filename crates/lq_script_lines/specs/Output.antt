@@ -1,0 +1,50 @@
+-- What a run over a script has read and written when it answers.
+use Rattle.std.specs.Prelude.{ℕ, ◌≤◌, List, [], ◌∷◌, ◌++◌, length, Option}
+use Rattle.std.specs.Io.KnownBytes.{Appends, Consumes, IsAtEnd}
+use Rattle.lq_script_lines.specs.Lines.{Begins, Rules, ended_lines, lines_of, replies_to}
+
+-- what is written for an input
+abbrev pub output_of : {State : Type 0} → Rules State → State → List ℕ → List ℕ
+output_of rules state bytes = replies_to rules state (lines_of bytes)
+
+-- an input has at most 10,000,000 lines and 1,073,741,824 bytes
+abbrev pub IsWithin : List ℕ → Type 0
+IsWithin bytes = (length (lines_of bytes) ≤ 10000000) × (length bytes ≤ 1073741824)
+
+-- a run that ended well: all was read, it was within the limits, and its output was written
+pub record Answered {State : Type 0} (rules : Rules State) (state : State)
+    (left left' written written' : Option (List ℕ)) : Type 0 where
+  pub given : List ℕ
+  pub consumed : Consumes left left' given
+  pub at_end : IsAtEnd left'
+  pub within : IsWithin given
+  pub appended : Appends written written' (output_of rules state given)
+
+-- a run that stopped: what was written is a front of the output of what was read
+pub record Stopped {State : Type 0} (rules : Rules State) (state : State)
+    (left left' written written' : Option (List ℕ)) : Type 0 where
+  pub given : List ℕ
+  pub consumed : Consumes left left' given
+  pub text : List ℕ
+  pub appended : Appends written written' text
+  pub front : Begins (output_of rules state given) text
+
+-- a run that stopped between two reads: just the lines that LF ended were answered
+pub record Ended {State : Type 0} (rules : Rules State) (state : State)
+    (left left' written written' : Option (List ℕ)) : Type 0 where
+  pub given : List ℕ
+  pub consumed : Consumes left left' given
+  pub within : IsWithin given
+  pub appended : Appends written written' (replies_to rules state (ended_lines given))
+
+-- A run that stopped at a limit: one byte more than what is within the limits was read, and of
+-- what is within them just the lines that LF ended were answered.
+pub record Passed {State : Type 0} (rules : Rules State) (state : State)
+    (left left' written written' : Option (List ℕ)) : Type 0 where
+  pub given : List ℕ
+  pub next : ℕ
+  pub rest : List ℕ
+  pub consumed : Consumes left left' (given ++ next ∷ rest)
+  pub within : IsWithin given
+  pub passes : ¬ IsWithin (given ++ next ∷ [])
+  pub appended : Appends written written' (replies_to rules state (ended_lines given))

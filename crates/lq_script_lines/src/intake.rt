@@ -1,0 +1,134 @@
+//! What has come of an input: the line in progress and the counts.
+ghost use Rattle.std.specs.Prelude.{◌≡◌, ◌+◌, ◌++◌, ◌≤◌, ℕ, List, [], length, false, true, IfErr, IsOk, OnOk, OnErr};
+ghost use Rattle.lq_script_lines.specs.Lines.{Begins, given_line, line_of, reply_to, state_after, without_cr};
+ghost use Rattle.lq_script_lines.specs.Progress.{IsKept};
+
+use crate::responder::Responder;
+use crate::run_fault::RunFault;
+use lq_value::Refusal;
+use std::alloc::Global;
+
+/// The most bytes of a line, without its LF.
+pub const MAX_LINE: usize = 65536;
+
+/// The most lines of an input.
+pub const MAX_LINES: u64 = 10000000;
+
+/// The most bytes of an input.
+pub const MAX_BYTES: u64 = 1073741824;
+
+const CR: u8 = 13;
+
+/// What has come of an input so far.
+#[derive(Drop)]
+pub struct Intake {
+    /// What has come of the line in progress, where it is not too long.
+    pub line: Vec<u8>,
+    /// Whether the line in progress is too long.
+    pub long: bool,
+    /// The number of lines that have ended.
+    pub lines: u64,
+    /// The number of bytes that have come.
+    pub bytes: u64,
+}
+
+impl Intake {
+    /// Nothing has come.
+    pub fn new(alloc: Global) -> Self
+        ensures line { result.line.items ≡ [] }
+        ensures long { result.long ≡ false }
+        ensures lines { result.lines ≡ 0 }
+        ensures bytes { result.bytes ≡ 0 }
+    {
+        Intake {
+            line: Vec::new(alloc),
+            long: false,
+            lines: 0,
+            bytes: 0,
+        }
+    }
+
+    /// Puts the reply to the line in progress behind `out`.
+    ///
+    /// Refused: `Memory`, and then `out` is as before.
+    pub fn answer<S: Responder>(&self, responder: &mut S, out: &mut Vec<u8>) -> Result<(), RunFault>
+        ensures ok { OnOk result ((bytes : List ℕ)
+            → IsKept bytes self.now.long self.now.line.items
+            → out.new.items ≡ out.old.items
+            ++ reply_to S.rules (S.state responder.old) (line_of bytes)) }
+        ensures after { OnOk result ((bytes : List ℕ)
+            → IsKept bytes self.now.long self.now.line.items
+            → S.state responder.new ≡ state_after S.rules (S.state responder.old) (line_of bytes)) }
+        ensures err { OnErr result (out.new.items ≡ out.old.items) }
+        ensures memory { IfErr result (λ e. e ≡ RunFault.Memory) }
+
+        // An empty line has no reply, and takes no memory.
+        ensures empty { self.now.long ≡ false → self.now.line.items ≡ [] → IsOk result }
+    {
+        let before = out.len();
+        let answered = if self.long {
+            responder.respond_long(out)
+        } else {
+            answer_given(cut_cr(&self.line), responder, out)
+        };
+        if answered.is_err() {
+            out.truncate(before);
+            return Err(RunFault::Memory);
+        }
+        Ok(())
+    }
+
+    /// Takes bytes among which is no LF to the line in progress.
+    pub fn keep(&mut self, bytes: &[u8]) -> Result<(), RunFault>
+        requires { self.old.bytes + length bytes.now ≤ MAX_BYTES }
+        ensures ok { OnOk result ((before : List ℕ)
+            → IsKept before self.old.long self.old.line.items
+            → IsKept (before ++ bytes.now) self.new.long self.new.line.items) }
+        ensures memory { IfErr result (λ e. e ≡ RunFault.Memory) }
+
+        // A line that is too long is not kept, and takes no memory.
+        ensures long { self.old.long ≡ true → IsOk result }
+        ensures lines { self.new.lines ≡ self.old.lines }
+        ensures bytes { OnOk result (self.new.bytes ≡ self.old.bytes + length bytes.now) }
+    {
+        if self.long || self.line.len() + bytes.len() > MAX_LINE {
+            self.long = true;
+        } else if self.line.extend_from_slice(bytes).is_err() {
+            return Err(RunFault::Memory);
+        }
+        self.bytes += bytes.len() as u64;
+        Ok(())
+    }
+}
+
+/// The line without one CR at its end.
+fn cut_cr(line: &[u8]) -> &[u8]
+    ensures { result.now ≡ without_cr line.now }
+{
+    let count = line.len();
+    if count > 0 && line[count - 1] == CR {
+        &line[..count - 1]
+    } else {
+        line
+    }
+}
+
+/// Puts the reply to a line, of which its CR was cut, behind `out`.
+fn answer_given<S: Responder>(
+    line: &[u8],
+    responder: &mut S,
+    out: &mut Vec<u8>,
+) -> Result<(), Refusal>
+    ensures ok { OnOk result (out.new.items ≡ out.old.items
+        ++ reply_to S.rules (S.state responder.old) (given_line line.now)) }
+    ensures after { OnOk result
+        (S.state responder.new
+        ≡ state_after S.rules (S.state responder.old) (given_line line.now)) }
+    ensures err { OnErr result (Begins out.new.items out.old.items) }
+    ensures empty { line.now ≡ [] → IsOk result }
+{
+    if line.is_empty() {
+        return Ok(());
+    }
+    responder.respond(line, out)
+}

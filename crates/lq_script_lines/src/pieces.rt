@@ -1,0 +1,144 @@
+//! A piece of an input: each line that ends in it is answered.
+ghost use Rattle.std.specs.Prelude.{◌≡◌, ◌+◌, ◌++◌, ◌⊎◌, ◌<◌, ◌≤◌, ℕ, List, [], ◌∷◌, length, slice_index, take, drop, true, IfErr, OnOk, OnErr, IsErrOf};
+ghost use Rattle.std.specs.Io.KnownBytes.{Appends};
+ghost use Rattle.lq_script_lines.specs.Lines.{IsUnbroken};
+ghost use Rattle.lq_script_lines.specs.Output.{output_of};
+ghost use Rattle.lq_script_lines.specs.Progress.{Began, Fronts, Goes, Leaves, MeetsLimit, Stands};
+
+use crate::devices::{Failed, Sink};
+use crate::intake::{Intake, MAX_BYTES, MAX_LINES};
+use crate::responder::Responder;
+use crate::run_fault::RunFault;
+use crate::writing::{write_and_flush, write_replies};
+use memchr::memchr;
+
+/// The bytes of replies from which on they are written.
+const GATHERED: usize = 65536;
+
+const LF: u8 = 10;
+
+/// Answers the line that LF ended, and writes the replies where many wait.
+fn end_line<S: Responder, W: Sink>(
+    intake: &mut Intake,
+    responder: &mut S,
+    out: &mut Vec<u8>,
+    writer: &mut W,
+) -> Result<(), RunFault>
+    requires lines { intake.old.lines < MAX_LINES }
+    requires bytes { intake.old.bytes < MAX_BYTES }
+    ensures ok { OnOk result (Goes S.rules (LF ∷ [])
+        (W.written writer.old) (S.state responder.old) intake.old out.old.items
+        (W.written writer.new) (S.state responder.new) intake.new out.new.items) }
+    ensures bytes { OnOk result (intake.new.bytes ≡ intake.old.bytes + 1) }
+    ensures works { OnOk result ((W.failed writer.new ≡ W.failed writer.old)
+        × (W.stalled writer.new ≡ W.stalled writer.old)) }
+    ensures err { OnErr result ((rest : List ℕ) → Leaves S.rules (LF ∷ rest)
+        (W.written writer.old) (S.state responder.old) intake.old out.old.items
+        (W.written writer.new) out.new.items) }
+    ensures fault { IfErr result (λ e. (e ≡ RunFault.Write) ⊎ (e ≡ RunFault.Memory)) }
+    ensures cause { IsErrOf result RunFault.Write →
+        (W.failed writer.new ≡ true) ⊎ (W.stalled writer.new ≡ true) }
+{
+    intake.answer(responder, out)?;
+    intake.line.clear();
+    intake.long = false;
+    intake.lines += 1;
+    intake.bytes += 1;
+    if out.len() < GATHERED {
+        return Ok(());
+    }
+    write_replies(out, writer)
+}
+
+/// Takes a piece of the input, and answers each line that ends in it.
+pub fn take_piece<S: Responder, W: Sink>(
+    intake: &mut Intake,
+    piece: &[u8],
+    responder: &mut S,
+    out: &mut Vec<u8>,
+    writer: &mut W,
+) -> Result<(), RunFault>
+    ensures ok { OnOk result (Goes S.rules piece.now
+        (W.written writer.old) (S.state responder.old) intake.old out.old.items
+        (W.written writer.new) (S.state responder.new) intake.new out.new.items) }
+    ensures bytes { OnOk result (intake.new.bytes ≡ intake.old.bytes + length piece.now) }
+    ensures works { OnOk result ((W.failed writer.new ≡ W.failed writer.old)
+        × (W.stalled writer.new ≡ W.stalled writer.old)) }
+    ensures err { OnErr result (Leaves S.rules piece.now
+        (W.written writer.old) (S.state responder.old) intake.old out.old.items
+        (W.written writer.new) out.new.items) }
+    ensures limit { IsErrOf result RunFault.Limit → MeetsLimit S.rules piece.now
+        (W.written writer.old) (S.state responder.old) intake.old out.old.items
+        (W.written writer.new) (S.state responder.new) intake.new out.new.items }
+    ensures not_read { IsErrOf result RunFault.Read → ⊥ }
+    ensures not_thread { IsErrOf result RunFault.Thread → ⊥ }
+    ensures cause { IsErrOf result RunFault.Write →
+        (W.failed writer.new ≡ true) ⊎ (W.stalled writer.new ≡ true) }
+{
+    let mut at = 0;
+    while at < piece.len() {
+        if intake.lines >= MAX_LINES || intake.bytes >= MAX_BYTES {
+            return Err(RunFault::Limit);
+        }
+        let run = run_at(piece, at, (MAX_BYTES - intake.bytes) as usize);
+        if run.is_empty() {
+            end_line(intake, responder, out, writer)?;
+            at += 1;
+        } else {
+            intake.keep(run)?;
+            at += run.len();
+        }
+    }
+    Ok(())
+}
+
+/// The bytes from a place to the next LF, and at most so many of them.
+fn run_at(piece: &[u8], at: usize, most: usize) -> &[u8]
+    requires at { at < length piece.now }
+    requires some { 0 < most }
+    ensures run { result.now ≡ take (length result.now) (drop at piece.now) }
+    ensures bound { at + length result.now ≤ length piece.now }
+    ensures most { length result.now ≤ most }
+    ensures unbroken { IsUnbroken result.now }
+    ensures stops { result.now ≡ [] → slice_index piece.now at ≡ 10 }
+{
+    let (_, rest) = piece.split_at(at);
+    let count = memchr(LF, rest).unwrap_or(rest.len());
+    let (run, _) = rest.split_at(count.min(most));
+    run
+}
+
+/// Answers the last line, if it has no LF, and flushes once.
+pub fn finish<S: Responder, W: Sink>(
+    intake: &Intake,
+    responder: &mut S,
+    out: &mut Vec<u8>,
+    writer: &mut W,
+) -> Result<(), RunFault>
+    ensures ok { OnOk result ((began : Began S.State) → (given : List ℕ)
+        → Stands S.rules began given (W.written writer.old) (S.state responder.old)
+        intake.now out.old.items
+        → Appends began.written (W.written writer.new) (output_of S.rules began.state given)) }
+    ensures works { OnOk result ((W.failed writer.new ≡ W.failed writer.old)
+        × (W.stalled writer.new ≡ W.stalled writer.old)) }
+    ensures err { OnErr result ((began : Began S.State) → (given : List ℕ)
+        → Stands S.rules began given (W.written writer.old) (S.state responder.old)
+        intake.now out.old.items
+        → Fronts S.rules began given (W.written writer.new) []) }
+    ensures flushed { OnOk result (W.flushed writer.new ≡ true) }
+    ensures fault { IfErr result (λ e. (e ≡ RunFault.Write) ⊎ (e ≡ RunFault.Memory)) }
+    ensures cause { IsErrOf result RunFault.Write →
+        (W.failed writer.new ≡ true) ⊎ (W.stalled writer.new ≡ true) }
+    ensures memory_flushed { IsErrOf result RunFault.Memory →
+        (W.flushed writer.new ≡ true) ⊎ (W.failed writer.new ≡ true) }
+{
+    if intake.answer(responder, out).is_err() {
+        write_and_flush(out, writer)?;
+        return Err(RunFault::Memory);
+    }
+    write_replies(out, writer)?;
+    match writer.flush() {
+        Ok(()) => Ok(()),
+        Err(Failed) => Err(RunFault::Write),
+    }
+}

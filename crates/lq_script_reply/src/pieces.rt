@@ -1,0 +1,63 @@
+//! Bytes, numbers and truths.
+ghost use Rattle.std.specs.Prelude.{◌≡◌, ◌++◌, OnErr, OnOk};
+ghost use Rattle.serde_json.specs.Data.{number, unsigned, boolean};
+ghost use Rattle.serde_json.specs.Find.{of_integer};
+ghost use Rattle.serde_json.specs.Written.{compact_text};
+ghost use Rattle.lq_script_reply.specs.Front.{Extends};
+
+use std::alloc::AllocError;
+
+/// Puts `bytes` behind `out`.
+///
+/// An error says that memory ran out: `out` then has what it had.
+#[inline(always)]
+pub fn put_bytes(out: &mut Vec<u8>, bytes: &[u8]) -> Result<(), AllocError>
+    ensures ok { OnOk result (out.new.items ≡ out.old.items ++ bytes.now) }
+    ensures err { OnErr result (out.new.items ≡ out.old.items) }
+    ensures front { Extends out.new.items out.old.items }
+{
+    out.extend_from_slice(bytes)?;
+    Ok(())
+}
+
+/// Puts `before` behind `out`, and then the decimal digits of `count`.
+///
+/// An error says that memory ran out: `out` then has what it had, and maybe `before` behind it.
+#[inline(always)]
+pub fn put_unsigned(out: &mut Vec<u8>, before: &[u8], count: u64) -> Result<(), AllocError>
+    ensures ok { OnOk result (out.new.items
+        ≡ out.old.items ++ (before.now ++ compact_text (number (unsigned count)))) }
+    ensures front { Extends out.new.items out.old.items }
+{
+    let mut digits = itoa::Buffer::new();
+    put_bytes(out, before)?;
+    put_bytes(out, digits.format(count).as_bytes())
+}
+
+/// Puts `before` behind `out`, and then the decimal digits of `integer`, with `-` before those of
+/// one below 0.
+///
+/// An error says that memory ran out: `out` then has what it had, and maybe `before` behind it.
+#[inline(always)]
+pub fn put_signed(out: &mut Vec<u8>, before: &[u8], integer: i64) -> Result<(), AllocError>
+    ensures ok { OnOk result (out.new.items
+        ≡ out.old.items ++ (before.now ++ compact_text (number (of_integer integer)))) }
+    ensures front { Extends out.new.items out.old.items }
+{
+    let mut digits = itoa::Buffer::new();
+    put_bytes(out, before)?;
+    put_bytes(out, digits.format(integer).as_bytes())
+}
+
+/// Puts `before` behind `out`, and then `true` or `false`.
+///
+/// An error says that memory ran out: `out` then has what it had, and maybe `before` behind it.
+#[inline(always)]
+pub fn put_truth(out: &mut Vec<u8>, before: &[u8], truth: bool) -> Result<(), AllocError>
+    ensures ok { OnOk result (out.new.items
+        ≡ out.old.items ++ (before.now ++ compact_text (boolean truth))) }
+    ensures front { Extends out.new.items out.old.items }
+{
+    put_bytes(out, before)?;
+    put_bytes(out, if truth { b"true" } else { b"false" })
+}

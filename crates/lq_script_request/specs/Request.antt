@@ -1,0 +1,294 @@
+-- What a line of a script asks for: a function of the JSON value that it writes.
+use Rattle.std.specs.Prelude.{ℕ, ℤ, pos, negsuc, int_le, nat_le, ◌&&◌, List, Bool, false, Option, Some, None, option_and_then, option_map, Result, Ok, Err, codes, if◌then◌else◌}
+use Rattle.std.specs.Str.{bytes_eq, is_utf8}
+use Rattle.serde_json.specs.Data.{Data}
+use Rattle.serde_json.specs.Find.{get, as_bool, as_number, as_u64, as_i64, as_str}
+use Rattle.serde_json.specs.Read.{read}
+use Rattle.lq_value.specs.declared.refusal.Refusal.{Refusal}
+use Rattle.lq_value.specs.declared.refusal.Refusal.TheVariants.{BadName, BadQuery, NotUtf8, NotJson, BadLine}
+use Rattle.lq_value.specs.declared.kind.Kind.{Kind}
+use Rattle.lq_value.specs.declared.kind.Kind.TheVariants.{File, Folder}
+use Rattle.lq_value.specs.Name.{is_name, is_attr_name}
+use Rattle.lq_value.specs.Value.{text_refusal}
+use Rattle.lq_value.specs.declared.value.Value.{Value}
+use Rattle.lq_value.specs.declared.value.Value.TheVariants.{Text, Int32, Int64, UInt32, UInt64}
+use Rattle.lq_predicate_formula.specs.Query.{Query}
+use Rattle.lq_predicate_formula.specs.Reading.{reading_of}
+use Rattle.lq_volume.specs.declared.change.Change.TheVariants.{Create, Remove, Move, Write, SetAttr, RemoveAttr}
+use Rattle.lq_desk_world.specs.declared.event.Event.TheVariants.{Change, Open, At}
+use Rattle.lq_desk_world.specs.declared.event.Act.{Act}
+use Rattle.lq_desk_world.specs.declared.event.Act.TheVariants as act
+use Rattle.lq_script_request.specs.declared.question.Question.{Question}
+use Rattle.lq_script_request.specs.declared.question.Question.TheVariants.{Event, Find, Entry, Fetch, Rebuilt}
+
+-- the value of a `set`: a text not yet read, or a number of one of four types
+pub data Given : Type 0 where
+  given_text : (text : List ℕ) → Given
+  given_number : (value : Value) → Given
+
+-- what a line asks for, its fields taken and its values not yet read
+pub data Asked : Type 0 where
+  asks_create : (dir : ℕ) (name : List ℕ) (kind : Kind) (size : ℕ) (time : ℤ) → Asked
+  asks_remove : (node : ℕ) → Asked
+  asks_move : (node dir : ℕ) (name : List ℕ) (clobber : Bool) → Asked
+  asks_write : (node size : ℕ) (time : ℤ) → Asked
+  asks_set : (node : ℕ) (attr : List ℕ) (value : Given) → Asked
+  asks_unset : (node : ℕ) (attr : List ℕ) → Asked
+  asks_open : (query : List ℕ) (port backlog : ℕ) (moved : Bool) → Asked
+  asks_at : (slot : ℕ) (a : Act) → Asked
+  asks_find : (dir : ℕ) (name : List ℕ) → Asked
+  asks_entry : (node : ℕ) → Asked
+  asks_fetch : (query : List ℕ) → Asked
+  asks_rebuilt : (slot : ℕ) → Asked
+
+-- a text, and a whole number from 0 up, which have to be there
+abbrev pub needed_text : List ℕ → Data → Option (List ℕ)
+needed_text key d = option_and_then as_str (get key d)
+
+-- a whole number from 0 up, which has to be there
+abbrev pub needed_u64 : List ℕ → Data → Option ℕ
+needed_u64 key d = option_and_then as_u64 (option_and_then as_number (get key d))
+
+-- a field that may be absent, and then has a default
+abbrev pub u64_or : ℕ → Option Data → Option ℕ
+u64_or default None = Some default
+u64_or default (Some d) = option_and_then as_u64 (as_number d)
+
+-- a whole number that may be absent
+abbrev pub i64_or : ℤ → Option Data → Option ℤ
+i64_or default None = Some default
+i64_or default (Some d) = option_and_then as_i64 (as_number d)
+
+-- the kind that a text names
+abbrev pub kind_named : List ℕ → Option Kind
+kind_named text =
+    if bytes_eq text (codes "file") then Some File
+    else if bytes_eq text (codes "folder") then Some Folder
+    else None
+
+-- a kind that may be absent
+abbrev pub kind_or : Kind → Option Data → Option Kind
+kind_or default None = Some default
+kind_or default (Some d) = option_and_then kind_named (as_str d)
+
+-- a truth value that may be absent
+abbrev pub flag_or : Bool → Option Data → Option Bool
+flag_or default None = Some default
+flag_or default (Some d) = as_bool d
+
+-- a whole number of 32 bits, with a sign and without
+abbrev pub within_i32 : ℤ → Option Given
+within_i32 n =
+    if int_le (negsuc 2147483647) n && int_le n (pos 2147483647) then Some (given_number (Int32 n))
+    else None
+
+-- a whole number of 32 bits without a sign
+abbrev pub within_u32 : ℕ → Option Given
+within_u32 n = if nat_le n 4294967295 then Some (given_number (UInt32 n)) else None
+
+-- by the text of `type`
+abbrev pub given_by : List ℕ → Data → Option Given
+given_by kind d =
+    if bytes_eq kind (codes "CSTR") then option_map given_text (as_str d)
+    else if bytes_eq kind (codes "LONG")
+    then option_and_then within_i32 (option_and_then as_i64 (as_number d))
+    else if bytes_eq kind (codes "LLNG")
+    then option_map (λ n. given_number (Int64 n)) (option_and_then as_i64 (as_number d))
+    else if bytes_eq kind (codes "ULNG")
+    then option_and_then within_u32 (option_and_then as_u64 (as_number d))
+    else if bytes_eq kind (codes "ULLG")
+    then option_map (λ n. given_number (UInt64 n)) (option_and_then as_u64 (as_number d))
+    else None
+
+-- what a `move` asks for, if its fields are there
+abbrev pub move_of : Data → Option Asked
+move_of d =
+    option_and_then (λ node.
+    option_and_then (λ name.
+    option_and_then (λ dir.
+    option_map (λ clobber. asks_move node dir name clobber)
+    (flag_or false (get (codes "clobber") d)))
+    (u64_or 1 (get (codes "dir") d)))
+    (needed_text (codes "name") d))
+    (needed_u64 (codes "node") d)
+
+-- what a `write` asks for
+abbrev pub write_of : Data → Option Asked
+write_of d =
+    option_and_then (λ node.
+    option_and_then (λ size.
+    option_map (λ time. asks_write node size time)
+    (i64_or (pos 0) (get (codes "time") d)))
+    (needed_u64 (codes "size") d))
+    (needed_u64 (codes "node") d)
+
+-- what a `set` asks for
+abbrev pub set_of : Data → Option Asked
+set_of d =
+    option_and_then (λ node.
+    option_and_then (λ attr.
+    option_and_then (λ kind.
+    option_and_then (λ field.
+    option_map (λ value. asks_set node attr value)
+    (given_by kind field))
+    (get (codes "value") d))
+    (needed_text (codes "type") d))
+    (needed_text (codes "attr") d))
+    (needed_u64 (codes "node") d)
+
+-- what an `unset` asks for
+abbrev pub unset_of : Data → Option Asked
+unset_of d =
+    option_and_then (λ node.
+    option_map (λ attr. asks_unset node attr)
+    (needed_text (codes "attr") d))
+    (needed_u64 (codes "node") d)
+
+-- what a `create` asks for
+abbrev pub create_of : Data → Option Asked
+create_of d =
+    option_and_then (λ name.
+    option_and_then (λ dir.
+    option_and_then (λ kind.
+    option_and_then (λ size.
+    option_map (λ time. asks_create dir name kind size time)
+    (i64_or (pos 0) (get (codes "time") d)))
+    (u64_or 0 (get (codes "size") d)))
+    (kind_or File (get (codes "kind") d)))
+    (u64_or 1 (get (codes "dir") d)))
+    (needed_text (codes "name") d)
+
+-- what a `remove` asks for
+abbrev pub remove_of : Data → Option Asked
+remove_of d = option_map (λ node. asks_remove node) (needed_u64 (codes "node") d)
+
+-- what an `open` asks for
+abbrev pub open_of : Data → Option Asked
+open_of d =
+    option_and_then (λ query.
+    option_and_then (λ port.
+    option_and_then (λ backlog.
+    option_map (λ moved. asks_open query port backlog moved)
+    (flag_or false (get (codes "moved") d)))
+    (needed_u64 (codes "backlog") d))
+    (needed_u64 (codes "port") d))
+    (needed_text (codes "query") d)
+
+-- what a line asks for that is an act at a slot
+abbrev pub act_of : Act → Data → Option Asked
+act_of a d = option_map (λ slot. asks_at slot a) (needed_u64 (codes "slot") d)
+
+-- what a `find` asks for
+abbrev pub find_of : Data → Option Asked
+find_of d =
+    option_and_then (λ name.
+    option_map (λ dir. asks_find dir name)
+    (u64_or 1 (get (codes "dir") d)))
+    (needed_text (codes "name") d)
+
+-- what an `entry` asks for
+abbrev pub entry_of : Data → Option Asked
+entry_of d = option_map (λ node. asks_entry node) (needed_u64 (codes "node") d)
+
+-- what a `fetch` asks for
+abbrev pub fetch_of : Data → Option Asked
+fetch_of d = option_map (λ query. asks_fetch query) (needed_text (codes "query") d)
+
+-- what a `result` asks for
+abbrev pub rebuilt_of : Data → Option Asked
+rebuilt_of d = option_map (λ slot. asks_rebuilt slot) (needed_u64 (codes "slot") d)
+
+-- by the text of `do`
+abbrev pub asked_by : List ℕ → Data → Option Asked
+asked_by word d =
+    if bytes_eq word (codes "create") then create_of d
+    else if bytes_eq word (codes "remove") then remove_of d
+    else if bytes_eq word (codes "move") then move_of d
+    else if bytes_eq word (codes "write") then write_of d
+    else if bytes_eq word (codes "set") then set_of d
+    else if bytes_eq word (codes "unset") then unset_of d
+    else if bytes_eq word (codes "open") then open_of d
+    else if bytes_eq word (codes "read") then act_of act.Read d
+    else if bytes_eq word (codes "hang_up") then act_of act.HangUp d
+    else if bytes_eq word (codes "close") then act_of act.Close d
+    else if bytes_eq word (codes "finish") then act_of act.Finish d
+    else if bytes_eq word (codes "find") then find_of d
+    else if bytes_eq word (codes "entry") then entry_of d
+    else if bytes_eq word (codes "fetch") then fetch_of d
+    else if bytes_eq word (codes "result") then rebuilt_of d
+    else None
+
+-- what a JSON value asks for
+abbrev pub asked_of : Data → Option Asked
+asked_of d = option_and_then (λ word. asked_by word d) (needed_text (codes "do") d)
+
+-- the line's faults, in their order
+abbrev pub asked_or : Option Asked → Result Asked Refusal
+asked_or None = Err BadLine
+asked_or (Some a) = Ok a
+
+-- what a text asks for, which may be no JSON
+abbrev pub asked_from : Option Data → Result Asked Refusal
+asked_from None = Err NotJson
+asked_from (Some d) = asked_or (asked_of d)
+
+-- what a line asks for, which may be no UTF-8
+abbrev pub asked_in : List ℕ → Result Asked Refusal
+asked_in line = if is_utf8 line then asked_from (read line) else Err NotUtf8
+
+-- the refusals of the values
+abbrev pub opening_or : Result Query ℕ → ℕ → ℕ → Bool → Result Question Refusal
+opening_or (Err place) port backlog moved = Err (BadQuery place)
+opening_or (Ok q) port backlog moved = Ok (Event (Open q port backlog moved))
+
+-- a predicate to fetch by, or its refusal
+abbrev pub fetching_or : Result Query ℕ → Result Question Refusal
+fetching_or (Err place) = Err (BadQuery place)
+fetching_or (Ok q) = Ok (Fetch q)
+
+-- a text as a value, or its refusal
+abbrev pub text_or : Option Refusal → List ℕ → Result Value Refusal
+text_or None text = Ok (Text text)
+text_or (Some e) text = Err e
+
+-- a value, or the refusal of its text
+abbrev pub value_for : Given → Result Value Refusal
+value_for (given_text text) = text_or (text_refusal text) text
+value_for (given_number value) = Ok value
+
+-- a setting, or the refusal of its value
+abbrev pub setting_for : ℕ → List ℕ → Result Value Refusal → Result Question Refusal
+setting_for node attr (Err e) = Err e
+setting_for node attr (Ok value) = Ok (Event (Change (SetAttr node attr value)))
+
+-- what is asked once the values are read, or the first refusal
+abbrev pub question_for : Asked → Result Question Refusal
+question_for (asks_create dir name kind size time) =
+    if is_name name then Ok (Event (Change (Create dir name kind size time)))
+    else Err BadName
+question_for (asks_remove node) = Ok (Event (Change (Remove node)))
+question_for (asks_move node dir name clobber) =
+    if is_name name then Ok (Event (Change (Move node dir name clobber)))
+    else Err BadName
+question_for (asks_write node size time) = Ok (Event (Change (Write node size time)))
+question_for (asks_set node attr value) =
+    if is_attr_name attr then setting_for node attr (value_for value)
+    else Err BadName
+question_for (asks_unset node attr) =
+    if is_attr_name attr then Ok (Event (Change (RemoveAttr node attr)))
+    else Err BadName
+question_for (asks_open query port backlog moved) = opening_or (reading_of query) port backlog moved
+question_for (asks_at slot a) = Ok (Event (At slot a))
+question_for (asks_find dir name) = if is_name name then Ok (Find dir name) else Err BadName
+question_for (asks_entry node) = Ok (Entry node)
+question_for (asks_fetch query) = fetching_or (reading_of query)
+question_for (asks_rebuilt slot) = Ok (Rebuilt slot)
+
+-- what is asked where a line may have been refused already
+abbrev pub question_from : Result Asked Refusal → Result Question Refusal
+question_from (Err e) = Err e
+question_from (Ok a) = question_for a
+
+-- what a line asks, or why it asks nothing
+abbrev pub question_in : List ℕ → Result Question Refusal
+question_in line = question_from (asked_in line)

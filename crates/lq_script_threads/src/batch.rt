@@ -1,0 +1,152 @@
+//! Reads of several slots, each slot's in a thread of its own.
+use crate::gate::Gate;
+use crate::held::Held;
+use crate::places::Places;
+use lq_script_reply::{Response, put_reply};
+use lq_server::{Named, Server};
+use lq_value::Refusal;
+use std::alloc::Global;
+use std::sync::Wait;
+use std::thread::{Threads, for_each_mut};
+
+// The reads of one slot in a batch, and the replies to those that were carried out.
+#[derive(Drop)]
+struct Turn<'a, N: Named, G> {
+    server: &'a Server<N>,
+    gate: &'a G,
+    held: Held<N>,
+    slot: u64,
+    reads: usize,
+    replies: Vec<Response>,
+    told: usize,
+}
+
+// What a thread does by itself.
+trait Work {
+    fn work<R: Wait>(&mut self, rt: &R);
+}
+
+impl<'a, N: Named, G: Gate> Work for Turn<'a, N, G> {
+    // Each read in order. It ends before the reads do where memory was wanting.
+    fn work<R: Wait>(&mut self, rt: &R) {
+        for _ in 0..self.reads {
+            self.gate.pass(rt, self.slot);
+            let Ok(reply) = self.held.read(rt, self.server) else {
+                return;
+            };
+            if self.replies.push(reply).is_err() {
+                return;
+            }
+        }
+    }
+}
+
+impl<'a, N: Named, G> Turn<'a, N, G> {
+    // The reply to the next of its reads. Refused: `NoMemory` where that read was not carried out.
+    fn next(&mut self) -> Result<&Response, Refusal> {
+        let told = self.told;
+        let Some(reply) = self.replies.get(told) else {
+            return Err(Refusal::NoMemory);
+        };
+        self.told = told + 1;
+        Ok(reply)
+    }
+}
+
+// Does all of the work, each part in a thread of its own, or in turn where none can be made. One
+// part alone needs no second thread.
+fn work_beside<W: Work + Send, R: Threads + Wait + Sync>(rt: &R, parts: &mut [W]) {
+    let count = parts.len();
+    if count > 0 {
+        for_each_mut(rt, parts, count, &|_, part| part.work(rt));
+    }
+}
+
+/// Puts the replies to reads of these slots behind `out`, in their order.
+///
+/// Each slot that has a reader has a thread of its own, which carries out that slot's reads in
+/// order; a read of another slot is refused `NotOpen`. Refused: `NoMemory`, and then a part of the
+/// replies may stand behind `out`, and readers may be lost.
+pub fn read_beside<N: Named + Send + Sync, G: Gate + Sync, R: Threads + Wait + Sync>(
+    rt: &R,
+    alloc: Global,
+    server: &Server<N>,
+    gate: &G,
+    places: &mut Places<N>,
+    slots: &[u64],
+    out: &mut Vec<u8>,
+) -> Result<(), Refusal> {
+    let mut turns = turns_of(alloc, server, gate, places, slots)?;
+    work_beside(rt, &mut turns);
+    let told = put_replies(&mut turns, slots, out);
+    for turn in turns {
+        places.put(turn.held);
+    }
+    told
+}
+
+// Puts the reply to each read behind `out`.
+fn put_replies<N: Named, G>(
+    turns: &mut [Turn<'_, N, G>],
+    slots: &[u64],
+    out: &mut Vec<u8>,
+) -> Result<(), Refusal> {
+    for slot in slots {
+        match turn_of(turns, *slot) {
+            Some(turn) => put_reply(out, turn.next()?)?,
+            None => put_reply(out, &Response::Refused(Refusal::NotOpen))?,
+        }
+    }
+    Ok(())
+}
+
+// The turn of a slot.
+fn turn_of<'t, 'a, N: Named, G>(
+    turns: &'t mut [Turn<'a, N, G>],
+    slot: u64,
+) -> Option<&'t mut Turn<'a, N, G>> {
+    for turn in turns {
+        if turn.slot == slot {
+            return Some(turn);
+        }
+    }
+    None
+}
+
+// A turn for each slot that is named and has a reader, which is taken out of its place.
+fn turns_of<'a, N: Named, G: Gate>(
+    alloc: Global,
+    server: &'a Server<N>,
+    gate: &'a G,
+    places: &mut Places<N>,
+    slots: &[u64],
+) -> Result<Vec<Turn<'a, N, G>>, Refusal> {
+    let mut turns = Vec::new(alloc);
+    for slot in slots {
+        let Ok(held) = places.take(*slot) else {
+            continue;
+        };
+        let reads = count_of(slots, *slot);
+        turns.push(Turn {
+            server,
+            gate,
+            held,
+            slot: *slot,
+            reads,
+            replies: Vec::with_capacity(alloc, reads)?,
+            told: 0,
+        })?;
+    }
+    Ok(turns)
+}
+
+// How many of these reads are of a slot.
+fn count_of(slots: &[u64], slot: u64) -> usize {
+    let mut count: usize = 0;
+    for other in slots {
+        if *other == slot {
+            count = count.saturating_add(1);
+        }
+    }
+    count
+}

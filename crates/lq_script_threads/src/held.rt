@@ -1,0 +1,223 @@
+//! The tokens of one server, a seat of no slot and readers, and what is answered by them.
+use lq_board::Seat;
+use lq_desk::Reply;
+use lq_predicate::Predicate;
+use lq_script_reply::Response;
+use lq_server::{Named, Reader, Server};
+use lq_server_subscription::Identity;
+use lq_value::{Entry, Name, Refusal};
+use lq_volume::{Applied, Change};
+use std::alloc::Global;
+use std::marker::{Model, PhantomData};
+use std::sync::Wait;
+
+/// A seat of no slot, of N's board.
+pub struct Caller<N: Named> {
+    seat: Seat<Identity>,
+    of: PhantomData<N>,
+}
+
+// One call takes it apart, wherever one is dropped.
+impl<N: Named> Drop for Caller<N> {
+    fn drop(self) {
+        let Caller { seat: _, of: _ } = self;
+    }
+}
+
+impl<N: Named> Model for Caller<N> {
+    ghost use Rattle.std.specs.Prelude.{◌≡◌};
+    ghost use Rattle.atomic_table.specs.Seated.{TableId, table_id_coded};
+
+    ghost Value = { TableId };
+
+    ghost coded = { table_id_coded };
+
+    ghost view = { λ c. c.seat.board };
+
+    ghost invariant = { λ c. (c.seat.board ≡ N.board) × (c.seat.slot ≡ 0) };
+}
+
+impl<N: Named> Caller<N> {
+    /// A seat of this server. Refused as `Server::seat` is.
+    pub fn new<R: Wait>(rt: &R, server: &Server<N>) -> Result<Caller<N>, Refusal> {
+        let seat = server.seat(rt)?;
+        Ok(Caller {
+            seat,
+            of: PhantomData,
+        })
+    }
+
+    /// Makes a change. Refused as `Server::apply` is.
+    pub fn change<R: Wait>(
+        &mut self,
+        rt: &R,
+        server: &Server<N>,
+        change: &Change,
+    ) -> Result<Response, Refusal> {
+        let accepted = server.apply(rt, &mut self.seat, change)?;
+        let applied = Applied {
+            change: accepted.change,
+            node: accepted.node,
+        };
+        let reply = Reply::Changed(applied);
+        Ok(Response::Reply { slot: 0, reply })
+    }
+
+    /// Opens a live query. Refused as `Server::open` is.
+    pub fn open<R: Wait>(
+        &mut self,
+        rt: &R,
+        server: &Server<N>,
+        predicate: &Predicate,
+        port: u64,
+        backlog: u64,
+        moved: bool,
+    ) -> Result<Held<N>, Refusal> {
+        let reader = server.open(rt, &mut self.seat, predicate, port, backlog, moved)?;
+        Ok(Held {
+            reader,
+            of: PhantomData,
+        })
+    }
+
+    /// The entries that a predicate holds of. Refused as `Server::fetch` is.
+    pub fn fetch<R: Wait>(
+        &mut self,
+        rt: &R,
+        server: &Server<N>,
+        predicate: &Predicate,
+    ) -> Result<Response, Refusal> {
+        let found = server.fetch(rt, &mut self.seat, predicate)?;
+        Ok(Response::Fetched {
+            at: found.at,
+            result: found.entries,
+        })
+    }
+
+    /// The node that has a place. Refused as `Server::find` is.
+    pub fn find<R: Wait>(
+        &mut self,
+        rt: &R,
+        server: &Server<N>,
+        dir: u64,
+        name: &Name,
+    ) -> Result<Response, Refusal> {
+        let node = server.find(rt, &mut self.seat, dir, name)?;
+        Ok(Response::Found { node })
+    }
+
+    /// All of the entry of a node. Refused as `Server::listing` is.
+    pub fn listing<R: Wait>(
+        &mut self,
+        rt: &R,
+        server: &Server<N>,
+        node: u64,
+    ) -> Result<Response, Refusal> {
+        let listing = server.listing(rt, &mut self.seat, node)?;
+        Ok(Response::Listed { node, listing })
+    }
+}
+
+/// A reader of N's board, whose seat is that of its slot.
+pub struct Held<N: Named> {
+    reader: Reader,
+    of: PhantomData<N>,
+}
+
+// One call takes it apart, wherever one is dropped.
+impl<N: Named> Drop for Held<N> {
+    fn drop(self) {
+        let Held { reader: _, of: _ } = self;
+    }
+}
+
+impl<N: Named> Model for Held<N> {
+    ghost use Rattle.std.specs.Prelude.{◌≡◌};
+    ghost use Rattle.atomic_table.specs.Seated.{TableId, table_id_coded};
+    ghost use Rattle.lq_server.specs.Own.{IsOwn};
+
+    ghost Value = { TableId };
+
+    ghost coded = { table_id_coded };
+
+    ghost view = { λ h. h.reader.seat.board };
+
+    ghost invariant = { λ h. (h.reader.seat.board ≡ N.board) × IsOwn h.reader };
+}
+
+impl<N: Named> Held<N> {
+    /// Its slot, 1 to 64.
+    pub fn slot(&self) -> u64 {
+        self.reader.slot()
+    }
+
+    /// What its opening is answered, with the result then. Refused: `NoMemory`.
+    pub fn opened(&self, alloc: Global) -> Result<Response, Refusal> {
+        let slot = self.reader.slot();
+        let reply = Reply::Opened {
+            slot,
+            at: self.reader.last_change(),
+            result: copied(alloc, self.reader.result())?,
+        };
+        Ok(Response::Reply { slot, reply })
+    }
+
+    /// Fills its port, and takes the next of what was told. Refused as `Reader::read` is.
+    pub fn read<R: Wait>(&mut self, rt: &R, server: &Server<N>) -> Result<Response, Refusal> {
+        server.pump(rt, &mut self.reader);
+        let reply = Reply::Read(self.reader.read(rt)?);
+        Ok(Response::Reply {
+            slot: self.reader.slot(),
+            reply,
+        })
+    }
+
+    /// Asks for the end of its subscription.
+    pub fn hang_up(&mut self, server: &Server<N>) -> Response {
+        self.reader.hang_up(server);
+        Response::Reply {
+            slot: self.reader.slot(),
+            reply: Reply::Asked,
+        }
+    }
+
+    /// Closes its subscription. Refused as `Server::close` is.
+    pub fn close<R: Wait>(&mut self, rt: &R, server: &Server<N>) -> Result<Response, Refusal> {
+        let change = server.close(rt, &mut self.reader)?;
+        Ok(Response::Reply {
+            slot: self.reader.slot(),
+            reply: Reply::Shut(change),
+        })
+    }
+
+    /// Frees its slot. Refused as `Server::finish` is; it then comes back.
+    pub fn finish<R: Wait>(self, rt: &R, server: &Server<N>) -> Result<(), (Held<N>, Refusal)> {
+        let Held { reader, of } = self;
+        match server.finish(rt, reader) {
+            Ok(()) => Ok(()),
+            Err((reader, refusal)) => Err((Held { reader, of }, refusal)),
+        }
+    }
+
+    /// The result that was rebuilt from what was read. Refused: `NoMemory`.
+    pub fn rebuilt(&self, alloc: Global) -> Result<Response, Refusal> {
+        Ok(Response::Rebuilt {
+            change: self.reader.last_change(),
+            result: copied(alloc, self.reader.result())?,
+            settled: self.reader.is_settled(),
+        })
+    }
+}
+
+// The same entries once more. Refused: `NoMemory`.
+fn copied(alloc: Global, entries: &[Entry]) -> Result<Vec<Entry>, Refusal> {
+    let mut copy = Vec::with_capacity(alloc, entries.len())?;
+    for entry in entries {
+        copy.push(Entry {
+            dir: entry.dir,
+            name: entry.name.copy(alloc)?,
+            node: entry.node,
+        })?;
+    }
+    Ok(copy)
+}

@@ -1,0 +1,124 @@
+//! What the lines of a script are answered, by the public calls of a server.
+use crate::batch::read_beside;
+use crate::gate::Gate;
+use crate::held::Caller;
+use crate::places::Places;
+use lq_desk::{Act, Event, Reply};
+use lq_predicate::Predicate;
+use lq_script_reply::Response;
+use lq_script_request::Question;
+use lq_server::{Named, Server};
+use lq_value::Refusal;
+use std::alloc::Global;
+use std::sync::Wait;
+use std::thread::Threads;
+
+/// A seat and the readers at a server, that answer the lines of a script.
+#[derive(Drop)]
+pub struct Session<'a, N: Named, R, G> {
+    rt: &'a R,
+    alloc: Global,
+    server: &'a Server<N>,
+    gate: &'a G,
+    caller: Caller<N>,
+    places: Places<N>,
+}
+
+impl<'a, N: Named + Send + Sync, R: Threads + Wait + Sync, G: Gate + Sync> Session<'a, N, R, G> {
+    /// A session at a server, with no readers. Refused: `NoSeat`, `NoMemory`.
+    pub fn new(
+        rt: &'a R,
+        alloc: Global,
+        server: &'a Server<N>,
+        gate: &'a G,
+    ) -> Result<Session<'a, N, R, G>, Refusal> {
+        let caller = Caller::new(rt, server)?;
+        let places = Places::new(alloc)?;
+        Ok(Session {
+            rt,
+            alloc,
+            server,
+            gate,
+            caller,
+            places,
+        })
+    }
+
+    /// Puts the replies to reads of these slots behind `out`, in their order; the reads of
+    /// several slots go side by side. Refused: `NoMemory`, and then a part of the replies may
+    /// stand behind `out`, and the session is of no more use.
+    pub fn read(&mut self, slots: &[u64], out: &mut Vec<u8>) -> Result<(), Refusal> {
+        read_beside(
+            self.rt,
+            self.alloc,
+            self.server,
+            self.gate,
+            &mut self.places,
+            slots,
+            out,
+        )
+    }
+
+    /// What a question is answered that is no read. Refused as that is; after `NoMemory` the
+    /// session is of no more use.
+    pub fn answer(&mut self, question: &Question) -> Result<Response, Refusal> {
+        match question {
+            Question::Event(event) => self.event(event),
+            Question::Find { dir, name } => self.caller.find(self.rt, self.server, *dir, name),
+            Question::Entry { node } => self.caller.listing(self.rt, self.server, *node),
+            Question::Fetch { predicate } => self.caller.fetch(self.rt, self.server, predicate),
+            Question::Rebuilt { slot } => self.places.reader(*slot)?.rebuilt(self.alloc),
+        }
+    }
+
+    fn event(&mut self, event: &Event) -> Result<Response, Refusal> {
+        match event {
+            Event::Change(change) => self.caller.change(self.rt, self.server, change),
+            Event::Open {
+                predicate,
+                port,
+                backlog,
+                moved,
+            } => self.open(predicate, *port, *backlog, *moved),
+            Event::At { slot, act } => self.act(*slot, *act),
+        }
+    }
+
+    fn act(&mut self, slot: u64, act: Act) -> Result<Response, Refusal> {
+        match act {
+            Act::HangUp => Ok(self.places.reader(slot)?.hang_up(self.server)),
+            Act::Close => self.places.reader(slot)?.close(self.rt, self.server),
+            Act::Finish => self.finish(slot),
+            // A `read` goes with its batch, and no line asks for the other two.
+            Act::Read | Act::Put | Act::Notice => Err(Refusal::BadLine),
+        }
+    }
+
+    fn open(
+        &mut self,
+        predicate: &Predicate,
+        port: u64,
+        backlog: u64,
+        moved: bool,
+    ) -> Result<Response, Refusal> {
+        let held = self
+            .caller
+            .open(self.rt, self.server, predicate, port, backlog, moved)?;
+        let opened = held.opened(self.alloc);
+        self.places.put(held);
+        opened
+    }
+
+    fn finish(&mut self, slot: u64) -> Result<Response, Refusal> {
+        match self.places.take(slot)?.finish(self.rt, self.server) {
+            Ok(()) => Ok(Response::Reply {
+                slot,
+                reply: Reply::Finished,
+            }),
+            Err((held, refusal)) => {
+                self.places.put(held);
+                Err(refusal)
+            }
+        }
+    }
+}

@@ -1,0 +1,63 @@
+//! A whole script by threads, over the root alone.
+ghost use Rattle.std.specs.Prelude.{◌≡◌, false};
+
+use crate::carrier::Carrier;
+use crate::gate::Gate;
+use crate::lines::Lines;
+use crate::session::Session;
+use lq_script_lines::{RunFault, Sink, Source, out_of_memory};
+use lq_server::{Base, Named, Server};
+use lq_volume::{MAX_CHANGES, Volume};
+use std::alloc::Global;
+use std::marker::Brand;
+use std::sync::Wait;
+use std::thread::Threads;
+
+/// Carries out a script as lq_script_desk's `run` does, its reads in threads.
+pub fn run_threads<T: Threads + Wait + Sync, R: Source, W: Sink, G: Gate + Sync>(
+    rt: &T,
+    alloc: Global,
+    reader: &mut R,
+    writer: &mut W,
+    gate: &G,
+) -> Result<(), RunFault>
+    requires reader_works { R.failed reader.old ≡ false }
+    requires writer_works { W.failed writer.old ≡ false }
+    requires writer_moves { W.stalled writer.old ≡ false }
+{
+    let Ok(base) = Base::new(alloc, Volume::new(alloc, MAX_CHANGES)) else {
+        return Err(out_of_memory(writer));
+    };
+    serve::<Brand, T, R, W, G>(rt, alloc, base, reader, writer, gate)
+}
+
+// Carries out a script at a server over a base.
+fn serve<N: Named + Send + Sync, T: Threads + Wait + Sync, R: Source, W: Sink, G: Gate + Sync>(
+    rt: &T,
+    alloc: Global,
+    base: Base,
+    reader: &mut R,
+    writer: &mut W,
+    gate: &G,
+) -> Result<(), RunFault>
+    requires board { base ≡ N.board }
+{
+    let server: Server<N> = Server::new(base);
+    let Ok(session) = Session::new(rt, alloc, &server, gate) else {
+        return Err(out_of_memory(writer));
+    };
+    let mut carrier = Carrier::new(alloc, session, writer);
+    let mut lines = Lines::new(alloc);
+    for _ in rt.forever() {
+        let read = lines.read(reader);
+        if let Err(fault) = carrier.carry_out(lines.given()) {
+            return Err(carrier.close(fault));
+        }
+        match read {
+            Ok(true) => {}
+            Ok(false) => return carrier.flush(),
+            Err(fault) => return Err(carrier.close(fault)),
+        }
+    }
+    unreachable!()
+}

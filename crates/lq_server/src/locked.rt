@@ -1,0 +1,379 @@
+//! What lies under the lock.
+ghost use Rattle.std.specs.Prelude.{◌≡◌, ◌<◌, [], ◌∷◌, length, IfOk, IfErr, OnOk, OnErr, IfSome, IfNone, IsSome, IsSomeAnd, is_some, Some, None, Err, unwrap_or};
+ghost use Rattle.lq_value.specs.declared.refusal.Refusal.TheVariants.{NoMemory, NoSeat};
+ghost use Rattle.lq_value.specs.Refusal.{IsRefusedBy, first_refusal};
+ghost use Rattle.lq_volume.specs.Book.{Extends, grown, state_of};
+ghost use Rattle.lq_volume.specs.Change.{refused};
+ghost use Rattle.lq_volume.specs.Result.{result_of};
+ghost use Rattle.lq_volume.specs.State.{record_at, node_in};
+ghost use Rattle.lq_volume.specs.Lookup.{find_refusals, entry_refusals, listed};
+ghost use Rattle.lq_board.specs.Book.{IsFullBook};
+ghost use Rattle.lq_server_subscription.specs.declared.identity.Shut.TheVariants.{Never};
+ghost use Rattle.lq_server_subscription.specs.declared.subscription.Subscription.{Subscription as SubscriptionOf};
+ghost use Rattle.lq_server_subscription.specs.Marking.{first_close};
+ghost use Rattle.lq_server_slots.specs.Slots.{SlotsStand};
+ghost use Rattle.lq_server_slots.specs.Opening.{IsOpened, IsOpeningRefused, IdentityFits, asks_after, name_or, opening_refusal};
+ghost use Rattle.lq_server_slots.specs.Progress.{ShowsProgress};
+ghost use Rattle.lq_server.specs.Applied.{IsAdded};
+
+use crate::named::Named;
+use lq_board::{Board, Keeper, Seat};
+use lq_predicate::Predicate;
+use lq_server_slots::{
+    Asked, Opened, Progress, Slots, change_in, close_in, free_in, meet_in, open_in, sync_in,
+};
+use lq_server_subscription::{Identity, Reading};
+use lq_value::{Entry, Name, Refusal};
+use lq_volume::{Applied, Change, Listing, Volume};
+use std::alloc::Global;
+use std::marker::{Model, PhantomData};
+use std::sync::Wait;
+
+/// The most seats that are out at a time.
+const MAX_SEATS: u64 = 16;
+
+/// The entries that a predicate holds of after `at` changes, by rising node.
+#[derive(Drop)]
+pub struct Found {
+    pub at: u64,
+    pub entries: Vec<Entry>,
+}
+
+/// The volume, the subscriptions and the keeper of N's board. A contract sees the keeper's book.
+pub struct Locked<N: Named> {
+    slots: Slots,
+    volume: Volume,
+    seats: u64,
+    alloc: Global,
+    of: PhantomData<N>,
+}
+
+// One call takes it apart, wherever one is dropped.
+impl<N: Named> Drop for Locked<N> {
+    fn drop(self) {
+        let Locked {
+            slots: _,
+            volume: _,
+            seats: _,
+            alloc: _,
+            of: _,
+        } = self;
+    }
+}
+
+impl<N: Named> Model for Locked<N> {
+    ghost use Rattle.std.specs.Prelude.{◌≡◌, ◌≤◌};
+    ghost use Rattle.lq_volume.specs.Book.{Book, state_of};
+    ghost use Rattle.lq_board.specs.Book.{IsFullBook};
+    ghost use Rattle.lq_server_slots.specs.Slots.{SlotsStand};
+
+    ghost Value = { Book };
+
+    ghost view = { λ l. l.slots.keeper.book };
+
+    ghost invariant = { λ l. (l.slots.keeper.board ≡ N.board)
+        × (l.volume ≡ state_of l.slots.keeper.book)
+        × IsFullBook l.slots.keeper.book
+        × (l.slots.openings ≤ l.volume.limit)
+        × SlotsStand l.slots l.slots.keeper.book };
+}
+
+impl<N: Named> Locked<N> {
+    /// What stands under the lock of a server that begins: no seat is out, and no slot taken.
+    pub(crate) fn new(alloc: Global, slots: Slots, volume: Volume) -> Locked<N>
+        requires board { slots.keeper.board ≡ N.board }
+        requires volume { volume ≡ state_of slots.keeper.book }
+        requires full { IsFullBook slots.keeper.book }
+        requires openings { slots.openings ≡ 0 }
+        requires holding { SlotsStand slots slots.keeper.book }
+        ensures { result ≡ slots.keeper.book }
+    {
+        Locked {
+            slots,
+            volume,
+            seats: 0,
+            alloc,
+            of: PhantomData,
+        }
+    }
+
+    /// A seat that knows the book. Refused: `NoSeat`, as tests show just where 16 are out. It takes
+    /// no memory.
+    pub fn seat(&mut self, board: &Board<Identity>) -> Result<Seat<Identity>, Refusal>
+        requires { board.now ≡ N.board }
+        ensures same { self.new ≡ self.old }
+        ensures seat { IfOk result (λ seat.
+            (seat.board ≡ N.board) × (seat.slot ≡ 0) × (seat.book ≡ self.old)) }
+        ensures refused { IfErr result (λ e. e ≡ NoSeat) }
+    {
+        if self.seats >= MAX_SEATS {
+            return Err(Refusal::NoSeat);
+        }
+        self.seats += 1;
+        Ok(board.seat(&mut self.slots.keeper))
+    }
+
+    /// Takes a seat back, so that another may go out. It takes no memory.
+    pub fn give_back(&mut self, board: &Board<Identity>, seat: Seat<Identity>)
+        requires { (board.now ≡ N.board) × (seat.board ≡ N.board) × (seat.slot ≡ 0) }
+        ensures same { self.new ≡ self.old }
+        ensures later { Extends self.old seat.book }
+    {
+        board.join(&mut self.slots.keeper, seat);
+        self.seats = self.seats.saturating_sub(1);
+    }
+
+    /// The seat knows the book, of as many changes as is answered. It takes no memory.
+    pub fn meet(&mut self, board: &Board<Identity>, seat: &mut Seat<Identity>) -> u64
+        requires { (board.now ≡ N.board) × (seat.old.board ≡ N.board) × (seat.old.slot ≡ 0) }
+        ensures same { self.new ≡ self.old }
+        ensures seat { (seat.new.board ≡ N.board) × (seat.new.slot ≡ 0) }
+        ensures book { seat.new.book ≡ self.old }
+        ensures later { Extends seat.new.book seat.old.book }
+        ensures number { result ≡ length self.old.changes }
+    {
+        board.meet(&mut self.slots.keeper, seat)
+    }
+
+    /// As `meet`, for a seat of any slot, which keeps all but its book. It takes no memory.
+    pub fn meet_any(&mut self, board: &Board<Identity>, seat: &mut Seat<Identity>) -> u64
+        requires board { (board.now ≡ N.board) × (seat.old.board ≡ N.board) }
+        requires named { 0 < seat.old.slot → IsSome seat.old.name }
+        ensures same { self.new ≡ self.old }
+        ensures seat { (seat.new.board ≡ N.board) × (seat.new.slot ≡ seat.old.slot) }
+        ensures named { 0 < seat.old.slot
+            → (seat.new.asks ≡ seat.old.asks) × (seat.new.name ≡ seat.old.name) }
+        ensures book { seat.new.book ≡ self.old }
+        ensures later { Extends seat.new.book seat.old.book }
+        ensures number { result ≡ length self.old.changes }
+    {
+        let place = seat.slot();
+        if place == 0 {
+            return self.meet(board, seat);
+        }
+        meet_in(board, &mut self.slots, place as usize, seat)
+    }
+
+    /// The entries that a predicate holds of, by rising node, after the book that the seat then
+    /// knows. Refused: `NoMemory`.
+    pub fn fetch(
+        &mut self,
+        board: &Board<Identity>,
+        seat: &mut Seat<Identity>,
+        predicate: &Predicate,
+    ) -> Result<Found, Refusal>
+        requires { (board.now ≡ N.board) × (seat.old.board ≡ N.board) × (seat.old.slot ≡ 0) }
+        ensures same { self.new ≡ self.old }
+        ensures seat { (seat.new.board ≡ N.board) × (seat.new.slot ≡ 0) }
+        ensures later { Extends seat.new.book seat.old.book }
+        ensures at { IfOk result (λ found. found.at ≡ length seat.new.book.changes) }
+        ensures entries { IfOk result (λ found.
+            found.entries.items ≡ result_of predicate.now (state_of seat.new.book)) }
+
+        // Only memory can be wanting.
+        ensures refused { IsRefusedBy result None }
+    {
+        let at = self.meet(board, seat);
+        let entries = self.volume.fetch(predicate)?;
+        Ok(Found { at, entries })
+    }
+
+    /// The node that has a place, after the book that the seat then knows.
+    ///
+    /// Refused as `Volume::find` is.
+    pub fn find(
+        &mut self,
+        board: &Board<Identity>,
+        seat: &mut Seat<Identity>,
+        dir: u64,
+        name: &Name,
+    ) -> Result<u64, Refusal>
+        requires { (board.now ≡ N.board) × (seat.old.board ≡ N.board) × (seat.old.slot ≡ 0) }
+        ensures same { self.new ≡ self.old }
+        ensures seat { (seat.new.board ≡ N.board) × (seat.new.slot ≡ 0) }
+        ensures later { Extends seat.new.book seat.old.book }
+        ensures value { IfOk result (λ node.
+            node_in (state_of seat.new.book).records dir name.now ≡ Some node) }
+        ensures ok { OnOk result
+            (first_refusal (find_refusals (state_of seat.new.book) dir name.now) ≡ None) }
+        ensures err { IfErr result (λ e.
+            first_refusal (find_refusals (state_of seat.new.book) dir name.now) ≡ Some e) }
+    {
+        self.meet(board, seat);
+        self.volume.find(dir, name)
+    }
+
+    /// All of the entry of a node, copied, after the book that the seat then knows.
+    ///
+    /// Refused as `Volume::listing` is.
+    pub fn listing(
+        &mut self,
+        board: &Board<Identity>,
+        seat: &mut Seat<Identity>,
+        node: u64,
+    ) -> Result<Listing, Refusal>
+        requires { (board.now ≡ N.board) × (seat.old.board ≡ N.board) × (seat.old.slot ≡ 0) }
+        ensures same { self.new ≡ self.old }
+        ensures seat { (seat.new.board ≡ N.board) × (seat.new.slot ≡ 0) }
+        ensures later { Extends seat.new.book seat.old.book }
+        ensures value { IfOk result (λ listing.
+            record_at (state_of seat.new.book) node ≡ Some (listed listing)) }
+        ensures refused { IsRefusedBy result
+            (first_refusal (entry_refusals (state_of seat.new.book) node)) }
+    {
+        self.meet(board, seat);
+        self.volume.listing(node)
+    }
+
+    /// Makes a change, and tells the subscriptions. The seat then knows the book.
+    ///
+    /// First each subscription whose reader asked ends as hung up. Refused as the volume refuses
+    /// it, or `NoMemory`; then the book stays, but the ports are still filled, as the code of
+    /// `change_in` says.
+    pub fn apply<R: Wait>(
+        &mut self,
+        rt: &R,
+        board: &Board<Identity>,
+        seat: &mut Seat<Identity>,
+        change: &Change,
+    ) -> Result<Applied, Refusal>
+        requires { (board.now ≡ N.board) × (seat.old.board ≡ N.board) × (seat.old.slot ≡ 0) }
+        ensures seat { (seat.new.board ≡ N.board) × (seat.new.slot ≡ 0) }
+        ensures book { seat.new.book ≡ self.new }
+        ensures grown { OnOk result (self.new ≡ grown self.old (change.now ∷ [])) }
+        ensures same { OnErr result (self.new ≡ self.old) }
+        ensures later { Extends seat.new.book seat.old.book }
+        ensures ok { IfOk result (λ a. IsAdded seat.old.book seat.new.book a change.now) }
+        ensures err { IfErr result (λ e.
+            e ≡ unwrap_or (refused (state_of seat.new.book) change.now) NoMemory) }
+    {
+        self.meet(board, seat);
+        let outcome = change_in(rt, board, &mut self.slots, &mut self.volume, change);
+        self.meet(board, seat);
+        outcome
+    }
+
+    /// Opens a live query over the book that the seat then knows.
+    ///
+    /// `port` is how many parcels its port holds, 1 to 1,024, and `backlog` how many messages may
+    /// be held before it, at most 65,536; `moved` asks for entries that moved too. Refused, the
+    /// first that fits: `BadPort`, `BadBacklog`, `NoSlot` where 64 are open, `Exhausted` where as
+    /// many were opened as the volume takes changes; or else `NoMemory`. Which of the last three it
+    /// is, and that a refused opening isn't counted, are clauses of `open_in`.
+    pub fn open(
+        &mut self,
+        board: &Board<Identity>,
+        seat: &mut Seat<Identity>,
+        predicate: &Predicate,
+        port: u64,
+        backlog: u64,
+        moved: bool,
+    ) -> Result<Opened, Refusal>
+        requires { (board.now ≡ N.board) × (seat.old.board ≡ N.board) × (seat.old.slot ≡ 0) }
+        ensures same { self.new ≡ self.old }
+        ensures seat { (seat.new.board ≡ N.board) × (seat.new.slot ≡ 0) }
+        ensures later { Extends seat.new.book seat.old.book }
+        ensures book { seat.new.book ≡ self.new }
+        ensures opened { IfOk result (λ o.
+            IsOpened o N.board seat.new.book predicate.now moved port backlog) }
+
+        // Its numbers refuse it first, and just by their bounds.
+        ensures refused { IfSome (opening_refusal port backlog) (λ e. result ≡ Err e) }
+        ensures others { IfNone (opening_refusal port backlog) (IfErr result IsOpeningRefused) }
+    {
+        self.meet(board, seat);
+        let asked = Asked {
+            predicate,
+            port,
+            backlog,
+            moved,
+        };
+        open_in(self.alloc, board, &mut self.slots, &self.volume, &asked)
+    }
+
+    /// How far a reader's subscription is. Its port is filled, and the seat knows the book.
+    ///
+    /// It ends as hung up first, where its reader asked. It takes no memory.
+    pub fn sync<R: Wait>(
+        &mut self,
+        rt: &R,
+        board: &Board<Identity>,
+        place: u64,
+        seat: &mut Seat<Identity>,
+        reading: &mut Reading,
+    ) -> Progress
+        requires board { (board.now ≡ N.board) × (seat.old.board ≡ N.board) }
+        requires place { (0 < place) × (place < 65) }
+        requires seat { (seat.old.slot ≡ place)
+            × IsSomeAnd seat.old.name (λ t. IdentityFits t reading.old.port) }
+        ensures same { self.new ≡ self.old }
+        ensures book { seat.new.book ≡ self.old }
+        ensures progress { (s : SubscriptionOf)
+            × ShowsProgress s seat.old seat.new reading.old reading.new result }
+    {
+        sync_in(rt, board, &mut self.slots, place as usize, seat, reading)
+    }
+
+    /// Closes a reader's subscription, and answers the number of changes then.
+    ///
+    /// `None` where it had ended before. The seat knows the book, and its name tells what the
+    /// first close answered. It takes no memory.
+    pub fn close<R: Wait>(
+        &mut self,
+        rt: &R,
+        board: &Board<Identity>,
+        place: u64,
+        seat: &mut Seat<Identity>,
+    ) -> Option<u64>
+        requires board { (board.now ≡ N.board) × (seat.old.board ≡ N.board) }
+        requires place { (0 < place) × (place < 65) }
+        requires seat { (seat.old.slot ≡ place) × IsSome seat.old.name }
+        ensures same { self.new ≡ self.old }
+        ensures number { IfSome result (λ n. n ≡ length seat.new.book.changes) }
+        ensures closes { IfSome result (λ _. (name_or seat.old.name).shut ≡ Never) }
+        ensures seat { seat.new ≡ record seat.old { book = self.old; name = seat.new.name } }
+        ensures later { Extends seat.new.book seat.old.book }
+        ensures name { seat.new.name ≡ Some (record (name_or seat.old.name) {
+          shut = first_close (name_or seat.old.name).shut (is_some result)
+              (length seat.new.book.changes);
+        }) }
+    {
+        close_in(rt, board, &mut self.slots, place as usize, seat)
+    }
+
+    /// Frees a slot, whose seat comes back; `asked` tells whether its reader asked for the end.
+    ///
+    /// It takes no memory.
+    pub fn free(&mut self, board: &Board<Identity>, place: u64, seat: Seat<Identity>, asked: bool)
+        requires board { (board.now ≡ N.board) × (seat.board ≡ N.board) }
+        requires place { (0 < place) × (place < 65) }
+        requires seat { (seat.slot ≡ place)
+            × IsSomeAnd seat.name (λ t. seat.asks ≡ asks_after t.asks asked) }
+        ensures same { self.new ≡ self.old }
+        ensures later { Extends self.old seat.book }
+    {
+        free_in(board, &mut self.slots, place as usize, seat, asked);
+    }
+
+    /// The keeper and the volume.
+    pub fn into_parts(self) -> (Keeper<Identity>, Volume)
+        ensures board { result.0.board ≡ N.board }
+        ensures book { result.0.book ≡ self }
+        ensures state { result.1 ≡ state_of self }
+    {
+        let Locked {
+            slots,
+            volume,
+            seats: _,
+            alloc: _,
+            of: _,
+        } = self;
+        let Slots {
+            keeper,
+            subscriptions: _,
+            taken: _,
+            openings: _,
+        } = slots;
+        (keeper, volume)
+    }
+}

@@ -1,0 +1,111 @@
+-- A change, told to one slot after another.
+use Rattle.std.proofs.Common.{◌≡◌, ◌≢◌, ⊎_elim, ℕ, ◌+◌, ◌<◌, ◌≤◌, true, false, true≢false, List, length, Option, None, sym, ap, ◌∙◌, subst, arith, length-set, slice_set}
+use Rattle.std.specs.Prelude.{IsSome, is_some}
+use mathlib.Core.Logic.{dite}
+use native.Mathlib.Decide.{ℕ_discrete}
+use Rattle.lq_volume.specs.declared.change.Change.{Change}
+use Rattle.lq_volume.specs.Book.{state_of}
+use Rattle.lq_board.specs.Slot.{slot_at}
+use Rattle.lq_board.specs.Token.{KeeperToken}
+use Rattle.lq_server_subscription.specs.declared.identity.Identity.{Identity}
+use Rattle.lq_server_subscription.specs.declared.subscription.Subscription.{Subscription}
+use Rattle.lq_server_slots.specs.Slots.{SlotStands, asks_of, slot_in, place_at, AllStand, IsListed, IsReadyAt, AllReady, before_of, PartlyTold}
+use Rattle.lq_server_slots.proofs.SlotLemmas.{in_here, in_else}
+use Rattle.lq_server_slots.proofs.TakenLemmas.{free_or_taken, some_ap, listed-set}
+
+-- none was told yet
+pub partly_told-first : (keeper : KeeperToken Identity) (slots : List (Option Subscription))
+    (taken : List ℕ) (openings : ℕ) (c : Change)
+    → AllStand keeper slots openings (before_of keeper.book) → IsListed taken slots
+    → AllReady slots (state_of (before_of keeper.book)) c
+    → PartlyTold keeper slots taken openings c 0
+partly_told-first keeper slots taken openings c h l ready =
+    record {
+      known = h.known;
+      wide = h.wide;
+      listed = l;
+      below = λ j lt. absurd (omega arith);
+      from = λ j le lt. (
+        h.each (place_at taken j) (l.low j lt) (l.high j lt),
+        ready (place_at taken j)
+            (l.low j lt) (l.high j lt),
+      );
+      free = λ k pos within none.
+          subst (λ (z : Option Subscription). SlotStands z (slot_at keeper.slots k)
+          (before_of keeper.book)) none (h.each k pos within);
+      asks = h.asks;
+    }
+
+-- one more was told
+pub partly_told-step : (keeper : KeeperToken Identity) (slots : List (Option Subscription))
+    (taken : List ℕ) (openings : ℕ) (c : Change) (told place : ℕ) (o : Option Subscription)
+    → PartlyTold keeper slots taken openings c told → told < length taken
+    → place ≡ place_at taken told → SlotStands o (slot_at keeper.slots place) keeper.book
+    → asks_of o (slot_at keeper.slots place)
+    ≤ asks_of (slot_in slots place) (slot_at keeper.slots place)
+    → is_some o ≡ is_some (slot_in slots place)
+    → PartlyTold keeper (slice_set slots place o) taken openings c (told + 1)
+partly_told-step keeper slots taken openings c told place o m lt is fits asks kept =
+    let l = m.listed in
+    let wide = m.wide in
+    let low : 0 < place = subst (λ (p : ℕ). 0 < p) (sym is) (l.low told lt) in
+    let high : place < 65 = subst (λ (p : ℕ). p < 65) (sym is) (l.high told lt) in
+    let here : slot_in (slice_set slots place o) place ≡ o = in_here slots place o (omega arith) in
+    let apart : (j : ℕ) → j < length taken → j ≢ told → place_at taken j ≢ place =
+    λ j within ne q. ne (l.once j told within lt (q ∙ is)) in
+    record {
+      known = m.known;
+      wide = length-set slots place o ∙ m.wide;
+      listed = listed-set taken slots place o l wide high kept;
+      below = λ j under within. dite (ℕ_discrete j told)
+          (λ (e : j ≡ told). subst (λ (p : ℕ). SlotStands (slot_in (slice_set slots place o) p)
+          (slot_at keeper.slots p) keeper.book) (is ∙ ap (place_at taken) (sym e))
+          (subst (λ (z : Option Subscription). SlotStands z (slot_at keeper.slots place)
+          keeper.book) (sym here) fits))
+          (λ (ne : j ≢ told). subst (λ (z : Option Subscription). SlotStands z
+          (slot_at keeper.slots (place_at taken j)) keeper.book)
+          (sym (in_else slots place (place_at taken j) o (apart j within ne)))
+          (m.below j (omega (arith, ne)) within));
+      from = λ j le within.
+          subst (λ (z : Option Subscription). SlotStands z (slot_at keeper.slots (place_at taken j))
+          (before_of keeper.book) × IsReadyAt z (state_of (before_of keeper.book)) c)
+          (sym (in_else slots place (place_at taken j) o
+          (apart j within (λ e. absurd (omega arith))))) (m.from j (omega arith) within);
+      free = λ k pos within none. dite (ℕ_discrete k place)
+          (λ (e : k ≡ place).
+          let gone : is_some o ≡ false =
+          some_ap _ _ (sym here ∙ ap (slot_in (slice_set slots place o)) (sym e) ∙ none) in
+          let some : is_some (slot_in slots place) ≡ true =
+          subst (λ (p : ℕ). is_some (slot_in slots p) ≡ true) (sym is) (l.some told lt) in
+          absurd (true≢false (sym some ∙ sym kept ∙ gone)))
+          (λ (ne : k ≢ place). m.free k pos within (sym (in_else slots place k o ne) ∙ none));
+      asks = λ j pos within. dite (ℕ_discrete j place)
+          (λ (e : j ≡ place). subst (λ (i : ℕ). asks_of (slot_in (slice_set slots place o) i)
+          (slot_at keeper.slots i) ≤ openings) (sym e)
+          (subst (λ (z : Option Subscription). asks_of z (slot_at keeper.slots place) ≤ openings)
+          (sym here) (let was = m.asks place low high in omega arith)))
+          (λ (ne : j ≢ place). subst (λ (z : Option Subscription). asks_of z
+          (slot_at keeper.slots j) ≤ openings) (sym (in_else slots place j o ne))
+          (m.asks j pos within));
+    }
+
+-- all were told
+pub partly_told-last : (keeper : KeeperToken Identity) (slots : List (Option Subscription))
+    (taken : List ℕ) (openings : ℕ) (c : Change) (told : ℕ) → length taken ≤ told
+    → PartlyTold keeper slots taken openings c told → AllStand keeper slots openings keeper.book
+partly_told-last keeper slots taken openings c told most m =
+    record {
+      known = m.known;
+      wide = m.wide;
+      each = λ k pos within.
+          ⊎_elim
+          (λ (none : slot_in slots k ≡ None). subst (λ (z : Option Subscription). SlotStands z
+          (slot_at keeper.slots k) keeper.book) (sym none) (m.free k pos within none))
+          (λ (some : IsSome (slot_in slots k)).
+          let i = m.listed.each k pos within some in
+          let lt = i.1 in
+          subst (λ (p : ℕ). SlotStands (slot_in slots p) (slot_at keeper.slots p) keeper.book) i.2
+          (m.below i.0 (omega arith) lt))
+          (free_or_taken (slot_in slots k));
+      asks = m.asks;
+    }

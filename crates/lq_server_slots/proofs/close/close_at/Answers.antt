@@ -1,0 +1,67 @@
+use Rattle.std.proofs.Common.{◌∙◌, ℕ, true, false, length, ap, subst}
+use Rattle.lq_board.specs.Slot.{slot_at}
+use Rattle.lq_board.specs.Token.{SeatToken}
+use Rattle.lq_server_subscription.specs.declared.identity.Identity.{Identity}
+use Rattle.lq_server_slots.specs.Slots.{IsTaken}
+use Rattle.lq_server_slots.proofs.SyncLemmas.{only_then, seat_then, close_then}
+use Rattle.lq_server_slots.proofs.close.close_at.Goals as goal
+
+pub returns-then-close_slot-clause-book : goal.returns-then-close_slot-clause-book
+returns-then-close_slot-clause-book g c =
+    c.close_slot.ensures.book ∙ c.meet_same-number.ensures.book
+
+pub returns-then-close_slot-clause-only : goal.returns-then-close_slot-clause-only
+returns-then-close_slot-clause-only g c =
+    let m = c.meet_same-number.ensures in
+    only_then _ _ _ _ _ m.only c.close_slot.ensures.only
+    (ap (λ (s : SeatToken Identity). s.slot) m.seat)
+
+pub returns-then-close_slot-clause-fits : goal.returns-then-close_slot-clause-fits
+returns-then-close_slot-clause-fits g c =
+    let f = c.close_slot.new in
+    subst (λ (k : ℕ). IsTaken f.slot (slot_at f.keeper.slots k) f.keeper.book)
+    (ap (λ (s : SeatToken Identity). s.slot) c.meet_same-number.ensures.seat)
+    c.close_slot.ensures.taken
+
+pub returns-then-close_slot-clause-seat : goal.returns-then-close_slot-clause-seat
+returns-then-close_slot-clause-seat g c =
+    let m = c.meet_same-number.ensures in
+    seat_then c.args.seat.now c.meet_same-number.new.seat c.close_slot.new.seat _ _ m.seat m.book
+    c.close_slot.ensures.seat
+
+pub returns-then-close_slot-clause-name : goal.returns-then-close_slot-clause-name
+returns-then-close_slot-clause-name g c =
+    let m = c.meet_same-number.ensures in
+    close_then c.close_slot.new.seat.name c.meet_same-number.new.seat.name c.args.seat.now.name
+    true c.meet_same-number.result (length c.args.keeper.now.book.changes)
+    (ap (λ (s : SeatToken Identity). s.name) m.seat) m.number c.if-close_slot.ensures.name
+
+pub returns-else-close_slot-clause-book : goal.returns-else-close_slot-clause-book
+returns-else-close_slot-clause-book g c =
+    c.close_slot.ensures.book ∙ c.meet_same-number.ensures.book
+
+pub returns-else-close_slot-clause-only : goal.returns-else-close_slot-clause-only
+returns-else-close_slot-clause-only g c =
+    let m = c.meet_same-number.ensures in
+    only_then _ _ _ _ _ m.only c.close_slot.ensures.only
+    (ap (λ (s : SeatToken Identity). s.slot) m.seat)
+
+pub returns-else-close_slot-clause-fits : goal.returns-else-close_slot-clause-fits
+returns-else-close_slot-clause-fits g c =
+    let f = c.close_slot.new in
+    subst (λ (k : ℕ). IsTaken f.slot (slot_at f.keeper.slots k) f.keeper.book)
+    (ap (λ (s : SeatToken Identity). s.slot) c.meet_same-number.ensures.seat)
+    c.close_slot.ensures.taken
+
+pub returns-else-close_slot-clause-seat : goal.returns-else-close_slot-clause-seat
+returns-else-close_slot-clause-seat g c =
+    let m = c.meet_same-number.ensures in
+    seat_then c.args.seat.now c.meet_same-number.new.seat c.close_slot.new.seat _ _ m.seat m.book
+    c.close_slot.ensures.seat
+
+pub returns-else-close_slot-clause-name : goal.returns-else-close_slot-clause-name
+returns-else-close_slot-clause-name g c =
+    let m = c.meet_same-number.ensures in
+    close_then c.close_slot.new.seat.name c.meet_same-number.new.seat.name c.args.seat.now.name
+    false c.meet_same-number.result (length c.args.keeper.now.book.changes)
+    (ap (λ (s : SeatToken Identity). s.name) m.seat) m.number c.if-close_slot.ensures.name

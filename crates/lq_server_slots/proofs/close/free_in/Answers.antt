@@ -1,0 +1,41 @@
+use Rattle.std.proofs.Common.{◌≤◌, ◌∙◌, Option, None, sym, subst, slice_set, arith}
+use Rattle.std.proofs.lemmas.List.{get_or_read}
+use Rattle.lq_board.specs.Slot.{slot_at}
+use Rattle.lq_server_subscription.specs.declared.subscription.Subscription.{Subscription}
+use Rattle.lq_server_slots.specs.Slots.{SlotStands, IsListed, asks_of, slot_in}
+use Rattle.lq_server_slots.proofs.SlotLemmas.{all_stand-step, in_here}
+use Rattle.lq_server_slots.proofs.TakenLemmas.{listed-drop}
+use Rattle.lq_server_slots.proofs.close.free_in.Goals as goal
+
+pub returns-clause-holding : goal.returns-clause-holding
+returns-clause-holding c =
+    let was = c.args.slots.now in
+    let h = c.requires.holding.0 in
+    let f = c.free_at.ensures in
+    let known = c.free_at.new.keeper in
+    let items = was.subscriptions.items in
+    let place = c.args.place in
+    let slot = c.args.seat.slot in
+    let wide = h.wide in
+    let within = c.requires.place.1 in
+    let read = get_or_read items place _ (omega arith) c.index_mut.ensures.value None in
+    let asks = subst (λ (z : Option Subscription). (slot_at known.slots slot).asks ≤ asks_of z
+    (slot_at was.keeper.slots slot)) read f.asks in (
+      all_stand-step was.keeper known items slot place was.openings c.free_at.new.slot
+          was.keeper.book known.book h c.requires.place.0 within c.requires.seat.0 f.book f.only
+          (subst (λ (z : Option Subscription). SlotStands z (slot_at known.slots slot) known.book)
+          (sym f.free) f.back)
+          (subst (λ (z : Option Subscription). asks_of z (slot_at known.slots slot) ≤ asks_of
+          (slot_in items place) (slot_at was.keeper.slots slot)) (sym f.free) asks),
+      subst (λ (z : Option Subscription). IsListed c.take_out.new.taken.items
+          (slice_set items place z)) (sym f.free)
+          (listed-drop was.taken.items c.take_out.new.taken.items items place c.requires.holding.1
+          wide c.take_out.ensures),
+    )
+
+pub returns-clause-freed : goal.returns-clause-freed
+returns-clause-freed c =
+    let wide = c.requires.holding.0.wide in
+    let within = c.requires.place.1 in
+    in_here c.args.slots.now.subscriptions.items c.args.place c.free_at.new.slot (omega arith)
+    ∙ c.free_at.ensures.free

@@ -1,0 +1,39 @@
+use Rattle.std.proofs.Common.{◌≡◌, ◌+◌, ◌++◌, List, [], ◌∷◌, ℕ, refl, sym, ap, ◌∙◌, subst, slice_set, Some}
+use Rattle.lq_volume.specs.Book.{Book}
+use Rattle.lq_board.specs.Token.{KeeperToken}
+use Rattle.lq_server_subscription.specs.declared.identity.Identity.{Identity}
+use Rattle.lq_server_subscription.specs.declared.subscription.Subscription.{Subscription}
+use Rattle.lq_server_slots.specs.Slots.{AllStand, IsListed}
+use Rattle.lq_server_slots.proofs.TakenLemmas.{listed-add}
+use Rattle.lq_server_slots.proofs.OpenLemmas.{settled}
+use Rattle.lq_server_slots.proofs.open.settle.Goals as goal
+
+pub returns-clause-holding : goal.returns-clause-holding
+returns-clause-holding c =
+    let b = c.requires.begun in
+    let was = c.args.slots.now in
+    let h = c.requires.holding.0 in
+    let place = c.args.place in
+    let s : Subscription = record {
+      sub = c.args.slot.sub;
+      input = c.args.slot.input;
+      places =
+          c.args.slot.places;
+      asks = c.asks-asks.result;
+      shut = c.args.slot.shut;
+    } in
+    let book : c.sit-seat.new.keeper.book ≡ was.keeper.book = c.sit-seat.ensures.book
+    ∙ ap (λ (k : KeeperToken Identity). k.book) c.asks-asks.ensures.keeper in (
+      subst (λ (x : Book). AllStand c.sit-seat.new.keeper (slice_set was.subscriptions.items place
+          (Some s)) (was.openings + 1) x) (sym book)
+          (settled was.keeper c.asks-asks.new.keeper c.sit-seat.new.keeper was.subscriptions.items
+          place was.openings c.asks-asks.result s was.keeper.book h c.requires.place.0
+          c.requires.place.1 c.requires.free
+          (ap (λ (k : KeeperToken Identity). k.slots) c.asks-asks.ensures.keeper)
+          c.asks-asks.ensures.idle c.sit-seat.ensures.slots refl b.stands b.messages b.live),
+      subst (λ (t : List ℕ). IsListed t (slice_set was.subscriptions.items place (Some s)))
+          (sym (c.push_reserved.ensures.items
+          ∙ ap (λ (t : List ℕ). t ++ place ∷ []) c.in_ok-reserve.ensures.items))
+          (listed-add was.taken.items was.subscriptions.items place s c.requires.holding.1 h.wide
+          c.requires.place.0 c.requires.place.1 c.requires.free),
+    )

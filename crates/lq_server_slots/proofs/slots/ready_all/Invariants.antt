@@ -1,0 +1,14 @@
+use Rattle.std.proofs.Common.{◌≡◌, ℕ, ◌<◌, length}
+use Rattle.lq_server_slots.specs.Slots.{SlotsStand, IsReadyAt, slot_in, place_at}
+use Rattle.lq_server_slots.proofs.slots.ready_all.Given as goal
+
+abbrev pub invariant-loop-index : goal.invariant-loop-index
+invariant-loop-index l =
+    (l.slots.keeper.board ≡ l.fn.slots.keeper.board)
+    × (l.slots.keeper.book ≡ l.fn.slots.keeper.book)
+    × (l.slots.openings ≡ l.fn.slots.openings)
+    × (length l.slots.taken.items ≡ l.index-end)
+    × SlotsStand l.slots l.slots.keeper.book
+    × ((j : ℕ) → j < l.index → j < length l.slots.taken.items
+    → IsReadyAt (slot_in l.slots.subscriptions.items (place_at l.slots.taken.items j))
+    l.planned.before l.planned.change)

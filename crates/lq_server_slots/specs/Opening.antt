@@ -1,0 +1,111 @@
+-- What an opening makes, and the name that goes with a slot's seat.
+use Rattle.std.specs.Prelude.{◌≡◌, ◌⊎◌, ℕ, ◌<◌, ◌+◌, Bool, true, false, [], length, Option, Some, None, IsSomeAnd}
+use base.Stored.{gnil}
+use Rattle.atomic_table.specs.Seated.{TableId}
+use Rattle.lq_value.specs.declared.refusal.Refusal.{Refusal}
+use Rattle.lq_value.specs.declared.refusal.Refusal.TheVariants.{NoSlot, Exhausted, NoMemory}
+use Rattle.lq_value.specs.Refusal.{first_refusal}
+use Rattle.lq_predicate_formula.specs.Query.{Query, And, no_more}
+use Rattle.lq_volume.specs.Book.{Book, state_of}
+use Rattle.lq_volume.specs.Result.{result_of}
+use Rattle.lq_update.specs.Fold.{opened_at}
+use Rattle.lq_desk_world.specs.Events.{size_refusals}
+use Rattle.lq_port.specs.End.{End}
+use Rattle.lq_server_subscription.specs.declared.identity.Identity.{Identity}
+use Rattle.lq_server_subscription.specs.declared.identity.Shut.TheVariants.{Never}
+use Rattle.lq_server_subscription.specs.declared.delivery.Delivery.{Delivery}
+use Rattle.lq_server_subscription.specs.declared.delivery.Opening.{Opening}
+use Rattle.lq_server_subscription.specs.declared.subscription.Subscription.{Subscription}
+use Rattle.lq_server_subscription.specs.Rule.{floor_of, query_of}
+use Rattle.lq_server_subscription.specs.Identity.{port_id}
+use Rattle.lq_server_subscription.specs.Reading.{ReadingHold}
+use Rattle.lq_server_subscription.specs.Standing.{StandsAt}
+use Rattle.lq_server_slots.specs.declared.open.Opened.{Opened}
+
+-- a name is that of a port
+pub record IdentityFits (t : Identity) (e : End Delivery Opening) : Type 0 where
+  pub query : t.query ≡ query_of e.floor
+  pub moved : t.moved ≡ e.floor.moved
+  pub opened : t.opened ≡ e.floor.opened
+  pub places : t.places ≡ e.places
+  pub port : t.port ≡ port_id e.port
+
+-- how often a seat has asked, once it asked or not
+abbrev pub asks_after : ℕ → Bool → ℕ
+asks_after n false = n
+asks_after n true = n + 1
+
+-- a subscription that was just made, and its end that reads
+pub record IsBegun (s : Subscription) (r : ReadingHold) (book : Book) (q : Query) (mv : Bool)
+    (port backlog : ℕ) : Type 0 where
+  pub stands : StandsAt s book
+  pub messages : s.sub.held.messages ≡ []
+  pub live : s.sub.held.mark ≡ None
+  pub query : s.sub.held.query ≡ q
+  pub moved : s.sub.held.moved ≡ mv
+  pub opened : s.sub.held.opened ≡ length book.changes
+  pub backlog_is : s.sub.held.backlog ≡ backlog
+  pub places : s.places ≡ port
+  pub shut : s.shut ≡ Never
+  pub end : r.port ≡ s.input
+  pub floor : floor_of r.port.floor ≡ book
+  pub taken : r.port.taken ≡ []
+  pub ahead : r.port.ahead ≡ []
+  pub hand : r.hand ≡ None
+  pub result : r.result ≡ opened_at (length book.changes) (result_of q (state_of book))
+
+-- what goes with the seat of a subscription that was just opened
+pub record IsNamed (t : Identity) (o : Opened) (backlog : ℕ) : Type 0 where
+  pub fits : IdentityFits t o.reading.port
+  pub asks : o.seat.asks ≡ t.asks
+  pub few : t.asks < 1000000000000
+  pub backlog_is : t.backlog ≡ backlog
+  pub shut : t.shut ≡ Never
+
+-- a subscription that was just opened over this book: nothing was read, and the result is the
+-- query's
+pub record IsOpened (o : Opened) (board : TableId) (book : Book) (q : Query) (mv : Bool)
+    (port backlog : ℕ) : Type 0 where
+  pub low : 0 < o.slot
+  pub high : o.slot < 65
+  pub slot_is : o.seat.slot ≡ o.slot
+  pub board_is : o.seat.board ≡ board
+  pub seat : o.seat.book ≡ book
+  pub named : IsSomeAnd o.seat.name (λ t. IsNamed t o backlog)
+  pub floor : floor_of o.reading.port.floor ≡ book
+  pub query : query_of o.reading.port.floor ≡ q
+  pub moved : o.reading.port.floor.moved ≡ mv
+  pub opened : o.reading.port.floor.opened ≡ length book.changes
+  pub places : o.reading.port.places ≡ port
+  pub taken : o.reading.port.taken ≡ []
+  pub ahead : o.reading.port.ahead ≡ []
+  pub hand : o.reading.hand ≡ None
+  pub result : o.reading.result ≡ opened_at (length book.changes) (result_of q (state_of book))
+
+-- why an opening is refused by its numbers alone: the first that fits
+abbrev pub opening_refusal : ℕ → ℕ → Option Refusal
+opening_refusal port backlog = first_refusal (size_refusals port backlog)
+
+-- what else may refuse one: no slot is free, as many openings were made as the volume takes
+-- changes, or memory
+abbrev pub IsOpeningRefused : Refusal → Type 0
+IsOpeningRefused e = (e ≡ NoSlot) ⊎ (e ≡ Exhausted) ⊎ (e ≡ NoMemory)
+
+-- the name of no subscription
+abbrev pub no_identity : Identity
+no_identity = record {
+  query = And no_more;
+  moved = false;
+  opened = 0;
+  places = 0;
+  backlog =
+      0;
+  asks = 0;
+  shut = Never;
+  port = gnil;
+}
+
+-- the name that goes with a seat, where it has one
+abbrev pub name_or : Option Identity → Identity
+name_or (Some t) = t
+name_or None = no_identity

@@ -1,0 +1,138 @@
+-- What the lock has of the slots, beside what the keeper knows of them.
+use Rattle.std.specs.Prelude.{◌≡◌, ◌≢◌, ℕ, ◌+◌, ◌<◌, ◌≤◌, ◌-◌, true, false, List, ◌∷◌, [], length, take, drop, Bool, Option, Some, None, IsSome, slice_index, slice_index_or}
+use Rattle.std.specs.List.{remove}
+use Rattle.lq_volume.specs.State.{State}
+use Rattle.lq_volume.specs.declared.change.Change.{Change}
+use Rattle.lq_volume.specs.Change.{IsLawful}
+use Rattle.lq_volume.specs.Book.{Book, grown, state_of}
+use Rattle.lq_board.specs.declared.views.Slot.{Slot as Known}
+use Rattle.lq_board.specs.Book.{IsFullBook}
+use Rattle.lq_board.specs.Slot.{slot_at}
+use Rattle.lq_board.specs.Token.{KeeperToken}
+use Rattle.lq_server_subscription.specs.declared.identity.Identity.{Identity}
+use Rattle.lq_server_subscription.specs.declared.subscription.Subscription.{Subscription}
+use Rattle.lq_server_subscription.specs.Marking.{hung_mark}
+use Rattle.lq_server_subscription.specs.Identity.{identity_of}
+use Rattle.lq_server_subscription.specs.Standing.{StandsAt, IsFilled, IsReady}
+use Rattle.lq_server_slots.specs.declared.slots.Slots.{Slots}
+
+-- a taken slot: what stands in it, and what the keeper knows of its seat
+pub record IsTaken (s : Subscription) (p : Known Identity) (book : Book) : Type 0 where
+  pub stands : StandsAt s book
+  pub filled : IsFilled s
+  pub out : p.out ≡ true
+  pub name : p.name ≡ Some (identity_of s)
+  pub hung : hung_mark s.sub.held.mark → s.asks < p.asks
+
+-- a slot that may be free
+abbrev pub SlotStands : Option Subscription → Known Identity → Book → Type 0
+SlotStands None p book = p.out ≡ false
+SlotStands (Some s) p book = IsTaken s p book
+
+-- how often its seats have asked, at most, once that which is out comes back
+abbrev pub asks_of : Option Subscription → Known Identity → ℕ
+asks_of None p = p.asks
+asks_of (Some s) p = s.asks + 1
+
+-- what is in a slot, 1 to 64
+abbrev pub slot_in : List (Option Subscription) → ℕ → Option Subscription
+slot_in slots k = slice_index_or slots k None
+
+-- all slots over a book
+pub record AllStand (keeper : KeeperToken Identity) (slots : List (Option Subscription))
+    (openings : ℕ) (book : Book) : Type 0 where
+  pub known : length keeper.slots ≡ 65
+  pub wide : length slots ≡ 65
+  pub each : (k : ℕ) → 0 < k → k < 65 → SlotStands (slot_in slots k) (slot_at keeper.slots k) book
+  pub asks : (k : ℕ) → 0 < k → k < 65
+      → asks_of (slot_in slots k) (slot_at keeper.slots k) ≤ openings
+
+-- the place that a list of places has at an index
+abbrev pub place_at : List ℕ → ℕ → ℕ
+place_at taken i = slice_index taken i
+
+-- the list has this place
+abbrev pub IsPlaceIn : List ℕ → ℕ → Type 0
+IsPlaceIn taken k = (i : ℕ) × (i < length taken) × (place_at taken i ≡ k)
+
+-- the list has the places of the taken slots, each once, and no others
+pub record IsListed (taken : List ℕ) (slots : List (Option Subscription)) : Type 0 where
+  pub low : (i : ℕ) → i < length taken → 0 < place_at taken i
+  pub high : (i : ℕ) → i < length taken → place_at taken i < 65
+  pub once : (i j : ℕ) → i < length taken → j < length taken
+      → place_at taken i ≡ place_at taken j → i ≡ j
+  pub some : (i : ℕ) → i < length taken → IsSome (slot_in slots (place_at taken i))
+  pub each : (k : ℕ) → 0 < k → k < 65 → IsSome (slot_in slots k) → IsPlaceIn taken k
+
+-- the place was taken out of the list, and the rest stays in order
+pub record IsDropped (old new : List ℕ) (k : ℕ) : Type 0 where
+  pub index : ℕ
+  pub within : index < length old
+  pub place : place_at old index ≡ k
+  pub rest : new ≡ remove old index
+
+-- all slots stand over a book, and those that are taken are listed
+abbrev pub SlotsStand : Slots → Book → Type 0
+SlotsStand s book =
+    AllStand s.keeper s.subscriptions.items s.openings book
+    × IsListed s.taken.items s.subscriptions.items
+
+-- what the keeper knows, what is in the slots, which are taken, and how often one was opened
+pub record AreUnchanged (old new : Slots) : Type 0 where
+  pub keeper : new.keeper ≡ old.keeper
+  pub subscriptions : new.subscriptions ≡ old.subscriptions
+  pub taken : new.taken.items ≡ old.taken.items
+  pub openings : new.openings ≡ old.openings
+
+-- what is known of the other slots stays
+pub record OnlyAt (old new : List (Known Identity)) (place : ℕ) : Type 0 where
+  pub wide : length new ≡ length old
+  pub others : (k : ℕ) → k ≢ place → slot_at new k ≡ slot_at old k
+
+-- each of these slots is taken
+abbrev pub all_taken : List (Option Subscription) → Bool
+all_taken [] = true
+all_taken (None ∷ slots) = false
+all_taken (Some s ∷ slots) = all_taken slots
+
+-- no slot, 1 to 64, is free
+abbrev pub is_full : List (Option Subscription) → Bool
+is_full slots = all_taken (drop 1 slots)
+
+-- the messages of a change are made for the slot
+abbrev pub IsReadyAt : Option Subscription → State → Change → Type 0
+IsReadyAt None s c = Unit {0}
+IsReadyAt (Some slot) s c = IsReady slot.sub s c
+
+-- and for all slots
+abbrev pub AllReady : List (Option Subscription) → State → Change → Type 0
+AllReady slots s c = (k : ℕ) → 0 < k → k < 65 → IsReadyAt (slot_in slots k) s c
+
+-- a book without its last change
+abbrev pub before_of : Book → Book
+before_of b = record { start = b.start; changes = take (length b.changes - 1) b.changes }
+
+-- the change is the last of a book, lawful there
+pub record IsGrown (b : Book) (c : Change) : Type 0 where
+  pub book : b ≡ grown (before_of b) (c ∷ [])
+  pub lawful : IsLawful (state_of (before_of b)) c
+  pub full : IsFullBook b
+
+-- the first so many of the listed slots stand over the keeper's book, and the others over that
+-- without the last change
+pub record PartlyTold (keeper : KeeperToken Identity) (slots : List (Option Subscription))
+    (taken : List ℕ) (openings : ℕ) (c : Change) (told : ℕ) : Type 0 where
+  pub known : length keeper.slots ≡ 65
+  pub wide : length slots ≡ 65
+  pub listed : IsListed taken slots
+  pub below : (j : ℕ) → j < told → j < length taken
+      → SlotStands (slot_in slots (place_at taken j)) (slot_at keeper.slots (place_at taken j))
+      keeper.book
+  pub from : (j : ℕ) → told ≤ j → j < length taken
+      → SlotStands (slot_in slots (place_at taken j)) (slot_at keeper.slots (place_at taken j))
+      (before_of keeper.book)
+      × IsReadyAt (slot_in slots (place_at taken j)) (state_of (before_of keeper.book)) c
+  pub free : (k : ℕ) → 0 < k → k < 65 → slot_in slots k ≡ None
+      → (slot_at keeper.slots k).out ≡ false
+  pub asks : (k : ℕ) → 0 < k → k < 65
+      → asks_of (slot_in slots k) (slot_at keeper.slots k) ≤ openings

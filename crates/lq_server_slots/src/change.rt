@@ -1,0 +1,90 @@
+//! A change under the lock.
+ghost use Rattle.std.specs.Prelude.{◌≡◌, [], ◌∷◌, length, None, IfOk, OnOk, OnErr};
+ghost use Rattle.lq_value.specs.Refusal.{IsRefusedBy};
+ghost use Rattle.lq_volume.specs.Book.{grown, state_of};
+ghost use Rattle.lq_volume.specs.Change.{refused, node_of};
+ghost use Rattle.lq_board.specs.Book.{IsFullBook};
+ghost use Rattle.lq_server_slots.specs.Slots.{SlotsStand, AllReady};
+
+use crate::slots::{Slots, fill_all, ready_all, tell_all};
+use lq_board::Board;
+use lq_server_subscription::Identity;
+use lq_value::Refusal;
+use lq_volume::{Applied, Change, Volume};
+use std::sync::Wait;
+
+/// Ends the subscriptions whose readers asked, makes a change, and fills the ports.
+///
+/// A refused change takes one walk over the taken slots, or two where memory was wanting; an
+/// accepted one takes two.
+pub fn change_in<R: Wait>(
+    rt: &R,
+    board: &Board<Identity>,
+    slots: &mut Slots,
+    volume: &mut Volume,
+    change: &Change,
+) -> Result<Applied, Refusal>
+    requires board { slots.old.keeper.board ≡ board.now }
+    requires volume { volume.old ≡ state_of slots.old.keeper.book }
+    requires full { IsFullBook slots.old.keeper.book }
+    requires holding { SlotsStand slots.old slots.old.keeper.book }
+    ensures refused { IsRefusedBy result (refused volume.old change.now) }
+    ensures node { IfOk result (λ applied. applied.node ≡ node_of volume.old change.now) }
+    ensures number { IfOk result (λ applied.
+        applied.change ≡ length slots.new.keeper.book.changes) }
+    ensures ok { OnOk result
+        (slots.new.keeper.book ≡ grown slots.old.keeper.book (change.now ∷ [])) }
+    ensures err { OnErr result (slots.new.keeper.book ≡ slots.old.keeper.book) }
+    ensures board { slots.new.keeper.board ≡ slots.old.keeper.board }
+    ensures openings { slots.new.openings ≡ slots.old.openings }
+    ensures volume { volume.new ≡ state_of slots.new.keeper.book }
+    ensures limit { volume.new.limit ≡ volume.old.limit }
+    ensures full { IsFullBook slots.new.keeper.book }
+    ensures holding { SlotsStand slots.new slots.new.keeper.book }
+{
+    match add(board, slots, volume, change) {
+        Ok(applied) => {
+            tell_all(rt, slots, change);
+            Ok(applied)
+        }
+        Err(refusal) => {
+            fill_all(rt, board, slots, volume.changes());
+            Err(refusal)
+        }
+    }
+}
+
+// Makes a change: all growth first, then the point of the change, and no message is held yet.
+fn add(
+    board: &Board<Identity>,
+    slots: &mut Slots,
+    volume: &mut Volume,
+    change: &Change,
+) -> Result<Applied, Refusal>
+    requires board { slots.old.keeper.board ≡ board.now }
+    requires volume { volume.old ≡ state_of slots.old.keeper.book }
+    requires full { IsFullBook slots.old.keeper.book }
+    requires holding { SlotsStand slots.old slots.old.keeper.book }
+    ensures refused { IsRefusedBy result (refused volume.old change.now) }
+    ensures node { IfOk result (λ applied. applied.node ≡ node_of volume.old change.now) }
+    ensures number { IfOk result (λ applied.
+        applied.change ≡ length slots.new.keeper.book.changes) }
+    ensures ok { OnOk result
+        (slots.new.keeper.book ≡ grown slots.old.keeper.book (change.now ∷ [])) }
+    ensures ready { OnOk result (AllReady slots.new.subscriptions.items
+        (state_of slots.old.keeper.book) change.now) }
+    ensures lawful { OnOk result (refused volume.old change.now ≡ None) }
+    ensures err { OnErr result (slots.new.keeper.book ≡ slots.old.keeper.book) }
+    ensures board { slots.new.keeper.board ≡ slots.old.keeper.board }
+    ensures openings { slots.new.openings ≡ slots.old.openings }
+    ensures volume { volume.new ≡ state_of slots.new.keeper.book }
+    ensures limit { volume.new.limit ≡ volume.old.limit }
+    ensures full { IsFullBook slots.new.keeper.book }
+    ensures holding { SlotsStand slots.new slots.old.keeper.book }
+{
+    let planned = volume.plan(change)?;
+    ready_all(board, slots, &planned)?;
+    let applied = volume.make(change)?;
+    board.add(&mut slots.keeper, change);
+    Ok(applied)
+}

@@ -1,0 +1,196 @@
+//! How a reader ends its subscription under the lock, and frees its slot.
+ghost use Rattle.std.specs.Prelude.{◌≡◌, ◌+◌, ◌<◌, ◌≤◌, ◌≢◌, ℕ, length, IfNone, IsSome, IsSomeAnd, IfSome, is_some, Some, None, true, false};
+ghost use Rattle.lq_volume.specs.Book.{Extends};
+ghost use Rattle.lq_board.specs.Slot.{slot_at};
+ghost use Rattle.lq_server_subscription.specs.declared.identity.Shut.TheVariants.{Never};
+ghost use Rattle.lq_server_subscription.specs.Marking.{first_close};
+ghost use Rattle.lq_server_subscription.specs.Identity.{identity_of};
+ghost use Rattle.lq_server_slots.specs.Slots.{IsTaken, SlotStands, SlotsStand, IsPlaceIn, IsDropped, place_at, OnlyAt, asks_of, slot_in};
+ghost use Rattle.lq_server_slots.specs.Opening.{asks_after, name_or};
+
+use crate::slots::Slots;
+use crate::sync::{meet_same, meet_under, notice_by};
+use lq_board::{Board, Keeper, Seat};
+use lq_server_subscription::{Identity, Subscription, close, pump};
+use std::sync::Wait;
+
+// Closes a subscription, once the keeper and its seat have met.
+fn close_slot<R: Wait>(
+    rt: &R,
+    board: &Board<Identity>,
+    keeper: &mut Keeper<Identity>,
+    slot: &mut Subscription,
+    seat: &mut Seat<Identity>,
+    number: u64,
+) -> bool
+    requires board { (keeper.old.board ≡ board.now) × (seat.old.board ≡ board.now) }
+    requires place { (0 < seat.old.slot) × (seat.old.slot < 65)
+        × (length keeper.old.slots ≡ 65) }
+    requires seat { seat.old.book ≡ keeper.old.book }
+    requires known { slot_at keeper.old.slots seat.old.slot
+        ≡ record { out = true; asks = seat.old.asks; name = seat.old.name } }
+    requires number { number ≡ length keeper.old.book.changes }
+    requires taken { IsTaken slot.old (slot_at keeper.old.slots seat.old.slot) keeper.old.book }
+    ensures closes { result ≡ true → (name_or seat.old.name).shut ≡ Never }
+    ensures board { keeper.new.board ≡ keeper.old.board }
+    ensures book { keeper.new.book ≡ keeper.old.book }
+    ensures only { OnlyAt keeper.old.slots keeper.new.slots seat.old.slot }
+    ensures taken { IsTaken slot.new (slot_at keeper.new.slots seat.old.slot) keeper.new.book }
+    ensures asks { slot.new.asks ≡ slot.old.asks }
+    ensures seat { seat.new ≡ record seat.old { book = keeper.old.book; name = seat.new.name } }
+    ensures name { seat.new.name ≡ Some (record (name_or seat.old.name) {
+      shut = first_close (name_or seat.old.name).shut result number;
+    }) }
+{
+    notice_by(board, keeper, slot, seat, number);
+    let closed = close(slot, number);
+    meet_under(board, keeper, seat, slot);
+    pump(rt, keeper, slot);
+    closed
+}
+
+// The same at a place that may be free, which it is not.
+fn close_at<R: Wait>(
+    rt: &R,
+    board: &Board<Identity>,
+    keeper: &mut Keeper<Identity>,
+    slot: &mut Option<Subscription>,
+    seat: &mut Seat<Identity>,
+) -> Option<u64>
+    requires board { (keeper.old.board ≡ board.now) × (seat.old.board ≡ board.now) }
+    requires place { (0 < seat.old.slot) × (seat.old.slot < 65)
+        × (length keeper.old.slots ≡ 65) }
+    requires seat { IsSome seat.old.name }
+    requires fits { SlotStands slot.old (slot_at keeper.old.slots seat.old.slot) keeper.old.book }
+    ensures number { IfSome result (λ n. n ≡ length keeper.old.book.changes) }
+    ensures closes { IfSome result (λ _. (name_or seat.old.name).shut ≡ Never) }
+    ensures board { keeper.new.board ≡ keeper.old.board }
+    ensures book { keeper.new.book ≡ keeper.old.book }
+    ensures only { OnlyAt keeper.old.slots keeper.new.slots seat.old.slot }
+    ensures fits { SlotStands slot.new (slot_at keeper.new.slots seat.old.slot) keeper.new.book }
+    ensures asks { asks_of slot.new (slot_at keeper.new.slots seat.old.slot)
+        ≤ asks_of slot.old (slot_at keeper.old.slots seat.old.slot) }
+    ensures kept { is_some slot.new ≡ is_some slot.old }
+    ensures seat { seat.new ≡ record seat.old { book = keeper.old.book; name = seat.new.name } }
+    ensures later { Extends keeper.old.book seat.old.book }
+    ensures name { seat.new.name ≡ Some (record (name_or seat.old.name) {
+      shut = first_close (name_or seat.old.name).shut (is_some result)
+          (length keeper.old.book.changes);
+    }) }
+{
+    let number = meet_same(board, keeper, seat);
+    let Some(taken) = slot else { unreachable!() };
+    if close_slot(rt, board, keeper, taken, seat, number) {
+        Some(number)
+    } else {
+        None
+    }
+}
+
+/// Closes the seat's subscription, unless it has ended, and answers the number of changes.
+pub fn close_in<R: Wait>(
+    rt: &R,
+    board: &Board<Identity>,
+    slots: &mut Slots,
+    place: usize,
+    seat: &mut Seat<Identity>,
+) -> Option<u64>
+    requires board { (slots.old.keeper.board ≡ board.now) × (seat.old.board ≡ board.now) }
+    requires place { (0 < place) × (place < 65) }
+    requires seat { (seat.old.slot ≡ place) × IsSome seat.old.name }
+    requires holding { SlotsStand slots.old slots.old.keeper.book }
+    ensures number { IfSome result (λ n. n ≡ length slots.old.keeper.book.changes) }
+    ensures closes { IfSome result (λ _. (name_or seat.old.name).shut ≡ Never) }
+    ensures board { slots.new.keeper.board ≡ slots.old.keeper.board }
+    ensures book { slots.new.keeper.book ≡ slots.old.keeper.book }
+    ensures openings { slots.new.openings ≡ slots.old.openings }
+    ensures holding { SlotsStand slots.new slots.new.keeper.book }
+    ensures seat { seat.new ≡ record seat.old {
+      book = slots.old.keeper.book;
+      name = seat.new.name;
+    } }
+    ensures later { Extends slots.old.keeper.book seat.old.book }
+    ensures name { seat.new.name ≡ Some (record (name_or seat.old.name) {
+      shut = first_close (name_or seat.old.name).shut (is_some result)
+          (length slots.old.keeper.book.changes);
+    }) }
+{
+    let keeper = &mut slots.keeper;
+    close_at(rt, board, keeper, &mut slots.subscriptions[place], seat)
+}
+
+// A slot's seat comes back, and the slot is free.
+fn free_at(
+    board: &Board<Identity>,
+    keeper: &mut Keeper<Identity>,
+    slot: &mut Option<Subscription>,
+    seat: Seat<Identity>,
+    asked: bool,
+)
+    requires board { (keeper.old.board ≡ board.now) × (seat.board ≡ board.now) }
+    requires place { (0 < seat.slot) × (seat.slot < 65) × (length keeper.old.slots ≡ 65) }
+    requires seat { IsSomeAnd seat.name (λ t. seat.asks ≡ asks_after t.asks asked) }
+    requires fits { SlotStands slot.old (slot_at keeper.old.slots seat.slot) keeper.old.book }
+    ensures board { keeper.new.board ≡ keeper.old.board }
+    ensures book { keeper.new.book ≡ keeper.old.book }
+    ensures only { OnlyAt keeper.old.slots keeper.new.slots seat.slot }
+    ensures taken { IsSome slot.old }
+    ensures free { slot.new ≡ None }
+    ensures back { (slot_at keeper.new.slots seat.slot).out ≡ false }
+    ensures asks { (slot_at keeper.new.slots seat.slot).asks
+        ≤ asks_of slot.old (slot_at keeper.old.slots seat.slot) }
+    ensures later { Extends keeper.old.book seat.book }
+{
+    let _ = asked;
+    board.join(keeper, seat);
+    *slot = None;
+}
+
+// The index of a place.
+fn index_of(taken: &[usize], place: usize) -> Option<usize>
+    ensures found { IfSome result (λ i. (i < length taken.now) × (place_at taken.now i ≡ place)) }
+    ensures none { IfNone result ((i : ℕ) → i < length taken.now → place_at taken.now i ≢ place) }
+{
+    for index in 0..taken.len() {
+        if taken[index] == place {
+            return Some(index);
+        }
+    }
+    None
+}
+
+// Takes a place out of the list.
+fn take_out(taken: &mut Vec<usize>, place: usize)
+    requires { IsPlaceIn taken.old.items place }
+    ensures { IsDropped taken.old.items taken.new.items place }
+{
+    let Some(index) = index_of(taken, place) else {
+        unreachable!()
+    };
+    taken.remove(index);
+}
+
+/// Frees a slot, whose seat comes back.
+pub fn free_in(
+    board: &Board<Identity>,
+    slots: &mut Slots,
+    place: usize,
+    seat: Seat<Identity>,
+    asked: bool,
+)
+    requires board { (slots.old.keeper.board ≡ board.now) × (seat.board ≡ board.now) }
+    requires place { (0 < place) × (place < 65) }
+    requires seat { (seat.slot ≡ place)
+        × IsSomeAnd seat.name (λ t. seat.asks ≡ asks_after t.asks asked) }
+    requires holding { SlotsStand slots.old slots.old.keeper.book }
+    ensures board { slots.new.keeper.board ≡ slots.old.keeper.board }
+    ensures book { slots.new.keeper.book ≡ slots.old.keeper.book }
+    ensures openings { slots.new.openings ≡ slots.old.openings }
+    ensures holding { SlotsStand slots.new slots.new.keeper.book }
+    ensures freed { slot_in slots.new.subscriptions.items place ≡ None }
+    ensures later { Extends slots.old.keeper.book seat.book }
+{
+    let keeper = &mut slots.keeper;
+    free_at(board, keeper, &mut slots.subscriptions[place], seat, asked);
+    take_out(&mut slots.taken, place);
+}

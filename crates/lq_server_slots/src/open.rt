@@ -1,0 +1,245 @@
+//! An opening under the lock.
+ghost use Rattle.std.specs.Prelude.{◌≡◌, ◌+◌, ◌<◌, ◌≤◌, length, ℕ, IfOk, IfErr, OnOk, OnErr, IfSome, IfNone, IsSome, is_none, Some, None, Err, false};
+ghost use Rattle.lq_value.specs.Refusal.{IsRefusedBy, first_refusal};
+ghost use Rattle.lq_volume.specs.Book.{state_of};
+ghost use Rattle.lq_desk_world.specs.Events.{opening_refusals};
+ghost use Rattle.lq_board.specs.Book.{IsFullBook};
+ghost use Rattle.lq_board.specs.Slot.{slot_at, gone_out};
+ghost use Rattle.lq_server_subscription.specs.Identity.{identity_of};
+ghost use Rattle.lq_server_subscription.specs.declared.identity.Identity.{Identity as IdentityOf};
+ghost use Rattle.lq_server_slots.specs.Slots.{AreUnchanged, SlotsStand, is_full, slot_in};
+ghost use Rattle.lq_server_slots.specs.Opening.{IsBegun, IsOpened, IsOpeningRefused, opening_refusal};
+
+use crate::slots::{PLACES, Slots};
+use lq_board::{Board, Keeper, Seat};
+use lq_desk_sub::{MAX_BACKLOG, Sub};
+use lq_port::{MAX_PLACES, make};
+use lq_predicate::Predicate;
+use lq_server_subscription::{
+    Delivery, Identity, Opening, Reading, Shut, Subscription, new_subscriptions_stand,
+};
+use lq_server_witness::Witness;
+use lq_update::{Rebuild, results_rise};
+use lq_value::Refusal;
+use lq_volume::Volume;
+use std::alloc::Global;
+
+/// A subscription that was just opened: its reading, the seat of its slot, and its slot, 1 to 64.
+#[derive(Drop)]
+pub struct Opened {
+    pub reading: Reading,
+    pub seat: Seat<Identity>,
+    pub slot: u64,
+}
+
+// The lowest place that is free.
+fn free_place(slots: &[Option<Subscription>]) -> Option<usize>
+    requires { length slots.now ≡ 65 }
+    ensures place { IfSome result (λ k. (0 < k) × (k < 65)) }
+    ensures free { IfSome result (λ k. slot_in slots.now k ≡ None) }
+    ensures lowest { IfSome result (λ k.
+        (j : ℕ) → 0 < j → j < k → IsSome (slot_in slots.now j)) }
+    ensures full { is_none result ≡ is_full slots.now }
+{
+    for place in 1..PLACES {
+        if slots[place].is_none() {
+            return Some(place);
+        }
+    }
+    None
+}
+
+/// What an opening asks for.
+#[derive(Clone, Copy)]
+pub struct Asked<'a> {
+    pub predicate: &'a Predicate,
+    pub port: u64,
+    pub backlog: u64,
+    pub moved: bool,
+}
+
+// A subscription over the keeper's book, and the end of it that reads.
+fn begin(
+    alloc: Global,
+    keeper: &Keeper<Identity>,
+    volume: &Volume,
+    asked: &Asked,
+) -> Result<(Subscription, Reading), Refusal>
+    requires volume { volume.now ≡ state_of keeper.now.book }
+    requires full { IsFullBook keeper.now.book }
+    requires port { (0 < asked.now.port) × (asked.now.port ≤ 1024) }
+    ensures refused { IsRefusedBy result None }
+    ensures begun { IfOk result (λ r. IsBegun r.0 r.1 keeper.now.book
+        asked.now.predicate.now asked.now.moved asked.now.port asked.now.backlog) }
+{
+    results_rise();
+    new_subscriptions_stand();
+    let at = volume.changes();
+    let entries = volume.fetch(asked.predicate)?;
+    let sub = Sub::new(alloc, asked.predicate, at, asked.backlog, asked.moved)?;
+    let opening_at = Opening {
+        query: Witness::of(asked.predicate),
+        moved: asked.moved,
+        opened: at,
+        book: Witness::of(keeper),
+    };
+    let (input, output) = make::<Delivery>(alloc, asked.port, &opening_at)?;
+    let slot = Subscription {
+        sub,
+        input,
+        places: asked.port,
+        asks: 0,
+        shut: Shut::Never,
+    };
+    let reading = Reading::new(output, Rebuild::new(alloc, at, entries));
+    Ok((slot, reading))
+}
+
+// The slot's seat, under a name, that of a subscription.
+fn sit_named(
+    board: &Board<Identity>,
+    keeper: &mut Keeper<Identity>,
+    slot: &Subscription,
+    place: u64,
+) -> Seat<Identity>
+    ghost name: { IdentityOf }
+    requires named { name ≡ identity_of slot.now }
+    requires board { keeper.old.board ≡ board.now }
+    requires place { (0 < place) × (place < 65) }
+    requires free { (slot_at keeper.old.slots place).out ≡ false }
+    ensures board { keeper.new.board ≡ keeper.old.board }
+    ensures book { keeper.new.book ≡ keeper.old.book }
+    ensures slots { keeper.new.slots
+        ≡ gone_out keeper.old.slots place (Some (identity_of slot.now)) }
+    ensures seat { result ≡ record {
+      board = keeper.old.board;
+      slot = place;
+      book = keeper.old.book;
+      asks = (slot_at keeper.old.slots place).asks;
+      name = Some (identity_of slot.now);
+    } }
+{
+    let _ = slot;
+    board.slot_seat(keeper, place)
+}
+
+// The slot's seat, under the name of this subscription.
+fn sit(
+    board: &Board<Identity>,
+    keeper: &mut Keeper<Identity>,
+    slot: &Subscription,
+    place: u64,
+) -> Seat<Identity>
+    requires board { keeper.old.board ≡ board.now }
+    requires place { (0 < place) × (place < 65) }
+    requires free { (slot_at keeper.old.slots place).out ≡ false }
+    ensures board { keeper.new.board ≡ keeper.old.board }
+    ensures book { keeper.new.book ≡ keeper.old.book }
+    ensures slots { keeper.new.slots
+        ≡ gone_out keeper.old.slots place (Some (identity_of slot.now)) }
+    ensures seat { result ≡ record {
+      board = keeper.old.board;
+      slot = place;
+      book = keeper.old.book;
+      asks = (slot_at keeper.old.slots place).asks;
+      name = Some (identity_of slot.now);
+    } }
+{
+    sit_named(board, keeper, slot, place)
+}
+
+// Puts a subscription into a free place, which has a seat then. All growth comes first, so that
+// want of memory leaves the slots as they were.
+fn settle(
+    board: &Board<Identity>,
+    slots: &mut Slots,
+    place: usize,
+    mut slot: Subscription,
+    reading: Reading,
+) -> Result<Opened, Refusal>
+    requires board { slots.old.keeper.board ≡ board.now }
+    requires place { (0 < place) × (place < 65) }
+    requires free { slot_in slots.old.subscriptions.items place ≡ None }
+    requires room { slots.old.openings < 1000000000000 }
+    requires begun { IsBegun slot reading slots.old.keeper.book slot.sub.held.query
+        slot.sub.held.moved slot.places slot.sub.held.backlog }
+    requires holding { SlotsStand slots.old slots.old.keeper.book }
+    ensures refused { IsRefusedBy result None }
+    ensures err { OnErr result (AreUnchanged slots.old slots.new) }
+    ensures board { slots.new.keeper.board ≡ slots.old.keeper.board }
+    ensures book { slots.new.keeper.book ≡ slots.old.keeper.book }
+    ensures openings { OnOk result (slots.new.openings ≡ slots.old.openings + 1) }
+    ensures holding { SlotsStand slots.new slots.new.keeper.book }
+    ensures slot { IfOk result (λ o. o.slot ≡ place) }
+    ensures opened { IfOk result (λ o. IsOpened o slots.old.keeper.board slots.old.keeper.book
+        slot.sub.held.query slot.sub.held.moved slot.places slot.sub.held.backlog) }
+{
+    // There is room for all places since the start, so this takes no memory.
+    slots.taken.reserve(1)?;
+    slots.taken.push_reserved(place);
+    let asks = board.asks(&mut slots.keeper, place as u64);
+    slot.asks = asks;
+    let seat = sit(board, &mut slots.keeper, &slot, place as u64);
+    slots.subscriptions[place] = Some(slot);
+    slots.openings += 1;
+    Ok(Opened {
+        reading,
+        seat,
+        slot: place as u64,
+    })
+}
+
+/// Opens a live query in the lowest free slot.
+///
+/// Refused, the first that fits: `BadPort`, `BadBacklog`, `NoSlot` where no slot is free,
+/// `Exhausted` where as many were opened as the volume takes changes; or else `NoMemory`. A refused
+/// opening changes nothing, and isn't counted among those.
+pub fn open_in(
+    alloc: Global,
+    board: &Board<Identity>,
+    slots: &mut Slots,
+    volume: &Volume,
+    asked: &Asked,
+) -> Result<Opened, Refusal>
+    requires board { slots.old.keeper.board ≡ board.now }
+    requires volume { volume.now ≡ state_of slots.old.keeper.book }
+    requires full { IsFullBook slots.old.keeper.book }
+    requires limit { slots.old.openings ≤ volume.now.limit }
+    requires holding { SlotsStand slots.old slots.old.keeper.book }
+    ensures board { slots.new.keeper.board ≡ slots.old.keeper.board }
+    ensures book { slots.new.keeper.book ≡ slots.old.keeper.book }
+    ensures limit { slots.new.openings ≤ volume.now.limit }
+    ensures openings { OnOk result (slots.new.openings ≡ slots.old.openings + 1) }
+    ensures err { OnErr result (AreUnchanged slots.old slots.new) }
+    ensures holding { SlotsStand slots.new slots.new.keeper.book }
+    ensures opened { IfOk result (λ o. IsOpened o slots.old.keeper.board slots.old.keeper.book
+        asked.now.predicate.now asked.now.moved asked.now.port asked.now.backlog) }
+
+    // The first that fits, and no other.
+    ensures table { IsRefusedBy result (first_refusal (opening_refusals
+        (is_full slots.old.subscriptions.items) slots.old.openings volume.now.limit
+        asked.now.port asked.now.backlog)) }
+    ensures lowest { IfOk result (λ o. (j : ℕ) → 0 < j → j < o.slot
+        → IsSome (slot_in slots.old.subscriptions.items j)) }
+
+    // Its numbers refuse it first, and just by their bounds.
+    ensures refused { IfSome (opening_refusal asked.now.port asked.now.backlog)
+        (λ e. result ≡ Err e) }
+    ensures others { IfNone (opening_refusal asked.now.port asked.now.backlog)
+        (IfErr result IsOpeningRefused) }
+{
+    if asked.port == 0 || asked.port > MAX_PLACES {
+        return Err(Refusal::BadPort);
+    }
+    if asked.backlog > MAX_BACKLOG {
+        return Err(Refusal::BadBacklog);
+    }
+    let Some(place) = free_place(&slots.subscriptions) else {
+        return Err(Refusal::NoSlot);
+    };
+    if volume.limit() <= slots.openings {
+        return Err(Refusal::Exhausted);
+    }
+    let (slot, reading) = begin(alloc, &slots.keeper, volume, asked)?;
+    settle(board, slots, place, slot, reading)
+}

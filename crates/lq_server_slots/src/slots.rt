@@ -1,0 +1,312 @@
+//! The slots under the lock, one or all.
+ghost use Rattle.std.specs.Prelude.{◌≡◌, ◌+◌, ◌<◌, ◌≤◌, ◌^◌, ℕ, length, None, Some, IsSome, is_some, IfOk, OnOk, OnErr, true, false};
+ghost use Rattle.lq_value.specs.Refusal.{IsRefusedBy};
+ghost use Rattle.lq_volume.specs.Book.{state_of};
+ghost use Rattle.lq_board.specs.Slot.{slot_at, counted};
+ghost use Rattle.lq_server_subscription.specs.Standing.{SameButHeld, SameButPuts};
+ghost use Rattle.lq_server_slots.specs.Slots.{IsTaken, SlotStands, asks_of, SlotsStand, IsListed, place_at, OnlyAt, IsReadyAt, AllReady, before_of, IsGrown, slot_in};
+
+use lq_board::{Board, Keeper};
+use lq_server_subscription::{Identity, Subscription, commit, notice, pump, ready};
+use lq_value::Refusal;
+use lq_volume::{Change, Planned};
+use std::alloc::Global;
+use std::sync::Wait;
+
+/// The number of slots, and a place that isn't used before them.
+pub(crate) const PLACES: usize = 65;
+
+/// What stands in the slots, what the keeper knows of them, the places of those that are taken,
+/// and how often one was opened.
+#[derive(Drop)]
+pub struct Slots {
+    pub keeper: Keeper<Identity>,
+    pub subscriptions: Vec<Option<Subscription>>,
+    pub taken: Vec<usize>,
+    pub openings: u64,
+}
+
+impl Slots {
+    ghost use Rattle.lq_board.specs.Slot.{unused_slots};
+
+    /// 64 free slots, with a keeper of whose seats none is out. Refused: `NoMemory`.
+    pub fn new(alloc: Global, keeper: Keeper<Identity>) -> Result<Slots, Refusal>
+        requires unused { keeper.slots ≡ unused_slots }
+        ensures refused { IsRefusedBy result None }
+        ensures keeper { IfOk result (λ slots. slots.keeper ≡ keeper) }
+        ensures openings { IfOk result (λ slots. slots.openings ≡ 0) }
+        ensures holding { IfOk result (λ slots. SlotsStand slots keeper.book) }
+    {
+        let subscriptions = free(alloc)?;
+        let taken = Vec::with_capacity(alloc, PLACES)?;
+        Ok(Slots {
+            keeper,
+            subscriptions,
+            taken,
+            openings: 0,
+        })
+    }
+}
+
+// All slots free.
+fn free(alloc: Global) -> Result<Vec<Option<Subscription>>, Refusal>
+    ensures refused { IsRefusedBy result None }
+    ensures wide { IfOk result (λ slots. length slots.items ≡ 65) }
+    ensures none { IfOk result (λ slots. (k : ℕ) → k < 65 → slot_in slots.items k ≡ None) }
+{
+    let mut slots = Vec::with_capacity(alloc, PLACES)?;
+    for place in 0..PLACES {
+        let _ = place;
+        slots.push_reserved(None);
+    }
+    Ok(slots)
+}
+
+/// Ends a subscription where its reader asked, and answers how often its slot's seat has asked.
+pub(crate) fn notice_slot(
+    board: &Board<Identity>,
+    keeper: &mut Keeper<Identity>,
+    slot: &mut Subscription,
+    place: usize,
+    number: u64,
+) -> u64
+    requires board { keeper.old.board ≡ board.now }
+    requires place { (0 < place) × (place < 65) × (length keeper.old.slots ≡ 65) }
+    requires number { number ≡ length keeper.old.book.changes }
+    requires taken { IsTaken slot.old (slot_at keeper.old.slots place) keeper.old.book }
+    ensures board { keeper.new.board ≡ keeper.old.board }
+    ensures book { keeper.new.book ≡ keeper.old.book }
+    ensures slots { keeper.new.slots ≡ counted keeper.old.slots place result }
+    ensures asks { (slot_at keeper.old.slots place).asks ≤ result }
+    ensures taken { IsTaken slot.new (slot_at keeper.new.slots place) keeper.new.book }
+    ensures ended { slot.old.asks < result → IsSome slot.new.sub.held.mark }
+    ensures others { SameButHeld slot.old slot.new × (slot.new.shut ≡ slot.old.shut) }
+    ensures still { IsSome slot.old.sub.held.mark
+        → slot.new.sub.held.mark ≡ slot.old.sub.held.mark }
+{
+    let asks = board.asks(keeper, place as u64);
+    let asked = asks > slot.asks;
+    notice(slot, asked, number);
+    asks
+}
+
+/// The place of a taken slot, by its index among them.
+pub(crate) fn place_of(slots: &Slots, index: usize) -> usize
+    requires index { index < length slots.now.taken.items }
+    requires listed { IsListed slots.now.taken.items slots.now.subscriptions.items }
+    ensures value { result ≡ place_at slots.now.taken.items index }
+    ensures low { 0 < result }
+    ensures high { result < 65 }
+{
+    slots.taken[index]
+}
+
+// Notices for a slot that may be free whether its reader asked, and puts what its port takes.
+fn fill_at<R: Wait>(
+    rt: &R,
+    board: &Board<Identity>,
+    keeper: &mut Keeper<Identity>,
+    slot: &mut Option<Subscription>,
+    place: usize,
+    number: u64,
+)
+    requires board { keeper.old.board ≡ board.now }
+    requires place { (0 < place) × (place < 65) × (length keeper.old.slots ≡ 65) }
+    requires number { number ≡ length keeper.old.book.changes }
+    requires fits { SlotStands slot.old (slot_at keeper.old.slots place) keeper.old.book }
+    ensures board { keeper.new.board ≡ keeper.old.board }
+    ensures book { keeper.new.book ≡ keeper.old.book }
+    ensures only { OnlyAt keeper.old.slots keeper.new.slots place }
+    ensures fits { SlotStands slot.new (slot_at keeper.new.slots place) keeper.new.book }
+    ensures asks { asks_of slot.new (slot_at keeper.new.slots place)
+        ≤ asks_of slot.old (slot_at keeper.old.slots place) }
+    ensures kept { is_some slot.new ≡ is_some slot.old }
+{
+    if let Some(taken) = slot {
+        notice_slot(board, keeper, taken, place, number);
+        pump_slot(rt, keeper, taken, place);
+    }
+}
+
+/// Ends each subscription whose reader asked, and puts what each port takes.
+pub(crate) fn fill_all<R: Wait>(rt: &R, board: &Board<Identity>, slots: &mut Slots, number: u64)
+    requires board { slots.old.keeper.board ≡ board.now }
+    requires number { number ≡ length slots.old.keeper.book.changes }
+    requires holding { SlotsStand slots.old slots.old.keeper.book }
+    ensures board { slots.new.keeper.board ≡ slots.old.keeper.board }
+    ensures book { slots.new.keeper.book ≡ slots.old.keeper.book }
+    ensures openings { slots.new.openings ≡ slots.old.openings }
+    ensures holding { SlotsStand slots.new slots.new.keeper.book }
+{
+    for index in 0..slots.taken.len() {
+        let place = place_of(slots, index);
+        let keeper = &mut slots.keeper;
+        fill_at(
+            rt,
+            board,
+            keeper,
+            &mut slots.subscriptions[place],
+            place,
+            number,
+        );
+    }
+}
+
+// Notices whether the reader of a subscription asked, and makes its messages of a change.
+fn ready_slot(
+    board: &Board<Identity>,
+    keeper: &mut Keeper<Identity>,
+    slot: &mut Subscription,
+    place: usize,
+    planned: &Planned<'_>,
+) -> Result<(), Refusal>
+    requires board { keeper.old.board ≡ board.now }
+    requires place { (0 < place) × (place < 65) × (length keeper.old.slots ≡ 65) }
+    requires state { planned.now.before ≡ state_of keeper.old.book }
+    requires taken { IsTaken slot.old (slot_at keeper.old.slots place) keeper.old.book }
+    ensures refused { IsRefusedBy result None }
+    ensures board { keeper.new.board ≡ keeper.old.board }
+    ensures book { keeper.new.book ≡ keeper.old.book }
+    ensures only { OnlyAt keeper.old.slots keeper.new.slots place }
+    ensures taken { IsTaken slot.new (slot_at keeper.new.slots place) keeper.new.book }
+    ensures asks { slot.new.asks ≡ slot.old.asks }
+    ensures ready { OnOk result
+        (IsReadyAt (Some slot.new) planned.now.before planned.now.change) }
+{
+    let number = planned.applied().change - 1;
+    notice_slot(board, keeper, slot, place, number);
+    ready(slot, planned)
+}
+
+// The same for a slot that may be free.
+fn ready_at(
+    board: &Board<Identity>,
+    keeper: &mut Keeper<Identity>,
+    slot: &mut Option<Subscription>,
+    place: usize,
+    planned: &Planned<'_>,
+) -> Result<(), Refusal>
+    requires board { keeper.old.board ≡ board.now }
+    requires place { (0 < place) × (place < 65) × (length keeper.old.slots ≡ 65) }
+    requires state { planned.now.before ≡ state_of keeper.old.book }
+    requires fits { SlotStands slot.old (slot_at keeper.old.slots place) keeper.old.book }
+    ensures refused { IsRefusedBy result None }
+    ensures board { keeper.new.board ≡ keeper.old.board }
+    ensures book { keeper.new.book ≡ keeper.old.book }
+    ensures only { OnlyAt keeper.old.slots keeper.new.slots place }
+    ensures fits { SlotStands slot.new (slot_at keeper.new.slots place) keeper.new.book }
+    ensures asks { asks_of slot.new (slot_at keeper.new.slots place)
+        ≤ asks_of slot.old (slot_at keeper.old.slots place) }
+    ensures kept { is_some slot.new ≡ is_some slot.old }
+    ensures ready { OnOk result
+        (IsReadyAt slot.new planned.now.before planned.now.change) }
+{
+    match slot {
+        Some(taken) => ready_slot(board, keeper, taken, place, planned),
+        None => Ok(()),
+    }
+}
+
+/// Ends each subscription whose reader asked, and makes the messages of a change for the others.
+pub(crate) fn ready_all(
+    board: &Board<Identity>,
+    slots: &mut Slots,
+    planned: &Planned<'_>,
+) -> Result<(), Refusal>
+    requires board { slots.old.keeper.board ≡ board.now }
+    requires state { planned.now.before ≡ state_of slots.old.keeper.book }
+    requires holding { SlotsStand slots.old slots.old.keeper.book }
+    ensures refused { IsRefusedBy result None }
+    ensures board { slots.new.keeper.board ≡ slots.old.keeper.board }
+    ensures book { slots.new.keeper.book ≡ slots.old.keeper.book }
+    ensures openings { slots.new.openings ≡ slots.old.openings }
+    ensures holding { SlotsStand slots.new slots.new.keeper.book }
+    ensures ready { OnOk result (AllReady slots.new.subscriptions.items
+        planned.now.before planned.now.change) }
+{
+    for index in 0..slots.taken.len() {
+        let place = place_of(slots, index);
+        let keeper = &mut slots.keeper;
+        ready_at(
+            board,
+            keeper,
+            &mut slots.subscriptions[place],
+            place,
+            planned,
+        )?;
+    }
+    Ok(())
+}
+
+// Tells a slot that may be free the change that was just added, and puts what its port takes.
+fn tell_at<R: Wait>(
+    rt: &R,
+    keeper: &Keeper<Identity>,
+    slot: &mut Option<Subscription>,
+    place: usize,
+    change: &Change,
+)
+    requires grown { IsGrown keeper.now.book change.now }
+    requires ready { IsReadyAt slot.old (state_of (before_of keeper.now.book)) change.now }
+    requires fits { SlotStands slot.old (slot_at keeper.now.slots place)
+        (before_of keeper.now.book) }
+    ensures fits { SlotStands slot.new (slot_at keeper.now.slots place) keeper.now.book }
+    ensures asks { asks_of slot.new (slot_at keeper.now.slots place)
+        ≤ asks_of slot.old (slot_at keeper.now.slots place) }
+    ensures kept { is_some slot.new ≡ is_some slot.old }
+{
+    if let Some(taken) = slot {
+        tell_slot(rt, keeper, taken, place, change);
+    }
+}
+
+fn tell_slot<R: Wait>(
+    rt: &R,
+    keeper: &Keeper<Identity>,
+    slot: &mut Subscription,
+    place: usize,
+    change: &Change,
+)
+    requires grown { IsGrown keeper.now.book change.now }
+    requires ready { IsReadyAt (Some slot.old) (state_of (before_of keeper.now.book)) change.now }
+    requires taken { IsTaken slot.old (slot_at keeper.now.slots place)
+        (before_of keeper.now.book) }
+    ensures taken { IsTaken slot.new (slot_at keeper.now.slots place) keeper.now.book }
+    ensures asks { slot.new.asks ≡ slot.old.asks }
+{
+    let _ = place;
+    commit(slot, change);
+    pump(rt, keeper, slot);
+}
+
+/// Tells each subscription the change that was just added.
+pub(crate) fn tell_all<R: Wait>(rt: &R, slots: &mut Slots, change: &Change)
+    requires grown { IsGrown slots.old.keeper.book change.now }
+    requires ready { AllReady slots.old.subscriptions.items
+        (state_of (before_of slots.old.keeper.book)) change.now }
+    requires holding { SlotsStand slots.old (before_of slots.old.keeper.book) }
+    ensures keeper { slots.new.keeper ≡ slots.old.keeper }
+    ensures openings { slots.new.openings ≡ slots.old.openings }
+    ensures holding { SlotsStand slots.new slots.new.keeper.book }
+{
+    for index in 0..slots.taken.len() {
+        let place = place_of(slots, index);
+        tell_at(
+            rt,
+            &slots.keeper,
+            &mut slots.subscriptions[place],
+            place,
+            change,
+        );
+    }
+}
+
+// Puts what a port takes.
+fn pump_slot<R: Wait>(rt: &R, keeper: &Keeper<Identity>, taken: &mut Subscription, place: usize)
+    requires taken { IsTaken taken.old (slot_at keeper.now.slots place) keeper.now.book }
+    ensures taken { IsTaken taken.new (slot_at keeper.now.slots place) keeper.now.book }
+    ensures alike { SameButPuts taken.old taken.new }
+{
+    let _ = place;
+    pump(rt, keeper, taken);
+}

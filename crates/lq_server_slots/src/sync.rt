@@ -1,0 +1,277 @@
+//! What a reader does under the lock.
+ghost use Rattle.std.specs.Prelude.{◌≡◌, ◌<◌, ◌≤◌, length, IsSome, IsSomeAnd, Some, true, is_some};
+ghost use Rattle.lq_volume.specs.Book.{Extends};
+ghost use Rattle.lq_board.specs.Slot.{slot_at};
+ghost use Rattle.lq_server_subscription.specs.Identity.{identity_of};
+ghost use Rattle.lq_server_subscription.specs.Standing.{SameButHeld};
+ghost use Rattle.lq_server_subscription.specs.declared.subscription.Subscription.{Subscription as SubscriptionOf};
+ghost use Rattle.lq_server_subscription.specs.declared.identity.Identity.{Identity as IdentityOf};
+ghost use Rattle.lq_server_slots.specs.Slots.{IsTaken, SlotStands, SlotsStand, OnlyAt, asks_of};
+ghost use Rattle.lq_server_slots.specs.Opening.{IdentityFits};
+ghost use Rattle.lq_server_slots.specs.Progress.{ShowsProgress};
+
+use crate::slots::{Slots, notice_slot};
+use lq_board::{Board, Keeper, Seat};
+use lq_server_subscription::{Identity, Reading, Subscription, drain};
+use lq_update::Mark;
+use std::sync::Wait;
+
+/// How far a subscription is: the changes so far, the parcels in its port, the messages held, its
+/// mark, and whether that was put.
+#[derive(Clone, Copy)]
+pub struct Progress {
+    pub change: u64,
+    pub waiting: u64,
+    pub held: u64,
+    pub mark: Option<Mark>,
+    pub out: bool,
+}
+
+// The keeper and a slot's seat meet, and its name stays.
+pub(crate) fn meet_same(
+    board: &Board<Identity>,
+    keeper: &mut Keeper<Identity>,
+    seat: &mut Seat<Identity>,
+) -> u64
+    requires board { (keeper.old.board ≡ board.now) × (seat.old.board ≡ board.now) }
+    requires slot { (0 < seat.old.slot) × (seat.old.slot < 65) }
+    requires named { IsSome seat.old.name }
+    requires wide { length keeper.old.slots ≡ 65 }
+    ensures board { keeper.new.board ≡ keeper.old.board }
+    ensures book { keeper.new.book ≡ keeper.old.book }
+    ensures only { OnlyAt keeper.old.slots keeper.new.slots seat.old.slot }
+    ensures place { slot_at keeper.new.slots seat.old.slot
+        ≡ record { out = true; asks = seat.old.asks; name = seat.old.name } }
+    ensures seat { seat.new ≡ record seat.old { book = keeper.old.book } }
+    ensures later { Extends keeper.old.book seat.old.book }
+    ensures name { (slot_at keeper.old.slots seat.old.slot).name ≡ seat.old.name }
+    ensures asks { (slot_at keeper.old.slots seat.old.slot).asks ≤ seat.old.asks }
+    ensures out { (slot_at keeper.old.slots seat.old.slot).out ≡ true }
+    ensures number { result ≡ length keeper.old.book.changes }
+{
+    board.meet_slot(keeper, seat)
+}
+
+// The keeper and a slot's seat meet under a name, that of a subscription.
+fn meet_named(
+    board: &Board<Identity>,
+    keeper: &mut Keeper<Identity>,
+    seat: &mut Seat<Identity>,
+    slot: &Subscription,
+) -> u64
+    ghost name: { IdentityOf }
+    requires named { name ≡ identity_of slot.now }
+    requires board { (keeper.old.board ≡ board.now) × (seat.old.board ≡ board.now) }
+    requires slot { (0 < seat.old.slot) × (seat.old.slot < 65) }
+    requires wide { length keeper.old.slots ≡ 65 }
+    ensures board { keeper.new.board ≡ keeper.old.board }
+    ensures book { keeper.new.book ≡ keeper.old.book }
+    ensures only { OnlyAt keeper.old.slots keeper.new.slots seat.old.slot }
+    ensures place { slot_at keeper.new.slots seat.old.slot
+        ≡ record { out = true; asks = seat.old.asks; name = Some (identity_of slot.now) } }
+    ensures seat { seat.new ≡
+        record seat.old { book = keeper.old.book; name = Some (identity_of slot.now) } }
+    ensures name { (slot_at keeper.old.slots seat.old.slot).name ≡ seat.old.name }
+    ensures asks { (slot_at keeper.old.slots seat.old.slot).asks ≤ seat.old.asks }
+    ensures number { result ≡ length keeper.old.book.changes }
+{
+    let _ = slot;
+    board.meet_slot(keeper, seat)
+}
+
+// The keeper and a slot's seat meet, under the name of this subscription.
+pub(crate) fn meet_under(
+    board: &Board<Identity>,
+    keeper: &mut Keeper<Identity>,
+    seat: &mut Seat<Identity>,
+    slot: &Subscription,
+) -> u64
+    requires board { (keeper.old.board ≡ board.now) × (seat.old.board ≡ board.now) }
+    requires slot { (0 < seat.old.slot) × (seat.old.slot < 65) }
+    requires wide { length keeper.old.slots ≡ 65 }
+    ensures board { keeper.new.board ≡ keeper.old.board }
+    ensures book { keeper.new.book ≡ keeper.old.book }
+    ensures only { OnlyAt keeper.old.slots keeper.new.slots seat.old.slot }
+    ensures place { slot_at keeper.new.slots seat.old.slot
+        ≡ record { out = true; asks = seat.old.asks; name = Some (identity_of slot.now) } }
+    ensures seat { seat.new ≡
+        record seat.old { book = keeper.old.book; name = Some (identity_of slot.now) } }
+    ensures name { (slot_at keeper.old.slots seat.old.slot).name ≡ seat.old.name }
+    ensures asks { (slot_at keeper.old.slots seat.old.slot).asks ≤ seat.old.asks }
+    ensures number { result ≡ length keeper.old.book.changes }
+{
+    meet_named(board, keeper, seat, slot)
+}
+
+// Ends a subscription where its reader asked, at the slot of its seat.
+pub(crate) fn notice_by(
+    board: &Board<Identity>,
+    keeper: &mut Keeper<Identity>,
+    slot: &mut Subscription,
+    seat: &Seat<Identity>,
+    number: u64,
+)
+    requires board { keeper.old.board ≡ board.now }
+    requires place { (0 < seat.now.slot) × (seat.now.slot < 65)
+        × (length keeper.old.slots ≡ 65) }
+    requires number { number ≡ length keeper.old.book.changes }
+    requires taken { IsTaken slot.old (slot_at keeper.old.slots seat.now.slot) keeper.old.book }
+    requires known { (slot_at keeper.old.slots seat.now.slot).asks ≡ seat.now.asks }
+    ensures board { keeper.new.board ≡ keeper.old.board }
+    ensures book { keeper.new.book ≡ keeper.old.book }
+    ensures only { OnlyAt keeper.old.slots keeper.new.slots seat.now.slot }
+    ensures taken { IsTaken slot.new (slot_at keeper.new.slots seat.now.slot) keeper.new.book }
+    ensures ended { slot.old.asks < seat.now.asks → IsSome slot.new.sub.held.mark }
+    ensures others { SameButHeld slot.old slot.new × (slot.new.shut ≡ slot.old.shut) }
+{
+    let place = seat.slot() as usize;
+    notice_slot(board, keeper, slot, place, number);
+}
+
+// The rest of a sync, once what the seat asked is noticed.
+fn sync_slot<R: Wait>(
+    rt: &R,
+    board: &Board<Identity>,
+    keeper: &mut Keeper<Identity>,
+    slot: &mut Subscription,
+    seat: &mut Seat<Identity>,
+    reading: &mut Reading,
+) -> Progress
+    requires board { (keeper.old.board ≡ board.now) × (seat.old.board ≡ board.now) }
+    requires place { (0 < seat.old.slot) × (seat.old.slot < 65)
+        × (length keeper.old.slots ≡ 65) }
+    requires named { seat.old.name ≡ Some (identity_of slot.old) }
+    requires seat { seat.old.book ≡ keeper.old.book }
+    requires ended { slot.old.asks < seat.old.asks → IsSome slot.old.sub.held.mark }
+    requires taken { IsTaken slot.old (slot_at keeper.old.slots seat.old.slot) keeper.old.book }
+    requires port { reading.old.port.port ≡ slot.old.input.port }
+    ensures board { keeper.new.board ≡ keeper.old.board }
+    ensures book { keeper.new.book ≡ keeper.old.book }
+    ensures only { OnlyAt keeper.old.slots keeper.new.slots seat.old.slot }
+    ensures taken { IsTaken slot.new (slot_at keeper.new.slots seat.old.slot) keeper.new.book }
+    ensures asks { slot.new.asks ≡ slot.old.asks }
+    ensures seat { seat.new.book ≡ keeper.old.book }
+    ensures progress { ShowsProgress slot.new seat.old seat.new reading.old reading.new result }
+{
+    let number = meet_same(board, keeper, seat);
+    let waiting = drain(rt, keeper, slot, reading);
+    Progress {
+        change: number,
+        waiting,
+        held: slot.sub.held(),
+        mark: slot.sub.mark(),
+        out: slot.sub.is_marked(),
+    }
+}
+
+// A sync at a place that may be free, which it is not.
+fn sync_at<R: Wait>(
+    rt: &R,
+    board: &Board<Identity>,
+    keeper: &mut Keeper<Identity>,
+    slot: &mut Option<Subscription>,
+    seat: &mut Seat<Identity>,
+    reading: &mut Reading,
+) -> Progress
+    requires board { (keeper.old.board ≡ board.now) × (seat.old.board ≡ board.now) }
+    requires place { (0 < seat.old.slot) × (seat.old.slot < 65)
+        × (length keeper.old.slots ≡ 65) }
+    requires seat { IsSomeAnd seat.old.name (λ t. IdentityFits t reading.old.port) }
+    requires fits { SlotStands slot.old (slot_at keeper.old.slots seat.old.slot) keeper.old.book }
+    ensures board { keeper.new.board ≡ keeper.old.board }
+    ensures book { keeper.new.book ≡ keeper.old.book }
+    ensures only { OnlyAt keeper.old.slots keeper.new.slots seat.old.slot }
+    ensures fits { SlotStands slot.new (slot_at keeper.new.slots seat.old.slot) keeper.new.book }
+    ensures asks { asks_of slot.new (slot_at keeper.new.slots seat.old.slot)
+        ≤ asks_of slot.old (slot_at keeper.old.slots seat.old.slot) }
+    ensures kept { is_some slot.new ≡ is_some slot.old }
+    ensures seat { seat.new.book ≡ keeper.old.book }
+    ensures progress { (s : SubscriptionOf)
+        × ShowsProgress s seat.old seat.new reading.old reading.new result }
+{
+    let number = meet_same(board, keeper, seat);
+    let Some(taken) = slot else { unreachable!() };
+    notice_by(board, keeper, taken, seat, number);
+    sync_slot(rt, board, keeper, taken, seat, reading)
+}
+
+// The keeper and the seat of a place that may be free meet, and its name stays.
+fn meet_slot_at(
+    board: &Board<Identity>,
+    keeper: &mut Keeper<Identity>,
+    slot: &Option<Subscription>,
+    seat: &mut Seat<Identity>,
+) -> u64
+    requires board { (keeper.old.board ≡ board.now) × (seat.old.board ≡ board.now) }
+    requires place { (0 < seat.old.slot) × (seat.old.slot < 65)
+        × (length keeper.old.slots ≡ 65) }
+    requires seat { IsSome seat.old.name }
+    requires fits { SlotStands slot.now (slot_at keeper.old.slots seat.old.slot) keeper.old.book }
+    ensures number { result ≡ length keeper.old.book.changes }
+    ensures board { keeper.new.board ≡ keeper.old.board }
+    ensures book { keeper.new.book ≡ keeper.old.book }
+    ensures only { OnlyAt keeper.old.slots keeper.new.slots seat.old.slot }
+    ensures fits { SlotStands slot.now (slot_at keeper.new.slots seat.old.slot) keeper.new.book }
+    ensures asks { asks_of slot.now (slot_at keeper.new.slots seat.old.slot)
+        ≤ asks_of slot.now (slot_at keeper.old.slots seat.old.slot) }
+    ensures seat { seat.new ≡ record seat.old { book = keeper.old.book } }
+    ensures later { Extends keeper.old.book seat.old.book }
+{
+    let _ = slot;
+    meet_same(board, keeper, seat)
+}
+
+/// The seat of a slot knows the keeper's book, of as many changes as is answered.
+pub fn meet_in(
+    board: &Board<Identity>,
+    slots: &mut Slots,
+    place: usize,
+    seat: &mut Seat<Identity>,
+) -> u64
+    requires board { (slots.old.keeper.board ≡ board.now) × (seat.old.board ≡ board.now) }
+    requires place { (0 < place) × (place < 65) }
+    requires seat { (seat.old.slot ≡ place) × IsSome seat.old.name }
+    requires holding { SlotsStand slots.old slots.old.keeper.book }
+    ensures number { result ≡ length slots.old.keeper.book.changes }
+    ensures board { slots.new.keeper.board ≡ slots.old.keeper.board }
+    ensures book { slots.new.keeper.book ≡ slots.old.keeper.book }
+    ensures openings { slots.new.openings ≡ slots.old.openings }
+    ensures holding { SlotsStand slots.new slots.new.keeper.book }
+    ensures seat { seat.new ≡ record seat.old { book = slots.old.keeper.book } }
+    ensures later { Extends slots.old.keeper.book seat.old.book }
+{
+    meet_slot_at(board, &mut slots.keeper, &slots.subscriptions[place], seat)
+}
+
+/// How far the seat's subscription is. Its port is filled.
+pub fn sync_in<R: Wait>(
+    rt: &R,
+    board: &Board<Identity>,
+    slots: &mut Slots,
+    place: usize,
+    seat: &mut Seat<Identity>,
+    reading: &mut Reading,
+) -> Progress
+    requires board { (slots.old.keeper.board ≡ board.now) × (seat.old.board ≡ board.now) }
+    requires place { (0 < place) × (place < 65) }
+    requires seat { (seat.old.slot ≡ place)
+        × IsSomeAnd seat.old.name (λ t. IdentityFits t reading.old.port) }
+    requires holding { SlotsStand slots.old slots.old.keeper.book }
+    ensures board { slots.new.keeper.board ≡ slots.old.keeper.board }
+    ensures book { slots.new.keeper.book ≡ slots.old.keeper.book }
+    ensures openings { slots.new.openings ≡ slots.old.openings }
+    ensures holding { SlotsStand slots.new slots.new.keeper.book }
+    ensures seat { seat.new.book ≡ slots.old.keeper.book }
+    ensures progress { (s : SubscriptionOf)
+        × ShowsProgress s seat.old seat.new reading.old reading.new result }
+{
+    let keeper = &mut slots.keeper;
+    sync_at(
+        rt,
+        board,
+        keeper,
+        &mut slots.subscriptions[place],
+        seat,
+        reading,
+    )
+}

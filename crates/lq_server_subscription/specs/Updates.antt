@@ -1,0 +1,10 @@
+-- The update list of a query, opaque to what goes by its laws alone.
+use Rattle.std.specs.Prelude.{ℕ, List, Bool}
+use Rattle.lq_predicate_formula.specs.Query.{Query}
+use Rattle.lq_volume.specs.Book.{Book}
+use Rattle.lq_update.specs.declared.message.Message.{Message}
+use Rattle.lq_update.specs.Updates.{updates_of}
+
+-- the messages of the changes m + 1 to n of a book
+unfoldable pub updates : Query → Bool → Book → ℕ → ℕ → List Message
+updates q moved b m n = updates_of q moved b m n

@@ -1,0 +1,40 @@
+//! What goes through a port.
+use crate::identity::Identity;
+use lq_board::Keeper;
+use lq_port::Follows;
+use lq_predicate::Predicate;
+use lq_server_witness::Witness;
+use lq_update::Parcel;
+
+/// What goes through a port: a message or the mark, and the keeper's book when it was put, which
+/// contracts alone read.
+#[derive(Drop)]
+pub struct Delivery {
+    /// The message or the mark.
+    pub what: Parcel,
+    /// The keeper when it was put.
+    pub book: Witness<Keeper<Identity>>,
+}
+
+/// What the rule of a port goes by, fixed at the opening: the floor of the port.
+#[derive(Drop)]
+pub struct Opening {
+    /// The query.
+    pub query: Witness<Predicate>,
+    /// Whether one message tells of a node that changed its place within the result.
+    pub moved: bool,
+    /// The number of changes at the opening.
+    pub opened: u64,
+    /// The keeper at the opening.
+    pub book: Witness<Keeper<Identity>>,
+}
+
+impl Follows for Delivery {
+    type Floor = Opening;
+
+    ghost use Rattle.lq_server_subscription.specs.Rule.{MayFollow, no_opening};
+
+    ghost follows = { MayFollow };
+
+    ghost no_floor = { no_opening };
+}

@@ -1,0 +1,291 @@
+//! Reading: the end of a subscription that takes its parcels and folds them.
+ghost use Rattle.std.specs.Prelude.{◌≡◌, [], length, IfOk, IfSome, IfNone, OnOk, OnErr, Ok, Some, None, is_some, IsSome, IsTrue, true, ◌↔◌};
+ghost use mathlib.Core.List.{IsPrefix};
+ghost use Rattle.lq_value.specs.Refusal.{IsRefusedBy, first_refusal};
+ghost use Rattle.lq_volume.specs.Book.{Extends, state_of, state_at};
+ghost use Rattle.lq_volume.specs.Result.{result_of};
+ghost use Rattle.lq_board.specs.Book.{IsFullBook};
+ghost use Rattle.lq_update.specs.Fold.{EntriesRise, fold_refusals, folding_after, opened_at, folded, last_change};
+ghost use Rattle.lq_update.specs.Updates.{IsSettled};
+ghost use Rattle.lq_port.specs.End.{IsSamePort, Loses, all_put};
+ghost use Rattle.lq_port.specs.Port.{IsLegal};
+ghost use Rattle.lq_server_subscription.specs.Rule.{MayFollow, floor_of, query_of, whole};
+ghost use Rattle.lq_server_subscription.specs.Reading.{Gives, Fails, known, received, is_marked, mark_read, opening_of, IsTold};
+
+use crate::delivery::Delivery;
+use lq_desk_sub::Read;
+use lq_port::{PortIn, PortOut};
+use lq_update::{
+    Message, Parcel, Rebuild, foldings_follow, folds_give_results, rebuilds_take_all,
+    settled_is_tested, whole_folds_give_results,
+};
+use lq_value::{Entry, Refusal};
+use std::marker::Model;
+use std::sync::Wait;
+
+/// The end of a port for takes, with the result of what was received.
+///
+/// A contract sees it as a `ReadingHold`: the port, the result so far, and a message in hand,
+/// which was taken and for want of memory not folded yet.
+pub struct Reading {
+    output: PortOut<Delivery>,
+    rebuild: Rebuild,
+    hand: Option<Message>,
+    ended: bool,
+    opened: u64,
+}
+
+// One call takes it apart, wherever one is dropped.
+impl Drop for Reading {
+    fn drop(self) {
+        let Reading {
+            output: _,
+            rebuild: _,
+            hand: _,
+            ended: _,
+            opened: _,
+        } = self;
+    }
+}
+
+impl Model for Reading {
+    ghost use Rattle.lq_server_subscription.specs.Reading.{ReadingHold, Reads};
+    ghost use Rattle.std.specs.Prelude.{◌≡◌};
+    ghost use Rattle.std.specs.Coded.{codes};
+    ghost use Rattle.lq_port.specs.contracts.ends.PortOut as port_out;
+    ghost use Rattle.lq_server_subscription.specs.contracts.delivery.Delivery as delivery;
+    ghost use Rattle.lq_server_subscription.specs.contracts.delivery.Opening as opening_at;
+    ghost use Rattle.lq_server_subscription.specs.contracts.delivery.DeliveryFollows.TheImpl.{ghosts};
+
+    ghost Value = { ReadingHold };
+
+    ghost coded = { Prim.hlevel (
+      codes,
+      (port_out.the_row delivery.the_row opening_at.the_row ghosts).coded,
+    ) };
+
+    ghost view = { λ r. record { port = r.output; hand = r.hand; result = r.rebuild } };
+
+    ghost invariant = { λ r. Reads r.output r.rebuild r.hand r.ended
+        × (r.opened ≡ r.output.floor.opened) };
+}
+
+impl Reading {
+    /// A reading that received nothing yet, from a port of which nothing was taken and the query's
+    /// result at the opening. It takes no memory.
+    pub fn new(output: PortOut<Delivery>, rebuild: Rebuild) -> Reading
+        requires taken { output.taken ≡ [] }
+        requires opening { output.floor.opened ≡ length (floor_of output.floor).changes }
+        requires full { IsFullBook (floor_of output.floor) }
+        requires result { rebuild ≡ opened_at output.floor.opened
+            (result_of (query_of output.floor) (state_of (floor_of output.floor))) }
+        ensures { result ≡ record { port = output; hand = None; result = rebuild } }
+    {
+        let opened = rebuild.last_change();
+        Reading {
+            output,
+            rebuild,
+            hand: None,
+            ended: false,
+            opened,
+        }
+    }
+
+    /// The number of changes at the opening. It takes no memory.
+    pub fn opened(&self) -> u64
+        ensures { result ≡ self.now.port.floor.opened }
+    {
+        self.opened
+    }
+
+    /// Whether the mark was read. It takes no memory.
+    pub fn is_ended(&self) -> bool
+        ensures { result ≡ is_marked self.now }
+    {
+        self.ended
+    }
+
+    /// Whether a message is in hand, which the next read begins with. It takes no memory.
+    pub fn has_hand(&self) -> bool
+        ensures { result ≡ is_some self.now.hand }
+    {
+        self.hand.is_some()
+    }
+
+    /// The result after what was received, by rising node: the opening's, with each message
+    /// received folded in. After the mark it is the query's result after the mark's change. It
+    /// takes no memory.
+    pub fn result(&self) -> &[Entry]
+        ensures entries { result.now ≡ self.now.result.entries }
+        ensures rise { EntriesRise result.now }
+        ensures folded { result.now ≡ folded (opening_of self.now.port.floor).entries
+            (received self.now) }
+        ensures marked { IfSome (mark_read self.now) (λ k. result.now
+            ≡ result_of (query_of self.now.port.floor) (state_at (known self.now) k.change)) }
+    {
+        whole_folds_give_results();
+        foldings_follow();
+        self.rebuild.result()
+    }
+
+    /// Whether what was received is settled: nothing, or with the last message of a change at its
+    /// end. The result is then the query's after that change, or at the opening. It takes no
+    /// memory.
+    pub fn is_settled(&self) -> bool
+        ensures settled { result ≡ self.now.result.settled }
+        ensures received { (result ≡ true) ↔ IsSettled (received self.now) }
+        ensures whole { IsTrue result → self.now.result.entries
+            ≡ result_of (query_of self.now.port.floor)
+            (state_at (known self.now) self.now.result.change) }
+    {
+        folds_give_results();
+        foldings_follow();
+        settled_is_tested();
+        self.rebuild.is_settled()
+    }
+
+    /// The change of the latest message received, or `opened` before the first. It takes no
+    /// memory.
+    pub fn last_change(&self) -> u64
+        ensures change { result ≡ self.now.result.change }
+        ensures received { result ≡ last_change self.now.port.floor.opened (received self.now) }
+    {
+        foldings_follow();
+        self.rebuild.last_change()
+    }
+
+    /// What is so of each reading: its parcels were legal, and what was received is folded.
+    pub fn told(&self)
+        ensures { IsTold self.now }
+    {
+        let _ = &self.rebuild;
+    }
+
+    /// Takes the next parcel, and folds it where it is a message.
+    ///
+    /// `Empty` never while something is known to wait; `Ended` after the mark and only then.
+    /// Refused: `NoMemory`; the message then stays in hand, and is what the next read begins with.
+    /// It may wait for a step of the other end, but not for a parcel.
+    pub fn read<R: Wait>(&mut self, rt: &R) -> Result<Read, Refusal>
+        ensures refused { IsRefusedBy result None }
+        ensures same { IsSamePort self.old.port self.new.port }
+        ensures known { Extends (known self.new) (known self.old) }
+        ensures received { IsPrefix (received self.new)
+            (whole self.new.port.floor (known self.new)) }
+        ensures gives { IfOk result (Gives self.old self.new) }
+        ensures fails { OnErr result (Fails self.old self.new) }
+        ensures hand { OnErr result (IsSome self.new.hand) }
+        ensures over { IsSome (mark_read self.old) → result ≡ Ok Read.Ended }
+    {
+        self.read_by(rt, false)
+    }
+
+    /// As `read`, but where no parcel is there it waits for one.
+    ///
+    /// `Empty` then says besides that the other end is gone, which no clause says.
+    pub fn read_waiting<R: Wait>(&mut self, rt: &R) -> Result<Read, Refusal>
+        ensures refused { IsRefusedBy result None }
+        ensures same { IsSamePort self.old.port self.new.port }
+        ensures known { Extends (known self.new) (known self.old) }
+        ensures received { IsPrefix (received self.new)
+            (whole self.new.port.floor (known self.new)) }
+        ensures gives { IfOk result (Gives self.old self.new) }
+        ensures fails { OnErr result (Fails self.old self.new) }
+        ensures hand { OnErr result (IsSome self.new.hand) }
+        ensures over { IsSome (mark_read self.old) → result ≡ Ok Read.Ended }
+    {
+        self.read_by(rt, true)
+    }
+
+    // Gives what is in hand, or else what comes next.
+    fn read_by<R: Wait>(&mut self, rt: &R, waits: bool) -> Result<Read, Refusal>
+        ensures refused { IsRefusedBy result None }
+        ensures same { IsSamePort self.old.port self.new.port }
+        ensures known { Extends (known self.new) (known self.old) }
+        ensures received { IsPrefix (received self.new)
+            (whole self.new.port.floor (known self.new)) }
+        ensures gives { IfOk result (Gives self.old self.new) }
+        ensures fails { OnErr result (Fails self.old self.new) }
+        ensures hand { OnErr result (IsSome self.new.hand) }
+        ensures over { IsSome (mark_read self.old) → result ≡ Ok Read.Ended }
+    {
+        rebuilds_take_all();
+        if let Some(message) = self.hand.take() {
+            return keep(&mut self.rebuild, &mut self.hand, message);
+        }
+        if self.ended {
+            return Ok(Read::Ended);
+        }
+        let Some(item) = take_one(&mut self.output, rt, waits) else {
+            return Ok(Read::Empty);
+        };
+        let Delivery { what, book: _ } = item;
+        match what {
+            Parcel::Fin(mark) => {
+                self.ended = true;
+                Ok(Read::Fin(mark))
+            }
+            Parcel::Update(message) => keep(&mut self.rebuild, &mut self.hand, message),
+        }
+    }
+
+    /// How many parcels wait, where the two ends stand side by side.
+    ///
+    /// Each end then knows all that was put and all that was taken. It neither waits nor takes
+    /// memory.
+    pub fn beside(&mut self, input: &mut PortIn<Delivery>) -> u64
+        requires port { self.old.port.port ≡ input.old.port }
+        ensures value { result ≡ length self.new.port.ahead }
+        ensures put { all_put self.new.port ≡ all_put input.old }
+        ensures taken { self.new.port.taken ≡ self.old.port.taken }
+        ensures known { IsPrefix self.old.port.ahead self.new.port.ahead }
+        ensures input { (input.new.taken ≡ self.new.port.taken)
+            × (input.new.ahead ≡ self.new.port.ahead) }
+        ensures floor { self.old.port.floor ≡ input.old.floor }
+        ensures legal { IsLegal MayFollow self.new.port.floor (all_put self.new.port) }
+        ensures ports { IsSamePort self.old.port self.new.port × IsSamePort input.old input.new }
+        ensures hand { self.new.hand ≡ self.old.hand }
+        ensures result { self.new.result ≡ self.old.result }
+    {
+        self.output.beside(input)
+    }
+}
+
+// Folds a message, or keeps it in hand where there is no memory.
+fn keep(
+    rebuild: &mut Rebuild,
+    hand: &mut Option<Message>,
+    message: Message,
+) -> Result<Read, Refusal>
+    requires { first_refusal (fold_refusals rebuild.old message) ≡ None }
+    ensures refused { IsRefusedBy result None }
+    ensures ok { OnOk result
+        ((rebuild.new ≡ folding_after rebuild.old message) × (hand.new ≡ None)) }
+    ensures err { OnErr result ((rebuild.new ≡ rebuild.old) × (hand.new ≡ Some message)) }
+    ensures read { IfOk result (λ r. r ≡ Read.Update message) }
+{
+    match rebuild.apply(&message) {
+        Ok(()) => {
+            *hand = None;
+            Ok(Read::Update(message))
+        }
+        Err(refusal) => {
+            *hand = Some(message);
+            Err(refusal)
+        }
+    }
+}
+
+// The next parcel, with or without waiting for it.
+fn take_one<R: Wait>(output: &mut PortOut<Delivery>, rt: &R, waits: bool) -> Option<Delivery>
+    ensures some { IfSome result (λ item. Loses output.old item output.new) }
+    ensures follows { IfSome result (λ item. MayFollow output.old.taken output.old.floor item) }
+    ensures port { IsSamePort output.old output.new }
+    ensures empty { IfNone result (output.old.ahead ≡ []) }
+    ensures none { IfNone result (output.new ≡ output.old) }
+{
+    if waits {
+        return output.take_waiting(rt);
+    }
+    output.take(rt)
+}

@@ -1,0 +1,138 @@
+//! A subscription under a lock: how it takes a change, and how it ends.
+ghost use Rattle.std.specs.Prelude.{◌≡◌, ◌+◌, ◌<◌, ◌^◌, ◌⊎◌, [], ◌∷◌, length, None, true, is_none, IsSome, OnOk};
+ghost use Rattle.lq_value.specs.Refusal.{IsRefusedBy};
+ghost use Rattle.lq_volume.specs.Book.{Book, grown, state_of};
+ghost use Rattle.lq_volume.specs.Change.{IsLawful};
+ghost use Rattle.lq_board.specs.Book.{IsFullBook};
+ghost use Rattle.lq_server_subscription.specs.Standing.{StandsAt, IsFilled, IsReady, SameButHeld, ShutFits};
+ghost use Rattle.lq_server_subscription.specs.Marking.{hung_mark, first_close};
+
+use crate::delivery::Delivery;
+use crate::identity::Shut;
+use lq_desk_sub::Sub;
+use lq_port::PortIn;
+use lq_update::{Cause, steps_are_few};
+use lq_value::Refusal;
+use lq_volume::{Change, Planned};
+
+/// A subscription with the end of its port for puts, as a lock has it.
+pub struct Subscription {
+    /// The query, what is held, and the mark.
+    pub sub: Sub,
+    /// The end of its port for puts.
+    pub input: PortIn<Delivery>,
+    /// The places of its port.
+    pub places: u64,
+    /// How often its slot's seat had asked at the opening.
+    pub asks: u64,
+    /// What its first close answered.
+    pub shut: Shut,
+}
+
+// One call takes it apart, wherever one is dropped.
+impl Drop for Subscription {
+    fn drop(self) {
+        let Subscription {
+            sub: _,
+            input: _,
+            places: _,
+            asks: _,
+            shut: _,
+        } = self;
+    }
+}
+
+/// Makes the messages of a lawful change that isn't made yet, where the subscription is live.
+///
+/// What it holds stays, and so does its mark. Refused: `NoMemory`.
+pub fn ready(slot: &mut Subscription, planned: &Planned<'_>) -> Result<(), Refusal>
+    requires few { slot.old.sub.held.sent < 2 ^ 63 }
+    ensures refused { IsRefusedBy result None }
+    ensures held { slot.new.sub.held ≡ slot.old.sub.held }
+    ensures others { SameButHeld slot.old slot.new }
+    ensures shut { slot.new.shut ≡ slot.old.shut }
+    ensures ready { OnOk result (IsReady slot.new.sub planned.now.before planned.now.change) }
+{
+    if !slot.sub.is_live() {
+        return Ok(());
+    }
+    slot.sub.ready_planned(planned)
+}
+
+/// Holds the messages that `ready` made for this change, or ends with an overrun where they are
+/// too many.
+///
+/// It then stands over the book with the change, where it stood over the book before. One that
+/// has ended stays as it is. It takes no memory.
+pub fn commit(slot: &mut Subscription, change: &Change)
+    requires few { slot.old.sub.held.sent < 2 ^ 63 }
+    requires filled { IsFilled slot.old }
+    ensures stands { (book : Book) → StandsAt slot.old book
+        → IsReady slot.old.sub (state_of book) change.now
+        → IsLawful (state_of book) change.now
+        → IsFullBook (grown book (change.now ∷ []))
+        → StandsAt slot.new (grown book (change.now ∷ [])) }
+    ensures others { SameButHeld slot.old slot.new }
+    ensures shut { slot.new.shut ≡ slot.old.shut }
+    ensures hung { hung_mark slot.new.sub.held.mark → hung_mark slot.old.sub.held.mark }
+{
+    let _ = change;
+    steps_are_few();
+    if !slot.sub.is_live() {
+        return;
+    }
+    slot.sub.commit();
+}
+
+/// Ends it as `HungUp`, where it is live and its reader asked.
+///
+/// `number` is how many changes there are, and `asked` whether the reader asked. Without that it
+/// stays as it is, and so does one that has ended. It takes no memory.
+pub fn notice(slot: &mut Subscription, hang_up_asked: bool, number: u64)
+    requires few { slot.old.sub.held.sent < 2 ^ 63 }
+    ensures stands { (book : Book) → StandsAt slot.old book → number ≡ length book.changes
+        → StandsAt slot.new book }
+    ensures others { SameButHeld slot.old slot.new }
+    ensures shut { slot.new.shut ≡ slot.old.shut }
+    ensures messages { slot.new.sub.held.messages ≡ slot.old.sub.held.messages }
+    ensures hung { hung_mark slot.new.sub.held.mark
+        → (hang_up_asked ≡ true) ⊎ hung_mark slot.old.sub.held.mark }
+    ensures ended { hang_up_asked ≡ true → IsSome slot.new.sub.held.mark }
+    ensures still { IsSome slot.old.sub.held.mark
+        → slot.new.sub.held.mark ≡ slot.old.sub.held.mark }
+{
+    if !hang_up_asked {
+        return;
+    }
+    if !slot.sub.is_live() {
+        return;
+    }
+    slot.sub.finish_with(Cause::HungUp, number);
+}
+
+/// Ends it as `Closed`, where it is live, and tells whether it did.
+///
+/// `number` is how many changes there are. One that has ended keeps its mark. The answer of the
+/// first close is kept in `shut`. It takes no memory.
+pub fn close(slot: &mut Subscription, number: u64) -> bool
+    requires fits { ShutFits slot.old.shut slot.old.sub.held.mark }
+    requires few { slot.old.sub.held.sent < 2 ^ 63 }
+    ensures stands { (book : Book) → StandsAt slot.old book → number ≡ length book.changes
+        → StandsAt slot.new book }
+    ensures others { SameButHeld slot.old slot.new }
+    ensures messages { slot.new.sub.held.messages ≡ slot.old.sub.held.messages }
+    ensures hung { hung_mark slot.new.sub.held.mark → hung_mark slot.old.sub.held.mark }
+    ensures shut { slot.new.shut ≡ first_close slot.old.shut result number }
+    ensures closes { result ≡ is_none slot.old.sub.held.mark }
+    ensures ended { IsSome slot.new.sub.held.mark }
+{
+    if !slot.sub.is_live() {
+        if slot.shut == Shut::Never {
+            slot.shut = Shut::Late;
+        }
+        return false;
+    }
+    slot.sub.finish_with(Cause::Closed, number);
+    slot.shut = Shut::At(number);
+    true
+}

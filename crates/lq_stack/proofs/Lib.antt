@@ -1,5 +1,0 @@
--- Read in this order: FitLemmas, StarredLemmas (a comparison's size, and a pattern that finds a
--- text's characters), then StackLemmas (pushes).
-pub mod FitLemmas
-pub mod StarredLemmas
-pub mod StackLemmas

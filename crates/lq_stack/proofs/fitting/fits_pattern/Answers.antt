@@ -1,7 +1,0 @@
-use Rattle.lq_pattern.specs.declared.literal.Literal.TheVariants as literal
-use Rattle.lq_stack.proofs.FitLemmas.{capped_test}
-use Rattle.lq_stack.proofs.fitting.fits_pattern.Goals as goal
-
-pub returns : goal.returns
-returns c = capped_test _ _
-    (c.comparison_size_with.ensures (literal.Pattern c.args.pattern.now) c.pattern_size.ensures)

@@ -1,6 +1,0 @@
-use Rattle.std.proofs.Common.{◌≡◌, ◌++◌}
-use Rattle.lq_pattern.specs.Pattern.{plain_elements}
-use Rattle.lq_stack.proofs.stack_comparison.push_plain.Given as goal
-
-abbrev pub invariant-loop-c : goal.invariant-loop-c
-invariant-loop-c l = l.elements.items ≡ l.fn.elements.items ++ plain_elements l.yielded

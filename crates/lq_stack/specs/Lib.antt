@@ -1,3 +1,0 @@
-pub mod Operand
-pub mod Stacked
-pub mod Stack

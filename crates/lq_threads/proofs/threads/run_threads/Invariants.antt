@@ -1,5 +1,0 @@
-use Rattle.lq_threads.proofs.threads.run_threads.Given as goal
-
--- N names the board of the base.
-abbrev pub ghosts-serve : goal.ghosts-serve
-ghosts-serve g a = record { board = a.base }

@@ -1,0 +1,33 @@
+use Rattle.lq_value.specs.Sign.{signs_of}
+use Rattle.lq_value.proofs.SourceLemmas.{element_shrinks, elements_more, end_refused, end_value, left_within, stuck_refused}
+use Rattle.lq_value.proofs.source.read_elements.Goals as goal
+
+pub returns-in-End-clause-refused : goal.returns-in-End-clause-refused
+returns-in-End-clause-refused c =
+    end_refused c.args.source.now _ _ c.loop-elements.invariant.so_far c.in-End.ensures
+
+pub returns-in-End-clause-value : goal.returns-in-End-clause-value
+returns-in-End-clause-value c =
+    end_value c.args.source.now _ _ c.loop-elements.invariant.so_far c.in-End.ensures
+
+pub loop-elements-smaller : goal.loop-elements-smaller
+loop-elements-smaller c = element_shrinks (signs_of c.loop-elements.left.now)
+    c.in-Has.ensures.element (signs_of c.in-Has.rest.now) c.in-Has.ensures.is
+
+pub loop-elements-preserved : goal.loop-elements-preserved
+loop-elements-preserved c = record {
+  text = c.in-Has.ensures.text;
+  so_far = elements_more _ _ _ _ _ _ _ c.loop-elements.invariant.so_far c.in-Has.ensures.is
+      c.in-Has.ensures.kept c.with_element-elements.ensures;
+}
+
+pub overflow_sub-place : goal.overflow_sub-place
+overflow_sub-place c = left_within c.args.source.now c.loop-elements.left.now _ c.utf8.source
+    c.loop-elements.invariant.text c.loop-elements.invariant.so_far
+
+pub returns-in-Faulty-clause-refused : goal.returns-in-Faulty-clause-refused
+returns-in-Faulty-clause-refused c = (
+  tt,
+  stuck_refused c.args.source.now c.loop-elements.left.now _ c.loop-elements.invariant.text
+      c.loop-elements.invariant.so_far c.in-Faulty.ensures,
+)

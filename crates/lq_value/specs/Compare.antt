@@ -1,0 +1,65 @@
+-- When a comparison of what an attribute holds with a literal is true.
+use Rattle.std.specs.Prelude.{ℕ, ℤ, List, Bool, true, false, not, Option, Some, None}
+use Rattle.std.specs.Cmp.Lexicographic.{slice_cmp}
+use Rattle.std.specs.Ordering.{nat_cmp, int_cmp, is_lt, is_le, is_gt, is_ge, is_eq}
+use Rattle.std.specs.Str.{chars}
+use Rattle.std.specs.declared.cmp.Ordering.{Ordering}
+use Rattle.lq_value.specs.Held.{Held, Words, Number}
+use Rattle.lq_value.specs.declared.literal.Literal.{Literal}
+use Rattle.lq_value.specs.declared.literal.Literal.TheVariants as literal
+use Rattle.lq_value.specs.declared.op.Op.{Op}
+use Rattle.lq_value.specs.declared.op.Op.TheVariants.{Eq, Ne, Lt, Le, Gt, Ge}
+use Rattle.lq_value.specs.Number.{number_of}
+use Rattle.lq_value.specs.Pattern.{fits, pattern_number}
+
+-- whether an operator accepts the order of the two sides
+abbrev pub accepts : Op → Ordering → Bool
+accepts Eq order = is_eq order
+accepts Ne order = not (is_eq order)
+accepts Lt order = is_lt order
+accepts Le order = is_le order
+accepts Gt order = is_gt order
+accepts Ge order = is_ge order
+
+-- `==` and `!=` take a pattern, the operators of order a plain text
+abbrev pub suits : Literal → Op → Bool
+suits (literal.Pattern elements) Eq = true
+suits (literal.Pattern elements) Ne = true
+suits (literal.Pattern elements) Lt = false
+suits (literal.Pattern elements) Le = false
+suits (literal.Pattern elements) Gt = false
+suits (literal.Pattern elements) Ge = false
+suits (literal.Plain text) Eq = false
+suits (literal.Plain text) Ne = false
+suits (literal.Plain text) Lt = true
+suits (literal.Plain text) Le = true
+suits (literal.Plain text) Gt = true
+suits (literal.Plain text) Ge = true
+
+-- the whole number that a literal writes
+abbrev pub literal_number : Literal → Option ℤ
+literal_number (literal.Pattern elements) = pattern_number elements
+literal_number (literal.Plain text) = number_of text
+
+-- `==` holds of a text where the pattern fits it, `!=` where it doesn't
+abbrev pub fits_by : Op → Bool → Bool
+fits_by Eq fit = fit
+fits_by Ne fit = not fit
+fits_by Lt fit = false
+fits_by Le fit = false
+fits_by Gt fit = false
+fits_by Ge fit = false
+
+-- a text goes by the pattern or by its bytes
+abbrev pub compares_text : List ℕ → Op → Literal → Bool
+compares_text bytes op (literal.Pattern elements) = fits_by op (fits elements (chars bytes))
+compares_text bytes op (literal.Plain text) = accepts op (slice_cmp nat_cmp bytes text)
+
+-- a number is compared as a whole number, and falsely with a literal that writes none
+abbrev pub compares_number : ℤ → Op → Option ℤ → Bool
+compares_number value op None = false
+compares_number value op (Some number) = accepts op (int_cmp value number)
+
+abbrev pub compares : Held → Op → Literal → Bool
+compares (Words bytes) op lit = compares_text bytes op lit
+compares (Number value) op lit = compares_number value op (literal_number lit)

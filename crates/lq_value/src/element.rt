@@ -1,0 +1,138 @@
+//! The elements of a pattern.
+ghost use Rattle.std.specs.Prelude.{◌≡◌, ◌++◌, ◌∷◌, [], None, IfOk, true};
+ghost use Rattle.lq_value.specs.Refusal.{IsRefusedBy};
+ghost use Rattle.lq_value.specs.Element.{has, set_has, takes, is_list_empty};
+
+use crate::refusal::Refusal;
+use std::alloc::Global;
+use std::marker::Model;
+
+/// One item of a set: a character, or the characters from one to another, both among them.
+#[derive(Clone, Copy, PartialEq, Eq)]
+pub enum Item {
+    One(char),
+    Range(char, char),
+}
+
+impl Item {
+    /// Whether the character is the item's, or one of them. It takes no memory.
+    pub(crate) fn has(self, c: char) -> bool
+        ensures { result ≡ has self c }
+    {
+        match self {
+            Item::One(d) => d == c,
+            Item::Range(first, last) => first <= c && c <= last,
+        }
+    }
+}
+
+/// The items of a set, in the order of its source.
+///
+/// A contract sees them as their list.
+#[derive(Drop)]
+pub struct Items {
+    items: Vec<Item>,
+}
+
+impl Model for Items {
+    ghost use Rattle.std.specs.Prelude.{List};
+    ghost use Rattle.lq_value.specs.declared.element.Item.{Item};
+
+    ghost Value = { List Item };
+
+    ghost view = { λ set. set.items.items };
+}
+
+impl Items {
+    /// No items. It takes no memory.
+    pub(crate) fn new(alloc: Global) -> Items
+        ensures { result ≡ [] }
+    {
+        Items {
+            items: Vec::new(alloc),
+        }
+    }
+
+    /// Whether there is no item. It takes no memory.
+    pub(crate) fn is_empty(&self) -> bool
+        ensures { result ≡ is_list_empty self.now }
+    {
+        self.items.is_empty()
+    }
+
+    /// The items in their order. It takes no memory.
+    pub fn as_slice(&self) -> &[Item]
+        ensures { result.now ≡ self.now }
+    {
+        self.items.as_slice()
+    }
+
+    /// Whether an item has the character. It takes no memory.
+    pub(crate) fn has(&self, c: char) -> bool
+        ensures { result ≡ set_has self.now c }
+    {
+        self.items.iter().any(|item| item.has(c))
+    }
+
+    /// One item more, behind the others. Refused: `NoMemory`.
+    pub(crate) fn push(&mut self, item: Item) -> Result<(), Refusal>
+        ensures refused { IsRefusedBy result None }
+        ensures value { IfOk result (λ _. self.new ≡ self.old ++ item ∷ []) }
+    {
+        self.items.push(item)?;
+        Ok(())
+    }
+
+    /// The same items again. Refused: `NoMemory`.
+    pub(crate) fn copy(&self, alloc: Global) -> Result<Items, Refusal>
+        ensures refused { IsRefusedBy result None }
+        ensures value { IfOk result (λ items. items ≡ self.now) }
+    {
+        Ok(Items {
+            items: Vec::from_slice(alloc, self.items.as_slice())?,
+        })
+    }
+}
+
+/// One element of a pattern, and what part of a text it fits.
+#[derive(Drop)]
+pub enum Element {
+    /// Any run of characters, also the empty one.
+    Star,
+    /// One character.
+    Any,
+    /// The character itself.
+    Plain(char),
+    /// One character that an item has, or where it is negated one that no item has.
+    Set { negated: bool, items: Items },
+}
+
+impl Element {
+    /// Whether the element is one that takes a single character, and takes this one.
+    pub(crate) fn takes(&self, c: char) -> bool
+        ensures { result ≡ takes self.now c }
+    {
+        match self {
+            Element::Star => false,
+            Element::Any => true,
+            Element::Plain(d) => *d == c,
+            Element::Set { negated, items } => items.has(c) != *negated,
+        }
+    }
+
+    /// The same element again. Refused: `NoMemory`.
+    pub(crate) fn copy(&self, alloc: Global) -> Result<Element, Refusal>
+        ensures refused { IsRefusedBy result None }
+        ensures value { IfOk result (λ element. element ≡ self.now) }
+    {
+        match self {
+            Element::Star => Ok(Element::Star),
+            Element::Any => Ok(Element::Any),
+            Element::Plain(c) => Ok(Element::Plain(*c)),
+            Element::Set { negated, items } => Ok(Element::Set {
+                negated: *negated,
+                items: items.copy(alloc)?,
+            }),
+        }
+    }
+}

@@ -1,0 +1,101 @@
+//! What an attribute is compared with, and the comparison.
+ghost use Rattle.std.specs.Prelude.{◌≡◌, None, IfOk, IsTrue};
+ghost use Rattle.lq_value.specs.Refusal.{IsRefusedBy};
+ghost use Rattle.lq_value.specs.Held.{held_of};
+ghost use Rattle.lq_value.specs.Compare.{compares, compares_number, compares_text, literal_number, suits};
+
+use crate::op::Op;
+use crate::pattern::Pattern;
+use crate::refusal::Refusal;
+use crate::text::Text;
+use crate::view::View;
+use std::alloc::Global;
+
+/// What an attribute is compared with: a pattern for `Eq` and `Ne`, a plain text for the
+/// operators of order.
+#[derive(Drop)]
+pub enum Literal {
+    Pattern(Pattern),
+    Plain(Text),
+}
+
+impl Literal {
+    /// Whether the operator takes a literal of this sort. It takes no memory.
+    pub fn suits(&self, op: Op) -> bool
+        ensures { result ≡ suits self.now op }
+    {
+        match (self, op) {
+            (Literal::Pattern(_), Op::Eq | Op::Ne) => true,
+            (Literal::Plain(_), Op::Lt | Op::Le | Op::Gt | Op::Ge) => true,
+            _ => false,
+        }
+    }
+
+    /// The whole number that the literal writes, if it writes one. It takes no memory.
+    pub fn number(&self) -> Option<i128>
+        ensures { result ≡ literal_number self.now }
+    {
+        match self {
+            Literal::Pattern(pattern) => pattern.number(),
+            Literal::Plain(text) => text.number(),
+        }
+    }
+
+    /// Another literal that is the same. Refused: `NoMemory`.
+    pub fn copy(&self, alloc: Global) -> Result<Literal, Refusal>
+        ensures refused { IsRefusedBy result None }
+        ensures value { IfOk result (λ literal. literal ≡ self.now) }
+    {
+        match self {
+            Literal::Pattern(pattern) => {
+                let pattern = pattern.copy(alloc)?;
+                Ok(Literal::Pattern(pattern))
+            }
+            Literal::Plain(text) => {
+                let text = text.copy(alloc)?;
+                Ok(Literal::Plain(text))
+            }
+        }
+    }
+}
+
+/// Compares what an attribute holds with a literal that suits the operator.
+///
+/// `Eq` holds of a text where the pattern fits all of it and `Ne` where it doesn't; the operators
+/// of order compare bytes. Numbers are compared as whole numbers, and falsely, also by `Ne`, with
+/// a literal that writes none. It takes no memory. The operators are BQuery's.
+pub fn compare(view: View<'_>, op: Op, literal: &Literal) -> bool
+    requires { IsTrue (suits literal.now op) }
+    ensures { result ≡ compares (held_of view.entry) op literal.now }
+{
+    match view {
+        View::Text(text) => compare_text(text, op, literal),
+        View::Int32(value) => compare_number(value as i128, op, literal),
+        View::Int64(value) => compare_number(value as i128, op, literal),
+        View::UInt32(value) => compare_number(value as i128, op, literal),
+        View::UInt64(value) => compare_number(value as i128, op, literal),
+    }
+}
+
+fn compare_number(value: i128, op: Op, literal: &Literal) -> bool
+    ensures { result ≡ compares_number value op (literal_number literal.now) }
+{
+    match literal.number() {
+        None => false,
+        Some(number) => op.accepts(value.cmp(&number)),
+    }
+}
+
+fn compare_text(text: &str, op: Op, literal: &Literal) -> bool
+    requires { IsTrue (suits literal.now op) }
+    ensures { result ≡ compares_text text.now op literal.now }
+{
+    match literal {
+        Literal::Pattern(pattern) => match op {
+            Op::Eq => pattern.matches(text),
+            Op::Ne => !pattern.matches(text),
+            _ => false,
+        },
+        Literal::Plain(plain) => op.accepts(text.cmp(plain.as_str())),
+    }
+}

@@ -1,0 +1,132 @@
+//! Matching a text by elements, going back to the latest star alone.
+ghost use Rattle.std.specs.Prelude.{◌≡◌, MatchOption, false};
+ghost use Rattle.std.specs.Str.{chars};
+ghost use Rattle.lq_value.specs.Matching.{Finds, IsAtStar, IsTaken, PassesToStar};
+ghost use Rattle.lq_value.specs.Pattern.{fits, is_end, some_rest};
+
+use crate::element::Element;
+use crate::first::first_char;
+
+/// What is left of a pattern and of a text.
+#[derive(Clone, Copy)]
+pub(crate) struct Left<'a> {
+    pub(crate) elements: &'a [Element],
+    pub(crate) text: &'a str,
+}
+
+/// What came of matching one element.
+#[derive(Clone, Copy)]
+pub(crate) enum Taken<'a> {
+    /// It took the first character.
+    More(Left<'a>),
+    /// It is a star, or there is none.
+    AtStar,
+    /// The pattern doesn't fit the text.
+    Never,
+}
+
+/// Whether the elements fit the whole text. It takes no memory.
+///
+/// It takes at most about as many steps as the elements' number times the text's length: it
+/// goes back to the latest star alone, since that one takes what any earlier star could have.
+pub(crate) fn fits_text(left: Left<'_>) -> bool
+    ensures { result ≡ fits left.entry.elements.now (chars left.entry.text.now) }
+{
+    match pass(left) {
+        None => false,
+        Some(left) => fits_stars(left),
+    }
+}
+
+// The same from a star on, or where there are no elements.
+fn fits_stars(start: Left<'_>) -> bool
+    requires { IsAtStar start.elements.now }
+    ensures { result ≡ fits start.entry.elements.now (chars start.entry.text.now) }
+{
+    let mut left = start;
+    while let Some((_, after)) = left.elements.split_first() {
+        match find(Left {
+            elements: after,
+            text: left.text,
+        }) {
+            None => return false,
+            Some(found) => left = found,
+        }
+    }
+    is_at_end(left.text)
+}
+
+fn is_at_end(text: &str) -> bool
+    ensures { result ≡ is_end (chars text.now) }
+{
+    first_char(text).is_none()
+}
+
+// What is left behind the first place of the text at which the elements up to the next star fit.
+#[tactic(auto, using(crate::proofs::MatchingLemmas::found_later, crate::proofs::MatchingLemmas::some_later))]
+fn find<'a>(start: Left<'a>) -> Option<Left<'a>>
+    ensures { MatchOption result
+        (some_rest (fits start.entry.elements.now) (chars start.entry.text.now) ≡ false)
+        (λ found. Finds start.entry.elements.now (chars start.entry.text.now)
+        found.elements.now (chars found.text.now)) }
+{
+    let mut here = start;
+    loop {
+        if let Some(found) = find_here(here) {
+            return Some(found);
+        }
+        match first_char(here.text) {
+            None => return None,
+            Some((_, text)) => here.text = text,
+        }
+    }
+}
+
+// The same at the text's front alone: the elements pass up to a star, or to the text's end.
+#[tactic(auto, using(crate::proofs::MatchingLemmas::found_at_star, crate::proofs::MatchingLemmas::found_at_end, crate::proofs::MatchingLemmas::not_found))]
+fn find_here<'a>(here: Left<'a>) -> Option<Left<'a>>
+    ensures { MatchOption result
+        (fits here.entry.elements.now (chars here.entry.text.now) ≡ false)
+        (λ found. Finds here.entry.elements.now (chars here.entry.text.now)
+        found.elements.now (chars found.text.now)) }
+{
+    let left = pass(here)?;
+    match left.elements.split_first() {
+        Some(_) => Some(left),
+        None if is_at_end(left.text) => Some(left),
+        None => None,
+    }
+}
+
+// What is left where each element up to the next star has taken a character.
+fn pass<'a>(start: Left<'a>) -> Option<Left<'a>>
+    ensures { MatchOption result
+        (fits start.entry.elements.now (chars start.entry.text.now) ≡ false)
+        (λ left. PassesToStar start.entry.elements.now (chars start.entry.text.now)
+        left.elements.now (chars left.text.now)) }
+{
+    let mut left = start;
+    loop {
+        match take_one(left) {
+            Taken::More(more) => left = more,
+            Taken::AtStar => return Some(left),
+            Taken::Never => return None,
+        }
+    }
+}
+
+// One element and one character more.
+fn take_one<'a>(left: Left<'a>) -> Taken<'a>
+    ensures { IsTaken result left.entry.elements.now (chars left.entry.text.now) }
+{
+    let Some((element, elements)) = left.elements.split_first() else {
+        return Taken::AtStar;
+    };
+    if let Element::Star = element {
+        return Taken::AtStar;
+    }
+    match first_char(left.text) {
+        Some((c, text)) if element.takes(c) => Taken::More(Left { elements, text }),
+        _ => Taken::Never,
+    }
+}

@@ -1,0 +1,245 @@
+//! Patterns, and the texts that they fit.
+ghost use Rattle.std.specs.Prelude.{◌≡◌, ◌↔◌, ℕ, None, Ok, IfOk, IfErr, IfSome, IsTrue, MatchOption};
+ghost use Rattle.std.specs.Str.{chars};
+ghost use Rattle.std.specs.String.{string_bytes};
+ghost use Rattle.lq_value.specs.Refusal.{IsRefusedBy};
+ghost use Rattle.lq_value.specs.Pattern.{Fits, fits, plain_chars, plain_elements, pattern_number, starred_elements};
+ghost use Rattle.lq_value.specs.Sign.{signs_of};
+ghost use Rattle.lq_value.specs.Source.{pattern_of, source_refusal};
+ghost use Rattle.lq_value.specs.Written.{HasFaultAt, Writes};
+ghost use Rattle.lq_value.specs.declared.refusal.Refusal.TheVariants.{BadQuery};
+
+use crate::digits::number_of_bytes;
+use crate::element::Element;
+use crate::matching::{Left, fits_text};
+use crate::refusal::Refusal;
+use crate::source::read_elements;
+use crate::starred::{Starred, without_stars};
+use std::alloc::Global;
+use std::marker::Model;
+
+/// A pattern: a list of elements, read from the left, that a whole text fits or doesn't.
+///
+/// A contract sees it as its list of elements. The patterns are this project's own.
+pub struct Pattern {
+    form: Form,
+}
+
+// One call takes it apart, wherever one is dropped.
+impl Drop for Pattern {
+    fn drop(self) {
+        let Pattern { form: _ } = self;
+    }
+}
+
+// How the elements are kept.
+#[derive(Drop)]
+pub(crate) enum Form {
+    // The text of plain elements, which compares by its bytes, and the number that it writes.
+    PlainText {
+        text: String,
+        number: Option<i128>,
+    },
+    // Elements that are plain but for a first and a last star, and the text between these.
+    StarredText {
+        elements: Vec<Element>,
+        starred: Starred,
+    },
+    // Other elements that are not all plain.
+    Elements(Vec<Element>),
+}
+
+/// The elements of a pattern, from the left: plain ones as their text, or a list.
+pub enum Elements<'a> {
+    /// Each character is a plain element.
+    Text(&'a str),
+    /// Not all of these are plain.
+    List(&'a [Element]),
+}
+
+impl Model for Pattern {
+    ghost use Rattle.std.specs.Prelude.{List};
+    ghost use Rattle.lq_value.specs.declared.element.Element.{Element};
+    ghost use Rattle.lq_value.specs.Pattern.{elements_of, IsTextIfPlain};
+
+    ghost Value = { List Element };
+
+    ghost view = { λ pattern. elements_of pattern.form };
+
+    ghost invariant = { λ pattern. IsTextIfPlain pattern.form };
+}
+
+impl Pattern {
+    ghost use Rattle.lq_value.specs.Elements.{elements_shown};
+
+    /// The pattern that a source text writes.
+    ///
+    /// `*` is a star, `?` any character, `[..]` a set and `[^..]` a negated one; `\` before a
+    /// character makes it plain. Refused, the first that fits: `BadQuery` with the byte place of
+    /// the leftmost fault (the `[` of a set that is empty, has no end, or has a range that falls; a
+    /// `\` that ends the source), `NoMemory`.
+    pub fn read(alloc: Global, source: &str) -> Result<Pattern, Refusal>
+        ensures value { IfOk result (λ pattern. pattern_of source.now ≡ Ok pattern) }
+        ensures written { IfOk result (λ pattern. Writes (signs_of source.now) pattern) }
+
+        // The leftmost fault, and where it is.
+        ensures refused { IsRefusedBy result (source_refusal source.now) }
+        ensures fault { IfErr result
+            (λ e. (place : ℕ) → e ≡ BadQuery place → HasFaultAt source.now place) }
+    {
+        let elements = read_elements(alloc, source)?;
+        Pattern::of(alloc, elements)
+    }
+
+    /// The pattern with these elements. Refused: `NoMemory`.
+    pub fn of(alloc: Global, elements: Vec<Element>) -> Result<Pattern, Refusal>
+        ensures refused { IsRefusedBy result None }
+        ensures value { IfOk result (λ pattern. pattern ≡ elements.items) }
+    {
+        if let Some(text) = plain_text(alloc, elements.as_slice())? {
+            return Ok(plain_pattern(text));
+        }
+        let form = match starred_text(alloc, elements.as_slice())? {
+            Some(starred) => Form::StarredText { elements, starred },
+            None => Form::Elements(elements),
+        };
+        Ok(Pattern { form })
+    }
+
+    /// The elements, as the pattern keeps them. It takes no memory.
+    pub fn elements(&self) -> Elements<'_>
+        ensures { elements_shown result ≡ self.now }
+    {
+        match &self.form {
+            Form::PlainText { text, .. } => Elements::Text(text.as_str()),
+            Form::StarredText { elements, .. } | Form::Elements(elements) => {
+                Elements::List(elements.as_slice())
+            }
+        }
+    }
+
+    /// Whether the pattern fits the whole text. It takes no memory.
+    ///
+    /// It takes at most about as many steps as the pattern's length times the text's, and about as
+    /// many as the text has bytes where all but a first and a last star are plain characters.
+    pub fn matches(&self, text: &str) -> bool
+        ensures fits { result ≡ fits self.now (chars text.now) }
+        ensures split { IsTrue result ↔ Fits self.now (chars text.now) }
+    {
+        match &self.form {
+            Form::PlainText { text: plain, .. } => fits_plain(plain.as_str(), text),
+            Form::StarredText { starred, .. } => starred.fits(text),
+            Form::Elements(elements) => fits_text(Left {
+                elements: elements.as_slice(),
+                text,
+            }),
+        }
+    }
+
+    /// The whole number that the pattern writes, if all its elements are plain and their text is
+    /// an optional `-` and 1 to 20 decimal digits. It takes no memory.
+    pub fn number(&self) -> Option<i128>
+        ensures { result ≡ pattern_number self.now }
+    {
+        match &self.form {
+            Form::PlainText { number, .. } => *number,
+            Form::StarredText { .. } | Form::Elements(_) => None,
+        }
+    }
+
+    /// Another pattern with the same elements. Refused: `NoMemory`.
+    pub fn copy(&self, alloc: Global) -> Result<Pattern, Refusal>
+        ensures refused { IsRefusedBy result None }
+        ensures value { IfOk result (λ pattern. pattern ≡ self.now) }
+    {
+        match &self.form {
+            Form::PlainText { text, number } => {
+                let text = String::from_str(alloc, text.as_str())?;
+                let number = *number;
+                Ok(Pattern {
+                    form: Form::PlainText { text, number },
+                })
+            }
+            Form::StarredText { elements, starred } => {
+                let starred = starred.copy(alloc)?;
+                let elements = copy_elements(alloc, elements.as_slice())?;
+                Ok(Pattern {
+                    form: Form::StarredText { elements, starred },
+                })
+            }
+            Form::Elements(elements) => {
+                let elements = copy_elements(alloc, elements.as_slice())?;
+                Ok(Pattern {
+                    form: Form::Elements(elements),
+                })
+            }
+        }
+    }
+}
+
+// The pattern whose elements are the characters of a text.
+fn plain_pattern(text: String) -> Pattern
+    ensures { result ≡ plain_elements (chars (string_bytes text)) }
+{
+    let number = plain_number(text.as_str());
+    Pattern {
+        form: Form::PlainText { text, number },
+    }
+}
+
+// The text of the elements, if all are plain.
+fn plain_text(alloc: Global, elements: &[Element]) -> Result<Option<String>, Refusal>
+    ensures refused { IsRefusedBy result None }
+    ensures value { IfOk result (λ text. MatchOption text (plain_chars elements.now ≡ None)
+        (λ plain. plain_elements (chars (string_bytes plain)) ≡ elements.now)) }
+{
+    let mut text = String::new(alloc);
+    for element in elements {
+        let Element::Plain(c) = element else {
+            return Ok(None);
+        };
+        text.push(*c)?;
+    }
+    Ok(Some(text))
+}
+
+// The elements as plain text with a star before it, behind it or both, if they are.
+fn starred_text(alloc: Global, elements: &[Element]) -> Result<Option<Starred>, Refusal>
+    ensures refused { IsRefusedBy result None }
+    ensures value { IfOk result (λ text. IfSome text
+        (λ starred. starred_elements starred ≡ elements.now)) }
+{
+    let inner = without_stars(elements);
+    match plain_text(alloc, inner.elements)? {
+        None => Ok(None),
+        Some(text) => Ok(Some(Starred {
+            text,
+            before: inner.before,
+            behind: inner.behind,
+        })),
+    }
+}
+
+fn fits_plain(plain: &str, text: &str) -> bool
+    ensures { result ≡ fits (plain_elements (chars plain.now)) (chars text.now) }
+{
+    plain == text
+}
+
+fn plain_number(plain: &str) -> Option<i128>
+    ensures { result ≡ pattern_number (plain_elements (chars plain.now)) }
+{
+    number_of_bytes(plain.as_bytes())
+}
+
+fn copy_elements(alloc: Global, elements: &[Element]) -> Result<Vec<Element>, Refusal>
+    ensures refused { IsRefusedBy result None }
+    ensures value { IfOk result (λ copies. copies.items ≡ elements.now) }
+{
+    let mut copies = Vec::new(alloc);
+    for element in elements {
+        let copy = element.copy(alloc)?;
+        copies.push(copy)?;
+    }
+    Ok(copies)
+}

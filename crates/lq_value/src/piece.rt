@@ -1,0 +1,59 @@
+//! What stands first in a pattern's source.
+ghost use Rattle.std.specs.Prelude.{◌≡◌};
+ghost use Rattle.lq_value.specs.Piece.{IsTextBehindPiece, first_of};
+ghost use Rattle.lq_value.specs.Sign.{signs_of};
+ghost use Rattle.lq_value.specs.Source.{element_at, set_at};
+
+use crate::sign::{Sign, first_sign};
+
+/// What stands first where an element of a pattern is looked for, and the source behind it.
+#[derive(Clone, Copy)]
+pub enum FirstPiece<'a> {
+    /// The end of the source.
+    End,
+    /// A `*`.
+    Star(&'a str),
+    /// A `?`.
+    Any(&'a str),
+    /// A character that stands for itself.
+    Plain(char, &'a str),
+    /// The `[` of a set, or `[^`, and the source where its items are looked for.
+    Opens { negated: bool, items: &'a str },
+    /// A `\` that ends the source.
+    Faulty,
+}
+
+/// What stands first in a pattern's source, where an element is looked for. It takes no memory.
+///
+/// Of a set only its begin is read: whether it has items and an end, `first_item` says.
+pub fn first_piece<'a>(source: &'a str) -> FirstPiece<'a>
+    ensures first { element_at (signs_of source.entry.now) ≡ first_of result }
+    ensures text { IsTextBehindPiece result }
+{
+    match first_sign(source) {
+        None => FirstPiece::End,
+        Some((Sign::Bare('*'), rest)) => FirstPiece::Star(rest),
+        Some((Sign::Bare('?'), rest)) => FirstPiece::Any(rest),
+        Some((Sign::Bare('['), rest)) => set_begin(rest),
+        Some((Sign::Bare(c), rest)) => FirstPiece::Plain(c, rest),
+        Some((Sign::Escaped(c), rest)) => FirstPiece::Plain(c, rest),
+        Some((Sign::Dangling, _)) => FirstPiece::Faulty,
+    }
+}
+
+// The set whose `[` stands before the text.
+fn set_begin<'a>(text: &'a str) -> FirstPiece<'a>
+    ensures first { set_at (signs_of text.entry.now) ≡ first_of result }
+    ensures text { IsTextBehindPiece result }
+{
+    match first_sign(text) {
+        Some((Sign::Bare('^'), rest)) => FirstPiece::Opens {
+            negated: true,
+            items: rest,
+        },
+        _ => FirstPiece::Opens {
+            negated: false,
+            items: text,
+        },
+    }
+}

@@ -1,5 +1,0 @@
-use Rattle.lq_world.proofs.PassingLemmas.{lists-passed}
-use Rattle.lq_world.proofs.laws.lists_are_passed_on.Goals as goal
-
-pub returns : goal.returns
-returns c = lists-passed

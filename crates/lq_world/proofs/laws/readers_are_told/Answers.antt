@@ -1,6 +1,0 @@
-use Rattle.lq_world.proofs.HeadlineLemmas.{headline}
-use Rattle.lq_world.proofs.laws.readers_are_told.Goals as goal
-
-pub returns : goal.returns
-returns c = headline c.updates_join.ensures c.updates_grow.ensures c.changes_are_counted.ensures
-    c.folds_give_results.ensures c.whole_folds_give_results.ensures

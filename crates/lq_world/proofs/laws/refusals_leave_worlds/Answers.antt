@@ -1,5 +1,0 @@
-use Rattle.lq_world.proofs.PassingLemmas.{refusals-leave}
-use Rattle.lq_world.proofs.laws.refusals_leave_worlds.Goals as goal
-
-pub returns : goal.returns
-returns c = refusals-leave

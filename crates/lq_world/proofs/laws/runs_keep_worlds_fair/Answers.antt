@@ -1,5 +1,0 @@
-use Rattle.lq_world.proofs.FairLemmas.{run-fair}
-use Rattle.lq_world.proofs.laws.runs_keep_worlds_fair.Goals as goal
-
-pub returns : goal.returns
-returns c = run-fair c.updates_join.ensures

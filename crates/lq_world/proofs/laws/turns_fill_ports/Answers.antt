@@ -1,5 +1,0 @@
-use Rattle.lq_world.proofs.FillLemmas.{turns-fill}
-use Rattle.lq_world.proofs.laws.turns_fill_ports.Goals as goal
-
-pub returns : goal.returns
-returns c = turns-fill c.updates_join.ensures
