@@ -106,7 +106,7 @@ fn put_reply(
             put_result(alloc, members, entries)?;
             put_count(alloc, members, "slot", *opened)
         }
-        Reply::Read(read) => put_read(alloc, members, slot, read),
+        Reply::Took(read) => put_read(alloc, members, slot, read),
         Reply::Shut(change) => {
             put_count(alloc, members, "change", *change)?;
             put_count(alloc, members, "slot", slot)

@@ -15,7 +15,7 @@ mod word;
 
 pub use desk::Desk;
 pub use laws::{kept_passes_lists_on, kept_shows_worlds, kept_turns_show_worlds};
-pub use lq_desk_sub::Read;
-pub use lq_desk_world::{Act, Event};
+pub use lq_desk_sub::{Read, Sub};
+pub use lq_desk_world::Event;
 pub use reply::Reply;
 pub use slots::SLOTS;

@@ -227,7 +227,7 @@ pub fn act_at(slot: &mut Option<Slot>, act: Act, number: u64) -> Reply
     };
     match act {
         Act::Put => Reply::Moved(there.put()),
-        Act::Read => Reply::Read(there.read()),
+        Act::Take => Reply::Took(there.read()),
         Act::HangUp => {
             there.hang_up();
             Reply::Asked

@@ -107,7 +107,12 @@ fn slot_of(event: &Event) -> u64
 {
     match event {
         Event::Change(_) | Event::Open { .. } => 0,
-        Event::At { slot, .. } => *slot,
+        Event::Put(slot)
+        | Event::Take(slot)
+        | Event::HangUp(slot)
+        | Event::Notice(slot)
+        | Event::Close(slot)
+        | Event::Finish(slot) => *slot,
     }
 }
 

@@ -119,7 +119,7 @@ fn put_answer(out: &mut Vec<u8>, slot: u64, reply: &Reply) -> Result<(), AllocEr
             at,
             result: entries,
         } => put_opened(out, *opened, *at, entries),
-        Reply::Read(read) => put_read(out, read),
+        Reply::Took(read) => put_read(out, read),
         Reply::Shut(change) => put_shut(out, *change, slot),
         Reply::Asked | Reply::Finished | Reply::Moved(_) | Reply::Noticed(_) => put_slot(out, slot),
         Reply::Refused(refusal) => put_refusal(out, *refusal),

@@ -1,8 +1,8 @@
 //! Worked examples as lists of events of one desk, each with what it is answered.
 use crate::act::Act;
 use crate::ask::{Ask, event};
-use lq_desk::Act::{Close, Finish, HangUp, Notice, Put, Read as Take};
 use lq_desk::{Desk, Read, Reply};
+use lq_desk_world::Act::{Close, Finish, HangUp, Notice, Put, Take};
 use lq_update::{Cause, Opcode};
 use lq_value::Refusal;
 use lq_volume::Volume;
@@ -96,19 +96,19 @@ fn is_told(reply: &Reply, wanted: &str, numbers: (u64, u64, u64)) -> bool {
         Reply::Opened { slot, at, result } => ("Opened", *slot, *at, result.len() as u64),
         Reply::Moved(true) => ("Moved", 0, 0, 0),
         Reply::Moved(false) => ("Stayed", 0, 0, 0),
-        Reply::Read(Read::Update(message)) => match message.op {
+        Reply::Took(Read::Update(message)) => match message.op {
             Opcode::Created if message.last && message.name.as_str() == "a" => {
                 ("Created", message.seq, message.change, message.node)
             }
             _ => ("", 0, 0, 0),
         },
-        Reply::Read(Read::Fin(mark)) => match mark.cause {
+        Reply::Took(Read::Fin(mark)) => match mark.cause {
             Cause::Closed => ("Closed", mark.seq, mark.change, 0),
             Cause::HungUp => ("HungUp", mark.seq, mark.change, 0),
             Cause::Overrun => ("Overrun", mark.seq, mark.change, 0),
         },
-        Reply::Read(Read::Empty) => ("Empty", 0, 0, 0),
-        Reply::Read(Read::Ended) => ("Ended", 0, 0, 0),
+        Reply::Took(Read::Empty) => ("Empty", 0, 0, 0),
+        Reply::Took(Read::Ended) => ("Ended", 0, 0, 0),
         Reply::Asked => ("Asked", 0, 0, 0),
         Reply::Noticed(true) => ("Noticed", 0, 0, 0),
         Reply::Noticed(false) => ("Unasked", 0, 0, 0),

@@ -2,7 +2,7 @@
 ghost use Rattle.std.specs.Prelude.{◌≡◌, ◌⊎◌};
 ghost use Rattle.lq_value.specs.declared.refusal.Refusal.TheVariants.{NoMemory};
 ghost use Rattle.lq_desk_world.specs.World.{World};
-ghost use Rattle.lq_desk_world.specs.declared.event.Event.TheVariants.{At};
+ghost use Rattle.lq_desk_world.specs.declared.event.Event.TheVariants.{Notice};
 ghost use Rattle.lq_desk_world.specs.Events.{Refused};
 ghost use Rattle.lq_desk_world.specs.Turns.{all_puts, notices, places_at, puts};
 ghost use Rattle.lq_desk.specs.Kept.{Shows, kept_outcome};
@@ -47,28 +47,22 @@ impl Desk {
                 self.fill_all();
                 reply
             }
-            Event::Open { .. } => self.carry_out(event),
-            Event::At { slot, act } => self.act_turn(*slot, *act),
-        }
-    }
-
-    // Carries out the events of the turn of an act at a slot.
-    fn act_turn(&mut self, slot: u64, act: Act) -> Reply
-        ensures { TurnStep self.old (At slot act) (answer_of result) self.new }
-    {
-        match act {
-            Act::Read => {
-                self.notice(slot);
-                self.fill(slot);
-                self.act(slot, Act::Read)
+            Event::Take(slot) => {
+                self.notice(*slot);
+                self.fill(*slot);
+                self.act(*slot, Act::Take)
             }
-            Act::Close => {
-                self.notice(slot);
-                let reply = self.act(slot, Act::Close);
-                self.fill(slot);
+            Event::Close(slot) => {
+                self.notice(*slot);
+                let reply = self.act(*slot, Act::Close);
+                self.fill(*slot);
                 reply
             }
-            Act::Put | Act::HangUp | Act::Notice | Act::Finish => self.act(slot, act),
+            Event::Open { .. }
+            | Event::Put(_)
+            | Event::HangUp(_)
+            | Event::Notice(_)
+            | Event::Finish(_) => self.carry_out(event),
         }
     }
 
@@ -85,7 +79,7 @@ impl Desk {
 
     // Notices the end of a slot, where that asks for it.
     fn notice(&mut self, slot: u64)
-        ensures { self.new ≡ (kept_outcome self.old (At slot Act.Notice)).1 }
+        ensures { self.new ≡ (kept_outcome self.old (Notice slot)).1 }
     {
         updates_join();
         changes_are_counted();
