@@ -13,8 +13,6 @@ use Rattle.lq_volume.specs.Change.{refused}
 use Rattle.lq_desk_world.specs.World.{World, Subscribed}
 use Rattle.lq_desk_world.specs.declared.event.Event.{Event}
 use Rattle.lq_desk_world.specs.declared.event.Event.TheVariants.{Change, Open, Put, Take, HangUp, Notice, Close, Finish}
-use Rattle.lq_desk_world.specs.declared.event.Act.{Act}
-use Rattle.lq_desk_world.specs.declared.event.Act.TheVariants as act
 use Rattle.lq_desk_world.specs.Events.{Answer, outcome, next}
 use Rattle.lq_desk_world.specs.Turns.{Turn, turn_of, ports_of, places_at, places_in, at_slot_of, at_each, one_notice, puts, notices, all_puts, after_all, carried_out}
 use Rattle.lq_update.specs.declared.mark.Cause.TheVariants.{HungUp}
@@ -451,6 +449,13 @@ alone-turn k l e a before after step = record {
   step = subst (λ (es : List Event). KeptStep (kept_after k es) e a l) (sym before) step;
   after = ap (kept_after l) (sym after);
 }
+
+-- so is one that equals such an event
+pub alone-like : (k l : Kept) (e f : Event) (a : Answer) → e ≡ f → (kept_turn k f).before ≡ []
+    → (kept_turn k f).after ≡ [] → KeptStep k e a l → TurnStep k e a l
+alone-like k l e f a is before after step =
+    alone-turn k l e a (ap (λ g. (kept_turn k g).before) is ∙ before)
+    (ap (λ g. (kept_turn k g).after) is ∙ after) step
 
 -- ---- turns are runs, and worlds take them alike
 

@@ -16,7 +16,6 @@ use Rattle.lq_desk_world.specs.Headline.{ReadersAreTold}
 use Rattle.lq_desk_world.specs.World.{World, first_world}
 use Rattle.lq_desk_world.specs.declared.event.Event.{Event}
 use Rattle.lq_desk_world.specs.declared.event.Event.TheVariants.{Change, Open, Put, Take, HangUp, Notice, Close, Finish}
-use Rattle.lq_desk_world.specs.declared.event.Act.TheVariants as act
 use Rattle.lq_desk_world.specs.Events.{Answer, Changed, Opened, Moved, Took, Empty, Ended, Asked, Noticed, Shut, Finished, Refused, answer, next}
 
 -- what events are answered, one after another

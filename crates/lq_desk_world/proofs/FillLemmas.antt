@@ -12,7 +12,6 @@ use Rattle.lq_update.specs.Laws.{UpdatesJoin}
 use Rattle.lq_desk_world.specs.World.{World, Subscribed, slot_at, can_put, after_change, overrun_if, overruns, is_live, whole}
 use Rattle.lq_desk_world.specs.declared.event.Event.{Event}
 use Rattle.lq_desk_world.specs.declared.event.Event.TheVariants.{Change, Put, Take, Notice, Close}
-use Rattle.lq_desk_world.specs.declared.event.Act.TheVariants as act
 use Rattle.lq_desk_world.specs.Events.{Answer, Moved, changing, putting, putting_if, noticing, noticing_if, closing, closing_if, at_slot, outcome, next}
 use Rattle.lq_desk_world.specs.Turns.{ports_of, places_in, places_at, puts, notices, all_puts, at_each, at_slot_of, one_notice, after_all, turn_of, turn_outcome}
 use Rattle.lq_desk_world.specs.Fair.{IsFairSlot, IsFairWorld}

@@ -13,6 +13,7 @@ use Rattle.lq_update.specs.Laws.{UpdatesJoin}
 use Rattle.lq_desk_world.specs.World.{World, Subscribed, is_over, slot_at, taken_before_free, with_slot, after_change}
 use Rattle.lq_desk_world.specs.declared.event.Event.{Event}
 use Rattle.lq_desk_world.specs.declared.event.Event.TheVariants.{Change, Open, Put, Take, HangUp, Notice, Close, Finish}
+use Rattle.lq_desk_world.specs.declared.event.Act.{Act}
 use Rattle.lq_desk_world.specs.declared.event.Act.TheVariants as act
 use Rattle.lq_desk_world.specs.Events.{Answer, Changed, Opened, Moved, Took, Empty, Ended, Asked, Noticed, Shut, Finished, Refused, changing, opening, opened_now, open_refusal, putting, reading, hanging_up, noticing, closing, finishing, finishing_if, at_slot, outcome, act_outcome, acting}
 use Rattle.lq_desk_world.specs.Runs.{Step, Run}

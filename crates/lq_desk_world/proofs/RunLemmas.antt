@@ -14,7 +14,6 @@ use Rattle.lq_update.specs.Laws.{UpdatesJoin, UpdatesGrow}
 use Rattle.lq_desk_world.specs.World.{World, Subscribed, End, covered, covered_by, updates_due, mark_behind, whole}
 use Rattle.lq_desk_world.specs.declared.event.Event.{Event}
 use Rattle.lq_desk_world.specs.declared.event.Event.TheVariants.{Change, Open, Put, Take, HangUp, Notice, Close, Finish}
-use Rattle.lq_desk_world.specs.declared.event.Act.TheVariants as act
 use Rattle.lq_desk_world.specs.Events.{Answer, Took, Ended}
 use Rattle.lq_desk_world.specs.Runs.{Run}
 use Rattle.lq_desk_world.specs.Fair.{IsFair}

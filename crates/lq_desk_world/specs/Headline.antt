@@ -15,7 +15,6 @@ use Rattle.lq_update.specs.Updates.{updates_of, IsPrefixOf, IsSettled}
 use Rattle.lq_update.specs.Fold.{folded, last_change}
 use Rattle.lq_desk_world.specs.declared.event.Event.{Event}
 use Rattle.lq_desk_world.specs.declared.event.Event.TheVariants.{Change, Open, Take, Finish}
-use Rattle.lq_desk_world.specs.declared.event.Act.TheVariants as act
 use Rattle.lq_desk_world.specs.Events.{Answer, Changed, Opened, Took, Ended, Finished}
 
 -- what one event answered a read of a slot, and whether it freed the slot

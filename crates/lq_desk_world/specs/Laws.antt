@@ -6,7 +6,6 @@ use Rattle.lq_volume.specs.Book.{Book, state_of}
 use Rattle.lq_desk_world.specs.World.{World, Subscribed, first_world, whole, in_port, to_come}
 use Rattle.lq_desk_world.specs.declared.event.Event.{Event}
 use Rattle.lq_desk_world.specs.declared.event.Event.TheVariants.{Change, Put, Take, Close}
-use Rattle.lq_desk_world.specs.declared.event.Act.TheVariants as act
 use Rattle.lq_desk_world.specs.Events.{Answer, Moved, Refused, answer, next, outcome}
 use Rattle.lq_desk_world.specs.Runs.{Run}
 use Rattle.lq_desk_world.specs.Turns.{after_all, ports_of, turn_of, turn_outcome}

@@ -4,7 +4,6 @@ use Rattle.std.specs.Option.{option_map, option_flatten}
 use Rattle.lq_desk_world.specs.World.{World}
 use Rattle.lq_desk_world.specs.declared.event.Event.{Event}
 use Rattle.lq_desk_world.specs.declared.event.Event.TheVariants.{Change, Put, Take, Notice, Close}
-use Rattle.lq_desk_world.specs.declared.event.Act.TheVariants as act
 use Rattle.lq_desk_world.specs.Events.{Answer, outcome}
 
 -- ---- which slots are taken, and how many places their ports have: slot k at place k - 1

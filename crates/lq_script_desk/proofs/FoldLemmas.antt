@@ -8,7 +8,6 @@ use Rattle.lq_update.specs.declared.parcel.Parcel.{Parcel}
 use Rattle.lq_update.specs.Laws.{ResultsRise}
 use Rattle.lq_desk_world.specs.declared.event.Event.{Event}
 use Rattle.lq_desk_world.specs.declared.event.Event.TheVariants.{Change, Open, Put, Take, HangUp, Notice, Close, Finish}
-use Rattle.lq_desk_world.specs.declared.event.Act.TheVariants as act
 use Rattle.lq_desk_world.specs.Events.{Answer, Ended, Empty}
 use Rattle.lq_desk.specs.Slot.{KeptSlot, fresh_slot, put_if, put_slot, read_if, read_slot, ask_slot, notice_if, notice_slot, close_if, close_slot, finish_if, finish_slot, is_read}
 use Rattle.lq_desk.specs.Kept.{Kept, at_kept, at_place, change_if, kept_at, open_if, opening_refusal}

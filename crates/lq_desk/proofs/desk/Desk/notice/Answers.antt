@@ -1,7 +1,6 @@
 use Rattle.std.proofs.Common.{◌≡◌, ◌≤◌, ◌-◌, ◌*◌, ◌^◌, [], ◌∷◌, length, arith, ap, ◌∙◌, sym, subst, map, inl, inr, None}
 use Rattle.std.proofs.lemmas.List.{length-set}
 use Rattle.lq_desk_world.specs.declared.event.Event.TheVariants.{Notice}
-use Rattle.lq_desk_world.specs.declared.event.Act.TheVariants as act
 use Rattle.lq_desk.specs.Slot.{done_at, noticed}
 use Rattle.lq_desk.specs.Kept.{Kept, IsDesk, kept_at, kept_outcome}
 use Rattle.lq_desk.proofs.Shown.{kept-shows}
