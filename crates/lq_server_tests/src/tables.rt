@@ -304,74 +304,79 @@ const HUNG_UP_DRAWN: Table = (
     ],
 );
 
-/// The scenarios whose changes and readers are compared with the reference.
-pub const SCENARIOS: &[Scenario] = &[
-    EACH,
-    Scenario {
-        name: "a window is read by waiting",
-        threads: 2,
-        rounds: 1,
-        turns: &[&[OPENED], &[FILES_READ, FILES], &[WINDOW_ENDED]],
-    },
-    Scenario {
-        name: "a slot is used after a hang-up",
-        threads: 1,
-        rounds: 1,
-        turns: &[&[USED_AFTER_HANG_UP]],
-    },
-    Scenario {
-        name: "a slot is used after a close",
-        threads: 1,
-        rounds: 1,
-        turns: &[&[USED_AFTER_CLOSE]],
-    },
-    Scenario {
-        name: "readers are dropped",
-        threads: 1,
-        rounds: 1,
-        turns: &[&[DROPS]],
-    },
-    Scenario {
-        name: "slots and openings run out",
-        threads: 1,
-        rounds: 1,
-        turns: &[
-            &[NUMBERS],
-            &[ENDED],
-            &[STAYING],
-            &[FULL],
-            &[NUMBERS],
-            &[OPENINGS_RUN_OUT],
-        ],
-    },
-    Scenario {
-        name: "seats run out",
-        threads: 1,
-        rounds: 1,
-        turns: &[&[SEATS_USED], &[SEATS_DROPPED], &[SEATS_RUN_OUT]],
-    },
-    Scenario {
-        name: "two writers create",
-        threads: 2,
-        rounds: 1,
-        turns: &[&[FIRST_CREATES, SECOND_CREATES], &[CREATED, CREATED]],
-    },
-    Scenario {
-        name: "two writers make the same write",
-        threads: 2,
-        rounds: 1,
-        turns: &[&[FILE], &[WRITES, WRITES], &[WRITTEN, WRITTEN]],
-    },
-    Scenario {
-        name: "a hang-up beside changes",
-        threads: 2,
-        rounds: 20,
-        turns: &[&[OPENED_WIDE], &[HANGS_UP, FIRST_CREATES], &[HUNG_UP]],
-    },
-    Scenario {
-        name: "drawn schedules",
-        threads: 4,
-        rounds: 3,
-        turns: &[&[HUNG_UP_DRAWN, CLOSED_DRAWN, CHANGES_DRAWN, CHANGES_DRAWN]],
-    },
-];
+pub const WINDOW: Scenario = Scenario {
+    name: "a window is read by waiting",
+    threads: 2,
+    rounds: 1,
+    turns: &[&[OPENED], &[FILES_READ, FILES], &[WINDOW_ENDED]],
+};
+
+pub const SLOT_AFTER_HANG_UP: Scenario = Scenario {
+    name: "a slot is used after a hang-up",
+    threads: 1,
+    rounds: 1,
+    turns: &[&[USED_AFTER_HANG_UP]],
+};
+
+pub const SLOT_AFTER_CLOSE: Scenario = Scenario {
+    name: "a slot is used after a close",
+    threads: 1,
+    rounds: 1,
+    turns: &[&[USED_AFTER_CLOSE]],
+};
+
+pub const READERS_DROPPED: Scenario = Scenario {
+    name: "readers are dropped",
+    threads: 1,
+    rounds: 1,
+    turns: &[&[DROPS]],
+};
+
+pub const SLOTS: Scenario = Scenario {
+    name: "slots and openings run out",
+    threads: 1,
+    rounds: 1,
+    turns: &[
+        &[NUMBERS],
+        &[ENDED],
+        &[STAYING],
+        &[FULL],
+        &[NUMBERS],
+        &[OPENINGS_RUN_OUT],
+    ],
+};
+
+pub const SEATS: Scenario = Scenario {
+    name: "seats run out",
+    threads: 1,
+    rounds: 1,
+    turns: &[&[SEATS_USED], &[SEATS_DROPPED], &[SEATS_RUN_OUT]],
+};
+
+pub const WRITERS_CREATE: Scenario = Scenario {
+    name: "two writers create",
+    threads: 2,
+    rounds: 1,
+    turns: &[&[FIRST_CREATES, SECOND_CREATES], &[CREATED, CREATED]],
+};
+
+pub const WRITERS_WRITE: Scenario = Scenario {
+    name: "two writers make the same write",
+    threads: 2,
+    rounds: 1,
+    turns: &[&[FILE], &[WRITES, WRITES], &[WRITTEN, WRITTEN]],
+};
+
+pub const HANG_UP_BESIDE_CHANGES: Scenario = Scenario {
+    name: "a hang-up beside changes",
+    threads: 2,
+    rounds: 20,
+    turns: &[&[OPENED_WIDE], &[HANGS_UP, FIRST_CREATES], &[HUNG_UP]],
+};
+
+pub const DRAWN: Scenario = Scenario {
+    name: "drawn schedules",
+    threads: 4,
+    rounds: 3,
+    turns: &[&[HUNG_UP_DRAWN, CLOSED_DRAWN, CHANGES_DRAWN, CHANGES_DRAWN]],
+};

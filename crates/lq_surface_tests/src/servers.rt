@@ -87,6 +87,24 @@ fn seats_meet(rt: HostRuntime) -> Result<(), Fail> {
     Ok(())
 }
 
+// Takes seats and drops them; why no more is given after 16.
+fn all_seats<N: Named, R: Wait>(rt: &R, base: Base) -> Result<Option<Refusal>, Refusal>
+    requires { base ≡ N.board }
+{
+    let server: Server<N> = Server::new(base);
+    for _ in 0..16 {
+        server.seat(rt)?;
+    }
+    Ok(server.seat(rt).err())
+}
+
+#[test]
+fn sixteen_seats_are_out(rt: HostRuntime) -> Result<(), Fail> {
+    let base = base(rt.alloc())?;
+    assert!(rt; all_seats::<Brand, _>(&rt, base)? == Some(Refusal::NoSeat));
+    Ok(())
+}
+
 // The `seq` of an update, 100 more for a mark of this cause, 0 for an empty port, 200 after the end.
 fn number(read: &Read, cause: Cause) -> u64 {
     match read {
@@ -98,7 +116,7 @@ fn number(read: &Read, cause: Cause) -> u64 {
     }
 }
 
-// What is read of two changes, with the end of memory for the server: three reads, one that waits.
+// What is read of three changes through one place: two reads, one after a pump, one that waits.
 fn reads<N: Named, R: Wait>(rt: &R, alloc: Global, base: Base) -> Result<[u64; 4], Refusal>
     requires { base ≡ N.board }
 {

@@ -17,27 +17,33 @@ fn number(parcel: &Option<Parcel>) -> u64 {
     }
 }
 
-// What a subscription to every entry gives after a file came and it was closed: a message, the same
-// message once more, the mark, none.
-fn given(alloc: Global) -> Result<[u64; 4], Refusal> {
+// What a subscription to every entry gives after a file came: a message, the same once more after it
+// was put back, and none.
+fn given(alloc: Global) -> Result<[u64; 3], Refusal> {
     let volume = Volume::new(alloc, 9);
     let change = lawful(alloc, &volume, "a")?;
     let mut sub = Sub::new(alloc, &read(alloc, "name=*")?, 0, 2, false)?;
     sub.ready(&volume, &change)?;
     sub.commit();
-    sub.finish_with(Cause::Closed, 1);
     let first = sub.next();
-    let given = number(&first);
+    let lent = number(&first);
     if let Some(parcel) = first {
         sub.put_back(parcel);
     }
     let again = number(&sub.next());
-    let mark = number(&sub.next());
-    Ok([given, again, mark, number(&sub.next())])
+    Ok([lent, again, number(&sub.next())])
 }
 
 #[test]
 fn a_subscription_gives_what_it_holds(rt: HostRuntime) -> Result<(), Fail> {
-    assert!(rt; given(rt.alloc())? == [1, 1, 102, 0]);
+    assert!(rt; given(rt.alloc())? == [1, 1, 0]);
+    Ok(())
+}
+
+#[test]
+fn a_subscription_that_has_ended_gives_its_mark(rt: HostRuntime) -> Result<(), Fail> {
+    let mut sub = Sub::new(rt.alloc(), &read(rt.alloc(), "name=*")?, 0, 2, false)?;
+    sub.finish_with(Cause::Closed, 0);
+    assert!(rt; number(&sub.next()) == 101 && number(&sub.next()) == 0);
     Ok(())
 }

@@ -98,6 +98,13 @@ fn a_literal_suits_operators_and_is_compared_with(rt: HostRuntime) -> Result<(),
 }
 
 #[test]
+fn a_text_gives_its_string_back(rt: HostRuntime) -> Result<(), Fail> {
+    let text = Text::new(String::from_str(rt.alloc(), "9")?);
+    assert!(rt; text.into_string().as_str() == "9");
+    Ok(())
+}
+
+#[test]
 fn an_entry_has_a_place_and_a_node(rt: HostRuntime) -> Result<(), Fail> {
     let entry = Entry {
         dir: 1,
