@@ -17,9 +17,9 @@ mod bodies;
 #[cfg(test)]
 mod events;
 #[cfg(test)]
-mod folds;
-#[cfg(test)]
 mod fits;
+#[cfg(test)]
+mod folds;
 #[cfg(test)]
 mod plain;
 #[cfg(test)]
