@@ -76,21 +76,21 @@ fn scenario_write_faults(rt: HostRuntime) -> Result<(), Fail> {
     Ok(())
 }
 
-// Gives one byte that often.
+// Gives that many bytes, by one text of bytes after another.
 #[derive(Drop)]
-struct Repeated {
-    byte: u8,
+struct Repeated<'a> {
+    text: &'a [u8],
     left: usize,
 }
 
-impl Source for Repeated {
+impl<'a> Source for Repeated<'a> {
     ghost left = { λ _. None };
 
     ghost failed = { λ _. false };
 
     fn read(&mut self, buf: &mut [u8]) -> Result<usize, Failed> {
-        let count = self.left.min(buf.len());
-        buf[..count].fill(self.byte);
+        let count = self.left.min(buf.len()).min(self.text.len());
+        buf[..count].copy_from_slice(&self.text[..count]);
         self.left -= count;
         Ok(count)
     }
@@ -108,7 +108,7 @@ fn scenario_input_limits(rt: HostRuntime) -> Result<(), Fail> {
     for (byte, count, answer) in &INPUTS {
         let mut writer = writer_of(rt.alloc(), EASY);
         let mut reader = Repeated {
-            byte: *byte,
+            text: &[*byte; 4_096],
             left: *count,
         };
         let ran = run(rt.alloc(), &mut reader, &mut writer);
