@@ -18,7 +18,7 @@ use lq_volume::Listing;
 use serde_json::{Map, Value, put};
 use std::alloc::{AllocError, Global};
 
-/// Puts the text of a response and LF behind `out`. Refused: `NoMemory`.
+/// Appends the text of a response and LF to `out`. Refused: `NoMemory`.
 pub fn put_plainly(alloc: Global, out: &mut Vec<u8>, response: &Response) -> Result<(), Refusal>
     ensures refused { IsRefusedBy result None }
     ensures ok { OnOk result (out.new.items

@@ -57,7 +57,7 @@ fn entries(alloc: Global) -> Result<Vec<Entry>, Refusal> {
     Ok(entries)
 }
 
-// Whether a response by pieces is what it is in the plain way, behind what stood before, and so is
+// Whether a response by pieces is what it is in the plain way, after what stood before, and so is
 // what answers an event without a response.
 fn is_alike(alloc: Global, response: &Response) -> Result<bool, Refusal> {
     let mut plain = Vec::from_slice(alloc, b"before")?;

@@ -18,7 +18,6 @@ use Rattle.lq_update.specs.Updates.{step_of}
 use Rattle.lq_update.specs.Laws.{StepsAreFew}
 use Rattle.lq_desk_world.specs.Events.{Answer, Refused, event_at}
 use Rattle.lq_value.specs.declared.refusal.Refusal.TheVariants.{NotOpen}
-
 use Rattle.lq_desk_world.specs.declared.event.Act.{Act}
 use Rattle.lq_desk_world.specs.declared.event.Act.TheVariants as act
 use Rattle.lq_desk_sub.specs.Held.{Held, is_live, held_after, committed, ended_by, after_messages, after_messages_by, overruns}

@@ -132,7 +132,7 @@ impl Desk {
     ///
     /// Refused: `NoMemory`, before any event. The reads of each subscription that these events open
     /// are answered as a reader of its update list is told: each message once and in order, the
-    /// mark behind them, and after each change that folds to the query's result.
+    /// mark after them, and after each change that folds to the query's result.
     pub fn run(&mut self, events: &[Event]) -> Result<Vec<Reply>, Refusal>
         ensures refused { IsRefusedBy result None }
         ensures run { IfOk result (λ replies. (w : World) → Shows self.old w →

@@ -55,7 +55,7 @@ impl Slot {
     ghost use Rattle.lq_desk.specs.Reply.{answer_of_read};
     ghost use Rattle.lq_update.specs.declared.mark.Cause.TheVariants.{Closed};
 
-    /// A subscription that was told nothing yet, with an empty port of so many places.
+    /// A new subscription, with an empty port of `port` places.
     pub fn new(
         alloc: Global,
         predicate: &Predicate,

@@ -21,7 +21,6 @@ use Rattle.serde_json.specs.Written.{compact_text, outline}
 use Rattle.serde_json.proofs.Numbers.{number_of-decimal}
 use Rattle.serde_json.proofs.Texts.{print-outline}
 use Rattle.lq_value.specs.declared.refusal.Refusal.TheVariants.{NotUtf8}
-
 use Rattle.lq_desk_world.specs.declared.event.Event.TheVariants.{Take}
 use Rattle.lq_script_request.specs.declared.question.Question.TheVariants.{Event}
 use Rattle.lq_script_request.specs.Plain.{read_line}

@@ -96,12 +96,7 @@ impl<N: Named> Server<N> {
     ///
     /// Refused, the first that fits: `NoNode` where there is no such node, `NoEntry` for the
     /// root, `NoMemory`.
-    pub fn listing<R: Wait>(
-        &self,
-        rt: &R,
-        seat: &mut Seat,
-        node: u64,
-    ) -> Result<Listing, Refusal>
+    pub fn listing<R: Wait>(&self, rt: &R, seat: &mut Seat, node: u64) -> Result<Listing, Refusal>
         requires { (seat.old.board ≡ N.board) × (seat.old.slot ≡ 0) }
         ensures seat { (seat.new.board ≡ N.board) × (seat.new.slot ≡ 0) }
         ensures later { Extends seat.new.book seat.old.book }

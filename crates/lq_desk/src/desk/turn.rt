@@ -1,4 +1,4 @@
-//! The turns of a desk: an event, and what the desk does about it of itself.
+//! The turns of a desk: an event with the notices and puts that go with it.
 ghost use Rattle.std.specs.Prelude.{◌≡◌, ◌⊎◌};
 ghost use Rattle.lq_value.specs.declared.refusal.Refusal.TheVariants.{NoMemory};
 ghost use Rattle.lq_desk_world.specs.World.{World};
@@ -19,9 +19,9 @@ use lq_volume::changes_are_counted;
 impl Desk {
     /// Carries out one event with all that belongs to its turn, and answers the event.
     ///
-    /// A change comes after the notices of all taken slots, and each port is filled behind it; a
+    /// A change comes after the notices of all taken slots, and each port is filled after it; a
     /// read comes after the notice of its slot, and after its port was filled; a close comes
-    /// after the notice of its slot, whose port is filled behind it. Any other event comes alone.
+    /// after the notice of its slot, whose port is filled after it. Any other event comes alone.
     /// The event is refused as `event` refuses it, and the rest of its turn stands.
     pub fn turn(&mut self, event: &Event) -> Reply
         ensures kept { TurnStep self.old event.now (answer_of result) self.new }

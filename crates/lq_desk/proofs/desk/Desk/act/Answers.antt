@@ -1,5 +1,4 @@
 use Rattle.std.proofs.Common.{◌≡◌, ◌≤◌, ◌-◌, ◌*◌, ◌^◌, length, arith, ap, ◌∙◌, sym, map, None, inl, inr}
-
 use Rattle.lq_desk.specs.Act.{outcome_in}
 use Rattle.lq_desk.specs.Kept.{Kept, kept_act, kept_at}
 use Rattle.lq_desk.specs.Reply.{answer_of}
