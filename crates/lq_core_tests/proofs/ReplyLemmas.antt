@@ -14,7 +14,7 @@ use Rattle.lq_update.specs.declared.message.Opcode.{Opcode}
 use Rattle.lq_update.specs.declared.message.Opcode.TheVariants.{Created, Removed, Moved}
 use Rattle.lq_update.specs.declared.parcel.Parcel.TheVariants.{Update, Fin}
 use Rattle.lq_desk_world.specs.Events as world
-use Rattle.lq_desk_world.specs.Events.{Answer, Changed, Opened, Read, Empty, Ended, Asked, Noticed, Shut, Finished, Refused}
+use Rattle.lq_desk_world.specs.Events.{Answer, Changed, Opened, Took, Empty, Ended, Asked, Noticed, Shut, Finished, Refused}
 use Rattle.lq_script_reply.specs.Reply.{answer_data, attr_data, data_by, entry_data, fault_data, place_of, response_data, value_data}
 use Rattle.lq_script_reply.specs.Response.{Response, Answers, Refuses, Found, Listed, Fetched, Rebuilt}
 
@@ -60,8 +60,8 @@ answer-no_float : (slot : ℕ) (a : Answer) → has_float (answer_data slot a) �
 answer-no_float slot (Changed applied) = refl
 answer-no_float slot (Opened opened at result) = rw (entries-no_float result) refl
 answer-no_float slot (world.Moved was) = refl
-answer-no_float slot (Read (Update message)) = told-no_float message.op message
-answer-no_float slot (Read (Fin mark)) = refl
+answer-no_float slot (Took (Update message)) = told-no_float message.op message
+answer-no_float slot (Took (Fin mark)) = refl
 answer-no_float slot Empty = refl
 answer-no_float slot Ended = refl
 answer-no_float slot Asked = refl

@@ -9,12 +9,12 @@ use std::alloc::Global;
 use std::test::Fail;
 
 /// A file that the volume takes.
-pub fn lawful_file(alloc: Global, volume: &Volume) -> Result<Change, Refusal>
+pub fn lawful_file(alloc: Global, volume: &Volume, name: &str) -> Result<Change, Refusal>
     ensures { IfOk result (λ change. IsLawful volume.now change) }
 {
     let create = Change::Create {
         dir: 1,
-        name: Name::read(alloc, "a")?,
+        name: Name::read(alloc, name)?,
         kind: Kind::File,
         size: 7,
         time: 5,
@@ -27,7 +27,7 @@ pub fn lawful_file(alloc: Global, volume: &Volume) -> Result<Change, Refusal>
 // after it, then each other word, and the number at the end.
 fn words(alloc: Global) -> Result<[u64; 7], Refusal> {
     let volume = Volume::new(alloc, 9);
-    let create = lawful_file(alloc, &volume)?;
+    let create = lawful_file(alloc, &volume, "a")?;
     let (board, mut keeper): (Board<u64>, Keeper<u64>) = Board::new(alloc, &volume)?;
     let mut seat = board.seat(&mut keeper);
     let mut reader = board.slot_seat(&mut keeper, 1);
@@ -45,7 +45,7 @@ fn words(alloc: Global) -> Result<[u64; 7], Refusal> {
 
 // A `latest` that answers what its seat knew before meets its contract, but not this.
 #[test]
-fn latest_sees_what_was_added_since(rt: HostRuntime) -> Result<(), Fail> {
+fn scenario_board_words(rt: HostRuntime) -> Result<(), Fail> {
     assert!(rt; words(rt.alloc())? == [0, 1, 1, 1, 1, 1, 1]);
     Ok(())
 }

@@ -1,5 +1,5 @@
-//! Tests of lq_desk_sub, lq_script_reply, lq_board and lq_port, a module each, and the plain way to a reply
-//! (`plain`) beside that by pieces.
+//! Tests of lq_desk_sub, lq_script_reply, lq_board and lq_port, a module each. `plain` makes a
+//! reply as a JSON value first, to compare with the replies that are written piece by piece.
 #![tactic(auto)]
 
 #[cfg(test)]

@@ -18,7 +18,7 @@ use lq_volume::Listing;
 use serde_json::{Map, Value, put};
 use std::alloc::{AllocError, Global};
 
-/// Puts the text of a response and LF behind `out`. Refused: `NoMemory`.
+/// Appends the text of a response and LF to `out`. Refused: `NoMemory`.
 pub fn put_plainly(alloc: Global, out: &mut Vec<u8>, response: &Response) -> Result<(), Refusal>
     ensures refused { IsRefusedBy result None }
     ensures ok { OnOk result (out.new.items
@@ -106,7 +106,7 @@ fn put_reply(
             put_result(alloc, members, entries)?;
             put_count(alloc, members, "slot", *opened)
         }
-        Reply::Read(read) => put_read(alloc, members, slot, read),
+        Reply::Took(read) => put_read(alloc, members, slot, read),
         Reply::Shut(change) => {
             put_count(alloc, members, "change", *change)?;
             put_count(alloc, members, "slot", slot)

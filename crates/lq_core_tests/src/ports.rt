@@ -54,7 +54,12 @@ fn one_place<R: Wait>(rt: &R, alloc: Global) -> Result<[u64; 7], Refusal> {
 }
 
 #[test]
-fn one_place_port(rt: HostRuntime) -> Result<(), Fail> {
+fn scenario_one_place_port(rt: HostRuntime) -> Result<(), Fail> {
+    for places in [0, 1025] {
+        if make::<Plain>(rt.alloc(), places, &()).err() != Some(Refusal::BadPort) {
+            return Err(Fail::from(places));
+        }
+    }
     assert!(rt; one_place(&rt, rt.alloc())? == [0, 8, 1, 7, 0, 0, 10]);
     Ok(())
 }

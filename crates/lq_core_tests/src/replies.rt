@@ -57,7 +57,7 @@ fn entries(alloc: Global) -> Result<Vec<Entry>, Refusal> {
     Ok(entries)
 }
 
-// Whether a response by pieces is what it is in the plain way, behind what stood before, and so is
+// Whether a response by pieces is what it is in the plain way, after what stood before, and so is
 // what answers an event without a response.
 fn is_alike(alloc: Global, response: &Response) -> Result<bool, Refusal> {
     let mut plain = Vec::from_slice(alloc, b"before")?;
@@ -98,7 +98,7 @@ fn test_message(alloc: Global, row: &'static str, last: bool, op: Opcode) -> Res
         name: Name::read(alloc, NAME)?,
         node: 8,
     };
-    test_reply(alloc, row, Reply::Read(Read::Update(message)))
+    test_reply(alloc, row, Reply::Took(Read::Update(message)))
 }
 
 fn test_mark(alloc: Global, row: &'static str, cause: Cause) -> Result<(), Fail> {
@@ -107,7 +107,7 @@ fn test_mark(alloc: Global, row: &'static str, cause: Cause) -> Result<(), Fail>
         change: 10,
         cause,
     };
-    test_reply(alloc, row, Reply::Read(Read::Fin(mark)))
+    test_reply(alloc, row, Reply::Took(Read::Fin(mark)))
 }
 
 // What a slot is read.
@@ -123,8 +123,8 @@ fn test_reads(alloc: Global) -> Result<(), Fail> {
     test_mark(alloc, "closed", Cause::Closed)?;
     test_mark(alloc, "hung up", Cause::HungUp)?;
     test_mark(alloc, "overrun", Cause::Overrun)?;
-    test_reply(alloc, "empty", Reply::Read(Read::Empty))?;
-    test_reply(alloc, "ended", Reply::Read(Read::Ended))
+    test_reply(alloc, "empty", Reply::Took(Read::Empty))?;
+    test_reply(alloc, "ended", Reply::Took(Read::Ended))
 }
 
 // What an event is answered beside.

@@ -15,18 +15,18 @@ use Rattle.lq_volume.specs.Laws.{ChangesCount}
 use Rattle.lq_update.specs.Laws.{StepsAreFew}
 use Rattle.lq_desk_world.specs.World.{first_world}
 use Rattle.lq_desk_world.specs.declared.event.Event.{Event}
-use Rattle.lq_desk_world.specs.declared.event.Event.TheVariants.{Change, Open, At}
-use Rattle.lq_desk_world.specs.Events.{Answer, next, outcome}
+use Rattle.lq_desk_world.specs.declared.event.Event.TheVariants.{Change, Open}
+use Rattle.lq_desk_world.specs.Events.{Answer, event_at, next, outcome}
 use Rattle.lq_desk_world.specs.Turns.{after_all}
 use Rattle.lq_desk_world.specs.Laws.{FirstWorldsAreFair}
 use Rattle.lq_desk_world.specs.declared.event.Act.{Act}
 use Rattle.lq_desk.specs.Slot.{KeptSlot, PreparedSlot, slot_of, fresh_slot}
 use Rattle.lq_desk.specs.Act.{outcome_in}
-use Rattle.lq_desk.specs.Kept.{Kept, IsDesk, IsFew, Shows, first_free, opening_refusal, opened, open_if, changed, change_if, kept_outcome, slot_for}
+use Rattle.lq_desk.specs.Kept.{Kept, IsDesk, IsFew, Shows, first_free, opening_refusal, opened, open_if, changed, change_if, kept_act, kept_outcome, slot_for}
 use Rattle.lq_desk.specs.Turn.{kept_after}
 use Rattle.lq_desk.specs.Laws.{KeptShowsWorlds}
 use Rattle.lq_desk.proofs.ListLemmas.{all-set}
-use Rattle.lq_desk.proofs.SlotsLemmas.{kept_slot, few-after, few-outcome_in}
+use Rattle.lq_desk.proofs.SlotsLemmas.{act-outcome, kept_slot, few-after, few-outcome_in}
 use Rattle.lq_desk.proofs.TurnLemmas.{after-shows}
 
 -- free slots have made no messages
@@ -100,10 +100,10 @@ module _ (alike : KeptShowsWorlds) where
   -- a desk is one after an act at a slot
   pub IsDesk-act : (k : Kept) (a : Act) (slot : ℕ) (r : Answer) (ks : List (Option KeptSlot))
       → IsDesk k → (r, ks) ≡ outcome_in k.volume.number a k.slots (slot - 1)
-      → (r, record k { slots = ks }) ≡ kept_outcome k (At slot a)
+      → (r, record k { slots = ks }) ≡ kept_act k slot a
       → IsDesk (record k { slots = ks })
   IsDesk-act k a slot r ks d is does =
-      let e : Event = At slot a in
+      let e : Event = event_at slot a in
       let at : ks ≡ (outcome_in k.volume.number a k.slots (slot - 1)).1 =
       ap (λ (p : Answer × List (Option KeptSlot)). p.1) is in
       record {
@@ -112,7 +112,8 @@ module _ (alike : KeptShowsWorlds) where
             AllByRecursion (IsFew (3 * k.volume.number)) js) (sym at)
             (few-outcome_in (3 * k.volume.number) k.volume.number a k.slots (slot - 1) d.few);
         world = next d.world e;
-        shows = subst (λ (p : Answer × Kept). Shows p.1 (next d.world e)) (sym does)
+        shows = subst (λ (p : Answer × Kept). Shows p.1 (next d.world e))
+            (act-outcome k slot a ∙ sym does)
             (alike k d.world e d.shows).1;
       }
 

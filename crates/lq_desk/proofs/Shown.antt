@@ -19,8 +19,7 @@ use Rattle.lq_update.specs.Updates.{updates_of, updates_from}
 use Rattle.lq_update.specs.Laws.{UpdatesJoin}
 use Rattle.lq_desk_world.specs.World.{World, Subscribed, updates_due, slot_at, after_change, taken_before_free}
 use Rattle.lq_desk_world.specs.declared.event.Event.{Event}
-use Rattle.lq_desk_world.specs.declared.event.Event.TheVariants.{Change, Open, At}
-use Rattle.lq_desk_world.specs.declared.event.Act.TheVariants as act
+use Rattle.lq_desk_world.specs.declared.event.Event.TheVariants.{Change, Open, Put, Take, HangUp, Notice, Close, Finish}
 use Rattle.lq_desk_world.specs.Events.{Answer, Changed, Opened, changing, with_change, opening, opened_now, open_refusal, putting, reading, hanging_up, noticing, closing, finishing, at_slot, answer, next}
 use Rattle.lq_desk_world.specs.Runs.{MayRunOut}
 use Rattle.lq_desk_world.specs.Fair.{IsFair, IsFairSlot, IsFairWorld}
@@ -225,19 +224,19 @@ module _ (count : ChangesCount) where
         ap (open_if (kept_of w) (fresh_slot q moved (state_of w.book).number port backlog))
         (refusal-same w port backlog)
         ∙ opening-same w q port backlog moved (open_refusal w port backlog)
-    outcome-same w (At slot act.Put) fair =
+    outcome-same w (Put slot) fair =
         at-same w fair slot (putting w.book) put_slot (put-same w.book)
-    outcome-same w (At slot act.Read) fair =
+    outcome-same w (Take slot) fair =
         at-same w fair slot (reading w.book) read_slot (read-same w.book)
-    outcome-same w (At slot act.HangUp) fair =
+    outcome-same w (HangUp slot) fair =
         at-same w fair slot hanging_up ask_slot (λ s f. ask-same w.book s)
-    outcome-same w (At slot act.Notice) fair =
+    outcome-same w (Notice slot) fair =
         ap (λ n. at_kept (kept_of w) slot (notice_slot n)) (numbered w.book) ∙ at-same w fair slot
         (noticing w.book) (notice_slot (number_of w.book)) (notice-same w.book)
-    outcome-same w (At slot act.Close) fair =
+    outcome-same w (Close slot) fair =
         ap (λ n. at_kept (kept_of w) slot (close_slot n)) (numbered w.book)
         ∙ at-same w fair slot (closing w.book) (close_slot (number_of w.book)) (close-same w.book)
-    outcome-same w (At slot act.Finish) fair =
+    outcome-same w (Finish slot) fair =
         at-same w fair slot (finishing w.book) finish_slot (finish-same w.book)
 
     -- and fair worlds stay fair
@@ -263,7 +262,12 @@ module _ (count : ChangesCount) where
       runs_out : (w : World) (e : Event) → KeptMayRunOut (kept_of w) e → MayRunOut w e
       runs_out w (Change c) is = is
       runs_out w (Open q port backlog moved) is = sym (refusal-same w port backlog) ∙ is
-      runs_out w (At slot a) is = is
+      runs_out w (Put slot) is = is
+      runs_out w (Take slot) is = is
+      runs_out w (HangUp slot) is = is
+      runs_out w (Notice slot) is = is
+      runs_out w (Close slot) is = is
+      runs_out w (Finish slot) is = is
 
       -- a step of what is kept is a move from a world that it shows
       pub moves : (old new : Kept) (w : World) (e : Event) (a : Answer) → KeptStep old e a new

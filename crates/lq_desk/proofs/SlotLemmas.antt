@@ -16,7 +16,7 @@ use Rattle.lq_update.specs.declared.parcel.Parcel.TheVariants.{Update, Fin}
 use Rattle.lq_update.specs.Updates.{updates_of, step_of}
 use Rattle.lq_update.specs.Laws.{UpdatesJoin}
 use Rattle.lq_desk_world.specs.World.{Subscribed, End, covered_by, covered, updates_due, mark_behind, whole, is_live, is_over, with_end, one_more_put, first_in_port, overruns, overrun_if, after_change}
-use Rattle.lq_desk_world.specs.Events.{Moved, Read, Ended, Empty, Noticed, Shut, putting_if, putting, reading_if, reading, hanging_up, noticing_if, noticing, closing_if, closing, finishing_if, finishing}
+use Rattle.lq_desk_world.specs.Events.{Moved, Took, Ended, Empty, Noticed, Shut, putting_if, putting, reading_if, reading, hanging_up, noticing_if, noticing, closing_if, closing, finishing_if, finishing}
 use Rattle.lq_desk_world.specs.Fair.{IsFair}
 use Rattle.lq_desk_sub.specs.Held.{Held, next_of, without, ended_by, after_messages_by, with_messages, next_parcel}
 use Rattle.lq_desk_sub.specs.Held as h
@@ -183,7 +183,7 @@ read-if : (b : Book) (s : Subscribed) → IsFair b s → (o : Option Parcel)
     ≡ ((reading_if b s o).0, option_map (slot_for b) (reading_if b s o).1)
 read-if b s f None =
     ap (λ x. (if x then Ended else Empty, Some (slot_for b s))) (is_read-same b s f)
-read-if b s f (Some p) = ap (λ ps. (Read p, Some (record (slot_for b s) { queue = ps })))
+read-if b s f (Some p) = ap (λ ps. (Took p, Some (record (slot_for b s) { queue = ps })))
     (drop-drop 1 s.taken (take s.put (whole b s)))
 
 -- a read is answered alike

@@ -16,15 +16,14 @@ use Rattle.lq_update.specs.declared.parcel.Parcel.{Parcel}
 use Rattle.lq_update.specs.declared.parcel.Parcel.TheVariants.{Update, Fin}
 use Rattle.lq_update.specs.Updates.{step_of}
 use Rattle.lq_update.specs.Laws.{StepsAreFew}
-use Rattle.lq_desk_world.specs.Events.{Answer, Refused}
+use Rattle.lq_desk_world.specs.Events.{Answer, Refused, event_at}
 use Rattle.lq_value.specs.declared.refusal.Refusal.TheVariants.{NotOpen}
-use Rattle.lq_desk_world.specs.declared.event.Event.TheVariants.{At}
 use Rattle.lq_desk_world.specs.declared.event.Act.{Act}
 use Rattle.lq_desk_world.specs.declared.event.Act.TheVariants as act
 use Rattle.lq_desk_sub.specs.Held.{Held, is_live, held_after, committed, ended_by, after_messages, after_messages_by, overruns}
 use Rattle.lq_desk.specs.Slot.{KeptSlot, PreparedSlot, slot_of, prepared_slot, committed_slot, slot_after, put_if, read_if, notice_if, close_if, finish_if, done_at, filled, has_ready, is_ending, noticed}
 use Rattle.lq_desk.specs.Act.{act_of, outcome_at, outcome_in}
-use Rattle.lq_desk.specs.Kept.{Kept, IsFew, kept_at, at_place, kept_outcome}
+use Rattle.lq_desk.specs.Kept.{Kept, IsFew, kept_act, kept_at, at_place, kept_outcome}
 use Rattle.lq_desk.specs.Kept as kept
 use Rattle.lq_desk.proofs.ListLemmas.{all-set, all-get, set-same, lt-get}
 use Rattle.lq_desk.proofs.PutLemmas.{puts-keep}
@@ -331,7 +330,7 @@ few-finish n k false h = h
 -- no act makes any
 few-act : (n number : ℕ) (a : Act) (k : KeptSlot) → IsFew n (Some k) → IsFew n (act_of number a k).1
 few-act n number act.Put k h = few-put n k _ _ h
-few-act n number act.Read k h = few-read n k _ h
+few-act n number act.Take k h = few-read n k _ h
 few-act n number act.HangUp k h = h
 few-act n number act.Notice k h = few-notice n number k _ h
 few-act n number act.Close k h = few-close n number k _ h
@@ -379,6 +378,16 @@ few-filled_at n ks i h = few-done n filled (few-filled n) ks i h
 
 -- ---- an act at a place is the event at its slot
 
+-- an act at a slot is an event
+pub act-outcome : (k : Kept) (slot : ℕ) (a : Act)
+    → kept_outcome k (event_at slot a) ≡ kept_act k slot a
+act-outcome k slot act.Put = refl
+act-outcome k slot act.Take = refl
+act-outcome k slot act.HangUp = refl
+act-outcome k slot act.Notice = refl
+act-outcome k slot act.Close = refl
+act-outcome k slot act.Finish = refl
+
 -- an act at a place within the slots is the event there
 at-place : (k : Kept) (a : Act) (place : ℕ) (o : Option (Option KeptSlot))
     → slice_get k.slots place ≡ o → place < length k.slots
@@ -398,7 +407,7 @@ at-place k a place (Some (Some s)) is lt = refl
 -- an act at a slot is its event
 pub act-same : (k : Kept) (a : Act) (slot : ℕ) (r : Answer) (ks : List (Option KeptSlot)) → slot ≢ 0
     → slot ≤ length k.slots → (r, ks) ≡ outcome_in k.volume.number a k.slots (slot - 1)
-    → (r, record k { slots = ks }) ≡ kept_outcome k (At slot a)
+    → (r, record k { slots = ks }) ≡ kept_act k slot a
 act-same k a slot r ks some within is =
     let there : option_flatten (slice_get k.slots (slot - 1)) ≡ kept_at k slot =
     grind (arith, nat_tests) in
@@ -408,7 +417,7 @@ act-same k a slot r ks some within is =
 
 -- an act at a free slot is refused, and leaves what is kept
 pub no-slot : (k : Kept) (a : Act) (slot : ℕ) → kept_at k slot ≡ None
-    → (Refused NotOpen, k) ≡ kept_outcome k (At slot a)
+    → (Refused NotOpen, k) ≡ kept_act k slot a
 no-slot k a slot none =
     ap (λ (o : Option KeptSlot). at_place k (slot - 1) o (act_of k.volume.number a)) (sym none)
 

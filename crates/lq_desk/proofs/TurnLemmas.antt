@@ -12,9 +12,7 @@ use Rattle.lq_volume.specs.Book.{Book}
 use Rattle.lq_volume.specs.Change.{refused}
 use Rattle.lq_desk_world.specs.World.{World, Subscribed}
 use Rattle.lq_desk_world.specs.declared.event.Event.{Event}
-use Rattle.lq_desk_world.specs.declared.event.Event.TheVariants.{Change, Open, At}
-use Rattle.lq_desk_world.specs.declared.event.Act.{Act}
-use Rattle.lq_desk_world.specs.declared.event.Act.TheVariants as act
+use Rattle.lq_desk_world.specs.declared.event.Event.TheVariants.{Change, Open, Put, Take, HangUp, Notice, Close, Finish}
 use Rattle.lq_desk_world.specs.Events.{Answer, outcome, next}
 use Rattle.lq_desk_world.specs.Turns.{Turn, turn_of, ports_of, places_at, places_in, at_slot_of, at_each, one_notice, puts, notices, all_puts, after_all, carried_out}
 use Rattle.lq_update.specs.declared.mark.Cause.TheVariants.{HungUp}
@@ -92,13 +90,13 @@ at-keeps k slot (Some s) event is keeps =
 
 -- a noticing keeps all ports
 ports-noticed : (k : Kept) (slot : ℕ)
-    → kept_ports (kept_outcome k (At slot act.Notice)).1 ≡ kept_ports k
+    → kept_ports (kept_outcome k (Notice slot)).1 ≡ kept_ports k
 ports-noticed k slot = at-keeps k slot (kept_at k slot)
     (notice_slot k.volume.number) refl (notice-keeps k.volume.number)
 
 -- a closing keeps all ports
 ports-closed : (k : Kept) (slot : ℕ)
-    → kept_ports (kept_outcome k (At slot act.Close)).1 ≡ kept_ports k
+    → kept_ports (kept_outcome k (Close slot)).1 ≡ kept_ports k
 ports-closed k slot =
     at-keeps k slot (kept_at k slot) (close_slot k.volume.number) refl (close-keeps k.volume.number)
 
@@ -166,12 +164,12 @@ notice-does k ks i s at = one-event k ks i s (noticed k.volume.number s)
 -- several puts at a slot are those puts there
 puts-do : (k : Kept) (i n : ℕ) (ks : List (Option KeptSlot)) (s : KeptSlot)
     → slice_get ks i ≡ Some (Some s)
-    → kept_after (record k { slots = ks }) (replicate n (At (i + 1) act.Put))
+    → kept_after (record k { slots = ks }) (replicate n (Put (i + 1)))
     ≡ record k { slots = slice_set ks i (Some (after_puts n s)) }
 puts-do k i zero ks s at = ap (λ js. record k { slots = js }) (sym (set-same ks i (Some s) at))
 puts-do k i (suc n) ks s at =
     let js = slice_set ks i (Some (after_put s)) in
-    ap (λ j. kept_after j (replicate n (At (i + 1) act.Put)))
+    ap (λ j. kept_after j (replicate n (Put (i + 1))))
     (one-event k ks i s (after_put s) put_slot at (put-some s))
     ∙ (puts-do k i n js (after_put s) (get-set_here ks i (Some s) (Some (after_put s)) at)
     ∙ ap (λ hs. record k { slots = hs })
@@ -198,7 +196,7 @@ get-some (x ∷ xs) (suc i) lt = get-some xs i (omega arith)
 
 -- a noticing at a place is the turn's noticing there, also of a free slot
 notice-there : (k : Kept) (i : ℕ) (o : Option KeptSlot)
-    → slice_get k.slots i ≡ Some o → (kept_outcome k (At (i + 1) act.Notice)).1
+    → slice_get k.slots i ≡ Some o → (kept_outcome k (Notice (i + 1))).1
     ≡ kept_after k (at_slot_of one_notice (i + 1) (option_map slot_port o))
 notice-there k i None is =
     ap (λ (o : Option KeptSlot). (at_place k (i + 1 - 1) o (notice_slot k.volume.number)).1)
@@ -237,12 +235,12 @@ done-there f k i o at = ap (λ (g : Option (Option KeptSlot)).
 -- the notice of a slot, and the puts of a slot
 pub noticed-one : (k : Kept) (slot : ℕ) → slot ≢ 0 → slot ≤ length k.slots
     → record k { slots = done_at (noticed k.volume.number) k.slots (slot - 1) }
-    ≡ (kept_outcome k (At slot act.Notice)).1
+    ≡ (kept_outcome k (Notice slot)).1
 noticed-one k slot some within =
     let i = slot - 1 in
     let e : i + 1 ≡ slot = omega (arith, some) in
     let t = get-some k.slots i (omega (arith, some, within)) in
-    sym (ap (λ n. (kept_outcome k (At n act.Notice)).1) (sym e)
+    sym (ap (λ n. (kept_outcome k (Notice n)).1) (sym e)
     ∙ (notice-there k i t.0 t.1
     ∙ (slot-does one_notice (noticed k.volume.number) k i t.0 (notice-does k) t.1
     ∙ done-there (noticed k.volume.number) k i t.0 t.1)))
@@ -262,7 +260,7 @@ filled-one k slot some within =
 
 -- where there is no slot, nothing is done
 pub noticed-none : (k : Kept) (slot : ℕ) → kept_at k slot ≡ None
-    → k ≡ (kept_outcome k (At slot act.Notice)).1
+    → k ≡ (kept_outcome k (Notice slot)).1
 noticed-none k slot none = sym
     (ap (λ (o : Option KeptSlot). (at_place k (slot - 1) o (notice_slot k.volume.number)).1) none)
 
@@ -380,30 +378,30 @@ filled-all k = sym (all-does puts filled k (fill-does k))
 
 -- a noticing, puts and a read are the turn of a read
 pub read-turn : (k l m n : Kept) (slot : ℕ) (a : Answer)
-    → l ≡ (kept_outcome k (At slot act.Notice)).1
+    → l ≡ (kept_outcome k (Notice slot)).1
     → m ≡ kept_after l (puts slot (places_at (kept_ports l) slot))
-    → (a, n) ≡ kept_outcome m (At slot act.Read)
-    → TurnStep k (At slot act.Read) a n
+    → (a, n) ≡ kept_outcome m (Take slot)
+    → TurnStep k (Take slot) a n
 read-turn k l m n slot a noticed filled taken =
     let same : kept_ports l ≡ kept_ports k = ap kept_ports noticed ∙ ports-noticed k slot in
-    let at : m ≡ kept_after (kept_outcome k (At slot act.Notice)).1
+    let at : m ≡ kept_after (kept_outcome k (Notice slot)).1
     (puts slot (places_at (kept_ports k) slot)) =
     filled ∙ (ap (λ ps. kept_after l (puts slot (places_at ps slot))) same
     ∙ ap (λ j. kept_after j (puts slot (places_at (kept_ports k) slot))) noticed) in
     record {
       middle = n;
       step = inl (
-        ap (λ (p : Answer × Kept). p.0) taken ∙ ap (λ j. (kept_outcome j (At slot act.Read)).0) at,
-        ap (λ (p : Answer × Kept). p.1) taken ∙ ap (λ j. (kept_outcome j (At slot act.Read)).1) at,
+        ap (λ (p : Answer × Kept). p.0) taken ∙ ap (λ j. (kept_outcome j (Take slot)).0) at,
+        ap (λ (p : Answer × Kept). p.1) taken ∙ ap (λ j. (kept_outcome j (Take slot)).1) at,
       );
       after = refl;
     }
 
 -- a noticing, a closing and puts are the turn of a closing
 pub close-turn : (k l m n : Kept) (slot : ℕ) (a : Answer)
-    → l ≡ (kept_outcome k (At slot act.Notice)).1 → (a, m) ≡ kept_outcome l (At slot act.Close)
+    → l ≡ (kept_outcome k (Notice slot)).1 → (a, m) ≡ kept_outcome l (Close slot)
     → n ≡ kept_after m (puts slot (places_at (kept_ports m) slot))
-    → TurnStep k (At slot act.Close) a n
+    → TurnStep k (Close slot) a n
 close-turn k l m n slot a noticed closed filled =
     let same : kept_ports m ≡ kept_ports k = ap (λ (p : Answer × Kept). kept_ports p.1) closed
     ∙ (ports-closed l slot ∙ (ap kept_ports noticed ∙ ports-noticed k slot)) in
@@ -411,9 +409,9 @@ close-turn k l m n slot a noticed closed filled =
       middle = m;
       step = inl (
         ap (λ (p : Answer × Kept). p.0) closed ∙ ap
-            (λ j. (kept_outcome j (At slot act.Close)).0) noticed,
+            (λ j. (kept_outcome j (Close slot)).0) noticed,
         ap (λ (p : Answer × Kept). p.1) closed
-            ∙ ap (λ j. (kept_outcome j (At slot act.Close)).1) noticed,
+            ∙ ap (λ j. (kept_outcome j (Close slot)).1) noticed,
       );
       after = filled ∙ ap (λ ps. kept_after m (puts slot (places_at ps slot))) same;
     }
@@ -452,36 +450,12 @@ alone-turn k l e a before after step = record {
   after = ap (kept_after l) (sym after);
 }
 
--- an act that comes alone
-abbrev pub IsAlone : Act → Type 0
-IsAlone a = (a ≡ act.Put) ⊎ ((a ≡ act.HangUp) ⊎ ((a ≡ act.Notice) ⊎ (a ≡ act.Finish)))
-
--- nothing goes before it and nothing after it
-none-beside : (k : Kept) (slot : ℕ) (a : Act) → IsAlone a
-    → ((kept_turn k (At slot a)).before ≡ []) × ((kept_turn k (At slot a)).after ≡ [])
-none-beside k slot a alone = elim alone [
-  | inl is ↦ by is refl
-  | inr p ↦ elim p [
-    | inl is ↦ by is refl
-    | inr p ↦ elim p [
-      | inl is ↦ by is refl
-      | inr is ↦ by is refl
-    ]
-  ]
-]
-  where
-    by : {x : Act} → a ≡ x → kept_turn k (At slot x)
-        ≡ record { before = []; event = At slot x; after = [] }
-        → ((kept_turn k (At slot a)).before ≡ []) × ((kept_turn k (At slot a)).after ≡ [])
-    by is none = rw is (ap (λ (t : Turn). t.before) none, ap (λ (t : Turn). t.after) none)
-
--- such an act is its turn
-pub act-turn : (k l : Kept) (a : Act) (slot : ℕ) (r : Answer) → IsAlone a
-    → (r, l) ≡ kept_outcome k (At slot a) → TurnStep k (At slot a) r l
-act-turn k l a slot r alone does =
-    let none = none-beside k slot a alone in
-    alone-turn k l (At slot a) r none.0 none.1
-    (inl (ap (λ (p : Answer × Kept). p.0) does, ap (λ (p : Answer × Kept). p.1) does))
+-- so is one that equals such an event
+pub alone-like : (k l : Kept) (e f : Event) (a : Answer) → e ≡ f → (kept_turn k f).before ≡ []
+    → (kept_turn k f).after ≡ [] → KeptStep k e a l → TurnStep k e a l
+alone-like k l e f a is before after step =
+    alone-turn k l e a (ap (λ g. (kept_turn k g).before) is ∙ before)
+    (ap (λ g. (kept_turn k g).after) is ∙ after) step
 
 -- ---- turns are runs, and worlds take them alike
 
@@ -545,12 +519,12 @@ module _ (moves : Moving) where
 pub turn-event : (k : Kept) (e : Event) → kept_turn k e ≡ record (kept_turn k e) { event = e }
 turn-event k (Change c) = refl
 turn-event k (Open q port backlog moved) = refl
-turn-event k (At slot act.Put) = refl
-turn-event k (At slot act.Read) = refl
-turn-event k (At slot act.HangUp) = refl
-turn-event k (At slot act.Notice) = refl
-turn-event k (At slot act.Close) = refl
-turn-event k (At slot act.Finish) = refl
+turn-event k (Put slot) = refl
+turn-event k (Take slot) = refl
+turn-event k (HangUp slot) = refl
+turn-event k (Notice slot) = refl
+turn-event k (Close slot) = refl
+turn-event k (Finish slot) = refl
 
 -- where what is kept shows a world, and both answer alike
 module _ (alike : KeptShowsWorlds) where

@@ -10,7 +10,7 @@ use Rattle.lq_desk.specs.Slot.{KeptSlot, put_slot, read_slot, ask_slot, notice_s
 -- what an act does at a taken slot, and its answer
 abbrev pub act_of : ℕ → Act → KeptSlot → Answer × Option KeptSlot
 act_of number act.Put = put_slot
-act_of number act.Read = read_slot
+act_of number act.Take = read_slot
 act_of number act.HangUp = ask_slot
 act_of number act.Notice = notice_slot number
 act_of number act.Close = close_slot number

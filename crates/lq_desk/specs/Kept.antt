@@ -13,7 +13,9 @@ use Rattle.lq_volume.specs.Book.{Book, state_of}
 use Rattle.lq_update.specs.declared.mark.Mark.{Mark}
 use Rattle.lq_desk_world.specs.World.{World, Subscribed, End, updates_due, waiting, in_port}
 use Rattle.lq_desk_world.specs.declared.event.Event.{Event}
-use Rattle.lq_desk_world.specs.declared.event.Event.TheVariants.{Change, Open, At}
+use Rattle.lq_desk_world.specs.declared.event.Event.TheVariants.{Change, Open, Put, Take, HangUp, Notice, Close, Finish}
+use Rattle.lq_desk_world.specs.declared.event.Act.{Act}
+use Rattle.lq_desk_world.specs.declared.event.Act.TheVariants as act
 use Rattle.lq_desk_world.specs.Events.{Answer, Changed, Opened, Refused, opening_refusals}
 use Rattle.lq_desk_world.specs.Fair.{IsFairWorld}
 use Rattle.lq_desk_sub.specs.Held.{Held}
@@ -84,9 +86,13 @@ at_place k place None does = (Refused NotOpen, k)
 at_place k place (Some s) does =
     ((does s).0, record k { slots = slice_set k.slots place (does s).1 })
 
--- an act at a slot
+-- what is done at a slot
 abbrev pub at_kept : Kept → ℕ → (KeptSlot → Answer × Option KeptSlot) → Answer × Kept
 at_kept k slot does = at_place k (slot - 1) (kept_at k slot) does
+
+-- an act at a slot
+abbrev pub kept_act : Kept → ℕ → Act → Answer × Kept
+kept_act k slot a = at_kept k slot (act_of k.volume.number a)
 
 -- ---- all of them
 
@@ -95,13 +101,23 @@ abbrev pub kept_outcome : Kept → Event → Answer × Kept
 kept_outcome k (Change c) = change_if k c (refused k.volume c)
 kept_outcome k (Open q port backlog moved) =
     open_if k (fresh_slot q moved k.volume.number port backlog) (opening_refusal k port backlog)
-kept_outcome k (At slot a) = at_kept k slot (act_of k.volume.number a)
+kept_outcome k (Put slot) = kept_act k slot act.Put
+kept_outcome k (Take slot) = kept_act k slot act.Take
+kept_outcome k (HangUp slot) = kept_act k slot act.HangUp
+kept_outcome k (Notice slot) = kept_act k slot act.Notice
+kept_outcome k (Close slot) = kept_act k slot act.Close
+kept_outcome k (Finish slot) = kept_act k slot act.Finish
 
 -- a change and an opening that nothing else refuses may run out of memory
 abbrev pub KeptMayRunOut : Kept → Event → Type 0
 KeptMayRunOut k (Change c) = refused k.volume c ≡ None
 KeptMayRunOut k (Open q port backlog moved) = opening_refusal k port backlog ≡ None
-KeptMayRunOut k (At slot a) = ⊥
+KeptMayRunOut k (Put slot) = ⊥
+KeptMayRunOut k (Take slot) = ⊥
+KeptMayRunOut k (HangUp slot) = ⊥
+KeptMayRunOut k (Notice slot) = ⊥
+KeptMayRunOut k (Close slot) = ⊥
+KeptMayRunOut k (Finish slot) = ⊥
 
 -- its outcome, or a want of memory that leaves what is kept
 abbrev pub KeptStep : Kept → Event → Answer → Kept → Type 0

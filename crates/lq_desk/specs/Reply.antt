@@ -7,14 +7,14 @@ use Rattle.lq_desk.specs.declared.reply.Reply.{Reply}
 use Rattle.lq_desk.specs.declared.reply.Reply.TheVariants as reply
 use Rattle.lq_desk_world.specs.World.{World}
 use Rattle.lq_desk_world.specs.declared.event.Event.{Event}
-use Rattle.lq_desk_world.specs.Events.{Answer, Changed, Opened, Moved, Read, Empty, Ended, Asked, Noticed, Shut, Finished, Refused}
+use Rattle.lq_desk_world.specs.Events.{Answer, Changed, Opened, Moved, Took, Empty, Ended, Asked, Noticed, Shut, Finished, Refused}
 use Rattle.lq_desk_world.specs.Runs.{Step, Run}
 use Rattle.lq_desk.specs.Kept.{Kept, Shows}
 
 -- the world's answer to a read
 abbrev pub answer_of_read : Read_ → Answer
-answer_of_read (read.Update message) = Read (Update message)
-answer_of_read (read.Fin mark) = Read (Fin mark)
+answer_of_read (read.Update message) = Took (Update message)
+answer_of_read (read.Fin mark) = Took (Fin mark)
 answer_of_read read.Empty = Empty
 answer_of_read read.Ended = Ended
 
@@ -23,7 +23,7 @@ abbrev pub answer_of : Reply → Answer
 answer_of (reply.Changed applied) = Changed applied
 answer_of (reply.Opened slot at result) = Opened slot at result.items
 answer_of (reply.Moved was) = Moved was
-answer_of (reply.Read r) = answer_of_read r
+answer_of (reply.Took r) = answer_of_read r
 answer_of reply.Asked = Asked
 answer_of (reply.Noticed was) = Noticed was
 answer_of (reply.Shut change) = Shut change

@@ -7,7 +7,7 @@ use Rattle.lq_volume.specs.declared.change.Change.{Change}
 use Rattle.lq_volume.specs.State.{State}
 use Rattle.lq_update.specs.declared.parcel.Parcel.{Parcel}
 use Rattle.lq_update.specs.declared.mark.Cause.TheVariants.{Closed, HungUp}
-use Rattle.lq_desk_world.specs.Events.{Answer, Moved, Read, Empty, Ended, Asked, Noticed, Shut, Finished, Refused}
+use Rattle.lq_desk_world.specs.Events.{Answer, Moved, Took, Empty, Ended, Asked, Noticed, Shut, Finished, Refused}
 use Rattle.lq_desk_sub.specs.Held.{Held, Prepared, opened_with, is_live, held_after, prepared, committed, ended_by, next_parcel, without}
 
 -- the subscription, how many places its port has, the parcels in it, and whether its end was asked
@@ -76,7 +76,7 @@ is_read k = k.held.mark_out && (length k.queue == 0)
 
 -- a read of the first parcel, if there is one
 abbrev pub read_if : KeptSlot → Option Parcel → Answer × Option KeptSlot
-read_if k (Some p) = (Read p, Some (record k { queue = drop 1 k.queue }))
+read_if k (Some p) = (Took p, Some (record k { queue = drop 1 k.queue }))
 read_if k None = (if is_read k then Ended else Empty, Some k)
 
 -- a read from the port

@@ -74,12 +74,11 @@ impl Model for Desk {
 impl Desk {
     ghost use Rattle.lq_volume.specs.Result.{result_of};
     ghost use Rattle.lq_desk_world.specs.World.{World, first_world};
-    ghost use Rattle.lq_desk_world.specs.declared.event.Event.TheVariants.{At};
     ghost use Rattle.lq_desk_world.specs.Events.{Opened, Refused};
     ghost use Rattle.lq_value.specs.declared.refusal.Refusal.{Refusal};
     ghost use Rattle.lq_desk_world.specs.Headline.{ReadersAreTold};
     ghost use Rattle.lq_desk.specs.Slot.{fresh_slot};
-    ghost use Rattle.lq_desk.specs.Kept.{Kept, KeptStep, Shows, changed, opened, opening_refusal, kept_outcome};
+    ghost use Rattle.lq_desk.specs.Kept.{Kept, KeptStep, Shows, changed, opened, opening_refusal, kept_act};
     ghost use Rattle.lq_desk.specs.Kept as kept;
     ghost use Rattle.lq_desk.specs.Reply.{Moves, Runs, answer_of};
 
@@ -133,7 +132,7 @@ impl Desk {
     ///
     /// Refused: `NoMemory`, before any event. The reads of each subscription that these events open
     /// are answered as a reader of its update list is told: each message once and in order, the
-    /// mark behind them, and after each change that folds to the query's result.
+    /// mark after them, and after each change that folds to the query's result.
     pub fn run(&mut self, events: &[Event]) -> Result<Vec<Reply>, Refusal>
         ensures refused { IsRefusedBy result None }
         ensures run { IfOk result (λ replies. (w : World) → Shows self.old w →
@@ -171,7 +170,12 @@ impl Desk {
                 Ok(reply) => reply,
                 Err(refusal) => Reply::Refused(refusal),
             },
-            Event::At { slot, act } => self.act(*slot, *act),
+            Event::Put(slot) => self.act(*slot, Act::Put),
+            Event::Take(slot) => self.act(*slot, Act::Take),
+            Event::HangUp(slot) => self.act(*slot, Act::HangUp),
+            Event::Notice(slot) => self.act(*slot, Act::Notice),
+            Event::Close(slot) => self.act(*slot, Act::Close),
+            Event::Finish(slot) => self.act(*slot, Act::Finish),
         }
     }
 
@@ -244,7 +248,7 @@ impl Desk {
 
     // Does an act at a slot.
     fn act(&mut self, slot: u64, act: Act) -> Reply
-        ensures { (answer_of result, self.new) ≡ kept_outcome self.old (At slot act) }
+        ensures { (answer_of result, self.new) ≡ kept_act self.old slot act }
     {
         updates_join();
         changes_are_counted();

@@ -1,9 +1,9 @@
 //! The core of the live query server with its ports, one event at a time, without threads.
 //!
-//! A contract sees a desk as what it keeps (`specs/Kept`), which shows a world of lq_desk_world: a book
-//! of changes and the subscriptions over it. Of a subscription it sees what lq_desk_sub shows, and what
-//! is in its port (`specs/Slot`). Nothing here waits. Begin with
-//! lq_desk_world's `event`, then `desk`.
+//! A contract sees a desk as what it keeps (`specs/Kept`), which shows a world of lq_desk_world: a
+//! book of changes and the subscriptions over it. Of a subscription a contract sees what
+//! lq_desk_sub shows and what is in its port (`specs/Slot`). Nothing here waits. Begin with
+//! `event` of lq_desk_world, then `desk`.
 #![tactic(auto)]
 
 mod desk;
@@ -15,7 +15,7 @@ mod word;
 
 pub use desk::Desk;
 pub use laws::{kept_passes_lists_on, kept_shows_worlds, kept_turns_show_worlds};
-pub use lq_desk_sub::Read;
-pub use lq_desk_world::{Act, Event};
+pub use lq_desk_sub::{Read, Sub};
+pub use lq_desk_world::Event;
 pub use reply::Reply;
 pub use slots::SLOTS;

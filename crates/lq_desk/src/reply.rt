@@ -8,7 +8,7 @@ use lq_volume::Applied;
 pub enum Reply {
     /// The change was accepted.
     Changed(Applied),
-    /// The live query stands in this slot, with the result after so many changes.
+    /// The live query has this slot; `result` is its result after `at` changes, by rising node.
     Opened {
         slot: u64,
         at: u64,
@@ -16,13 +16,13 @@ pub enum Reply {
     },
     /// Whether a parcel moved into the port.
     Moved(bool),
-    /// What a read gave.
-    Read(Read),
+    /// What was taken of the port.
+    Took(Read),
     /// The end of the subscription was asked for.
     Asked,
     /// Whether this event ended the subscription.
     Noticed(bool),
-    /// The subscription was ended, and covers so many changes.
+    /// The subscription was ended, and covers the changes up to this number.
     Shut(u64),
     /// The slot is free.
     Finished,

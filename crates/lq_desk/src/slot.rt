@@ -55,7 +55,7 @@ impl Slot {
     ghost use Rattle.lq_desk.specs.Reply.{answer_of_read};
     ghost use Rattle.lq_update.specs.declared.mark.Cause.TheVariants.{Closed};
 
-    /// A subscription that was told nothing yet, with an empty port of so many places.
+    /// A new subscription, with an empty port of `port` places.
     pub fn new(
         alloc: Global,
         predicate: &Predicate,
@@ -227,7 +227,7 @@ pub fn act_at(slot: &mut Option<Slot>, act: Act, number: u64) -> Reply
     };
     match act {
         Act::Put => Reply::Moved(there.put()),
-        Act::Read => Reply::Read(there.read()),
+        Act::Take => Reply::Took(there.read()),
         Act::HangUp => {
             there.hang_up();
             Reply::Asked

@@ -24,7 +24,7 @@ use std::marker::Model;
 /// How many slots a desk has.
 pub const SLOTS: usize = 64;
 
-/// The slots of a desk. Those behind the last one that was ever taken are free, and not stored.
+/// The slots of a desk. Those after the last one that was ever taken are free, and not stored.
 ///
 /// A word has a bit for each slot that may be ending, and one for each whose port may take a
 /// parcel: a slot whose bit is clear isn't looked at.

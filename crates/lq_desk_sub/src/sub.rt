@@ -213,7 +213,7 @@ impl Sub {
         self.make_ready(planned, before)
     }
 
-    // Makes the messages of a change that may tell some, after so many changes. It stands apart:
+    // Makes the messages of a change that may have some, after `before` changes. It stands apart:
     // most changes tell most queries nothing.
     #[inline(never)]
     fn make_ready(&mut self, planned: &Planned<'_>, before: u64) -> Result<(), Refusal>

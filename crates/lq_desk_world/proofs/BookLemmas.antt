@@ -7,7 +7,7 @@ use Rattle.lq_volume.specs.Change.{refused as refused_by, after}
 use Rattle.lq_volume.specs.Book.{AreLawful, after_all, state_of}
 use Rattle.lq_desk_world.specs.World.{World}
 use Rattle.lq_desk_world.specs.declared.event.Event.{Event}
-use Rattle.lq_desk_world.specs.declared.event.Event.TheVariants.{Change, Open, At}
+use Rattle.lq_desk_world.specs.declared.event.Event.TheVariants.{Change, Open, Put, Take, HangUp, Notice, Close, Finish}
 use Rattle.lq_desk_world.specs.Events.{Answer, changing, outcome}
 use Rattle.lq_desk_world.specs.Runs.{Step, Run}
 use Rattle.lq_desk_world.specs.Headline.{accepted_by, accepted}
@@ -32,7 +32,12 @@ outcome-lawful : (w : World) (e : Event)
     → AreLawful (state_of w.book) (accepted_by e (outcome w e).0)
 outcome-lawful w (Change c) = changing-lawful w c (refused_by (state_of w.book) c) refl
 outcome-lawful w (Open q port backlog moved) = tt
-outcome-lawful w (At k a) = tt
+outcome-lawful w (Put k) = tt
+outcome-lawful w (Take k) = tt
+outcome-lawful w (HangUp k) = tt
+outcome-lawful w (Notice k) = tt
+outcome-lawful w (Close k) = tt
+outcome-lawful w (Finish k) = tt
 
 -- what a step adds to the book is lawful in the state that it meets
 step-lawful : (w : World) (e : Event) (a : Answer) (v : World) → Step w e a v

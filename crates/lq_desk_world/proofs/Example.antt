@@ -15,9 +15,8 @@ use Rattle.lq_update.specs.declared.parcel.Parcel.TheVariants.{Update, Fin}
 use Rattle.lq_desk_world.specs.Headline.{ReadersAreTold}
 use Rattle.lq_desk_world.specs.World.{World, first_world}
 use Rattle.lq_desk_world.specs.declared.event.Event.{Event}
-use Rattle.lq_desk_world.specs.declared.event.Event.TheVariants.{Change, Open, At}
-use Rattle.lq_desk_world.specs.declared.event.Act.TheVariants as act
-use Rattle.lq_desk_world.specs.Events.{Answer, Changed, Opened, Moved, Read, Empty, Ended, Asked, Noticed, Shut, Finished, Refused, answer, next}
+use Rattle.lq_desk_world.specs.declared.event.Event.TheVariants.{Change, Open, Put, Take, HangUp, Notice, Close, Finish}
+use Rattle.lq_desk_world.specs.Events.{Answer, Changed, Opened, Moved, Took, Empty, Ended, Asked, Noticed, Shut, Finished, Refused, answer, next}
 
 -- what events are answered, one after another
 abbrev answers_from : World → List Event → List Answer
@@ -43,22 +42,22 @@ create = creating (codes "a")
 
 -- the acts at slot 1
 abbrev put : Event
-put = At 1 act.Put
+put = Put 1
 
 abbrev read : Event
-read = At 1 act.Read
+read = Take 1
 
 abbrev hang_up : Event
-hang_up = At 1 act.HangUp
+hang_up = HangUp 1
 
 abbrev notice : Event
-notice = At 1 act.Notice
+notice = Notice 1
 
 abbrev close : Event
-close = At 1 act.Close
+close = Close 1
 
 abbrev finish : Event
-finish = At 1 act.Finish
+finish = Finish 1
 
 -- the message of an entry of the root that was created
 abbrev created_as : ℕ → ℕ → List ℕ → ℕ → Message
@@ -74,8 +73,8 @@ close_on_full_port :
     answers_to (Open every 1 1 false ∷ create ∷ close ∷ put ∷ put ∷ read
     ∷ read ∷ put ∷ read ∷ put ∷ read ∷ finish ∷ read ∷ [])
     ≡ Opened 1 0 [] ∷ Changed (record { change = 1; node = 2 }) ∷ Shut 1 ∷ Moved true ∷ Moved false
-    ∷ Read (Update created) ∷ Empty ∷ Moved true
-    ∷ Read (Fin (record { seq = 2; change = 1; cause = Closed })) ∷ Moved false ∷ Ended ∷ Finished
+    ∷ Took (Update created) ∷ Empty ∷ Moved true
+    ∷ Took (Fin (record { seq = 2; change = 1; cause = Closed })) ∷ Moved false ∷ Ended ∷ Finished
     ∷ Refused NotOpen ∷ []
 close_on_full_port = refl
 
@@ -84,8 +83,8 @@ hang_up_told_after :
     answers_to (Open every 2 2 false ∷ hang_up ∷ create ∷ notice ∷ notice
     ∷ close ∷ put ∷ put ∷ read ∷ read ∷ [])
     ≡ Opened 1 0 [] ∷ Asked ∷ Changed (record { change = 1; node = 2 }) ∷ Noticed true
-    ∷ Noticed false ∷ Refused NotOpen ∷ Moved true ∷ Moved true ∷ Read (Update created)
-    ∷ Read (Fin (record { seq = 2; change = 1; cause = HungUp })) ∷ []
+    ∷ Noticed false ∷ Refused NotOpen ∷ Moved true ∷ Moved true ∷ Took (Update created)
+    ∷ Took (Fin (record { seq = 2; change = 1; cause = HungUp })) ∷ []
 hang_up_told_after = refl
 
 -- an overrun ends a list before a hang-up that nobody has noticed
@@ -93,7 +92,7 @@ overrun_before_notice :
     answers_to (Open every 1 0 false ∷ hang_up ∷ create ∷ notice ∷ put
     ∷ read ∷ [])
     ≡ Opened 1 0 [] ∷ Asked ∷ Changed (record { change = 1; node = 2 })
-    ∷ Noticed false ∷ Moved true ∷ Read (Fin (record { seq = 1; change = 0; cause = Overrun })) ∷ []
+    ∷ Noticed false ∷ Moved true ∷ Took (Fin (record { seq = 1; change = 0; cause = Overrun })) ∷ []
 overrun_before_notice = refl
 
 -- a hang-up asked of one subscription does not end the next in its slot
@@ -101,7 +100,7 @@ hang_up_does_not_carry_over :
     answers_to (Open every 1 1 false ∷ close ∷ hang_up ∷ put ∷ read
     ∷ finish ∷ Open every 1 1 false ∷ notice ∷ [])
     ≡ Opened 1 0 [] ∷ Shut 0 ∷ Asked ∷ Moved true
-    ∷ Read (Fin (record { seq = 1; change = 0; cause = Closed }))
+    ∷ Took (Fin (record { seq = 1; change = 0; cause = Closed }))
     ∷ Finished ∷ Opened 1 0 [] ∷ Noticed false ∷ []
 hang_up_does_not_carry_over = refl
 
@@ -112,10 +111,10 @@ overrun_after_held :
     ∷ read ∷ put ∷ read ∷ put ∷ read ∷ read ∷ [])
     ≡ Opened 1 0 [] ∷ Changed (record { change = 1; node = 2 }) ∷ Moved true
     ∷ Changed (record { change = 2; node = 3 }) ∷ Changed (record { change = 3; node = 4 })
-    ∷ Changed (record { change = 4; node = 5 }) ∷ Read (Update created) ∷ Moved true
-    ∷ Read (Update (created_as 2 2 (codes "b") 3)) ∷ Moved true
-    ∷ Read (Update (created_as 3 3 (codes "c") 4)) ∷ Moved true
-    ∷ Read (Fin (record { seq = 4; change = 3; cause = Overrun })) ∷ Ended ∷ []
+    ∷ Changed (record { change = 4; node = 5 }) ∷ Took (Update created) ∷ Moved true
+    ∷ Took (Update (created_as 2 2 (codes "b") 3)) ∷ Moved true
+    ∷ Took (Update (created_as 3 3 (codes "c") 4)) ∷ Moved true
+    ∷ Took (Fin (record { seq = 4; change = 3; cause = Overrun })) ∷ Ended ∷ []
 overrun_after_held = refl
 
 -- a slot used twice is two subscriptions
@@ -124,11 +123,11 @@ close_and_reuse :
     ∷ finish ∷ create ∷ Open every 1 3 false ∷ creating (codes "b") ∷ put
     ∷ read ∷ [])
     ≡ Opened 1 0 [] ∷ Refused StillOpen ∷ Shut 0 ∷ Moved true
-    ∷ Read (Fin (record { seq = 1; change = 0; cause = Closed })) ∷ Finished
+    ∷ Took (Fin (record { seq = 1; change = 0; cause = Closed })) ∷ Finished
     ∷ Changed (record { change = 1; node = 2 })
     ∷ Opened 1 1 (record { dir = 1; name = codes "a"; node = 2 } ∷ [])
     ∷ Changed (record { change = 2; node = 3 }) ∷ Moved true
-    ∷ Read (Update (created_as 1 2 (codes "b") 3)) ∷ []
+    ∷ Took (Update (created_as 1 2 (codes "b") 3)) ∷ []
 close_and_reuse = refl
 
 -- the refusals of an opening in their order, over a volume
@@ -140,21 +139,21 @@ opening_refusals_in_order : answers_from (record {
 })
     (Open every 0 65537 false ∷ Open every 1025 0 false ∷ Open every 1 65537 false
     ∷ Open every 1024 65536 false ∷ Open every 1 0 true ∷ Open every 1 0 true ∷ close
-    ∷ put ∷ read ∷ finish ∷ Open every 1 0 true ∷ At 0 act.Read ∷ read ∷ At 3 act.Read
+    ∷ put ∷ read ∷ finish ∷ Open every 1 0 true ∷ Take 0 ∷ read ∷ Take 3
     ∷ []) ≡ Refused BadPort ∷ Refused BadPort ∷ Refused BadBacklog ∷ Opened 1 0 [] ∷ Opened 2 0 []
     ∷ Refused NoSlot ∷ Shut 0 ∷ Moved true
-    ∷ Read (Fin (record { seq = 1; change = 0; cause = Closed })) ∷ Finished ∷ Refused Exhausted
+    ∷ Took (Fin (record { seq = 1; change = 0; cause = Closed })) ∷ Finished ∷ Refused Exhausted
     ∷ Refused NotOpen ∷ Refused NotOpen ∷ Refused NotOpen ∷ []
 opening_refusals_in_order = refl
 
 -- a move is one message where that was asked for, and so
 -- fits a backlog of one; else it is two, and doesn't
 moved_saves_backlog : answers_to (create ∷ Open every 1 1 true ∷ Open every 1 1 false
-    ∷ Change (Move 2 1 (codes "b") false) ∷ put ∷ read ∷ At 2 act.Put ∷ At 2 act.Read ∷ [])
+    ∷ Change (Move 2 1 (codes "b") false) ∷ put ∷ read ∷ Put 2 ∷ Take 2 ∷ [])
     ≡ Changed (record { change = 1; node = 2 })
     ∷ Opened 1 1 (record { dir = 1; name = codes "a"; node = 2 } ∷ [])
     ∷ Opened 2 1 (record { dir = 1; name = codes "a"; node = 2 } ∷ [])
-    ∷ Changed (record { change = 2; node = 2 }) ∷ Moved true ∷ Read (Update (record {
+    ∷ Changed (record { change = 2; node = 2 }) ∷ Moved true ∷ Took (Update (record {
       seq = 1;
       change = 2;
       last = true;
@@ -162,14 +161,14 @@ moved_saves_backlog : answers_to (create ∷ Open every 1 1 true ∷ Open every 
       dir = 1;
       name = codes "b";
       node = 2;
-    })) ∷ Moved true ∷ Read (Fin (record { seq = 1; change = 1; cause = Overrun })) ∷ []
+    })) ∷ Moved true ∷ Took (Fin (record { seq = 1; change = 1; cause = Overrun })) ∷ []
 moved_saves_backlog = refl
 
 -- no reader is told that it was opened before a change that came first
 not_opened_before : ReadersAreTold (empty_state 10) (create ∷ Open every 1 1 false ∷ [])
     (Changed (record { change = 1; node = 2 }) ∷ Opened 1 0 [] ∷ []) → ⊥
 not_opened_before told =
-    let opening = told (create ∷ []) []
+    let opening = told.readers (create ∷ []) []
     (Changed (record { change = 1; node = 2 }) ∷ []) [] every 1 1 false 1 0 [] refl refl refl in
     let at : ℕ = 0 in
     let number : at ≡ 1 = opening.0.number in

@@ -16,8 +16,7 @@ use Rattle.lq_update.specs.Updates.{updates_of, updates_from}
 use Rattle.lq_update.specs.Laws.{UpdatesJoin}
 use Rattle.lq_desk_world.specs.World.{World, Subscribed, slot_at, taken_before_free, after_change}
 use Rattle.lq_desk_world.specs.declared.event.Event.{Event}
-use Rattle.lq_desk_world.specs.declared.event.Event.TheVariants.{Change, Open, At}
-use Rattle.lq_desk_world.specs.declared.event.Act.TheVariants as act
+use Rattle.lq_desk_world.specs.declared.event.Event.TheVariants.{Change, Open, Put, Take, HangUp, Notice, Close, Finish}
 use Rattle.lq_desk_world.specs.Events.{Answer, changing, opening, opened_now, open_refusal, putting, reading, hanging_up, noticing, closing, finishing, finishing_if, at_slot, outcome}
 use Rattle.lq_desk_world.specs.Runs.{Step}
 use Rattle.lq_desk_world.specs.Fair.{IsFair, IsFairSlot, IsFairWorld}
@@ -163,17 +162,17 @@ module _ (join : UpdatesJoin) where
   outcome-fair w (Open q port backlog moved) h =
       opening-fair w (opened_now w q port backlog moved) (open_refusal w port backlog)
       (λ none. opened-fair w q port backlog moved (may_open w port backlog none)) h
-  outcome-fair w (At k act.Put) h = at_slot-fair w k (putting w.book)
+  outcome-fair w (Put k) h = at_slot-fair w k (putting w.book)
       (λ s f. left-fair w.book s _ _ (putting-leaves w.book s f)) h (slot_at w k) refl
-  outcome-fair w (At k act.Read) h = at_slot-fair w k (reading w.book)
+  outcome-fair w (Take k) h = at_slot-fair w k (reading w.book)
       (λ s f. left-fair w.book s _ _ (reading-leaves w.book s f)) h (slot_at w k) refl
-  outcome-fair w (At k act.HangUp) h = at_slot-fair w k hanging_up
+  outcome-fair w (HangUp k) h = at_slot-fair w k hanging_up
       (λ s f. left-fair w.book s _ _ (hanging_up-leaves w.book s f)) h (slot_at w k) refl
-  outcome-fair w (At k act.Notice) h = at_slot-fair w k (noticing w.book)
+  outcome-fair w (Notice k) h = at_slot-fair w k (noticing w.book)
       (λ s f. left-fair w.book s _ _ (noticing-leaves w.book s f)) h (slot_at w k) refl
-  outcome-fair w (At k act.Close) h = at_slot-fair w k (closing w.book)
+  outcome-fair w (Close k) h = at_slot-fair w k (closing w.book)
       (λ s f. left-fair w.book s _ _ (closing-leaves w.book s f)) h (slot_at w k) refl
-  outcome-fair w (At k act.Finish) h =
+  outcome-fair w (Finish k) h =
       at_slot-fair w k (finishing w.book) (finishing-fair w.book) h (slot_at w k) refl
 
   -- each step leaves a fair world fair

@@ -11,8 +11,7 @@ use Rattle.lq_volume.specs.Book.{Book, state_of}
 use Rattle.lq_update.specs.Laws.{UpdatesJoin}
 use Rattle.lq_desk_world.specs.World.{World, Subscribed, slot_at, can_put, after_change, overrun_if, overruns, is_live, whole}
 use Rattle.lq_desk_world.specs.declared.event.Event.{Event}
-use Rattle.lq_desk_world.specs.declared.event.Event.TheVariants.{Change, At}
-use Rattle.lq_desk_world.specs.declared.event.Act.TheVariants as act
+use Rattle.lq_desk_world.specs.declared.event.Event.TheVariants.{Change, Put, Take, Notice, Close}
 use Rattle.lq_desk_world.specs.Events.{Answer, Moved, changing, putting, putting_if, noticing, noticing_if, closing, closing_if, at_slot, outcome, next}
 use Rattle.lq_desk_world.specs.Turns.{ports_of, places_in, places_at, puts, notices, all_puts, at_each, at_slot_of, one_notice, after_all, turn_of, turn_outcome}
 use Rattle.lq_desk_world.specs.Fair.{IsFairSlot, IsFairWorld}
@@ -185,7 +184,7 @@ at-book w j event (Some s) = refl
 -- ---- puts, in a world
 
 -- a put in a slot is one put there
-put-here : (w : World) (k : ℕ) → slot_at (next w (At k act.Put)) k ≡ put_once w.book (slot_at w k)
+put-here : (w : World) (k : ℕ) → slot_at (next w (Put k)) k ≡ put_once w.book (slot_at w k)
 put-here w k = at-here w k (putting w.book) (slot_at w k) refl ∙ by (slot_at w k)
   where
     by : (o : Option Subscribed) → after_event (putting w.book) o ≡ put_once w.book o
@@ -193,31 +192,31 @@ put-here w k = at-here w k (putting w.book) (slot_at w k) refl ∙ by (slot_at w
     by (Some s) = refl
 
 -- a put in another slot leaves this one
-put-other : (w : World) (k j : ℕ) → k ≢ j → slot_at (next w (At j act.Put)) k ≡ slot_at w k
+put-other : (w : World) (k j : ℕ) → k ≢ j → slot_at (next w (Put j)) k ≡ slot_at w k
 put-other w k j ne = at-other w k j (putting w.book) (slot_at w j) ne refl
 
 -- a put leaves the book
-put-book : (w : World) (j : ℕ) → (next w (At j act.Put)).book ≡ w.book
+put-book : (w : World) (j : ℕ) → (next w (Put j)).book ≡ w.book
 put-book w j = at-book w j (putting w.book) (slot_at w j)
 
 -- puts leave the book
 puts-book : (w : World) (j n : ℕ) → (after_all outcome w (puts j n)).book ≡ w.book
 puts-book w j zero = refl
-puts-book w j (suc n) = puts-book (next w (At j act.Put)) j n ∙ put-book w j
+puts-book w j (suc n) = puts-book (next w (Put j)) j n ∙ put-book w j
 
 -- puts in a slot are that many puts there
 puts-here : (w : World) (k n : ℕ)
     → slot_at (after_all outcome w (puts k n)) k ≡ puts_left w.book n (slot_at w k)
 puts-here w k zero = refl
-puts-here w k (suc n) = puts-here (next w (At k act.Put)) k n
-    ∙ (ap (λ b. puts_left b n (slot_at (next w (At k act.Put)) k)) (put-book w k)
+puts-here w k (suc n) = puts-here (next w (Put k)) k n
+    ∙ (ap (λ b. puts_left b n (slot_at (next w (Put k)) k)) (put-book w k)
     ∙ ap (λ o. puts_left w.book n o) (put-here w k))
 
 -- puts in another slot leave this one
 puts-other : (w : World) (k j n : ℕ) → k ≢ j
     → slot_at (after_all outcome w (puts j n)) k ≡ slot_at w k
 puts-other w k j zero ne = refl
-puts-other w k j (suc n) ne = puts-other (next w (At j act.Put)) k j n ne ∙ put-other w k j ne
+puts-other w k j (suc n) ne = puts-other (next w (Put j)) k j n ne ∙ put-other w k j ne
 
 -- nothing can be put at a slot of a world
 abbrev Still : World → ℕ → Type 0
@@ -362,7 +361,7 @@ closing-port b s = by (is_live s)
 
 -- noticing a hang-up, in whatever slot, keeps the size of this slot's port
 notice-port : (w : World) (k j : ℕ)
-    → port_in (slot_at (next w (At j act.Notice)) k) ≡ port_in (slot_at w k)
+    → port_in (slot_at (next w (Notice j)) k) ≡ port_in (slot_at w k)
 notice-port w k j = event-port w k j (noticing w.book) (noticing-port w.book)
 
 -- the notices of one slot keep the size of this slot's port
@@ -470,14 +469,14 @@ module _ (join : UpdatesJoin) where
           (outcome-fair join v (Change c) (after_all-fair (notices (ports_of w)) w fair))
           (change-port v c slot ∙ notices-port (ports_of w) w slot 1)
 
-      closes : (slot : ℕ) → IsStill (turn_outcome w (At slot act.Close)).1 slot
+      closes : (slot : ℕ) → IsStill (turn_outcome w (Close slot)).1 slot
       closes slot =
-          let v = next w (At slot act.Notice) in
-          own-fills (next v (At slot act.Close)) w slot
-          (outcome-fair join v (At slot act.Close) (outcome-fair join w (At slot act.Notice) fair))
+          let v = next w (Notice slot) in
+          own-fills (next v (Close slot)) w slot
+          (outcome-fair join v (Close slot) (outcome-fair join w (Notice slot) fair))
           (event-port v slot slot (closing v.book) (closing-port v.book) ∙ notice-port w slot slot)
 
       reads : (slot : ℕ)
-          → IsStill (after_all outcome w (turn_of (ports_of w) (At slot act.Read)).before) slot
-      reads slot = own-fills (next w (At slot act.Notice)) w slot
-          (outcome-fair join w (At slot act.Notice) fair) (notice-port w slot slot)
+          → IsStill (after_all outcome w (turn_of (ports_of w) (Take slot)).before) slot
+      reads slot = own-fills (next w (Notice slot)) w slot
+          (outcome-fair join w (Notice slot) fair) (notice-port w slot slot)

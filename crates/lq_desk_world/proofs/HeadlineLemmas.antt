@@ -19,7 +19,7 @@ use Rattle.lq_desk_world.specs.declared.event.Event.{Event}
 use Rattle.lq_desk_world.specs.declared.event.Event.TheVariants.{Open}
 use Rattle.lq_desk_world.specs.Events.{Answer, Opened, opening, opened_now, open_refusal, with_sub}
 use Rattle.lq_desk_world.specs.Runs.{Step, Run}
-use Rattle.lq_desk_world.specs.Headline.{reads_of, parcels_in, updates_among, updates_in, accepted_by, accepted, book_of, IsOpening, AreReads, ReadersAreTold}
+use Rattle.lq_desk_world.specs.Headline.{reads_of, parcels_in, updates_among, updates_in, accepted_by, accepted, book_of, IsOpening, AreReads, OpeningsAreTold, ReadersAreTold}
 use Rattle.lq_desk_world.proofs.WorldLemmas.{after_all-append, number-all, updates_of-rebased}
 use Rattle.lq_desk_world.proofs.BookLemmas.{run-lawful}
 use Rattle.lq_desk_world.proofs.FairLemmas.{MayOpen, may_open, opened-fair}
@@ -174,10 +174,10 @@ module _ (join : UpdatesJoin) (grow : UpdatesGrow) (count : ChangesCount) (fold 
             (reads_of k events answers)) (sym is.slot_is) reads),
       )
 
-  -- from any world whose book leads to the state
-  pub headline : (w end : World) (events : List Event) (answers : List Answer)
-      → Run w events answers end → ReadersAreTold (state_of w.book) events answers
-  headline w end events answers run before after befores afters q port backlog moved slot at first
+  -- what a run's openings and reads are answered, from any world whose book leads to the state
+  openings-told : (w end : World) (events : List Event) (answers : List Answer)
+      → Run w events answers end → OpeningsAreTold (state_of w.book) events answers
+  openings-told w end events answers run before after befores afters q port backlog moved slot at first
       is told same =
       let parts = run_parts w before (Open q port backlog moved ∷ after) befores
       (Opened slot at first ∷ afters) end same
@@ -217,3 +217,11 @@ module _ (join : UpdatesJoin) (grow : UpdatesGrow) (count : ChangesCount) (fold 
             (told_over end.book b q moved at _ number (λ n. ap (λ d. updates_of q moved d at n) all
             ∙ updates_of-rebased count q moved w.book cs at n past) reads.2),
       )
+
+  -- the headline of a run, from any world whose book leads to the state
+  pub headline : (w end : World) (events : List Event) (answers : List Answer)
+      → Run w events answers end → ReadersAreTold (state_of w.book) events answers
+  headline w end events answers run = record {
+    book = run-lawful w end events answers run;
+    readers = openings-told w end events answers run;
+  }

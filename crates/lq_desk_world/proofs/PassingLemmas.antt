@@ -9,8 +9,7 @@ use Rattle.lq_volume.specs.Book.{Book, state_of}
 use Rattle.lq_update.specs.declared.message.Message.{Message}
 use Rattle.lq_update.specs.declared.parcel.Parcel.{Parcel}
 use Rattle.lq_desk_world.specs.World.{World, Subscribed, in_port, to_come, updates_due, mark_behind, whole, is_live, is_over, can_put, first_in_port, slot_at, with_slot}
-use Rattle.lq_desk_world.specs.declared.event.Event.TheVariants.{Change, Open, At}
-use Rattle.lq_desk_world.specs.declared.event.Act.TheVariants as act
+use Rattle.lq_desk_world.specs.declared.event.Event.TheVariants.{Change, Open, Put, Take, HangUp, Notice, Close, Finish}
 use Rattle.lq_desk_world.specs.Events.{Answer, Refused, changing, opening, opened_now, open_refusal, putting, putting_if, reading, reading_if, hanging_up, noticing, noticing_if, closing, closing_if, finishing, finishing_if, at_slot}
 use Rattle.lq_desk_world.specs.Laws.{ListsArePassedOn, RefusalsLeaveWorlds}
 use Rattle.lq_desk_world.proofs.SubLemmas.{parcels}
@@ -136,15 +135,15 @@ pub refusals-leave : RefusalsLeaveWorlds
 refusals-leave w (Change c) r is = changing-refused w c (refused_by (state_of w.book) c) r is
 refusals-leave w (Open q port backlog moved) r is =
     opening-refused w (opened_now w q port backlog moved) (open_refusal w port backlog) r is
-refusals-leave w (At k act.Put) r is =
+refusals-leave w (Put k) r is =
     at_slot-refused w k (putting w.book) r (putting-alone w.book) (slot_at w k) refl is
-refusals-leave w (At k act.Read) r is =
+refusals-leave w (Take k) r is =
     at_slot-refused w k (reading w.book) r (reading-alone w.book) (slot_at w k) refl is
-refusals-leave w (At k act.HangUp) r is =
+refusals-leave w (HangUp k) r is =
     at_slot-refused w k hanging_up r hanging_up-alone (slot_at w k) refl is
-refusals-leave w (At k act.Notice) r is =
+refusals-leave w (Notice k) r is =
     at_slot-refused w k (noticing w.book) r (noticing-alone w.book) (slot_at w k) refl is
-refusals-leave w (At k act.Close) r is =
+refusals-leave w (Close k) r is =
     at_slot-refused w k (closing w.book) r (closing-alone w.book) (slot_at w k) refl is
-refusals-leave w (At k act.Finish) r is =
+refusals-leave w (Finish k) r is =
     at_slot-refused w k (finishing w.book) r (finishing-alone w.book) (slot_at w k) refl is

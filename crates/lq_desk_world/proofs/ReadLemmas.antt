@@ -12,9 +12,10 @@ use Rattle.lq_volume.specs.Book.{Book, grown, state_of}
 use Rattle.lq_update.specs.Laws.{UpdatesJoin}
 use Rattle.lq_desk_world.specs.World.{World, Subscribed, is_over, slot_at, taken_before_free, with_slot, after_change}
 use Rattle.lq_desk_world.specs.declared.event.Event.{Event}
-use Rattle.lq_desk_world.specs.declared.event.Event.TheVariants.{Change, Open, At}
+use Rattle.lq_desk_world.specs.declared.event.Event.TheVariants.{Change, Open, Put, Take, HangUp, Notice, Close, Finish}
+use Rattle.lq_desk_world.specs.declared.event.Act.{Act}
 use Rattle.lq_desk_world.specs.declared.event.Act.TheVariants as act
-use Rattle.lq_desk_world.specs.Events.{Answer, Changed, Opened, Moved, Read, Empty, Ended, Asked, Noticed, Shut, Finished, Refused, changing, opening, opened_now, open_refusal, putting, reading, hanging_up, noticing, closing, finishing, finishing_if, at_slot, outcome, acting}
+use Rattle.lq_desk_world.specs.Events.{Answer, Changed, Opened, Moved, Took, Empty, Ended, Asked, Noticed, Shut, Finished, Refused, changing, opening, opened_now, open_refusal, putting, reading, hanging_up, noticing, closing, finishing, finishing_if, at_slot, outcome, act_outcome, acting}
 use Rattle.lq_desk_world.specs.Runs.{Step, Run}
 use Rattle.lq_desk_world.specs.Fair.{IsFair}
 use Rattle.lq_desk_world.specs.Headline.{read_by, frees, accepted_by, accepted}
@@ -45,6 +46,10 @@ at_slot-book : (w : World) (k : ℕ) (o : Option Subscribed)
 at_slot-book w k None event = refl
 at_slot-book w k (Some s) event = refl
 
+-- so does an act at a slot
+act-book : (w : World) (k : ℕ) (x : Act) → (act_outcome w k x).1.book ≡ grown w.book []
+act-book w k x = at_slot-book w k (slot_at w k) (acting w.book x) ∙ same_book w.book
+
 -- an event adds to the book what it accepts
 outcome-book : (w : World) (e : Event)
     → (outcome w e).1.book ≡ grown w.book (accepted_by e (outcome w e).0)
@@ -52,13 +57,23 @@ outcome-book w (Change c) = changing-book w c (refused_by (state_of w.book) c)
 outcome-book w (Open q port backlog moved) =
     opening-book w (opened_now w q port backlog moved) (open_refusal w port backlog)
     ∙ same_book w.book
-outcome-book w (At k x) = at_slot-book w k (slot_at w k) (acting w.book x) ∙ same_book w.book
+outcome-book w (Put k) = act-book w k act.Put
+outcome-book w (Take k) = act-book w k act.Take
+outcome-book w (HangUp k) = act-book w k act.HangUp
+outcome-book w (Notice k) = act-book w k act.Notice
+outcome-book w (Close k) = act-book w k act.Close
+outcome-book w (Finish k) = act-book w k act.Finish
 
 -- an event that is refused accepts no change
 pub accepted_by-refused : (e : Event) (r : Refusal) → accepted_by e (Refused r) ≡ []
 accepted_by-refused (Change c) r = refl
 accepted_by-refused (Open q port backlog moved) r = refl
-accepted_by-refused (At k x) r = refl
+accepted_by-refused (Put k) r = refl
+accepted_by-refused (Take k) r = refl
+accepted_by-refused (HangUp k) r = refl
+accepted_by-refused (Notice k) r = refl
+accepted_by-refused (Close k) r = refl
+accepted_by-refused (Finish k) r = refl
 
 -- a step adds to the book what it accepts
 pub step-book : (w : World) (e : Event) (a : Answer) (v : World) → Step w e a v
@@ -195,20 +210,20 @@ opening-goes w i s t None h =
 -- ---- what a read of a slot is answered
 
 -- the answer to a read of this slot is one of its reads
-read_own : (slot k : ℕ) (a : Answer) → k ≡ slot → read_by slot (At k act.Read) a ≡ a ∷ []
+read_own : (slot k : ℕ) (a : Answer) → k ≡ slot → read_by slot (Take k) a ≡ a ∷ []
 read_own slot k a own =
     let e : (k == slot) ≡ true = grind (arith, nat_tests) in
     ap (λ x. if x then a ∷ [] else []) e
 
 -- the answer to a read of another slot is none of its reads
-read_other : (slot k : ℕ) (a : Answer) → k ≢ slot → read_by slot (At k act.Read) a ≡ []
+read_other : (slot k : ℕ) (a : Answer) → k ≢ slot → read_by slot (Take k) a ≡ []
 read_other slot k a other =
     let e : (k == slot) ≡ false = grind (arith, nat_tests) in
     ap (λ x. if x then a ∷ [] else []) e
 
 -- a read gives this slot's reads its answer, if it is of this slot
 reading-goes : (w : World) (i : ℕ) (s : Subscribed) (k : ℕ) → Stands w i s
-    → Goes w i s (read_by (i + 1) (At k act.Read) (at_slot w k (slot_at w k) (reading w.book)).0)
+    → Goes w i s (read_by (i + 1) (Take k) (at_slot w k (slot_at w k) (reading w.book)).0)
     (at_slot w k (slot_at w k) (reading w.book)).1
 reading-goes w i s k h = elim (cases_eq k (i + 1)) [
   | inl own ↦
@@ -227,11 +242,11 @@ reading-goes w i s k h = elim (cases_eq k (i + 1)) [
 -- ---- a finish
 
 -- a finish in another slot does not free this one
-frees_other : (slot k : ℕ) (a : Answer) → k ≢ slot → frees slot (At k act.Finish) a ≡ false
+frees_other : (slot k : ℕ) (a : Answer) → k ≢ slot → frees slot (Finish k) a ≡ false
 frees_other slot k (Changed applied) other = refl
 frees_other slot k (Opened n at first) other = refl
 frees_other slot k (Moved was) other = refl
-frees_other slot k (Read p) other = refl
+frees_other slot k (Took p) other = refl
 frees_other slot k Empty other = refl
 frees_other slot k Ended other = refl
 frees_other slot k Asked other = refl
@@ -242,20 +257,20 @@ frees_other slot k (Refused r) other = refl
 
 -- a finish leaves this slot's reads, or frees the slot
 finishing-goes : (w : World) (i : ℕ) (s : Subscribed) (k : ℕ) → Stands w i s
-    → Passes w i s (At k act.Finish) (at_slot w k (slot_at w k) (finishing w.book)).0
+    → Passes w i s (Finish k) (at_slot w k (slot_at w k) (finishing w.book)).0
     (at_slot w k (slot_at w k) (finishing w.book)).1
 finishing-goes w i s k h = elim (cases_eq k (i + 1)) [
   | inl own ↦
       subst
       (λ (o : Option Subscribed).
-      Passes w i s (At k act.Finish) (at_slot w k o (finishing w.book)).0
+      Passes w i s (Finish k) (at_slot w k o (finishing w.book)).0
       (at_slot w k o (finishing w.book)).1) (sym (slot_here w i s k h.here own))
       (by own (is_over w.book s) refl)
   | inr other ↦ inr (frees_other (i + 1) k _ other, other_event w i s k (finishing w.book) h other)
 ]
   where
     by : k ≡ i + 1 → (x : Bool) → is_over w.book s ≡ x
-        → Passes w i s (At k act.Finish) (finishing_if s x).0
+        → Passes w i s (Finish k) (finishing_if s x).0
         (with_slot w (k - 1) (finishing_if s x).1)
     by own true is = inl (grind (arith, nat_tests), over-from w.book s is)
     by own false is = inr (
@@ -290,16 +305,16 @@ module _ (join : UpdatesJoin) where
     refl,
     opening-goes w i s (opened_now w q port backlog moved) (open_refusal w port backlog) h,
   )
-  outcome-goes w i s (At k act.Put) h =
+  outcome-goes w i s (Put k) h =
       inr (refl, slot_event w i s k (putting w.book) h (putting-leaves w.book s h.fair))
-  outcome-goes w i s (At k act.Read) h = inr (refl, reading-goes w i s k h)
-  outcome-goes w i s (At k act.HangUp) h =
+  outcome-goes w i s (Take k) h = inr (refl, reading-goes w i s k h)
+  outcome-goes w i s (HangUp k) h =
       inr (refl, slot_event w i s k hanging_up h (hanging_up-leaves w.book s h.fair))
-  outcome-goes w i s (At k act.Notice) h =
+  outcome-goes w i s (Notice k) h =
       inr (refl, slot_event w i s k (noticing w.book) h (noticing-leaves w.book s h.fair))
-  outcome-goes w i s (At k act.Close) h =
+  outcome-goes w i s (Close k) h =
       inr (refl, slot_event w i s k (closing w.book) h (closing-leaves w.book s h.fair))
-  outcome-goes w i s (At k act.Finish) h = finishing-goes w i s k h
+  outcome-goes w i s (Finish k) h = finishing-goes w i s k h
 
   -- each step leaves this slot's reads, gives one more, or frees the slot
   pub step-goes : (w : World) (i : ℕ) (s : Subscribed) (e : Event) (a : Answer) (v : World)
@@ -316,4 +331,9 @@ module _ (join : UpdatesJoin) where
       subst (λ (b : Answer). Passes w i s (Open q port backlog moved) b v) (sym ran.1)
       (subst (λ (u : World). Passes w i s (Open q port backlog moved) (Refused NoMemory) u)
       (sym ran.2) (inr (refl, rests w i s h)))
-  step-goes w i s (At k x) a v h (inr ran) = absurd ran.0
+  step-goes w i s (Put k) a v h (inr ran) = absurd ran.0
+  step-goes w i s (Take k) a v h (inr ran) = absurd ran.0
+  step-goes w i s (HangUp k) a v h (inr ran) = absurd ran.0
+  step-goes w i s (Notice k) a v h (inr ran) = absurd ran.0
+  step-goes w i s (Close k) a v h (inr ran) = absurd ran.0
+  step-goes w i s (Finish k) a v h (inr ran) = absurd ran.0

@@ -13,9 +13,8 @@ use Rattle.lq_update.specs.Updates.{updates_of, IsPrefixOf}
 use Rattle.lq_update.specs.Laws.{UpdatesJoin, UpdatesGrow}
 use Rattle.lq_desk_world.specs.World.{World, Subscribed, End, covered, covered_by, updates_due, mark_behind, whole}
 use Rattle.lq_desk_world.specs.declared.event.Event.{Event}
-use Rattle.lq_desk_world.specs.declared.event.Event.TheVariants.{Change, Open, At}
-use Rattle.lq_desk_world.specs.declared.event.Act.TheVariants as act
-use Rattle.lq_desk_world.specs.Events.{Answer, Read, Ended}
+use Rattle.lq_desk_world.specs.declared.event.Event.TheVariants.{Change, Open, Put, Take, HangUp, Notice, Close, Finish}
+use Rattle.lq_desk_world.specs.Events.{Answer, Took, Ended}
 use Rattle.lq_desk_world.specs.Runs.{Run}
 use Rattle.lq_desk_world.specs.Fair.{IsFair}
 use Rattle.lq_desk_world.specs.Headline.{read_by, reads_of, parcel_in, parcels_in, updates_among, updates_in, accepted, HasMark}
@@ -34,7 +33,7 @@ pub record Ran (b : Book) (s : Subscribed) (d : Book) (reads : List Answer) : Ty
   pub fair : IsFair d sub
   pub front : take s.taken (whole b s) ++ parcels_in reads ≡ take sub.taken (whole d sub)
   pub over : IsOver b s → AllByRecursion IsEnded reads
-  pub marked : (front rest : List Answer) (m : Mark) → reads ≡ front ++ Read (Fin m) ∷ rest
+  pub marked : (front rest : List Answer) (m : Mark) → reads ≡ front ++ Took (Fin m) ∷ rest
       → AllByRecursion IsEnded rest
   pub shown : (front rest : List Answer) → reads ≡ front ++ Ended ∷ rest
       → IsMarked (take s.taken (whole b s) ++ parcels_in front)
@@ -53,7 +52,7 @@ ran-nothing b s d t r = record {
   fair = r.keeps.fair;
   front = r.front;
   over = λ o. tt;
-  marked = λ front rest m is. absurd (no_place front rest (Read (Fin m)) is);
+  marked = λ front rest m is. absurd (no_place front rest (Took (Fin m)) is);
   shown = λ front rest is. absurd (no_place front rest Ended is);
 }
 
@@ -82,17 +81,17 @@ read_shape : (slot : ℕ) (e : Event) (a : Answer)
     → (read_by slot e a ≡ []) ⊎ ((x : Answer) × (read_by slot e a ≡ x ∷ []))
 read_shape slot (Change c) a = inl refl
 read_shape slot (Open q port backlog moved) a = inl refl
-read_shape slot (At k act.Put) a = inl refl
-read_shape slot (At k act.Read) a = by (k == slot)
+read_shape slot (Put k) a = inl refl
+read_shape slot (Take k) a = by (k == slot)
   where
     by : (x : Bool)
         → ((if x then a ∷ [] else []) ≡ []) ⊎ ((y : Answer) × ((if x then a ∷ [] else []) ≡ y ∷ []))
     by true = inr (a, refl)
     by false = inl refl
-read_shape slot (At k act.HangUp) a = inl refl
-read_shape slot (At k act.Notice) a = inl refl
-read_shape slot (At k act.Close) a = inl refl
-read_shape slot (At k act.Finish) a = inl refl
+read_shape slot (HangUp k) a = inl refl
+read_shape slot (Notice k) a = inl refl
+read_shape slot (Close k) a = inl refl
+read_shape slot (Finish k) a = inl refl
 
 -- one read, or none, and then a run of reads are a run
 ran-more : (b c d : Book) (s t : Subscribed) (xs ys : List Answer)
@@ -116,18 +115,18 @@ ran-more b c d s t xs ys shape r ran = record {
 }
   where
     one : (x : Answer) → xs ≡ x ∷ [] → (front rest : List Answer) (m : Mark)
-        → x ∷ ys ≡ front ++ Read (Fin m) ∷ rest → AllByRecursion IsEnded rest
+        → x ∷ ys ≡ front ++ Took (Fin m) ∷ rest → AllByRecursion IsEnded rest
     one x at [] rest m is =
-        let first : x ≡ Read (Fin m) = cc in
+        let first : x ≡ Took (Fin m) = cc in
         let others : ys ≡ rest = cc in
         subst (λ (zs : List Answer). AllByRecursion IsEnded zs) others
         (ran.over (r.marked m (at ∙ ap (λ y. y ∷ []) first)))
     one x at (y ∷ front) rest m is =
-        let others : ys ≡ front ++ Read (Fin m) ∷ rest = cc in
+        let others : ys ≡ front ++ Took (Fin m) ∷ rest = cc in
         ran.marked front rest m others
 
     by : (xs ≡ []) ⊎ ((x : Answer) × (xs ≡ x ∷ [])) → (front rest : List Answer) (m : Mark)
-        → xs ++ ys ≡ front ++ Read (Fin m) ∷ rest → AllByRecursion IsEnded rest
+        → xs ++ ys ≡ front ++ Took (Fin m) ∷ rest → AllByRecursion IsEnded rest
     by (inl none) front rest m is = ran.marked front rest m (sym (ap (λ zs. zs ++ ys) none) ∙ is)
     by (inr at) front rest m is = one at.0 at.1 front rest m (sym (ap (λ zs. zs ++ ys) at.1) ∙ is)
 
@@ -247,20 +246,20 @@ has-mark (x ∷ reads) marked =
         → p ∷ parcels_in reads ≡ front ++ Fin m ∷ []
         → ((m : Mark) (front : List Parcel)
         → parcels_in reads ≡ front ++ Fin m ∷ [] → HasMark reads)
-        → HasMark (Read p ∷ reads)
+        → HasMark (Took p ∷ reads)
     given p m [] is more =
         let first : p ≡ Fin m = cc in
-        (m, [], reads, ap (λ q. Read q ∷ reads) first)
+        (m, [], reads, ap (λ q. Took q ∷ reads) first)
     given p m (f ∷ front) is more =
         let others : parcels_in reads ≡ front ++ Fin m ∷ [] = cc in
-        onward (Read p) (more m front others)
+        onward (Took p) (more m front others)
 
     by : (x : Answer) (m : Mark) (front : List Parcel)
         → parcels_in (x ∷ reads) ≡ front ++ Fin m ∷ []
         → ((m : Mark) (front : List Parcel)
         → parcels_in reads ≡ front ++ Fin m ∷ [] → HasMark reads)
         → HasMark (x ∷ reads)
-    by (Read p) m front is more = given p m front is more
+    by (Took p) m front is more = given p m front is more
     by x m front is more = onward x (more m front is)
 
 -- ---- prefixes
@@ -295,7 +294,7 @@ updates-prefix grow q moved b m n (suc k) =
 pub record AreTold (b : Book) (q : Query) (moved : Bool) (at : ℕ)
     (reads : List Answer) : Type 0 where
   pub prefix : IsPrefixOf (updates_in reads) (updates_of q moved b at (number_of b))
-  pub mark : (front rest : List Answer) (m : Mark) → reads ≡ front ++ Read (Fin m) ∷ rest →
+  pub mark : (front rest : List Answer) (m : Mark) → reads ≡ front ++ Took (Fin m) ∷ rest →
       (at ≤ m.change) × (m.change ≤ number_of b)
       × (updates_in front ≡ updates_of q moved b at m.change)
       × (m.seq ≡ length (updates_in front) + 1)
@@ -329,7 +328,7 @@ ran-reads grow b s d reads none ran =
           ∷ (parcels_in rest ++ drop t.taken (whole d t)) ≡ whole d t =
           sym (append_assoc (parcels_in front) (Fin m ∷ parcels_in rest) (drop t.taken (whole d t)))
           ∙ (ap (λ ps. ps ++ drop t.taken (whole d t))
-          (sym (parcels_in-append front (Read (Fin m) ∷ rest)) ∙ (ap parcels_in (sym is) ∙ given))
+          (sym (parcels_in-append front (Took (Fin m) ∷ rest)) ∙ (ap parcels_in (sym is) ∙ given))
           ∙ take-append-drop t.taken (whole d t)) in
           let place =
           mark-place (updates_due d t) (length (updates_due d t)) t.end

@@ -16,7 +16,7 @@ use Rattle.lq_update.specs.declared.parcel.Parcel.TheVariants.{Update, Fin}
 use Rattle.lq_update.specs.Updates.{updates_of, step_of}
 use Rattle.lq_update.specs.Laws.{UpdatesJoin}
 use Rattle.lq_desk_world.specs.World.{Subscribed, End, covered_by, covered, updates_due, mark_behind, whole, held, is_live, is_over, with_end, with_hang_up_asked, one_more_put, one_more_taken, can_put, first_in_port, news, overruns, overrun_if, after_change}
-use Rattle.lq_desk_world.specs.Events.{Answer, Read, Ended, Empty, putting_if, putting, reading_if, reading, hanging_up, noticing_if, noticing, closing_if, closing}
+use Rattle.lq_desk_world.specs.Events.{Answer, Took, Ended, Empty, putting_if, putting, reading_if, reading, hanging_up, noticing_if, noticing, closing_if, closing}
 use Rattle.lq_desk_world.specs.Fair.{IsFair}
 use Rattle.lq_desk_world.specs.Headline.{parcels_in}
 use Rattle.lq_desk_world.proofs.ListLemmas.{take-one_more}
@@ -51,7 +51,7 @@ pub record Reads (b : Book) (s : Subscribed) (d : Book) (t : Subscribed)
   pub keeps : Keeps b s d t
   pub front : take s.taken (whole b s) ++ parcels_in reads ≡ take t.taken (whole d t)
   pub over : IsOver b s → IsOver d t × AllByRecursion IsEnded reads
-  pub marked : (m : Mark) → reads ≡ Read (Fin m) ∷ [] → IsOver d t
+  pub marked : (m : Mark) → reads ≡ Took (Fin m) ∷ [] → IsOver d t
   pub shown : reads ≡ Ended ∷ [] → IsOver b s
 
 -- an event of its slot leaves it there, and these reads were answered
@@ -422,7 +422,7 @@ reading-leaves b s h = by (first_in_port b s) refl
     is_ended true is = refl
     is_ended false is = absurd (let no : ⊥ = cc in no)
 
-    no_mark : (x : Bool) (m : Mark) → (if x then Ended else Empty) ∷ [] ≡ Read (Fin m) ∷ [] → ⊥
+    no_mark : (x : Bool) (m : Mark) → (if x then Ended else Empty) ∷ [] ≡ Took (Fin m) ∷ [] → ⊥
     no_mark true m is = cc
     no_mark false m is = cc
 

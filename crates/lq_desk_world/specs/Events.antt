@@ -14,7 +14,7 @@ use Rattle.lq_volume.specs.Book.{grown, number_of, state_of, Book}
 use Rattle.lq_update.specs.declared.mark.Cause.TheVariants.{Closed, HungUp}
 use Rattle.lq_update.specs.declared.parcel.Parcel.{Parcel}
 use Rattle.lq_desk_world.specs.declared.event.Event.{Event}
-use Rattle.lq_desk_world.specs.declared.event.Event.TheVariants.{Change, Open, At}
+use Rattle.lq_desk_world.specs.declared.event.Event.TheVariants.{Change, Open, Put, Take, HangUp, Notice, Close, Finish}
 use Rattle.lq_desk_world.specs.declared.event.Act.{Act}
 use Rattle.lq_desk_world.specs.declared.event.Act.TheVariants as act
 use Rattle.lq_desk_world.specs.World.{World, Subscribed, with_end, with_hang_up_asked, one_more_put, one_more_taken, can_put, first_in_port, is_live, is_over, after_change, slot_at, taken_before_free, with_slot}
@@ -24,7 +24,7 @@ pub data Answer : Type 0 where
   Changed : (applied : Applied) → Answer
   Opened : (slot : ℕ) (at : ℕ) (result : List Entry) → Answer
   Moved : (was : Bool) → Answer
-  Read : (parcel : Parcel) → Answer
+  Took : (parcel : Parcel) → Answer
   Empty : Answer
   Ended : Answer
   Asked : Answer
@@ -109,7 +109,7 @@ putting b s = putting_if s (can_put b s)
 
 -- the first parcel in the port is read
 abbrev pub reading_if : Book → Subscribed → Option Parcel → Answer × Option Subscribed
-reading_if b s (Some p) = (Read p, Some (one_more_taken s))
+reading_if b s (Some p) = (Took p, Some (one_more_taken s))
 reading_if b s None = (if is_over b s then Ended else Empty, Some s)
 
 abbrev pub reading : Book → Subscribed → Answer × Option Subscribed
@@ -146,7 +146,7 @@ finishing b s = finishing_if s (is_over b s)
 -- what an act does at a taken slot
 abbrev pub acting : Book → Act → Subscribed → Answer × Option Subscribed
 acting b act.Put = putting b
-acting b act.Read = reading b
+acting b act.Take = reading b
 acting b act.HangUp = hanging_up
 acting b act.Notice = noticing b
 acting b act.Close = closing b
@@ -158,6 +158,19 @@ abbrev pub at_slot : World → ℕ → Option Subscribed → (Subscribed → Ans
 at_slot w slot None does = (Refused NotOpen, w)
 at_slot w slot (Some s) does = ((does s).0, with_slot w (slot - 1) (does s).1)
 
+-- an act at a slot
+abbrev pub act_outcome : World → ℕ → Act → Answer × World
+act_outcome w slot a = at_slot w slot (slot_at w slot) (acting w.book a)
+
+-- the event that an act at a slot is
+abbrev pub event_at : ℕ → Act → Event
+event_at slot act.Put = Put slot
+event_at slot act.Take = Take slot
+event_at slot act.HangUp = HangUp slot
+event_at slot act.Notice = Notice slot
+event_at slot act.Close = Close slot
+event_at slot act.Finish = Finish slot
+
 -- ---- all of them
 
 -- what an event is answered, and the world after it
@@ -165,7 +178,12 @@ abbrev pub outcome : World → Event → Answer × World
 outcome w (Change c) = changing w c (refused (state_of w.book) c)
 outcome w (Open q port backlog moved) =
     opening w (opened_now w q port backlog moved) (open_refusal w port backlog)
-outcome w (At slot a) = at_slot w slot (slot_at w slot) (acting w.book a)
+outcome w (Put slot) = act_outcome w slot act.Put
+outcome w (Take slot) = act_outcome w slot act.Take
+outcome w (HangUp slot) = act_outcome w slot act.HangUp
+outcome w (Notice slot) = act_outcome w slot act.Notice
+outcome w (Close slot) = act_outcome w slot act.Close
+outcome w (Finish slot) = act_outcome w slot act.Finish
 
 abbrev pub answer : World → Event → Answer
 answer w e = (outcome w e).0

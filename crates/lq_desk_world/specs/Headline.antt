@@ -5,7 +5,7 @@ use Rattle.lq_value.specs.declared.entry.Entry.{Entry}
 use Rattle.lq_predicate_formula.specs.Query.{Query}
 use Rattle.lq_volume.specs.declared.change.Change.{Change as Change_}
 use Rattle.lq_volume.specs.State.{State, IsVolume}
-use Rattle.lq_volume.specs.Book.{Book, number_of, state_at, state_of}
+use Rattle.lq_volume.specs.Book.{Book, IsBook, number_of, state_at, state_of}
 use Rattle.lq_volume.specs.Result.{result_of}
 use Rattle.lq_update.specs.declared.message.Message.{Message}
 use Rattle.lq_update.specs.declared.mark.Mark.{Mark}
@@ -14,17 +14,16 @@ use Rattle.lq_update.specs.declared.parcel.Parcel.TheVariants.{Update, Fin}
 use Rattle.lq_update.specs.Updates.{updates_of, IsPrefixOf, IsSettled}
 use Rattle.lq_update.specs.Fold.{folded, last_change}
 use Rattle.lq_desk_world.specs.declared.event.Event.{Event}
-use Rattle.lq_desk_world.specs.declared.event.Event.TheVariants.{Change, Open, At}
-use Rattle.lq_desk_world.specs.declared.event.Act.TheVariants as act
-use Rattle.lq_desk_world.specs.Events.{Answer, Changed, Opened, Read, Ended, Finished}
+use Rattle.lq_desk_world.specs.declared.event.Event.TheVariants.{Change, Open, Take, Finish}
+use Rattle.lq_desk_world.specs.Events.{Answer, Changed, Opened, Took, Ended, Finished}
 
 -- what one event answered a read of a slot, and whether it freed the slot
 abbrev pub read_by : ℕ → Event → Answer → List Answer
-read_by slot (At k act.Read) a = if k == slot then a ∷ [] else []
+read_by slot (Take k) a = if k == slot then a ∷ [] else []
 read_by slot e a = []
 
 abbrev pub frees : ℕ → Event → Answer → Bool
-frees slot (At k act.Finish) Finished = k == slot
+frees slot (Finish k) Finished = k == slot
 frees slot e a = false
 
 -- what the reads of a slot were answered, until the slot was freed
@@ -36,7 +35,7 @@ reads_of slot (e ∷ events) (a ∷ answers) =
 
 -- the parcels, and the updates, that such answers gave
 abbrev pub parcel_in : Answer → List Parcel
-parcel_in (Read p) = p ∷ []
+parcel_in (Took p) = p ∷ []
 parcel_in a = []
 
 abbrev pub parcels_in : List Answer → List Parcel
@@ -68,7 +67,7 @@ book_of s events answers = record { start = s; changes = accepted events answers
 -- the mark is among them
 abbrev pub HasMark : List Answer → Type 0
 HasMark reads = (m : Mark) × (front : List Answer) × (rest : List Answer)
-    × (reads ≡ front ++ Read (Fin m) ∷ rest)
+    × (reads ≡ front ++ Took (Fin m) ∷ rest)
 
 -- What an opening may be answered, over the book of the changes
 -- before it: their number, and the query's result after them.
@@ -83,7 +82,7 @@ pub record AreReads (b : Book) (q : Query) (moved : Bool) (at : ℕ) (first : Li
   -- each message once and in order: they are a prefix of its update list
   pub prefix : IsPrefixOf (updates_in reads) (updates_of q moved b at (number_of b))
   -- the mark comes after the whole list up to the change that it names, and only `Ended` after it
-  pub mark : (front rest : List Answer) (m : Mark) → reads ≡ front ++ Read (Fin m) ∷ rest →
+  pub mark : (front rest : List Answer) (m : Mark) → reads ≡ front ++ Took (Fin m) ∷ rest →
       (at ≤ m.change) × (m.change ≤ number_of b)
       × (updates_in front ≡ updates_of q moved b at m.change)
       × (m.seq ≡ length (updates_in front) + 1)
@@ -97,17 +96,24 @@ pub record AreReads (b : Book) (q : Query) (moved : Bool) (at : ℕ) (first : Li
       ≡ result_of q (state_at b (last_change at (updates_in front)))
   -- and so it does before the mark, for the change that this names
   pub closing : IsVolume b.start
-      → (front rest : List Answer) (m : Mark) → reads ≡ front ++ Read (Fin m) ∷ rest
+      → (front rest : List Answer) (m : Mark) → reads ≡ front ++ Took (Fin m) ∷ rest
       → folded first (updates_in front) ≡ result_of q (state_at b m.change)
 
--- Whatever came before an opening and comes after it: it is answered over the changes that the run
--- accepted before it, and the reads of the subscription that it opened are such, over those
--- that the whole run accepted.
-abbrev pub ReadersAreTold : State → List Event → List Answer → Type 0
-ReadersAreTold s events answers =
+-- Whatever comes before an opening and after it: the opening is answered over the changes that
+-- the run accepted before it. The reads of the subscription that it opens are answered over all
+-- changes that the run accepts.
+abbrev pub OpeningsAreTold : State → List Event → List Answer → Type 0
+OpeningsAreTold s events answers =
     (before after : List Event) (befores afters : List Answer) (q : Query) (port backlog : ℕ)
     (moved : Bool) (slot at : ℕ) (first : List Entry)
     → events ≡ before ++ Open q port backlog moved ∷ after
     → answers ≡ befores ++ Opened slot at first ∷ afters → length before ≡ length befores
     → IsOpening (book_of s before befores) q at first
     × AreReads (book_of s events answers) q moved at first (reads_of slot after afters)
+
+-- The accepted changes of a run are a book: each is lawful after those before it. Over this book
+-- the readers of each subscription are told its update list.
+pub record ReadersAreTold (s : State) (events : List Event) (answers : List Answer)
+    : Type 0 where
+  pub book : IsBook (book_of s events answers)
+  pub readers : OpeningsAreTold s events answers

@@ -5,8 +5,7 @@ use Rattle.lq_volume.specs.declared.change.Change.{Change as Change_}
 use Rattle.lq_volume.specs.Book.{Book, state_of}
 use Rattle.lq_desk_world.specs.World.{World, Subscribed, first_world, whole, in_port, to_come}
 use Rattle.lq_desk_world.specs.declared.event.Event.{Event}
-use Rattle.lq_desk_world.specs.declared.event.Event.TheVariants.{Change, At}
-use Rattle.lq_desk_world.specs.declared.event.Act.TheVariants as act
+use Rattle.lq_desk_world.specs.declared.event.Event.TheVariants.{Change, Put, Take, Close}
 use Rattle.lq_desk_world.specs.Events.{Answer, Moved, Refused, answer, next, outcome}
 use Rattle.lq_desk_world.specs.Runs.{Run}
 use Rattle.lq_desk_world.specs.Turns.{after_all, ports_of, turn_of, turn_outcome}
@@ -35,16 +34,16 @@ ListsArePassedOn = (b : Book) (s : Subscribed) → IsFair b s
 
 -- nothing moves into the port of a slot
 abbrev pub IsStill : World → ℕ → Type 0
-IsStill w slot = answer w (At slot act.Put) ≡ Moved true → ⊥
+IsStill w slot = answer w (Put slot) ≡ Moved true → ⊥
 
 -- A turn puts until nothing moves: behind a change into no port,
 -- behind a close and before a read not into that of its slot.
 abbrev pub TurnsFillPorts : Type 0
 TurnsFillPorts = (w : World) → IsFairWorld w →
     ((c : Change_) (slot : ℕ) → IsStill (turn_outcome w (Change c)).1 slot)
-    × ((slot : ℕ) → IsStill (turn_outcome w (At slot act.Close)).1 slot)
+    × ((slot : ℕ) → IsStill (turn_outcome w (Close slot)).1 slot)
     × ((slot : ℕ)
-    → IsStill (after_all outcome w (turn_of (ports_of w) (At slot act.Read)).before) slot)
+    → IsStill (after_all outcome w (turn_of (ports_of w) (Take slot)).before) slot)
 
 -- the headline, of every run from any world, so also from
 -- a first one over the state that a volume has

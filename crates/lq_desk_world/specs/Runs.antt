@@ -5,14 +5,19 @@ use Rattle.lq_volume.specs.Change.{refused}
 use Rattle.lq_volume.specs.Book.{state_of}
 use Rattle.lq_desk_world.specs.World.{World}
 use Rattle.lq_desk_world.specs.declared.event.Event.{Event}
-use Rattle.lq_desk_world.specs.declared.event.Event.TheVariants.{Change, Open, At}
+use Rattle.lq_desk_world.specs.declared.event.Event.TheVariants.{Change, Open, Put, Take, HangUp, Notice, Close, Finish}
 use Rattle.lq_desk_world.specs.Events.{Answer, Refused, answer, next, open_refusal}
 
 -- a change and an opening that nothing else refuses may run out of memory
 abbrev pub MayRunOut : World → Event → Type 0
 MayRunOut w (Change c) = refused (state_of w.book) c ≡ None
 MayRunOut w (Open q port backlog moved) = open_refusal w port backlog ≡ None
-MayRunOut w (At slot a) = ⊥
+MayRunOut w (Put slot) = ⊥
+MayRunOut w (Take slot) = ⊥
+MayRunOut w (HangUp slot) = ⊥
+MayRunOut w (Notice slot) = ⊥
+MayRunOut w (Close slot) = ⊥
+MayRunOut w (Finish slot) = ⊥
 
 -- one event: its outcome, or a want of memory that leaves the world
 abbrev pub Step : World → Event → Answer → World → Type 0

@@ -3,8 +3,7 @@ use Rattle.std.specs.Prelude.{ℕ, ◌+◌, ◌-◌, List, [], ◌∷◌, ◌++�
 use Rattle.std.specs.Option.{option_map, option_flatten}
 use Rattle.lq_desk_world.specs.World.{World}
 use Rattle.lq_desk_world.specs.declared.event.Event.{Event}
-use Rattle.lq_desk_world.specs.declared.event.Event.TheVariants.{Change, At}
-use Rattle.lq_desk_world.specs.declared.event.Act.TheVariants as act
+use Rattle.lq_desk_world.specs.declared.event.Event.TheVariants.{Change, Put, Take, Notice, Close}
 use Rattle.lq_desk_world.specs.Events.{Answer, outcome}
 
 -- ---- which slots are taken, and how many places their ports have: slot k at place k - 1
@@ -33,12 +32,12 @@ at_each events n [] = []
 at_each events n (port ∷ ports) = at_slot_of events n port ++ at_each events (n + 1) ports
 
 abbrev pub one_notice : ℕ → ℕ → List Event
-one_notice slot port = At slot act.Notice ∷ []
+one_notice slot port = Notice slot ∷ []
 
 -- As many puts as the port has places: nothing moves after them
 -- (`Laws`), and a put that moves nothing changes nothing.
 abbrev pub puts : ℕ → ℕ → List Event
-puts slot port = replicate port (At slot act.Put)
+puts slot port = replicate port (Put slot)
 
 -- the end of each taken slot that asks for it is noticed, and each port is filled
 abbrev pub notices : List (Option ℕ) → List Event
@@ -60,14 +59,14 @@ pub record Turn : Type 0 where
 abbrev pub turn_of : List (Option ℕ) → Event → Turn
 turn_of ports (Change c) =
     record { before = notices ports; event = Change c; after = all_puts ports }
-turn_of ports (At slot act.Read) = record {
-  before = At slot act.Notice ∷ puts slot (places_at ports slot);
-  event = At slot act.Read;
+turn_of ports (Take slot) = record {
+  before = Notice slot ∷ puts slot (places_at ports slot);
+  event = Take slot;
   after = [];
 }
-turn_of ports (At slot act.Close) = record {
-  before = At slot act.Notice ∷ [];
-  event = At slot act.Close;
+turn_of ports (Close slot) = record {
+  before = Notice slot ∷ [];
+  event = Close slot;
   after = puts slot (places_at ports slot);
 }
 turn_of ports e = record { before = []; event = e; after = [] }

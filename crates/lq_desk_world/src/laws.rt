@@ -29,7 +29,7 @@ pub fn lists_are_passed_on()
     ensures { ListsArePassedOn }
 {}
 
-/// A turn puts until nothing moves: behind a change no port takes one more parcel, and behind a
+/// A turn puts until nothing moves: after a change no port takes one more parcel, and after a
 /// close and before a read that of its slot takes none.
 pub fn turns_fill_ports()
     ensures { TurnsFillPorts }

@@ -19,7 +19,7 @@ pub const MAX_PLACES: u64 = 1_024;
 
 /// The end of a port for puts.
 ///
-/// It knows all that was put, and a front of what was taken. It keeps a receiving end of its
+/// It knows all that was put, and a prefix of what was taken. It keeps a receiving end of its
 /// own, so a port whose `PortOut` was dropped fills up and is then full, as tests show. After 2^61
 /// puts each further one waits for ever, as the code says.
 #[derive(Drop)]
@@ -32,7 +32,7 @@ pub struct PortIn<T: Follows + Drop> {
 
 /// The end of a port for takes.
 ///
-/// It knows all that was taken, and a front of what was put.
+/// It knows all that was taken, and a prefix of what was put.
 #[derive(Drop)]
 pub struct PortOut<T: Follows + Drop> {
     receiver: PortReceiver<T>,

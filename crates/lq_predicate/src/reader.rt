@@ -21,15 +21,14 @@ use std::alloc::Global;
 ///
 /// A formula has at most 4,096 bytes, nests at most 64 deep and has at most 256 comparisons; its
 /// predicate's depth is at most 64, and its canonical text has at most 4,096 bytes. Behind `=`,
-/// `==` and `!=` stands a pattern, behind the operators of order a plain text. Refused: `BadQuery`
+/// `==` and `!=` stands a pattern, after the operators of order a plain text. Refused: `BadQuery`
 /// with the byte place of the leftmost fault; `NoMemory` where there is none.
 /// The operators are BQuery's.
 pub fn read(alloc: Global, formula: &str) -> Result<Predicate, Refusal>
     ensures value { IfOk result (λ p. reading_of formula.now ≡ Ok p) }
     ensures reads { IfOk result (λ p. Reads formula.now p) }
 
-    // The refusal is that of the reading, whatever the memory, and its place is the leftmost
-    // fault's.
+    // The refusal depends on the formula alone, and names the place of the leftmost fault.
     ensures refused { IsRefusedBy result (refusal_of (reading_of formula.now)) }
     ensures fault { IfErr result
         (λ e. (place : ℕ) → e ≡ BadQuery place → IsFaulty formula.now place) }

@@ -107,7 +107,7 @@ fn found(
     Ok(Some(Predicate::compare(alloc, attr.copy(alloc)?, Op::Eq, literal)))
 }
 
-// The characters of a text as plain ones, with a star before them, behind them or both.
+// The characters of a text as plain ones, with a star before them, after them or both.
 fn starred(alloc: Global, before: bool, text: &str, behind: bool) -> Result<Pattern, Refusal>
     ensures refused { IsRefusedBy result None }
     ensures value { IfOk result (λ pattern. pattern ≡ starred before text.now behind) }

@@ -27,7 +27,7 @@ pub(crate) fn fits_pattern(attr: &AttrName, op: Op, pattern: &Pattern) -> bool
     comparison_size_with(attr, op, pattern_size(pattern)) <= MAX_CANONICAL
 }
 
-// Whether `Eq` with the characters of a text, and a star before them, behind them or both, is
+// Whether `Eq` with the characters of a text, and a star before them, after them or both, is
 // within the limits.
 pub(crate) fn fits_starred(attr: &AttrName, before: bool, text: &str, behind: bool) -> bool
     ensures { result
@@ -36,7 +36,7 @@ pub(crate) fn fits_starred(attr: &AttrName, before: bool, text: &str, behind: bo
     comparison_size_with(attr, Op::Eq, starred_size(before, text, behind)) <= MAX_CANONICAL
 }
 
-// The pattern with the characters of a text and a star before them, behind them or both.
+// The pattern with the characters of a text and a star before them, after them or both.
 #[tactic(auto, using(crate::proofs::StarredLemmas::starred_length))]
 fn starred_size(before: bool, text: &str, behind: bool) -> usize
     ensures { result

@@ -192,7 +192,7 @@ impl Tree {
         Ok(Tree { node })
     }
 
-    // Whether it holds of the row.
+    // Whether it is true for the row.
     pub(crate) fn is_true_of<R: Row>(&self, row: &R) -> bool
         requires { IsTrue (is_formed self.now) }
         ensures { result ≡ truth self.now (R.looks row.now) }
@@ -222,7 +222,7 @@ impl Tree {
         }
     }
 
-    // Its canonical text, behind what is there.
+    // Its canonical text, after what is there.
     #[cycle(put)]
     pub(crate) fn put(&self, out: &mut String) -> Result<(), Refusal>
         ensures refused { IsRefusedBy result None }
@@ -240,7 +240,7 @@ impl Tree {
         }
     }
 
-    // The names of the attributes that are new, behind those before.
+    // The names of the attributes that are new, after those before.
     pub(crate) fn add_names(&self, alloc: Global, names: &mut Vec<AttrName>) -> Result<(), Refusal>
         ensures refused { IsRefusedBy result None }
         ensures value { IfOk result

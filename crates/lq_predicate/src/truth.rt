@@ -19,7 +19,7 @@ pub trait Row {
         ensures { option_map held_of result ≡ looks self.now attr.now };
 }
 
-/// Whether the predicate holds of the row. It takes no memory.
+/// Whether the row matches the predicate. It takes no memory.
 ///
 /// A comparison of an attribute that the row lacks is false, also with `Ne`, as in BQuery.
 pub fn holds<R: Row>(predicate: &Predicate, row: &R) -> bool

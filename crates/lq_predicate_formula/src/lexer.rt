@@ -10,7 +10,7 @@ use crate::count::count_spaces;
 use crate::piece::read_piece;
 use crate::token::{Cursor, Placed};
 
-/// The next token of a text with its places, and what is left behind it.
+/// The next token of a text with its places, and what is left after it.
 ///
 /// None where only white space is left. It takes no memory, and the token borrows the text.
 /// The tokens are this project's own.
@@ -66,7 +66,7 @@ fn token_at<'a>(place: usize, rest: &'a str) -> (Placed<'a>, Cursor<'a>)
     )
 }
 
-// How many bytes of white space a text begins with, and the text behind them.
+// How many bytes of white space a text begins with, and the text after them.
 fn trim<'a>(rest: &'a str) -> (usize, &'a str)
     ensures count { result.0 ≡ spaces rest.entry.now }
     ensures bound { result.0 ≤ length rest.entry.now }

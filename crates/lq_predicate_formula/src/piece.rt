@@ -101,7 +101,7 @@ fn quoted<'a>(rest: &'a str) -> Piece<'a>
     }
 }
 
-// A word, or a `\` with nothing behind it.
+// A word, or a `\` with nothing after it.
 fn word<'a>(rest: &'a str) -> Piece<'a>
     requires { 0 < length rest.now }
     ensures value { front_of result ≡ word_front rest.entry.now (word_bytes false rest.entry.now) }

@@ -34,7 +34,7 @@ pub fn read_name(alloc: Global, raw: &str) -> Result<AttrName, Refusal>
     AttrName::read(alloc, name.as_str())
 }
 
-/// The literal that a raw text is behind an operator: behind `Eq` and `Ne` the pattern that it
+/// The literal that a raw text is after an operator: after `Eq` and `Ne` the pattern that it
 /// writes, else the text with each `\` before a character taken off.
 ///
 /// Refused, the first that fits: `BadQuery` with the byte place in the raw text of the pattern's

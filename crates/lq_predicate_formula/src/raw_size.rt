@@ -31,7 +31,7 @@ pub fn raw_name_size(raw: &str) -> Option<usize>
     }
 }
 
-/// How many bytes the literal that a raw text is behind an operator has between its marks as
+/// How many bytes the literal that a raw text is after an operator has between its marks as
 /// canonical text, or the greatest usize where there are more.
 ///
 /// Refused with the byte place in the raw text of its pattern's leftmost fault. It takes no memory.
@@ -92,7 +92,7 @@ fn quoted_byte_size(byte: u8) -> usize
     if byte == b'\\' || byte == b'"' { 2 } else { 1 }
 }
 
-// The next byte that isn't a `\` before another, and the place behind it.
+// The next byte that isn't a `\` before another, and the place after it.
 fn next_unescaped(bytes: &[u8], at: usize) -> Option<(u8, usize)>
     requires { at ≤ length bytes.now }
     ensures value { MatchOption result (unescaped false (drop at bytes.now) ≡ [])

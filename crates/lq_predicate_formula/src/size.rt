@@ -18,8 +18,8 @@ pub fn comparison_size(attr: &AttrName, op: Op, literal: &Literal) -> usize
     size_with(attr, op, literal_size(literal))
 }
 
-/// The size of a comparison whose literal isn't made yet: of each literal whose text between the
-/// marks has so many bytes, as the calls below count them. It takes no memory.
+/// The size of a comparison whose literal isn't made yet, from the number of bytes that the
+/// literal's text takes between its marks. It takes no memory.
 pub fn comparison_size_with(attr: &AttrName, op: Op, literal: usize) -> usize
     ensures { (l : Literal) → literal ≡ capped (length (literal_text l))
         → result ≡ capped (length (canonical (Compare attr.now op l))) }

@@ -9,7 +9,7 @@ use crate::size::{character_size, item_size};
 use lq_value::{FirstItem, FirstPiece, first_item, first_piece, sources_are_walked};
 
 // What stands first where an element is looked for: how many bytes it has as canonical text, and
-// the source behind it.
+// the source after it.
 pub(crate) enum FirstSize<'a> {
     End,
     Has(usize, &'a str),
@@ -69,7 +69,7 @@ fn begin_size(negated: bool) -> usize
     if negated { 2 } else { 1 }
 }
 
-// The size of a set's items and its `]`, and the text behind them.
+// The size of a set's items and its `]`, and the text after them.
 fn set_rest_size<'a>(text: &'a str) -> Option<(usize, &'a str)>
     ensures value { MatchOption result
         (items_sized 0 (pieces_of item_at (signs_of text.entry.now)) ≡ None)

@@ -11,7 +11,7 @@ ghost use Rattle.lq_predicate_formula.specs.Canonical.{attr_then, canonical, ele
 
 use lq_value::{AttrName, Element, Elements, Item, Literal, Op, Refusal};
 
-/// Puts the canonical text of a comparison behind what is there: in parentheses, the literal
+/// Puts the canonical text of a comparison after what is there: in parentheses, the literal
 /// between `"` marks. Refused: `NoMemory`, and then a part of it may be there.
 pub fn put_comparison(
     attr: &AttrName,

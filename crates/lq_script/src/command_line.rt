@@ -28,7 +28,7 @@ pub enum WordsFault {
 /// What these words ask for.
 ///
 /// `Usage` for any words but `run`, `check FORMULA` and `check -- FORMULA`, help and version too;
-/// a FORMULA that begins with `-` stands behind `--`. `NoMemory` for want of memory.
+/// a FORMULA that begins with `-` stands after `--`. `NoMemory` for want of memory.
 pub fn subcommand_of<'a>(alloc: Global, words: &'a [String]) -> Result<Subcommand<'a>, WordsFault>
     ensures ok { IfOk result (IsAskedBy (texts_of words.entry.now)) }
     ensures usage { IsErrOf result WordsFault.Usage → IsUsage (texts_of words.entry.now) }
@@ -56,7 +56,7 @@ pub fn subcommand_of<'a>(alloc: Global, words: &'a [String]) -> Result<Subcomman
     }
 }
 
-// clap takes `-` as a FORMULA, and a `--` that nothing stands behind; this program takes neither.
+// clap takes `-` as a FORMULA, and a `--` that nothing stands after; this program takes neither.
 fn has_stray_dashes(words: &[String]) -> bool
     ensures { result ≡ has_stray (texts_of words.now) }
 {
@@ -76,7 +76,7 @@ fn command_of<'a>(alloc: Global) -> Result<Command<'a>, AllocError>
     command.subcommand(check)
 }
 
-// The command with `run` alone, whose words begin behind its name and name a subcommand.
+// The command with `run` alone, whose words begin after its name and name a subcommand.
 fn run_command<'a>(alloc: Global) -> Result<Command<'a>, AllocError>
     ensures { IfOk result (λ command.
         app_of command ≡ with_subcommand lq_top (bare (codes "run")).top) }

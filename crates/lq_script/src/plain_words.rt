@@ -20,7 +20,7 @@ use std::alloc::{AllocError, Global};
 /// Does what the words after the program's name ask for, and answers its status.
 ///
 /// `run` carries out the reader's script, `check FORMULA` writes the formula's canonical text and
-/// LF; a formula that begins with `-` stands behind `--`. Status 0: done; 1: a `RunFault`, a fault
+/// LF; a formula that begins with `-` stands after `--`. Status 0: done; 1: a `RunFault`, a fault
 /// of the writer in `check`, or want of memory in `check` or for the words, with one line on
 /// `faults`; 2: a formula that is refused, with `lq: BadQuery at P` there, or any other words, with
 /// `lq: usage`. A fault of `faults` is ignored.
@@ -45,7 +45,7 @@ pub(crate) fn plain_program<R: Source, W: Sink, F: Sink>(
     ensures flushed { result ≡ 0 → W.flushed writer.new ≡ true }
     ensures quiet { result ≡ 0 → faults.new ≡ faults.old }
 
-    // 1: what was written is a front of that, and a fault is told.
+    // 1: what was written is a prefix of that, and a fault is told.
     ensures run_stopped { IsRun (texts_of words.now) → result ≡ 1 →
         Stopped world_rules script_session
         (R.left reader.old) (R.left reader.new) (W.written writer.old) (W.written writer.new) }

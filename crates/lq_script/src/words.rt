@@ -41,7 +41,7 @@ pub fn program<T: Threads + Wait + Sync, R: Source, W: Sink, F: Sink>(
     ensures flushed { ¬ IsThreads (texts_of words.now) → result ≡ 0 → W.flushed writer.new ≡ true }
     ensures quiet { result ≡ 0 → faults.new ≡ faults.old }
 
-    // 1: what was written is a front of that, and a fault is told.
+    // 1: what was written is a prefix of that, and a fault is told.
     ensures run_stopped { IsRun (texts_of words.now) → result ≡ 1 →
         Stopped world_rules script_session
         (R.left reader.old) (R.left reader.new) (W.written writer.old) (W.written writer.new) }

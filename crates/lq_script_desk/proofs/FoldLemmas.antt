@@ -7,8 +7,7 @@ use Rattle.lq_volume.specs.State.{IsVolume}
 use Rattle.lq_update.specs.declared.parcel.Parcel.{Parcel}
 use Rattle.lq_update.specs.Laws.{ResultsRise}
 use Rattle.lq_desk_world.specs.declared.event.Event.{Event}
-use Rattle.lq_desk_world.specs.declared.event.Event.TheVariants.{Change, Open, At}
-use Rattle.lq_desk_world.specs.declared.event.Act.TheVariants as act
+use Rattle.lq_desk_world.specs.declared.event.Event.TheVariants.{Change, Open, Put, Take, HangUp, Notice, Close, Finish}
 use Rattle.lq_desk_world.specs.Events.{Answer, Ended, Empty}
 use Rattle.lq_desk.specs.Slot.{KeptSlot, fresh_slot, put_if, put_slot, read_if, read_slot, ask_slot, notice_if, notice_slot, close_if, close_slot, finish_if, finish_slot, is_read}
 use Rattle.lq_desk.specs.Kept.{Kept, at_kept, at_place, change_if, kept_at, open_if, opening_refusal}
@@ -73,13 +72,13 @@ turn-rises law k (Change c) volume =
     change-rises (kept_after k (kept_turn k (Change c)).before) c _
 turn-rises law k (Open q port backlog moved) volume = open-rises law k
     (fresh_slot q moved k.volume.number port backlog) (opening_refusal k port backlog) volume
-turn-rises law k (At slot act.Put) volume = slot-rises k slot put_slot (λ s. put-rises s _ _)
-turn-rises law k (At slot act.Read) volume = slot-rises
-    (kept_after k (kept_turn k (At slot act.Read)).before) slot read_slot (λ s. read-rises s _)
-turn-rises law k (At slot act.HangUp) volume = slot-rises k slot ask_slot (λ s. tt)
-turn-rises law k (At slot act.Notice) volume =
+turn-rises law k (Put slot) volume = slot-rises k slot put_slot (λ s. put-rises s _ _)
+turn-rises law k (Take slot) volume = slot-rises
+    (kept_after k (kept_turn k (Take slot)).before) slot read_slot (λ s. read-rises s _)
+turn-rises law k (HangUp slot) volume = slot-rises k slot ask_slot (λ s. tt)
+turn-rises law k (Notice slot) volume =
     slot-rises k slot (notice_slot k.volume.number) (λ s. notice-rises _ s _)
-turn-rises law k (At slot act.Close) volume =
-    let l = kept_after k (kept_turn k (At slot act.Close)).before in
+turn-rises law k (Close slot) volume =
+    let l = kept_after k (kept_turn k (Close slot)).before in
     slot-rises l slot (close_slot l.volume.number) (λ s. close-rises _ s _)
-turn-rises law k (At slot act.Finish) volume = slot-rises k slot finish_slot (λ s. finish-rises s _)
+turn-rises law k (Finish slot) volume = slot-rises k slot finish_slot (λ s. finish-rises s _)

@@ -7,7 +7,7 @@ use Rattle.lq_volume.specs.State.{State, Record, node_in, record_at}
 use Rattle.lq_volume.specs.Lookup.{find_refusals, entry_refusals}
 use Rattle.lq_volume.specs.Result.{result_of}
 use Rattle.lq_desk_world.specs.declared.event.Event.{Event}
-use Rattle.lq_desk_world.specs.declared.event.Event.TheVariants.{Change, Open, At}
+use Rattle.lq_desk_world.specs.declared.event.Event.TheVariants.{Change, Open, Put, Take, HangUp, Notice, Close, Finish}
 use Rattle.lq_desk_world.specs.Events.{Answer}
 use Rattle.lq_update.specs.Fold.{Folding}
 use Rattle.lq_script_request.specs.declared.question.Question.{Question}
@@ -40,7 +40,12 @@ shown_in s node = shown (first_refusal (entry_refusals s node)) node (record_at 
 abbrev pub slot_of : Event → ℕ
 slot_of (Change c) = 0
 slot_of (Open q port backlog moved) = 0
-slot_of (At slot a) = slot
+slot_of (Put slot) = slot
+slot_of (Take slot) = slot
+slot_of (HangUp slot) = slot
+slot_of (Notice slot) = slot
+slot_of (Close slot) = slot
+slot_of (Finish slot) = slot
 
 -- what a slot's fold shows
 abbrev pub rebuilt : Option Folding → Response

@@ -6,7 +6,7 @@ use Rattle.lq_value.specs.Refusal.{first_refusal}
 use Rattle.lq_update.specs.declared.message.Message.{Message}
 use Rattle.lq_update.specs.declared.parcel.Parcel.TheVariants.{Update}
 use Rattle.lq_update.specs.Fold.{Folding, EntriesRise, fold_refusals, folding_after, opened_at}
-use Rattle.lq_desk_world.specs.Events.{Answer, Opened, Read, Finished}
+use Rattle.lq_desk_world.specs.Events.{Answer, Opened, Took, Finished}
 
 -- the fold of slot k at place k - 1, where that slot is open
 abbrev pub Folds : Type 0
@@ -38,7 +38,7 @@ fed m f = fed_if f m (first_refusal (fold_refusals f m))
 abbrev pub folds_after : ℕ → Answer → Folds → Folds
 folds_after slot (Opened opened at result) folds =
     with_fold folds opened (Some (opened_at at result))
-folds_after slot (Read (Update m)) folds =
+folds_after slot (Took (Update m)) folds =
     with_fold folds slot (option_map (fed m) (fold_at folds slot))
 folds_after slot Finished folds = with_fold folds slot None
 folds_after slot a folds = folds

@@ -48,14 +48,14 @@ pub fn note(
             put(rebuilds, *opened, Some(rebuild));
             Ok(())
         }
-        Reply::Read(Read::Update(message)) => feed_at(rebuilds, slot, message),
+        Reply::Took(Read::Update(message)) => feed_at(rebuilds, slot, message),
         Reply::Finished => {
             put(rebuilds, slot, None);
             Ok(())
         }
         Reply::Changed(_)
         | Reply::Moved(_)
-        | Reply::Read(Read::Fin(_) | Read::Empty | Read::Ended)
+        | Reply::Took(Read::Fin(_) | Read::Empty | Read::Ended)
         | Reply::Asked
         | Reply::Noticed(_)
         | Reply::Shut(_)

@@ -32,13 +32,13 @@ pub fn run<R: Source, W: Sink>(
     ensures works { OnOk result ((R.failed reader.new ≡ false)
         × (W.failed writer.new ≡ false) × (W.stalled writer.new ≡ false)) }
 
-    // After a fault what was written is a front of the output of what was read.
+    // After a fault what was written is a prefix of the output of what was read.
     ensures err { OnErr result (Stopped world_rules script_session
         (R.left reader.old) (R.left reader.new) (W.written writer.old) (W.written writer.new)) }
     ensures flush { OnErr result ((result ≡ Err RunFault.Write)
         ⊎ ((W.flushed writer.new ≡ true) ⊎ (W.failed writer.new ≡ true))) }
 
-    // After a read fault and at a limit it is that of the lines that LF ended.
+    // After a read fault and at a limit it is the output for the lines that LF ended.
     ensures read { IsErrOf result RunFault.Read → Ended world_rules script_session
         (R.left reader.old) (R.left reader.new) (W.written writer.old) (W.written writer.new) }
     ensures limit { IsErrOf result RunFault.Limit → Passed world_rules script_session

@@ -58,7 +58,7 @@ impl Session {
         }
     }
 
-    // Puts the reply to a question behind `out`.
+    // Appends the reply to a question to `out`.
     fn respond_to(&mut self, question: &Question, out: &mut Vec<u8>) -> Result<(), Refusal>
         ensures ok { OnOk result (out.new.items ≡ out.old.items
             ++ reply_text (responds kept_turn_outcome kept_volume
@@ -78,7 +78,7 @@ impl Session {
         }
     }
 
-    // Carries out an event, notes what it was answered for its slot, and puts that behind `out`.
+    // Carries out an event, notes what it was answered for its slot, and appends that to `out`.
     fn carry_out(&mut self, event: &Event, out: &mut Vec<u8>) -> Result<(), Refusal>
         ensures ok { OnOk result (out.new.items ≡ out.old.items
             ++ reply_text (noted (slot_of event.now) self.old.rebuilds.items
@@ -107,11 +107,16 @@ fn slot_of(event: &Event) -> u64
 {
     match event {
         Event::Change(_) | Event::Open { .. } => 0,
-        Event::At { slot, .. } => *slot,
+        Event::Put(slot)
+        | Event::Take(slot)
+        | Event::HangUp(slot)
+        | Event::Notice(slot)
+        | Event::Close(slot)
+        | Event::Finish(slot) => *slot,
     }
 }
 
-// Puts why a line isn't carried out behind `out`. It stands apart, as all that answers no event
+// Appends why a line isn't carried out to `out`. It stands apart, as all that answers no event
 // does: a call clears places for its values, and most lines are events.
 #[inline(never)]
 fn put_refusal(out: &mut Vec<u8>, refusal: Refusal) -> Result<(), Refusal>
@@ -123,7 +128,7 @@ fn put_refusal(out: &mut Vec<u8>, refusal: Refusal) -> Result<(), Refusal>
     put_reply(out, &Response::Refused(refusal))
 }
 
-// Puts what has a place behind `out`.
+// Appends what has a place to `out`.
 #[inline(never)]
 fn put_found(out: &mut Vec<u8>, volume: &Volume, dir: u64, name: &Name) -> Result<(), Refusal>
     ensures refused { IsRefusedBy result None }
@@ -137,7 +142,7 @@ fn put_found(out: &mut Vec<u8>, volume: &Volume, dir: u64, name: &Name) -> Resul
     }
 }
 
-// Puts the entry of a node behind `out`.
+// Appends the entry of a node to `out`.
 #[inline(never)]
 fn put_shown(out: &mut Vec<u8>, volume: &Volume, node: u64) -> Result<(), Refusal>
     ensures refused { IsRefusedBy result None }
@@ -152,7 +157,7 @@ fn put_shown(out: &mut Vec<u8>, volume: &Volume, node: u64) -> Result<(), Refusa
     }
 }
 
-// Puts the entries that a predicate holds of behind `out`.
+// Appends the entries that match a predicate to `out`.
 #[inline(never)]
 fn put_fetched(out: &mut Vec<u8>, volume: &Volume, predicate: &Predicate) -> Result<(), Refusal>
     ensures refused { IsRefusedBy result None }
@@ -165,7 +170,7 @@ fn put_fetched(out: &mut Vec<u8>, volume: &Volume, predicate: &Predicate) -> Res
     put_reply(out, &Response::Fetched { at, result })
 }
 
-// Puts what was rebuilt of a slot behind `out`.
+// Appends what was rebuilt of a slot to `out`.
 #[inline(never)]
 fn put_rebuilt(
     out: &mut Vec<u8>,

@@ -44,7 +44,7 @@ fn digits_in(bytes: &[u8]) -> Option<u64>
     Some(value)
 }
 
-// The number with one more digit behind it; `None` where the code is no digit's.
+// The number with one more digit after it; `None` where the code is no digit's.
 #[inline(always)]
 fn with_digit(value: u64, code: u32) -> Option<u64>
     requires { value < 10 ^ 18 }

@@ -48,7 +48,7 @@ impl Intake {
         }
     }
 
-    /// Puts the reply to the line in progress behind `out`.
+    /// Appends the reply to the line in progress to `out`.
     ///
     /// Refused: `Memory`, and then `out` is as before.
     pub fn answer<S: Responder>(&self, responder: &mut S, out: &mut Vec<u8>) -> Result<(), RunFault>
@@ -113,7 +113,7 @@ fn cut_cr(line: &[u8]) -> &[u8]
     }
 }
 
-/// Puts the reply to a line, of which its CR was cut, behind `out`.
+/// Appends the reply to a line, without its CR, to `out`.
 fn answer_given<S: Responder>(
     line: &[u8],
     responder: &mut S,

@@ -18,9 +18,9 @@ pub trait Responder {
     /// The reply to each line at each state, and the state after it.
     ghost rules: { Rules State };
 
-    /// Puts the reply to this line behind `out`, and goes on to the state after it.
+    /// Appends the reply to this line to `out`, and goes on to the state after it.
     ///
-    /// Refused: `NoMemory`, and then a part of the reply may stand behind `out`.
+    /// Refused: `NoMemory`, and then a part of the reply may have been appended to `out`.
     fn respond(&mut self, line: &[u8], out: &mut Vec<u8>) -> Result<(), Refusal>
         ensures ok { OnOk result (out.new.items
             ≡ out.old.items ++ rules.reply (state self.old) line.now) }
@@ -28,9 +28,9 @@ pub trait Responder {
         ensures err { OnErr result (Begins out.new.items out.old.items) }
         ensures memory { IfErr result (λ e. e ≡ Refusal.NoMemory) };
 
-    /// Puts the reply to a line that is too long behind `out`. The state stays.
+    /// Appends the reply to a line that is too long to `out`. The state stays.
     ///
-    /// Refused: `NoMemory`, and then a part of the reply may stand behind `out`.
+    /// Refused: `NoMemory`, and then a part of the reply may have been appended to `out`.
     fn respond_long(&self, out: &mut Vec<u8>) -> Result<(), Refusal>
         ensures ok { OnOk result (out.new.items ≡ out.old.items ++ rules.long) }
         ensures err { OnErr result (Begins out.new.items out.old.items) }

@@ -1,34 +1,27 @@
 //! Why a run over a script stops.
-use std::error::Error;
 use std::fmt;
+use thiserror::Error;
 
 /// Why a run stopped before the end of its input.
 ///
 /// The display texts are this project's own.
-#[derive(Clone, Copy, PartialEq, Eq)]
+#[derive(Clone, Copy, PartialEq, Eq, Error)]
 pub enum RunFault {
     /// The reader failed.
+    #[error("read fault")]
     Read,
     /// The writer failed, or took none of the bytes that it was given.
+    #[error("write fault")]
     Write,
     /// A byte follows the limit on lines or the limit on bytes.
+    #[error("input too long")]
     Limit,
     /// Memory was wanting.
+    #[error("no memory")]
     Memory,
     /// A thread could not be made.
+    #[error("no thread")]
     Thread,
-}
-
-impl fmt::Display for RunFault {
-    fn fmt<W: fmt::Write>(&self, f: &mut fmt::Formatter<W>) -> fmt::Result {
-        f.write_str(match self {
-            RunFault::Read => "read fault",
-            RunFault::Write => "write fault",
-            RunFault::Limit => "input too long",
-            RunFault::Memory => "no memory",
-            RunFault::Thread => "no thread",
-        })
-    }
 }
 
 impl fmt::Debug for RunFault {
@@ -36,5 +29,3 @@ impl fmt::Debug for RunFault {
         fmt::Display::fmt(self, f)
     }
 }
-
-impl Error for RunFault {}

@@ -23,7 +23,7 @@ use Rattle.lq_update.specs.declared.mark.Cause.TheVariants.{Closed, HungUp, Over
 use Rattle.lq_update.specs.declared.parcel.Parcel.{Parcel}
 use Rattle.lq_update.specs.declared.parcel.Parcel.TheVariants.{Update, Fin}
 use Rattle.lq_desk_world.specs.Events as world
-use Rattle.lq_desk_world.specs.Events.{Answer, Changed, Opened, Read, Empty, Ended, Asked, Noticed, Shut, Finished, Refused}
+use Rattle.lq_desk_world.specs.Events.{Answer, Changed, Opened, Took, Empty, Ended, Asked, Noticed, Shut, Finished, Refused}
 use Rattle.lq_script_reply.specs.Response.{Response, Answers, Refuses, Found, Listed, Fetched, Rebuilt}
 
 abbrev pub count : ℕ → Data
@@ -139,7 +139,7 @@ abbrev pub answer_data : ℕ → Answer → Data
 answer_data slot (Changed applied) = applied_data applied
 answer_data slot (Opened opened at result) = opened_data opened at result
 answer_data slot (world.Moved was) = slot_data slot
-answer_data slot (Read parcel) = parcel_data parcel
+answer_data slot (Took parcel) = parcel_data parcel
 answer_data slot Empty = what_data (codes "EMPTY")
 answer_data slot Ended = what_data (codes "ENDED")
 answer_data slot Asked = slot_data slot

@@ -2,7 +2,7 @@
 //!
 //! A contract sees a response as what it tells (`specs/Response`), and its text as serde_json's
 //! compact text of its data (`specs/Reply`), with LF. The code makes no such data: it writes the
-//! text piece by piece (`pieces`, `text`), behind what stands there (`specs/Front`). Begin with
+//! text piece by piece (`pieces`, `text`), after what stands there (`specs/Front`). Begin with
 //! `response`, then `reply`, then `pieces` and `text`.
 #![tactic(auto)]
 

@@ -15,7 +15,7 @@ use lq_value::{AttrName, Kind, Value};
 use lq_volume::Listing;
 use std::alloc::AllocError;
 
-/// Puts all of the entry of a node behind `out`.
+/// Appends all of the entry of a node to `out`.
 ///
 /// An error says that memory ran out: `out` then has what it had, and maybe a part of the text.
 pub fn put_listing(out: &mut Vec<u8>, node: u64, listing: &Listing) -> Result<(), AllocError>

@@ -15,7 +15,7 @@ use lq_update::{Cause, Mark, Message, Opcode};
 use lq_value::Name;
 use std::alloc::AllocError;
 
-/// Puts what taking from a slot gave behind `out`: the same text whatever the slot.
+/// Appends what taking from a slot gave to `out`: the same text whatever the slot.
 ///
 /// An error says that memory ran out: `out` then has what it had, and maybe a part of the text.
 pub fn put_read(out: &mut Vec<u8>, read: &Read) -> Result<(), AllocError>

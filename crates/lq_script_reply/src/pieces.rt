@@ -7,7 +7,7 @@ ghost use Rattle.lq_script_reply.specs.Front.{Extends};
 
 use std::alloc::AllocError;
 
-/// Puts `bytes` behind `out`.
+/// Appends `bytes` to `out`.
 ///
 /// An error says that memory ran out: `out` then has what it had.
 #[inline(always)]
@@ -20,9 +20,9 @@ pub fn put_bytes(out: &mut Vec<u8>, bytes: &[u8]) -> Result<(), AllocError>
     Ok(())
 }
 
-/// Puts `before` behind `out`, and then the decimal digits of `count`.
+/// Appends `before` to `out`, and then the decimal digits of `count`.
 ///
-/// An error says that memory ran out: `out` then has what it had, and maybe `before` behind it.
+/// An error says that memory ran out: `out` then has what it had, and maybe `before` after it.
 #[inline(always)]
 pub fn put_unsigned(out: &mut Vec<u8>, before: &[u8], count: u64) -> Result<(), AllocError>
     ensures ok { OnOk result (out.new.items
@@ -34,10 +34,10 @@ pub fn put_unsigned(out: &mut Vec<u8>, before: &[u8], count: u64) -> Result<(), 
     put_bytes(out, digits.format(count).as_bytes())
 }
 
-/// Puts `before` behind `out`, and then the decimal digits of `integer`, with `-` before those of
+/// Appends `before` to `out`, and then the decimal digits of `integer`, with `-` before those of
 /// one below 0.
 ///
-/// An error says that memory ran out: `out` then has what it had, and maybe `before` behind it.
+/// An error says that memory ran out: `out` then has what it had, and maybe `before` after it.
 #[inline(always)]
 pub fn put_signed(out: &mut Vec<u8>, before: &[u8], integer: i64) -> Result<(), AllocError>
     ensures ok { OnOk result (out.new.items
@@ -49,9 +49,9 @@ pub fn put_signed(out: &mut Vec<u8>, before: &[u8], integer: i64) -> Result<(), 
     put_bytes(out, digits.format(integer).as_bytes())
 }
 
-/// Puts `before` behind `out`, and then `true` or `false`.
+/// Appends `before` to `out`, and then `true` or `false`.
 ///
-/// An error says that memory ran out: `out` then has what it had, and maybe `before` behind it.
+/// An error says that memory ran out: `out` then has what it had, and maybe `before` after it.
 #[inline(always)]
 pub fn put_truth(out: &mut Vec<u8>, before: &[u8], truth: bool) -> Result<(), AllocError>
     ensures ok { OnOk result (out.new.items

@@ -22,7 +22,7 @@ use lq_value::{Entry, Refusal};
 use lq_volume::Applied;
 use std::alloc::AllocError;
 
-/// Puts the text of a response and LF behind `out`. Refused: `NoMemory`.
+/// Appends the text of a response and LF to `out`. Refused: `NoMemory`.
 pub fn put_reply(out: &mut Vec<u8>, response: &Response) -> Result<(), Refusal>
     ensures refused { IsRefusedBy result None }
     ensures ok { OnOk result (out.new.items
@@ -34,7 +34,7 @@ pub fn put_reply(out: &mut Vec<u8>, response: &Response) -> Result<(), Refusal>
     Ok(())
 }
 
-/// Puts the text of what an event of this slot was answered, and LF, behind `out`. The slot is 0
+/// Appends the text of what an event of this slot was answered, and LF, to `out`. The slot is 0
 /// where the event names none.
 ///
 /// The text is that of `Response::Reply`, without a response that it would be moved into. Refused:
@@ -119,7 +119,7 @@ fn put_answer(out: &mut Vec<u8>, slot: u64, reply: &Reply) -> Result<(), AllocEr
             at,
             result: entries,
         } => put_opened(out, *opened, *at, entries),
-        Reply::Read(read) => put_read(out, read),
+        Reply::Took(read) => put_read(out, read),
         Reply::Shut(change) => put_shut(out, *change, slot),
         Reply::Asked | Reply::Finished | Reply::Moved(_) | Reply::Noticed(_) => put_slot(out, slot),
         Reply::Refused(refusal) => put_refusal(out, *refusal),

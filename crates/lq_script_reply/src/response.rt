@@ -22,7 +22,7 @@ pub enum Response {
         node: u64,
         listing: Listing,
     },
-    /// The entries that the predicate holds of, after so many changes.
+    /// The entries that match the predicate, after `at` changes.
     Fetched {
         at: u64,
         result: Vec<Entry>,

@@ -10,11 +10,11 @@ ghost use Rattle.lq_script_reply.specs.Plain.{is_plain};
 
 use std::alloc::AllocError;
 
-/// Puts `before` behind `out`, and then `text` in quotes.
+/// Appends `before` to `out`, and then `text` in quotes.
 ///
 /// A quote, a backslash and each control character gets its shortest escape, as `\n` or `\u001f`;
 /// all else stands as it is. An error says that memory ran out: `out` then has what it had, and
-/// maybe a part of the piece behind it.
+/// maybe a part of the piece after it.
 pub fn put_text(out: &mut Vec<u8>, before: &[u8], text: &str) -> Result<(), AllocError>
     ensures ok { OnOk result (out.new.items
         ≡ out.old.items ++ (before.now ++ compact_text (string text.now))) }

@@ -21,8 +21,7 @@ use Rattle.serde_json.specs.Written.{compact_text, outline}
 use Rattle.serde_json.proofs.Numbers.{number_of-decimal}
 use Rattle.serde_json.proofs.Texts.{print-outline}
 use Rattle.lq_value.specs.declared.refusal.Refusal.TheVariants.{NotUtf8}
-use Rattle.lq_desk_world.specs.declared.event.Event.TheVariants.{At}
-use Rattle.lq_desk_world.specs.declared.event.Act.TheVariants.{Read}
+use Rattle.lq_desk_world.specs.declared.event.Event.TheVariants.{Take}
 use Rattle.lq_script_request.specs.declared.question.Question.TheVariants.{Event}
 use Rattle.lq_script_request.specs.Plain.{read_line}
 use Rattle.lq_script_request.specs.Request.{asked_from, question_from, question_in}
@@ -148,7 +147,7 @@ line-utf8 slot h =
     (IsUtf8-are_ascii (codes "}") refl))
 
 -- the line asks for a read of the slot
-pub line-asks : (slot : ℕ) → slot < 100 → question_in (read_line slot) ≡ Ok (Event (At slot Read))
+pub line-asks : (slot : ℕ) → slot < 100 → question_in (read_line slot) ≡ Ok (Event (Take slot))
 line-asks slot small =
     let h : slot < 2 ^ 64 = omega (arith, small) in
     ap (λ b. question_from (if b then asked_from (read (read_line slot)) else Err NotUtf8))

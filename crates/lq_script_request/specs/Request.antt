@@ -15,7 +15,8 @@ use Rattle.lq_value.specs.declared.value.Value.TheVariants.{Text, Int32, Int64, 
 use Rattle.lq_predicate_formula.specs.Query.{Query}
 use Rattle.lq_predicate_formula.specs.Reading.{reading_of}
 use Rattle.lq_volume.specs.declared.change.Change.TheVariants.{Create, Remove, Move, Write, SetAttr, RemoveAttr}
-use Rattle.lq_desk_world.specs.declared.event.Event.TheVariants.{Change, Open, At}
+use Rattle.lq_desk_world.specs.declared.event.Event.TheVariants.{Change, Open}
+use Rattle.lq_desk_world.specs.Events.{event_at}
 use Rattle.lq_desk_world.specs.declared.event.Act.{Act}
 use Rattle.lq_desk_world.specs.declared.event.Act.TheVariants as act
 use Rattle.lq_script_request.specs.declared.question.Question.{Question}
@@ -208,7 +209,7 @@ asked_by word d =
     else if bytes_eq word (codes "set") then set_of d
     else if bytes_eq word (codes "unset") then unset_of d
     else if bytes_eq word (codes "open") then open_of d
-    else if bytes_eq word (codes "read") then act_of act.Read d
+    else if bytes_eq word (codes "read") then act_of act.Take d
     else if bytes_eq word (codes "hang_up") then act_of act.HangUp d
     else if bytes_eq word (codes "close") then act_of act.Close d
     else if bytes_eq word (codes "finish") then act_of act.Finish d
@@ -278,7 +279,7 @@ question_for (asks_unset node attr) =
     if is_attr_name attr then Ok (Event (Change (RemoveAttr node attr)))
     else Err BadName
 question_for (asks_open query port backlog moved) = opening_or (reading_of query) port backlog moved
-question_for (asks_at slot a) = Ok (Event (At slot a))
+question_for (asks_at slot a) = Ok (Event (event_at slot a))
 question_for (asks_find dir name) = if is_name name then Ok (Find dir name) else Err BadName
 question_for (asks_entry node) = Ok (Entry node)
 question_for (asks_fetch query) = fetching_or (reading_of query)

@@ -10,7 +10,7 @@ use crate::question::Question;
 use crate::request::{Request, request_in};
 use crate::scratch::{RecentAttrs, Scratch};
 use json::Value;
-use lq_desk_world::{Act, Event};
+use lq_desk_world::Event;
 use lq_predicate::read;
 use lq_value::{Kind, Name, Refusal, View};
 use lq_volume::Change;
@@ -27,10 +27,7 @@ pub fn question_in(alloc: Global, scratch: &mut Scratch, line: &[u8]) -> Result<
     ensures refused { IfErr result (λ e. (e ≡ NoMemory) ⊎ (question_in line.now ≡ Err e)) }
 {
     if let Some(slot) = plain_read(line) {
-        return Ok(Question::Event(Event::At {
-            slot,
-            act: Act::Read,
-        }));
+        return Ok(Question::Event(Event::Take(slot)));
     }
     let value = value_in(alloc, &mut scratch.json, line)?;
     question_of(alloc, &mut scratch.attrs, &value)
@@ -106,10 +103,7 @@ fn question_for(
             backlog,
             moved,
         } => opening(alloc, query, *port, *backlog, *moved),
-        Request::At { slot, act } => Ok(Question::Event(Event::At {
-            slot: *slot,
-            act: *act,
-        })),
+        Request::At { slot, act } => Ok(Question::Event(act.at(*slot))),
         Request::Find { dir, name } => finding(alloc, *dir, name),
         Request::Entry { node } => Ok(Question::Entry { node: *node }),
         Request::Fetch { query } => fetching(alloc, query),

@@ -13,7 +13,7 @@ pub enum Question {
     Find { dir: u64, name: Name },
     /// All of the entry of a node.
     Entry { node: u64 },
-    /// The entries that a predicate holds of.
+    /// The entries that match a predicate.
     Fetch { predicate: Predicate },
     /// The result of a slot, rebuilt from what was read of it.
     Rebuilt { slot: u64 },

@@ -79,7 +79,7 @@ pub fn request_in<'a>(value: &Value<'a>) -> Option<Request<'a>>
         return None;
     };
     match act {
-        "read" => act_in(value, Act::Read),
+        "read" => act_in(value, Act::Take),
         "create" => create_in(value),
         "remove" => remove_in(value),
         "move" => move_in(value),

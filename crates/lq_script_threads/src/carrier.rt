@@ -1,7 +1,7 @@
 //! What lines are given to, and carries them out.
 use crate::gate::Gate;
 use crate::session::Session;
-use lq_desk::{Act, Event};
+use lq_desk::Event;
 use lq_script_lines::{Failed, RunFault, Sink, write_all};
 use lq_script_reply::{Response, put_reply};
 use lq_script_request::{Question, Scratch, question_in};
@@ -168,11 +168,8 @@ impl<'a, N: Named + Send + Sync, R: Threads + Wait + Sync, G: Gate + Sync, W: Si
 
 // The slot of a read; `None` of any other question.
 fn slot_of_read(question: &Question) -> Option<u64> {
-    let Question::Event(Event::At { slot, act }) = question else {
-        return None;
-    };
-    match act {
-        Act::Read => Some(*slot),
-        Act::Put | Act::HangUp | Act::Notice | Act::Close | Act::Finish => None,
+    match question {
+        Question::Event(Event::Take(slot)) => Some(*slot),
+        _ => None,
     }
 }

@@ -165,7 +165,7 @@ impl<N: Named> Held<N> {
     /// Fills its port, and takes the next of what was told. Refused as `Reader::read` is.
     pub fn read<R: Wait>(&mut self, rt: &R, server: &Server<N>) -> Result<Response, Refusal> {
         server.pump(rt, &mut self.reader);
-        let reply = Reply::Read(self.reader.read(rt)?);
+        let reply = Reply::Took(self.reader.read(rt)?);
         Ok(Response::Reply {
             slot: self.reader.slot(),
             reply,

@@ -3,7 +3,7 @@ use crate::batch::read_beside;
 use crate::gate::Gate;
 use crate::held::Caller;
 use crate::places::Places;
-use lq_desk::{Act, Event, Reply};
+use lq_desk::{Event, Reply};
 use lq_predicate::Predicate;
 use lq_script_reply::Response;
 use lq_script_request::Question;
@@ -80,17 +80,11 @@ impl<'a, N: Named + Send + Sync, R: Threads + Wait + Sync, G: Gate + Sync> Sessi
                 backlog,
                 moved,
             } => self.open(predicate, *port, *backlog, *moved),
-            Event::At { slot, act } => self.act(*slot, *act),
-        }
-    }
-
-    fn act(&mut self, slot: u64, act: Act) -> Result<Response, Refusal> {
-        match act {
-            Act::HangUp => Ok(self.places.reader(slot)?.hang_up(self.server)),
-            Act::Close => self.places.reader(slot)?.close(self.rt, self.server),
-            Act::Finish => self.finish(slot),
+            Event::HangUp(slot) => Ok(self.places.reader(*slot)?.hang_up(self.server)),
+            Event::Close(slot) => self.places.reader(*slot)?.close(self.rt, self.server),
+            Event::Finish(slot) => self.finish(*slot),
             // A `read` goes with its batch, and no line asks for the other two.
-            Act::Read | Act::Put | Act::Notice => Err(Refusal::BadLine),
+            Event::Take(_) | Event::Put(_) | Event::Notice(_) => Err(Refusal::BadLine),
         }
     }
 

@@ -11,6 +11,9 @@ use lq_volume::Volume;
 use std::alloc::Global;
 use std::marker::{Brand, Model};
 
+/// A seat at a server: what one caller knows of the changes. 16 may be out at a time.
+pub type Seat = lq_board::Seat<Identity>;
+
 /// Names one board, for contracts alone.
 pub trait Named {
     ghost use Rattle.atomic_table.specs.Seated.{TableId};

@@ -14,11 +14,10 @@ ghost use Rattle.lq_server.specs.Own.{IsOwn};
 ghost use Rattle.lq_server.specs.Lending.{LendsSeat};
 ghost use Rattle.lq_server.specs.Syncing.{IsRead, IsUnread};
 
-use crate::named::Named;
+use crate::named::{Named, Seat};
 use crate::server::Server;
-use lq_board::Seat;
-use lq_desk_sub::Read;
-use lq_server_subscription::{Identity, Reading, books_extend_themselves};
+use lq_desk::Read;
+use lq_server_subscription::{Reading, books_extend_themselves};
 use lq_value::{Entry, Refusal};
 use std::marker::Model;
 use std::sync::Wait;
@@ -27,7 +26,7 @@ use std::sync::Wait;
 #[derive(Drop)]
 pub struct Reader {
     pub(crate) reading: Reading,
-    pub(crate) seat: Seat<Identity>,
+    pub(crate) seat: Seat,
     pub(crate) slot: u64,
     pub(crate) hang_up_asked: bool,
 }
@@ -101,7 +100,7 @@ impl Reader {
     /// The seat of its slot, as the board gave it.
     ///
     /// A caller who puts another in its place can call no more with this reader.
-    pub fn seat(&mut self) -> &mut Seat<Identity>
+    pub fn seat(&mut self) -> &mut Seat
         ensures* lends { sem 𝓛 (LendsSeat self.entry result) }
         ensures now { result.now ≡ self.old.seat }
     {

@@ -5,8 +5,8 @@ ghost use Rattle.lq_volume.specs.Book.{Extends};
 ghost use Rattle.lq_server.specs.Retired.{IsRetired};
 
 use crate::locked::Locked;
-use crate::named::{Base, Named};
-use lq_board::{Board, Seat};
+use crate::named::{Base, Named, Seat};
+use lq_board::Board;
 use lq_server_subscription::Identity;
 use lq_update::Mark;
 use lq_value::Refusal;
@@ -81,7 +81,7 @@ impl<N: Named> Server<N> {
     /// A seat of no slot, which knows the changes so far.
     ///
     /// Refused: `NoSeat` where 16 are out, as is one that was dropped. It takes no memory.
-    pub fn seat<R: Wait>(&self, rt: &R) -> Result<Seat<Identity>, Refusal>
+    pub fn seat<R: Wait>(&self, rt: &R) -> Result<Seat, Refusal>
         ensures seat { IfOk result (λ seat. (seat.board ≡ N.board) × (seat.slot ≡ 0)) }
         ensures refused { IfErr result (λ e. e ≡ NoSeat) }
     {
@@ -89,14 +89,14 @@ impl<N: Named> Server<N> {
     }
 
     /// Takes a seat back, so that another may go out. It takes no memory.
-    pub fn give_back<R: Wait>(&self, rt: &R, seat: Seat<Identity>)
+    pub fn give_back<R: Wait>(&self, rt: &R, seat: Seat)
         requires { (seat.board ≡ N.board) × (seat.slot ≡ 0) }
     {
         self.state.lock(rt).give_back(&self.board, seat);
     }
 
     /// The number of changes so far, whose book the seat then knows. It takes no lock.
-    pub fn latest(&self, seat: &mut Seat<Identity>) -> u64
+    pub fn latest(&self, seat: &mut Seat) -> u64
         requires { seat.old.board ≡ N.board }
         ensures same { seat.new ≡ record seat.old { book = seat.new.book } }
         ensures later { Extends seat.new.book seat.old.book }
@@ -106,7 +106,7 @@ impl<N: Named> Server<N> {
     }
 
     /// Both seats know one book, of as many changes as is answered. A reader's seat may meet too.
-    pub fn meet<R: Wait>(&self, rt: &R, one: &mut Seat<Identity>, two: &mut Seat<Identity>) -> u64
+    pub fn meet<R: Wait>(&self, rt: &R, one: &mut Seat, two: &mut Seat) -> u64
         requires boards { (one.old.board ≡ N.board) × (two.old.board ≡ N.board) }
         requires one { 0 < one.old.slot → IsSome one.old.name }
         requires two { 0 < two.old.slot → IsSome two.old.name }
@@ -129,7 +129,7 @@ impl<N: Named> Server<N> {
     /// The volume and the number of its changes, at the end of the server.
     ///
     /// What is held then isn't delivered. It takes no memory.
-    pub fn retire<R: Wait>(self, rt: &R, seat: Seat<Identity>) -> Retired
+    pub fn retire<R: Wait>(self, rt: &R, seat: Seat) -> Retired
         requires board { seat.board ≡ N.board }
         ensures { IsRetired seat.book result.volume result.changes }
     {

@@ -11,12 +11,10 @@ ghost use Rattle.lq_server.specs.Opened.{IsNewReader};
 ghost use Rattle.lq_server.specs.Own.{IsOwn};
 ghost use Rattle.lq_server.specs.Syncing.{IsSynced, bit, in_port};
 
-use crate::named::Named;
+use crate::named::{Named, Seat};
 use crate::reader::Reader;
 use crate::server::{Server, Synced};
-use lq_board::Seat;
 use lq_predicate::Predicate;
-use lq_server_subscription::Identity;
 use lq_value::Refusal;
 use std::sync::Wait;
 
@@ -31,7 +29,7 @@ impl<N: Named> Server<N> {
     pub fn open<R: Wait>(
         &self,
         rt: &R,
-        seat: &mut Seat<Identity>,
+        seat: &mut Seat,
         predicate: &Predicate,
         port: u64,
         backlog: u64,

@@ -10,11 +10,9 @@ ghost use Rattle.lq_volume.specs.Lookup.{find_refusals, entry_refusals, listed};
 ghost use Rattle.lq_server.specs.Applied.{IsAdded};
 
 use crate::locked::Found;
-use crate::named::Named;
+use crate::named::{Named, Seat};
 use crate::server::{Accepted, Server};
-use lq_board::Seat;
 use lq_predicate::Predicate;
-use lq_server_subscription::Identity;
 use lq_value::{Name, Refusal};
 use lq_volume::{Change, Listing};
 use std::sync::Wait;
@@ -28,7 +26,7 @@ impl<N: Named> Server<N> {
     pub fn apply<R: Wait>(
         &self,
         rt: &R,
-        seat: &mut Seat<Identity>,
+        seat: &mut Seat,
         change: &Change,
     ) -> Result<Accepted, Refusal>
         requires { (seat.old.board ≡ N.board) × (seat.old.slot ≡ 0) }
@@ -54,7 +52,7 @@ impl<N: Named> Server<N> {
     pub fn fetch<R: Wait>(
         &self,
         rt: &R,
-        seat: &mut Seat<Identity>,
+        seat: &mut Seat,
         predicate: &Predicate,
     ) -> Result<Found, Refusal>
         requires { (seat.old.board ≡ N.board) × (seat.old.slot ≡ 0) }
@@ -77,7 +75,7 @@ impl<N: Named> Server<N> {
     pub fn find<R: Wait>(
         &self,
         rt: &R,
-        seat: &mut Seat<Identity>,
+        seat: &mut Seat,
         dir: u64,
         name: &Name,
     ) -> Result<u64, Refusal>
@@ -98,12 +96,7 @@ impl<N: Named> Server<N> {
     ///
     /// Refused, the first that fits: `NoNode` where there is no such node, `NoEntry` for the
     /// root, `NoMemory`.
-    pub fn listing<R: Wait>(
-        &self,
-        rt: &R,
-        seat: &mut Seat<Identity>,
-        node: u64,
-    ) -> Result<Listing, Refusal>
+    pub fn listing<R: Wait>(&self, rt: &R, seat: &mut Seat, node: u64) -> Result<Listing, Refusal>
         requires { (seat.old.board ≡ N.board) × (seat.old.slot ≡ 0) }
         ensures seat { (seat.new.board ≡ N.board) × (seat.new.slot ≡ 0) }
         ensures later { Extends seat.new.book seat.old.book }

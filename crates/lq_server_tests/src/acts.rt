@@ -40,6 +40,8 @@ pub enum Act {
     /// A seat is taken and given back.
     GiveBack,
     Slot,
+    /// Of the reader: the number of changes at its opening.
+    Opened,
     /// What the reader has to have.
     Result(&'static [Row]),
     ReaderLatest,

@@ -182,6 +182,7 @@ impl<N: Named> ReaderOf<N> {
                 Told::Done
             }
             Act::Slot => Told::Number(self.reader.slot()),
+            Act::Opened => Told::Number(self.reader.opened()),
             Act::Result(rows) => Told::Is(are_entries(self.reader.result(), rows)),
             Act::ReaderLatest => Told::Number(self.reader.latest(server)),
             Act::Meet => Told::Number(server.meet(rt, self.reader.seat(), &mut seat.seat)),

@@ -255,7 +255,7 @@ impl Log {
     }
 }
 
-/// Whether this was shown of the result after so many changes.
+/// Whether this was shown of the result after that many changes.
 fn is_result(
     alloc: Global,
     results: &[Vec<Entry>],

@@ -8,7 +8,7 @@ use lq_value::Refusal;
 const FIVE: [Row; 5] = [("a", 2), ("b", 3), ("c", 4), ("d", 5), ("e", 6)];
 
 /// Each call with memory; each of the six changes; a query with moved messages and one without.
-pub const EACH: Scenario = Scenario {
+pub static EACH: Scenario = Scenario {
     name: "each call answers",
     threads: 1,
     rounds: 1,
@@ -93,12 +93,13 @@ const WINDOW_ENDED: Table = (
     &[
         (Act::Sync, Told::Live(5, 0, 0)),
         (Act::Result(&FIVE), Told::Is(true)),
+        (Act::Opened, Told::Number(0)),
         (Act::Fetch("name=*", &FIVE), Told::Number(5)),
         (Act::Find("a"), Told::Number(2)),
         (Act::Listing(2, "a"), Told::Is(true)),
         (Act::HangUp, Told::Done),
         (Act::Create("f"), Told::Changed(6, 7)),
-        (Act::ReadWaiting, Told::End(6, 5, Cause::HungUp)),
+        (Act::Read, Told::End(6, 5, Cause::HungUp)),
         (Act::Finish, Told::Done),
     ],
 );
@@ -113,6 +114,7 @@ const USED_AFTER_HANG_UP: Table = (
         (Act::Read, Told::End(1, 0, Cause::HungUp)),
         (Act::Finish, Told::Done),
         (Act::Open("name=*", 4, 8), Told::Number(1)),
+        (Act::Opened, Told::Number(1)),
         (Act::Create("b"), Told::Changed(2, 3)),
         (Act::Read, Told::Update(1, 2, 3)),
         (Act::Sync, Told::Live(2, 0, 0)),
@@ -130,6 +132,7 @@ const USED_AFTER_CLOSE: Table = (
         (Act::Read, Told::End(1, 0, Cause::Closed)),
         (Act::Finish, Told::Done),
         (Act::Open("name=*", 4, 8), Told::Number(1)),
+        (Act::Opened, Told::Number(0)),
         (Act::Create("a"), Told::Changed(1, 2)),
         (Act::Read, Told::Update(1, 1, 2)),
         (Act::Sync, Told::Live(1, 0, 0)),
@@ -146,6 +149,7 @@ const DROPS: Table = (
         (Act::Create("b"), Told::Changed(2, 3)),
         (Act::Create("c"), Told::Changed(3, 4)),
         (Act::Open("name=*", 1, 1), Told::Number(2)),
+        (Act::Opened, Told::Number(3)),
         (Act::Close, Told::Number(3)),
         (Act::Close, Told::Refused(Refusal::NotOpen)),
         (Act::Read, Told::End(1, 3, Cause::Closed)),
@@ -304,74 +308,79 @@ const HUNG_UP_DRAWN: Table = (
     ],
 );
 
-/// The scenarios whose changes and readers are compared with the reference.
-pub const SCENARIOS: &[Scenario] = &[
-    EACH,
-    Scenario {
-        name: "a window is read by waiting",
-        threads: 2,
-        rounds: 1,
-        turns: &[&[OPENED], &[FILES_READ, FILES], &[WINDOW_ENDED]],
-    },
-    Scenario {
-        name: "a slot is used after a hang-up",
-        threads: 1,
-        rounds: 1,
-        turns: &[&[USED_AFTER_HANG_UP]],
-    },
-    Scenario {
-        name: "a slot is used after a close",
-        threads: 1,
-        rounds: 1,
-        turns: &[&[USED_AFTER_CLOSE]],
-    },
-    Scenario {
-        name: "readers are dropped",
-        threads: 1,
-        rounds: 1,
-        turns: &[&[DROPS]],
-    },
-    Scenario {
-        name: "slots and openings run out",
-        threads: 1,
-        rounds: 1,
-        turns: &[
-            &[NUMBERS],
-            &[ENDED],
-            &[STAYING],
-            &[FULL],
-            &[NUMBERS],
-            &[OPENINGS_RUN_OUT],
-        ],
-    },
-    Scenario {
-        name: "seats run out",
-        threads: 1,
-        rounds: 1,
-        turns: &[&[SEATS_USED], &[SEATS_DROPPED], &[SEATS_RUN_OUT]],
-    },
-    Scenario {
-        name: "two writers create",
-        threads: 2,
-        rounds: 1,
-        turns: &[&[FIRST_CREATES, SECOND_CREATES], &[CREATED, CREATED]],
-    },
-    Scenario {
-        name: "two writers make the same write",
-        threads: 2,
-        rounds: 1,
-        turns: &[&[FILE], &[WRITES, WRITES], &[WRITTEN, WRITTEN]],
-    },
-    Scenario {
-        name: "a hang-up beside changes",
-        threads: 2,
-        rounds: 20,
-        turns: &[&[OPENED_WIDE], &[HANGS_UP, FIRST_CREATES], &[HUNG_UP]],
-    },
-    Scenario {
-        name: "drawn schedules",
-        threads: 4,
-        rounds: 3,
-        turns: &[&[HUNG_UP_DRAWN, CLOSED_DRAWN, CHANGES_DRAWN, CHANGES_DRAWN]],
-    },
-];
+pub static WINDOW: Scenario = Scenario {
+    name: "a window is read by waiting",
+    threads: 2,
+    rounds: 1,
+    turns: &[&[OPENED], &[FILES_READ, FILES], &[WINDOW_ENDED]],
+};
+
+pub static SLOT_AFTER_HANG_UP: Scenario = Scenario {
+    name: "a slot is used after a hang-up",
+    threads: 1,
+    rounds: 1,
+    turns: &[&[USED_AFTER_HANG_UP]],
+};
+
+pub static SLOT_AFTER_CLOSE: Scenario = Scenario {
+    name: "a slot is used after a close",
+    threads: 1,
+    rounds: 1,
+    turns: &[&[USED_AFTER_CLOSE]],
+};
+
+pub static READERS_DROPPED: Scenario = Scenario {
+    name: "readers are dropped",
+    threads: 1,
+    rounds: 1,
+    turns: &[&[DROPS]],
+};
+
+pub static SLOTS: Scenario = Scenario {
+    name: "slots and openings run out",
+    threads: 1,
+    rounds: 1,
+    turns: &[
+        &[NUMBERS],
+        &[ENDED],
+        &[STAYING],
+        &[FULL],
+        &[NUMBERS],
+        &[OPENINGS_RUN_OUT],
+    ],
+};
+
+pub static SEATS: Scenario = Scenario {
+    name: "seats run out",
+    threads: 1,
+    rounds: 1,
+    turns: &[&[SEATS_USED], &[SEATS_DROPPED], &[SEATS_RUN_OUT]],
+};
+
+pub static WRITERS_CREATE: Scenario = Scenario {
+    name: "two writers create",
+    threads: 2,
+    rounds: 1,
+    turns: &[&[FIRST_CREATES, SECOND_CREATES], &[CREATED, CREATED]],
+};
+
+pub static WRITERS_WRITE: Scenario = Scenario {
+    name: "two writers make the same write",
+    threads: 2,
+    rounds: 1,
+    turns: &[&[FILE], &[WRITES, WRITES], &[WRITTEN, WRITTEN]],
+};
+
+pub static HANG_UP_BESIDE_CHANGES: Scenario = Scenario {
+    name: "a hang-up beside changes",
+    threads: 2,
+    rounds: 20,
+    turns: &[&[OPENED_WIDE], &[HANGS_UP, FIRST_CREATES], &[HUNG_UP]],
+};
+
+pub static DRAWN: Scenario = Scenario {
+    name: "drawn schedules",
+    threads: 4,
+    rounds: 3,
+    turns: &[&[HUNG_UP_DRAWN, CLOSED_DRAWN, CHANGES_DRAWN, CHANGES_DRAWN]],
+};

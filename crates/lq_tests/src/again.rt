@@ -9,7 +9,7 @@ use lq_volume::Volume;
 use std::alloc::Global;
 use std::test::Fail;
 
-// The call's answer, or where memory ran out that of the same call once more.
+// The call's answer; where memory ran out, the answer of the same call once more.
 macro_rules! again {
     ($call:expr) => {
         match $call {

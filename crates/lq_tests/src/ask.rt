@@ -12,7 +12,8 @@ pub enum Ask {
     Change(Act),
     /// An attribute's name and its value.
     Set(&'static str, View<'static>),
-    At(u64, lq_desk::Act),
+    /// A slot and an act at it.
+    At(u64, lq_desk_world::Act),
 }
 
 /// The value of a view.
@@ -40,9 +41,6 @@ pub fn event(alloc: Global, ask: &Ask) -> Result<Event, Refusal> {
             let value = value(alloc, view)?;
             Ok(Event::Change(setting(alloc, 2, attr, value)?))
         }
-        Ask::At(slot, act) => Ok(Event::At {
-            slot: *slot,
-            act: *act,
-        }),
+        Ask::At(slot, act) => Ok(act.at(*slot)),
     }
 }

@@ -17,6 +17,10 @@ mod bodies;
 #[cfg(test)]
 mod events;
 #[cfg(test)]
+mod fits;
+#[cfg(test)]
+mod folds;
+#[cfg(test)]
 mod plain;
 #[cfg(test)]
 mod variants;

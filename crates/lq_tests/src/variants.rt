@@ -80,12 +80,12 @@ static EVENTS: [Ask; 31] = [
     Ask::Set("u", View::UInt32(4_294_967_295)),
     Ask::Set("v", View::UInt64(18_446_744_073_709_551_615)),
     Ask::Change(Act::Remove(3)),
-    Ask::At(1, lq_desk::Act::HangUp),
-    Ask::At(1, lq_desk::Act::Notice),
-    Ask::At(2, lq_desk::Act::Close),
-    Ask::At(2, lq_desk::Act::Put),
-    Ask::At(2, lq_desk::Act::Read),
-    Ask::At(3, lq_desk::Act::Read),
+    Ask::At(1, lq_desk_world::Act::HangUp),
+    Ask::At(1, lq_desk_world::Act::Notice),
+    Ask::At(2, lq_desk_world::Act::Close),
+    Ask::At(2, lq_desk_world::Act::Put),
+    Ask::At(2, lq_desk_world::Act::Take),
+    Ask::At(3, lq_desk_world::Act::Take),
 ];
 
 /// Whether operators make this.

@@ -1,4 +1,5 @@
-//! Tests of lq_value, lq_value, lq_predicate, lq_script_json and lq_script_lines: what no script or formula can show.
+//! Tests of lq_value, lq_predicate, lq_script_json and lq_script_lines: what no script or formula
+//! can show.
 #![tactic(auto)]
 
 #[cfg(test)]

@@ -36,7 +36,7 @@ impl Responder for Echo {
 
 /// A reader that gives `step` bytes at a time, and at its end may fail.
 ///
-/// Each read puts two digits behind `calls`: how many bytes the writer had taken.
+/// Each read puts two digits after `calls`: how many bytes the writer had taken.
 #[derive(Drop)]
 struct Slow<'a> {
     left: &'a [u8],
@@ -68,7 +68,7 @@ impl<'a> Source for Slow<'a> {
 
 /// A writer that takes `step` bytes at a time and `room` in all, and then fails, at a flush too.
 ///
-/// Each write adds to the last two digits of `calls`, and a flush puts 99 behind them.
+/// Each write adds to the last two digits of `calls`, and a flush puts 99 after them.
 #[derive(Drop)]
 struct Narrow<'a> {
     text: Vec<u8>,
@@ -130,7 +130,7 @@ type Run = (
 const RUNS: [Run; 10] = [
     ("", 9, false, 99, 99, Ok(()), "", 99),
     ("\r\n\n", 9, false, 99, 99, Ok(()), "", 99),
-    // the reads end behind `ab LF cd`, `LF LF e LF f`, `ghi LF` and the end
+    // the reads end after `ab LF cd`, `LF LF e LF f`, `ghi LF` and the end
     (
         "ab\ncd\n\ne\nfghi\n",
         5,

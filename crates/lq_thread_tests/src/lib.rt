@@ -1,5 +1,11 @@
-//! Tests of scripts by a server and threads.
+//! Tests of scripts by one thread and by a server and threads, and of the program's words.
 #![tactic(auto)]
 
 #[cfg(test)]
+mod devices;
+#[cfg(test)]
+mod faults;
+#[cfg(test)]
 mod runs;
+#[cfg(test)]
+mod words;

@@ -1,7 +1,6 @@
 //! Reads side by side, and devices that fail in mid-stream, beside the run by one thread.
-ghost use Rattle.std.specs.Prelude.{◌≡◌, ◌<◌, false, true, None};
-
-use lq_script::{Failed, Gate, Host, OpenGate, RunFault, Sink, Source, run, run_threads};
+use crate::devices::{FREE, Pace, reader_of, writer_of};
+use lq_script::{Gate, Host, OpenGate, RunFault, run, run_threads};
 use std::alloc::Global;
 use std::sync::Wait;
 use std::sync::atomic::{AtomicBool, Ordering};
@@ -104,7 +103,7 @@ fn empty() -> Place {
 }
 
 #[test]
-fn two_readers_read_side_by_side(rt: HostRuntime) -> Result<(), Fail> {
+fn scenario_two_readers(rt: HostRuntime) -> Result<(), Fail> {
     let alloc = rt.alloc();
     let meeting = Meeting {
         one: empty(),
@@ -121,77 +120,6 @@ fn two_readers_read_side_by_side(rt: HostRuntime) -> Result<(), Fail> {
     Ok(())
 }
 
-/// How devices move at most `step` bytes a call: the reader fails after so many calls, and the
-/// writer after `room` bytes, or it takes nothing then.
-#[derive(Clone, Copy)]
-struct Pace {
-    step: usize,
-    calls: usize,
-    room: usize,
-    stalls: bool,
-}
-
-#[derive(Drop)]
-struct Given<'a> {
-    left: &'a [u8],
-    pace: Pace,
-    failed: bool,
-}
-
-impl<'a> Source for Given<'a> {
-    ghost left = { λ _. None };
-
-    ghost failed = { λ g. g.failed };
-
-    fn read(&mut self, buf: &mut [u8]) -> Result<usize, Failed> {
-        if self.pace.calls == 0 {
-            self.failed = true;
-            return Err(Failed);
-        }
-        self.pace.calls -= 1;
-        let count = self.pace.step.min(self.left.len()).min(buf.len());
-        buf[..count].copy_from_slice(&self.left[..count]);
-        self.left = &self.left[count..];
-        Ok(count)
-    }
-}
-
-#[derive(Drop)]
-struct Taken {
-    text: Vec<u8>,
-    pace: Pace,
-    failed: bool,
-    stalled: bool,
-}
-
-impl Sink for Taken {
-    ghost written = { λ _. None };
-
-    ghost failed = { λ t. t.failed };
-
-    ghost stalled = { λ t. t.stalled };
-
-    ghost flushed = { λ _. true };
-
-    fn write(&mut self, bytes: &[u8]) -> Result<usize, Failed> {
-        let count = self.pace.step.min(bytes.len()).min(self.pace.room);
-        if count == 0 && self.pace.stalls {
-            self.stalled = true;
-            return Ok(0);
-        }
-        if count == 0 || self.text.extend_from_slice(&bytes[..count]).is_err() {
-            self.failed = true;
-            return Err(Failed);
-        }
-        self.pace.room -= count;
-        Ok(count)
-    }
-
-    fn flush(&mut self) -> Result<(), Failed> {
-        Ok(())
-    }
-}
-
 // Whether a run by threads answers and writes as one by one thread, and answers this.
 fn agrees<R: Threads + Wait + Sync>(
     rt: &R,
@@ -201,34 +129,10 @@ fn agrees<R: Threads + Wait + Sync>(
 ) -> bool {
     let mut one = writer_of(alloc, pace);
     let mut many = writer_of(alloc, pace);
-    let by_one = run(alloc, &mut reader_of(pace), &mut one);
-    let by_many = run_threads(rt, alloc, &mut reader_of(pace), &mut many, &OpenGate);
+    let by_one = run(alloc, &mut reader_of(MIXED, pace), &mut one);
+    let by_many = run_threads(rt, alloc, &mut reader_of(MIXED, pace), &mut many, &OpenGate);
     by_one == answer && by_many == answer && one.text == many.text
 }
-
-fn reader_of(pace: Pace) -> Given<'static>
-    ensures { result.failed ≡ false }
-{
-    Given {
-        left: MIXED.as_bytes(),
-        pace,
-        failed: false,
-    }
-}
-
-fn writer_of(alloc: Global, pace: Pace) -> Taken
-    ensures failed { result.failed ≡ false }
-    ensures stalled { result.stalled ≡ false }
-{
-    Taken {
-        text: Vec::new(alloc),
-        pace,
-        failed: false,
-        stalled: false,
-    }
-}
-
-const FREE: usize = 10_000;
 
 #[test]
 fn each_read_and_write_may_fail(rt: HostRuntime) -> Result<(), Fail> {

@@ -71,7 +71,7 @@ impl IndexedRebuild {
         self.latest.last
     }
 
-    /// The change of the latest message, or that of the opening before the first. It takes no
+    /// The change of the latest message, or the opening's before the first message. It takes no
     /// memory.
     pub fn last_change(&self) -> u64
         ensures { result ≡ self.now.change }

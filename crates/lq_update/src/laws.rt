@@ -84,7 +84,7 @@ pub fn settled_is_tested()
     ensures { SettledIsTested }
 {}
 
-/// A rebuild that began with an opening's result and took a front of its update list takes the
+/// A rebuild that began with an opening's result and took a prefix of its update list takes the
 /// next message too: it is refused at most for want of memory.
 pub fn rebuilds_take_all()
     ensures { RebuildsTakeAll }

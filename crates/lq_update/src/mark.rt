@@ -11,10 +11,10 @@ pub enum Cause {
     Overrun,
 }
 
-/// The end of a subscription, told behind its last message: our own.
+/// The closing mark of a subscription, after its last message: our own.
 ///
-/// `seq` is the number behind that of the last message, and `change` the last change that the
-/// messages cover.
+/// `seq` is one more than the last message's, and `change` is the last change that the messages
+/// cover.
 #[derive(Clone, Copy, Debug)]
 pub struct Mark {
     pub seq: u64,

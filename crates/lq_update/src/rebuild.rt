@@ -67,7 +67,7 @@ impl Rebuild {
         self.latest.last
     }
 
-    /// The change of the latest message, or that of the opening before the first. It takes no
+    /// The change of the latest message, or the opening's before the first message. It takes no
     /// memory.
     pub fn last_change(&self) -> u64
         ensures { result ≡ self.now.change }
@@ -79,8 +79,8 @@ impl Rebuild {
     /// its place.
     ///
     /// Refused, the first that fits: `OutOfStep` where `seq` isn't one more than that of the
-    /// latest message (1 for the first), or `change` isn't above that of the latest where it was
-    /// the last of its change, or isn't the same where it wasn't; `Mismatch` where a removed
+    /// latest message (1 for the first), or `change` isn't above the latest's where this was the
+    /// last of its change, or isn't the same where it wasn't; `Mismatch` where a removed
     /// entry or a moved one's old place isn't in the result, or a created one's node is;
     /// `NoMemory`. A refused message changes nothing.
     pub fn apply(&mut self, message: &Message) -> Result<(), Refusal>

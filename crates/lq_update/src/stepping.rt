@@ -141,8 +141,8 @@ fn tell_difference<'s, 'a>(
     tell_joined(alloc, predicate, planned, made, removed, last, first_seq)
 }
 
-// What is told where these are told of the change's own node, and with them what is told of the
-// node that it takes away, if there is one.
+// The messages for the change's own node, joined with those for the node that it takes away, if
+// there is one.
 #[inline(always)]
 fn tell_joined(
     alloc: Global,
@@ -276,7 +276,7 @@ fn difference<'s, 'a>(
     split(old, new)
 }
 
-// What is seen, where the predicate holds of it.
+// The entry that is seen, where it matches the predicate.
 fn matching<'s, 'a>(predicate: &Predicate, seen: Option<&'s Seen<'a>>) -> Option<&'s Seen<'a>>
     ensures { (node : ℕ) → entry_at node (option_copied result)
         ≡ option_and_then (λ r. entry_if predicate.now (node, r)) (option_copied seen.entry) }
@@ -327,7 +327,7 @@ fn copied(alloc: Global, seen: Option<&Seen<'_>>, node: u64) -> Result<Option<En
     }
 }
 
-// What is told of the node: the removed entry, and what stands behind all that are removed.
+// The messages for the node: its removed entry, and what follows all removed entries.
 fn join(
     moved: bool,
     left: Option<Entry>,

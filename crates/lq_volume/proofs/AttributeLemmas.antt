@@ -1,11 +1,15 @@
--- What a setting and a removal make of a list of attributes with names of their own.
-use Rattle.std.proofs.Common.{◌≡◌, ◌<◌, ◌+◌, ℕ, zero, suc, List, [], ◌∷◌, ◌++◌, refl, subst, arith, ap, Bool, true, false}
+-- What a setting and a removal make of a list of attributes with names of their own, and what a map
+-- makes of one.
+use Rattle.std.proofs.Common.{◌≡◌, ◌<◌, ◌+◌, ℕ, zero, suc, List, [], ◌∷◌, ◌++◌, refl, subst, sym, arith, ap, ◌∙◌, Bool, true, false}
 use Rattle.std.specs.Prelude.{filter, not, cond, Some, None, slice_get, slice_index_or, length, drop}
-use Rattle.std.specs.List.{AllByRecursion, slice_set, remove}
+use Rattle.std.specs.List.{AllByRecursion, IsDistinct, slice_set, remove}
+use Rattle.std.specs.Map.{keys_of, remove_entry}
 use Rattle.std.specs.Option.{option_map}
 use Rattle.std.specs.Str.{bytes_eq}
 use Rattle.std.proofs.lemmas.Bool.Decides.{nat_tests}
+use Rattle.std.proofs.lemmas.List.{append-nil}
 use Rattle.std.proofs.lemmas.Slice.Eq.{bytes_eq-Decides}
+use Rattle.indexmap.specs.IndexMap.{insert_all}
 use Rattle.lq_value.specs.declared.value.Value.{Value}
 use Rattle.lq_volume.specs.Attributes.{Attributes, HasOwnNames, value_of, with_attr, without_attr}
 
@@ -17,7 +21,7 @@ turned x y h =
     grind (arith, nat_tests)
 
 -- a name that no attribute before it has goes last
-pub with_attr-next : (es fs : Attributes) (e : List ℕ × Value) → HasOwnNames (es ++ e ∷ fs) →
+with_attr-next : (es fs : Attributes) (e : List ℕ × Value) → HasOwnNames (es ++ e ∷ fs) →
     with_attr es e.0 e.1 ≡ es ++ e ∷ []
 with_attr-next [] fs e h = refl
 with_attr-next (f ∷ es) fs e h =
@@ -43,7 +47,7 @@ without_attr-none [] attr h = refl
 without_attr-none (e ∷ es) attr h = grind (arith, nat_tests, without_attr-none es attr)
 
 -- likewise where each is known to have another name
-pub all-others : (es : Attributes) (attr : List ℕ) →
+all-others : (es : Attributes) (attr : List ℕ) →
     AllByRecursion (λ b. bytes_eq attr b.0 ≡ false) es →
     without_attr es attr ≡ es
 all-others [] attr h = refl
@@ -184,3 +188,41 @@ HasOwnNames-filter test (e ∷ es) h =
 pub HasOwnNames-without : (es : Attributes) (attr : List ℕ) → HasOwnNames es
     → HasOwnNames (without_attr es attr)
 HasOwnNames-without es attr h = HasOwnNames-filter (λ a. not (bytes_eq attr a.0)) es h
+
+-- the first of a name taken out is all of them, where none is left
+remove_entry-all : (es : Attributes) (attr : List ℕ)
+    → value_of (remove_entry (bytes_eq attr) es) attr ≡ None
+    → remove_entry (bytes_eq attr) es ≡ without_attr es attr
+remove_entry-all [] attr h = refl
+remove_entry-all (e ∷ es) attr h =
+    grind (arith, nat_tests, without_attr-none es attr, remove_entry-all es attr)
+
+-- a map's removal, after which the name has no value
+pub without_attr-removed : (es fs : Attributes) (attr : List ℕ)
+    → fs ≡ remove_entry (bytes_eq attr) es → value_of fs attr ≡ None → fs ≡ without_attr es attr
+without_attr-removed es fs attr is none = is ∙ remove_entry-all es attr (rw is at none)
+
+-- the names of a map are its entries' own
+pub HasOwnNames-keys : (es : Attributes) → IsDistinct bytes_eq (keys_of es) → HasOwnNames es
+unfolding IsDistinct
+HasOwnNames-keys [] h = tt
+HasOwnNames-keys (e ∷ es) h = (apart es h.0, HasOwnNames-keys es h.1)
+  where
+    apart : (fs : Attributes) → AllByRecursion (λ n. bytes_eq e.0 n ≡ false) (keys_of fs)
+        → AllByRecursion (λ b. bytes_eq e.0 b.0 ≡ false) fs
+    apart [] k = tt
+    apart (f ∷ fs) k = (k.0, apart fs k.1)
+
+-- a map of a list behind another
+insert_all-next : (es fs : Attributes) → HasOwnNames (es ++ fs)
+    → insert_all bytes_eq es fs ≡ es ++ fs
+insert_all-next es [] h = sym (append-nil es)
+insert_all-next es (f ∷ fs) h =
+    let one = with_attr-next es fs f h in
+    let more = append-one es fs f in
+    ap (λ l. insert_all bytes_eq l fs) one
+    ∙ (insert_all-next (es ++ f ∷ []) fs (rw more h) ∙ more)
+
+-- a map of a list has its attributes in its order
+pub insert_all-own : (es : Attributes) → HasOwnNames es → insert_all bytes_eq [] es ≡ es
+insert_all-own es h = insert_all-next [] es h

@@ -4,7 +4,7 @@
 -- Touches; that the numbers fit: Fits; why a move is refused: Rows. The places of the records:
 -- PlaceLemmas. The index of places, with a record more, less or altered: IndexLemmas; after a move:
 -- IndexMoves; the steps of a put: Puts; and the folders that have names: IndexFolders. Attributes
--- in a list, and under numbers: AttributeLemmas, NumberedLemmas.
+-- in a list and in a map: AttributeLemmas.
 pub mod Options
 pub mod OrderLemmas
 pub mod RecordLemmas
@@ -22,5 +22,4 @@ pub mod IndexFolders
 pub mod Puts
 pub mod Finds
 pub mod AttributeLemmas
-pub mod NumberedLemmas
 pub mod Touches

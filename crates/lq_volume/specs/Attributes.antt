@@ -1,5 +1,5 @@
 -- The attributes of an entry: names with their values, in the order in which they were first set.
-use Rattle.std.specs.Prelude.{◌≡◌, ◌==◌, ◌<◌, ℕ, pos, List, [], ◌∷◌, Bool, false, not, ◌||◌, filter, codes, Option, None, Some}
+use Rattle.std.specs.Prelude.{◌≡◌, ℕ, pos, List, [], ◌∷◌, Bool, false, not, ◌||◌, filter, codes, Option}
 use Rattle.std.specs.List.{AllByRecursion}
 use Rattle.std.specs.Map.{lookup}
 use Rattle.std.specs.Str.{bytes_eq}
@@ -42,21 +42,3 @@ held (value.Int32 number) = Number number
 held (value.Int64 number) = Number number
 held (value.UInt32 number) = Number (pos number)
 held (value.UInt64 number) = Number (pos number)
-
--- attributes under numbers
-abbrev pub Numbered : Type 0
-Numbered = List (ℕ × (List ℕ × Value))
-
--- whether a number is the one that is kept, if one is
-abbrev pub is_number : Option ℕ → ℕ → Bool
-is_number None number = false
-is_number (Some kept) number = kept == number
-
--- what is so of many attributes, and of the number that is kept under each name
-pub record AreNumbered (next : ℕ) (numbers : List ℕ → Option ℕ) (attrs : Numbered) : Type 0 where
-  -- an attribute has a name just where its number is kept under that name
-  pub named : (name : List ℕ) →
-      AllByRecursion (λ a. bytes_eq name a.1.0 ≡ is_number (numbers name) a.0) attrs
-  -- the next number is above all
-  pub above : AllByRecursion (λ a. a.0 < next) attrs
-  pub fresh : (name : List ℕ) (number : ℕ) → numbers name ≡ Some number → number < next

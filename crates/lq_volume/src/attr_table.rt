@@ -5,12 +5,12 @@ ghost use Rattle.std.specs.Option.{option_copied, option_map};
 ghost use Rattle.lq_value.specs.Refusal.{IsRefusedBy};
 ghost use Rattle.lq_volume.specs.Attributes.{HasOwnNames, value_of, with_attr, without_attr};
 
-use crate::many::Many;
+use indexmap::IndexMap;
 use lq_value::{AttrName, Refusal, Value, same_text};
 use std::alloc::Global;
 use std::marker::Model;
 
-/// A list with this many attributes becomes maps before the next is set.
+/// A list with this many attributes becomes a map before the next is set.
 const FEW: usize = 16;
 
 /// The attributes of an entry that has some, in the order in which they were first set.
@@ -19,9 +19,9 @@ const FEW: usize = 16;
 #[derive(Debug)]
 pub struct AttrTable {
     alloc: Global,
-    // A list that is searched; it is empty where there are many.
+    // A list that is searched, since a map takes far more memory; it is empty where there are many.
     few: Vec<(AttrName, Value)>,
-    many: Option<Box<Many>>,
+    many: Option<Box<IndexMap<AttrName, Value>>>,
 }
 
 // One call takes it apart, wherever one is dropped.
@@ -41,9 +41,9 @@ impl Model for AttrTable {
 
     ghost Value = { List };
 
-    ghost view = { λ a. option_map_or (λ m. m.value) a.many a.few.items };
+    ghost view = { λ a. option_map_or (λ m. m.value.entries) a.many a.few.items };
 
-    ghost invariant = { λ a. HasOwnNames (option_map_or (λ m. m.value) a.many a.few.items) };
+    ghost invariant = { λ a. HasOwnNames a.few.items };
 }
 
 impl AttrTable {
@@ -80,7 +80,7 @@ impl AttrTable {
         }
     }
 
-    /// The name and value at a place, counted from 0. Of many it passes over those before it.
+    /// The name and value at a place, counted from 0.
     pub fn at(&self, place: usize) -> Option<(&AttrName, &Value)>
         ensures { option_map deref_pair result ≡ slice_get self.now place }
     {
@@ -89,7 +89,7 @@ impl AttrTable {
                 None => None,
                 Some(pair) => Some((&pair.0, &pair.1)),
             },
-            Some(many) => many.at(place),
+            Some(many) => many.get_index(place),
         }
     }
 
@@ -102,31 +102,33 @@ impl AttrTable {
         self.spread()?;
         match &mut self.many {
             None => put(&mut self.few, attr, value)?,
-            Some(many) => many.set(attr, value)?,
+            Some(many) => {
+                many.insert(attr, value)?;
+            }
         }
         Ok(())
     }
 
-    // Turns a list that is no longer short into maps. Refused: `NoMemory`.
+    // Turns a list that is no longer short into a map. Refused: `NoMemory`.
     fn spread(&mut self) -> Result<(), Refusal>
         ensures refused { IsRefusedBy result None }
         ensures same { self.new ≡ self.old }
     {
         if self.many.is_none() && self.few.len() >= FEW {
-            let many = Many::of(self.alloc, copied(self.alloc, &self.few)?)?;
+            let many = map_of(self.alloc, copied(self.alloc, &self.few)?)?;
             self.many = Some(Box::new(self.alloc, many)?);
             self.few = Vec::new(self.alloc);
         }
         Ok(())
     }
 
-    /// Takes an attribute out.
+    /// Takes an attribute out. Those after it move up, so it is linear in their number.
     pub fn remove(&mut self, attr: &AttrName)
         ensures { self.new ≡ without_attr self.old attr.now }
     {
         match &mut self.many {
             None => take_out(&mut self.few, attr),
-            Some(many) => many.remove(attr),
+            Some(many) => drop(many.shift_remove(attr)),
         }
     }
 
@@ -142,7 +144,7 @@ impl AttrTable {
                 many: None,
             }),
             Some(many) => {
-                let copy = Many::of(alloc, many.list(alloc)?)?;
+                let copy = map_of(alloc, listed(alloc, many)?)?;
                 Ok(AttrTable {
                     alloc,
                     few: Vec::new(alloc),
@@ -159,7 +161,7 @@ impl AttrTable {
     {
         match &self.many {
             None => copied(alloc, &self.few),
-            Some(many) => many.list(alloc),
+            Some(many) => listed(alloc, many),
         }
     }
 }
@@ -226,17 +228,29 @@ fn copied(alloc: Global, list: &[(AttrName, Value)]) -> Result<Vec<(AttrName, Va
 {
     let mut copy = Vec::with_capacity(alloc, list.len())?;
     for pair in list {
-        copy.push(copied_pair(alloc, pair)?)?;
+        copy.push((pair.0.copy(alloc)?, pair.1.copy(alloc)?))?;
     }
     Ok(copy)
 }
 
-/// A name with its value, copied. Refused: `NoMemory`.
-pub fn copied_pair(alloc: Global, pair: &(AttrName, Value)) -> Result<(AttrName, Value), Refusal>
+// The names and values of a map, copied, in order. Refused: `NoMemory`.
+fn listed(alloc: Global, map: &IndexMap<AttrName, Value>) -> Result<Vec<(AttrName, Value)>, Refusal>
     ensures refused { IsRefusedBy result None }
-    ensures value { IfOk result (λ copy. copy ≡ pair.now) }
+    ensures value { IfOk result (λ list. list.items ≡ map.now.entries) }
+    ensures own { IfOk result (λ list. HasOwnNames list.items) }
 {
-    let attr = pair.0.copy(alloc)?;
-    let value = pair.1.copy(alloc)?;
-    Ok((attr, value))
+    let mut list = Vec::with_capacity(alloc, map.len())?;
+    for (attr, value) in map.iter() {
+        list.push((attr.copy(alloc)?, value.copy(alloc)?))?;
+    }
+    Ok(list)
+}
+
+// The attributes of a list, in a map. Refused: `NoMemory`.
+fn map_of(alloc: Global, list: Vec<(AttrName, Value)>) -> Result<IndexMap<AttrName, Value>, Refusal>
+    requires { HasOwnNames list.items }
+    ensures refused { IsRefusedBy result None }
+    ensures value { IfOk result (λ map. map.entries ≡ list.items) }
+{
+    Ok(IndexMap::from_iter(alloc, list)?)
 }

@@ -59,7 +59,7 @@ impl Attributes {
         }
     }
 
-    /// The name and value at a place, counted from 0. Of many it passes over those before it.
+    /// The name and value at a place, counted from 0.
     pub fn at(&self, place: usize) -> Option<(&AttrName, &Value)>
         ensures { option_map deref_pair result ≡ slice_get self.now place }
     {
@@ -86,7 +86,7 @@ impl Attributes {
         Ok(())
     }
 
-    /// Takes an attribute out.
+    /// Takes an attribute out. Those after it move up, so it is linear in their number.
     pub fn remove(&mut self, attr: &AttrName)
         ensures { self.new ≡ without_attr self.old attr.now }
     {

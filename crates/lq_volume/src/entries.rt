@@ -187,7 +187,7 @@ impl Entries {
         self.records.remove_attr(node, attr);
     }
 
-    /// The entries that the predicate holds of. Refused: `NoMemory`.
+    /// The entries that match the predicate. Refused: `NoMemory`.
     pub fn fetch(&self, predicate: &Predicate) -> Result<Vec<Entry>, Refusal>
         ensures refused { IsRefusedBy result None }
         ensures entries { IfOk result (λ entries. entries.items

@@ -22,7 +22,7 @@ impl<'a> Model for EntryRef<'a> {
     ghost view = { λ e. e.stored.now };
 }
 
-/// What a volume holds of an entry: its place, its kind, its size in bytes and `last_modified`
+/// What a volume keeps for an entry: its place, its kind, its size in bytes and `last_modified`
 /// in seconds since 1970.
 #[derive(Drop)]
 pub struct Listing {

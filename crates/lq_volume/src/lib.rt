@@ -13,7 +13,6 @@ mod checks;
 mod entries;
 mod entry_ref;
 mod laws;
-mod many;
 mod places;
 mod planned;
 mod records;

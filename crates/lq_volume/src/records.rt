@@ -103,7 +103,7 @@ impl Records {
         Ok(records)
     }
 
-    /// The entries that the predicate holds of, by rising node. Refused: `NoMemory`.
+    /// The entries that match the predicate, by rising node. Refused: `NoMemory`.
     pub fn fetch(&self, alloc: Global, predicate: &Predicate) -> Result<Vec<Entry>, Refusal>
         ensures refused { IsRefusedBy result None }
         ensures entries { IfOk result (λ entries. entries.items

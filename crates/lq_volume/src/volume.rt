@@ -265,7 +265,7 @@ impl Volume {
         })
     }
 
-    /// The entries that the predicate holds of, by rising node: the static query.
+    /// The entries that match the predicate, by rising node: the static query.
     ///
     /// Refused: `NoMemory`. It changes nothing. As a BQuery that isn't live.
     pub fn fetch(&self, predicate: &Predicate) -> Result<Vec<Entry>, Refusal>

@@ -1,8 +1,8 @@
-//! The turns of a desk: an event, and what the desk does about it of itself.
+//! The turns of a desk: an event with the notices and puts that go with it.
 ghost use Rattle.std.specs.Prelude.{◌≡◌, ◌⊎◌};
 ghost use Rattle.lq_value.specs.declared.refusal.Refusal.TheVariants.{NoMemory};
 ghost use Rattle.lq_desk_world.specs.World.{World};
-ghost use Rattle.lq_desk_world.specs.declared.event.Event.TheVariants.{At};
+ghost use Rattle.lq_desk_world.specs.declared.event.Event.TheVariants.{Notice};
 ghost use Rattle.lq_desk_world.specs.Events.{Refused};
 ghost use Rattle.lq_desk_world.specs.Turns.{all_puts, notices, places_at, puts};
 ghost use Rattle.lq_desk.specs.Kept.{Shows, kept_outcome};
@@ -19,9 +19,9 @@ use lq_volume::changes_are_counted;
 impl Desk {
     /// Carries out one event with all that belongs to its turn, and answers the event.
     ///
-    /// A change comes after the notices of all taken slots, and each port is filled behind it; a
+    /// A change comes after the notices of all taken slots, and each port is filled after it; a
     /// read comes after the notice of its slot, and after its port was filled; a close comes
-    /// after the notice of its slot, whose port is filled behind it. Any other event comes alone.
+    /// after the notice of its slot, whose port is filled after it. Any other event comes alone.
     /// The event is refused as `event` refuses it, and the rest of its turn stands.
     pub fn turn(&mut self, event: &Event) -> Reply
         ensures kept { TurnStep self.old event.now (answer_of result) self.new }
@@ -47,28 +47,22 @@ impl Desk {
                 self.fill_all();
                 reply
             }
-            Event::Open { .. } => self.carry_out(event),
-            Event::At { slot, act } => self.act_turn(*slot, *act),
-        }
-    }
-
-    // Carries out the events of the turn of an act at a slot.
-    fn act_turn(&mut self, slot: u64, act: Act) -> Reply
-        ensures { TurnStep self.old (At slot act) (answer_of result) self.new }
-    {
-        match act {
-            Act::Read => {
-                self.notice(slot);
-                self.fill(slot);
-                self.act(slot, Act::Read)
+            Event::Take(slot) => {
+                self.notice(*slot);
+                self.fill(*slot);
+                self.act(*slot, Act::Take)
             }
-            Act::Close => {
-                self.notice(slot);
-                let reply = self.act(slot, Act::Close);
-                self.fill(slot);
+            Event::Close(slot) => {
+                self.notice(*slot);
+                let reply = self.act(*slot, Act::Close);
+                self.fill(*slot);
                 reply
             }
-            Act::Put | Act::HangUp | Act::Notice | Act::Finish => self.act(slot, act),
+            Event::Open { .. }
+            | Event::Put(_)
+            | Event::HangUp(_)
+            | Event::Notice(_)
+            | Event::Finish(_) => self.carry_out(event),
         }
     }
 
@@ -85,7 +79,7 @@ impl Desk {
 
     // Notices the end of a slot, where that asks for it.
     fn notice(&mut self, slot: u64)
-        ensures { self.new ≡ (kept_outcome self.old (At slot Act.Notice)).1 }
+        ensures { self.new ≡ (kept_outcome self.old (Notice slot)).1 }
     {
         updates_join();
         changes_are_counted();

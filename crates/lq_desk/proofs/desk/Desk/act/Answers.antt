@@ -1,7 +1,6 @@
 use Rattle.std.proofs.Common.{◌≡◌, ◌≤◌, ◌-◌, ◌*◌, ◌^◌, length, arith, ap, ◌∙◌, sym, map, None, inl, inr}
-use Rattle.lq_desk_world.specs.declared.event.Event.TheVariants.{At}
 use Rattle.lq_desk.specs.Act.{outcome_in}
-use Rattle.lq_desk.specs.Kept.{Kept, kept_at, kept_outcome}
+use Rattle.lq_desk.specs.Kept.{Kept, kept_act, kept_at}
 use Rattle.lq_desk.specs.Reply.{answer_of}
 use Rattle.lq_desk.proofs.Shown.{kept-shows}
 use Rattle.lq_desk.proofs.Desks.{IsDesk-act}
@@ -35,7 +34,7 @@ returns c =
     let does : (answer_of c.act.result, map kept_slot c.act.new.self) ≡ outcome_in k.volume.number
     c.args.act k.slots (c.args.slot - 1) = rw (← c.changes-number.ensures.number) c.act.ensures in
     act-same k c.args.act c.args.slot _ _ c.if-slot-eq0.false within does
-    ∙ ap (λ j. kept_outcome j (At c.args.slot c.args.act)) c.self.view_is
+    ∙ ap (λ j. kept_act j c.args.slot c.args.act) c.self.view_is
 
 pub act-requires-clause-few : goal.act-requires-clause-few
 act-requires-clause-few c =

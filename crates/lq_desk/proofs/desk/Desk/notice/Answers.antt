@@ -1,7 +1,6 @@
 use Rattle.std.proofs.Common.{◌≡◌, ◌≤◌, ◌-◌, ◌*◌, ◌^◌, [], ◌∷◌, length, arith, ap, ◌∙◌, sym, subst, map, inl, inr, None}
 use Rattle.std.proofs.lemmas.List.{length-set}
-use Rattle.lq_desk_world.specs.declared.event.Event.TheVariants.{At}
-use Rattle.lq_desk_world.specs.declared.event.Act.TheVariants as act
+use Rattle.lq_desk_world.specs.declared.event.Event.TheVariants.{Notice}
 use Rattle.lq_desk.specs.Slot.{done_at, noticed}
 use Rattle.lq_desk.specs.Kept.{Kept, IsDesk, kept_at, kept_outcome}
 use Rattle.lq_desk.proofs.Shown.{kept-shows}
@@ -24,7 +23,7 @@ invariant_of-self c =
     subst (λ ks. IsDesk (record { volume = k.volume; openings = k.openings; slots = ks }))
     (sym made)
     (IsDesk-after (kept-shows c.changes_are_counted.ensures
-    c.updates_join.ensures c.runs_keep_worlds_fair.ensures) k (At c.args.slot act.Notice ∷ [])
+    c.updates_join.ensures c.runs_keep_worlds_fair.ensures) k (Notice c.args.slot ∷ [])
     (done_at (noticed c.self.inside.volume.number) k.slots (c.args.slot - 1)) c.self.invariant
     (sym (noticed-one k c.args.slot c.if-slot-eq0.false within))
     (length-set k.slots _ _) (few-noticed_at (3 * k.volume.number) k.volume.number k.slots
@@ -43,7 +42,7 @@ returns c =
     omega (arith, c.if-slot.false, c.self.invariant.slots) in
     ap (λ ks. record { volume = k.volume; openings = k.openings; slots = ks }) made
     ∙ (noticed-one k c.args.slot c.if-slot-eq0.false within
-    ∙ ap (λ (j : Kept). (kept_outcome j (At c.args.slot act.Notice)).1) c.self.view_is)
+    ∙ ap (λ (j : Kept). (kept_outcome j (Notice c.args.slot)).1) c.self.view_is)
 
 pub notice-requires-clause-few : goal.notice-requires-clause-few
 notice-requires-clause-few c =

@@ -1,5 +1,6 @@
-use Rattle.std.proofs.Common.{refl}
-use Rattle.lq_desk.proofs.TurnLemmas.{alone-turn, change-turn}
+use Rattle.std.proofs.Common.{refl, inl, inr}
+use Rattle.lq_desk_world.specs.declared.event.Event.TheVariants.{Open, Put, HangUp, Notice, Finish}
+use Rattle.lq_desk.proofs.TurnLemmas.{alone-like, change-turn, close-turn, read-turn}
 use Rattle.lq_desk.proofs.desk.Desk.take_turn.Goals as goal
 
 pub returns-in-Change : goal.returns-in-Change
@@ -9,8 +10,31 @@ returns-in-Change c =
     c.carry_out-reply.new.self c.fill_all.new.self c.in-Change.field-0 _ c.notice_all.ensures
     (rw c.in-Change.is at step) c.fill_all.ensures)
 
+pub returns-in-Take : goal.returns-in-Take
+returns-in-Take c = rw c.in-Take.is (read-turn c.args.self.now c.notice.new.self c.fill.new.self
+    c.act.new.self c.in-Take.slot _ c.notice.ensures c.fill.ensures c.act.ensures)
+
+pub returns-in-Close : goal.returns-in-Close
+returns-in-Close c = rw c.in-Close.is (close-turn c.args.self.now c.notice-in-Close.new.self
+    c.act-reply.new.self c.fill-in-Close.new.self c.in-Close.slot _
+    c.notice-in-Close.ensures c.act-reply.ensures c.fill-in-Close.ensures)
+
 pub returns-in-Open : goal.returns-in-Open
 returns-in-Open c =
+    let k = c.args.self.now in
+    let l = c.carry_out.new.self in
+    let e = c.args.event.now in
     let step = c.carry_out.ensures in
-    rw c.in-Open.is (alone-turn c.args.self.now c.carry_out.new.self _ _ refl refl
-    (rw c.in-Open.is at step))
+    elim c.in-Open.is [
+      | inl o ↦ alone-like k l e (Open o.0 o.1 o.2 o.3) _ o.4 refl refl step
+      | inr p ↦ elim p [
+        | inl o ↦ alone-like k l e (Put o.0) _ o.1 refl refl step
+        | inr p ↦ elim p [
+          | inl o ↦ alone-like k l e (HangUp o.0) _ o.1 refl refl step
+          | inr p ↦ elim p [
+            | inl o ↦ alone-like k l e (Notice o.0) _ o.1 refl refl step
+            | inr o ↦ alone-like k l e (Finish o.0) _ o.1 refl refl step
+          ]
+        ]
+      ]
+    ]

@@ -1,0 +1,37 @@
+//! Of lq_board: the words.
+use crate::changes::lawful;
+use lq_board::{Board, Keeper, Seat};
+use lq_value::Refusal;
+use lq_volume::Volume;
+use std::alloc::Global;
+use std::test::Fail;
+
+// What is added, what a seat then sees, how often a slot's seat asked, what both meet, and the end.
+fn words(alloc: Global) -> Result<[u64; 6], Refusal> {
+    let volume = Volume::new(alloc, 9);
+    let change = lawful(alloc, &volume, "a")?;
+    let (board, mut keeper): (Board<u64>, Keeper<u64>) = Board::new(alloc, &volume)?;
+    let mut seat: Seat<u64> = board.seat(&mut keeper);
+    let mut slot_seat = board.slot_seat(&mut keeper, 1);
+    let added = board.add(&mut keeper, &change);
+    let latest = board.latest(&mut seat);
+    board.ask(&mut slot_seat);
+    let asks = board.asks(&mut keeper, 1);
+    let met = board.meet(&mut keeper, &mut seat);
+    let slot_met = board.meet_slot(&mut keeper, &mut slot_seat);
+    board.join(&mut keeper, slot_seat);
+    Ok([
+        added,
+        latest,
+        asks,
+        met,
+        slot_met,
+        board.close_with(keeper, seat),
+    ])
+}
+
+#[test]
+fn the_words_of_a_board_are_counted(rt: HostRuntime) -> Result<(), Fail> {
+    assert!(rt; words(rt.alloc())? == [1, 1, 1, 1, 1, 1]);
+    Ok(())
+}

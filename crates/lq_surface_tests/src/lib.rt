@@ -1,0 +1,29 @@
+//! Each public call of the nine crates, from its home and with its signature, once where it answers
+//! what was asked for; and the refusals that cost little. A module for each crate. No other crate of
+//! the repository is named here.
+#![tactic(auto)]
+
+#[cfg(test)]
+mod boards;
+#[cfg(test)]
+mod changes;
+#[cfg(test)]
+mod desks;
+#[cfg(test)]
+mod devices;
+#[cfg(test)]
+mod ports;
+#[cfg(test)]
+mod predicates;
+#[cfg(test)]
+mod scripts;
+#[cfg(test)]
+mod servers;
+#[cfg(test)]
+mod subs;
+#[cfg(test)]
+mod updates;
+#[cfg(test)]
+mod values;
+#[cfg(test)]
+mod volumes;

@@ -1,0 +1,105 @@
+//! Of lq_predicate: formulas, their truth, and predicates from pushes.
+ghost use Rattle.std.specs.Prelude.{Some};
+ghost use Rattle.lq_value.specs.Held.{Number};
+
+use lq_predicate::{Predicate, Row, Stack, StackOp, holds, names, read, write};
+use lq_value::{AttrName, Refusal, View};
+use std::alloc::Global;
+use std::test::Fail;
+
+#[test]
+fn a_formula_is_read_copied_and_written(rt: HostRuntime) -> Result<(), Fail> {
+    let predicate: Predicate = read(rt.alloc(), "b=1&&!(a>2||b=3)")?;
+    let copy = predicate.copy()?;
+    let text = write(rt.alloc(), &copy)?;
+    assert!(rt; text.as_str() == "((b==\"1\")&&!((a>\"2\")||(b==\"3\")))");
+    Ok(())
+}
+
+#[test]
+fn a_formula_is_refused_at_its_fault(rt: HostRuntime) -> Result<(), Fail> {
+    let refused = read(rt.alloc(), "size>").err();
+    assert!(rt; refused == Some(Refusal::BadQuery { place: 5 }));
+    Ok(())
+}
+
+#[test]
+fn each_attribute_is_named_once(rt: HostRuntime) -> Result<(), Fail> {
+    let predicate = read(rt.alloc(), "b=1&&!(a>2||b=3)")?;
+    let attrs = names(rt.alloc(), &predicate)?;
+    let is_right = match attrs.as_slice() {
+        [one, two] => one.as_str() == "b" && two.as_str() == "a",
+        _ => false,
+    };
+    assert!(rt; is_right);
+    Ok(())
+}
+
+// A row that shows one number under every name.
+struct Same(i32);
+
+impl Row for Same {
+    ghost looks = { λ row _. Some (Number row.0) };
+
+    fn look(&self, attr: &AttrName) -> Option<View<'_>> {
+        let _ = attr;
+        Some(View::Int32(self.0))
+    }
+}
+
+#[test]
+fn a_predicate_holds_of_a_row(rt: HostRuntime) -> Result<(), Fail> {
+    let predicate = read(rt.alloc(), "a>9&&b=1*||c!=10")?;
+    assert!(rt; holds(&predicate, &Same(11)));
+    assert!(rt; !holds(&predicate, &Same(10)));
+    Ok(())
+}
+
+// The canonical text of a comparison of `a` with what is pushed by a call.
+fn compared(alloc: Global, number: u64, op: StackOp) -> Result<String, Refusal> {
+    let mut stack = Stack::new(alloc);
+    stack.push_attr("a")?;
+    match number {
+        1 => stack.push_text("t*")?,
+        2 => stack.push_int32(-2)?,
+        3 => stack.push_int64(-3)?,
+        4 => stack.push_uint32(4)?,
+        _ => stack.push_uint64(5)?,
+    }
+    stack.push_op(op)?;
+    let predicate = stack.finish()?;
+    write(alloc, &predicate)
+}
+
+// a call, an operator, the text
+const COMPARISONS: [(u64, StackOp, &str); 9] = [
+    (1, StackOp::Eq, "(a==\"t*\")"),
+    (1, StackOp::Contains, "(a==\"*t\\**\")"),
+    (1, StackOp::BeginsWith, "(a==\"t\\**\")"),
+    (1, StackOp::EndsWith, "(a==\"*t\\*\")"),
+    (2, StackOp::Ne, "(a!=\"-2\")"),
+    (3, StackOp::Lt, "(a<\"-3\")"),
+    (4, StackOp::Le, "(a<=\"4\")"),
+    (5, StackOp::Gt, "(a>\"5\")"),
+    (5, StackOp::Ge, "(a>=\"5\")"),
+];
+
+#[test]
+fn each_value_is_pushed(rt: HostRuntime) -> Result<(), Fail> {
+    for (number, op, text) in &COMPARISONS {
+        if compared(rt.alloc(), *number, *op)?.as_str() != *text {
+            return Err(Fail::from(*text));
+        }
+    }
+    Ok(())
+}
+
+#[test]
+fn a_push_that_does_not_fit_is_refused(rt: HostRuntime) -> Result<(), Fail> {
+    let mut stack = Stack::new(rt.alloc());
+    assert!(rt; stack.finish().err() == Some(Refusal::BadQuery { place: 0 }));
+    assert!(rt; stack.push_attr("").err() == Some(Refusal::BadQuery { place: 0 }));
+    stack.push_attr("a")?;
+    assert!(rt; stack.push_op(StackOp::Not).err() == Some(Refusal::BadQuery { place: 1 }));
+    Ok(())
+}

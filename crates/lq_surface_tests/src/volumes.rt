@@ -1,0 +1,122 @@
+//! Of lq_volume: the tree, its changes and the static query.
+use crate::changes::{create, rename, set, unset};
+use lq_predicate::read;
+use lq_value::{AttrName, Kind, Name, Refusal, Value, View};
+use lq_volume::{Applied, Change, EntryRef, Listing, Volume};
+use std::alloc::Global;
+use std::test::Fail;
+
+// A volume with a file `a` at node 2, whose `x` is 7.
+fn volume(alloc: Global) -> Result<Volume, Refusal> {
+    let mut volume = Volume::new(alloc, 9);
+    volume.apply(&create(alloc, "a")?)?;
+    volume.apply(&set(alloc, 2, Value::Int32(7))?)?;
+    Ok(volume)
+}
+
+// Each kind of change, all accepted by that volume.
+fn changes(alloc: Global) -> Result<[Change; 5], Refusal> {
+    Ok([
+        Change::Write {
+            node: 2,
+            size: 9,
+            time: 6,
+        },
+        unset(alloc, 2)?,
+        rename(alloc, 2, "b")?,
+        set(alloc, 2, Value::text(alloc, "q")?)?,
+        Change::Remove { node: 2 },
+    ])
+}
+
+#[test]
+fn changes_are_checked_and_applied(rt: HostRuntime) -> Result<(), Fail> {
+    let mut volume = volume(rt.alloc())?;
+    for (place, change) in changes(rt.alloc())?.iter().enumerate() {
+        let checked: Applied = volume.check(change)?;
+        let applied = volume.apply(change)?;
+        if checked.change != place as u64 + 3
+            || checked.node != 2
+            || applied.change != checked.change
+            || applied.node != 2
+        {
+            return Err(Fail::from(place));
+        }
+    }
+    assert!(rt; volume.changes() == 7 && volume.limit() == 9);
+    Ok(())
+}
+
+#[test]
+fn a_refused_change_is_none(rt: HostRuntime) -> Result<(), Fail> {
+    let mut volume = volume(rt.alloc())?;
+    let again = create(rt.alloc(), "a")?;
+    assert!(rt; volume.check(&again).err() == Some(Refusal::Exists));
+    assert!(rt; volume.apply(&again).err() == Some(Refusal::Exists));
+    assert!(rt; volume.copy()?.changes() == 2);
+    Ok(())
+}
+
+// Whether this is the file.
+fn is_file(alloc: Global, entry: EntryRef<'_>) -> Result<bool, Refusal> {
+    let attr = AttrName::read(alloc, "x")?;
+    let is_set = matches!(entry.attr(&attr), Some(View::Int32(7)));
+    let is_first = match entry.attr_at(0) {
+        Some((name, View::Int32(7))) => *name == attr,
+        _ => false,
+    };
+    let has_all = is_set && is_first && entry.attr_count() == 1;
+    Ok(has_all && entry.attr_at(1).is_none())
+}
+
+#[test]
+fn an_entry_is_shown(rt: HostRuntime) -> Result<(), Fail> {
+    let volume = volume(rt.alloc())?;
+    let entry = volume.entry(2)?;
+    assert!(rt; entry.dir() == 1 && entry.name().as_str() == "a");
+    assert!(rt; entry.kind() == Kind::File && entry.size() == 7 && entry.time() == 5);
+    assert!(rt; is_file(rt.alloc(), entry)?);
+    assert!(rt; volume.entry(9).err() == Some(Refusal::NoNode));
+    assert!(rt; volume.entry(1).err() == Some(Refusal::NoEntry));
+    Ok(())
+}
+
+#[test]
+fn an_entry_is_found_and_listed(rt: HostRuntime) -> Result<(), Fail> {
+    let volume = volume(rt.alloc())?;
+    assert!(rt; volume.find(1, &Name::read(rt.alloc(), "a")?)? == 2);
+    let listing: Listing = volume.listing(2)?;
+    assert!(rt; listing.dir == 1 && listing.name.as_str() == "a" && listing.kind == Kind::File);
+    assert!(rt; listing.size == 7 && listing.time == 5 && listing.attrs.len() == 1);
+    assert!(rt; volume.listing(9).err() == Some(Refusal::NoNode));
+    Ok(())
+}
+
+#[test]
+fn what_is_not_there_is_not_found(rt: HostRuntime) -> Result<(), Fail> {
+    let volume = volume(rt.alloc())?;
+    let name = Name::read(rt.alloc(), "b")?;
+    for (dir, refusal) in [
+        (9, Refusal::NoNode),
+        (2, Refusal::NotFolder),
+        (1, Refusal::NoEntry),
+    ] {
+        if volume.find(dir, &name).err() != Some(refusal) {
+            return Err(Fail::from(dir));
+        }
+    }
+    Ok(())
+}
+
+#[test]
+fn entries_are_fetched_by_a_predicate(rt: HostRuntime) -> Result<(), Fail> {
+    let volume = volume(rt.alloc())?;
+    let entries = volume.fetch(&read(rt.alloc(), "x=7&&name=a")?)?;
+    let is_right = match entries.as_slice() {
+        [entry] => entry.dir == 1 && entry.name.as_str() == "a" && entry.node == 2,
+        _ => false,
+    };
+    assert!(rt; is_right);
+    assert!(rt; volume.fetch(&read(rt.alloc(), "x>7")?)?.is_empty());
+    Ok(())
+}

@@ -1,0 +1,42 @@
+"""Whether lq has what is on disk, and the window what lq has."""
+from .disk import look_below
+from .mirror import ROOT
+from .names import printable, to_text
+
+
+def is_same(mirror, window, say):
+    """Compares each entry by `entry` alone, and the window with `fetch` and `result`; says what differs."""
+    server = mirror.server
+    held = entries_of(server)
+    disk = {to_text(path): seen and seen[2:] for path, seen in look_below(mirror.root.name).items()}
+    wrong = [path for path in sorted({*held, *disk}) if held.get(path) != disk.get(path)]
+
+    fetched = server.ask("fetch", query=window.formula)["result"]
+    result = server.ask("result", slot=window.slot)["result"]
+    rows = {row["node"]: (row["dir"], row["name"]) for row in fetched}
+    is_same_window = fetched == result and window.rows == rows
+
+    say(f"{len(disk)} entries on disk, {len(wrong)} differ; "
+        f"window of {len(fetched)} entries after {window.told} messages: "
+        f"{'the same' if is_same_window else 'DIFFERS'}; {server.refused} lines refused")
+    for path in wrong[:9]:
+        say(printable(f"{path}: lq has {held.get(path)}, on disk {disk.get(path)}"))
+    return is_same_window and not wrong
+
+
+def entries_of(server):
+    """Size, time and attributes of each entry that lq has, by its path from the root."""
+    nodes = [row["node"] for row in server.ask("fetch", query="name==*")["result"]]
+    entries = {node: server.ask("entry", node=node) for node in nodes}
+
+    def path(entry):
+        names = [entry["name"]]
+        while entry["dir"] != ROOT:
+            entry = entries[entry["dir"]]
+            names.append(entry["name"])
+        return "/" + "/".join(reversed(names))
+
+    def attrs(entry):
+        return {attr["name"]: (attr["type"], attr["value"]) for attr in entry["attrs"]}
+
+    return {path(it): (it["size"], it["time"], attrs(it)) for it in entries.values()}

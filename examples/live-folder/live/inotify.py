@@ -1,0 +1,46 @@
+"""The system's inotify by ctypes: a watch for each folder, and the names that changed there."""
+import ctypes, errno, os, struct
+
+from . import ENDED, UNUSABLE, Trouble
+from .disk import within_reach
+
+MODIFY, ATTRIB, CLOSE_WRITE, MOVED_FROM, MOVED_TO, CREATE, DELETE = 0x2, 0x4, 0x8, 0x40, 0x80, 0x100, 0x200
+OVERFLOW, IGNORED = 0x4000, 0x8000  # events were lost; a watch has ended
+ONLY_FOLDERS, NO_LINKS = 0x1000000, 0x2000000
+WATCHED = MODIFY | ATTRIB | CLOSE_WRITE | MOVED_FROM | MOVED_TO | CREATE | DELETE
+HEAD = struct.Struct("iIII")  # an event's watch, what it is, a cookie, the size of the name after it
+
+libc = ctypes.CDLL(None, use_errno=True)
+
+
+class Inotify:
+    def __init__(self):
+        self.fd = libc.inotify_init1(os.O_NONBLOCK | os.O_CLOEXEC)
+        if self.fd < 0:
+            raise Trouble(f"inotify: {os.strerror(ctypes.get_errno())}", UNUSABLE)
+
+    def watch(self, path):
+        """The number of a watch on a folder, or None where there is no folder that can be watched."""
+        try:
+            with within_reach(path) as path:
+                watch = libc.inotify_add_watch(self.fd, path, WATCHED | ONLY_FOLDERS | NO_LINKS)
+        except OSError:
+            return None
+        if watch < 0 and ctypes.get_errno() == errno.ENOSPC:
+            raise Trouble("no watches are left: see /proc/sys/fs/inotify/max_user_watches", ENDED)
+        return watch if watch >= 0 else None
+
+    def unwatch(self, watch):
+        libc.inotify_rm_watch(self.fd, watch)
+
+    def events(self):
+        """What happened since the last call, as a watch, what it was, and a name or b""."""
+        try:
+            data = os.read(self.fd, 1 << 20)
+        except BlockingIOError:
+            return
+        at = 0
+        while at < len(data):
+            watch, what, _, size = HEAD.unpack_from(data, at)
+            at += HEAD.size + size
+            yield watch, what, data[at - size : at].rstrip(b"\0")

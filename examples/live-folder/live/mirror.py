@@ -1,0 +1,176 @@
+"""The folder on disk as entries of lq: each name that changes is looked at, and sent as changes."""
+import collections, os
+
+from . import ENDED, UNUSABLE, Trouble
+from .disk import identity, look, names_in
+from .inotify import IGNORED, OVERFLOW, Inotify
+from .names import printable, to_text
+
+ROOT = 1  # the node of the folder that is followed
+
+
+class Entry:
+    """One entry: its node, its place, what was seen there; of a folder what is inside, and its watch."""
+
+    def __init__(self, node, folder, name, seen):
+        self.node, self.folder, self.name, self.seen = node, folder, name, seen
+        self.is_folder = seen.kind == "folder"
+        self.inside, self.watch = {}, None
+
+    def way(self):
+        """The root, and each entry that leads from there to this one."""
+        way = [self]
+        while way[-1].folder:
+            way.append(way[-1].folder)
+        return way[::-1]
+
+    def path(self):
+        return b"/".join(entry.name for entry in self.way()) or b"/"
+
+    def is_there(self):
+        return identity(self.path()) == self.seen.id
+
+
+class Mirror:
+    """A folder on disk and what lq has of it; `changed` has the names that are to be looked at."""
+
+    def __init__(self, server, folder, path):
+        """A folder under the name that it was given, and its real path."""
+        self.server, self.change, self.given = server, server.change, folder.rstrip(b"/")
+        self.inotify = Inotify()
+        self.nodes, self.by_watch, self.by_id = {}, {}, collections.defaultdict(dict)
+        self.changed = {}
+        self.has_moved = False  # whether a folder has moved; who has used that sets it back
+        self.root = self.nodes[ROOT] = Entry(ROOT, None, path.rstrip(b"/"), look(path))
+        self.list(self.root)
+        self.settle()
+
+    def shown(self, folder, name):
+        """The path of a name in a folder's node, for people. It begins with the folder as it was given."""
+        names = [self.given, *(entry.name for entry in self.nodes[folder].way()[1:])]
+        path = "/".join([*map(to_text, names), name])
+        return printable(path.replace("\\", "\\\\"))
+
+    def list(self, folder):
+        """Watches a folder and only then lists it, so that no name is missed."""
+        folder.watch = self.inotify.watch(folder.path())
+        names = names_in(folder.path())
+        if folder is not self.root and not folder.is_there():  # it moved meanwhile: later again
+            folder.watch = None
+            self.changed[folder.folder, folder.name] = None
+        elif folder.watch is not None:
+            self.by_watch[folder.watch] = folder
+        self.changed.update({(folder, name): None for name in {*names, *folder.inside}})
+
+    def turn(self):
+        """Carries out what has changed on disk since the last turn."""
+        for watch, what, name in self.inotify.events():
+            folders = [*self.nodes.values()] if what & OVERFLOW else [self.by_watch.get(watch)]
+            for folder in filter(None, folders):
+                if name:
+                    self.changed[folder, name] = None
+                elif folder.is_folder and what & (OVERFLOW | IGNORED):
+                    self.list(folder)
+        self.settle()
+        if not self.root.is_there():
+            given = printable(to_text(self.given))
+            raise Trouble(f"{given} was moved or removed, so it isn't followed any more", ENDED)
+
+    def settle(self):
+        """First all that is there, so that a move is met before its old place is found empty; then what is
+        gone. A name in a folder that isn't where it was waits for the event that says where that is."""
+        before, gone = None, {}
+        while before != self.changed.keys():
+            before, self.changed, gone = self.changed.keys(), {}, {}
+            for folder, name in filter(self.is_known, before):
+                there = folder.is_there()
+                seen = look(os.path.join(folder.path(), name)) if there else None
+                if seen:
+                    self.meet(folder, name, seen)
+                else:
+                    gone[folder, name] = there
+            self.changed.update(gone)
+        self.changed = {place: None for place, there in gone.items() if not there}
+        for folder, name in [place for place, there in gone.items() if there]:
+            if self.is_known((folder, name)) and name in folder.inside:
+                self.remove(folder.inside[name])
+
+    def is_known(self, place):
+        folder, _ = place
+        return self.nodes.get(folder.node) is folder
+
+    def meet(self, folder, name, seen):
+        """What is known at a name becomes what was seen there: the same entry, one that moved, or a new one."""
+        known = folder.inside.get(name)
+        if known and known.seen.id == seen.id:
+            return self.update(known, seen)
+        entry = next((it for it in self.by_id[seen.id] if not it.is_there()), None)
+        if known and (not entry or entry.is_folder or known.is_folder):
+            self.remove(known)
+        if not (entry and entry.node in self.nodes and self.move(entry, folder, name)):
+            entry = self.create(folder, name, seen)
+        if entry:
+            folder.inside[name] = entry
+            self.update(entry, seen)
+
+    def move(self, entry, folder, name):
+        """Moves an entry; whether lq did. A file that has the name is replaced."""
+        if not self.change("move", node=entry.node, dir=folder.node, name=to_text(name), clobber=True):
+            return False
+        if name in folder.inside:
+            self.remove(folder.inside[name], is_told=True)
+        del entry.folder.inside[entry.name]
+        entry.folder, entry.name, entry.watch = folder, name, None
+        self.has_moved |= entry.is_folder
+        return True
+
+    def create(self, folder, name, seen):
+        """A new entry, or None where lq refuses its name."""
+        kind = "folder" if seen.kind == "folder" else "file"
+        place = {"dir": folder.node, "name": to_text(name)}
+        node = self.change("create", **place, kind=kind, size=seen.size, time=seen.time)
+        if not node:
+            return None
+        entry = self.nodes[node] = Entry(node, folder, name, seen._replace(attrs={}))
+        self.by_id[seen.id][entry] = None
+        return entry
+
+    def update(self, entry, seen):
+        """Sends what differs from what was seen before."""
+        old, entry.seen, node = entry.seen, seen, entry.node
+        if (old.size, old.time) != (seen.size, seen.time):
+            self.change("write", node=node, size=seen.size, time=seen.time)
+        for attr in old.attrs.keys() - seen.attrs.keys():
+            self.change("unset", node=node, attr=attr)
+        for attr, (kind, value) in seen.attrs.items() - old.attrs.items():
+            self.change("set", node=node, attr=attr, type=kind, value=value)
+        # an event names one link of a file: the others are looked at too
+        links = [link for link in self.by_id[seen.id] if link.seen != seen]
+        self.changed.update({(link.folder, link.name): None for link in links})
+        if entry.is_folder and entry.watch is None:
+            self.list(entry)
+
+    def remove(self, entry, is_told=False):
+        """Drops an entry and all that is inside, the innermost first; lq may have been told."""
+        doomed = [entry]
+        for folder in doomed:
+            doomed += folder.inside.values()
+        for it in reversed(doomed):
+            if not is_told:
+                self.change("remove", node=it.node)
+            del self.nodes[it.node], self.by_id[it.seen.id][it], it.folder.inside[it.name]
+            if not self.by_id[it.seen.id]:
+                del self.by_id[it.seen.id]
+            if self.by_watch.get(it.watch) is it:
+                del self.by_watch[it.watch]
+                self.inotify.unwatch(it.watch)
+
+
+def real_path(folder):
+    """The path of a folder that was given, which may be a link to one."""
+    path = os.path.realpath(folder)
+    try:
+        os.scandir(path).close()
+    except OSError as error:
+        raise Trouble(f"{printable(to_text(folder))}: {error.strerror}", UNUSABLE) from None
+    return path

@@ -1,0 +1,267 @@
+"""Windows as a page, for the browsers of this machine alone.
+
+All open pages share the windows. A page takes its events from /events: `hello` with all windows, then `open`,
+`update` and `close` of one window, and `end`. It sends a formula to /open and the number of a window to
+/close.
+"""
+import collections, contextlib, http.server, itertools, json, os, queue, sys, threading
+
+from . import UNUSABLE, Trouble
+from .names import printable, to_text
+from .server import Refused
+
+ADDRESS = "127.0.0.1"
+ROWS = 1000  # rows of a window that pages show; the others are counted
+MESSAGES = 50  # messages of a window that pages show, the latest ones
+PAGES = 32  # pages at once
+WAITING = 1000  # events that wait for a page; one that is slower begins anew
+BODY = 16384  # bytes that a page may send
+SECONDS = 10  # how long a browser may take to send or take something
+
+FOLDER = os.path.join(os.path.dirname(os.path.realpath(__file__)), "page")
+FILES = {
+    "/": ("page.html", "text/html"),
+    "/page.css": ("page.css", "text/css"),
+    "/page.js": ("page.js", "text/javascript"),
+}
+HEADERS = {
+    "Cache-Control": "no-store",
+    "Content-Security-Policy": "default-src 'none'; script-src 'self'; style-src 'self'; connect-src 'self'; "
+    "img-src data:; base-uri 'none'; form-action 'none'; frame-ancestors 'none'",
+    "Cross-Origin-Resource-Policy": "same-origin",
+    "Referrer-Policy": "no-referrer",
+    "X-Content-Type-Options": "nosniff",
+}
+
+
+class Pane:
+    """A window as pages show it: `paths` has the path of each row by node."""
+
+    def __init__(self, mirror, formula, numbers):
+        self.mirror, self.fresh, self.latest = mirror, [], collections.deque(maxlen=MESSAGES)
+        self.window = mirror.server.open(formula, self.hear)
+        self.number = next(numbers)
+        self.paths = {}
+        self.paths = self.new_paths()
+
+    def hear(self, _, __, line):
+        self.fresh.append(line)
+        self.latest.append(line)
+
+    def new_paths(self):
+        """The paths as they are now: of the rows that stay, and of others as far as there is room."""
+        rows = self.window.rows
+        stay = [node for node in self.paths if node in rows]
+        come = itertools.islice((node for node in rows if node not in self.paths), ROWS - len(stay))
+        return {node: self.mirror.shown(*rows[node]) for node in [*stay, *come]}
+
+    def counts(self):
+        return {"window": self.number, "count": len(self.window.rows), "told": self.window.told}
+
+    def whole(self):
+        shown = {"formula": self.window.formula, "rows": self.paths, "messages": [*self.latest]}
+        return {**self.counts(), **shown}
+
+    def update(self):
+        """What has changed since the last call: a row that has gone has the path None."""
+        old, self.paths = self.paths, self.new_paths()
+        rows = {node: self.paths.get(node) for node in {*old, *self.paths}
+                if self.paths.get(node) != old.get(node)}
+        messages, self.fresh = self.fresh[-MESSAGES:], []
+        return {**self.counts(), "rows": rows, "messages": messages}
+
+
+class Site:
+    """The windows and the pages that show them. The lock is held by whoever talks to lq."""
+
+    def __init__(self, mirror, port, formulas):
+        self.mirror, self.lock = mirror, threading.Lock()
+        self.panes, self.pages, self.numbers = {}, {}, itertools.count(1)
+        self.files = {path: (read_file(name), kind) for path, (name, kind) in FILES.items()}
+        for formula in formulas:
+            self.open(formula)
+        try:
+            self.http = Http((ADDRESS, port), Request)
+        except OSError as error:
+            raise Trouble(f"port {port}: {error.strerror}", UNUSABLE) from None
+        self.http.site, self.port = self, self.http.server_port
+        self.hosts = {f"{name}:{self.port}" for name in (ADDRESS, "localhost")}
+
+    def __enter__(self):
+        threading.Thread(target=self.http.serve_forever, daemon=True).start()
+        return self
+
+    def __exit__(self, kind, error, trace):
+        """Tells the pages why this ends, and gives them a second to take it."""
+        with self.lock:
+            self.tell("end", error=str(error))
+            for events in self.pages:
+                events.put(None)
+            threads = [*self.pages.values()]
+        for thread in threads:
+            thread.join(1)
+
+    def turn(self):
+        """Carries out what has changed on disk, and tells the pages."""
+        with self.lock:
+            self.mirror.has_moved = False
+            self.mirror.turn()
+            self.mirror.server.read()
+            for pane in self.panes.values():
+                if pane.fresh or self.mirror.has_moved:
+                    self.tell("update", **pane.update())
+
+    def open(self, formula):
+        with self.lock:
+            pane = Pane(self.mirror, formula, self.numbers)
+            self.panes[pane.number] = pane
+            self.tell("open", **pane.whole())
+            return {"window": pane.number}
+
+    def close(self, number):
+        """Closes a window, so that another can have its slot; None where no window has this number."""
+        with self.lock:
+            pane = self.panes.pop(number, None)
+            if not pane:
+                return None
+            self.mirror.server.close(pane.window)
+            self.tell("close", window=number)
+            return {"window": number}
+
+    def tell(self, event, **data):
+        """Hands an event to every page. A page for which too much waits already is let go."""
+        for events in [*self.pages]:
+            events.put(as_event(event, data))
+            if events.qsize() > WAITING:
+                del self.pages[events]
+                events.put(None)
+
+    @contextlib.contextmanager
+    def page(self):
+        """The queue of a page's events, from a `hello` to None; or None where there are too many pages."""
+        events = queue.SimpleQueue()
+        with self.lock:
+            if len(self.pages) == PAGES:
+                events = None
+            else:
+                windows = [pane.whole() for pane in self.panes.values()]
+                folder = printable(to_text(self.mirror.given or b"/"))
+                events.put(as_event("hello", {"folder": folder, "windows": windows}))
+                self.pages[events] = threading.current_thread()
+        try:
+            yield events
+        finally:
+            with self.lock:
+                self.pages.pop(events, None)
+
+
+class Http(http.server.ThreadingHTTPServer):
+    def handle_error(self, request, client_address):
+        """A browser that goes away while it is answered is no fault."""
+        if not isinstance(sys.exc_info()[1], OSError):
+            super().handle_error(request, client_address)
+
+
+class Request(http.server.BaseHTTPRequestHandler):
+    timeout, server_version, sys_version = SECONDS, "live_folder", ""
+
+    def parse_request(self):
+        if not super().parse_request():
+            return False
+        if not self.is_ours():
+            self.answer(403, {"error": "only for this machine's own page"})
+            return False
+        return True
+
+    def is_ours(self):
+        """Whether it was sent to this site by name, and by a page of this site where it was a page.
+
+        A page of another host can have a name of its own lead here: then Host has that name. What it sends
+        to this site's name has its own Origin or, where a browser sends none, is said to be from another site.
+        """
+        hosts = self.headers.get_all("Host", [])
+        if len(hosts) != 1 or hosts[0].lower() not in self.server.site.hosts:
+            return False
+        origins = self.headers.get_all("Origin", [])
+        site = self.headers.get("Sec-Fetch-Site", "none")
+        is_own = all(origin == f"http://{hosts[0].lower()}" for origin in origins)
+        return is_own and (site in ("none", "same-origin") or self.path == "/")
+
+    def do_GET(self):
+        if self.path == "/events":
+            self.send_events()
+        elif self.path in self.server.site.files:
+            body, kind = self.server.site.files[self.path]
+            self.send(200, kind, body)
+        else:
+            self.answer(404, {"error": "no such page"})
+
+    def do_POST(self):
+        site = self.server.site
+        acts = {"/open": (site.open, "formula", str), "/close": (site.close, "window", int)}
+        if self.path not in acts:
+            return self.answer(404, {"error": "no such page"})
+        act, field, kind = acts[self.path]
+        value = self.body().get(field)
+        if type(value) is not kind:
+            return self.answer(400, {"error": f"a {field} is wanted"})
+        try:
+            reply = act(value)
+        except Refused as refused:
+            return self.answer(400, refused.reply)
+        except Trouble as trouble:
+            return self.answer(503, {"error": str(trouble)})
+        self.answer(200 if reply else 404, reply or {"error": "no such window"})
+
+    def body(self):
+        """The object that was sent, or an empty one. Other pages can't send JSON unasked."""
+        size = self.headers.get("Content-Length", "")
+        if self.headers.get_content_type() != "application/json" or not size.isdecimal() or int(size) > BODY:
+            return {}
+        try:
+            body = json.loads(self.rfile.read(int(size)))
+        except (ValueError, RecursionError):
+            return {}
+        return body if isinstance(body, dict) else {}
+
+    def send_events(self):
+        with self.server.site.page() as events:
+            if not events:
+                return self.answer(503, {"error": "too many pages are open"})
+            self.send_head(200, "text/event-stream")
+            while True:
+                try:
+                    event = events.get(timeout=SECONDS)
+                except queue.Empty:
+                    event = b": nothing new\n\n"  # a page that has gone is found out so
+                if event is None:
+                    return None
+                self.wfile.write(event)
+
+    def answer(self, status, reply):
+        self.send(status, "application/json", json.dumps(reply).encode())
+
+    def send(self, status, kind, body):
+        self.send_head(status, kind, len(body))
+        self.wfile.write(body)
+
+    def send_head(self, status, kind, size=None):
+        self.send_response(status)
+        self.send_header("Content-Type", f"{kind}; charset=utf-8")
+        if size is not None:
+            self.send_header("Content-Length", str(size))
+        for name, value in HEADERS.items():
+            self.send_header(name, value)
+        self.end_headers()
+
+    def log_message(self, *_):
+        """Nothing: the terminal has other uses."""
+
+
+def as_event(event, data):
+    return f"event: {event}\ndata: {json.dumps(data)}\n\n".encode()
+
+
+def read_file(name):
+    with open(os.path.join(FOLDER, name), "rb") as file:
+        return file.read()
