@@ -12,6 +12,7 @@ import browser
 HERE = os.path.dirname(os.path.realpath(__file__))
 LIVE = os.path.join(HERE, "live_folder")
 LQ = os.path.realpath(os.environ.get("LQ") or os.path.join(HERE, "../../lq"))
+LONG = b"\xff" * 200  # a name that is too long as a text
 SECONDS = 20  # until something that has to come is missed
 
 
@@ -35,6 +36,10 @@ class Case(unittest.TestCase):
     def write(self, name, size=0):
         with open(self.path(name), "wb") as file:
             file.write(b"x" * size)
+
+    def write_raw(self, name):
+        """An empty file under a name of any bytes."""
+        os.close(os.open(os.path.join(os.fsencode(self.folder), name), os.O_CREAT))
 
     def script(self, name, command):
         """The path of a shell script beside the folder."""
@@ -96,6 +101,7 @@ class Words(Case):
             self.assertIn("live_folder --web PORT FOLDER FORMULA..", error)
 
     def test_a_formula_that_is_refused(self):
+        self.write_raw(LONG)  # of which lq would say more, were it told of the folder first
         status, out, error = run("--check", "true", self.folder, "name==*&&size>")
         self.assert_said(status, error, 2, "name==*&&size>: BadQuery at byte 14")
         self.assertEqual(out, "")
@@ -106,7 +112,7 @@ class Words(Case):
             (self.folder, 2, "can't be run: Permission denied"),
             (self.script("cat", "exec cat"), 2, "isn't lq"),
             ("/bin/true", 3, "/bin/true ended with status 0"),
-            ("/bin/echo", 3, "isn't JSON"),
+            (self.script("echo", "read line; echo no"), 3, "isn't JSON"),
         ):
             seen, _, error = run(self.folder, "name==*", LQ=program)
             self.assert_said(seen, error, status, line)
@@ -128,15 +134,14 @@ class Ends(Case):
         live.stdout.readline()
         with open(number) as file:
             os.kill(int(file.read()), signal.SIGKILL)
-        self.assert_ends(live, 3, "ended by SIGKILL")
+        self.assert_ends(live, 3, "ended by signal 9")
 
     def test_the_reader_goes(self):
-        for has_more in (False, True):
-            self.write("a")
+        self.write("a")
+        for lines in 0, 1:
             live = self.start(self.folder, "name==*")
-            live.stdout.readline()
-            if has_more:
-                self.write("b")
+            for _ in range(lines):
+                live.stdout.readline()
             live.stdout.close()
             self.assert_ends(live, 141)
             live.stdout = open(os.devnull)
@@ -170,7 +175,7 @@ class Names(Case):
     def test_nothing_raw_goes_to_the_terminal(self):
         names = [b"\x1b[31mred", b"two\nlines", "\u202etxt.exe".encode(), b"\x9b1m", "\x9b1m".encode(), b"back\\x1b"]
         for name in names:
-            os.close(os.open(os.path.join(os.fsencode(self.folder), name), os.O_CREAT))
+            self.write_raw(name)
         status, out, _ = run("--check", "mv $F/red* $F/*red $F/b", self.folder, "name==*", F=self.folder)
         self.assertEqual(status, 1)  # no name begins with red
         shown = [line[len(f"= {self.folder}/"):] for line in out.splitlines() if line.startswith("=")]
@@ -178,7 +183,7 @@ class Names(Case):
             ["\\x1b[31mred", "two\\nlines", "\\u202etxt.exe", "\\x9b1m", "\\u009b1m", "back\\\\x1b"]))
 
     def test_a_name_that_lq_refuses(self):
-        os.close(os.open(os.path.join(os.fsencode(self.folder), b"\xff" * 200), os.O_CREAT))
+        self.write_raw(LONG)
         status, out, error = run("--check", "true", self.folder, "name==*")
         self.assert_said(status, error, 1, "live_folder: lq refused create")
         self.assertIn("1 entries on disk, 1 differ", out)
@@ -195,10 +200,14 @@ class Names(Case):
 
     def test_folders_a_thousand_deep(self):
         deep = "import os\nfor _ in range(1200): os.mkdir('d'); os.chdir('d')\nopen('a.txt', 'w')"
-        command = f'cd $F; {sys.executable} -c "{deep}"; mv d e; sleep 0.1; rm -r e/d/d'
-        status, out, error = run("--check", command, self.folder, "name==*.txt", F=self.folder)
-        self.assertEqual((status, error), (0, ""))
-        self.assertRegex(out.splitlines()[-1], "^2 entries on disk, 0 differ; window of 0 entries after")
+        subprocess.run([sys.executable, "-c", deep], cwd=self.folder, check=True)
+        for command, line in (
+            ("mv $F/d $F/e", "1201 entries on disk, 0 differ; window of 1 entries after 0 messages"),
+            ("rm -r $F/e/d", "1 entries on disk, 0 differ; window of 0 entries after 1 messages"),
+        ):
+            status, out, error = run("--check", command, self.folder, "name==*.txt", F=self.folder)
+            self.assertEqual((status, error), (0, ""))
+            self.assertIn(line, out.splitlines()[-1])
 
 
 class Page:
@@ -215,8 +224,8 @@ class Page:
         """Carries out the next event."""
         event, data = None, None
         while not (line := self.response.readline().decode()) == "\n" or not event:
-            if not line:
-                raise EOFError
+            if not line or line.startswith(":"):
+                raise EOFError("no event has come")
             field, _, value = line.rstrip("\n").partition(": ")
             event, data = (value, data) if field == "event" else (event, value)
         data = json.loads(data)
@@ -258,14 +267,14 @@ class Web(Case):
         return page
 
     def ask(self, method, path, body=None, **headers):
-        """Status and body of a reply."""
+        """Status and body of a reply; events have no length, and aren't read here."""
         connection = http.client.HTTPConnection("127.0.0.1", self.port, timeout=SECONDS)
         with contextlib.closing(connection):
             kind = {"Content-Type": "application/json"} if body is not None else {}
             headers = {name.replace("_", "-"): value for name, value in headers.items()}
             connection.request(method, path, body, {**kind, **headers})
             reply = connection.getresponse()
-            return reply.status, reply.read().decode()
+            return reply.status, "" if reply.length is None else reply.read().decode()
 
     def post(self, path, **body):
         status, reply = self.ask("POST", path, json.dumps(body))
@@ -304,8 +313,7 @@ class Web(Case):
     def test_names_that_are_no_html_and_no_utf_8(self):
         page = self.begin("name==*")
         self.write("<b>&.txt")
-        with open(os.path.join(os.fsencode(self.folder), b"sch\xf6n\x1b"), "wb"):
-            pass
+        self.write_raw(b"sch\xf6n\x1b")
         self.assert_rows(page, ["<b>&.txt", "sch\\xf6n\\x1b"])
 
     def test_a_formula_is_opened_or_refused_and_a_window_closed(self):

@@ -40,7 +40,7 @@ class Mirror:
         self.inotify = Inotify()
         self.nodes, self.by_watch, self.by_id = {}, {}, collections.defaultdict(dict)
         self.changed = {}
-        self.has_moved = False  # whether a folder has moved; who has used that sets it back
+        self.has_moved = False  # whether a folder has moved in this turn
         self.root = self.nodes[ROOT] = Entry(ROOT, None, path.rstrip(b"/"), look(path))
         self.list(self.root)
         self.settle()
@@ -63,7 +63,8 @@ class Mirror:
         self.changed.update({(folder, name): None for name in {*names, *folder.inside}})
 
     def turn(self):
-        """Carries out what has changed on disk since the last turn."""
+        """Carries out what has changed on disk since the last turn; whether a folder has moved."""
+        self.has_moved = False
         for watch, what, name in self.inotify.events():
             folders = [*self.nodes.values()] if what & OVERFLOW else [self.by_watch.get(watch)]
             for folder in filter(None, folders):
@@ -75,6 +76,7 @@ class Mirror:
         if not self.root.is_there():
             given = printable(to_text(self.given))
             raise Trouble(f"{given} was moved or removed, so it isn't followed any more", ENDED)
+        return self.has_moved
 
     def settle(self):
         """First all that is there, so that a move is met before its old place is found empty; then what is

@@ -1,5 +1,5 @@
 """Talking to `lq run` over pipes: a line, then its reply; and windows, each with a live query."""
-import io, json, signal, subprocess, sys
+import io, json, subprocess, sys
 
 from . import ENDED, UNUSABLE, Trouble
 from .names import printable
@@ -51,9 +51,8 @@ class Server:
 
     def ended(self):
         """How lq ended."""
-        self.lq.stdin.close()
         status = self.lq.wait()
-        how = f"by {signal.Signals(-status).name}" if status < 0 else f"with status {status}"
+        how = f"by signal {-status}" if status < 0 else f"with status {status}"
         return Trouble(f"{self.program} ended {how}, so nothing is followed any more", ENDED)
 
     def test(self, formula):

@@ -1,6 +1,4 @@
 """One window as lines of text: what is there, and then each message."""
-import os, sys
-
 from . import ENDED, Trouble
 
 SIGNS = {"B_ENTRY_CREATED": "+", "B_ENTRY_REMOVED": "-", "B_ENTRY_MOVED": ">"}
@@ -11,13 +9,11 @@ class Unread(Exception):
 
 
 def say(line):
-    """Writes a line. Where that fails, nothing is left in the buffer that would fail again at the end."""
     try:
         print(line, flush=True)
+    except BrokenPipeError:
+        raise Unread() from None
     except OSError as error:
-        os.dup2(os.open(os.devnull, os.O_WRONLY), sys.stdout.fileno())
-        if isinstance(error, BrokenPipeError):
-            raise Unread() from None
         raise Trouble(f"standard output: {error.strerror}", ENDED) from None
 
 

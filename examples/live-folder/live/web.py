@@ -74,21 +74,17 @@ class Pane:
 class Site:
     """The windows and the pages that show them. The lock is held by whoever talks to lq."""
 
-    def __init__(self, mirror, port, formulas):
+    def __init__(self, http, mirror, formulas):
         self.mirror, self.lock = mirror, threading.Lock()
         self.panes, self.pages, self.numbers = {}, {}, itertools.count(1)
         self.files = {path: (read_file(name), kind) for path, (name, kind) in FILES.items()}
         for formula in formulas:
             self.open(formula)
-        try:
-            self.http = Http((ADDRESS, port), Request)
-        except OSError as error:
-            raise Trouble(f"port {port}: {error.strerror}", UNUSABLE) from None
-        self.http.site, self.port = self, self.http.server_port
-        self.hosts = {f"{name}:{self.port}" for name in (ADDRESS, "localhost")}
+        self.hosts = {f"{name}:{http.server_port}" for name in (ADDRESS, "localhost")}
+        http.site = self
+        threading.Thread(target=http.serve_forever, daemon=True).start()
 
     def __enter__(self):
-        threading.Thread(target=self.http.serve_forever, daemon=True).start()
         return self
 
     def __exit__(self, kind, error, trace):
@@ -104,11 +100,10 @@ class Site:
     def turn(self):
         """Carries out what has changed on disk, and tells the pages."""
         with self.lock:
-            self.mirror.has_moved = False
-            self.mirror.turn()
+            has_moved = self.mirror.turn()
             self.mirror.server.read()
             for pane in self.panes.values():
-                if pane.fresh or self.mirror.has_moved:
+                if pane.fresh or has_moved:
                     self.tell("update", **pane.update())
 
     def open(self, formula):
@@ -130,8 +125,9 @@ class Site:
 
     def tell(self, event, **data):
         """Hands an event to every page. A page for which too much waits already is let go."""
+        event = as_event(event, data)
         for events in [*self.pages]:
-            events.put(as_event(event, data))
+            events.put(event)
             if events.qsize() > WAITING:
                 del self.pages[events]
                 events.put(None)
@@ -156,6 +152,14 @@ class Site:
 
 
 class Http(http.server.ThreadingHTTPServer):
+    """What listens at a port of this machine, and has a thread for each request."""
+
+    def __init__(self, port):
+        try:
+            super().__init__((ADDRESS, port), Request)
+        except OSError as error:
+            raise Trouble(f"port {port}: {error.strerror}", UNUSABLE) from None
+
     def handle_error(self, request, client_address):
         """A browser that goes away while it is answered is no fault."""
         if not isinstance(sys.exc_info()[1], OSError):
