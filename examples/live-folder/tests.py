@@ -3,7 +3,7 @@
 
 LQ in the environment names another program than ../../lq.
 """
-import contextlib, http.client, json, os, signal, socket, subprocess, sys, tempfile, unittest
+import contextlib, http.client, json, os, signal, socket, struct, subprocess, sys, tempfile, unittest
 
 sys.dont_write_bytecode = True
 
@@ -100,14 +100,23 @@ class Words(Case):
         for name, line in (
             ("none", "folder/none: No such file"),
             ("file", "folder/file: Not a directory"),
+            ("n" * 300, "n: File name too long"),
             ("\x1b[1m", "folder/\\x1b[1m: No such file"),
         ):
             status, _, error = run(self.path(name), "name==*")
             self.assert_said(status, error, 2, line)
+        status, _, error = run("", "name==*")
+        self.assert_said(status, error, 2, ": No such file")
 
     def test_words_that_are_not_understood(self):
-        port, command = ["--web", "80000", self.folder, "a==b"], ["--check", "true", self.folder]
-        for words in [], ["one"], port, command:
+        for words in (
+            [],
+            ["one"],
+            ["--check", "true", self.folder],
+            ["--web", self.folder, "a==b"],
+            ["--web", "80000", self.folder, "a==b"],
+            ["--web", "9" * 5000, self.folder, "a==b"],
+        ):
             status, out, error = run(*words)
             self.assertEqual((status, out), (2, ""), error)
             self.assertIn("live_folder --web PORT FOLDER FORMULA..", error)
@@ -302,6 +311,12 @@ class Web(Case):
         status, reply = self.ask("POST", path, json.dumps(body))
         return status, json.loads(reply)
 
+    def assert_silent(self):
+        """It still runs, and has written nothing on standard error."""
+        self.assertIsNone(self.live.poll())
+        self.live.kill()
+        self.assertEqual(self.live.stderr.read(), "")
+
     def assert_rows(self, page, rows, number=1):
         while page.rows(number) != sorted(rows):
             page.take()
@@ -331,6 +346,17 @@ class Web(Case):
         again = self.page()
         self.assertEqual(again.windows[1]["messages"], page.windows[1]["messages"])
         self.assertEqual(again.rows(), ["out/b.txt"])
+
+    def test_a_file_replaces_another(self):
+        self.write("old.txt", 9)
+        self.write("new.txt")
+        page = self.begin("name==*.txt", "size>5")
+        os.replace(self.path("new.txt"), self.path("old.txt"))
+        self.assert_rows(page, ["old.txt"])
+        self.assert_rows(page, [], 2)
+        operations = [json.loads(line)["op"] for line in page.windows[1]["messages"]]
+        self.assertEqual(operations, ["B_ENTRY_REMOVED", "B_ENTRY_MOVED"])
+        self.assert_silent()
 
     def test_names_that_are_no_html_and_no_utf_8(self):
         page = self.begin("name==*")
@@ -452,15 +478,17 @@ class Web(Case):
 
     def test_a_page_that_goes_and_one_that_does_not_read(self):
         page = self.begin("name==*")
-        self.page().close()
+        request = f"GET /events HTTP/1.0\r\nHost: 127.0.0.1:{self.port}\r\n\r\n".encode()
+        with socket.create_connection(("127.0.0.1", self.port)) as gone:
+            gone.sendall(request)
+            gone.recv(1)
+            gone.setsockopt(socket.SOL_SOCKET, socket.SO_LINGER, struct.pack("ii", 1, 0))  # reset
         with socket.create_connection(("127.0.0.1", self.port)) as idle:
-            idle.sendall(f"GET /events HTTP/1.0\r\nHost: 127.0.0.1:{self.port}\r\n\r\n".encode())
+            idle.sendall(request)
             for count in 1, 2, 3:
                 self.write(str(count))
                 self.assert_rows(page, ["1", "2", "3"][:count])
-        self.assertIsNone(self.live.poll())
-        self.live.kill()
-        self.assertEqual(self.live.stderr.read(), "")
+        self.assert_silent()
 
     def test_too_many_pages(self):
         self.begin("name==*")

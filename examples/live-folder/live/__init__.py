@@ -9,13 +9,14 @@
     terminal  shows one window as lines of text
     web       shows many windows as a page: page.html, page.css, page.js
 """
+from .names import printable
 
 
 class Trouble(Exception):
     """Why the command can't go on, in one line, and its exit status."""
 
     def __init__(self, line, status):
-        super().__init__(line)
+        super().__init__(printable(line))
         self.status = status
 
 

@@ -78,7 +78,7 @@ class Mirror:
                     self.list(folder)
         self.settle()
         if not self.root.is_there():
-            given = printable(to_text(self.given))
+            given = to_text(self.given)
             raise Trouble(f"{given} was moved or removed, so it isn't followed any more", ENDED)
         return self.has_moved
 
@@ -179,9 +179,8 @@ class Mirror:
 
 def real_path(folder):
     """The path of a folder, where the name that was given may be a link to it."""
-    path = os.path.realpath(folder)
     try:
-        os.scandir(path).close()
+        os.scandir(folder).close()
     except OSError as error:
-        raise Trouble(f"{printable(to_text(folder))}: {error.strerror}", UNUSABLE) from None
-    return path
+        raise Trouble(f"{to_text(folder)}: {error.strerror}", UNUSABLE) from None
+    return os.path.realpath(folder)

@@ -2,7 +2,6 @@
 import io, json, subprocess, sys
 
 from . import ENDED, UNUSABLE, Trouble
-from .names import printable
 
 PORT = 4  # places in a window's port
 PATIENCE = 1000  # changes after which the windows are read
@@ -14,7 +13,7 @@ class Refused(Trouble):
 
     def __init__(self, formula, reply):
         place = f" at byte {reply['place']}" if "place" in reply else ""
-        super().__init__(f"{printable(formula)}: {reply['error']}{place}", UNUSABLE)
+        super().__init__(f"{formula}: {reply['error']}{place}", UNUSABLE)
         self.reply = reply
 
 

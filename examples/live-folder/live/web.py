@@ -4,7 +4,7 @@ All open pages share the windows. A page reads its events from /events: `hello` 
 `open`, `update` and `close` have one window; `end` says why no more will come. The page sends a
 formula to /open, and the number of a window to /close.
 """
-import collections, contextlib, http.server, itertools, json, os, queue, sys, threading
+import collections, contextlib, http.server, itertools, json, os, queue, re, sys, threading
 
 from . import UNUSABLE, Trouble
 from .names import printable, to_text
@@ -41,7 +41,8 @@ class Pane:
     """A window on the pages. `paths` has the path of each row by node."""
 
     def __init__(self, mirror, formula, numbers):
-        self.mirror, self.fresh, self.latest = mirror, [], collections.deque(maxlen=MESSAGES)
+        self.mirror = mirror
+        self.fresh, self.latest = collections.deque((), MESSAGES), collections.deque((), MESSAGES)
         self.window = mirror.server.open(formula, self.hear)
         self.number = next(numbers)
         self.paths = {}
@@ -70,7 +71,8 @@ class Pane:
         old, self.paths = self.paths, self.new_paths()
         rows = {node: self.paths.get(node) for node in {*old, *self.paths}
                 if self.paths.get(node) != old.get(node)}
-        messages, self.fresh = self.fresh[-MESSAGES:], []
+        messages = [*self.fresh]
+        self.fresh.clear()
         return {**self.counts(), "rows": rows, "messages": messages}
 
 
@@ -223,7 +225,7 @@ class Request(http.server.BaseHTTPRequestHandler):
     def body(self):
         """The JSON object of the request, or an empty one."""
         kind, size = self.headers.get_content_type(), self.headers.get("Content-Length", "")
-        if kind != "application/json" or not size.isdecimal() or int(size) > BODY:
+        if kind != "application/json" or not re.fullmatch("[0-9]{1,9}", size) or int(size) > BODY:
             return {}
         try:
             body = json.loads(self.rfile.read(int(size)))

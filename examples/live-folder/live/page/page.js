@@ -128,5 +128,8 @@ on("end", ({ error }) => {
   byId("fault").textContent = error;
 });
 source.onerror = () => {
-  document.body.className = "ended"; // the browser tries again by itself
+  document.body.className = "ended";
+  if (source.readyState === EventSource.CLOSED) { // else the browser tries again by itself
+    byId("fault").textContent = "live_folder sends this page no events";
+  }
 };
