@@ -18,8 +18,10 @@ class Browser:
         replies, told = os.pipe()
         self.replies, self.sent, self.session = open(replies, "rb"), 0, {}
         self.profile = tempfile.mkdtemp(prefix="chromium-")
-        words = [find(), "--headless", "--no-sandbox", "--disable-gpu", "--hide-scrollbars",
-                 "--remote-debugging-pipe", f"--user-data-dir={self.profile}"]
+        words = [
+            find(), "--headless", "--no-sandbox", "--disable-gpu", "--disable-dev-shm-usage",
+            "--hide-scrollbars", "--remote-debugging-pipe", f"--user-data-dir={self.profile}",
+        ]
         shell = f'exec "$0" "$@" 3<&{commands} 4>&{told}'
         self.chromium = subprocess.Popen(["bash", "-c", shell, *words], pass_fds=(commands, told),
                                          stdout=subprocess.DEVNULL, stderr=subprocess.DEVNULL)
