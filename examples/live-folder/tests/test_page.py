@@ -17,15 +17,19 @@ class Page:
         self.windows, self.error = {}, None
         self.take()
 
+    def fields(self):
+        """The fields of the next event, each with its value; none where the site only says that
+        there is nothing new, which it does after 10 seconds."""
+        for line in iter(self.response.readline, b"\n"):
+            if not line:
+                raise EOFError("the site has ended")
+            if not line.startswith(b":"):
+                yield line.decode().rstrip("\n").split(": ", 1)
+
     def take(self):
-        """Carries out the next event. Fails where the site has none for some seconds."""
-        event, data = None, None
-        while not (line := self.response.readline().decode()) == "\n" or not event:
-            if not line or line.startswith(":"):
-                raise EOFError("no event has come")
-            field, _, value = line.rstrip("\n").partition(": ")
-            event, data = (value, data) if field == "event" else (event, value)
-        data = json.loads(data)
+        """Carries out the next event."""
+        fields = dict(self.fields()) or dict(self.fields()) or dict(self.fields())
+        event, data = fields["event"], json.loads(fields["data"])
         if event == "hello":
             self.folder, self.windows = data["folder"], {it["window"]: it for it in data["windows"]}
         elif event == "open":
@@ -183,11 +187,11 @@ class Web(Case):
         for host in own, f"localhost:{self.port}", f"LOCALHOST:{self.port}":
             self.assertEqual(status("GET", "/", Host=host), 200, host)
         evil = "evil.example", f"evil.example:{self.port}", f"{own}.evil.example"
-        for host in *evil, "127.0.0.1", "localhost:1", "":
+        for host in (*evil, "127.0.0.1", "localhost:1", ""):
             for method, path in ("GET", "/"), ("GET", "/events"), ("POST", "/open"), ("PUT", "/"):
                 self.assertEqual(status(method, path, Host=host), 403, host)
         evil = "http://evil.example", "http://127.0.0.1:1", f"https://{own}", f"http://{own}.evil"
-        for origin in *evil, "null":
+        for origin in (*evil, "null"):
             for method, path in ("GET", "/"), ("GET", "/events"), ("POST", "/open"):
                 self.assertEqual(status(method, path, Origin=origin), 403, origin)
         for site in "cross-site", "same-site":
