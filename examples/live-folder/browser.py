@@ -1,8 +1,8 @@
-"""A Chromium without a window, where there is one: for the screenshot, and for a test of the page."""
+"""Leads a Chromium without a window: for the screenshot, and for a test of the page."""
 import base64, json, os, shutil, subprocess, tempfile, time
 
 PROGRAMS = "chromium", "chromium-browser", "google-chrome"
-SECONDS = 20  # until what has to come is missed
+SECONDS = 20  # the longest wait for something that has to come
 
 
 def find():
@@ -11,15 +11,17 @@ def find():
 
 
 class Browser:
-    """A page, led by Chromium's own protocol: JSON over two pipes, with a NUL after each message."""
+    """A page in a Chromium. Its protocol is JSON over two pipes, with a NUL after each message."""
 
     def __init__(self, url, width=1000, height=700):
         commands, self.commands = os.pipe()
         replies, told = os.pipe()
         self.replies, self.sent, self.session = open(replies, "rb"), 0, {}
         self.profile = tempfile.mkdtemp(prefix="chromium-")
-        words = [find(), "--headless", "--no-sandbox", "--disable-gpu", "--hide-scrollbars",
-                 "--remote-debugging-pipe", f"--user-data-dir={self.profile}"]
+        words = [
+            find(), "--headless", "--no-sandbox", "--disable-gpu", "--disable-dev-shm-usage",
+            "--hide-scrollbars", "--remote-debugging-pipe", f"--user-data-dir={self.profile}",
+        ]
         shell = f'exec "$0" "$@" 3<&{commands} 4>&{told}'
         self.chromium = subprocess.Popen(["bash", "-c", shell, *words], pass_fds=(commands, told),
                                          stdout=subprocess.DEVNULL, stderr=subprocess.DEVNULL)
@@ -28,10 +30,11 @@ class Browser:
         target = self.ask("Target.createTarget", url=url)["targetId"]
         found = self.ask("Target.attachToTarget", targetId=target, flatten=True)
         self.session = {"sessionId": found["sessionId"]}
-        self.ask("Emulation.setDeviceMetricsOverride", width=width, height=height, deviceScaleFactor=1, mobile=False)
+        size = {"width": width, "height": height, "deviceScaleFactor": 1, "mobile": False}
+        self.ask("Emulation.setDeviceMetricsOverride", **size)
 
     def ask(self, method, **params):
-        """The result of a command. What the browser tells meanwhile is passed over."""
+        """Sends a command and returns its result. It passes over all other messages."""
         self.sent += 1
         command = {"id": self.sent, "method": method, "params": params, **self.session}
         os.write(self.commands, json.dumps(command).encode() + b"\0")
@@ -48,7 +51,7 @@ class Browser:
         return json.loads(data)
 
     def value(self, expression):
-        """What a JavaScript expression of the page gives."""
+        """The value of a JavaScript expression in the page."""
         result = self.ask("Runtime.evaluate", expression=expression, returnByValue=True)
         if "exceptionDetails" in result:
             raise RuntimeError(f"{expression}: {result['exceptionDetails']}")
@@ -63,7 +66,7 @@ class Browser:
             time.sleep(0.02)
 
     def type(self, formula):
-        """Types a formula and sends it."""
+        """Fills the box for a formula and sends it."""
         self.value(f"byId('formula').value = {json.dumps(formula)}; byId('open').requestSubmit()")
 
     def png(self):

@@ -1,24 +1,27 @@
-"""A live query on a real folder: the folder on disk is followed, and `lq` tells what changes in the result.
+"""Live queries on a real folder, in order from the disk to the user.
 
-    names     names as texts: for lq, and for people
-    disk      what stands at a path
+    names     names as text: for lq, and for people
+    disk      what is at a path
     inotify   which names changed
-    mirror    the folder on disk as entries of lq
-    server    talking to `lq run`: changes, and windows with a live query each
-    check     whether lq has what is on disk
-    terminal  one window as lines of text
-    web       many windows as a page: page.html, page.css, page.js
+    mirror    keeps the entries of lq the same as the folder on disk
+    server    talks to `lq run`: changes, and windows with a live query each
+    check     compares lq with the disk
+    terminal  shows one window as lines of text
+    web       shows many windows as a page: page.html, page.css, page.js
 """
+from .names import printable
 
 
 class Trouble(Exception):
-    """Why the command can't go on, in one line, and the status that it ends with."""
+    """Why the command can't go on, in one line, and its exit status."""
 
     def __init__(self, line, status):
-        super().__init__(line)
+        super().__init__(printable(line))
         self.status = status
 
 
-# The statuses of the command: DIFFERS where --check finds one, UNUSABLE where it can't begin with what it
-# was given, ENDED where what it needs ended meanwhile, and UNREAD where nobody reads what it writes.
-SAME, DIFFERS, UNUSABLE, ENDED, UNREAD = 0, 1, 2, 3, 141
+SAME = 0  # --check found no difference
+DIFFERS = 1  # --check found one, or its command failed
+UNUSABLE = 2  # the command can't begin with its arguments
+ENDED = 3  # lq, the folder, or another thing that it needs has gone
+UNREAD = 141  # nobody reads standard output, as after SIGPIPE

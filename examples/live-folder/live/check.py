@@ -1,11 +1,11 @@
-"""Whether lq has what is on disk, and the window what lq has."""
+"""Compares the entries of lq with the disk, and a window with the entries of lq."""
 from .disk import look_below
 from .mirror import ROOT
 from .names import printable, to_text
 
 
 def is_same(mirror, window, say):
-    """Compares each entry by `entry` alone, and the window with `fetch` and `result`; says what differs."""
+    """Compares each entry, by `entry` alone, and the window, with `fetch` and `result`."""
     server = mirror.server
     held = entries_of(server)
     disk = {to_text(path): seen and seen[2:] for path, seen in look_below(mirror.root.name).items()}
@@ -25,7 +25,7 @@ def is_same(mirror, window, say):
 
 
 def entries_of(server):
-    """Size, time and attributes of each entry that lq has, by its path from the root."""
+    """Size, time and attributes of each entry of lq, by its path from the root."""
     nodes = [row["node"] for row in server.ask("fetch", query="name==*")["result"]]
     entries = {node: server.ask("entry", node=node) for node in nodes}
 

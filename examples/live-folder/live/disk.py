@@ -1,4 +1,4 @@
-"""What stands on disk, also at paths that are longer than the system takes."""
+"""What is on disk, also at paths that are longer than the system accepts."""
 import collections, contextlib, os, re, stat
 
 from .names import to_text
@@ -7,13 +7,13 @@ PATH_MAX = 4096  # with the NUL that ends a path
 VALUE_MAX = 1024  # bytes of an extended attribute
 KINDS = {stat.S_IFREG: "file", stat.S_IFDIR: "folder", stat.S_IFLNK: "link"}
 
-# `id` is the same as long as it is the same file; `attrs` has a type and a value by name.
+# `id` identifies a file wherever it is; `attrs` has a type and a value for each name.
 Seen = collections.namedtuple("Seen", "id kind size time attrs")
 
 
 @contextlib.contextmanager
 def within_reach(path):
-    """The path as one that the system takes: a long one begins at an open folder on its way."""
+    """A path that the system accepts: a long one is taken from an open folder on the way."""
     opened = []
     try:
         while len(path) >= PATH_MAX:
@@ -27,7 +27,7 @@ def within_reach(path):
 
 
 def look(path):
-    """What stands at a path, or None. A folder has size and time 0, since no change sets them."""
+    """What is at a path, or None. A folder has size and time 0, since no change sets them."""
     with contextlib.suppress(OSError), within_reach(path) as path:
         found = os.lstat(path)
         kind = kind_of(found)
@@ -38,7 +38,7 @@ def look(path):
 
 
 def identity(path):
-    """The `id` of what stands at a path, or None."""
+    """The `id` of what is at a path, or None."""
     with contextlib.suppress(OSError), within_reach(path) as path:
         found = os.lstat(path)
         return found.st_dev, found.st_ino, kind_of(found)
@@ -50,7 +50,7 @@ def kind_of(found):
 
 
 def extended(path):
-    """The extended attributes that can be read. A value that is written as a number is one."""
+    """The extended attributes that can be read. A value written as a number becomes a number."""
     attrs = {}
     with contextlib.suppress(OSError):
         for name in os.listxattr(path, follow_symlinks=False):
@@ -69,7 +69,7 @@ def names_in(path):
 
 
 def look_below(root):
-    """All that is below a folder: each path from there, and what stands at it."""
+    """All that is below a folder, by the path from there."""
     seen, folders = {}, [b""]
     for folder in folders:
         for name in names_in(root + folder or b"/"):

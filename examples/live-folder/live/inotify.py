@@ -1,14 +1,15 @@
-"""The system's inotify by ctypes: a watch for each folder, and the names that changed there."""
+"""The system's inotify by ctypes: a watch for each folder, and the names that changed in it."""
 import ctypes, errno, os, struct
 
 from . import ENDED, UNUSABLE, Trouble
 from .disk import within_reach
 
-MODIFY, ATTRIB, CLOSE_WRITE, MOVED_FROM, MOVED_TO, CREATE, DELETE = 0x2, 0x4, 0x8, 0x40, 0x80, 0x100, 0x200
+MODIFY, ATTRIB, CLOSE_WRITE = 0x2, 0x4, 0x8
+MOVED_FROM, MOVED_TO, CREATE, DELETE = 0x40, 0x80, 0x100, 0x200
 OVERFLOW, IGNORED = 0x4000, 0x8000  # events were lost; a watch has ended
 ONLY_FOLDERS, NO_LINKS = 0x1000000, 0x2000000
 WATCHED = MODIFY | ATTRIB | CLOSE_WRITE | MOVED_FROM | MOVED_TO | CREATE | DELETE
-HEAD = struct.Struct("iIII")  # an event's watch, what it is, a cookie, the size of the name after it
+HEAD = struct.Struct("iIII")  # an event: its watch, its kind, a cookie, the size of the name
 
 libc = ctypes.CDLL(None, use_errno=True)
 
@@ -20,7 +21,7 @@ class Inotify:
             raise Trouble(f"inotify: {os.strerror(ctypes.get_errno())}", UNUSABLE)
 
     def watch(self, path):
-        """The number of a watch on a folder, or None where there is no folder that can be watched."""
+        """Watches a folder. Returns the watch's number, or None where that can't be done."""
         try:
             with within_reach(path) as path:
                 watch = libc.inotify_add_watch(self.fd, path, WATCHED | ONLY_FOLDERS | NO_LINKS)
@@ -34,13 +35,13 @@ class Inotify:
         libc.inotify_rm_watch(self.fd, watch)
 
     def events(self):
-        """What happened since the last call, as a watch, what it was, and a name or b""."""
+        """The events since the last call, each as a watch, its kind, and a name or b""."""
         try:
             data = os.read(self.fd, 1 << 20)
         except BlockingIOError:
             return
         at = 0
         while at < len(data):
-            watch, what, _, size = HEAD.unpack_from(data, at)
+            watch, kind, _, size = HEAD.unpack_from(data, at)
             at += HEAD.size + size
-            yield watch, what, data[at - size : at].rstrip(b"\0")
+            yield watch, kind, data[at - size : at].rstrip(b"\0")

@@ -1,4 +1,4 @@
-"""The folder on disk as entries of lq: each name that changes is looked at, and sent as changes."""
+"""Keeps the entries of lq the same as a folder on disk."""
 import collections, os
 
 from . import ENDED, UNUSABLE, Trouble
@@ -6,11 +6,11 @@ from .disk import identity, look, names_in
 from .inotify import IGNORED, OVERFLOW, Inotify
 from .names import printable, to_text
 
-ROOT = 1  # the node of the folder that is followed
+ROOT = 1  # the folder's node
 
 
 class Entry:
-    """One entry: its node, its place, what was seen there; of a folder what is inside, and its watch."""
+    """An entry: its node, its place, and what was seen there. A folder also has a watch."""
 
     def __init__(self, node, folder, name, seen):
         self.node, self.folder, self.name, self.seen = node, folder, name, seen
@@ -18,7 +18,7 @@ class Entry:
         self.inside, self.watch = {}, None
 
     def way(self):
-        """The root, and each entry that leads from there to this one."""
+        """The entries from the root to this one."""
         way = [self]
         while way[-1].folder:
             way.append(way[-1].folder)
@@ -27,35 +27,39 @@ class Entry:
     def path(self):
         return b"/".join(entry.name for entry in self.way()) or b"/"
 
+    def is_at(self, path):
+        return identity(path) == self.seen.id
+
     def is_there(self):
-        return identity(self.path()) == self.seen.id
+        return self.is_at(self.path())
 
 
 class Mirror:
-    """A folder on disk and what lq has of it; `changed` has the names that are to be looked at."""
+    """A folder on disk and its entries in lq. `changed` has the names to look at next."""
 
     def __init__(self, server, folder, path):
-        """A folder under the name that it was given, and its real path."""
+        """`folder` is the name that the user gave, `path` the real path."""
         self.server, self.change, self.given = server, server.change, folder.rstrip(b"/")
         self.inotify = Inotify()
         self.nodes, self.by_watch, self.by_id = {}, {}, collections.defaultdict(dict)
         self.changed = {}
-        self.has_moved = False  # whether a folder has moved; who has used that sets it back
+        self.has_moved = False  # whether a folder has moved in this turn
         self.root = self.nodes[ROOT] = Entry(ROOT, None, path.rstrip(b"/"), look(path))
         self.list(self.root)
         self.settle()
 
     def shown(self, folder, name):
-        """The path of a name in a folder's node, for people. It begins with the folder as it was given."""
+        """The path of a name in the folder of a node, for people. It begins as the user gave it."""
         names = [self.given, *(entry.name for entry in self.nodes[folder].way()[1:])]
         path = "/".join([*map(to_text, names), name])
         return printable(path.replace("\\", "\\\\"))
 
     def list(self, folder):
         """Watches a folder and only then lists it, so that no name is missed."""
-        folder.watch = self.inotify.watch(folder.path())
-        names = names_in(folder.path())
-        if folder is not self.root and not folder.is_there():  # it moved meanwhile: later again
+        path = folder.path()
+        folder.watch = self.inotify.watch(path)
+        names = names_in(path)
+        if folder is not self.root and not folder.is_at(path):  # it moved meanwhile: later again
             folder.watch = None
             self.changed[folder.folder, folder.name] = None
         elif folder.watch is not None:
@@ -63,28 +67,34 @@ class Mirror:
         self.changed.update({(folder, name): None for name in {*names, *folder.inside}})
 
     def turn(self):
-        """Carries out what has changed on disk since the last turn."""
-        for watch, what, name in self.inotify.events():
-            folders = [*self.nodes.values()] if what & OVERFLOW else [self.by_watch.get(watch)]
+        """Carries out what has changed on disk. Returns whether a folder has moved."""
+        self.has_moved = False
+        for watch, kind, name in self.inotify.events():
+            folders = [*self.nodes.values()] if kind & OVERFLOW else [self.by_watch.get(watch)]
             for folder in filter(None, folders):
                 if name:
                     self.changed[folder, name] = None
-                elif folder.is_folder and what & (OVERFLOW | IGNORED):
+                elif folder.is_folder and kind & (OVERFLOW | IGNORED):
                     self.list(folder)
         self.settle()
         if not self.root.is_there():
-            given = printable(to_text(self.given))
+            given = to_text(self.given)
             raise Trouble(f"{given} was moved or removed, so it isn't followed any more", ENDED)
+        return self.has_moved
 
     def settle(self):
-        """First all that is there, so that a move is met before its old place is found empty; then what is
-        gone. A name in a folder that isn't where it was waits for the event that says where that is."""
+        """Looks at each changed name: first at all that are there, then at those that have gone.
+
+        So it finds a moved entry at its new place before it finds the old place empty. A name in a
+        folder that isn't at its path waits for the event that says where the folder is.
+        """
         before, gone = None, {}
         while before != self.changed.keys():
             before, self.changed, gone = self.changed.keys(), {}, {}
             for folder, name in filter(self.is_known, before):
-                there = folder.is_there()
-                seen = look(os.path.join(folder.path(), name)) if there else None
+                path = folder.path()
+                there = folder.is_at(path)
+                seen = look(os.path.join(path, name)) if there else None
                 if seen:
                     self.meet(folder, name, seen)
                 else:
@@ -100,7 +110,7 @@ class Mirror:
         return self.nodes.get(folder.node) is folder
 
     def meet(self, folder, name, seen):
-        """What is known at a name becomes what was seen there: the same entry, one that moved, or a new one."""
+        """Carries out what was seen at a name: the same entry, one that moved, or a new one."""
         known = folder.inside.get(name)
         if known and known.seen.id == seen.id:
             return self.update(known, seen)
@@ -114,8 +124,9 @@ class Mirror:
             self.update(entry, seen)
 
     def move(self, entry, folder, name):
-        """Moves an entry; whether lq did. A file that has the name is replaced."""
-        if not self.change("move", node=entry.node, dir=folder.node, name=to_text(name), clobber=True):
+        """Moves an entry, and replaces a file that has the name. Returns whether lq did so."""
+        place = {"dir": folder.node, "name": to_text(name)}
+        if not self.change("move", node=entry.node, **place, clobber=True):
             return False
         if name in folder.inside:
             self.remove(folder.inside[name], is_told=True)
@@ -125,7 +136,7 @@ class Mirror:
         return True
 
     def create(self, folder, name, seen):
-        """A new entry, or None where lq refuses its name."""
+        """Makes an entry. Returns None where lq refuses its name."""
         kind = "folder" if seen.kind == "folder" else "file"
         place = {"dir": folder.node, "name": to_text(name)}
         node = self.change("create", **place, kind=kind, size=seen.size, time=seen.time)
@@ -136,7 +147,7 @@ class Mirror:
         return entry
 
     def update(self, entry, seen):
-        """Sends what differs from what was seen before."""
+        """Sends what differs from the last look."""
         old, entry.seen, node = entry.seen, seen, entry.node
         if (old.size, old.time) != (seen.size, seen.time):
             self.change("write", node=node, size=seen.size, time=seen.time)
@@ -144,14 +155,14 @@ class Mirror:
             self.change("unset", node=node, attr=attr)
         for attr, (kind, value) in seen.attrs.items() - old.attrs.items():
             self.change("set", node=node, attr=attr, type=kind, value=value)
-        # an event names one link of a file: the others are looked at too
+        # an event names one link of a file: look at the others too
         links = [link for link in self.by_id[seen.id] if link.seen != seen]
         self.changed.update({(link.folder, link.name): None for link in links})
         if entry.is_folder and entry.watch is None:
             self.list(entry)
 
     def remove(self, entry, is_told=False):
-        """Drops an entry and all that is inside, the innermost first; lq may have been told."""
+        """Removes an entry and all that is inside, the innermost first."""
         doomed = [entry]
         for folder in doomed:
             doomed += folder.inside.values()
@@ -167,10 +178,9 @@ class Mirror:
 
 
 def real_path(folder):
-    """The path of a folder that was given, which may be a link to one."""
-    path = os.path.realpath(folder)
+    """The path of a folder, where the name that was given may be a link to it."""
     try:
-        os.scandir(path).close()
+        os.scandir(folder).close()
     except OSError as error:
-        raise Trouble(f"{printable(to_text(folder))}: {error.strerror}", UNUSABLE) from None
-    return path
+        raise Trouble(f"{to_text(folder)}: {error.strerror}", UNUSABLE) from None
+    return os.path.realpath(folder)

@@ -1,15 +1,15 @@
-"""Names as texts: for lq, which wants UTF-8, and for people, who read them on a terminal or a page."""
+"""Names as text: for lq, which needs UTF-8, and for people."""
 import re
 
-# A byte that isn't UTF-8: what Python decodes it to, and the private character that lq is given.
+# A byte that isn't UTF-8: what Python decodes it to, and the private character that stands for it.
 PRIVATE = {0xDC00 + byte: 0xF700 + byte for byte in range(0x80, 0x100)}
 
 
 def to_text(raw):
-    """Bytes as a text, one to one.
+    """Bytes as text; different bytes give different texts.
 
-    A byte b that isn't UTF-8 becomes the character U+F700 + b. The bytes of a character that is itself in
-    that range are written in the same way.
+    A byte b that isn't UTF-8 becomes the character U+F700 + b. A character that is itself in that
+    range becomes one such character for each of its bytes.
     """
     def split(found):
         return "".join(chr(0xDC00 + byte) for byte in found[0].encode())
@@ -19,7 +19,7 @@ def to_text(raw):
 
 
 def printable(text):
-    """A text of `to_text` for people, with an escape for all that could steer a terminal or hide."""
+    """A text for people. Escapes replace all that could control a terminal or be invisible."""
     return "".join(char if char.isprintable() else escape(char) for char in text)
 
 

@@ -1,25 +1,24 @@
-"""Talking to `lq run` over pipes: a line, then its reply; and windows, each with a live query."""
-import io, json, signal, subprocess, sys
+"""Talks to `lq run` over pipes: a line, then its reply. A window has a live query."""
+import io, json, subprocess, sys
 
 from . import ENDED, UNUSABLE, Trouble
-from .names import printable
 
 PORT = 4  # places in a window's port
-PATIENCE = 1000  # changes, at most, between two readings of the windows
-BACKLOG = 3 * PATIENCE  # a change tells a window of at most three messages
+PATIENCE = 1000  # changes after which the windows are read
+BACKLOG = 3 * PATIENCE  # a change sends a window at most three messages
 
 
 class Refused(Trouble):
-    """A formula that lq refuses, or a window where no slot is free; `reply` has the code."""
+    """lq can't read a formula, or has no free slot for a window. `reply` has the code."""
 
     def __init__(self, formula, reply):
         place = f" at byte {reply['place']}" if "place" in reply else ""
-        super().__init__(f"{printable(formula)}: {reply['error']}{place}", UNUSABLE)
+        super().__init__(f"{formula}: {reply['error']}{place}", UNUSABLE)
         self.reply = reply
 
 
 class Server:
-    """One `lq run`. It reads its windows after `patience` changes, and whenever `read` is called."""
+    """One `lq run`, and its windows. It reads them after `patience` changes at the latest."""
 
     def __init__(self, program, patience=PATIENCE):
         try:
@@ -33,7 +32,7 @@ class Server:
             raise Trouble(f"{program} isn't lq: it doesn't answer as lq does", UNUSABLE)
 
     def exchange(self, do, **fields):
-        """Sends a line; the reply, and the reply's line as it came."""
+        """Sends a line. Returns the reply, and its line as it came."""
         try:
             self.lq.stdin.write(json.dumps({"do": do, **fields}).encode() + b"\n")
             line = self.replies.readline()
@@ -50,10 +49,9 @@ class Server:
         return self.exchange(do, **fields)[0]
 
     def ended(self):
-        """How lq ended."""
-        self.lq.stdin.close()
+        """Why nothing can be sent any more."""
         status = self.lq.wait()
-        how = f"by {signal.Signals(-status).name}" if status < 0 else f"with status {status}"
+        how = f"by signal {-status}" if status < 0 else f"with status {status}"
         return Trouble(f"{self.program} ended {how}, so nothing is followed any more", ENDED)
 
     def test(self, formula):
@@ -63,7 +61,7 @@ class Server:
             raise Refused(formula, reply)
 
     def change(self, do, **fields):
-        """Makes a change; the node that it made or changed, or None where lq refuses it."""
+        """Makes a change. Returns its node, or None where lq refuses it."""
         reply = self.ask(do, **fields)
         if "error" in reply:
             self.refused += 1
@@ -75,14 +73,14 @@ class Server:
         return reply.get("node")
 
     def read(self):
-        """Reads all that the windows were told, where there was a change."""
+        """Reads the windows' messages, if there was a change since the last time."""
         if self.unread:
             self.unread = 0
             for window in self.windows:
                 window.read()
 
     def open(self, formula, heard):
-        """A window of a formula. It calls `heard` with itself, each message, and its line."""
+        """Opens a window. It calls `heard` with itself, a message, and the message's line."""
         reply = self.ask("open", query=formula, port=PORT, backlog=BACKLOG, moved=True)
         if "error" in reply:
             raise Refused(formula, reply)
@@ -90,7 +88,7 @@ class Server:
         return self.windows[-1]
 
     def close(self, window):
-        """Ends a window and gives its slot back, which lq takes once the mark was read."""
+        """Closes a window, reads up to its mark, and gives its slot back."""
         self.windows.remove(window)
         self.ask("close", slot=window.slot)
         while self.ask("read", slot=window.slot)["what"] != "END":
@@ -99,7 +97,7 @@ class Server:
 
 
 class Window:
-    """A live query. `rows` has a folder's node and a name by node: the result as the messages make it."""
+    """A live query. `rows` is its result: the folder's node and the name for each node."""
 
     def __init__(self, server, formula, opening, heard):
         self.server, self.formula, self.slot, self.heard = server, formula, opening["slot"], heard
@@ -107,7 +105,7 @@ class Window:
         self.told = 0  # messages so far
 
     def read(self):
-        """Takes all messages that are there. They can't be too many, since they are read in time."""
+        """Takes all messages that are there."""
         while True:
             message, line = self.server.exchange("read", slot=self.slot)
             if message["what"] == "EMPTY":

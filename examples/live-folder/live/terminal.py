@@ -1,28 +1,24 @@
-"""One window as lines of text: what is there, and then each message."""
-import os, sys
-
+"""Shows one window as lines of text: the rows that are there, and then each message."""
 from . import ENDED, Trouble
 
 SIGNS = {"B_ENTRY_CREATED": "+", "B_ENTRY_REMOVED": "-", "B_ENTRY_MOVED": ">"}
 
 
 class Unread(Exception):
-    """Nobody reads what is written any more, as after `| head -1`."""
+    """Nobody reads standard output any more, as after `| head -1`."""
 
 
 def say(line):
-    """Writes a line. Where that fails, nothing is left in the buffer that would fail again at the end."""
     try:
         print(line, flush=True)
+    except BrokenPipeError:
+        raise Unread() from None
     except OSError as error:
-        os.dup2(os.open(os.devnull, os.O_WRONLY), sys.stdout.fileno())
-        if isinstance(error, BrokenPipeError):
-            raise Unread() from None
         raise Trouble(f"standard output: {error.strerror}", ENDED) from None
 
 
 def show(mirror, formula):
-    """Opens the window, writes what is there, and from then on each message once it is read."""
+    """Opens a window and writes its rows; from then on each message is written once it is read."""
 
     def heard(_, message, __):
         places = [mirror.shown(message["dir"], message["name"])]

@@ -1,22 +1,22 @@
-"""Windows as a page, for the browsers of this machine alone.
+"""Shows windows as a page, to the browsers of this machine alone.
 
-All open pages share the windows. A page takes its events from /events: `hello` with all windows, then `open`,
-`update` and `close` of one window, and `end`. It sends a formula to /open and the number of a window to
-/close.
+All open pages share the windows. A page reads its events from /events: `hello` has all windows;
+`open`, `update` and `close` have one window; `end` says why no more will come. The page sends a
+formula to /open, and the number of a window to /close.
 """
-import collections, contextlib, http.server, itertools, json, os, queue, sys, threading
+import collections, contextlib, http.server, itertools, json, os, queue, re, sys, threading
 
 from . import UNUSABLE, Trouble
 from .names import printable, to_text
 from .server import Refused
 
 ADDRESS = "127.0.0.1"
-ROWS = 1000  # rows of a window that pages show; the others are counted
-MESSAGES = 50  # messages of a window that pages show, the latest ones
-PAGES = 32  # pages at once
-WAITING = 1000  # events that wait for a page; one that is slower begins anew
-BODY = 16384  # bytes that a page may send
-SECONDS = 10  # how long a browser may take to send or take something
+ROWS = 1000  # rows of a window on a page; the page counts the others
+MESSAGES = 50  # messages of a window on a page: the latest
+PAGES = 32  # open pages
+WAITING = 1000  # events that wait for a page; a slower page has to connect again
+BODY = 16384  # bytes in a request's body
+SECONDS = 10  # how long a browser may take to send or to receive
 
 FOLDER = os.path.join(os.path.dirname(os.path.realpath(__file__)), "page")
 FILES = {
@@ -24,10 +24,13 @@ FILES = {
     "/page.css": ("page.css", "text/css"),
     "/page.js": ("page.js", "text/javascript"),
 }
+POLICY = (
+    "default-src 'none'; script-src 'self'; style-src 'self'; connect-src 'self'; img-src data:; "
+    "base-uri 'none'; form-action 'none'; frame-ancestors 'none'"
+)
 HEADERS = {
     "Cache-Control": "no-store",
-    "Content-Security-Policy": "default-src 'none'; script-src 'self'; style-src 'self'; connect-src 'self'; "
-    "img-src data:; base-uri 'none'; form-action 'none'; frame-ancestors 'none'",
+    "Content-Security-Policy": POLICY,
     "Cross-Origin-Resource-Policy": "same-origin",
     "Referrer-Policy": "no-referrer",
     "X-Content-Type-Options": "nosniff",
@@ -35,10 +38,11 @@ HEADERS = {
 
 
 class Pane:
-    """A window as pages show it: `paths` has the path of each row by node."""
+    """A window on the pages. `paths` has the path of each row by node."""
 
     def __init__(self, mirror, formula, numbers):
-        self.mirror, self.fresh, self.latest = mirror, [], collections.deque(maxlen=MESSAGES)
+        self.mirror = mirror
+        self.fresh, self.latest = collections.deque((), MESSAGES), collections.deque((), MESSAGES)
         self.window = mirror.server.open(formula, self.hear)
         self.number = next(numbers)
         self.paths = {}
@@ -49,7 +53,7 @@ class Pane:
         self.latest.append(line)
 
     def new_paths(self):
-        """The paths as they are now: of the rows that stay, and of others as far as there is room."""
+        """The paths now: of the rows that stay, and of other rows while there is room."""
         rows = self.window.rows
         stay = [node for node in self.paths if node in rows]
         come = itertools.islice((node for node in rows if node not in self.paths), ROWS - len(stay))
@@ -63,36 +67,33 @@ class Pane:
         return {**self.counts(), **shown}
 
     def update(self):
-        """What has changed since the last call: a row that has gone has the path None."""
+        """The changes since the last call. A row that has gone has the path None."""
         old, self.paths = self.paths, self.new_paths()
         rows = {node: self.paths.get(node) for node in {*old, *self.paths}
                 if self.paths.get(node) != old.get(node)}
-        messages, self.fresh = self.fresh[-MESSAGES:], []
+        messages = [*self.fresh]
+        self.fresh.clear()
         return {**self.counts(), "rows": rows, "messages": messages}
 
 
 class Site:
-    """The windows and the pages that show them. The lock is held by whoever talks to lq."""
+    """The windows, and the pages that show them. Who talks to lq holds the lock."""
 
-    def __init__(self, mirror, port, formulas):
+    def __init__(self, http, mirror, formulas):
         self.mirror, self.lock = mirror, threading.Lock()
         self.panes, self.pages, self.numbers = {}, {}, itertools.count(1)
         self.files = {path: (read_file(name), kind) for path, (name, kind) in FILES.items()}
         for formula in formulas:
             self.open(formula)
-        try:
-            self.http = Http((ADDRESS, port), Request)
-        except OSError as error:
-            raise Trouble(f"port {port}: {error.strerror}", UNUSABLE) from None
-        self.http.site, self.port = self, self.http.server_port
-        self.hosts = {f"{name}:{self.port}" for name in (ADDRESS, "localhost")}
+        self.hosts = {f"{name}:{http.server_port}" for name in (ADDRESS, "localhost")}
+        http.site = self
+        threading.Thread(target=http.serve_forever, daemon=True).start()
 
     def __enter__(self):
-        threading.Thread(target=self.http.serve_forever, daemon=True).start()
         return self
 
     def __exit__(self, kind, error, trace):
-        """Tells the pages why this ends, and gives them a second to take it."""
+        """Tells the pages why this ends, and gives them a second to receive it."""
         with self.lock:
             self.tell("end", error=str(error))
             for events in self.pages:
@@ -104,11 +105,10 @@ class Site:
     def turn(self):
         """Carries out what has changed on disk, and tells the pages."""
         with self.lock:
-            self.mirror.has_moved = False
-            self.mirror.turn()
+            has_moved = self.mirror.turn()
             self.mirror.server.read()
             for pane in self.panes.values():
-                if pane.fresh or self.mirror.has_moved:
+                if pane.fresh or has_moved:
                     self.tell("update", **pane.update())
 
     def open(self, formula):
@@ -119,7 +119,7 @@ class Site:
             return {"window": pane.number}
 
     def close(self, number):
-        """Closes a window, so that another can have its slot; None where no window has this number."""
+        """Closes a window and frees its slot. Returns None where no window has the number."""
         with self.lock:
             pane = self.panes.pop(number, None)
             if not pane:
@@ -129,16 +129,17 @@ class Site:
             return {"window": number}
 
     def tell(self, event, **data):
-        """Hands an event to every page. A page for which too much waits already is let go."""
+        """Sends an event to every page, and disconnects a page for which too many wait."""
+        event = as_event(event, data)
         for events in [*self.pages]:
-            events.put(as_event(event, data))
+            events.put(event)
             if events.qsize() > WAITING:
                 del self.pages[events]
                 events.put(None)
 
     @contextlib.contextmanager
     def page(self):
-        """The queue of a page's events, from a `hello` to None; or None where there are too many pages."""
+        """The queue of a page's events, from `hello` to None. None if too many pages are open."""
         events = queue.SimpleQueue()
         with self.lock:
             if len(self.pages) == PAGES:
@@ -156,8 +157,16 @@ class Site:
 
 
 class Http(http.server.ThreadingHTTPServer):
+    """Listens at a port of this machine, and has a thread for each request."""
+
+    def __init__(self, port):
+        try:
+            super().__init__((ADDRESS, port), Request)
+        except OSError as error:
+            raise Trouble(f"port {port}: {error.strerror}", UNUSABLE) from None
+
     def handle_error(self, request, client_address):
-        """A browser that goes away while it is answered is no fault."""
+        """Passes over a browser that goes away during a reply."""
         if not isinstance(sys.exc_info()[1], OSError):
             super().handle_error(request, client_address)
 
@@ -174,10 +183,10 @@ class Request(http.server.BaseHTTPRequestHandler):
         return True
 
     def is_ours(self):
-        """Whether it was sent to this site by name, and by a page of this site where it was a page.
+        """Whether the request names this site, and doesn't come from a page of another site.
 
-        A page of another host can have a name of its own lead here: then Host has that name. What it sends
-        to this site's name has its own Origin or, where a browser sends none, is said to be from another site.
+        Another site can let its own name lead to this machine: then Host has that name. Where it
+        uses this site's name, the browser sends its Origin or says that it is another site.
         """
         hosts = self.headers.get_all("Host", [])
         if len(hosts) != 1 or hosts[0].lower() not in self.server.site.hosts:
@@ -214,9 +223,9 @@ class Request(http.server.BaseHTTPRequestHandler):
         self.answer(200 if reply else 404, reply or {"error": "no such window"})
 
     def body(self):
-        """The object that was sent, or an empty one. Other pages can't send JSON unasked."""
-        size = self.headers.get("Content-Length", "")
-        if self.headers.get_content_type() != "application/json" or not size.isdecimal() or int(size) > BODY:
+        """The JSON object of the request, or an empty one."""
+        kind, size = self.headers.get_content_type(), self.headers.get("Content-Length", "")
+        if kind != "application/json" or not re.fullmatch("[0-9]{1,9}", size) or int(size) > BODY:
             return {}
         try:
             body = json.loads(self.rfile.read(int(size)))
@@ -233,7 +242,7 @@ class Request(http.server.BaseHTTPRequestHandler):
                 try:
                     event = events.get(timeout=SECONDS)
                 except queue.Empty:
-                    event = b": nothing new\n\n"  # a page that has gone is found out so
+                    event = b": nothing new\n\n"  # fails if the page has gone
                 if event is None:
                     return None
                 self.wfile.write(event)
@@ -255,7 +264,7 @@ class Request(http.server.BaseHTTPRequestHandler):
         self.end_headers()
 
     def log_message(self, *_):
-        """Nothing: the terminal has other uses."""
+        """Writes no log."""
 
 
 def as_event(event, data):

@@ -1,5 +1,5 @@
 "use strict";
-// The page of live_folder. All that comes from a name or a formula is set as textContent, never as HTML.
+// The page of live_folder. It sets names and formulas as text, never as HTML.
 
 const MESSAGES = 50;
 const GOING = 700; // milliseconds that a row takes to go
@@ -19,7 +19,7 @@ class LiveWindow {
     return this.section.querySelector("." + name);
   }
 
-  // Carries out what has changed; `how` is the class of a row that comes.
+  // Shows what has changed. `how` is the class of a new row.
   update({ count, told, rows, messages }, how) {
     for (const [node, path] of Object.entries(rows)) {
       this.change(node, path, how);
@@ -35,7 +35,7 @@ class LiveWindow {
       `${plural(told, "message", "messages")} so far`;
   }
 
-  // A row comes, gets another path, or goes where there is none.
+  // Adds a row, gives it another path, or removes it where `path` is null.
   change(node, path, how) {
     const old = this.rows.get(node);
     this.rows.delete(node);
@@ -81,7 +81,7 @@ async function post(path, body) {
   }
 }
 
-// The formula once more, with a mark on the character of the byte at which it can't be read.
+// Shows the formula again, with a mark on the character at which lq can't read it.
 function showFault(formula, { error, place }) {
   const bytes = new TextEncoder().encode(formula);
   const before = new TextDecoder("utf-8", { ignoreBOM: true }).decode(bytes.slice(0, place ?? 0));
@@ -90,7 +90,8 @@ function showFault(formula, { error, place }) {
   mark.textContent = at;
   const where = document.createElement("code");
   where.append(before, mark, after.join(""));
-  byId("fault").replaceChildren(...(place === undefined ? [error] : [where, `${error} at byte ${place}`]));
+  const said = place === undefined ? [error] : [where, `${error} at byte ${place}`];
+  byId("fault").replaceChildren(...said);
 }
 
 byId("open").onsubmit = async (event) => {
@@ -127,5 +128,8 @@ on("end", ({ error }) => {
   byId("fault").textContent = error;
 });
 source.onerror = () => {
-  document.body.className = "ended"; // the browser tries again by itself
+  document.body.className = "ended";
+  if (source.readyState === EventSource.CLOSED) { // else the browser tries again by itself
+    byId("fault").textContent = "live_folder sends this page no events";
+  }
 };
