@@ -208,7 +208,7 @@ fn gone_of(
     }
 }
 
-// Whether a change removes another node, and this one is lower.
+// Whether a change removes another node that is lower than this one.
 #[inline(always)]
 fn is_below(taken: Option<(u64, &Seen<'_>)>, node: u64) -> bool
     ensures { result ≡ option_map_or (λ e. nat_lt e.0 node) taken.entry false }
