@@ -41,9 +41,9 @@ pub fn turns_fill_ports()
 /// opening, over the changes that the run accepts: each message once and in order.
 ///
 /// The closing mark comes only after the whole list up to the change that it names. Only `Ended`
-/// follows it, and `Ended` comes only after it. Once a change's last message was read, folding gives
-/// the query's result after that change; before the mark, after the change that the mark names. An
-/// opening is answered with the number of the changes before it and the result then.
+/// follows it, and `Ended` comes only after it. Once a change's last message was read, folding
+/// gives the query's result after that change; before the mark, after the change that the mark
+/// names. An opening is answered with the number of the changes before it and the result then.
 pub fn readers_are_told()
     ensures { RunsTellReaders }
 {
