@@ -34,7 +34,7 @@ pub struct Desk {
     slots: Slots,
 }
 
-// One call takes it apart, wherever one is dropped.
+// Dropping one is a single call, instead of code at each place.
 impl Drop for Desk {
     fn drop(self) {
         let Desk {

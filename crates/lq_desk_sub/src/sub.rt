@@ -42,7 +42,7 @@ pub struct Sub {
     lent: bool,
 }
 
-// One call takes it apart, wherever one is dropped.
+// Dropping one is a single call, instead of code at each place.
 impl Drop for Sub {
     fn drop(self) {
         let Sub {

@@ -21,7 +21,7 @@ pub struct Predicate {
     alloc: Global,
 }
 
-// One call takes it apart, wherever one is dropped.
+// Dropping one is a single call, instead of code at each place.
 impl Drop for Predicate {
     fn drop(self) {
         let Predicate { tree: _, alloc: _ } = self;

@@ -32,7 +32,7 @@ pub struct Session {
     scratch: Scratch,
 }
 
-// One call takes it apart, wherever one is dropped.
+// Dropping one is a single call, instead of code at each place.
 impl Drop for Session {
     fn drop(self) {
         let Session {

@@ -24,7 +24,7 @@ pub struct AttrTable {
     many: Option<Box<IndexMap<AttrName, Value>>>,
 }
 
-// One call takes it apart, wherever one is dropped.
+// Dropping one is a single call, instead of code at each place.
 impl Drop for AttrTable {
     fn drop(self) {
         let AttrTable {

@@ -26,7 +26,7 @@ pub struct Entries {
     places: Places,
 }
 
-// One call takes them apart, wherever they are dropped.
+// Dropping one is a single call, instead of code at each place.
 impl Drop for Entries {
     fn drop(self) {
         let Entries {

@@ -20,7 +20,7 @@ pub struct Stored {
     attrs: Attributes,
 }
 
-// One call takes it apart, wherever one is dropped.
+// Dropping one is a single call, instead of code at each place.
 impl Drop for Stored {
     fn drop(self) {
         let Stored {

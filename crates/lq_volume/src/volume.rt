@@ -31,7 +31,7 @@ pub struct Volume {
     entries: Entries,
 }
 
-// One call takes it apart, wherever one is dropped.
+// Dropping one is a single call, instead of code at each place.
 impl Drop for Volume {
     fn drop(self) {
         let Volume {
