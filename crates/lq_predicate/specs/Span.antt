@@ -46,7 +46,7 @@ spans_of q = record {
   times = span_of (codes "last_modified") q;
 }
 
--- both numbers are below a span, or both are above it
+-- whether both numbers are below a span, or both are above it
 abbrev pub is_beside : Span → ℤ → ℤ → Bool
 is_beside span a b =
     (int_lt a span.least && int_lt b span.least)

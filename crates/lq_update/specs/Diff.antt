@@ -9,7 +9,7 @@ use Rattle.lq_volume.specs.Result.{result_of}
 use Rattle.lq_update.specs.declared.message.Opcode.{Opcode}
 use Rattle.lq_update.specs.declared.message.Opcode.TheVariants.{Created, Removed, Moved}
 
--- both entries have the same folder, name and node
+-- whether both entries have the same folder, name and node
 abbrev pub same_entry : Entry → Entry → Bool
 same_entry a b = (a.dir == b.dir) && bytes_eq a.name b.name && (a.node == b.node)
 
@@ -17,7 +17,7 @@ same_entry a b = (a.dir == b.dir) && bytes_eq a.name b.name && (a.node == b.node
 abbrev pub missing : List Entry → List Entry → List Entry
 missing entries others = filter (λ e. not (list_any (same_entry e) others)) entries
 
--- an entry has this node
+-- whether an entry has this node
 abbrev pub has_node : ℕ → List Entry → Bool
 has_node node entries = list_any (λ e. e.node == node) entries
 

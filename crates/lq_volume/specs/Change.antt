@@ -12,11 +12,11 @@ use Rattle.lq_volume.specs.Attributes.{Attributes, value_of, with_attr, without_
 use Rattle.lq_volume.specs.Kind.{is_folder}
 use Rattle.lq_volume.specs.State.{State, Record, root, record_at, kind_at, is_folder_at, has_entries, is_taken, node_in, reaches}
 
--- the node is there and isn't a folder
+-- whether the node is there and isn't a folder
 abbrev pub is_file_at : State → ℕ → Bool
 is_file_at s node = option_map_or (λ k. not (is_folder k)) (kind_at s node) false
 
--- the volume accepts no further change
+-- whether the volume accepts no further change
 abbrev pub is_full : State → Bool
 is_full s = nat_le s.limit s.number
 
@@ -29,11 +29,11 @@ other_than node (Some there) = if there == node then None else Some there
 abbrev pub other_at : State → ℕ → ℕ → List ℕ → Option ℕ
 other_at s node dir name = other_than node (node_in s.records dir name)
 
--- there is another node, with this property
+-- whether there is another node, with this property
 abbrev pub is_other : Option ℕ → (ℕ → Bool) → Bool
 is_other other test = option_map_or test other false
 
--- two tests give different answers
+-- whether two tests give different answers
 abbrev pub differ : Bool → Bool → Bool
 differ a b = if a then not b else b
 

@@ -33,12 +33,12 @@ has_names places dir =
     (λ names. not (length names.first.entries == 0) || not (length names.others.entries == 0))
     (get nat_cmp places dir) false
 
--- a node is the one under the hash of a name
+-- whether a node is the one under the hash of a name
 abbrev pub is_first : Places → ℕ → List ℕ → ℕ → Bool
 is_first places dir name node =
     option_map_or (λ there. there == node) (first_in places dir (hash_of name)) false
 
--- no node is under the hash of a name, except one that is removed
+-- whether no node is under the hash of a name, except one that is removed
 abbrev pub is_open : Places → ℕ → List ℕ → Option ℕ → Bool
 is_open places dir name over =
     option_map_or (λ there. option_map_or (nat_eq there) over false)
@@ -86,7 +86,7 @@ is_named es name node = option_map_or (λ r. bytes_eq r.name name) (lookup (nat_
 abbrev pub found : List (ℕ × Record) → List ℕ → Option ℕ → Option ℕ → Option ℕ
 found es name first other = if option_map_or (is_named es name) first false then first else other
 
--- the record of a node is in a folder, under a name with this hash
+-- whether the record of a node is in a folder, under a name with this hash
 abbrev pub stands : List (ℕ × Record) → ℕ → ℕ → ℕ → Bool
 stands es dir hash node =
     option_map_or (λ r. (r.dir == dir) && (hash_of r.name == hash)) (lookup (nat_eq node) es) false

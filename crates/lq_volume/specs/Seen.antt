@@ -18,6 +18,6 @@ attrs_after difference.None attrs = attrs
 attrs_after (difference.Set attr value) attrs = with_attr attrs attr.now value.now
 attrs_after (difference.Unset attr) attrs = without_attr attrs attr.now
 
--- both records have the same folder and the same name
+-- whether both records have the same folder and the same name
 abbrev pub has_same_place : Record → Record → Bool
 has_same_place a b = (a.dir == b.dir) && bytes_eq a.name b.name
