@@ -247,7 +247,7 @@ fn tell_by_node(
     }
 }
 
-// A change keeps the tree, and alters no more than its own node and the one that it takes away.
+// A change keeps the tree, and alters at most its own node and the one that it removes.
 fn changes_touch_few()
     ensures trees { ChangesKeepTrees }
     ensures stay { UntouchedStay }
