@@ -1,4 +1,4 @@
--- What a desk keeps, what it answers each event, and which worlds it shows.
+-- The state that a desk keeps, its answer to each event, and which worlds it shows.
 use Rattle.std.specs.Prelude.{◌≡◌, ◌⊎◌, ℕ, ◌+◌, ◌-◌, ◌*◌, ◌≤◌, List, [], ◌∷◌, length, map, ◌==◌, nat_le, nat_lt, Option, Some, None, slice_get, slice_set, if◌then◌else◌}
 use Rattle.std.specs.Option.{option_map, option_flatten}
 use Rattle.std.specs.List.{AllByRecursion}
@@ -22,7 +22,7 @@ use Rattle.lq_desk_sub.specs.Held.{Held}
 use Rattle.lq_desk.specs.Slot.{KeptSlot, fresh_slot, slot_after}
 use Rattle.lq_desk.specs.Act.{act_of}
 
--- the volume, the openings so far, and what is in slot k at place k - 1
+-- the volume, the number of openings so far, and the slots: slot k is at index k - 1
 pub record Kept : Type 0 where
   pub volume : State
   pub openings : ℕ
@@ -30,7 +30,7 @@ pub record Kept : Type 0 where
 
 -- ---- a change
 
--- what is kept after a change: each subscription is told it
+-- the state after a change: each live subscription gets its messages
 abbrev pub changed : Kept → Change_ → Kept
 changed k c = record {
   volume = after k.volume c;
@@ -38,7 +38,7 @@ changed k c = record {
   slots = map (option_map (slot_after k.volume c)) k.slots;
 }
 
--- a change that is refused, or made
+-- the outcome of a change that is refused or made
 abbrev pub change_if : Kept → Change_ → Option Refusal → Answer × Kept
 change_if k c (Some e) = (Refused e, k)
 change_if k c None =
@@ -46,7 +46,7 @@ change_if k c None =
 
 -- ---- an opening
 
--- the place of the first free slot
+-- the index of the first free slot
 abbrev pub first_free : List (Option KeptSlot) → ℕ
 first_free [] = 0
 first_free (None ∷ slots) = 0
@@ -59,7 +59,7 @@ opening_refusal k port backlog =
     (opening_refusals (nat_le (length k.slots) (first_free k.slots)) k.openings k.volume.limit port
     backlog)
 
--- what is kept after an opening: the first free slot is taken
+-- the state after an opening: the first free slot is taken
 abbrev pub opened : Kept → KeptSlot → Kept
 opened k s = record {
   volume = k.volume;
@@ -67,7 +67,7 @@ opened k s = record {
   slots = slice_set k.slots (first_free k.slots) (Some s);
 }
 
--- an opening that is refused, or made
+-- the outcome of an opening that is refused or made
 abbrev pub open_if : Kept → KeptSlot → Option Refusal → Answer × Kept
 open_if k s (Some e) = (Refused e, k)
 open_if k s None =
@@ -79,24 +79,24 @@ open_if k s None =
 abbrev pub kept_at : Kept → ℕ → Option KeptSlot
 kept_at k slot = if slot == 0 then None else option_flatten (slice_get k.slots (slot - 1))
 
--- an act at a place that is free, or taken
+-- the outcome of an act at an index that is free or taken
 abbrev pub at_place : Kept → ℕ → Option KeptSlot
     → (KeptSlot → Answer × Option KeptSlot) → Answer × Kept
 at_place k place None does = (Refused NotOpen, k)
 at_place k place (Some s) does =
     ((does s).0, record k { slots = slice_set k.slots place (does s).1 })
 
--- what is done at a slot
+-- the outcome of what is done at a slot
 abbrev pub at_kept : Kept → ℕ → (KeptSlot → Answer × Option KeptSlot) → Answer × Kept
 at_kept k slot does = at_place k (slot - 1) (kept_at k slot) does
 
--- an act at a slot
+-- the outcome of an act at a slot
 abbrev pub kept_act : Kept → ℕ → Act → Answer × Kept
 kept_act k slot a = at_kept k slot (act_of k.volume.number a)
 
 -- ---- all of them
 
--- what an event is answered where this is kept, and what is kept then
+-- the answer to an event in this state, and the state afterwards
 abbrev pub kept_outcome : Kept → Event → Answer × Kept
 kept_outcome k (Change c) = change_if k c (refused k.volume c)
 kept_outcome k (Open q port backlog moved) =
@@ -108,7 +108,7 @@ kept_outcome k (Notice slot) = kept_act k slot act.Notice
 kept_outcome k (Close slot) = kept_act k slot act.Close
 kept_outcome k (Finish slot) = kept_act k slot act.Finish
 
--- a change and an opening that nothing else refuses may run out of memory
+-- a change or an opening that nothing else refuses may run out of memory
 abbrev pub KeptMayRunOut : Kept → Event → Type 0
 KeptMayRunOut k (Change c) = refused k.volume c ≡ None
 KeptMayRunOut k (Open q port backlog moved) = opening_refusal k port backlog ≡ None
@@ -119,18 +119,18 @@ KeptMayRunOut k (Notice slot) = ⊥
 KeptMayRunOut k (Close slot) = ⊥
 KeptMayRunOut k (Finish slot) = ⊥
 
--- its outcome, or a want of memory that leaves what is kept
+-- the event has its outcome, or memory runs out and the state stays the same
 abbrev pub KeptStep : Kept → Event → Answer → Kept → Type 0
 KeptStep k e a l = ((a ≡ (kept_outcome k e).0) × (l ≡ (kept_outcome k e).1))
     ⊎ (KeptMayRunOut k e × (a ≡ Refused NoMemory) × (l ≡ k))
 
 -- ---- the worlds that it shows
 
--- the mark of a subscription that was told this many messages and then ended
+-- the mark of a subscription that ended after this many messages
 abbrev pub mark_of : ℕ → End → Mark
 mark_of n e = record { seq = n + 1; change = e.change; cause = e.cause }
 
--- what a world's subscription leaves with the desk
+-- what the desk holds for a world's subscription
 abbrev pub held_for : Book → Subscribed → Held
 held_for b s = record {
   query = s.query;
@@ -143,7 +143,7 @@ held_for b s = record {
   mark_out = nat_lt (length (updates_due b s)) s.put;
 }
 
--- what a world's subscription has in its slot
+-- the slot of a world's subscription
 abbrev pub slot_for : Book → Subscribed → KeptSlot
 slot_for b s = record {
   held = held_for b s;
@@ -152,7 +152,7 @@ slot_for b s = record {
   hang_up_asked = s.hang_up_asked;
 }
 
--- what the desk keeps where this world stands
+-- the state that a desk keeps for this world
 abbrev pub kept_of : World → Kept
 kept_of w = record {
   volume = state_of w.book;
@@ -160,17 +160,17 @@ kept_of w = record {
   slots = map (option_map (slot_for w.book)) w.slots;
 }
 
--- what is kept is what a desk keeps where this world stands, and the world is fair
+-- this is the state that a desk keeps for this world, and the world is fair
 pub record Shows (k : Kept) (w : World) : Type 0 where
   pub fair : IsFairWorld w
   pub kept : k ≡ kept_of w
 
--- at most so many messages were made
+-- at most this many messages were made
 abbrev pub IsFew : ℕ → Option KeptSlot → Type 0
 IsFew n None = Unit {0}
 IsFew n (Some s) = s.held.sent ≤ n
 
--- a desk has 64 slots, numbers its messages within a `u64`, and shows some world
+-- a desk has 64 slots, its message numbers fit into a `u64`, and it shows some world
 pub record IsDesk (k : Kept) : Type 0 where
   pub slots : length k.slots ≡ 64
   pub few : AllByRecursion (IsFew (3 * k.volume.number)) k.slots

@@ -1,4 +1,4 @@
--- What is so of whatever a desk keeps.
+-- Facts about every desk's state.
 use Rattle.std.specs.Prelude.{◌≡◌, ℕ, List, [], ◌++◌, map, take, Some, if◌then◌else◌}
 use Rattle.std.specs.Option.{option_to_list}
 use Rattle.lq_update.specs.declared.parcel.Parcel.{Parcel}
@@ -12,23 +12,24 @@ use Rattle.lq_desk.specs.Slot.{KeptSlot}
 use Rattle.lq_desk.specs.Kept.{Kept, Shows, kept_at, kept_outcome}
 use Rattle.lq_desk.specs.Turn.{kept_turn_outcome}
 
--- where what is kept shows a world, both answer each event alike, and then show each other again
+-- if a state shows a world, both give each event the same answer, and the next state shows the next
+-- world
 abbrev pub KeptShowsWorlds : Type 0
 KeptShowsWorlds = (k : Kept) (w : World) (e : Event) → Shows k w
     → ((kept_outcome k e).0 ≡ answer w e) × Shows (kept_outcome k e).1 (next w e)
 
--- and carry out each turn alike
+-- the same for each turn
 abbrev pub KeptTurnsShowWorlds : Type 0
 KeptTurnsShowWorlds = (k : Kept) (w : World) (e : Event) → Shows k w →
     ((kept_turn_outcome k e).0 ≡ (turn_outcome w e).0)
     × Shows (kept_turn_outcome k e).1 (turn_outcome w e).1
 
--- the mark, where it hasn't gone out
+-- the mark, unless it was put already
 abbrev pub mark_left : Held → List Parcel
 mark_left h = if h.mark_out then [] else map (λ mark. Fin mark) (option_to_list h.mark)
 
--- Of each subscription of a world that it shows: what was taken, then what is in the port, then the
--- messages held, then a mark that hasn't gone out, is all that the subscription is told.
+-- For each subscription of a world that the state shows: what was taken, then what is in the port,
+-- then the messages held, then a mark that wasn't put yet, is the subscription's whole list.
 abbrev pub KeptPassesListsOn : Type 0
 KeptPassesListsOn = (k : Kept) (w : World) (slot : ℕ) (s : Subscribed) → Shows k w
     → slot_at w slot ≡ Some s →

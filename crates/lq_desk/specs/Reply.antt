@@ -1,4 +1,4 @@
--- The code's replies, as the world's answers.
+-- The code's replies as the world's answers.
 use Rattle.std.specs.Prelude.{List}
 use Rattle.lq_update.specs.declared.parcel.Parcel.TheVariants.{Update, Fin}
 use Rattle.lq_desk_sub.specs.declared.read.Read.{Read as Read_}
@@ -11,14 +11,14 @@ use Rattle.lq_desk_world.specs.Events.{Answer, Changed, Opened, Moved, Took, Emp
 use Rattle.lq_desk_world.specs.Runs.{Step, Run}
 use Rattle.lq_desk.specs.Kept.{Kept, Shows}
 
--- the world's answer to a read
+-- a read as the world's answer
 abbrev pub answer_of_read : Read_ → Answer
 answer_of_read (read.Update message) = Took (Update message)
 answer_of_read (read.Fin mark) = Took (Fin mark)
 answer_of_read read.Empty = Empty
 answer_of_read read.Ended = Ended
 
--- the world's answer
+-- a reply as the world's answer
 abbrev pub answer_of : Reply → Answer
 answer_of (reply.Changed applied) = Changed applied
 answer_of (reply.Opened slot at result) = Opened slot at result.items
@@ -30,13 +30,13 @@ answer_of (reply.Shut change) = Shut change
 answer_of reply.Finished = Finished
 answer_of (reply.Refused refusal) = Refused refusal
 
--- from one world that the desk shows to the next
+-- the desk shows a world after this event, and the world takes this step to it
 pub record Moves (new : Kept) (w : World) (e : Event) (a : Answer) : Type 0 where
   pub next : World
   pub step : Step w e a next
   pub shows : Shows new next
 
--- over several events
+-- the same over several events
 pub record Runs (new : Kept) (w : World) (events : List Event)
     (answers : List Answer) : Type 0 where
   pub end : World

@@ -1,4 +1,4 @@
--- What is in a taken slot: a subscription and its port; and what each act does there.
+-- The contents of a taken slot, a subscription and its port, and what each act does there.
 use Rattle.std.specs.Prelude.{ℕ, zero, suc, ◌-◌, List, [], ◌∷◌, ◌++◌, length, drop, replicate, Bool, true, false, ◌&&◌, ◌==◌, nat_lt, Option, Some, None, is_some, unwrap_or, slice_get, slice_set, if◌then◌else◌}
 use Rattle.std.specs.Option.{option_map, option_flatten}
 use Rattle.lq_value.specs.declared.refusal.Refusal.TheVariants.{NotOpen, StillOpen}
@@ -10,22 +10,22 @@ use Rattle.lq_update.specs.declared.mark.Cause.TheVariants.{Closed, HungUp}
 use Rattle.lq_desk_world.specs.Events.{Answer, Moved, Took, Empty, Ended, Asked, Noticed, Shut, Finished, Refused}
 use Rattle.lq_desk_sub.specs.Held.{Held, Prepared, opened_with, is_live, held_after, prepared, committed, ended_by, next_parcel, without}
 
--- the subscription, how many places its port has, the parcels in it, and whether its end was asked
--- for
+-- the subscription, the number of places of its port, the parcels in it, and whether its end was
+-- asked for
 pub record KeptSlot : Type 0 where
   pub held : Held
   pub port : ℕ
   pub queue : List Parcel
   pub hang_up_asked : Bool
 
--- the same, with the messages of a change that isn't made yet
+-- a slot with the messages of a change that isn't made yet
 pub record PreparedSlot : Type 0 where
   pub sub : Prepared
   pub port : ℕ
   pub queue : List Parcel
   pub hang_up_asked : Bool
 
--- the slot without the messages that are made
+-- the slot without those messages
 abbrev pub slot_of : PreparedSlot → KeptSlot
 slot_of p = record {
   held = p.sub.held;
@@ -34,16 +34,16 @@ slot_of p = record {
   hang_up_asked = p.hang_up_asked;
 }
 
--- slots, and free ones behind them up to 64
+-- these slots, then free ones up to 64
 abbrev pub with_free : List (Option PreparedSlot) → List (Option PreparedSlot)
 with_free slots = slots ++ replicate (64 - length slots) None
 
--- as it is opened
+-- a slot as an opening makes it
 abbrev pub fresh_slot : Query → Bool → ℕ → ℕ → ℕ → KeptSlot
 fresh_slot q moved at port backlog =
     record { held = opened_with q moved at backlog; port = port; queue = []; hang_up_asked = false }
 
--- ---- a change, of those that are live
+-- ---- a change, for live subscriptions
 
 -- a slot after a change
 abbrev pub slot_after : State → Change → KeptSlot → KeptSlot
@@ -53,13 +53,13 @@ slot_after s c k = if is_live k.held then record k { held = held_after s c k.hel
 abbrev pub prepared_slot : State → Change → PreparedSlot → PreparedSlot
 prepared_slot s c p = if is_live p.sub.held then record p { sub = prepared s c p.sub } else p
 
--- a slot with those messages told
+-- a slot with those messages committed
 abbrev pub committed_slot : PreparedSlot → PreparedSlot
 committed_slot p = if is_live p.sub.held then record p { sub = committed p.sub } else p
 
--- ---- the acts: the answer, and what is in the slot then
+-- ---- the acts: the answer, and the contents of the slot afterwards
 
--- a put, where the port has room, and of the next parcel if there is one
+-- a put of the next parcel, if there is one and the port has room
 abbrev pub put_if : KeptSlot → Bool → Option Parcel → Answer × Option KeptSlot
 put_if k true (Some p) =
     (Moved true, Some (record k { held = without k.held (Some p); queue = k.queue ++ p ∷ [] }))
@@ -83,7 +83,7 @@ read_if k None = (if is_read k then Ended else Empty, Some k)
 abbrev pub read_slot : KeptSlot → Answer × Option KeptSlot
 read_slot k = read_if k (slice_get k.queue 0)
 
--- the end is asked for
+-- a request to end
 abbrev pub ask_slot : KeptSlot → Answer × Option KeptSlot
 ask_slot k = (Asked, Some (record k { hang_up_asked = true }))
 
@@ -92,7 +92,7 @@ abbrev pub notice_if : ℕ → KeptSlot → Bool → Answer × Option KeptSlot
 notice_if number k true = (Noticed true, Some (record k { held = ended_by k.held HungUp number }))
 notice_if number k false = (Noticed false, Some k)
 
--- a noticing that its end was asked for
+-- the notice that its end was asked for
 abbrev pub notice_slot : ℕ → KeptSlot → Answer × Option KeptSlot
 notice_slot number k = notice_if number k (is_live k.held && k.hang_up_asked)
 
@@ -101,7 +101,7 @@ abbrev pub close_if : ℕ → KeptSlot → Bool → Answer × Option KeptSlot
 close_if number k true = (Shut number, Some (record k { held = ended_by k.held Closed number }))
 close_if number k false = (Refused NotOpen, Some k)
 
--- a closing
+-- a close
 abbrev pub close_slot : ℕ → KeptSlot → Answer × Option KeptSlot
 close_slot number k = close_if number k (is_live k.held)
 
@@ -110,26 +110,26 @@ abbrev pub finish_if : KeptSlot → Bool → Answer × Option KeptSlot
 finish_if k true = (Finished, None)
 finish_if k false = (Refused StillOpen, Some k)
 
--- a finishing
+-- a finish
 abbrev pub finish_slot : KeptSlot → Answer × Option KeptSlot
 finish_slot k = finish_if k (is_read k)
 
--- ---- which slots have something to do, and what is in them when it is done
+-- ---- which slots have work to do, and their contents afterwards
 
--- whether a test holds of what stands in a slot
+-- whether a slot's contents pass a test; a free slot doesn't
 abbrev pub passes : {T : Type 0} → (T → Bool) → Option T → Bool
 passes test None = false
 passes test (Some x) = test x
 
--- a live one whose messages of a change aren't told yet
+-- a live subscription whose messages of a change aren't committed yet
 abbrev pub has_ready : PreparedSlot → Bool
 has_ready p = is_live p.sub.held && nat_lt 0 (length p.sub.ready)
 
--- a live one whose end was asked for
+-- a live subscription whose end was asked for
 abbrev pub is_ending : KeptSlot → Bool
 is_ending k = is_live k.held && k.hang_up_asked
 
--- a slot after a noticing
+-- a slot after a notice
 abbrev pub noticed : ℕ → KeptSlot → KeptSlot
 noticed number k = if is_ending k then record k { held = ended_by k.held HungUp number } else k
 
@@ -137,7 +137,7 @@ noticed number k = if is_ending k then record k { held = ended_by k.held HungUp 
 abbrev pub can_move : KeptSlot → Bool
 can_move k = nat_lt (length k.queue) k.port && is_some (next_parcel k.held)
 
--- after a put, and after several
+-- a slot after one put
 abbrev pub after_put : KeptSlot → KeptSlot
 after_put k = unwrap_or (put_slot k).1 k
 
@@ -146,10 +146,10 @@ abbrev pub after_puts : ℕ → KeptSlot → KeptSlot
 after_puts zero k = k
 after_puts (suc n) k = after_puts n (after_put k)
 
--- after as many as its port has places: nothing moves after them
+-- a slot after as many puts as its port has places: nothing moves after them
 abbrev pub filled : KeptSlot → KeptSlot
 filled k = after_puts k.port k
 
--- slots, with that done in the one of a place
+-- the slots, with the one at an index changed in this way
 abbrev pub done_at : (KeptSlot → KeptSlot) → List (Option KeptSlot) → ℕ → List (Option KeptSlot)
 done_at f ks place = slice_set ks place (option_map f (option_flatten (slice_get ks place)))

@@ -1,4 +1,4 @@
--- What a desk does in one turn: an event, and what it does about it of itself.
+-- What a desk does in one turn: an event, and the steps that the desk adds by itself.
 use Rattle.std.specs.Prelude.{◌≡◌, ◌++◌, ◌∷◌, ℕ, List, length, map, Option}
 use Rattle.std.specs.Option.{option_map}
 use Rattle.lq_desk_world.specs.World.{World}
@@ -9,33 +9,33 @@ use Rattle.lq_desk.specs.Slot.{KeptSlot}
 use Rattle.lq_desk.specs.Kept.{Kept, KeptStep, kept_outcome}
 use Rattle.lq_desk.specs.Reply.{Runs}
 
--- how many places a slot's port has
+-- the number of places of a slot's port
 abbrev pub slot_port : KeptSlot → ℕ
 slot_port s = s.port
 
--- how many places each slot's port has, where the slot is taken
+-- the number of places of each taken slot's port
 abbrev pub kept_ports : Kept → List (Option ℕ)
 kept_ports k = map (option_map slot_port) k.slots
 
--- the turn that an event begins: the event, and those that go before it and after it
+-- the turn that an event begins: the event, and the steps before and after it
 abbrev pub kept_turn : Kept → Event → Turn
 kept_turn k e = turn_of (kept_ports k) e
 
--- what the event is answered, and what is kept after the turn
+-- the answer to the event, and the state after the turn
 abbrev pub kept_turn_outcome : Kept → Event → Answer × Kept
 kept_turn_outcome k e = carried_out kept_outcome k (kept_turn k e)
 
--- what is kept after events that take no memory
+-- the state after events that take no memory
 abbrev pub kept_after : Kept → List Event → Kept
 kept_after k events = after_all kept_outcome k events
 
--- the whole turn, also where its event wants memory that isn't there
+-- a whole turn, whose event may also run out of memory
 pub record TurnStep (k : Kept) (e : Event) (a : Answer) (l : Kept) : Type 0 where
   pub middle : Kept
   pub step : KeptStep (kept_after k (kept_turn k e).before) e a middle
   pub after : l ≡ kept_after middle (kept_turn k e).after
 
--- a turn is a run of its events, and the answer is that of the event
+-- a turn is a run of its events, and its answer is the answer to its own event
 pub record TurnRuns (k l : Kept) (w : World) (e : Event) (a : Answer) : Type 0 where
   pub before : List Answer
   pub after : List Answer

@@ -1,19 +1,19 @@
--- Words of bits, a bit for each slot: no slot has something to do whose bit is clear.
+-- Words with a bit for each slot: a slot whose bit is clear has no work to do.
 use Rattle.std.specs.Prelude.{◌≡◌, ℕ, List, Bool, true, Option, Some, slice_get}
 use Rattle.std.specs.Int.{bit_at}
 use Rattle.lq_desk.specs.Slot.{KeptSlot, can_move, is_ending}
 
--- the bit is set of each slot that passes a test
+-- the bit of each slot that passes a test is set
 abbrev pub IsMarked : {T : Type 0} → (T → Bool) → ℕ → List (Option T) → Type 0
 IsMarked {T} test word slots = (i : ℕ) (x : T) → slice_get slots i ≡ Some (Some x) → test x ≡ true
     → bit_at word i ≡ 1
 
--- those that are ending, and those into whose port a parcel could move
+-- the words for slots that are ending, and for slots whose port could take a parcel
 pub record AreMarked (ending movable : ℕ) (ks : List (Option KeptSlot)) : Type 0 where
   pub ends : IsMarked is_ending ending ks
   pub moves : IsMarked can_move movable ks
 
--- a word with the bit of a place set too, where that is asked for
+-- the bit at an index is also set, if `is_set`; the bits set before stay set
 pub record SetsBit (old : ℕ) (place : ℕ) (is_set : Bool) (new : ℕ) : Type 0 where
   pub here : is_set ≡ true → bit_at new place ≡ 1
   pub others : (i : ℕ) → bit_at old i ≡ 1 → bit_at new i ≡ 1

@@ -24,9 +24,9 @@ use std::marker::Model;
 /// The most places of a port.
 const MAX_PORT: u64 = 1024;
 
-/// The volume and its live queries with their ports, one event at a time.
+/// The volume and its live queries with their ports; it takes one event at a time.
 ///
-/// A contract sees it as what it keeps, which shows a world.
+/// Contracts see it as the state that it keeps (`Kept`), which shows a world.
 pub struct Desk {
     volume: Volume,
     openings: u64,
@@ -34,7 +34,7 @@ pub struct Desk {
     slots: Slots,
 }
 
-// One call takes it apart, wherever one is dropped.
+// Dropping one is a single call, instead of code at each place.
 impl Drop for Desk {
     fn drop(self) {
         let Desk {
@@ -106,13 +106,13 @@ impl Desk {
         &self.volume
     }
 
-    /// Carries out one event, and answers it.
+    /// Carries out one event and answers it.
     ///
-    /// A change is refused as `Volume::apply` refuses it; an opening, the first that fits, with
-    /// `BadPort`, `BadBacklog`, `NoSlot`, `Exhausted`, `NoMemory`; an act at a slot that is free
-    /// with `NotOpen`, and so is a close of a subscription that has ended; the finish of a slot
-    /// whose mark wasn't read with `StillOpen`. A refused event changes nothing. Only a change and
-    /// an opening take memory.
+    /// A change is refused as by `Volume::apply`. An opening is refused with the first that fits of
+    /// `BadPort`, `BadBacklog`, `NoSlot`, `Exhausted`, `NoMemory`; an act at a free slot, and the
+    /// close of a subscription that has ended, with `NotOpen`; the finish of a slot whose mark
+    /// wasn't read with `StillOpen`. A refused event changes nothing. Only a change and an opening
+    /// take memory.
     pub fn event(&mut self, event: &Event) -> Reply
         ensures kept { KeptStep self.old event.now (answer_of result) self.new }
         ensures world { (w : World) → Shows self.old w →
@@ -128,11 +128,11 @@ impl Desk {
         self.carry_out(event)
     }
 
-    /// Carries out events one after another, and answers each.
+    /// Carries out events in order and answers each.
     ///
     /// Refused: `NoMemory`, before any event. The reads of each subscription that these events open
-    /// are answered as a reader of its update list is told: each message once and in order, the
-    /// mark after them, and after each change that folds to the query's result.
+    /// are answered from its update list: each message once and in order, then the mark. After each
+    /// change the messages read fold to the query's result.
     pub fn run(&mut self, events: &[Event]) -> Result<Vec<Reply>, Refusal>
         ensures refused { IsRefusedBy result None }
         ensures run { IfOk result (λ replies. (w : World) → Shows self.old w →
@@ -152,7 +152,7 @@ impl Desk {
         Ok(replies)
     }
 
-    // Carries out one event, and answers it.
+    // Carries out one event and answers it.
     fn carry_out(&mut self, event: &Event) -> Reply
         ensures { KeptStep self.old event.now (answer_of result) self.new }
     {
@@ -179,8 +179,8 @@ impl Desk {
         }
     }
 
-    // Makes a change, and tells each live query: the messages first, which may want memory, then
-    // the change, and then the messages are told.
+    // Makes a change and notifies each live query. It first makes the messages, which may fail for
+    // lack of memory, then makes the change, then commits the messages.
     fn change(&mut self, change: &Change) -> Result<Applied, Refusal>
         ensures refused { IsRefusedBy result (refused self.old.volume change.now) }
         ensures value { IfOk result (λ applied. applied ≡ record {
@@ -246,7 +246,7 @@ impl Desk {
         })
     }
 
-    // Does an act at a slot.
+    // Carries out an act at a slot.
     fn act(&mut self, slot: u64, act: Act) -> Reply
         ensures { (answer_of result, self.new) ≡ kept_act self.old slot act }
     {

@@ -5,7 +5,7 @@ use lq_desk_world::{lists_are_passed_on, runs_keep_worlds_fair};
 use lq_update::updates_join;
 use lq_volume::changes_are_counted;
 
-/// What a desk keeps answers each event as any world that it shows, and goes on showing it.
+/// A desk's state answers each event as any world that it shows, and then shows the next world.
 pub fn kept_shows_worlds()
     ensures { KeptShowsWorlds }
 {
@@ -14,15 +14,16 @@ pub fn kept_shows_worlds()
     runs_keep_worlds_fair();
 }
 
-/// And carries out each turn as that world does.
+/// A desk's state also carries out each turn as any world that it shows, and then shows the next
+/// world.
 pub fn kept_turns_show_worlds()
     ensures { KeptTurnsShowWorlds }
 {
     kept_shows_worlds();
 }
 
-/// What was taken of a subscription, then what is in its port, then what is held for it, then a
-/// mark that hasn't gone out, is its whole list.
+/// A subscription's whole list is, in order: what was taken, what is in its port, what is held for
+/// it, and a mark that wasn't put yet.
 pub fn kept_passes_lists_on()
     ensures { KeptPassesListsOn }
 {

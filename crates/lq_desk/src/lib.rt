@@ -1,8 +1,8 @@
-//! The core of the live query server with its ports, one event at a time, without threads.
+//! The core of the live query server with its ports: one event at a time, without threads.
 //!
-//! A contract sees a desk as what it keeps (`specs/Kept`), which shows a world of lq_desk_world: a
-//! book of changes and the subscriptions over it. Of a subscription a contract sees what
-//! lq_desk_sub shows and what is in its port (`specs/Slot`). Nothing here waits. Begin with
+//! Contracts see a desk as the state that it keeps (`specs/Kept`), which shows a world of
+//! lq_desk_world: a book of changes and the subscriptions over it. They see a subscription as
+//! lq_desk_sub shows it, with what is in its port (`specs/Slot`). Nothing here waits. Begin with
 //! `event` of lq_desk_world, then `desk`.
 #![tactic(auto)]
 

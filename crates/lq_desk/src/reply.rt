@@ -1,9 +1,9 @@
-//! What the desk answers.
+//! The desk's replies.
 use lq_desk_sub::Read;
 use lq_value::{Entry, Refusal};
 use lq_volume::Applied;
 
-/// What the desk answers an event.
+/// The desk's reply to an event.
 #[derive(Drop)]
 pub enum Reply {
     /// The change was accepted.
@@ -16,9 +16,9 @@ pub enum Reply {
     },
     /// Whether a parcel moved into the port.
     Moved(bool),
-    /// What was taken of the port.
+    /// What was taken from the port.
     Took(Read),
-    /// The end of the subscription was asked for.
+    /// The subscription is asked to end.
     Asked,
     /// Whether this event ended the subscription.
     Noticed(bool),

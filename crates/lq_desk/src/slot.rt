@@ -1,4 +1,4 @@
-//! A taken slot: a subscription beside its port.
+//! A taken slot: a subscription with its port.
 ghost use Rattle.std.specs.Prelude.{◌≡◌, ◌<◌, ◌≤◌, ◌^◌, ◌-◌, true, if◌then◌else◌, None, Some, IfOk, OnOk, OnErr};
 ghost use Rattle.lq_value.specs.Refusal.{IsRefusedBy};
 ghost use Rattle.std.specs.Option.{option_map};
@@ -76,7 +76,7 @@ impl Slot {
         })
     }
 
-    /// Makes the messages of a change, where it is live.
+    /// Makes the messages of a change, if the subscription is live.
     pub fn ready(&mut self, planned: &Planned<'_>) -> Result<(), Refusal>
         requires few { self.old.sub.held.sent < 2 ^ 63 }
         ensures refused { IsRefusedBy result None }
@@ -90,7 +90,7 @@ impl Slot {
         Ok(())
     }
 
-    /// Tells the messages that were made, where it is live.
+    /// Commits the messages that were made, if the subscription is live.
     pub fn commit(&mut self)
         requires { self.old.sub.held.sent < 2 ^ 63 }
         ensures { self.new ≡ committed_slot self.old }
@@ -100,14 +100,14 @@ impl Slot {
         }
     }
 
-    /// Whether it is live, with messages of a change that aren't told yet.
+    /// Whether the subscription is live and has messages of a change that aren't committed yet.
     pub fn has_ready(&self) -> bool
         ensures { result ≡ has_ready self.now }
     {
         self.sub.is_live() && self.sub.has_ready()
     }
 
-    /// Moves the next parcel into the port, where that has room, and tells whether there was one.
+    /// Moves the next parcel into the port if there is room; answers whether one moved.
     pub fn put(&mut self) -> bool
         ensures { (Moved result, Some (slot_of self.new)) ≡ put_slot (slot_of self.old) }
     {
@@ -141,7 +141,7 @@ impl Slot {
         (self.queue.len() as u64) < self.port && self.sub.has_next()
     }
 
-    /// Reads the first parcel in the port, which takes it out.
+    /// Takes the first parcel out of the port and answers it.
     pub fn read(&mut self) -> Read
         ensures { (answer_of_read result, Some (slot_of self.new)) ≡ read_slot (slot_of self.old) }
     {
@@ -158,21 +158,21 @@ impl Slot {
         }
     }
 
-    /// Notes that its end is asked for.
+    /// Notes that the subscription's end is asked for.
     pub fn hang_up(&mut self)
         ensures { slot_of self.new ≡ record (slot_of self.old) { hang_up_asked = true } }
     {
         self.hang_up_asked = true;
     }
 
-    /// Whether it is live, and its end was asked for.
+    /// Whether the subscription is live and its end was asked for.
     pub fn is_ending(&self) -> bool
         ensures { result ≡ is_ending (slot_of self.now) }
     {
         self.sub.is_live() && self.hang_up_asked
     }
 
-    /// Ends it where that was asked for, and tells whether it did.
+    /// Ends the subscription if it is live and its end was asked for; answers whether it did.
     pub fn notice(&mut self, number: u64) -> bool
         requires { self.old.sub.held.sent < 2 ^ 63 }
         ensures does { (Noticed result, Some (slot_of self.new))
@@ -186,7 +186,7 @@ impl Slot {
         ends
     }
 
-    /// Ends it unless it has ended, and tells whether it did.
+    /// Ends the subscription unless it has ended; answers whether it did.
     pub fn close(&mut self, number: u64) -> bool
         requires { self.old.sub.held.sent < 2 ^ 63 }
         ensures ended { result ≡ is_live self.old.sub.held }
@@ -201,14 +201,14 @@ impl Slot {
         ends
     }
 
-    /// How many places its port has.
+    /// The number of places of its port.
     pub fn places(&self) -> u64
         ensures { result ≡ (slot_of self.now).port }
     {
         self.port
     }
 
-    /// Whether its mark went out, and its port is empty.
+    /// Whether its mark was put into the port, and the port is empty.
     pub fn is_read(&self) -> bool
         ensures { result ≡ is_read (slot_of self.now) }
     {
@@ -216,7 +216,7 @@ impl Slot {
     }
 }
 
-/// Does an act at a slot that may be free.
+/// Carries out an act at a slot that may be free.
 pub fn act_at(slot: &mut Option<Slot>, act: Act, number: u64) -> Reply
     requires { IsFew (2 ^ 63 - 1) (option_map slot_of slot.old) }
     ensures { (answer_of result, option_map slot_of slot.new)
@@ -251,7 +251,7 @@ pub fn act_at(slot: &mut Option<Slot>, act: Act, number: u64) -> Reply
     }
 }
 
-/// Notices the end of a slot's subscription, where a test says that it may be asked for.
+/// Notices the end of a slot's subscription, if the flag says that it may have been asked for.
 pub fn notice_at(slot: &mut Option<Slot>, may_end: bool, number: u64)
     requires few { IsFew (2 ^ 63 - 1) (option_map slot_of slot.old) }
     requires ends { passes is_ending (option_map slot_of slot.old) ≡ true → may_end ≡ true }
@@ -266,7 +266,7 @@ pub fn notice_at(slot: &mut Option<Slot>, may_end: bool, number: u64)
     }
 }
 
-/// Fills a slot's port, where a test says that something may move.
+/// Fills a slot's port, if the flag says that a parcel may move.
 pub fn fill_at(slot: &mut Option<Slot>, may_move: bool)
     requires { passes can_move (option_map slot_of slot.old) ≡ true → may_move ≡ true }
     ensures { option_map slot_of slot.new ≡ option_map filled (option_map slot_of slot.old) }
@@ -299,7 +299,7 @@ pub fn can_move_at(slot: &Option<Slot>) -> bool
     }
 }
 
-/// Makes the messages of a change for a slot, where a live subscription is there, and tells whether
+/// Makes the messages of a change for a slot, if a live subscription is there; answers whether
 /// there are any.
 pub fn ready_at(slot: &mut Option<Slot>, planned: &Planned<'_>) -> Result<bool, Refusal>
     requires few { IsFew (2 ^ 63 - 1) (option_map slot_of slot.old) }
@@ -316,7 +316,7 @@ pub fn ready_at(slot: &mut Option<Slot>, planned: &Planned<'_>) -> Result<bool, 
     Ok(there.has_ready())
 }
 
-/// Tells a slot's messages, where a test says that there may be some.
+/// Commits a slot's messages, if the flag says that there may be some.
 pub fn commit_at(slot: &mut Option<Slot>, may_tell: bool)
     requires few { IsFew (2 ^ 63 - 1) (option_map slot_of slot.old) }
     requires tells { passes has_ready slot.old ≡ true → may_tell ≡ true }

@@ -1,4 +1,4 @@
-//! The slots of a desk, all or one.
+//! The slots of a desk: acts on all of them or on one.
 ghost use Rattle.std.specs.Prelude.{◌≡◌, ◌<◌, ◌≤◌, ◌^◌, ◌-◌, None, Some, true, IfOk, OnOk, OnErr, map, length, replicate, slice_get, slice_set, vec_len};
 ghost use Rattle.std.specs.Vec.{vec_capacity};
 ghost use Rattle.std.specs.List.{AllByRecursion};
@@ -21,13 +21,13 @@ use lq_volume::Planned;
 use std::alloc::Global;
 use std::marker::Model;
 
-/// How many slots a desk has.
+/// The number of slots of a desk.
 pub const SLOTS: usize = 64;
 
-/// The slots of a desk. Those after the last one that was ever taken are free, and not stored.
+/// The slots of a desk. Those after the last one that was ever taken are free, and aren't stored.
 ///
-/// A word has a bit for each slot that may be ending, and one for each whose port may take a
-/// parcel: a slot whose bit is clear isn't looked at.
+/// Two words have a bit for each slot: one for slots that may be ending, the other for slots whose
+/// port may take a parcel. A slot whose bit is clear isn't looked at.
 #[derive(Drop)]
 pub struct Slots {
     stored: Vec<Option<Slot>>,
@@ -67,7 +67,7 @@ impl Slots {
         })
     }
 
-    /// The place of the first free slot, or 64.
+    /// The index of the first free slot, or 64.
     pub fn first_free(&self) -> usize
         ensures { result ≡ first_free (map (option_map slot_of) self.now) }
     {
@@ -90,8 +90,8 @@ impl Slots {
         }
     }
 
-    /// Makes the messages of a change for each subscription. The word has a bit for each slot with
-    /// messages.
+    /// Makes the messages of a change for each subscription; answers a word with a bit for each
+    /// slot that has messages.
     pub fn ready(&mut self, planned: &Planned<'_>) -> Result<u64, Refusal>
         requires few { AllByRecursion (IsFew (2 ^ 63 - 1)) (map (option_map slot_of) self.old) }
         ensures refused { IsRefusedBy result None }
@@ -104,7 +104,7 @@ impl Slots {
         Ok(ready_all(&mut self.stored, planned)?)
     }
 
-    /// Tells each subscription's messages, by a word with a bit for each slot that has some.
+    /// Commits each subscription's messages; the word has a bit for each slot that has some.
     pub fn commit(&mut self, told: u64)
         requires few { AllByRecursion (IsFew (2 ^ 63 - 1)) (map (option_map slot_of) self.old) }
         requires told { IsMarked has_ready told self.old }
@@ -117,7 +117,7 @@ impl Slots {
         self.movable |= told;
     }
 
-    /// Notices the end of each subscription that asks for it.
+    /// Ends each live subscription whose end was asked for.
     pub fn notice_all(&mut self, number: u64)
         requires { AllByRecursion (IsFew (2 ^ 63 - 1)) (map (option_map slot_of) self.old) }
         ensures { map (option_map slot_of) self.new ≡
@@ -143,7 +143,7 @@ impl Slots {
         self.movable = 0;
     }
 
-    /// Notices the end of the subscription at a place, where it asks for it.
+    /// Ends the subscription at an index, if it is live and its end was asked for.
     pub fn notice(&mut self, place: usize, number: u64)
         requires place { place < 64 }
         requires few { AllByRecursion (IsFew (2 ^ 63 - 1)) (map (option_map slot_of) self.old) }
@@ -157,7 +157,7 @@ impl Slots {
         self.movable |= self.ending;
     }
 
-    /// Fills the port of the slot at a place.
+    /// Fills the port of the slot at an index.
     pub fn fill(&mut self, place: usize)
         requires { place < 64 }
         ensures { map (option_map slot_of) self.new ≡
@@ -169,7 +169,7 @@ impl Slots {
         fill_in(&mut self.stored, place, has_bit(self.movable, place));
     }
 
-    /// Does an act at the slot of a place.
+    /// Carries out an act at the slot with this index.
     pub fn act(&mut self, place: usize, act: Act, number: u64) -> Reply
         requires place { place < 64 }
         requires few { AllByRecursion (IsFew (2 ^ 63 - 1)) (map (option_map slot_of) self.old) }
@@ -186,7 +186,7 @@ impl Slots {
     }
 }
 
-// The place of the first free slot, or how many slots there are.
+// The index of the first free slot, or the number of slots.
 fn first_free(slots: &[Option<Slot>]) -> usize
     ensures { result ≡ first_free (map (option_map slot_of) slots.now) }
 {
@@ -200,7 +200,7 @@ fn first_free(slots: &[Option<Slot>]) -> usize
     place
 }
 
-// Puts a subscription into the slot of a place.
+// Puts a subscription into the slot at an index.
 fn fill(slots: &mut Vec<Option<Slot>>, place: usize, slot: Slot)
     requires { place < length slots.old.items }
     ensures items { slots.new.items ≡ slice_set slots.old.items place (Some slot) }
@@ -210,8 +210,8 @@ fn fill(slots: &mut Vec<Option<Slot>>, place: usize, slot: Slot)
     slots[place] = Some(slot);
 }
 
-// Makes the messages of a change for each subscription. The word has a bit for each slot with
-// messages.
+// Makes the messages of a change for each subscription; answers a word with a bit for each slot
+// that has messages.
 fn ready_all(slots: &mut Vec<Option<Slot>>, planned: &Planned<'_>) -> Result<u64, Refusal>
     requires within { length slots.old.items ≤ 64 }
     requires few { AllByRecursion (IsFew (2 ^ 63 - 1)) (map (option_map slot_of) slots.old.items) }
@@ -234,7 +234,7 @@ fn ready_all(slots: &mut Vec<Option<Slot>>, planned: &Planned<'_>) -> Result<u64
     Ok(told)
 }
 
-// Tells each subscription's messages, by a word with a bit for each slot that has some.
+// Commits each subscription's messages; the word has a bit for each slot that has some.
 fn commit_all(slots: &mut Vec<Option<Slot>>, told: u64)
     requires within { length slots.old.items ≤ 64 }
     requires few { AllByRecursion (IsFew (2 ^ 63 - 1)) (map (option_map slot_of) slots.old.items) }
@@ -250,7 +250,7 @@ fn commit_all(slots: &mut Vec<Option<Slot>>, told: u64)
     }
 }
 
-// Notices the end of each subscription that asks for it, by a word with a bit for each of them.
+// Ends each live subscription whose end was asked for; the word has a bit for each of them.
 fn notice_all(slots: &mut Vec<Option<Slot>>, ending: u64, number: u64)
     requires within { length slots.old.items ≤ 64 }
     requires few { AllByRecursion (IsFew (2 ^ 63 - 1)) (map (option_map slot_of) slots.old.items) }
@@ -267,7 +267,7 @@ fn notice_all(slots: &mut Vec<Option<Slot>>, ending: u64, number: u64)
     }
 }
 
-// Fills each port, by a word with a bit for each that may take a parcel.
+// Fills each port; the word has a bit for each that may take a parcel.
 fn fill_all(slots: &mut Vec<Option<Slot>>, movable: u64)
     requires within { length slots.old.items ≤ 64 }
     requires moves { IsMarked can_move movable (map (option_map slot_of) slots.old.items) }
@@ -283,7 +283,7 @@ fn fill_all(slots: &mut Vec<Option<Slot>>, movable: u64)
     }
 }
 
-// Notices the end of the subscription at a place, where a test says that it may be asked for.
+// Notices the end of the subscription at an index, if the flag says that it may be asked for.
 fn notice_in(slots: &mut Vec<Option<Slot>>, place: usize, may_end: bool, number: u64)
     requires place { place < length slots.old.items }
     requires few { AllByRecursion (IsFew (2 ^ 63 - 1)) (map (option_map slot_of) slots.old.items) }
@@ -297,7 +297,7 @@ fn notice_in(slots: &mut Vec<Option<Slot>>, place: usize, may_end: bool, number:
     notice_at(&mut slots[place], may_end, number);
 }
 
-// Fills the port of the slot at a place, where a test says that something may move.
+// Fills the port of the slot at an index, if the flag says that a parcel may move.
 fn fill_in(slots: &mut Vec<Option<Slot>>, place: usize, may_move: bool)
     requires place { place < length slots.old.items }
     requires moves { passes can_move (option_flatten (slice_get (map (option_map slot_of)
@@ -310,7 +310,7 @@ fn fill_in(slots: &mut Vec<Option<Slot>>, place: usize, may_move: bool)
     fill_at(&mut slots[place], may_move);
 }
 
-// Whether the subscription at a place is live, and its end was asked for.
+// Whether the subscription at an index is live and its end was asked for.
 fn is_ending_in(slots: &Vec<Option<Slot>>, place: usize) -> bool
     requires { place < length slots.now.items }
     ensures { result ≡ passes is_ending
@@ -319,7 +319,7 @@ fn is_ending_in(slots: &Vec<Option<Slot>>, place: usize) -> bool
     is_ending_at(&slots[place])
 }
 
-// Whether a parcel could move into the port of the slot at a place.
+// Whether a parcel could move into the port of the slot at an index.
 fn can_move_in(slots: &Vec<Option<Slot>>, place: usize) -> bool
     requires { place < length slots.now.items }
     ensures { result ≡ passes can_move
@@ -328,7 +328,7 @@ fn can_move_in(slots: &Vec<Option<Slot>>, place: usize) -> bool
     can_move_at(&slots[place])
 }
 
-// Does an act at the slot of a place.
+// Carries out an act at the slot with this index.
 fn act_in(slots: &mut Vec<Option<Slot>>, place: usize, act: Act, number: u64) -> Reply
     requires place { place < length slots.old.items }
     requires few { AllByRecursion (IsFew (2 ^ 63 - 1)) (map (option_map slot_of) slots.old.items) }

@@ -1,9 +1,9 @@
-//! Words of bits: a bit for each slot.
+//! Words with a bit for each slot.
 ghost use Rattle.std.specs.Prelude.{◌≡◌, ◌<◌, ◌==◌};
 ghost use Rattle.std.specs.Int.{bit_at};
 ghost use Rattle.lq_desk.specs.Words.{SetsBit};
 
-/// Whether the bit of a place is set.
+/// Whether the bit with this index is set.
 pub fn has_bit(word: u64, place: usize) -> bool
     requires { place < 64 }
     ensures { result ≡ (bit_at word place == 1) }
@@ -11,7 +11,7 @@ pub fn has_bit(word: u64, place: usize) -> bool
     (word >> place) & 1 == 1
 }
 
-/// A word with the bit of a place set too, where that is asked for.
+/// A word with the bit of an index also set, if `is_set`.
 pub fn with_bit(word: u64, place: usize, is_set: bool) -> u64
     requires { place < 64 }
     ensures { SetsBit word place is_set result }

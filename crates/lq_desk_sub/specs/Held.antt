@@ -1,4 +1,4 @@
--- What a subscription has in the code: what it was opened with, what waits, and its mark.
+-- A subscription in the code: how it was opened, what it holds, and its mark.
 use Rattle.std.specs.Prelude.{ℕ, ◌+◌, List, [], ◌∷◌, ◌++◌, length, drop, Bool, true, false, ◌&&◌, nat_lt, Option, Some, None, is_none}
 use Rattle.lq_predicate_formula.specs.Query.{Query}
 use Rattle.lq_volume.specs.declared.change.Change.{Change}
@@ -11,8 +11,8 @@ use Rattle.lq_update.specs.declared.parcel.Parcel.{Parcel}
 use Rattle.lq_update.specs.declared.parcel.Parcel.TheVariants.{Update, Fin}
 use Rattle.lq_update.specs.Updates.{step_of}
 
--- Its query, the number of changes at its opening and its backlog; how many messages were made so
--- far and which of them are held; its mark, if it has ended, and whether that went out.
+-- The query, the number of changes at the opening, and the backlog; the number of messages made so
+-- far, and those held; the mark, if the subscription has ended, and whether the mark went out.
 pub record Held : Type 0 where
   pub query : Query
   pub moved : Bool
@@ -23,15 +23,15 @@ pub record Held : Type 0 where
   pub mark : Option Mark
   pub mark_out : Bool
 
--- the same, with the messages of a change that are made and not yet held, the number before that
--- change, and whether there is room to put a parcel back
+-- the same with the messages of a change that are made and not held yet, the number of changes
+-- before it, and whether there is room to put a parcel back
 pub record Prepared : Type 0 where
   pub held : Held
   pub ready : List Message
   pub before : ℕ
   pub lent : Bool
 
--- as it is opened
+-- a subscription as it is opened
 abbrev pub opened_with : Query → Bool → ℕ → ℕ → Held
 opened_with q moved at backlog = record {
   query = q;
@@ -44,18 +44,18 @@ opened_with q moved at backlog = record {
   mark_out = false;
 }
 
--- it has not ended
+-- the subscription hasn't ended
 abbrev pub is_live : Held → Bool
 is_live h = is_none h.mark
 
 -- ---- a change
 
--- with these messages held too
+-- with these messages added to those held
 abbrev pub with_messages : Held → List Message → Held
 with_messages h messages =
     record h { sent = h.sent + length messages; messages = h.messages ++ messages }
 
--- ended: the mark has the number behind the last message
+-- ended: the mark has the number after that of the last message
 abbrev pub ended_by : Held → Cause → ℕ → Held
 ended_by h cause change =
     record h { mark = Some (record { seq = h.sent + 1; change = change; cause = cause }) }
@@ -65,33 +65,33 @@ abbrev pub overruns : Held → List Message → Bool
 overruns h messages =
     nat_lt 0 (length messages) && nat_lt h.backlog (length h.messages + length messages)
 
--- they are held, or it ends before their change
+-- the messages are held, or the subscription ends before their change
 abbrev pub after_messages_by : Held → List Message → ℕ → Bool → Held
 after_messages_by h messages before true = ended_by h Overrun before
 after_messages_by h messages before false = with_messages h messages
 
--- with the messages of a change held, or ended before it if they are too many
+-- the messages of the change are held, or too many, and the subscription ended before the change
 abbrev pub after_messages : Held → List Message → ℕ → Held
 after_messages h messages before = after_messages_by h messages before (overruns h messages)
 
--- after a change to the state, of a live one
+-- a live subscription after a change to the state
 abbrev pub held_after : State → Change → Held → Held
 held_after s c h = after_messages h (step_of h.query h.moved s c (h.sent + 1)) s.number
 
--- with the messages of the change made
+-- with the messages of the change made ready
 abbrev pub prepared : State → Change → Prepared → Prepared
 prepared s c p =
     record p { ready = step_of p.held.query p.held.moved s c (p.held.sent + 1); before = s.number }
 
--- with those messages told
+-- with the messages made ready committed
 abbrev pub committed : Prepared → Prepared
 committed p = record p { held = after_messages p.held p.ready p.before; ready = [] }
 
--- as it is held, without the messages that are made
+-- what is held, without the messages made ready
 abbrev pub held_of : Prepared → Held
 held_of p = p.held
 
--- ---- its parcels, one after another: the messages held, and then the mark
+-- ---- its parcels in order: the messages held, then the mark
 
 -- the next parcel: the first message, or a mark that hasn't gone out
 abbrev pub next_of : List Message → Option Mark → Bool → Option Parcel
@@ -104,7 +104,7 @@ next_of [] (Some mark) false = Some (Fin mark)
 abbrev pub next_parcel : Held → Option Parcel
 next_parcel h = next_of h.messages h.mark h.mark_out
 
--- without that parcel
+-- without the parcel that goes out
 abbrev pub without : Held → Option Parcel → Held
 without h None = h
 without h (Some (Update m)) = record h { messages = drop 1 h.messages }
@@ -115,7 +115,7 @@ abbrev pub with_back : Held → Parcel → Held
 with_back h (Update m) = record h { messages = m ∷ h.messages }
 with_back h (Fin mark) = record h { mark_out = false }
 
--- whether there is room for it: a message needs what the latest that went out has left
+-- whether there is room to put a parcel back: a message uses the room of the latest one taken
 abbrev pub fits_back : Bool → Parcel → Bool
 fits_back lent (Update m) = lent
 fits_back lent (Fin mark) = true

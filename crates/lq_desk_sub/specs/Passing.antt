@@ -1,4 +1,4 @@
--- The changes that a subscription may pass over, since they tell it nothing.
+-- The changes that a subscription may skip, since they have no message for it.
 use Rattle.std.specs.Prelude.{ℕ, List, [], ◌∷◌, Bool, false, codes, not, Option, Some, None}
 use Rattle.std.specs.List.{list_any}
 use Rattle.std.specs.Str.{bytes_eq}
@@ -9,7 +9,7 @@ use Rattle.lq_update.specs.Laws.{names_altered}
 abbrev pub is_among : List (List ℕ) → List ℕ → Bool
 is_among names name = list_any (bytes_eq name) names
 
--- whether some names are known to be altered, and none of them is among these
+-- whether the altered names are known, and none of them is among these
 abbrev pub are_apart : List (List ℕ) → Option (List (List ℕ)) → Bool
 are_apart names None = false
 are_apart names (Some altered) = not (list_any (is_among names) altered)
@@ -18,6 +18,6 @@ are_apart names (Some altered) = not (list_any (is_among names) altered)
 abbrev pub are_written : List (List ℕ) → Bool
 are_written names = list_any (is_among names) (codes "size" ∷ codes "last_modified" ∷ [])
 
--- a change of values alone, and of none under these names
+-- whether the change alters only values, and none under these names
 abbrev pub passes_over : List (List ℕ) → Change → Bool
 passes_over names c = are_apart names (names_altered c)

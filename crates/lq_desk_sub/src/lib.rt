@@ -1,8 +1,9 @@
-//! A subscription alone: its query, what it holds and its mark, with no port and no thread.
+//! A single subscription: its query, the messages that it holds and its mark, without port or
+//! thread.
 //!
-//! A contract sees it as what it was opened with, the messages that it holds and its mark
-//! (`specs/Held`). The desk puts its parcels into a port of its own, the server for threads into
-//! one that is shared. Nothing here waits. Begin with `sub`.
+//! Contracts see how it was opened, the messages that it holds and its mark (`specs/Held`). The
+//! desk puts its parcels into its own port, the server for threads into a shared one. Nothing here
+//! waits. Begin with `sub`.
 #![tactic(auto)]
 
 mod laws;

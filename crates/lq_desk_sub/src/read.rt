@@ -1,7 +1,7 @@
-//! What a read gives.
+//! The result of a read.
 use lq_update::{Mark, Message};
 
-/// What a read of a subscription gives.
+/// The result of a read of a subscription.
 #[derive(Debug, Drop)]
 pub enum Read {
     /// The next message.
@@ -10,6 +10,6 @@ pub enum Read {
     Fin(Mark),
     /// The port is empty.
     Empty,
-    /// The mark was read before.
+    /// The mark was read already.
     Ended,
 }

@@ -20,15 +20,15 @@ use std::mem::replace;
 /// The largest backlog, in messages.
 pub const MAX_BACKLOG: u64 = 65_536;
 
-/// One subscription: its query and the names in it, the messages that it holds, and those of a
-/// change that isn't made yet, for which there is always room.
+/// One subscription: its query and the names in it, the messages that it holds, and the messages of
+/// a change that isn't made yet, for which there is always room.
 pub struct Sub {
     alloc: Global,
     predicate: Predicate,
     names: Vec<AttrName>,
-    // Whether a write alters what one of these names shows.
+    // Whether a write alters what one of the query's names shows.
     sees_writes: bool,
-    // The numbers that the query compares sizes and times with lie within these.
+    // The spans of the numbers that the query compares sizes and times with.
     spans: Spans,
     moved: bool,
     opened: u64,
@@ -42,7 +42,7 @@ pub struct Sub {
     lent: bool,
 }
 
-// One call takes it apart, wherever one is dropped.
+// Dropping one is a single call, instead of code at each place.
 impl Drop for Sub {
     fn drop(self) {
         let Sub {
@@ -105,7 +105,7 @@ impl Model for Sub {
 impl Sub {
     ghost use Rattle.lq_desk_sub.specs.Held.{Held, Prepared, opened_with, is_live, prepared, committed, ended_by, next_parcel, without, with_back, fits_back};
 
-    /// A live subscription that holds nothing, opened after `at` changes. Refused: `NoMemory`.
+    /// A live subscription that holds no message, opened after `at` changes. Refused: `NoMemory`.
     pub fn new(
         alloc: Global,
         predicate: &Predicate,
@@ -142,39 +142,39 @@ impl Sub {
         })
     }
 
-    /// Whether it hasn't ended. It takes no memory.
+    /// Whether the subscription hasn't ended. It takes no memory.
     pub fn is_live(&self) -> bool
         ensures { result ≡ is_live self.now.held }
     {
         self.mark.is_none()
     }
 
-    /// Whether its mark went out. It takes no memory.
+    /// Whether the mark went out. It takes no memory.
     pub fn is_marked(&self) -> bool
         ensures { result ≡ self.now.held.mark_out }
     {
         self.mark_out
     }
 
-    /// How many messages it holds. It takes no memory.
+    /// The number of messages held. It takes no memory.
     pub fn held(&self) -> u64
         ensures { result ≡ length self.now.held.messages }
     {
         self.messages.len() as u64
     }
 
-    /// Its mark, if it has ended. It takes no memory.
+    /// The mark, if the subscription has ended. It takes no memory.
     pub fn mark(&self) -> Option<Mark>
         ensures { result ≡ self.now.held.mark }
     {
         self.mark
     }
 
-    /// Makes the messages of an accepted change to a volume, and room for them; it holds what it
-    /// held.
+    /// Makes the messages of an accepted change to a volume, and room for them. The messages held
+    /// stay the same.
     ///
-    /// Refused: `NoMemory`, and then nothing has changed, nor has what was made ready before. One
-    /// who has planned the change calls `ready_planned`, which doesn't check it again.
+    /// Refused: `NoMemory`; then nothing changes, and the messages made ready before stay too. For
+    /// a planned change call `ready_planned`, which doesn't check the change again.
     pub fn ready(&mut self, volume: &Volume, change: &Change) -> Result<(), Refusal>
         requires few { self.old.held.sent < 2 ^ 63 }
         requires live { IsTrue (is_live self.old.held) }
@@ -187,11 +187,10 @@ impl Sub {
         self.ready_planned(&planned)
     }
 
-    /// Makes the messages of a change that was planned: as `ready` on the volume and the change of
-    /// the plan.
+    /// Makes the messages of a planned change, as `ready` does for the plan's volume and change.
     ///
-    /// It passes over a change of values alone that the predicate doesn't look at. Refused:
-    /// `NoMemory`, and then nothing has changed, nor has what was made ready before.
+    /// It skips a change that alters only values that the predicate doesn't look at. Refused:
+    /// `NoMemory`; then nothing changes, and the messages made ready before stay too.
     pub fn ready_planned(&mut self, planned: &Planned<'_>) -> Result<(), Refusal>
         requires few { self.old.held.sent < 2 ^ 63 }
         requires live { IsTrue (is_live self.old.held) }
@@ -213,8 +212,8 @@ impl Sub {
         self.make_ready(planned, before)
     }
 
-    // Makes the messages of a change that may have some, after `before` changes. It stands apart:
-    // most changes tell most queries nothing.
+    // Makes the messages of a change that may have some, after `before` changes. This is a separate
+    // function because most changes have no message for most queries.
     #[inline(never)]
     fn make_ready(&mut self, planned: &Planned<'_>, before: u64) -> Result<(), Refusal>
         requires few { self.old.held.sent < 2 ^ 63 }
@@ -233,7 +232,7 @@ impl Sub {
         Ok(())
     }
 
-    // No message of the change after that many is told.
+    // Drops the messages made ready: the change after this many has none.
     fn forget_ready(&mut self, before: u64)
         ensures { self.new ≡ record self.old { ready = []; before = before } }
     {
@@ -243,7 +242,7 @@ impl Sub {
         self.before = before;
     }
 
-    // What was made ready goes.
+    // Drops the messages made ready.
     #[inline(never)]
     fn drop_ready(&mut self)
         ensures { self.new ≡ record self.old { ready = [] } }
@@ -251,7 +250,7 @@ impl Sub {
         self.ready = Vec::new(self.alloc);
     }
 
-    // Whether a change tells the query nothing, by the names that it alters.
+    // Whether a change has no message for the query, by the names that it alters.
     fn passes_over(&self, change: &Change) -> bool
         ensures { result ≡ passes_over (names_of self.now.held.query) change.now }
     {
@@ -264,8 +263,8 @@ impl Sub {
         }
     }
 
-    /// Holds the messages that were made for a change; where they are more than its backlog has
-    /// room for, it ends with `Overrun` before that change. It takes no memory.
+    /// Holds the messages made ready for a change. If they are more than the backlog has room for,
+    /// the subscription ends with `Overrun` before that change instead. It takes no memory.
     pub fn commit(&mut self)
         requires few { self.old.held.sent < 2 ^ 63 }
         requires live { IsTrue (is_live self.old.held) }
@@ -285,14 +284,14 @@ impl Sub {
         append(&mut self.messages, ready);
     }
 
-    /// Whether messages of a change are made and not told yet. It takes no memory.
+    /// Whether messages of a change are made and not committed yet. It takes no memory.
     pub fn has_ready(&self) -> bool
         ensures { result ≡ nat_lt 0 (length self.now.ready) }
     {
         !self.ready.is_empty()
     }
 
-    /// Whether `next` has something to give. It takes no memory.
+    /// Whether `next` has a parcel to give. It takes no memory.
     pub fn has_next(&self) -> bool
         ensures { result ≡ is_some (next_parcel self.now.held) }
     {
@@ -305,7 +304,7 @@ impl Sub {
         self.mark.is_some()
     }
 
-    /// Ends it; the mark covers the changes up to a number. It takes no memory.
+    /// Ends the subscription; the mark covers the changes up to `change`. It takes no memory.
     pub fn finish_with(&mut self, cause: Cause, change: u64)
         requires few { self.old.held.sent < 2 ^ 63 }
         requires live { IsTrue (is_live self.old.held) }
@@ -318,8 +317,8 @@ impl Sub {
         });
     }
 
-    /// The first message that it holds, then once the mark, then nothing. What was made ready for a
-    /// change stays. It takes no memory.
+    /// Takes the first message held; after the last one, the mark once; then `None`. The messages
+    /// made ready for a change stay. It takes no memory.
     pub fn next(&mut self) -> Option<Parcel>
         ensures value { result ≡ next_parcel self.old.held }
         ensures rest { self.new.held ≡ without self.old.held (next_parcel self.old.held) }
@@ -327,7 +326,7 @@ impl Sub {
         ensures sent { self.new.held.sent ≡ self.old.held.sent }
         ensures mark { self.new.held.mark ≡ self.old.held.mark }
 
-        // What was made ready for a change stays.
+        // The messages made ready for a change stay.
         ensures ready { self.new.ready ≡ self.old.ready }
         ensures before { self.new.before ≡ self.old.before }
     {
@@ -343,15 +342,15 @@ impl Sub {
         Some(Parcel::Fin(mark))
     }
 
-    /// Puts back the parcel that the latest `next` gave. What was made ready for a change stays. It
-    /// takes no memory.
+    /// Puts back the parcel that the latest `next` gave. The messages made ready for a change stay.
+    /// It takes no memory.
     pub fn put_back(&mut self, parcel: Parcel)
         requires { IsTrue (fits_back self.old.lent parcel) }
         ensures held { self.new.held ≡ with_back self.old.held parcel }
         ensures sent { self.new.held.sent ≡ self.old.held.sent }
         ensures mark { self.new.held.mark ≡ self.old.held.mark }
 
-        // What was made ready for a change stays.
+        // The messages made ready for a change stay.
         ensures ready { self.new.ready ≡ self.old.ready }
         ensures before { self.new.before ≡ self.old.before }
     {
@@ -365,7 +364,7 @@ impl Sub {
     }
 }
 
-// Puts all messages at the end, where there is room for them.
+// Appends all messages; there is room for them.
 fn append(messages: &mut VecDeque<Message>, ready: Vec<Message>)
     requires { deque_len messages.old + vec_len ready ≤ deque_capacity messages.old }
     ensures items { messages.new.items ≡ messages.old.items ++ ready.items }

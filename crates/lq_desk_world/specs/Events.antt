@@ -1,4 +1,4 @@
--- What each event (`src/event.rt`) is answered, and the world after it.
+-- The answer to each event (`src/event.rt`), and the world after it.
 use Rattle.std.specs.Prelude.{ℕ, ◌+◌, ◌-◌, List, [], ◌∷◌, ◌++◌, length, map, Bool, true, false, not, ◌&&◌, nat_le, Option, Some, None, if◌then◌else◌}
 use Rattle.std.specs.Option.{option_map}
 use Rattle.lq_value.specs.declared.refusal.Refusal.{Refusal}
@@ -19,7 +19,7 @@ use Rattle.lq_desk_world.specs.declared.event.Act.{Act}
 use Rattle.lq_desk_world.specs.declared.event.Act.TheVariants as act
 use Rattle.lq_desk_world.specs.World.{World, Subscribed, with_end, with_hang_up_asked, one_more_put, one_more_taken, can_put, first_in_port, is_live, is_over, after_change, slot_at, taken_before_free, with_slot}
 
--- what an event may be answered
+-- the possible answers to an event
 pub data Answer : Type 0 where
   Changed : (applied : Applied) → Answer
   Opened : (slot : ℕ) (at : ℕ) (result : List Entry) → Answer
@@ -64,27 +64,27 @@ opened_now w q port backlog moved = record {
   end = None;
 }
 
--- the tests of an opening by its port and backlog alone, and what each that holds refuses it with
+-- the tests of an opening by its port and backlog alone, each with the refusal that it gives
 abbrev pub size_refusals : ℕ → ℕ → List (Bool × Refusal)
 size_refusals port backlog =
     (not (nat_le 1 port && nat_le port 1024), BadPort)
     ∷ (not (nat_le backlog 65536), BadBacklog)
     ∷ []
 
--- all of them in their order: after these whether no slot is free, and whether there were as many
--- openings as the volume takes changes
+-- all tests of an opening in order: the last two ask whether no slot is free, and whether the
+-- openings so far are as many as the changes that the volume accepts
 abbrev pub opening_refusals : Bool → ℕ → ℕ → ℕ → ℕ → List (Bool × Refusal)
 opening_refusals full openings limit port backlog =
     size_refusals port backlog ++ (full, NoSlot) ∷ (nat_le limit openings, Exhausted) ∷ []
 
--- the first that fits an opening in a world
+-- the first refusal that fits an opening in a world
 abbrev pub open_refusal : World → ℕ → ℕ → Option Refusal
 open_refusal w port backlog =
     first_refusal
     (opening_refusals (nat_le (length w.slots) (taken_before_free w.slots)) w.openings
     (state_of w.book).limit port backlog)
 
--- with a subscription in the lowest free slot
+-- the world with a subscription in the lowest free slot
 abbrev pub with_sub : World → Subscribed → World
 with_sub w s =
     with_slot (record w { openings = w.openings + 1 }) (taken_before_free w.slots) (Some s)
@@ -96,8 +96,8 @@ opening w s None = (
   with_sub w s,
 )
 
--- ---- the acts at a slot: over a book and its subscription,
--- the answer and what is in the slot then
+-- ---- the acts at a slot: over a book and its subscription, the answer and the slot's content
+-- afterwards
 
 -- the next parcel moves into the port
 abbrev pub putting_if : Subscribed → Bool → Answer × Option Subscribed
@@ -107,7 +107,7 @@ putting_if s false = (Moved false, Some s)
 abbrev pub putting : Book → Subscribed → Answer × Option Subscribed
 putting b s = putting_if s (can_put b s)
 
--- the first parcel in the port is read
+-- a read of the first parcel in the port
 abbrev pub reading_if : Book → Subscribed → Option Parcel → Answer × Option Subscribed
 reading_if b s (Some p) = (Took p, Some (one_more_taken s))
 reading_if b s None = (if is_over b s then Ended else Empty, Some s)
@@ -115,11 +115,11 @@ reading_if b s None = (if is_over b s then Ended else Empty, Some s)
 abbrev pub reading : Book → Subscribed → Answer × Option Subscribed
 reading b s = reading_if b s (first_in_port b s)
 
--- its end is asked for
+-- a request to end
 abbrev pub hanging_up : Subscribed → Answer × Option Subscribed
 hanging_up s = (Asked, Some (with_hang_up_asked s))
 
--- it ends where that was asked for
+-- it ends, if that was asked for
 abbrev pub noticing_if : Book → Subscribed → Bool → Answer × Option Subscribed
 noticing_if b s true = (Noticed true, Some (with_end s HungUp (number_of b)))
 noticing_if b s false = (Noticed false, Some s)
@@ -127,7 +127,7 @@ noticing_if b s false = (Noticed false, Some s)
 abbrev pub noticing : Book → Subscribed → Answer × Option Subscribed
 noticing b s = noticing_if b s (is_live s && s.hang_up_asked)
 
--- it ends, unless it has
+-- it ends, unless it has ended
 abbrev pub closing_if : Book → Subscribed → Bool → Answer × Option Subscribed
 closing_if b s true = (Shut (number_of b), Some (with_end s Closed (number_of b)))
 closing_if b s false = (Refused NotOpen, Some s)
@@ -135,7 +135,7 @@ closing_if b s false = (Refused NotOpen, Some s)
 abbrev pub closing : Book → Subscribed → Answer × Option Subscribed
 closing b s = closing_if b s (is_live s)
 
--- its slot is free, where its mark was read
+-- its slot becomes free, if its mark was read
 abbrev pub finishing_if : Subscribed → Bool → Answer × Option Subscribed
 finishing_if s true = (Finished, None)
 finishing_if s false = (Refused StillOpen, Some s)
@@ -152,7 +152,7 @@ acting b act.Notice = noticing b
 acting b act.Close = closing b
 acting b act.Finish = finishing b
 
--- such an act at a slot, where that is taken
+-- this act at a slot, if that is taken
 abbrev pub at_slot : World → ℕ → Option Subscribed → (Subscribed → Answer × Option Subscribed)
     → Answer × World
 at_slot w slot None does = (Refused NotOpen, w)
@@ -162,7 +162,7 @@ at_slot w slot (Some s) does = ((does s).0, with_slot w (slot - 1) (does s).1)
 abbrev pub act_outcome : World → ℕ → Act → Answer × World
 act_outcome w slot a = at_slot w slot (slot_at w slot) (acting w.book a)
 
--- the event that an act at a slot is
+-- the event that does an act at a slot
 abbrev pub event_at : ℕ → Act → Event
 event_at slot act.Put = Put slot
 event_at slot act.Take = Take slot
@@ -173,7 +173,7 @@ event_at slot act.Finish = Finish slot
 
 -- ---- all of them
 
--- what an event is answered, and the world after it
+-- the answer to an event, and the world after it
 abbrev pub outcome : World → Event → Answer × World
 outcome w (Change c) = changing w c (refused (state_of w.book) c)
 outcome w (Open q port backlog moved) =

@@ -1,24 +1,24 @@
--- What is so of each subscription in a world that runs.
+-- The invariants of each subscription in a world that runs.
 use Rattle.std.specs.Prelude.{◌≡◌, ◌+◌, ◌≤◌, length, true, Option, Some, None}
 use Rattle.std.specs.List.{AllByRecursion}
 use Rattle.lq_volume.specs.Book.{Book, number_of}
 use Rattle.lq_desk_world.specs.World.{World, Subscribed, covered, whole, held, is_live}
 
 pub record IsFair (b : Book) (s : Subscribed) : Type 0 where
-  -- the book's start, its opening, the last change that it
-  -- covers, and the book's last change stand in this order
+  -- in rising order: the book's start, the opening, the last change covered, the book's last change
   pub begun : b.start.number ≤ s.opened
   pub opened : s.opened ≤ covered b s
   pub covered : covered b s ≤ number_of b
-  -- what was taken was put, what was put is of its list, and no more than its port waits between
+  -- what was taken was put, what was put is in its list, and at most as much waits as its port has
+  -- places
   pub taken : s.taken ≤ s.put
   pub put : s.put ≤ length (whole b s)
   pub port : s.put ≤ s.taken + s.port
-  -- its port has a place, and at most 1,024, and its backlog is at most 65,536
+  -- its port has 1 to 1,024 places, and its backlog is at most 65,536
   pub places : 1 ≤ s.port
   pub most : s.port ≤ 1024
   pub backlog : s.backlog ≤ 65536
-  -- while it is live, no more than its backlog is held
+  -- while it is live, at most its backlog is held
   pub held : is_live s ≡ true → held b s ≤ s.backlog
 
 abbrev pub IsFairSlot : Book → Option Subscribed → Type 0

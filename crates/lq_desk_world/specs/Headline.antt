@@ -1,4 +1,4 @@
--- What the events and answers of a run say of each subscription that they open.
+-- What the events and answers of a run say about each subscription that they open.
 use Rattle.std.specs.Prelude.{◌≡◌, ℕ, ◌+◌, ◌≤◌, List, [], ◌∷◌, ◌++◌, length, Bool, false, ◌==◌, if◌then◌else◌}
 use Rattle.std.specs.List.{AllByRecursion}
 use Rattle.lq_value.specs.declared.entry.Entry.{Entry}
@@ -17,7 +17,7 @@ use Rattle.lq_desk_world.specs.declared.event.Event.{Event}
 use Rattle.lq_desk_world.specs.declared.event.Event.TheVariants.{Change, Open, Take, Finish}
 use Rattle.lq_desk_world.specs.Events.{Answer, Changed, Opened, Took, Ended, Finished}
 
--- what one event answered a read of a slot, and whether it freed the slot
+-- the answer that one event gave to a read of a slot, and whether it freed the slot
 abbrev pub read_by : ℕ → Event → Answer → List Answer
 read_by slot (Take k) a = if k == slot then a ∷ [] else []
 read_by slot e a = []
@@ -26,14 +26,14 @@ abbrev pub frees : ℕ → Event → Answer → Bool
 frees slot (Finish k) Finished = k == slot
 frees slot e a = false
 
--- what the reads of a slot were answered, until the slot was freed
+-- the answers to the reads of a slot, until the slot was freed
 abbrev pub reads_of : ℕ → List Event → List Answer → List Answer
 reads_of slot [] answers = []
 reads_of slot (e ∷ events) [] = []
 reads_of slot (e ∷ events) (a ∷ answers) =
     if frees slot e a then [] else read_by slot e a ++ reads_of slot events answers
 
--- the parcels, and the updates, that such answers gave
+-- the parcels, and the updates, in these answers
 abbrev pub parcel_in : Answer → List Parcel
 parcel_in (Took p) = p ∷ []
 parcel_in a = []
@@ -64,44 +64,44 @@ accepted (e ∷ events) (a ∷ answers) = accepted_by e a ++ accepted events ans
 abbrev pub book_of : State → List Event → List Answer → Book
 book_of s events answers = record { start = s; changes = accepted events answers }
 
--- the mark is among them
+-- these answers contain the mark
 abbrev pub HasMark : List Answer → Type 0
 HasMark reads = (m : Mark) × (front : List Answer) × (rest : List Answer)
     × (reads ≡ front ++ Took (Fin m) ∷ rest)
 
--- What an opening may be answered, over the book of the changes
--- before it: their number, and the query's result after them.
+-- The answer to an opening, over the book of the changes before it: their number, and the query's
+-- result after them.
 pub record IsOpening (b : Book) (q : Query) (at : ℕ) (first : List Entry) : Type 0 where
   pub number : at ≡ number_of b
   pub entries : first ≡ result_of q (state_of b)
 
--- What the reads of a subscription may be answered, over a book: its
--- query, the number of changes at its opening, and the result then.
+-- The answers to a subscription's reads, over a book: given its query, the number of changes at its
+-- opening, and the result then.
 pub record AreReads (b : Book) (q : Query) (moved : Bool) (at : ℕ) (first : List Entry)
     (reads : List Answer) : Type 0 where
   -- each message once and in order: they are a prefix of its update list
   pub prefix : IsPrefixOf (updates_in reads) (updates_of q moved b at (number_of b))
-  -- the mark comes after the whole list up to the change that it names, and only `Ended` after it
+  -- the mark comes after the whole list up to the change that it names, and only `Ended` follows it
   pub mark : (front rest : List Answer) (m : Mark) → reads ≡ front ++ Took (Fin m) ∷ rest →
       (at ≤ m.change) × (m.change ≤ number_of b)
       × (updates_in front ≡ updates_of q moved b at m.change)
       × (m.seq ≡ length (updates_in front) + 1)
       × AllByRecursion (λ a. a ≡ Ended) rest
-  -- and `Ended` only after the mark
+  -- `Ended` comes only after the mark
   pub ended : (front rest : List Answer) → reads ≡ front ++ Ended ∷ rest → HasMark front
-  -- wherever a change's last message is in, folding over the
-  -- opening's result gives the result after that change
+  -- after the last message of a change, folding over the opening's result gives the result after
+  -- that change
   pub folding : IsVolume b.start → (front rest : List Answer) → reads ≡ front ++ rest
       → IsSettled (updates_in front) → folded first (updates_in front)
       ≡ result_of q (state_at b (last_change at (updates_in front)))
-  -- and so it does before the mark, for the change that this names
+  -- before the mark, folding gives the result after the change that the mark names
   pub closing : IsVolume b.start
       → (front rest : List Answer) (m : Mark) → reads ≡ front ++ Took (Fin m) ∷ rest
       → folded first (updates_in front) ≡ result_of q (state_at b m.change)
 
--- Whatever comes before an opening and after it: the opening is answered over the changes that
--- the run accepted before it. The reads of the subscription that it opens are answered over all
--- changes that the run accepts.
+-- For whatever comes before and after an opening: its answer covers the changes that the run
+-- accepted before it. The answers to the reads of its subscription cover all changes that the run
+-- accepts.
 abbrev pub OpeningsAreTold : State → List Event → List Answer → Type 0
 OpeningsAreTold s events answers =
     (before after : List Event) (befores afters : List Answer) (q : Query) (port backlog : ℕ)
@@ -112,7 +112,7 @@ OpeningsAreTold s events answers =
     × AreReads (book_of s events answers) q moved at first (reads_of slot after afters)
 
 -- The accepted changes of a run are a book: each is lawful after those before it. Over this book
--- the readers of each subscription are told its update list.
+-- the readers of each subscription get its update list.
 pub record ReadersAreTold (s : State) (events : List Event) (answers : List Answer)
     : Type 0 where
   pub book : IsBook (book_of s events answers)

@@ -1,4 +1,4 @@
--- What is so of every world and every run.
+-- Facts about every world and every run.
 use Rattle.std.specs.Prelude.{◌≡◌, ℕ, List, ◌++◌, take, true}
 use Rattle.lq_value.specs.declared.refusal.Refusal.{Refusal}
 use Rattle.lq_volume.specs.declared.change.Change.{Change as Change_}
@@ -16,18 +16,18 @@ use Rattle.lq_desk_world.specs.Headline.{ReadersAreTold}
 abbrev pub FirstWorldsAreFair : Type 0
 FirstWorldsAreFair = (b : Book) → IsFairWorld (first_world b)
 
--- and each event leaves a fair world fair
+-- each event leaves a fair world fair
 abbrev pub RunsKeepWorldsFair : Type 0
 RunsKeepWorldsFair = (w end : World) (events : List Event) (answers : List Answer)
     → IsFairWorld w → Run w events answers end → IsFairWorld end
 
--- a refused event leaves the world as it was
+-- a refused event leaves the world unchanged
 abbrev pub RefusalsLeaveWorlds : Type 0
 RefusalsLeaveWorlds =
     (w : World) (e : Event) (r : Refusal) → answer w e ≡ Refused r → next w e ≡ w
 
--- what was taken, then what is in the port, then what is
--- held, then a mark not yet put, is the whole list
+-- the whole list is what was taken, then what is in the port, then what is held, then a mark that
+-- wasn't put yet
 abbrev pub ListsArePassedOn : Type 0
 ListsArePassedOn = (b : Book) (s : Subscribed) → IsFair b s
     → take s.taken (whole b s) ++ (in_port b s ++ to_come b s) ≡ whole b s
@@ -36,8 +36,8 @@ ListsArePassedOn = (b : Book) (s : Subscribed) → IsFair b s
 abbrev pub IsStill : World → ℕ → Type 0
 IsStill w slot = answer w (Put slot) ≡ Moved true → ⊥
 
--- A turn puts until nothing moves: behind a change into no port,
--- behind a close and before a read not into that of its slot.
+-- A turn puts until nothing moves: after a change into any port; after a close and before a read
+-- into the port of that slot.
 abbrev pub TurnsFillPorts : Type 0
 TurnsFillPorts = (w : World) → IsFairWorld w →
     ((c : Change_) (slot : ℕ) → IsStill (turn_outcome w (Change c)).1 slot)
@@ -45,8 +45,7 @@ TurnsFillPorts = (w : World) → IsFairWorld w →
     × ((slot : ℕ)
     → IsStill (after_all outcome w (turn_of (ports_of w) (Take slot)).before) slot)
 
--- the headline, of every run from any world, so also from
--- a first one over the state that a volume has
+-- the main theorem on every run from any world, so also from a first world over a volume's state
 abbrev pub RunsTellReaders : Type 0
 RunsTellReaders = (w end : World) (events : List Event) (answers : List Answer)
     → Run w events answers end → ReadersAreTold (state_of w.book) events answers

@@ -1,4 +1,4 @@
--- Runs of events: one answer for each, each at its point.
+-- Runs of events: one answer for each event, in order.
 use Rattle.std.specs.Prelude.{◌≡◌, List, [], ◌∷◌, None, ◌⊎◌}
 use Rattle.lq_value.specs.declared.refusal.Refusal.TheVariants.{NoMemory}
 use Rattle.lq_volume.specs.Change.{refused}
@@ -19,7 +19,7 @@ MayRunOut w (Notice slot) = ⊥
 MayRunOut w (Close slot) = ⊥
 MayRunOut w (Finish slot) = ⊥
 
--- one event: its outcome, or a want of memory that leaves the world
+-- one event has its outcome, or memory runs out and the world stays the same
 abbrev pub Step : World → Event → Answer → World → Type 0
 Step w e a v =
     ((a ≡ answer w e) × (v ≡ next w e)) ⊎ (MayRunOut w e × (a ≡ Refused NoMemory) × (v ≡ w))

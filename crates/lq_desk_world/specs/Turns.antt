@@ -1,4 +1,4 @@
--- The list of events of one turn: an event with what a server does about it of itself.
+-- The list of events of one turn: an event, and the steps that a server adds by itself.
 use Rattle.std.specs.Prelude.{ℕ, ◌+◌, ◌-◌, List, [], ◌∷◌, ◌++◌, map, replicate, Option, Some, None, ◌==◌, slice_get, if◌then◌else◌}
 use Rattle.std.specs.Option.{option_map, option_flatten}
 use Rattle.lq_desk_world.specs.World.{World}
@@ -6,7 +6,7 @@ use Rattle.lq_desk_world.specs.declared.event.Event.{Event}
 use Rattle.lq_desk_world.specs.declared.event.Event.TheVariants.{Change, Put, Take, Notice, Close}
 use Rattle.lq_desk_world.specs.Events.{Answer, outcome}
 
--- ---- which slots are taken, and how many places their ports have: slot k at place k - 1
+-- ---- which slots are taken, and how many places their ports have: slot k is at index k - 1
 
 abbrev pub ports_of : World → List (Option ℕ)
 ports_of w = map (option_map (λ s. s.port)) w.slots
@@ -15,14 +15,14 @@ abbrev pub places_in : Option ℕ → ℕ
 places_in None = 0
 places_in (Some port) = port
 
--- the places of a slot's port, none where it is free
+-- the number of places of a slot's port; 0 for a free slot
 abbrev pub places_at : List (Option ℕ) → ℕ → ℕ
 places_at ports slot =
     if slot == 0 then 0 else places_in (option_flatten (slice_get ports (slot - 1)))
 
 -- ---- lists of events
 
--- what is done at each taken slot, in rising order, where the first of these is slot n
+-- what is done at each taken slot, in rising order; the first slot here is slot n
 abbrev pub at_slot_of : (ℕ → ℕ → List Event) → ℕ → Option ℕ → List Event
 at_slot_of events slot None = []
 at_slot_of events slot (Some port) = events slot port
@@ -34,12 +34,12 @@ at_each events n (port ∷ ports) = at_slot_of events n port ++ at_each events (
 abbrev pub one_notice : ℕ → ℕ → List Event
 one_notice slot port = Notice slot ∷ []
 
--- As many puts as the port has places: nothing moves after them
--- (`Laws`), and a put that moves nothing changes nothing.
+-- As many puts as the port has places: nothing moves after them (`Laws`), and a put that moves
+-- nothing changes nothing.
 abbrev pub puts : ℕ → ℕ → List Event
 puts slot port = replicate port (Put slot)
 
--- the end of each taken slot that asks for it is noticed, and each port is filled
+-- a notice of each taken slot's end, if it was asked for, and puts that fill each port
 abbrev pub notices : List (Option ℕ) → List Event
 notices ports = at_each one_notice 1 ports
 
@@ -53,9 +53,9 @@ pub record Turn : Type 0 where
   pub event : Event
   pub after : List Event
 
--- A change comes after all notices, and every port is filled behind it. A read and a close come
--- after the notice of their slot, whose port is filled before the read and behind the close. Any
--- other event comes alone.
+-- Before a change come all notices; after it every port is filled. A read and a close come after
+-- the notice of their slot; its port is filled before the read and after the close. Any other event
+-- comes alone.
 abbrev pub turn_of : List (Option ℕ) → Event → Turn
 turn_of ports (Change c) =
     record { before = notices ports; event = Change c; after = all_puts ports }
@@ -74,15 +74,15 @@ turn_of ports e = record { before = []; event = e; after = [] }
 abbrev pub events_in : Turn → List Event
 events_in t = t.before ++ t.event ∷ t.after
 
--- ---- what becomes of them, of whatever answers events
+-- ---- turns carried out by anything that answers events
 
--- after events, one after another
+-- the state after events, one after another
 abbrev pub after_all : {Core : Type 0}
     → (Core → Event → Answer × Core) → Core → List Event → Core
 after_all step s [] = s
 after_all step s (e ∷ events) = after_all step (step s e).1 events
 
--- the answer to the event of a turn, and what stands after the turn
+-- the answer to a turn's event, and the state after the turn
 abbrev pub carried_out : {Core : Type 0} → (Core → Event → Answer × Core) → Core → Turn
     → Answer × Core
 carried_out step s t = (

@@ -1,5 +1,5 @@
--- What stands after a list of events: a book, the number of
--- openings, and a subscription or nothing in each slot.
+-- The state after a list of events: a book, the number of openings, and in each slot a subscription
+-- or nothing.
 use Rattle.std.specs.Prelude.{ℕ, ◌+◌, ◌-◌, List, [], ◌∷◌, ◌++◌, length, map, take, drop, replicate, Bool, ◌&&◌, ◌==◌, nat_lt, Option, Some, None, is_none, slice_get, slice_set, if◌then◌else◌, true, false}
 use Rattle.std.specs.Option.{option_flatten}
 use Rattle.lq_predicate_formula.specs.Query.{Query}
@@ -31,19 +31,19 @@ pub record Subscribed : Type 0 where
   pub taken : ℕ
   pub end : Option End
 
--- what is in slot k is at place k - 1
+-- the content of slot k is at index k - 1
 pub record World : Type 0 where
   pub book : Book
   pub openings : ℕ
   pub slots : List (Option Subscribed)
 
--- the world that a server begins with: 64 free slots
+-- the initial world of a server: 64 free slots
 abbrev pub first_world : Book → World
 first_world b = record { book = b; openings = 0; slots = replicate 64 None }
 
--- ---- what a subscription is told
+-- ---- the list of a subscription
 
--- the last change that it covers: that of its end, and the book's while it is live
+-- the last change that a subscription covers: that of its end, or the book's while it is live
 abbrev pub covered_by : Book → Option End → ℕ
 covered_by b None = number_of b
 covered_by b (Some e) = e.change
@@ -51,31 +51,31 @@ covered_by b (Some e) = e.change
 abbrev pub covered : Book → Subscribed → ℕ
 covered b s = covered_by b s.end
 
--- its updates, from its opening to the last change that it covers
+-- the updates of a subscription, from its opening to the last change that it covers
 abbrev pub updates_due : Book → Subscribed → List Message
 updates_due b s = updates_of s.query s.moved b s.opened (covered b s)
 
--- the mark behind so many updates, of one that has ended
+-- the mark after this many updates, if the subscription has ended
 abbrev pub mark_behind : ℕ → Option End → List Parcel
 mark_behind n None = []
 mark_behind n (Some e) = Fin (record { seq = n + 1; change = e.change; cause = e.cause }) ∷ []
 
--- all that it is told: its updates, and once it has ended the mark
+-- the whole list: the updates, then the mark once the subscription has ended
 abbrev pub whole : Book → Subscribed → List Parcel
 whole b s = map (λ m. Update m) (updates_due b s) ++ mark_behind (length (updates_due b s)) s.end
 
--- what is in its port: what was put and isn't taken
+-- the parcels in its port: those put and not taken
 abbrev pub in_port : Book → Subscribed → List Parcel
 in_port b s = drop s.taken (take s.put (whole b s))
 
--- the updates that are held, since they aren't put into the port yet, and how many they are
+-- the updates held, which aren't put into the port yet; and how many they are
 abbrev pub waiting : Book → Subscribed → List Message
 waiting b s = drop s.put (updates_due b s)
 
 abbrev pub held : Book → Subscribed → ℕ
 held b s = length (waiting b s)
 
--- what is still to be put: those, and then the mark, if it has ended and the mark isn't put
+-- what is still to be put: the updates held, then the mark if it has ended and this isn't put
 abbrev pub to_come : Book → Subscribed → List Parcel
 to_come b s = map (λ m. Update m) (waiting b s)
     ++ drop (s.put - length (updates_due b s)) (mark_behind (length (updates_due b s)) s.end)
@@ -83,11 +83,11 @@ to_come b s = map (λ m. Update m) (waiting b s)
 abbrev pub is_live : Subscribed → Bool
 is_live s = is_none s.end
 
--- whether it has ended and all that it is told was taken, the mark too
+-- whether it has ended, and its whole list was taken, with the mark
 abbrev pub is_over : Book → Subscribed → Bool
 is_over b s = if is_live s then false else s.taken == length (whole b s)
 
--- ---- what becomes of it
+-- ---- steps of a subscription
 
 abbrev pub with_end : Subscribed → Cause → ℕ → Subscribed
 with_end s cause change = record s { end = Some (record { cause = cause; change = change }) }
@@ -101,7 +101,7 @@ one_more_put s = record s { put = s.put + 1 }
 abbrev pub one_more_taken : Subscribed → Subscribed
 one_more_taken s = record s { taken = s.taken + 1 }
 
--- whether its port has room, and a parcel of its list isn't put yet
+-- whether its port has room and a parcel of its list isn't put yet
 abbrev pub can_put : Book → Subscribed → Bool
 can_put b s = nat_lt (s.put - s.taken) s.port && nat_lt s.put (length (whole b s))
 
@@ -109,11 +109,11 @@ can_put b s = nat_lt (s.put - s.taken) s.port && nat_lt s.put (length (whole b s
 abbrev pub first_in_port : Book → Subscribed → Option Parcel
 first_in_port b s = if nat_lt s.taken s.put then slice_get (whole b s) s.taken else None
 
--- how many messages a lawful change has for it
+-- the number of messages that a lawful change makes for it
 abbrev pub news : Book → Change_ → Subscribed → ℕ
 news b c s = length (step_of s.query s.moved (state_of b) c (length (updates_due b s) + 1))
 
--- whether they are more than its backlog has room for
+-- whether these are more than its backlog has room for
 abbrev pub overruns : Book → Change_ → Subscribed → Bool
 overruns b c s = nat_lt 0 (news b c s) && nat_lt s.backlog (held b s + news b c s)
 
@@ -121,7 +121,7 @@ abbrev pub overrun_if : Book → Subscribed → Bool → Subscribed
 overrun_if b s true = with_end s Overrun (number_of b)
 overrun_if b s false = s
 
--- after a change to a book: it goes on, or has ended before the change
+-- the subscription after a change to a book: unchanged, or ended before the change
 abbrev pub after_change : Book → Change_ → Subscribed → Subscribed
 after_change b c s = overrun_if b s (is_live s && overruns b c s)
 
@@ -131,12 +131,12 @@ after_change b c s = overrun_if b s (is_live s && overruns b c s)
 abbrev pub slot_at : World → ℕ → Option Subscribed
 slot_at w slot = if slot == 0 then None else option_flatten (slice_get w.slots (slot - 1))
 
--- how many slots are taken before the first free one
+-- the number of taken slots before the first free one
 abbrev pub taken_before_free : List (Option Subscribed) → ℕ
 taken_before_free [] = 0
 taken_before_free (None ∷ slots) = 0
 taken_before_free (Some s ∷ slots) = taken_before_free slots + 1
 
--- with this at a place of the slots
+-- the world with this at an index of the slots
 abbrev pub with_slot : World → ℕ → Option Subscribed → World
 with_slot w place o = record w { slots = slice_set w.slots place o }

@@ -1,57 +1,57 @@
-//! What may happen in a world.
+//! The events of a world.
 ghost use Rattle.std.specs.Prelude.{◌≡◌};
 
 use lq_predicate::Predicate;
 use lq_volume::Change;
 
-/// One event of the core. A slot counts from 1.
+/// One event of the core. Slots count from 1.
 #[derive(Drop)]
 pub enum Event {
-    /// A change of the volume.
+    /// Makes a change of the volume.
     Change(Change),
-    /// A live query is opened. The port has `port` places, and at most `backlog` messages are held
-    /// for it. With `moved`, an entry that matches before and after a move is told in one message.
+    /// Opens a live query. The port has `port` places, and at most `backlog` messages are held for
+    /// it. With `moved`, one message reports an entry that matches before and after a move.
     Open {
         predicate: Predicate,
         port: u64,
         backlog: u64,
         moved: bool,
     },
-    /// The next parcel of this slot's subscription moves into its port.
+    /// Moves the next parcel of this slot's subscription into its port.
     Put(u64),
-    /// The oldest parcel in this slot's port is taken.
+    /// Takes the oldest parcel from this slot's port.
     Take(u64),
-    /// The reader of this slot asks for the end of its subscription.
+    /// Asks for the end of this slot's subscription, as its reader does.
     HangUp(u64),
-    /// The subscription in this slot ends, where its reader asked for that.
+    /// Ends this slot's subscription if its reader asked for that.
     Notice(u64),
-    /// The subscription in this slot ends.
+    /// Ends this slot's subscription.
     Close(u64),
-    /// This slot, whose mark was taken, is freed.
+    /// Frees this slot, whose mark was taken.
     Finish(u64),
 }
 
-/// What may be done at one slot: the event at a slot without the slot's number.
+/// An act at one slot: an event without the slot's number.
 #[derive(Clone, Copy)]
 pub enum Act {
-    /// The next parcel moves into the port.
+    /// Moves the next parcel into the port.
     Put,
-    /// The oldest parcel in the port is taken.
+    /// Takes the oldest parcel from the port.
     Take,
-    /// The end of the subscription is asked for.
+    /// Asks for the end of the subscription.
     HangUp,
-    /// The subscription ends, where that was asked for.
+    /// Ends the subscription if that was asked for.
     Notice,
-    /// The subscription ends.
+    /// Ends the subscription.
     Close,
-    /// The slot, whose mark was taken, is freed.
+    /// Frees the slot, whose mark was taken.
     Finish,
 }
 
 impl Act {
     ghost use Rattle.lq_desk_world.specs.Events.{event_at};
 
-    /// The event that this act is at a slot.
+    /// The event that does this act at a slot.
     pub fn at(self, slot: u64) -> Event
         ensures { result ≡ event_at slot self }
     {

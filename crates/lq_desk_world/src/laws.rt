@@ -9,41 +9,41 @@ pub fn first_worlds_are_fair()
     ensures { FirstWorldsAreFair }
 {}
 
-/// A run leaves a fair world fair: of each subscription no more was taken than was put, no more
-/// put than its list has, no more than its port waits, and while it is live no more than its
-/// backlog is held; its port and backlog are within their limits.
+/// A run leaves a fair world fair. For each subscription, no more was taken than put, and no more
+/// put than its list has; no more waits than its port has places. While it is live, no more is held
+/// than its backlog allows. Its port and backlog are within their limits.
 pub fn runs_keep_worlds_fair()
     ensures { RunsKeepWorldsFair }
 {
     updates_join();
 }
 
-/// A refused event leaves the world as it was.
+/// A refused event leaves the world unchanged.
 pub fn refusals_leave_worlds()
     ensures { RefusalsLeaveWorlds }
 {}
 
-/// What was taken of a subscription, then what is in its port, then what is held for it, then a
-/// mark that isn't put yet, is all that it is told.
+/// A subscription's whole list is, in order: what was taken, what is in its port, what is held for
+/// it, and a mark that wasn't put yet.
 pub fn lists_are_passed_on()
     ensures { ListsArePassedOn }
 {}
 
-/// A turn puts until nothing moves: after a change no port takes one more parcel, and after a
-/// close and before a read that of its slot takes none.
+/// A turn puts parcels until nothing moves. After a change no port takes another parcel; after a
+/// close, and before a read, the port of its slot takes none.
 pub fn turns_fill_ports()
     ensures { TurnsFillPorts }
 {
     updates_join();
 }
 
-/// What the reads of a subscription that a run opens give is a prefix of its query's update list
-/// from its opening on, over the changes that the run accepts, each message once and in order.
+/// The reads of a subscription that a run opens give a prefix of its query's update list from the
+/// opening, over the changes that the run accepts: each message once and in order.
 ///
-/// The closing mark comes only after the whole list up to the change that it names, nothing follows
-/// it, and `Ended` is answered only after it. Wherever a change's last message is in, folding gives
-/// the query's result after that change; so it does before the mark, for the change that it names.
-/// The opening itself is answered with the number of the changes before it and the result then.
+/// The closing mark comes only after the whole list up to the change that it names. Only `Ended`
+/// follows it, and `Ended` comes only after it. Once a change's last message was read, folding
+/// gives the query's result after that change; before the mark, after the change that the mark
+/// names. An opening is answered with the number of the changes before it and the result then.
 pub fn readers_are_told()
     ensures { RunsTellReaders }
 {

@@ -1,9 +1,9 @@
-//! What the core of the live query server is, by definitions, and the laws of it.
+//! The definition of the core of the live query server, and its laws.
 //!
-//! A world is a book of changes and the subscriptions over it (`specs/World`). What each event is
-//! answered, and the world after it, stands in `specs/Events`, a run of events in `specs/Runs`,
-//! and what a subscription reads in one in `specs/Headline`. The code declares the events, and has
-//! laws: functions that do nothing and whose contract is the law. Begin with `specs/World`.
+//! A world is a book of changes and the subscriptions over it (`specs/World`). `specs/Events` gives
+//! the answer to each event and the world after it, `specs/Runs` a run of events, and
+//! `specs/Headline` what a subscription reads in a run. The code declares the events and the laws:
+//! functions that do nothing, whose contracts are the laws. Begin with `specs/World`.
 #![tactic(auto)]
 
 mod event;

@@ -8,13 +8,12 @@ use Rattle.crossbeam_channel.specs.declared.flavors.array.Doing.{Doing}
 use Rattle.crossbeam_channel.specs.Claims.{Pass, view}
 use Rattle.lq_port.specs.declared.rule.Known.{Known}
 
--- which port it is
+-- the identity of a port
 abbrev pub PortName : Type 0 → Type 0
 PortName T = TableId × Badge (Key T)
 
--- What is known at one end: which port it is, how many items it holds at most, its floor, what
--- was taken, and what was put behind that. The end for puts knows all that was put, and the end
--- for takes all that was taken.
+-- What one end knows: which port it is, how many items it holds at most, its floor, what was taken,
+-- and what was put after that. The end for puts knows all puts, and the end for takes all takes.
 pub record End (T F : Type 0) : Type 0 where
   pub port : PortName T
   pub places : ℕ
@@ -22,22 +21,22 @@ pub record End (T F : Type 0) : Type 0 where
   pub taken : List T
   pub ahead : List T
 
--- x is the front of what was known to wait, if anything was, and `rest` is what is left of it
+-- x was the first item known to wait, if any was, and `rest` is what remains
 abbrev pub IsFront : {T : Type 0} → List T → T → List T → Type 0
 IsFront [] x rest = rest ≡ []
 IsFront (y ∷ ys) x rest = (x ≡ y) × (rest ≡ ys)
 
 module _ {T F : Type 0} where
-  -- all that is known to be put
+  -- all puts that the end knows
   abbrev pub all_put : End T F → List T
   all_put end = end.taken ++ end.ahead
 
-  -- only what is known of the items differs
+  -- only what the end knows of the items may differ
   abbrev pub IsSamePort : End T F → End T F → Type 0
   IsSamePort old new =
       (new.port ≡ old.port) × (new.places ≡ old.places) × (new.floor ≡ old.floor)
 
-  -- no place is known to be free
+  -- the end knows of no free place
   abbrev pub IsFull : End T F → Type 0
   IsFull end = end.places ≤ length end.ahead
 
@@ -45,7 +44,7 @@ module _ {T F : Type 0} where
   abbrev pub Gains : End T F → T → End T F → Type 0
   Gains old x new = (new.taken ≡ old.taken) × (new.ahead ≡ old.ahead ++ x ∷ [])
 
-  -- x was taken from the front
+  -- x was taken at the front
   abbrev pub Loses : End T F → T → End T F → Type 0
   Loses old x new = (new.taken ≡ old.taken ++ x ∷ []) × IsFront old.ahead x new.ahead
 
@@ -61,12 +60,12 @@ module _ {T F : Type 0} where
   abbrev pub IsTaker : Known T F → Type 0
   IsTaker v = (v.puts ≡ false) × (v.takes ≡ true)
 
--- the port of a channel
+-- the identity of a channel's port
 abbrev pub name_of :
     {T V Q M L A : Type 0} → Rows (Badge (Key T)) (Doing T V) Q M (Key T) L A → PortName T
 name_of c = (c.stamps.shared.table_id, c.stamps.shared.key)
 
--- the end that a channel and a pass make
+-- the end made of a channel and a pass
 abbrev pub end_of :
     {T F Q M L A : Type 0}
     → Rows (Badge (Key T)) (Doing T (Known T F)) Q M (Key T) L A

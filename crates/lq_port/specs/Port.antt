@@ -1,4 +1,4 @@
--- The rule of a port: what was taken and then what waits is what was put, and each item follows.
+-- The rule of a port: the items taken, then those waiting, are those put; and each item follows.
 use Rattle.std.specs.Prelude.{◌≡◌, ◌⊎◌, ℕ, Bool, true, false, List, [], ◌∷◌, ◌++◌, ◌||◌, ◌==◌, length, drop, nat_lt, Option, Some, None, if◌then◌else◌}
 use mathlib.Core.List.{IsPrefix}
 use mathlib.Core.Option.{some}
@@ -8,12 +8,12 @@ use Rattle.lq_value.specs.declared.refusal.Refusal.TheVariants.{BadPort}
 use Rattle.lq_port.specs.declared.ends.TheConstants.{MAX_PLACES}
 use Rattle.lq_port.specs.declared.rule.Known.{Known}
 
--- why a port of this many places is refused
+-- why a port with this many places is refused
 abbrev pub port_refusal : ℕ → Option Refusal
 port_refusal places = if (places == 0) || nat_lt MAX_PLACES places then Some BadPort else None
 
 module _ {T F : Type 0} where
-  -- what an end knows that is not joined with the other
+  -- what an end knows while it isn't joined with the other
   abbrev pub known : Bool → Bool → F → List T → List T → Known T F
   known puts takes floor taken ahead =
       record {
@@ -27,11 +27,11 @@ module _ {T F : Type 0} where
         told = floor;
       }
 
-  -- the end for puts, as it is cut off
+  -- the end for puts after a split
   abbrev pub putter : F → Known T F → Known T F
   putter floor v = known true false floor v.taken v.ahead
 
-  -- the end for takes, as it is cut off
+  -- the end for takes after a split
   abbrev pub taker : F → Known T F → Known T F
   taker floor v = known false true floor v.taken v.ahead
 
@@ -39,11 +39,11 @@ module _ {T F : Type 0} where
   abbrev pub idle : Known T F → Known T F
   idle v = known false false v.floor v.taken v.ahead
 
-  -- all that is known to be put
+  -- all puts that the end knows
   abbrev pub put_of : Known T F → List T
   put_of v = v.taken ++ v.ahead
 
-  -- one end's list of all puts, beside the other's list of all takes
+  -- both ends joined: all puts that the one knows, and all takes that the other knows
   abbrev pub together : Known T F → Known T F → Known T F
   together v w =
       record {
@@ -61,13 +61,13 @@ module _ {T F : Type 0} where
   abbrev pub Adds : Known T F → T → Known T F → Type 0
   Adds v x w = w ≡ known true false v.floor v.taken (v.ahead ++ x ∷ [])
 
-  -- what both ends together know is what the port holds
+  -- what both ends know together is what the port holds
   abbrev pub Totals : Known T F → List T → Type 0
   Totals v items =
       (v.ahead ≡ items) × (put_of v ≡ v.whole) × IsPrefix v.seen (put_of v) × (v.told ≡ v.floor)
 
-  -- The ends that knew v and w know v' and w' after they were side by side: v has the puts,
-  -- and w the takes.
+  -- The two ends knew v and w, and know v' and w' after they were joined: v has all puts, and w has
+  -- all takes.
   pub record Shares (v w v' w' : Known T F) : Type 0 where
     pub floor : w'.floor ≡ v'.floor
     pub floor_in : v'.floor ≡ v.floor
@@ -80,22 +80,22 @@ module _ {T F : Type 0} where
     pub later : IsPrefix w.ahead w'.ahead
 
 module _ {T F : Type 0} (follows : List T → F → T → Type 0) where
-  -- each item follows the list before it and the floor
+  -- each item follows the items before it and the floor
   abbrev pub IsLegal : F → List T → Type 0
   IsLegal floor xs =
       (before : List T) (x : T) (after : List T) → xs ≡ before ++ x ∷ after
       → follows before floor x
 
-  -- x joins what was taken. It was the front of what was known to wait, if anything was.
+  -- x is added to what was taken. It was the first item known to wait, if any was.
   abbrev pub Removes : Known T F → T → Known T F → Type 0
   Removes v x w =
       (w ≡ known false true v.floor (v.taken ++ x ∷ []) (drop 1 v.ahead))
       × ((v.ahead ≡ []) ⊎ (v.ahead ≡ x ∷ drop 1 v.ahead))
       × follows v.taken v.floor x
 
-  -- The pass `input` alone may put, and knows all puts. The pass `output` alone may take, and
-  -- knows all takes. What each knows of the other is a front. A pass that may do both keeps
-  -- what the two knew.
+  -- Only the pass `input` may put, and it knows all puts. Only the pass `output` may take, and it
+  -- knows all takes. What each knows of the other is a prefix. A pass that may do both keeps what
+  -- the two knew.
   abbrev pub Fits : ℕ → ℕ → F → List T → List T → ℕ → Known T F → Type 0
   Fits input output floor put taken pass v =
       (v.puts ≡ true
@@ -105,7 +105,7 @@ module _ {T F : Type 0} (follows : List T → F → T → Type 0) where
       × (v.puts ≡ true → v.takes ≡ true
       → (v.whole ≡ put) × IsPrefix v.seen put × (v.told ≡ floor))
 
-  -- the rule of the items that wait, oldest first, and of what each pass knows
+  -- the rule for the waiting items, oldest first, and for what each pass knows
   pub record Kept (items : List T) (views : List (Known T F)) : Type 0 where
     pub input : ℕ
     pub output : ℕ

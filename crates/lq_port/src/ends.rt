@@ -19,9 +19,9 @@ pub const MAX_PLACES: u64 = 1_024;
 
 /// The end of a port for puts.
 ///
-/// It knows all that was put, and a prefix of what was taken. It keeps a receiving end of its
-/// own, so a port whose `PortOut` was dropped fills up and is then full, as tests show. After 2^61
-/// puts each further one waits for ever, as the code says.
+/// It knows all that was put, and a prefix of what was taken. It keeps a receiving end itself, so a
+/// port whose `PortOut` was dropped fills up and is then full, as tests show. After 2^61 puts every
+/// further put waits for ever, as the code says.
 #[derive(Drop)]
 pub struct PortIn<T: Follows + Drop> {
     sender: PortSender<T>,
@@ -74,11 +74,11 @@ impl<T: Follows + Drop> Model for PortOut<T> {
         × IsLegal T.follows (known_of end.pass).floor (put_of (known_of end.pass)) };
 }
 
-/// A new port of this many places, as its two ends.
+/// The two ends of a new port with this many places.
 ///
-/// `places` is 1 to 1,024. Contracts alone read the floor, which every item follows.
-/// Refused, the first that fits: `BadPort` where `places` is 0 or above 1,024, `NoMemory`.
-/// A put and a take need no more memory. The limit is our own.
+/// `places` is 1 to 1,024. Every item follows the floor, which only contracts read. Refused, the
+/// first that fits: `BadPort` where `places` is 0 or above 1,024, `NoMemory`. Puts and takes need
+/// no further memory. The limit is our own.
 pub fn make<T: Follows + Drop>(
     alloc: Global,
     places: u64,
@@ -89,13 +89,13 @@ pub fn make<T: Follows + Drop>(
     ensures empty { IfOk result (λ ends. (ends.0.taken ≡ []) × (ends.0.ahead ≡ [])) }
     ensures ends { IfOk result (λ ends. ends.1 ≡ ends.0) }
 
-    // Memory alone can refuse a number of places that a port may have.
+    // For a valid number of places only `NoMemory` can refuse.
     ensures refused { IsRefusedBy result (port_refusal places) }
 {
     make_at(alloc, places, floor)
 }
 
-// `named` is for the proof: the call picks it, and the cut of the first pass picks it again.
+// `named` is for the proof: this call picks it, and the split of the first pass picks it again.
 fn make_at<T: Follows + Drop>(
     alloc: Global,
     places: u64,
@@ -138,15 +138,16 @@ fn make_at<T: Follows + Drop>(
 impl<T: Follows + Drop> PortIn<T> {
     /// Puts an item at the back.
     ///
-    /// It comes back only where this end knows of as many items that wait as the port has places,
-    /// and the end is then as it was. That the port was full at a moment of the call no clause
-    /// says. It may wait for a step of the other end, but not for a place, and takes no memory.
+    /// `Err` gives the item back, only where this end knows of at least as many waiting items as
+    /// the port has places; the end is then unchanged. No clause says that the port was full at
+    /// some moment of the call. The call may wait for a step of the other end, but not for a place.
+    /// It takes no memory.
     pub fn put<R: Wait>(&mut self, rt: &R, item: T) -> Result<(), T>
         requires follows { T.follows (all_put self.old) self.old.floor item }
         ensures ok { OnOk result (Gains self.old item self.new) }
         ensures port { IsSamePort self.old self.new }
 
-        // What comes back is the item, from a port that has no place free that this end knows of.
+        // `Err` gives the item back, where this end knows of no free place in the port.
         ensures back { IfErr result (λ back. back ≡ item) }
         ensures full { OnErr result (IsFull self.old) }
         ensures err { OnErr result (self.new ≡ self.old) }
@@ -161,15 +162,15 @@ impl<T: Follows + Drop> PortIn<T> {
 impl<T: Follows + Drop> PortOut<T> {
     /// Takes the item at the front.
     ///
-    /// `None` never while this end knows that something waits, and the end is then as it was. That
-    /// the port was empty at a moment of the call no clause says. It may wait for a step of the
-    /// other end, but not for an item, and takes no memory.
+    /// `None` only where this end knows of no waiting item; the end is then unchanged. No clause
+    /// says that the port was empty at some moment of the call. The call may wait for a step of the
+    /// other end, but not for an item. It takes no memory.
     pub fn take<R: Wait>(&mut self, rt: &R) -> Option<T>
         ensures some { IfSome result (λ item. Loses self.old item self.new) }
         ensures follows { IfSome result (λ item. T.follows self.old.taken self.old.floor item) }
         ensures port { IsSamePort self.old self.new }
 
-        // Nothing was known to wait.
+        // This end knew of no waiting item.
         ensures empty { IfNone result (self.old.ahead ≡ []) }
         ensures none { IfNone result (self.new ≡ self.old) }
     {
@@ -181,16 +182,16 @@ impl<T: Follows + Drop> PortOut<T> {
         Some(item)
     }
 
-    /// Takes the item at the front, and waits for one where there is none.
+    /// Takes the item at the front, and waits for one if there is none.
     ///
-    /// `None` never while this end knows that something waits, and the end is then as it was. That
-    /// its `PortIn` is gone then, tests show. It takes no memory.
+    /// `None` only where this end knows of no waiting item; the end is then unchanged. Tests show
+    /// that its `PortIn` is gone then. It takes no memory.
     pub fn take_waiting<R: Wait>(&mut self, rt: &R) -> Option<T>
         ensures some { IfSome result (λ item. Loses self.old item self.new) }
         ensures follows { IfSome result (λ item. T.follows self.old.taken self.old.floor item) }
         ensures port { IsSamePort self.old self.new }
 
-        // Nothing was known to wait.
+        // This end knew of no waiting item.
         ensures empty { IfNone result (self.old.ahead ≡ []) }
         ensures none { IfNone result (self.new ≡ self.old) }
     {
@@ -202,10 +203,11 @@ impl<T: Follows + Drop> PortOut<T> {
         Some(item)
     }
 
-    /// How many items wait, where the two ends stand side by side.
+    /// How many items wait, found with both ends at hand.
     ///
-    /// Each end then knows all that was put and all that was taken: what waits is the same for
-    /// both, and begins with what this end knew to wait. It neither waits nor takes memory.
+    /// Afterwards each end knows all that was put and all that was taken. Both ends know the same
+    /// waiting items, which begin with those that this end knew before. It doesn't wait and takes
+    /// no memory.
     pub fn beside(&mut self, input: &mut PortIn<T>) -> u64
         requires port { self.old.port ≡ input.old.port }
         ensures value { result ≡ length self.new.ahead }
@@ -214,7 +216,7 @@ impl<T: Follows + Drop> PortOut<T> {
         ensures known { IsPrefix self.old.ahead self.new.ahead }
         ensures input { (input.new.taken ≡ self.new.taken) × (input.new.ahead ≡ self.new.ahead) }
 
-        // The ends have one floor, and each item follows.
+        // Both ends have the same floor, and each item follows.
         ensures floor { self.old.floor ≡ input.old.floor }
         ensures legal { IsLegal T.follows self.new.floor (all_put self.new) }
         ensures ports { IsSamePort self.old self.new × IsSamePort input.old input.new }

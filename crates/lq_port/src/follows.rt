@@ -1,12 +1,12 @@
-//! The law on the items of a port.
+//! The law for the items of a port.
 ghost use Rattle.std.specs.Prelude.{List};
 
-/// What may be put into a port.
+/// An item that may be put into a port.
 ///
-/// `follows before floor item` says that the item may come next, where `before` is all that
-/// was put and `floor` is the port's. `put` requires it, so whoever takes an item knows it.
-/// The floor is a value that contracts alone read; `make` fixes it. `no_floor` is any value
-/// of its type, for a place that has no floor. The law is our own.
+/// `follows before floor item` says that the item may come next, where `before` is all that was put
+/// so far and `floor` is the port's. `put` requires it, so the end that takes an item knows it. The
+/// floor is a value that only contracts read; `make` fixes it. `no_floor` is any value of its type,
+/// for use where there is no floor. The law is our own.
 pub trait Follows {
     type Floor;
 

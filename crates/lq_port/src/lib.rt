@@ -1,8 +1,8 @@
-//! A port: a queue of fixed length with two ends, under a law on the list of all that was put.
+//! A port: a queue of fixed length with two ends, under a law for the list of all that was put.
 //!
-//! A contract sees an end as the record `End` of `specs/End`: which port it is, its places and
-//! floor, what was taken, and what was put after that. `specs/Port` has the rule of the two.
-//! `put`, `take` and `take_waiting` may wait. The ends cross threads where the items do. Begin with
+//! Contracts see an end as the record `End` of `specs/End`: which port it is, its places and floor,
+//! what was taken, and what was put after that. `specs/Port` has the rule that joins the two ends.
+//! `put`, `take` and `take_waiting` may wait. An end may cross threads if its items may. Begin with
 //! `follows`, then `ends`.
 #![tactic(auto)]
 

@@ -1,14 +1,14 @@
-//! What an end knows of its port, and the steps that change it. No value of these types is made.
+//! What an end knows of its port, and the steps that change it. These types have no values.
 use crate::follows::Follows;
 use crossbeam_channel::protocol::{Join, Lesson, Outcome, Protocol, Split};
 use std::collections::LinkedList;
 use std::marker::Brand;
 
-/// What one end knows: `taken` was taken, `ahead` was put and is not in `taken`.
+/// What one end knows: `taken` was taken, `ahead` was put and isn't in `taken`.
 ///
-/// `puts` and `takes` say what the end may do. `whole`, `seen` and `told` count while the two
-/// ends are joined: all that the one knew to be put, and what the other knew to be put, and
-/// its floor. The form is our own.
+/// `puts` and `takes` say what the end may do. The other fields count only while the two ends are
+/// joined: `whole` is all puts that the one end knew, `seen` all puts that the other knew, and
+/// `told` the other's floor. The form is our own.
 pub struct Known<T, F> {
     pub puts: bool,
     pub takes: bool,
@@ -32,7 +32,7 @@ impl<T: Follows> Protocol<T, Known<T, T::Floor>> for InOrder {
     ghost first = { known true true T.no_floor [] [] };
 }
 
-// An end for puts and one for takes are cut of a pass that has both roles.
+// Splits a pass that has both roles into an end for puts and one for takes.
 pub(crate) struct Apart;
 
 impl<T, F> Split<Known<T, F>> for Apart {
@@ -43,7 +43,7 @@ impl<T, F> Split<Known<T, F>> for Apart {
     ghost right = { λ v. taker v.floor v };
 }
 
-// The same for a new port, whose floor the call picks.
+// The same for a new port, for which the call picks the floor.
 impl<T, F> Split<Known<T, F>> for Brand {
     ghost use Rattle.lq_port.specs.Port.{putter, taker};
 
@@ -52,7 +52,7 @@ impl<T, F> Split<Known<T, F>> for Brand {
     ghost right = { λ v. taker v.floor v };
 }
 
-// All that the end for takes knows leaves it, and it may do nothing more.
+// The end for takes gives away all that it knows, and may do nothing more.
 pub(crate) struct Away;
 
 impl<T, F> Split<Known<T, F>> for Away {
@@ -63,7 +63,7 @@ impl<T, F> Split<Known<T, F>> for Away {
     ghost right = { λ v. v };
 }
 
-// Both ends are one pass, which knows what each of them knew.
+// Joins both ends into one pass, which knows what each of them knew.
 pub(crate) struct Beside;
 
 impl<T: Follows> Join<Known<T, T::Floor>> for Beside {
@@ -75,7 +75,7 @@ impl<T: Follows> Join<Known<T, T::Floor>> for Beside {
     ghost spent = { known false false T.no_floor [] [] };
 }
 
-// What a put tells, and what it tells where it finds the port full.
+// What a put teaches its end, and what it teaches where the port is full.
 pub(crate) struct Put;
 
 impl<T, F> Outcome<T, Known<T, F>> for Put {
@@ -90,7 +90,7 @@ impl<T, F> Lesson<T, Known<T, F>> for Put {
     ghost fact = { λ v items. length items ≤ length v.ahead };
 }
 
-// What a take tells, and what it tells where it finds the port empty.
+// What a take teaches its end, and what it teaches where the port is empty.
 pub(crate) struct Take;
 
 impl<T: Follows> Outcome<T, Known<T, T::Floor>> for Take {
@@ -105,7 +105,7 @@ impl<T, F> Lesson<T, Known<T, F>> for Take {
     ghost fact = { λ v items. IsPrefix v.ahead items };
 }
 
-// What the joined pass knows of what the port holds.
+// What the joined pass knows of the port's content.
 pub(crate) struct Total;
 
 impl<T, F> Lesson<T, Known<T, F>> for Total {

@@ -1,4 +1,4 @@
-//! The steps on the channel of a port, over the passes of its ends.
+//! The steps on a port's channel, with the passes of its ends.
 ghost use Rattle.std.specs.Prelude.{◌≡◌, ◌<◌, ◌≤◌, ◌^◌, ◌-◌, length, OnOk, OnErr, IfErr};
 ghost use Rattle.crossbeam_channel.specs.Claims.{IsSeatAt};
 ghost use Rattle.crossbeam_channel.specs.Ends.{sends_on, ruled_capacity};
@@ -22,7 +22,7 @@ pub(crate) type PortReceiver<T> = RuledReceiver<
 
 pub(crate) type PortPass<T> = Pass<T, Known<T, <T as Follows>::Floor>>;
 
-// Puts an item. The channel always has a receiving end, so that it has none is passing.
+// Puts an item. The channel always has a receiving end, so `Disconnected` can only be transient.
 pub(crate) fn put_on<T: Follows + Drop, R: Wait>(
     rt: &R,
     sender: &PortSender<T>,
@@ -50,7 +50,7 @@ pub(crate) fn put_on<T: Follows + Drop, R: Wait>(
     unreachable!()
 }
 
-// Returns where one more can be counted, and waits for ever where none can: no run gets so far.
+// Returns if one more can be counted, else waits for ever: no run gets that far.
 pub(crate) fn count_on<R: Wait>(rt: &R, count: u64)
     ensures { count < 2 ^ 64 - 1 }
 {
@@ -60,7 +60,7 @@ pub(crate) fn count_on<R: Wait>(rt: &R, count: u64)
     }
 }
 
-// Joins what two ends know, and cuts it anew.
+// Joins what two ends know, and splits it again.
 pub(crate) fn meet<T: Follows + Drop>(
     sender: &PortSender<T>,
     input: &mut PortPass<T>,

@@ -1,4 +1,4 @@
--- What is so of every predicate.
+-- Facts about every predicate.
 use Rattle.std.specs.Prelude.{◌≡◌, ◌⊎◌, ℕ, List, true}
 use Rattle.std.specs.List.{list_any}
 use Rattle.std.specs.Str.{bytes_eq}
@@ -7,18 +7,18 @@ use Rattle.lq_predicate.specs.Names.{names_of}
 use Rattle.lq_predicate.specs.Span.{StaysBeside, span_of}
 use Rattle.lq_predicate.specs.Truth.{Look, truth}
 
--- the truth of a predicate goes by what a row shows under these names alone
+-- the truth of a predicate depends only on what a row shows under these names
 abbrev pub GoesBy : List (List ℕ) → Query → Type 0
 GoesBy names q = (look other : Look)
     → ((name : List ℕ) → list_any (bytes_eq name) names ≡ true → look name ≡ other name)
     → truth q look ≡ truth q other
 
--- and it goes by the names of its attributes
+-- it depends only on what a row shows under the names of the predicate's attributes
 abbrev pub TruthGoesByNames : Type 0
 TruthGoesByNames = (q : Query) → GoesBy (names_of q) q
 
--- it is the same of two rows where each name shows the same, or a number that stays beside all that
--- the predicate compares the name with
+-- it is the same for two rows if each name shows the same in both, or numbers on the same side of
+-- all numbers that the predicate compares the name with
 abbrev pub TruthStaysBesideSpans : Type 0
 TruthStaysBesideSpans = (q : Query) (look now : Look)
     → ((name : List ℕ) →

@@ -1,5 +1,5 @@
--- Which queries a predicate may be: its literals suit its operators, its
--- lists have two parts or more, and it is within the limits.
+-- Which queries are predicates: each literal suits its operator, each list has at least two parts,
+-- and the query is within the limits.
 use Rattle.std.specs.Prelude.{ℕ, suc, Bool, true, ◌&&◌, length, nat_le, Option, Some, None, if◌then◌else◌}
 use Rattle.lq_value.specs.Compare.{suits}
 use Rattle.lq_predicate_formula.specs.Canonical.{canonical, depth, comparisons}
@@ -9,7 +9,7 @@ abbrev pub part_count : Queries → ℕ
 part_count no_more = 0
 part_count (and_then q qs) = suc (part_count qs)
 
--- each literal suits its operator, and each list has two parts or more
+-- each literal suits its operator, and each list has at least two parts
 abbrev mutual
   pub is_formed : Query → Bool
   is_formed (Compare attr op literal) = suits literal op
@@ -17,13 +17,12 @@ abbrev mutual
   is_formed (And qs) = nat_le 2 (part_count qs) && are_formed qs
   is_formed (Or qs) = nat_le 2 (part_count qs) && are_formed qs
 
-  -- the same of each of some queries
+  -- the same for each query of a list
   pub are_formed : Queries → Bool
   are_formed no_more = true
   are_formed (and_then q qs) = is_formed q && are_formed qs
 
--- a predicate has depth 64 at most, 256 comparisons at
--- most, and a canonical text of 4,096 bytes at most
+-- depth at most 64, at most 256 comparisons, and a canonical text of at most 4,096 bytes
 abbrev pub is_within : Query → Bool
 is_within q =
     nat_le (depth q) 64 && nat_le (comparisons q) 256 && nat_le (length (canonical q)) 4096

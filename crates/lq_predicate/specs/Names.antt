@@ -12,7 +12,7 @@ abbrev mutual
   attributes (And qs) = all_attributes qs
   attributes (Or qs) = all_attributes qs
 
-  -- the same of each of some queries
+  -- the same for each query of a list
   pub all_attributes : Queries → List (List ℕ)
   all_attributes no_more = []
   all_attributes (and_then q qs) = attributes q ++ all_attributes qs
@@ -20,11 +20,11 @@ abbrev mutual
 abbrev pub is_among : List (List ℕ) → List ℕ → Bool
 is_among names name = list_any (λ other. bytes_eq other name) names
 
--- a name behind those before it, unless it is one of them
+-- the names before, then this name unless it is one of them
 abbrev pub with_name : List (List ℕ) → List ℕ → List (List ℕ)
 with_name names name = if is_among names name then names else names ++ name ∷ []
 
--- names, and then each new one at its first use
+-- the names before, then each new name at its first use
 abbrev pub each_once : List (List ℕ) → List (List ℕ) → List (List ℕ)
 each_once names [] = names
 each_once names (name ∷ uses) = each_once (with_name names name) uses

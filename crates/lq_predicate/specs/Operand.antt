@@ -1,4 +1,4 @@
--- The pattern that a text is the source of, if it is one.
+-- The pattern that a text writes, if it writes one.
 use Rattle.std.specs.Prelude.{ℕ, List, Option, Some, None, Result, Ok, Err}
 use Rattle.lq_value.specs.declared.element.Element.{Element}
 use Rattle.lq_value.specs.Source.{pattern_of}

@@ -1,4 +1,4 @@
--- The parser, seen as the machine's state that it is in.
+-- The state of the machine that the parser is in.
 use Rattle.std.specs.Prelude.{ℕ, List, map, reverse, Vec, Option, None}
 use Rattle.std.specs.declared.alloc.Global.{Global}
 use Rattle.lq_predicate_formula.specs.Tokens.{Token, opens, closes, bang, ands, ors, op, word, lone, cut}
@@ -12,7 +12,7 @@ use Rattle.lq_predicate.specs.declared.parser.Parser.{Parser}
 abbrev pub frame_of : TreeFrame → Frame
 frame_of b = record { or_parts = b.or_parts.items; and_parts = b.and_parts.items; bangs = b.bangs }
 
--- the innermost first
+-- the frames below, the innermost first
 abbrev pub below_of : Vec TreeFrame Global → List Frame
 below_of v = reverse (map frame_of v.items)
 
@@ -29,7 +29,7 @@ state_at below top expected room =
 abbrev pub state_of : Parser → State
 state_of m = state_at m.below m.top (expected_of m.expected) m.room
 
--- the place in a token where its pattern has a fault, if it is a literal that is read as a pattern
+-- the offset in a token of its pattern's fault, if the token is a literal that is read as a pattern
 abbrev pub pattern_fault : Expected → Token → Option ℕ
 pattern_fault p opens = None
 pattern_fault p closes = None

@@ -1,5 +1,4 @@
--- The place of a token's fault, where it has no pattern with
--- a fault: a cut text has it at the end of all.
+-- The offset of a token's fault where no pattern has a fault: a cut text has it at the text's end.
 use Rattle.std.specs.Prelude.{ℕ}
 use Rattle.lq_predicate_formula.specs.Tokens.{Token, opens, closes, bang, ands, ors, op, word, lone, cut, Placed}
 

@@ -16,7 +16,7 @@ tail gnil = gnil
 tail (gnum n) = gnil
 tail (gcons a b) = b
 
--- codes with different numbers in front are different
+-- codes that begin with different numbers are different
 apart : (m n : ℕ) {a b : Gv} → gcons (gnum m) a ≡ gcons (gnum n) b → m ≢ n → ⊥
 apart m n p other = other (cc)
 

@@ -4,7 +4,7 @@ use Rattle.lq_value.specs.declared.refusal.Refusal.{Refusal}
 use Rattle.lq_value.specs.declared.refusal.Refusal.TheVariants.{BadQuery}
 use Rattle.lq_predicate_formula.specs.Query.{Query}
 
--- the refusal of a reading: none of a query, and of a fault its place
+-- the refusal of a reading: none for a query, for a fault its place
 abbrev pub refusal_of : Result Query ℕ → Option Refusal
 refusal_of (Ok q) = None
 refusal_of (Err place) = Some (BadQuery place)

@@ -1,4 +1,4 @@
--- The numbers that a query compares what stands under a name with, and what lies beside them all.
+-- The numbers that a query compares an attribute with, and what lies on one side of them all.
 use Rattle.std.specs.Prelude.{ℕ, ℤ, pos, negsuc, ◌-◌, ◌^◌, ◌≡◌, List, [], ◌++◌, Bool, true, ◌&&◌, ◌||◌, Option, Some, codes, int_lt, if◌then◌else◌}
 use Rattle.std.specs.Int.{int_max, int_min}
 use Rattle.std.specs.List.{fold}
@@ -10,7 +10,7 @@ use Rattle.lq_predicate_formula.specs.Query.{Query, Compare, Not, And, Or, Queri
 use Rattle.lq_predicate.specs.declared.span.Span.{Span}
 use Rattle.lq_predicate.specs.declared.spans.Spans.{Spans}
 
--- the numbers that the comparisons of a name write, from the left
+-- the numbers in the comparisons of a name, from the left
 abbrev mutual
   pub numbers_of : List ℕ → Query → List ℤ
   numbers_of name (Compare attr op literal) =
@@ -19,12 +19,12 @@ abbrev mutual
   numbers_of name (And qs) = all_numbers name qs
   numbers_of name (Or qs) = all_numbers name qs
 
-  -- the same of each of some queries
+  -- the same for each query of a list
   pub all_numbers : List ℕ → Queries → List ℤ
   all_numbers name no_more = []
   all_numbers name (and_then q qs) = numbers_of name q ++ all_numbers name qs
 
--- a span that has these numbers too
+-- the span with these numbers added
 abbrev pub widened : Span → List ℤ → Span
 widened span numbers = record {
   least = fold int_min span.least numbers;
@@ -35,24 +35,24 @@ widened span numbers = record {
 abbrev pub no_span : Span
 no_span = record { least = pos (2 ^ 127 - 1); greatest = negsuc (2 ^ 127 - 1) }
 
--- the least and the greatest number that the comparisons of a name write
+-- the least and the greatest number in the comparisons of a name
 abbrev pub span_of : List ℕ → Query → Span
 span_of name q = widened no_span (numbers_of name q)
 
--- those of the two names under which a write alters what an entry shows
+-- the spans of `size` and of `last_modified`: a write alters what an entry shows under these two
 abbrev pub spans_of : Query → Spans
 spans_of q = record {
   sizes = span_of (codes "size") q;
   times = span_of (codes "last_modified") q;
 }
 
--- whether two numbers are both below a span, or both above it
+-- whether both numbers are below a span, or both are above it
 abbrev pub is_beside : Span → ℤ → ℤ → Bool
 is_beside span a b =
     (int_lt a span.least && int_lt b span.least)
     || (int_lt span.greatest a && int_lt span.greatest b)
 
--- a number that was beside a span, and is there now, on the same side
+-- both held values are numbers on the same side of a span
 pub record StaysBeside (span : Span) (held now : Option Held) : Type 0 where
   pub from : ℤ
   pub to : ℤ

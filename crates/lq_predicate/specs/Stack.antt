@@ -20,30 +20,30 @@ use Rattle.lq_predicate.specs.declared.stack_item.StackItem.TheVariants.{Attr, V
 use Rattle.lq_predicate.specs.declared.stack_op.StackOp.{StackOp}
 use Rattle.lq_predicate.specs.declared.stack_op.StackOp.TheVariants as stack_op
 
--- the stack with these items, by one push more that is accepted; the count is one of 64 bits
+-- the stack with these items after one more accepted push; the count has 64 bits
 abbrev pub pushed : Stacked → List StackItem → Option Stacked
 pushed stack items =
     if nat_lt (stack.pushes + 1) (2 ^ 64)
     then Some (record { items = items; pushes = stack.pushes + 1 })
     else None
 
--- an attribute's name
+-- a push of an attribute's name
 abbrev pub attr_pushed : List ℕ → Stacked → Option Stacked
 attr_pushed name stack = if is_attr_name name then pushed stack (Attr name ∷ stack.items) else None
 
--- a text
+-- a push of a text
 abbrev pub text_pushed : List ℕ → Stacked → Option Stacked
 text_pushed text stack =
     if nat_le (length text) 4096 then pushed stack (Value text ∷ stack.items) else None
 
 -- ---- operators
 
--- a comparison with a pattern, where there is one
+-- the comparison with a pattern, if there is one
 abbrev pub compared_if : Op → List ℕ → Option (List Element) → Option Query
 compared_if op attr pattern =
     option_map (λ elements. Compare attr op (literal.Pattern elements)) pattern
 
--- the characters of a text as plain ones, with a star before them, behind them or both
+-- the characters of a text as plain ones, with a star before them, after them or both
 abbrev pub star_if : Bool → List Element
 star_if true = Star ∷ []
 star_if false = []
@@ -70,16 +70,16 @@ compared stack_op.And attr text = None
 compared stack_op.Or attr text = None
 compared stack_op.Not attr text = None
 
--- the query in place of what it is made of, if it is within the limits
+-- the items with the query on top, if it is within the limits
 abbrev pub in_place : Option Query → List StackItem → Option (List StackItem)
 in_place query rest = option_map (λ q. Part q ∷ rest) (option_and_then if_within query)
 
--- a value on top and an attribute below it
+-- the items after a comparison, which takes a value on top and an attribute below it
 abbrev pub after_comparison : StackOp → List StackItem → Option (List StackItem)
 after_comparison op (Value text ∷ Attr attr ∷ rest) = in_place (compared op attr text) rest
 after_comparison op items = None
 
--- two predicates, the lower one first
+-- the items after `And` or `Or`, which takes two predicates, the lower one first
 abbrev pub after_join : (Queries → Query) → List StackItem → Option (List StackItem)
 after_join join (Part upper ∷ Part lower ∷ rest) =
     in_place (Some (join (queries (lower ∷ upper ∷ [])))) rest
@@ -107,8 +107,8 @@ after_op stack_op.Not items = after_not items
 abbrev pub op_pushed : StackOp → Stacked → Option Stacked
 op_pushed op stack = option_and_then (pushed stack) (after_op op stack.items)
 
--- A call made this of some items: the predicate that stands in place of the first ones, none where
--- nothing fits, and where something fits it may have run out of memory.
+-- The result of an operator on some items: the predicate that replaces the first items, none where
+-- nothing fits. Where something fits, the call may run out of memory instead.
 abbrev pub IsMade : Result (Option Query) Refusal → ℕ → List StackItem
     → Option (List StackItem) → Type 0
 IsMade (Ok made) count items after = after ≡ option_map (λ p. Part p ∷ drop count items) made
@@ -116,14 +116,14 @@ IsMade (Err e) count items after = IsSome after
 
 -- ---- the end
 
--- the predicate, where it is all that the stack holds
+-- the predicate, if it is the only item
 abbrev pub only_part : List StackItem → Option Query
 only_part (Part q ∷ []) = Some q
 only_part items = None
 
 -- ---- refusals
 
--- what doesn't fit is refused at a place: the number of pushes that were accepted
+-- what doesn't fit is refused with a place: the number of pushes that were accepted
 abbrev pub refusal_at : {A : Type 0} → ℕ → Option A → Option Refusal
 refusal_at place None = Some (BadQuery place)
 refusal_at place (Some new) = None

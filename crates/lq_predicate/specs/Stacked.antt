@@ -1,4 +1,4 @@
--- What a stack holds: its items, the top first, and how many pushes were accepted since it was new.
+-- A stack's items, the top first, and the number of pushes accepted since it was new.
 use Rattle.std.specs.Prelude.{ℕ, List, [], refl}
 use Rattle.std.specs.Coded.{Coded, code_by, coded×, coded_list, coded_ℕ}
 use Rattle.lq_predicate.specs.declared.stack_item.StackItem.{StackItem}

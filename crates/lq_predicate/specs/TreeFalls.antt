@@ -9,13 +9,13 @@ use Rattle.lq_predicate.specs.declared.tree.TreeNode.{TreeNode}
 use Rattle.lq_predicate.specs.declared.tree.TreeNode.TheVariants as node
 use Rattle.lq_predicate.specs.declared.tree.Tree.TheDeep.{deep-TreeNode}
 
--- no part is deeper than the deepest
+-- no part is deeper than the deepest one
 pub most_le-deepest : (parts : List Query)
     → most (λ q. depth q + 1) parts ≤ 1 + deepest (queries parts)
 most_le-deepest [] = omega arith
 most_le-deepest (q ∷ qs) = omega (arith, most_le-deepest qs)
 
--- a tree's own depth is no more than that of its query
+-- a tree's own depth is at most that of its query
 pub deep_le-depth : (n : TreeNode) → max (deep-TreeNode n) 0 ≤ depth (tree_query n)
 deep_le-depth (node.Compare attr op literal) = omega arith
 deep_le-depth (node.Not part) = omega arith

@@ -1,4 +1,4 @@
--- When a predicate holds of a row. A row is seen as what it shows under each attribute's name.
+-- When a predicate holds for a row. A row is seen as what it shows under each attribute's name.
 use Rattle.std.specs.Prelude.{ℕ, List, Bool, true, false, not, ◌&&◌, ◌||◌, Option, Some, None}
 use Rattle.lq_value.specs.declared.op.Op.{Op}
 use Rattle.lq_value.specs.declared.literal.Literal.{Literal}
@@ -15,7 +15,7 @@ abbrev pub compares_if_present : Option Held → Op → Literal → Bool
 compares_if_present None op literal = false
 compares_if_present (Some held) op literal = compares held op literal
 
--- whether the predicate holds of a row
+-- whether the predicate holds for a row
 abbrev mutual
   pub truth : Query → Look → Bool
   truth (Compare attr op literal) look = compares_if_present (look attr) op literal

@@ -1,4 +1,4 @@
--- What the validator, which has no memory, knows of what the machine has read.
+-- What the validator, which takes no memory, knows of what the machine has read.
 use Rattle.std.specs.Prelude.{◌≡◌, ◌++◌, ℕ, List, [], ◌∷◌, length, map, reverse, Option, None, Some, Result, Ok, Err, ⊤}
 use Rattle.lq_predicate_formula.specs.Canonical.{canonical, depth}
 use Rattle.lq_predicate_formula.specs.Capped.{capped}
@@ -18,7 +18,7 @@ use Rattle.lq_predicate.specs.declared.validator.Validator.{Validator}
 abbrev pub query_size : Query → QuerySize
 query_size q = record { depth = capped (depth q); bytes = capped (length (canonical q)) }
 
--- two parts or more are as one And: an Or of them is as deep and as long
+-- two or more parts count as one And: an Or of them has the same depth and length
 abbrev pub parts_of : List Query → Parts
 parts_of [] = Empty
 parts_of (q ∷ []) = One (query_size q)
@@ -28,7 +28,7 @@ abbrev pub size_frame : Frame → SizeFrame
 size_frame f =
     record { or_parts = parts_of f.or_parts; and_parts = parts_of f.and_parts; bangs = f.bangs }
 
--- the frame behind `||`
+-- the frame after `||`
 abbrev pub behind_or : Frame → Frame
 behind_or f =
     record { or_parts = f.or_parts ++ both_of f.and_parts ∷ []; and_parts = []; bangs = 0 }
@@ -39,14 +39,14 @@ size_expected (after_attr a) = expects.AfterAttr (name_bytes a)
 size_expected (after_op a o) = expects.AfterOp (name_bytes a) o
 size_expected after_operand = expects.AfterOperand
 
--- The validator shows how great the state's parts are; the innermost frame below is its last.
+-- The validator has the sizes of the state's parts; the innermost frame below is its last one.
 pub record Shows (g : Validator) (s : State) : Type 0 where
   pub below : reverse g.below.items ≡ map size_frame s.below
   pub top : g.top ≡ size_frame s.top
   pub expected : g.expected ≡ size_expected s.expected
   pub room : g.room ≡ s.room
 
--- the validator shows the state behind the token; or there is none, and this is its pattern's fault
+-- the validator shows the state after the token; or there is none, and this is its pattern's fault
 abbrev pub IsStepAt : Expected → State → Token → Result ⊤ (Option ℕ) → Validator → Type 0
 IsStepAt p s t (Ok done) g =
     (s' : State) × (step_at p s t ≡ Some s') × (pattern_fault p t ≡ None) × Shows g s'
@@ -55,7 +55,7 @@ IsStepAt p s t (Err k) g = (step_at p s t ≡ None) × (pattern_fault p t ≡ k)
 abbrev pub IsStepOf : State → Token → Result ⊤ (Option ℕ) → Validator → Type 0
 IsStepOf s t r g = IsStepAt s.expected s t r g
 
--- how great the query is that the state is whole with
+-- the size of the query that the state is complete with
 abbrev pub IsEndOf : State → Option QuerySize → Type 0
 IsEndOf s None = whole s ≡ None
 IsEndOf s (Some e) = (q : Query) × (whole s ≡ Some q) × (e ≡ query_size q)

@@ -7,8 +7,8 @@ use crate::predicate::Predicate;
 use lq_value::{AttrName, Refusal};
 use std::alloc::Global;
 
-/// The names of the attributes that the predicate compares, each once, in the order of their first
-/// use from the left. Refused: `NoMemory`.
+/// The names of the attributes that the predicate compares: each once, in the order of first use
+/// from the left. Refused: `NoMemory`.
 pub fn names(alloc: Global, predicate: &Predicate) -> Result<Vec<AttrName>, Refusal>
     ensures refused { IsRefusedBy result None }
     ensures value { IfOk result (λ names. names.items ≡ names_of predicate.now) }

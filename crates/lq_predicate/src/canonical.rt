@@ -11,9 +11,11 @@ use lq_predicate_formula::canonical_is_read;
 use lq_value::Refusal;
 use std::alloc::Global;
 
-/// The canonical text of a predicate: each comparison, `And` and `Or` in parentheses, each literal
-/// between `"` marks, and no white space but what names and literals have. It has at most 4,096
-/// bytes, as the predicate is within its limits, and reads as that predicate. Refused: `NoMemory`.
+/// The canonical text of a predicate.
+///
+/// Each comparison, `And` and `Or` stands in parentheses and each literal between `"` marks. White
+/// space occurs only inside names and literals. The text has at most 4,096 bytes, by the limits of
+/// a predicate, and `read` gives the same predicate for it. Refused: `NoMemory`.
 pub fn write(alloc: Global, predicate: &Predicate) -> Result<String, Refusal>
     ensures valid { IsTrue (is_predicate predicate.now) }
     ensures value { IfOk result (λ text. string_bytes text ≡ canonical predicate.now) }

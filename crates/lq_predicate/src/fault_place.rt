@@ -1,4 +1,4 @@
-//! The place of a formula's fault, found without memory.
+//! Finds where a formula is faulty, without taking memory.
 ghost use Rattle.std.specs.Prelude.{◌≡◌, ◌≤◌, ◌<◌, ◌+◌, ◌^◌, IfSome, MatchOption, length};
 ghost use Rattle.lq_predicate_formula.specs.Reading.{reading_of, word_count};
 ghost use Rattle.lq_predicate_formula.specs.TokenView.{placed_of, token_of};
@@ -19,7 +19,7 @@ const MOST_DEPTH: usize = 64;
 /// The most words: each comparison has two.
 const MOST_WORDS: usize = 512;
 
-// The byte place of a formula's leftmost fault; none where it reads as a query.
+// The byte offset of a formula's leftmost fault; none where the formula reads as a query.
 pub(crate) fn fault_place(formula: &str) -> Option<u64>
     ensures { result ≡ fault_of (reading_of formula.now) }
 {
@@ -29,7 +29,7 @@ pub(crate) fn fault_place(formula: &str) -> Option<u64>
     fault_within(formula)
 }
 
-// The same of a text that isn't too long.
+// The same for a text that isn't too long.
 fn fault_within(text: &str) -> Option<u64>
     requires { length text.now ≤ 4096 }
     ensures { result ≡ fault_of (reading_of text.now) }
@@ -65,7 +65,7 @@ fn fault_within(text: &str) -> Option<u64>
     None
 }
 
-// Where the fault of a token lies: within its raw text, if its pattern has one.
+// The offset of a token's fault: inside the token's raw text, if its pattern has a fault.
 fn token_place(end: usize, placed: &Placed, pattern: Option<u64>) -> u64
     requires { IfSome pattern (λ k. placed.now.raw_place + k < 2 ^ 64) }
     ensures { MatchOption pattern (result ≡ plain_place end (placed_of placed.now))
@@ -77,7 +77,7 @@ fn token_place(end: usize, placed: &Placed, pattern: Option<u64>) -> u64
     }
 }
 
-// Where the fault of a token lies that has no pattern with a fault.
+// The offset of a token's fault, where no pattern of it has a fault.
 fn plain_place(end: usize, placed: &Placed) -> usize
     ensures { result ≡ plain_place end (placed_of placed.now) }
 {
@@ -87,7 +87,7 @@ fn plain_place(end: usize, placed: &Placed) -> usize
     }
 }
 
-// Whether a token is a word, as a number.
+// 1 for a token that is a word, else 0.
 fn words_of(token: &Token) -> usize
     ensures value { result ≡ word_count (token_of token.now) }
     ensures bound { result ≤ 1 }

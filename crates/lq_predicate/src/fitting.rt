@@ -1,4 +1,4 @@
-//! Whether what is made of predicates is within the limits of one.
+//! Tests whether a predicate made of others is within the limits.
 ghost use Rattle.std.specs.Prelude.{◌≡◌, ◌≤◌, ◌∷◌, []};
 ghost use Rattle.lq_predicate_formula.specs.Canonical.{comparisons};
 ghost use Rattle.lq_predicate_formula.specs.Query.{And, Not, Or, queries};

@@ -1,10 +1,10 @@
 //! Predicates: read from formulas, built by pushes in postfix order or from other predicates,
-//! written, and asked of a row.
+//! written as text, and evaluated for a row.
 //!
-//! A contract sees a predicate as a `Query` of lq_predicate_formula, which is within the limits of
-//! `specs/Limits`, a row as what it shows under each attribute's name (`specs/Truth`), and a stack
-//! as its items and the number of pushes accepted (`specs/Stacked`; `specs/Stack` has what each
-//! push gives, and when it doesn't fit). Nothing here waits, and `holds` takes no memory.
+//! Contracts see a predicate as a `Query` of lq_predicate_formula within the limits of
+//! `specs/Limits`, and a row as what it shows under each attribute's name (`specs/Truth`). They see
+//! a stack as its items and the number of pushes accepted (`specs/Stacked`; `specs/Stack` says what
+//! each push gives, and when it doesn't fit). Nothing here waits, and `holds` takes no memory.
 //! Begin with `predicate`, then `truth`, then `reader`, then `stack`.
 #![tactic(auto)]
 

@@ -8,10 +8,10 @@ use lq_value::{Pattern, Refusal, Text};
 use std::alloc::Global;
 use std::marker::Model;
 
-/// A text that waits for its operator, with the pattern that it writes, if it writes one: so an
-/// operator needs no memory to know whether it fits.
+/// A text that waits for its operator, with the pattern that it writes, if it writes one. With the
+/// pattern at hand, testing whether an operator fits takes no memory.
 ///
-/// A contract sees it as the text's bytes.
+/// Contracts see it as the text's bytes.
 #[derive(Drop)]
 pub struct Operand {
     text: Text,

@@ -1,5 +1,5 @@
-//! Building what a formula says: from its tokens, from the left, with a stack of what is begun. The
-//! formula is known to read, so each token can be taken, and for want of memory alone none is.
+//! Builds a formula's query from its tokens, from the left, with a stack of the formulas that are
+//! begun. The formula is known to read, so a token is refused only for lack of memory.
 ghost use Rattle.std.specs.Prelude.{◌≡◌, ◌≤◌, ◌<◌, ◌+◌, ◌^◌, None, Some, IfOk, IsSome};
 ghost use Rattle.lq_predicate_formula.specs.Machine.{at_end, at_operand, completed, empty_frame as no_parts, after_operand, operand, said_by, start, step, weight, whole};
 ghost use Rattle.lq_predicate_formula.specs.Grammar.{nesting};
@@ -13,8 +13,8 @@ use lq_predicate_formula::{Token, read_literal, read_name};
 use lq_value::{AttrName, Op, Refusal};
 use std::alloc::{AllocError, Global};
 
-// A formula that is begun: the parts of its or that are done, those of its last and, and the `!`
-// that wait.
+// A formula that is begun: the parts of its `or` that are done, those of its last `and`, and the
+// `!` that wait.
 #[derive(Drop)]
 pub(crate) struct TreeFrame {
     pub(crate) or_parts: Vec<Tree>,
@@ -22,7 +22,7 @@ pub(crate) struct TreeFrame {
     pub(crate) bangs: usize,
 }
 
-// What is expected.
+// What the parser expects next.
 #[derive(Drop)]
 pub(crate) enum Expected {
     Operand,
@@ -31,7 +31,7 @@ pub(crate) enum Expected {
     AfterOperand,
 }
 
-// What is begun, from the outside in, and how much deeper it may nest.
+// The formulas that are begun, from the outside in, and how many more may nest.
 #[derive(Drop)]
 pub(crate) struct Parser {
     pub(crate) below: Vec<TreeFrame>,
@@ -61,7 +61,7 @@ fn new_frame(alloc: Global) -> TreeFrame
     }
 }
 
-// The operand that was expected is done.
+// Adds the operand that was expected.
 fn complete(
     alloc: Global,
     tree: Tree,
@@ -83,7 +83,7 @@ fn complete(
     })
 }
 
-// What a frame says, once it is whole.
+// The query of a frame, once it is whole.
 fn said(mut frame: TreeFrame) -> Result<Tree, AllocError>
     ensures { IfOk result (λ tree. tree ≡ said_by (frame_of frame)) }
 {
@@ -189,7 +189,7 @@ fn read_behind_operand(
     }
 }
 
-// One token more.
+// Reads one more token.
 pub(crate) fn read_token(alloc: Global, parser: Parser, token: &Token) -> Result<Parser, Refusal>
     requires light { weight (state_of parser) ≤ 64 }
     requires taken { IsSome (step (state_of parser) (token_of token.now)) }
@@ -225,7 +225,7 @@ pub(crate) fn read_token(alloc: Global, parser: Parser, token: &Token) -> Result
     }
 }
 
-// The query, where the formula ends.
+// The query, at the end of the formula.
 pub(crate) fn end_of(parser: Parser) -> Result<Tree, AllocError>
     requires { IsSome (whole (state_of parser)) }
     ensures { IfOk result (λ tree. whole (state_of parser) ≡ Some tree) }

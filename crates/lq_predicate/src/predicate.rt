@@ -9,19 +9,19 @@ use lq_value::{AttrName, Literal, Op, Refusal};
 use std::alloc::Global;
 use std::marker::Model;
 
-/// A condition on the attributes of an entry, as in BQuery: a comparison, or `Not`, `And` and `Or`
-/// of such.
+/// A condition on the attributes of an entry, as in BQuery: a comparison, or the `Not`, `And` or
+/// `Or` of other conditions.
 ///
-/// Each literal suits its operator, and each list has two parts or more. Its depth is at most 64 (a
-/// comparison has depth 1, every other predicate 1 more than its deepest part), it has at most 256
-/// comparisons, and its canonical text has at most 4,096 bytes and reads as it. A contract sees it
-/// as a `Query`.
+/// Each literal suits its operator, and each list has at least two parts. A comparison has depth 1,
+/// any other predicate 1 more than its deepest part; the depth is at most 64. A predicate has at
+/// most 256 comparisons. Its canonical text has at most 4,096 bytes and reads as this predicate.
+/// Contracts see it as a `Query`.
 pub struct Predicate {
     tree: Tree,
     alloc: Global,
 }
 
-// One call takes it apart, wherever one is dropped.
+// Dropping one is a single call, instead of code at each place.
 impl Drop for Predicate {
     fn drop(self) {
         let Predicate { tree: _, alloc: _ } = self;
@@ -52,8 +52,8 @@ impl Predicate {
 
     /// The comparison of an attribute with a literal that suits the operator. It takes no memory.
     ///
-    /// The comparison is within the limits of a predicate, and a pattern is one that some text
-    /// writes.
+    /// The comparison is within the limits of a predicate, and a pattern in it is one that some
+    /// text writes.
     pub fn compare(alloc: Global, attr: AttrName, op: Op, literal: Literal) -> Predicate
         requires suits { IsTrue (suits literal op) }
         requires within { IsTrue (is_within (Compare attr op literal)) }
@@ -63,7 +63,7 @@ impl Predicate {
         Predicate::of(alloc, Tree::compare(attr, op, literal))
     }
 
-    /// Another predicate that is the same. Refused: `NoMemory`.
+    /// A copy of this predicate. Refused: `NoMemory`.
     pub fn copy(&self) -> Result<Predicate, Refusal>
         ensures refused { IsRefusedBy result None }
         ensures value { IfOk result (λ copy. copy ≡ self.now) }
@@ -75,10 +75,10 @@ impl Predicate {
         })
     }
 
-    /// The predicate that holds just where this one doesn't, as BQuery's `Not`.
+    /// The predicate that holds exactly where this one doesn't, as BQuery's `Not`.
     ///
-    /// `None` where it would pass a limit: its depth and its text are 1 greater. That takes no
-    /// memory. Refused otherwise: `NoMemory`.
+    /// `None`, without taking memory, where it would exceed a limit: its depth and its text are 1
+    /// greater. Refused otherwise: `NoMemory`.
     pub fn not(&self) -> Result<Option<Predicate>, Refusal>
         ensures value { IfOk result (λ made. made ≡ if_within (Not self.now)) }
         ensures refused { IsRefusedBy result None }
@@ -92,10 +92,10 @@ impl Predicate {
         Ok(Some(Predicate::of(self.alloc, negated)))
     }
 
-    /// The predicate that holds where this one and another do, as BQuery's `And`: this one is its
-    /// first part.
+    /// The predicate that holds where both this one and the other hold, as BQuery's `And`. This one
+    /// is its first part.
     ///
-    /// `None` where it would pass a limit, which takes no memory. Refused otherwise: `NoMemory`.
+    /// `None`, without taking memory, where it would exceed a limit. Refused otherwise: `NoMemory`.
     pub fn both(&self, other: &Predicate) -> Result<Option<Predicate>, Refusal>
         ensures value { IfOk result
             (λ made. made ≡ if_within (And (queries (self.now ∷ other.now ∷ [])))) }
@@ -110,10 +110,10 @@ impl Predicate {
         Ok(Some(Predicate::of(self.alloc, Tree::both(parts))))
     }
 
-    /// The predicate that holds where this one or another does, as BQuery's `Or`: this one is its
-    /// first part.
+    /// The predicate that holds where this one or the other holds, as BQuery's `Or`. This one is
+    /// its first part.
     ///
-    /// `None` where it would pass a limit, which takes no memory. Refused otherwise: `NoMemory`.
+    /// `None`, without taking memory, where it would exceed a limit. Refused otherwise: `NoMemory`.
     pub fn either(&self, other: &Predicate) -> Result<Option<Predicate>, Refusal>
         ensures value { IfOk result
             (λ made. made ≡ if_within (Or (queries (self.now ∷ other.now ∷ [])))) }
@@ -128,7 +128,7 @@ impl Predicate {
         Ok(Some(Predicate::of(self.alloc, Tree::either(parts))))
     }
 
-    // What two predicates say, in a list.
+    // The trees of both predicates, in a list.
     fn beside(&self, other: &Predicate) -> Result<Vec<Tree>, Refusal>
         ensures refused { IsRefusedBy result None }
         ensures value { IfOk result (λ parts. parts.items ≡ self.now ∷ other.now ∷ []) }
@@ -139,7 +139,7 @@ impl Predicate {
         Ok(parts)
     }
 
-    // The predicate that a tree within the limits is.
+    // The predicate with this tree, which is within the limits.
     pub(crate) fn of(alloc: Global, tree: Tree) -> Predicate
         requires valid { IsTrue (is_predicate tree) }
         requires proper { IsProper tree }
@@ -148,7 +148,7 @@ impl Predicate {
         Predicate { tree, alloc }
     }
 
-    // What it says, which is within the limits.
+    // The predicate's tree, which is within the limits.
     pub(crate) fn tree(&self) -> &Tree
         ensures value { result.now ≡ self.now }
         ensures valid { IsTrue (is_predicate self.now) }

@@ -1,17 +1,17 @@
-//! How great what is read so far is, where it isn't kept.
+//! The size of what was read so far, where the query itself isn't kept.
 ghost use Rattle.std.specs.Prelude.{◌≡◌, ◌++◌, ◌∷◌, [], List};
 ghost use Rattle.lq_predicate_formula.specs.Machine.{Frame, empty_frame, negate, said_by};
 ghost use Rattle.lq_predicate_formula.specs.Query.{Query, both_of, either_of};
 ghost use Rattle.lq_predicate.specs.Validator.{query_size, size_frame, parts_of};
 
-// How deep a query is, and how many bytes its canonical text has; the greatest usize for more.
+// A query's depth and the bytes of its canonical text; the greatest usize stands for more.
 #[derive(Clone, Copy)]
 pub(crate) struct QuerySize {
     pub(crate) depth: usize,
     pub(crate) bytes: usize,
 }
 
-// Queries in a list: none, the only one, or all of them as one And or Or.
+// The size of some queries: none, only one, or all of them as one And or Or.
 #[derive(Clone, Copy)]
 pub(crate) enum Parts {
     Empty,
@@ -19,7 +19,7 @@ pub(crate) enum Parts {
     More(QuerySize),
 }
 
-// A formula that is begun, as the parser has it, of its parts no more than their sizes.
+// A formula that is begun, as in the parser, but with only the sizes of its parts.
 #[derive(Clone, Copy)]
 pub(crate) struct SizeFrame {
     pub(crate) or_parts: Parts,
@@ -43,7 +43,7 @@ pub(crate) fn new_size_frame() -> SizeFrame
     }
 }
 
-// One part more.
+// Adds a part.
 pub(crate) fn with_part(parts: Parts, part: QuerySize) -> Parts
     ensures { (qs : List Query) (q : Query) → parts ≡ parts_of qs → part ≡ query_size q
         → result ≡ parts_of (qs ++ q ∷ []) }
@@ -61,7 +61,7 @@ pub(crate) fn with_part(parts: Parts, part: QuerySize) -> Parts
     }
 }
 
-// What they make together: one part is itself.
+// The size of all parts together; a single part has its own size.
 pub(crate) fn together(parts: Parts) -> QuerySize
     ensures both { (qs : List Query) → parts ≡ parts_of qs → result ≡ query_size (both_of qs) }
     ensures either { (qs : List Query) → parts ≡ parts_of qs
@@ -73,7 +73,7 @@ pub(crate) fn together(parts: Parts) -> QuerySize
     }
 }
 
-// With so many `!` before it.
+// The size with this many `!` before the part.
 pub(crate) fn negated(part: QuerySize, bangs: usize) -> QuerySize
     ensures { (q : Query) → part ≡ query_size q → result ≡ query_size (negate bangs q) }
 {
@@ -83,7 +83,7 @@ pub(crate) fn negated(part: QuerySize, bangs: usize) -> QuerySize
     }
 }
 
-// What a formula says, once it is whole.
+// The size of a frame's query, once the frame is whole.
 pub(crate) fn said(frame: SizeFrame) -> QuerySize
     ensures { (f : Frame) → frame ≡ size_frame f → result ≡ query_size (said_by f) }
 {

@@ -1,4 +1,4 @@
-//! Reading a formula.
+//! Reads a formula.
 ghost use Rattle.std.specs.Prelude.{◌≡◌, ℕ, None, Ok, IfOk, IfErr, OnOk};
 ghost use Rattle.std.specs.Str.{IsUtf8};
 ghost use Rattle.lq_predicate_formula.specs.Faults.{Reads, IsFaulty};
@@ -17,18 +17,17 @@ use lq_predicate_formula::{Cursor, faults_are_found, formulas_are_read, next_tok
 use lq_value::Refusal;
 use std::alloc::Global;
 
-/// The predicate that a formula writes.
+/// The predicate that a formula writes, with BQuery's operators.
 ///
-/// A formula has at most 4,096 bytes, nests at most 64 deep and has at most 256 comparisons; its
-/// predicate's depth is at most 64, and its canonical text has at most 4,096 bytes. Behind `=`,
-/// `==` and `!=` stands a pattern, after the operators of order a plain text. Refused: `BadQuery`
-/// with the byte place of the leftmost fault; `NoMemory` where there is none.
-/// The operators are BQuery's.
+/// A formula has at most 4,096 bytes, nests at most 64 deep and has at most 256 comparisons. Its
+/// predicate's depth is at most 64, and its canonical text has at most 4,096 bytes. A pattern
+/// follows `=`, `==` and `!=`; a plain text follows the operators of order. Refused: `BadQuery`
+/// with the byte offset of the leftmost fault; `NoMemory`, only where there is no fault.
 pub fn read(alloc: Global, formula: &str) -> Result<Predicate, Refusal>
     ensures value { IfOk result (λ p. reading_of formula.now ≡ Ok p) }
     ensures reads { IfOk result (λ p. Reads formula.now p) }
 
-    // The refusal depends on the formula alone, and names the place of the leftmost fault.
+    // The formula alone decides the refusal, which names the offset of the leftmost fault.
     ensures refused { IsRefusedBy result (refusal_of (reading_of formula.now)) }
     ensures fault { IfErr result
         (λ e. (place : ℕ) → e ≡ BadQuery place → IsFaulty formula.now place) }

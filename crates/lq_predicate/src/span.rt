@@ -2,7 +2,7 @@
 ghost use Rattle.std.specs.Prelude.{◌≡◌, ◌∷◌, []};
 ghost use Rattle.lq_predicate.specs.Span.{is_beside, no_span, widened};
 
-/// The least and the greatest of some numbers.
+/// The least and the greatest of a set of numbers.
 #[derive(Clone, Copy)]
 pub struct Span {
     least: i128,
@@ -10,7 +10,7 @@ pub struct Span {
 }
 
 impl Span {
-    // That of no number.
+    // The span of no number.
     pub(crate) fn new() -> Span
         ensures { result ≡ no_span }
     {
@@ -20,7 +20,7 @@ impl Span {
         }
     }
 
-    // Has one number more.
+    // Adds a number.
     pub(crate) fn add(&mut self, number: i128)
         ensures { self.new ≡ widened self.old (number ∷ []) }
     {
@@ -28,7 +28,7 @@ impl Span {
         self.greatest = self.greatest.max(number);
     }
 
-    // Whether two numbers are both below it, or both above it.
+    // Whether two numbers are both below the span, or both above it.
     pub(crate) fn is_beside(&self, from: i128, to: i128) -> bool
         ensures { result ≡ is_beside self.now from to }
     {

@@ -1,4 +1,4 @@
-//! Predicates from pushes, in postfix order.
+//! Builds predicates from pushes in postfix order.
 ghost use Rattle.std.specs.Prelude.{◌≡◌, ◌∷◌, ◌+◌, ◌<◌, ◌≤◌, ◌^◌, drop, length, List, Option, option_and_then, Some, None, IfOk, IfErr, IfSome, IfNone, OnOk, OnErr};
 ghost use Rattle.std.specs.Fmt.{decimal, signed_decimal};
 ghost use Rattle.lq_value.specs.Refusal.{IsRefusedBy};
@@ -17,13 +17,13 @@ use lq_value::{AttrName, Refusal};
 use std::alloc::Global;
 use std::marker::Model;
 
-/// The longest text that is pushed, in bytes.
+/// The most bytes of a pushed text.
 const MAX_TEXT: usize = 4096;
 
 /// A stack that takes attributes, values and operators in postfix order, as BQuery does, and gives
 /// a predicate.
 ///
-/// A contract sees it as its items, the top first, and the number of pushes accepted since it was
+/// Contracts see it as its items, the top first, and the number of pushes accepted since it was
 /// new.
 #[derive(Drop)]
 pub struct Stack {
@@ -43,7 +43,7 @@ impl Model for Stack {
 }
 
 impl Stack {
-    /// A stack without items. It takes no memory.
+    /// An empty stack. It takes no memory.
     pub fn new(alloc: Global) -> Stack
         ensures { result ≡ new_stack }
     {
@@ -52,15 +52,15 @@ impl Stack {
             pushes: 0,
         }
     }
-    /// The attribute with this name, on top.
+    /// Pushes the attribute with this name.
     ///
     /// Refused, the first that fits: `BadQuery` where the name is empty, has more than 255 bytes or
-    /// a NUL, or no further push can be counted, with the number of pushes accepted since the stack
-    /// was new as its place; `NoMemory`. A refused call changes nothing.
+    /// has a NUL, or no further push can be counted; `NoMemory`. The place of `BadQuery` is the
+    /// number of pushes accepted since the stack was new. A refused call changes nothing.
     pub fn push_attr(&mut self, name: &str) -> Result<(), Refusal>
         ensures ok { OnOk result (attr_pushed name.now self.old ≡ Some self.new) }
 
-        // Refused just where it doesn't fit, and then unchanged.
+        // Refused exactly where it doesn't fit; the stack is then unchanged.
         ensures refused { IsRefusedBy result
             (refusal_at self.old.pushes (attr_pushed name.now self.old)) }
         ensures err { OnErr result (self.new ≡ self.old) }
@@ -75,7 +75,7 @@ impl Stack {
         }
     }
 
-    /// The value with this text, on top.
+    /// Pushes the value with this text.
     ///
     /// Refused, the first that fits: `BadQuery` where the text has more than 4,096 bytes, or no
     /// further push can be counted, with its place as in `push_attr`; `NoMemory`. A refused call
@@ -83,7 +83,7 @@ impl Stack {
     pub fn push_text(&mut self, text: &str) -> Result<(), Refusal>
         ensures ok { OnOk result (text_pushed text.now self.old ≡ Some self.new) }
 
-        // Refused just where it doesn't fit, and then unchanged.
+        // Refused exactly where it doesn't fit; the stack is then unchanged.
         ensures refused { IsRefusedBy result
             (refusal_at self.old.pushes (text_pushed text.now self.old)) }
         ensures err { OnErr result (self.new ≡ self.old) }
@@ -95,11 +95,11 @@ impl Stack {
         self.push(StackItem::Value(operand))
     }
 
-    /// The decimal text of a number, on top. Refused as `push_text`.
+    /// Pushes the decimal text of a number. Refused as `push_text`.
     pub fn push_int32(&mut self, value: i32) -> Result<(), Refusal>
         ensures ok { OnOk result (text_pushed (signed_decimal value) self.old ≡ Some self.new) }
 
-        // Refused just where it doesn't fit, and then unchanged.
+        // Refused exactly where it doesn't fit; the stack is then unchanged.
         ensures refused { IsRefusedBy result
             (refusal_at self.old.pushes (text_pushed (signed_decimal value) self.old)) }
         ensures err { OnErr result (self.new ≡ self.old) }
@@ -107,11 +107,11 @@ impl Stack {
         self.push_int64(i64::from(value))
     }
 
-    /// The decimal text of a number, on top. Refused as `push_text`.
+    /// Pushes the decimal text of a number. Refused as `push_text`.
     pub fn push_int64(&mut self, value: i64) -> Result<(), Refusal>
         ensures ok { OnOk result (text_pushed (signed_decimal value) self.old ≡ Some self.new) }
 
-        // Refused just where it doesn't fit, and then unchanged.
+        // Refused exactly where it doesn't fit; the stack is then unchanged.
         ensures refused { IsRefusedBy result
             (refusal_at self.old.pushes (text_pushed (signed_decimal value) self.old)) }
         ensures err { OnErr result (self.new ≡ self.old) }
@@ -120,11 +120,11 @@ impl Stack {
         self.push_text(signed.format(value))
     }
 
-    /// The decimal text of a number, on top. Refused as `push_text`.
+    /// Pushes the decimal text of a number. Refused as `push_text`.
     pub fn push_uint32(&mut self, value: u32) -> Result<(), Refusal>
         ensures ok { OnOk result (text_pushed (decimal value) self.old ≡ Some self.new) }
 
-        // Refused just where it doesn't fit, and then unchanged.
+        // Refused exactly where it doesn't fit; the stack is then unchanged.
         ensures refused { IsRefusedBy result
             (refusal_at self.old.pushes (text_pushed (decimal value) self.old)) }
         ensures err { OnErr result (self.new ≡ self.old) }
@@ -132,11 +132,11 @@ impl Stack {
         self.push_uint64(u64::from(value))
     }
 
-    /// The decimal text of a number, on top. Refused as `push_text`.
+    /// Pushes the decimal text of a number. Refused as `push_text`.
     pub fn push_uint64(&mut self, value: u64) -> Result<(), Refusal>
         ensures ok { OnOk result (text_pushed (decimal value) self.old ≡ Some self.new) }
 
-        // Refused just where it doesn't fit, and then unchanged.
+        // Refused exactly where it doesn't fit; the stack is then unchanged.
         ensures refused { IsRefusedBy result
             (refusal_at self.old.pushes (text_pushed (decimal value) self.old)) }
         ensures err { OnErr result (self.new ≡ self.old) }
@@ -145,16 +145,17 @@ impl Stack {
         self.push_text(unsigned.format(value))
     }
 
-    /// The predicate that an operator makes of the items on top, in their place.
+    /// Replaces the items on top by the predicate that an operator makes of them.
     ///
-    /// A comparison takes a value on top and an attribute below it, `And` and `Or` two predicates,
-    /// `Not` one. Refused, the first that fits: `BadQuery` where these are not there, the text is
-    /// no pattern for `Eq` and `Ne`, the predicate would pass a limit, or no further push can be
-    /// counted, with its place as in `push_attr`; `NoMemory`. A refused call changes nothing.
+    /// A comparison takes a value on top and an attribute below it, `And` and `Or` take two
+    /// predicates, `Not` takes one. Refused, the first that fits: `BadQuery` where these items are
+    /// missing, the text is no pattern for `Eq` and `Ne`, the predicate would exceed a limit, or no
+    /// further push can be counted, with its place as in `push_attr`; `NoMemory`. A refused call
+    /// changes nothing.
     pub fn push_op(&mut self, op: StackOp) -> Result<(), Refusal>
         ensures ok { OnOk result (op_pushed op self.old ≡ Some self.new) }
 
-        // Refused just where it doesn't fit, and then unchanged.
+        // Refused exactly where it doesn't fit; the stack is then unchanged.
         ensures refused { IsRefusedBy result
             (refusal_at self.old.pushes (op_pushed op self.old)) }
         ensures err { OnErr result (self.new ≡ self.old) }
@@ -182,15 +183,16 @@ impl Stack {
         }
     }
 
-    /// The predicate that the stack holds alone; the stack is then as new. It takes no memory.
+    /// Takes the predicate that is the stack's only item; the stack is then as new. It takes no
+    /// memory.
     ///
-    /// Refused: `BadQuery` where it holds anything else, with its place as in `push_attr`, and then
-    /// nothing changes.
+    /// Refused: `BadQuery` where the stack holds anything else, with its place as in `push_attr`. A
+    /// refused call changes nothing.
     pub fn finish(&mut self) -> Result<Predicate, Refusal>
         ensures value { IfOk result (λ predicate. only_part self.old.items ≡ Some predicate) }
         ensures ok { OnOk result (self.new ≡ new_stack) }
 
-        // Refused just where it doesn't fit, and then unchanged.
+        // Refused exactly where it doesn't fit; the stack is then unchanged.
         ensures refused { IfErr result
             (λ e. refusal_at self.old.pushes (only_part self.old.items) ≡ Some e) }
         ensures err { OnErr result (self.new ≡ self.old) }
@@ -210,14 +212,14 @@ impl Stack {
         }
     }
 
-    // The refusal of what doesn't fit.
+    // The refusal of a push that doesn't fit.
     fn misfit(&self) -> Refusal
         ensures { Some result ≡ refusal_at {A = Stacked} self.now.pushes None }
     {
         Refusal::BadQuery { place: self.pushes }
     }
 
-    // An item more.
+    // Adds an item.
     fn push(&mut self, item: StackItem) -> Result<(), Refusal>
         requires { self.old.pushes + 1 < 2 ^ 64 }
         ensures ok { OnOk result (pushed self.old (item ∷ self.old.items) ≡ Some self.new) }
@@ -229,7 +231,7 @@ impl Stack {
         Ok(())
     }
 
-    // What an operator made of this many items on top, in their place.
+    // Replaces this many items on top by what an operator made of them.
     fn put(&mut self, count: usize, made: Result<Option<Predicate>, Refusal>) -> Result<(), Refusal>
         requires room { self.old.pushes + 1 < 2 ^ 64 }
         requires some { 0 < count }

@@ -46,7 +46,7 @@ pub(crate) fn compared(
     }
 }
 
-// With the pattern that the text writes.
+// The comparison with the pattern that the text writes.
 fn matched(
     alloc: Global,
     op: Op,
@@ -70,7 +70,7 @@ fn matched(
     Ok(Some(Predicate::compare(alloc, attr.copy(alloc)?, op, literal)))
 }
 
-// With the text as it stands.
+// The comparison with the text as it stands.
 fn ordered(alloc: Global, op: Op, attr: &AttrName, text: &str) -> Result<Option<Predicate>, Refusal>
     requires { (bytes : List ℕ) → IsTrue (suits (literal.Plain bytes) op) }
     ensures value { IfOk result
@@ -86,7 +86,7 @@ fn ordered(alloc: Global, op: Op, attr: &AttrName, text: &str) -> Result<Option<
     Ok(Some(Predicate::compare(alloc, attr.copy(alloc)?, op, literal)))
 }
 
-// With a pattern that finds the text's characters.
+// The comparison with a pattern that finds the text's characters.
 fn found(
     alloc: Global,
     attr: &AttrName,

@@ -1,4 +1,4 @@
-//! Whether a comparison is within the limits of a predicate, before memory is asked for.
+//! Tests whether a comparison is within the limits of a predicate, before memory is taken.
 ghost use Rattle.std.specs.Prelude.{◌≡◌, length};
 ghost use Rattle.std.specs.Str.{encode_utf8_all};
 ghost use Rattle.lq_value.specs.declared.op.Op.TheVariants as op;

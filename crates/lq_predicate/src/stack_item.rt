@@ -1,4 +1,4 @@
-//! What a stack holds.
+//! The items of a stack.
 use crate::operand::Operand;
 use crate::predicate::Predicate;
 use lq_value::AttrName;

@@ -1,21 +1,21 @@
 //! The operators of a postfix stack.
 
-/// What takes items from the top of a stack and leaves a predicate there, as in BQuery.
+/// An operator, as in BQuery: it takes items from the top of a stack and leaves a predicate there.
 #[derive(Clone, Copy, PartialEq, Eq)]
 pub enum StackOp {
-    /// The text as a pattern fits.
+    /// The attribute matches the text as a pattern.
     Eq,
-    /// The text as a pattern doesn't fit.
+    /// The attribute doesn't match the text as a pattern.
     Ne,
     Gt,
     Ge,
     Lt,
     Le,
-    /// The text's characters stand somewhere.
+    /// The attribute has the text's characters somewhere.
     Contains,
-    /// The text's characters stand at the start.
+    /// The attribute begins with the text's characters.
     BeginsWith,
-    /// The text's characters stand at the end.
+    /// The attribute ends with the text's characters.
     EndsWith,
     And,
     Or,

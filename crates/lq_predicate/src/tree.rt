@@ -1,4 +1,4 @@
-//! What a formula says, whether it is within the limits of a predicate or not.
+//! A formula's query as a tree, whether it is within the limits of a predicate or not.
 ghost use Rattle.std.specs.Prelude.{◌≡◌, ◌≤◌, ◌++◌, ◌∷◌, [], None, IfOk, IsTrue, length, nat_le};
 ghost use Rattle.std.specs.String.{string_bytes};
 ghost use Rattle.lq_predicate_formula.specs.Canonical.{canonical, comparisons, depth, parts_written};
@@ -18,7 +18,7 @@ use lq_value::{AttrName, Literal, Op, Refusal, compare, same_text};
 use std::alloc::{AllocError, Global};
 use std::marker::Model;
 
-// A query of any depth and size. A contract sees it as a `Query`.
+// A query of any depth and size. Contracts see it as a `Query`.
 #[cycle(tree)]
 #[derive(Drop)]
 pub(crate) struct Tree {
@@ -63,7 +63,7 @@ impl Tree {
         }
     }
 
-    // One part is itself, and more are one And.
+    // The only part, or the `And` of several parts.
     pub(crate) fn both(mut parts: Vec<Tree>) -> Tree
         ensures { result ≡ both_of parts.items }
     {
@@ -77,7 +77,7 @@ impl Tree {
         }
     }
 
-    // One part is itself, and more are one Or.
+    // The only part, or the `Or` of several parts.
     pub(crate) fn either(mut parts: Vec<Tree>) -> Tree
         ensures { result ≡ either_of parts.items }
     {
@@ -91,7 +91,7 @@ impl Tree {
         }
     }
 
-    // So many `!` before it.
+    // The tree with this many `!` before it.
     pub(crate) fn negated(self, alloc: Global, bangs: usize) -> Result<Tree, AllocError>
         ensures { IfOk result (λ tree. tree ≡ negate bangs self) }
     {
@@ -106,7 +106,7 @@ impl Tree {
         Ok(whole)
     }
 
-    // Whether it is so deep at most.
+    // Whether the tree's depth is at most this.
     pub(crate) fn is_shallow(&self, most: usize) -> bool
         ensures { result ≡ nat_le (depth self.now) most }
     {
@@ -175,7 +175,7 @@ impl Tree {
         }
     }
 
-    // Another tree that is the same.
+    // A copy of the tree.
     #[cycle(copy)]
     pub(crate) fn copy(&self, alloc: Global) -> Result<Tree, Refusal>
         ensures refused { IsRefusedBy result None }
@@ -192,7 +192,7 @@ impl Tree {
         Ok(Tree { node })
     }
 
-    // Whether it is true for the row.
+    // Whether the query is true for the row.
     pub(crate) fn is_true_of<R: Row>(&self, row: &R) -> bool
         requires { IsTrue (is_formed self.now) }
         ensures { result ≡ truth self.now (R.looks row.now) }
@@ -222,7 +222,7 @@ impl Tree {
         }
     }
 
-    // Its canonical text, after what is there.
+    // Appends the canonical text to the buffer.
     #[cycle(put)]
     pub(crate) fn put(&self, out: &mut String) -> Result<(), Refusal>
         ensures refused { IsRefusedBy result None }
@@ -240,7 +240,7 @@ impl Tree {
         }
     }
 
-    // The names of the attributes that are new, after those before.
+    // Adds the names of attributes that are not in the list yet.
     pub(crate) fn add_names(&self, alloc: Global, names: &mut Vec<AttrName>) -> Result<(), Refusal>
         ensures refused { IsRefusedBy result None }
         ensures value { IfOk result
@@ -262,7 +262,7 @@ impl Tree {
         Ok(())
     }
 
-    // The least and the greatest number that it compares an attribute with.
+    // The least and the greatest number that the query compares an attribute with.
     pub(crate) fn span(&self, attr: &str) -> Span
         ensures { result ≡ span_of attr.now self.now }
     {
@@ -271,7 +271,7 @@ impl Tree {
         span
     }
 
-    // The numbers that it compares an attribute with, to a span of those before.
+    // Adds the numbers that the query compares an attribute with to a span.
     fn add_numbers(&self, attr: &str, span: &mut Span)
         ensures { span.new ≡ widened span.old (numbers_of attr.now self.now) }
     {
@@ -305,7 +305,7 @@ fn copy_parts(alloc: Global, parts: &[Tree]) -> Result<Vec<Tree>, Refusal>
     Ok(copies)
 }
 
-// The parts in parentheses, with a separator between them.
+// Appends the parts in parentheses, with a separator between them.
 #[cycle(put)]
 fn put_parts(parts: &[Tree], separator: &str, out: &mut String) -> Result<(), Refusal>
     ensures refused { IsRefusedBy result None }

@@ -7,11 +7,11 @@ ghost use Rattle.lq_predicate.specs.Truth.{truth};
 use crate::predicate::Predicate;
 use lq_value::{AttrName, View};
 
-/// What has attributes: an entry, or any other row.
+/// Something that has attributes: an entry, or any other row.
 pub trait Row {
     ghost use Rattle.lq_value.specs.Held.{Held};
 
-    /// What it shows under each name.
+    /// What the row shows under each name.
     ghost looks: { Self → List ℕ → Option Held };
 
     /// What the row shows under a name; `None` where it has no attribute of that name.

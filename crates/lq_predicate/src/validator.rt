@@ -1,4 +1,4 @@
-//! Reading tokens from the left without memory: what is read isn't kept, only how great it is.
+//! Reads tokens from the left without taking memory: it keeps only the size of what it read.
 ghost use Rattle.std.specs.Prelude.{◌≡◌, ◌≤◌, ◌+◌, ℕ, List, map, reverse};
 ghost use Rattle.lq_predicate_formula.specs.Machine.{Frame, State, after_attr, after_op, after_operand, completed, operand, weight};
 ghost use Rattle.lq_predicate_formula.specs.Query.{Query};
@@ -14,7 +14,7 @@ use lq_value::Op;
 /// How deep parentheses and `!` may nest.
 pub(crate) const NESTING: usize = 64;
 
-// What is expected; of an attribute, how many bytes its name has as canonical text.
+// What is expected next; for an attribute, also how many bytes its name has in canonical text.
 #[derive(Clone, Copy)]
 pub(crate) enum Expected {
     Operand,
@@ -23,8 +23,8 @@ pub(crate) enum Expected {
     AfterOperand,
 }
 
-// The parser's state, without what is read: so it takes no memory. Sums stop at the greatest
-// usize.
+// The parser's state without the query that was read, so it takes no memory. Sums stop at the
+// greatest usize.
 #[derive(Drop)]
 pub(crate) struct Validator {
     pub(crate) below: ArrayVec<SizeFrame, NESTING>,
@@ -33,7 +33,7 @@ pub(crate) struct Validator {
     pub(crate) room: usize,
 }
 
-// One token more; else the place in it of its pattern's fault, if that is why.
+// Reads one more token. Else gives the offset in the token of its pattern's fault, if that is why.
 pub(crate) fn validate_token(validator: &mut Validator, token: &Token) -> Result<(), Option<u64>>
     ensures { (s : State) → Shows validator.old s → weight s ≤ 64
         → IsStepOf s (token_of token.now) result validator.new }
@@ -62,7 +62,7 @@ fn at_operand(validator: &mut Validator, token: &Token) -> Result<(), Option<u64
             if validator.room == 0 {
                 return Err(None);
             }
-            // No more formulas are begun than may nest: it has a place.
+            // At most `NESTING` formulas are begun, so there is a place for this one.
             let Ok(()) = validator.below.try_push(validator.top) else {
                 return Err(None);
             };
@@ -152,7 +152,7 @@ fn behind_operand(validator: &mut Validator, token: &Token) -> Result<(), Option
     }
 }
 
-// The next part of the or is begun.
+// Begins the next part of an `or`.
 fn with_or(frame: SizeFrame) -> SizeFrame
     ensures { (f : Frame) → frame ≡ size_frame f → result ≡ size_frame (behind_or f) }
 {
@@ -162,7 +162,7 @@ fn with_or(frame: SizeFrame) -> SizeFrame
     }
 }
 
-// The operand that was expected is done.
+// Completes the operand that was expected.
 fn complete(validator: &mut Validator, part: QuerySize)
     ensures { (q : Query) (frames : List Frame) (f : Frame) → part ≡ query_size q
         → reverse validator.old.below.items ≡ map size_frame frames
@@ -177,7 +177,7 @@ fn complete(validator: &mut Validator, part: QuerySize)
     validator.room = validator.room.saturating_add(bangs);
 }
 
-// How great the query is, where the formula may end here.
+// The size of the query, if the formula may end here.
 pub(crate) fn size_at_end(validator: &Validator) -> Option<QuerySize>
     ensures { (s : State) → Shows validator.now s → IsEndOf s result }
 {

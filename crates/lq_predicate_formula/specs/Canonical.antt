@@ -1,4 +1,4 @@
--- The canonical text of a query, how deep it is, and how many comparisons it has.
+-- The canonical text of a query, its depth, and its number of comparisons.
 use Rattle.std.specs.Prelude.{ℕ, suc, ◌+◌, max, ◌==◌, ◌||◌, ◌&&◌, nat_le, if◌then◌else◌, Bool, List, [], ◌∷◌, ◌++◌, codes}
 use Rattle.std.specs.List.{list_all}
 use Rattle.std.specs.Str.{encode_utf8_all}
@@ -25,11 +25,11 @@ abbrev pub quoted : List ℕ → List ℕ
 quoted [] = []
 quoted (b ∷ bs) = if b == 92 || b == 34 then 92 ∷ b ∷ quoted bs else b ∷ quoted bs
 
--- a raw text between its marks, and what follows
+-- a raw text between its marks, then what follows
 abbrev pub in_marks : List ℕ → List ℕ → List ℕ
 in_marks raw rest = 34 ∷ (raw ++ 34 ∷ rest)
 
--- an attribute, bare where each of its bytes may stand bare, and what follows
+-- an attribute, without marks if each of its bytes may stand without them, then what follows
 abbrev pub attr_then : List ℕ → List ℕ → List ℕ
 attr_then name rest =
     if list_all is_bare_byte name then name ++ rest else in_marks (quoted name) rest
@@ -42,7 +42,7 @@ op_text Le = codes "<="
 op_text Gt = codes ">"
 op_text Ge = codes ">="
 
--- ---- patterns, as characters, each with what follows
+-- ---- patterns, as characters, each one followed by the rest
 
 -- `\` before one of * ? [ \ "
 abbrev pub plain_then : ℕ → List ℕ → List ℕ
@@ -60,7 +60,7 @@ abbrev pub item_then : Item → List ℕ → List ℕ
 item_then (One c) rest = in_set_then c rest
 item_then (Range c d) rest = in_set_then c (45 ∷ in_set_then d rest)
 
--- the items, and the `]` behind them
+-- the items, then the `]`
 abbrev pub items_then : List Item → List ℕ → List ℕ
 items_then [] rest = 93 ∷ rest
 items_then (i ∷ is) rest = item_then i (items_then is rest)
@@ -86,7 +86,7 @@ abbrev pub literal_text : Literal → List ℕ
 literal_text (Pattern elements) = encode_utf8_all (pattern_text elements)
 literal_text (Plain text) = quoted text
 
--- the canonical text of a query, and what follows it
+-- the canonical text of a query, then what follows it
 abbrev mutual
   pub written : Query → List ℕ → List ℕ
   written (Compare attr op literal) rest =
@@ -95,12 +95,12 @@ abbrev mutual
   written (And qs) rest = 40 ∷ parts_written (codes "&&") qs (41 ∷ rest)
   written (Or qs) rest = 40 ∷ parts_written (codes "||") qs (41 ∷ rest)
 
-  -- the parts of an And or an Or, with a separator between two of them
+  -- the parts of an And or an Or, with a separator between each two
   pub parts_written : List ℕ → Queries → List ℕ → List ℕ
   parts_written separator no_more rest = rest
   parts_written separator (and_then q qs) rest = written q (others_written separator qs rest)
 
-  -- the parts after the first, a separator before each
+  -- the parts after the first, with a separator before each
   pub others_written : List ℕ → Queries → List ℕ → List ℕ
   others_written separator no_more rest = rest
   others_written separator (and_then q qs) rest =
@@ -118,12 +118,12 @@ abbrev mutual
   depth (And qs) = suc (deepest qs)
   depth (Or qs) = suc (deepest qs)
 
-  -- the largest depth of some queries
+  -- the greatest depth of the queries of a list
   pub deepest : Queries → ℕ
   deepest no_more = 0
   deepest (and_then q qs) = max (depth q) (deepest qs)
 
--- how many comparisons a query has
+-- the number of comparisons of a query
 abbrev mutual
   pub comparisons : Query → ℕ
   comparisons (Compare attr op literal) = 1
@@ -131,7 +131,7 @@ abbrev mutual
   comparisons (And qs) = all_comparisons qs
   comparisons (Or qs) = all_comparisons qs
 
-  -- how many comparisons some queries have together
+  -- the number of comparisons in all queries of a list
   pub all_comparisons : Queries → ℕ
   all_comparisons no_more = 0
   all_comparisons (and_then q qs) = comparisons q + all_comparisons qs

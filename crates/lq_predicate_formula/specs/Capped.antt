@@ -1,4 +1,4 @@
--- A number as a usize holds it: the greatest one for each that is greater.
+-- A number as a usize holds it: the greatest usize for each number above it.
 use Rattle.std.specs.Prelude.{ℕ, ◌-◌, ◌^◌, min}
 
 abbrev pub capped : ℕ → ℕ

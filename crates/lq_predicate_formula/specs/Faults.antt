@@ -1,4 +1,4 @@
--- What a text reads as by the grammar and the limits, and which faults it has at which places.
+-- What a text reads as by the grammar and the limits, and its faults with their places.
 use Rattle.std.specs.Prelude.{◌≡◌, ◌+◌, ◌<◌, ◌≤◌, ◌⊎◌, ℕ, List, [], ◌∷◌, ◌++◌, length, map, None, Some}
 use Rattle.lq_value.specs.declared.op.Op.{Op}
 use Rattle.lq_value.specs.declared.op.Op.TheVariants.{Eq}
@@ -8,7 +8,7 @@ use Rattle.lq_predicate_formula.specs.Grammar.{IsFormula, nesting, IsBegun}
 use Rattle.lq_predicate_formula.specs.Literals.{literal_fault, name_of}
 use Rattle.lq_predicate_formula.specs.Canonical.{canonical, comparisons, depth}
 
--- how many bytes a formula has at most, and the canonical text of its query
+-- the most bytes of a formula, and of the canonical text of its query
 abbrev pub most_bytes : ℕ
 most_bytes = 4096
 
@@ -28,9 +28,9 @@ pub record Reads (text : List ℕ) (q : Query) : Type 0 where
   pub shallow : depth q ≤ most_depth
   pub brief : length (canonical q) ≤ most_bytes
 
--- ---- what stands by the grammar alone
+-- ---- what the grammar alone allows
 
--- the kind of a token: what a word says is left out
+-- the kind of a token, without the text of a word
 abbrev pub kind_of : Token → Token
 kind_of opens = opens
 kind_of closes = closes
@@ -42,8 +42,8 @@ kind_of (word raw) = word []
 kind_of lone = lone
 kind_of cut = cut
 
--- By the grammar alone, whatever the words say and however
--- deep it nests, some formula begins with such tokens.
+-- By the grammar alone, whatever the words are and however deep it nests, some formula begins with
+-- tokens of these kinds.
 pub record CanStand (ts : List Token) : Type 0 where
   pub words : List Token
   pub alike : map kind_of words ≡ map kind_of ts
@@ -52,17 +52,17 @@ pub record CanStand (ts : List Token) : Type 0 where
   pub q : Query
   pub formula : IsFormula deep (words ++ rest) q
 
--- A word that stands behind these tokens names an attribute: an operator can follow it.
+-- A word after these tokens names an attribute: an operator can follow it.
 abbrev pub AwaitsAttr : List Token → Type 0
 AwaitsAttr before = CanStand (before ++ word [] ∷ op Eq ∷ [])
 
--- Some formula that may nest deeper begins with these tokens, and none within the limit does.
+-- Some formula that may nest deeper begins with these tokens, but none within the limit does.
 abbrev pub IsTooDeep : List Token → Type 0
 IsTooDeep ts =
     ((more : ℕ) × (rest : List Token) × (q : Query) × IsFormula (nesting + more) (ts ++ rest) q)
     × (IsBegun ts → ⊥)
 
--- how many operators there are: each comparison has one
+-- the number of operators: each comparison has one
 abbrev pub op_count : Token → ℕ
 op_count opens = 0
 op_count closes = 0
@@ -80,25 +80,25 @@ operators (t ∷ ts) = op_count t + operators ts
 
 -- ---- the faults
 
--- The token behind these is at fault, and this is the place.
+-- The token after these is at fault, and this is the place of the fault.
 pub data IsFaultOf (end : ℕ) (before : List Token) (here : Placed) (place : ℕ) : Type 0 where
-  -- a token that can't stand here
+  -- a token that isn't allowed here
   stray : (CanStand (before ++ here.token ∷ []) → ⊥) → (here.token ≡ cut → ⊥) → place ≡ here.place
       → IsFaultOf end before here place
-  -- the text ends within a quoted text, or with `\`
+  -- the text ends inside a quoted text, or with `\`
   cut_off : here.token ≡ cut → place ≡ end → IsFaultOf end before here place
   -- `&` or `|` alone
   alone : here.token ≡ lone → place ≡ here.place → IsFaultOf end before here place
-  -- a `(` or `!` that would be nested 65 deep
+  -- a `(` or `!` that would nest 65 deep
   too_deep : (here.token ≡ opens) ⊎ (here.token ≡ bang)
       → IsTooDeep (before ++ here.token ∷ []) → place ≡ here.place → IsFaultOf end before here place
-  -- the name of an attribute that is empty, has over 255 bytes or has NUL
+  -- an attribute's name that is empty, has over 255 bytes or contains NUL
   bad_name : (raw : List ℕ) → here.token ≡ word raw → AwaitsAttr before → name_of raw ≡ None
       → place ≡ here.place → IsFaultOf end before here place
-  -- the attribute of a comparison behind 256 others
+  -- the attribute of a comparison after 256 others
   one_more : (raw : List ℕ) → here.token ≡ word raw → AwaitsAttr before
       → operators before ≡ most_comparisons → place ≡ here.place → IsFaultOf end before here place
-  -- a fault of the pattern behind its operator
+  -- a fault of the pattern after its operator
   bad_pattern : (front : List Token) (o : Op) (raw : List ℕ) (k : ℕ) → before ≡ front ++ op o ∷ []
       → here.token ≡ word raw → literal_fault o raw ≡ Some k → place ≡ here.raw_place + k
       → IsFaultOf end before here place
@@ -112,7 +112,7 @@ AreFine end ts = (before : List Placed) (here : Placed) (after : List Placed) (p
 pub data IsFaulty (text : List ℕ) (place : ℕ) : Type 0 where
   -- the text has more than 4,096 bytes
   too_long : most_bytes < length text → place ≡ most_bytes → IsFaulty text place
-  -- a token is at fault, and none before it
+  -- a token is at fault, and none before it is
   at_token : length text ≤ most_bytes → (before : List Placed) (here : Placed) (after : List Placed)
       → HasTokens 0 text (before ++ here ∷ after) → AreFine (length text) before
       → IsFaultOf (length text) (bare before) here place → IsFaulty text place

@@ -1,4 +1,4 @@
--- The grammar, by cases. The number is how deep parentheses and `!` may nest from here on.
+-- The grammar, by cases. The number is how many more levels of parentheses and `!` may nest.
 use Rattle.std.specs.Prelude.{◌≡◌, ◌⊎◌, ℕ, zero, suc, List, [], ◌∷◌, ◌++◌, Some}
 use Rattle.lq_value.specs.declared.op.Op.{Op}
 use Rattle.lq_predicate_formula.specs.Tokens.{Token, opens, closes, bang, ands, ors, op, word}
@@ -6,11 +6,11 @@ use Rattle.lq_value.specs.declared.literal.Literal.{Literal}
 use Rattle.lq_predicate_formula.specs.Literals.{name_of, literal_of}
 use Rattle.lq_predicate_formula.specs.Query.{Query, Compare, Not, both_of, either_of}
 
--- tokens that are read as a query
+-- the relation of tokens and the query that they read as
 abbrev pub Reading : Type 1
 Reading = List Token → Query → Type 0
 
--- Each of the queries stands behind a separator, in turn.
+-- Each query in turn follows a separator.
 abbrev pub Follows : Reading → Token → List Token → List Query → Type 0
 Follows P sep ts [] = ts ≡ []
 Follows P sep ts (q ∷ qs) =
@@ -44,7 +44,7 @@ IsNot (suc n) ts r = IsComparison ts r
 abbrev pub IsFormula : ℕ → Reading
 IsFormula n = IsOr (IsNot n)
 
--- how deep parentheses and `!` may nest in a formula
+-- the most levels of parentheses and `!` in a formula
 abbrev pub nesting : ℕ
 nesting = 64
 

@@ -1,4 +1,4 @@
--- The laws on readings.
+-- Laws on readings.
 use Rattle.std.specs.Prelude.{◌≡◌, ◌↔◌, ℕ, List, Ok, Err}
 use Rattle.lq_predicate_formula.specs.Query.{Query}
 use Rattle.lq_predicate_formula.specs.Faults.{IsFaulty, Reads}
@@ -15,7 +15,7 @@ use Rattle.lq_predicate_formula.specs.Reading.{reading_of}
 abbrev pub FormulasAreRead : Type 0
 FormulasAreRead = (text : List ℕ) (q : Query) → (reading_of text ≡ Ok q) ↔ Reads text q
 
--- the reading of a text is a place just where the text's leftmost fault is there
+-- the reading of a text is a place exactly where the text's leftmost fault is at this place
 abbrev pub FaultsAreFound : Type 0
 FaultsAreFound = (text : List ℕ) (place : ℕ) → (reading_of text ≡ Err place) ↔ IsFaulty text place
 
@@ -23,18 +23,18 @@ FaultsAreFound = (text : List ℕ) (place : ℕ) → (reading_of text ≡ Err pl
 abbrev pub CanonicalIsRead : Type 0
 CanonicalIsRead = (q : Query) → IsWithinLimits q → Reads (canonical q) q
 
--- a query that is read has names for attributes, literals
--- that suit and are read, and lists of two or more
+-- a query that was read has names as attributes, literals that suit and are read, and lists of at
+-- least two parts
 abbrev pub ReadIsProper : Type 0
 ReadIsProper = (text : List ℕ) (q : Query) → Reads text q → IsProperBy IsReadBehind q
 
--- a query that is read from words of UTF-8 is one whose canonical text can be read
+-- the canonical text of a query that was read from UTF-8 words can be read
 abbrev pub ReadIsGood : Type 0
 ReadIsGood = (text : List ℕ) (q : Query) → Reads text q
     → WordsAre IsUtf8 (bare (tokens_of text)) → IsProper q
 
--- a pattern that is read from a text of UTF-8 is of
--- characters, its sets have items, and no range falls
+-- a pattern that was read from a UTF-8 text consists of characters, its sets have items, and no
+-- range ends below its start
 abbrev pub PatternsAreGood : Type 0
 PatternsAreGood =
     (text : List ℕ) (es : List Element) → IsUtf8 text → pattern_of text ≡ Ok es → IsGoodPattern es

@@ -1,4 +1,4 @@
--- Which queries a formula can say: those that are read from one.
+-- Which queries a formula can have: those that are read from one.
 use Rattle.std.specs.Prelude.{ℕ, ◌≡◌, ◌≤◌, List, [], ◌∷◌, length, true, Some}
 use Rattle.std.specs.Char.{IsScalar}
 use Rattle.lq_value.specs.declared.element.Item.{Item}
@@ -16,7 +16,7 @@ use Rattle.lq_predicate_formula.specs.Query.{Query, Compare, Not, And, Or, Queri
 use Rattle.lq_predicate_formula.specs.Canonical.{canonical, comparisons, depth}
 use Rattle.lq_predicate_formula.specs.Faults.{most_bytes, most_comparisons, most_depth}
 
--- of characters, and a range doesn't fall
+-- the item consists of characters, and a range doesn't end below its start
 abbrev pub IsGoodItem : Item → Type 0
 IsGoodItem (One c) = IsScalar c
 IsGoodItem (Range c d) = IsScalar c × IsScalar d × (c ≤ d)
@@ -25,7 +25,7 @@ abbrev pub AreGoodItems : List Item → Type 0
 AreGoodItems [] = Unit {0}
 AreGoodItems (i ∷ is) = IsGoodItem i × AreGoodItems is
 
--- of characters, and a set has an item at least
+-- the element consists of characters, and a set has at least one item
 abbrev pub IsGoodElement : Element → Type 0
 IsGoodElement Star = Unit {0}
 IsGoodElement Any = Unit {0}
@@ -45,8 +45,8 @@ HasTwo no_more = ⊥
 HasTwo (and_then q no_more) = ⊥
 HasTwo (and_then q (and_then r qs)) = Unit {0}
 
--- each attribute has a name, each literal is one of P for its
--- operator, and an And or an Or has two parts or more
+-- each attribute has a name, each literal satisfies P with its operator, and an And or an Or has at
+-- least two parts
 abbrev mutual
   pub IsProperBy : (Op → Literal → Type 0) → Query → Type 0
   IsProperBy P (Compare attr op literal) = (is_attr_name attr ≡ true) × P op literal
@@ -54,12 +54,12 @@ abbrev mutual
   IsProperBy P (And qs) = HasTwo qs × AreProperBy P qs
   IsProperBy P (Or qs) = HasTwo qs × AreProperBy P qs
 
-  -- the same of each of some queries
+  -- the same for each query of a list
   pub AreProperBy : (Op → Literal → Type 0) → Queries → Type 0
   AreProperBy P no_more = Unit {0}
   AreProperBy P (and_then q qs) = IsProperBy P q × AreProperBy P qs
 
--- the literal suits the operator, and some raw text is read as it behind the operator
+-- the literal suits the operator, and some raw text after the operator is read as it
 abbrev pub IsReadBehind : Op → Literal → Type 0
 IsReadBehind op literal =
     (suits literal op ≡ true) × ((raw : List ℕ) × (literal_of op raw ≡ Some literal))
@@ -74,7 +74,7 @@ IsProper q = IsProperBy IsGoodBehind q
 abbrev pub AreProper : Queries → Type 0
 AreProper qs = AreProperBy IsGoodBehind qs
 
--- proper, with as many comparisons, as deep and as long as a predicate may be
+-- proper, with at most the comparisons, the depth and the bytes that a predicate may have
 pub record IsWithinLimits (q : Query) : Type 0 where
   pub proper : IsProper q
   pub few : comparisons q ≤ most_comparisons

@@ -12,8 +12,8 @@ use Rattle.lq_value.specs.declared.literal.Literal.TheVariants.{Pattern, Plain}
 use Rattle.lq_value.specs.Name.{is_attr_name}
 use Rattle.lq_value.specs.Source.{pattern_of}
 
--- The text without the `\` before each escaped byte, behind a `\` if the test is true. What
--- follows an escaped first byte of a character are its other bytes, which are no `\`.
+-- The text without the `\` before each escaped byte; the flag says that a `\` was before it. The
+-- other bytes of an escaped character are never `\`.
 abbrev pub unescaped : Bool → List ℕ → List ℕ
 unescaped false [] = []
 unescaped true [] = []
@@ -23,7 +23,7 @@ unescaped true (b ∷ bs) = b ∷ unescaped false bs
 abbrev pub has_no_nul : List ℕ → Bool
 has_no_nul bytes = list_all (λ b. not (b == 0)) bytes
 
--- the attribute's name that a raw text is
+-- the attribute's name in a raw text
 abbrev pub name_of : List ℕ → Option (List ℕ)
 name_of raw = if is_attr_name (unescaped false raw) then Some (unescaped false raw) else None
 
@@ -31,7 +31,7 @@ name_of raw = if is_attr_name (unescaped false raw) then Some (unescaped false r
 abbrev pub name_refusal : List ℕ → Option Refusal
 name_refusal raw = if is_some (name_of raw) then None else Some BadName
 
--- behind `=`, `==` and `!=` stands a pattern
+-- a pattern follows `=`, `==` and `!=`
 abbrev pub takes_pattern : Op → Bool
 takes_pattern Eq = true
 takes_pattern Ne = true
@@ -44,7 +44,7 @@ abbrev pub pattern_literal : Result (List Element) ℕ → Option Literal
 pattern_literal (Ok elements) = Some (Pattern elements)
 pattern_literal (Err place) = None
 
--- the literal that a raw text is behind an operator
+-- the literal that a raw text writes after an operator
 abbrev pub literal_of : Op → List ℕ → Option Literal
 literal_of o raw =
     if takes_pattern o then pattern_literal (pattern_of raw) else Some (Plain (unescaped false raw))
@@ -53,10 +53,10 @@ abbrev pub bad_place : Result (List Element) ℕ → Option ℕ
 bad_place (Ok elements) = None
 bad_place (Err place) = Some place
 
--- the place in the raw text of a literal where its pattern has a fault
+-- the offset in a literal's raw text of its pattern's fault
 abbrev pub literal_fault : Op → List ℕ → Option ℕ
 literal_fault o raw = if takes_pattern o then bad_place (pattern_of raw) else None
 
--- why a raw text is refused as a literal behind an operator
+-- why a raw text is refused as a literal after an operator
 abbrev pub literal_refusal : Op → List ℕ → Option Refusal
 literal_refusal o raw = option_map (λ place. BadQuery place) (literal_fault o raw)

@@ -1,12 +1,12 @@
--- Reading tokens from the left, with a stack of what is begun.
+-- Reading tokens from the left, with a stack of the formulas that are begun.
 use Rattle.std.specs.Prelude.{ℕ, zero, suc, ◌+◌, List, [], ◌∷◌, ◌++◌, Option, Some, None, option_and_then, option_map}
 use Rattle.lq_value.specs.declared.op.Op.{Op}
 use Rattle.lq_predicate_formula.specs.Tokens.{Token, opens, closes, bang, ands, ors, op, word, lone, cut}
 use Rattle.lq_predicate_formula.specs.Literals.{name_of, literal_of}
 use Rattle.lq_predicate_formula.specs.Query.{Query, Compare, Not, both_of, either_of}
 
--- a formula that is begun: the parts of its or that are
--- done, those of its last and, and the `!` that wait
+-- a formula that is begun: the parts of its `or` that are done, those of its last `and`, and the
+-- `!` that wait
 pub record Frame : Type 0 where
   pub or_parts : List Query
   pub and_parts : List Query
@@ -34,7 +34,7 @@ abbrev pub negate : ℕ → Query → Query
 negate zero q = q
 negate (suc n) q = negate n (Not q)
 
--- the operand that was expected is done
+-- the frame after the operand that it expected
 abbrev pub frame_with : Query → Frame → Frame
 frame_with q f =
     record { or_parts = f.or_parts; and_parts = f.and_parts ++ negate f.bangs q ∷ []; bangs = 0 }
@@ -43,11 +43,11 @@ abbrev pub completed : Query → List Frame → Frame → ℕ → State
 completed q below f room =
     record { below = below; top = frame_with q f; expected = after_operand; room = room + f.bangs }
 
--- what a frame says, once it is whole
+-- the query of a frame, once it is whole
 abbrev pub said_by : Frame → Query
 said_by f = either_of (f.or_parts ++ both_of f.and_parts ∷ [])
 
--- one more `!`, or one more parenthesis, if there is room
+-- one more `!` or parenthesis, if there is room
 abbrev pub deeper : ℕ → (ℕ → State) → Option State
 deeper zero s = None
 deeper (suc n) s = Some (s n)
@@ -129,7 +129,7 @@ step_at (after_attr a) s t = at_attr s a t
 step_at (after_op a o) s t = at_op s a o t
 step_at after_operand s t = at_end s t
 
--- None: the token can't stand here, or would nest too deep
+-- None where the token isn't allowed here, or would nest too deep
 abbrev pub step : State → Token → Option State
 step s t = step_at s.expected s t
 
@@ -140,7 +140,7 @@ whole_at operand below f = None
 whole_at (after_attr a) below f = None
 whole_at (after_op a o) below f = None
 
--- the query, where the formula may end here
+-- the query, if the formula may end here
 abbrev pub whole : State → Option Query
 whole s = whole_at s.expected s.below s.top
 
@@ -153,11 +153,11 @@ abbrev pub steps : State → List Token → Option State
 steps s [] = Some s
 steps s (t ∷ ts) = option_and_then (λ s'. steps s' ts) (step s t)
 
--- how deep the frames below lie, with the `!` that wait in them
+-- the depth of the frames below, with the `!` that wait in them
 abbrev pub open_weight : List Frame → ℕ
 open_weight [] = 0
 open_weight (f ∷ fs) = suc f.bangs + open_weight fs
 
--- the nesting so far and the room that is left, which no step adds to
+-- the nesting so far plus the room that remains, which no step increases
 abbrev pub weight : State → ℕ
 weight s = s.room + (s.top.bangs + open_weight s.below)

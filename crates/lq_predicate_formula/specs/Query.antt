@@ -1,4 +1,4 @@
--- What a formula says: comparisons of attributes with literals, under `!`, `&&` and `||`.
+-- A formula's query: comparisons of attributes with literals, under `!`, `&&` and `||`.
 use Rattle.std.specs.Prelude.{ℕ, List, [], ◌∷◌}
 use Rattle.lq_value.specs.declared.op.Op.{Op}
 use Rattle.lq_value.specs.declared.literal.Literal.{Literal}
@@ -22,13 +22,13 @@ abbrev pub list_of : Queries → List Query
 list_of no_more = []
 list_of (and_then q qs) = q ∷ list_of qs
 
--- one part is itself, and two or more are one And
+-- the only part, or the And of two or more
 abbrev pub both_of : List Query → Query
 both_of [] = And no_more
 both_of (q ∷ []) = q
 both_of (q ∷ r ∷ qs) = And (queries (q ∷ r ∷ qs))
 
--- one part is itself, and two or more are one Or
+-- the only part, or the Or of two or more
 abbrev pub either_of : List Query → Query
 either_of [] = Or no_more
 either_of (q ∷ []) = q

@@ -1,5 +1,5 @@
--- The reading of a text: its query, or the place of its leftmost
--- fault. The tokens are read from the left by the machine.
+-- The reading of a text: its query, or the place of its leftmost fault. The machine reads the
+-- tokens from the left.
 use Rattle.std.specs.Prelude.{ℕ, ◌+◌, ◌&&◌, nat_le, if◌then◌else◌, List, [], ◌∷◌, length, Option, None, Some, Result, Ok, Err}
 use Rattle.lq_predicate_formula.specs.Tokens.{Token, opens, closes, bang, ands, ors, op, word, lone, cut, Placed, tokens_of}
 use Rattle.lq_predicate_formula.specs.Query.{Query}
@@ -9,9 +9,9 @@ use Rattle.lq_predicate_formula.specs.Canonical.{canonical, depth}
 use Rattle.lq_predicate_formula.specs.Machine.{Expected, operand, after_attr, after_op, after_operand, State, start, step, whole}
 use Rattle.lq_predicate_formula.specs.Faults.{most_bytes, most_comparisons, most_depth}
 
--- ---- where a token that is refused has its fault
+-- ---- the place of the fault of a refused token
 
--- the place in a word where its pattern has a fault, if it is a literal that is read as a pattern
+-- the offset in a word of its pattern's fault, if the word is a literal that is read as a pattern
 abbrev pub pattern_fault_of_word : Expected → List ℕ → Option ℕ
 pattern_fault_of_word operand raw = None
 pattern_fault_of_word (after_attr a) raw = None
@@ -33,13 +33,13 @@ fault_place_of end p (word raw) t = place_with (pattern_fault_of_word p raw) t
 fault_place_of end p lone t = t.place
 fault_place_of end p cut t = end
 
--- the place of the fault of a token that can't be taken: a cut text has it at the end of all
+-- the place of the fault of a refused token; for a cut text, the end of the text
 abbrev pub fault_place : ℕ → Expected → Placed → ℕ
 fault_place end p t = fault_place_of end p t.token t
 
 -- ---- the reading
 
--- how many words a token is: each comparison has two, an attribute and a literal
+-- the number of words in a token: each comparison has two, an attribute and a literal
 abbrev pub word_count : Token → ℕ
 word_count opens = 0
 word_count closes = 0
@@ -51,13 +51,13 @@ word_count (word raw) = 1
 word_count lone = 0
 word_count cut = 0
 
--- the state behind a token, so many words with it, and what is read on from there
+-- the state after a token and this many words, and the reading from there on
 abbrev pub after_token : ℕ → Placed → Option State → ℕ → (State → Result Query ℕ) → Result Query ℕ
 after_token fault t None count others = Err fault
 after_token fault t (Some s) count others =
     if nat_le count (most_comparisons + most_comparisons) then others s else Err t.place
 
--- the query, where the formula is whole and within the limits
+-- the query, if the formula is whole and within the limits
 abbrev pub finished : ℕ → Option Query → Result Query ℕ
 finished end None = Err end
 finished end (Some q) =
@@ -65,8 +65,7 @@ finished end (Some q) =
     then Ok q
     else Err end
 
--- the reading of the tokens from a state on, with so many
--- words before them, where the text ends at `end`
+-- the reading of the tokens from a state on, after this many words, where the text ends at `end`
 unfoldable pub read_tokens : ℕ → State → ℕ → List Placed → Result Query ℕ
 read_tokens end s count [] = finished end (whole s)
 read_tokens end s count (t ∷ ts) = after_token (fault_place end s.expected t) t (step s t.token)

@@ -1,5 +1,4 @@
--- How many bytes names, literals and patterns have as
--- canonical text, where they are read without memory.
+-- The sizes in canonical text of names, literals and patterns, where they are read without memory.
 use Rattle.std.specs.Prelude.{◌≡◌, ◌+◌, ℕ, List, [], length, Option, None, Some, Result, Ok, Err}
 use Rattle.std.specs.Str.{IsUtf8, encode_utf8_all}
 use Rattle.lq_value.specs.declared.element.Element.{Element}
@@ -21,7 +20,7 @@ literal_bytes literal = capped (length (literal_text literal))
 abbrev pub pattern_bytes : List Element → ℕ
 pattern_bytes es = length (encode_utf8_all (pattern_text es))
 
--- the items and the `]` behind them
+-- the items, then the `]`
 abbrev pub items_bytes : List Item → ℕ
 items_bytes is = length (encode_utf8_all (items_then is []))
 
@@ -30,12 +29,12 @@ abbrev pub pattern_sized : Result (List Element) ℕ → Result ℕ ℕ
 pattern_sized (Ok es) = Ok (capped (pattern_bytes es))
 pattern_sized (Err place) = Err place
 
--- the size of a set's items behind so many bytes, and what stands behind them
+-- the size of a set's items after this many bytes, and the text after them
 abbrev pub items_sized : ℕ → Pieces Item → Option (ℕ × Signs)
 items_sized n (whole is rest) = Some (capped (n + items_bytes is), rest)
 items_sized n (stuck rest) = None
 
--- the element that is first has so many bytes, and the rest stands behind it
+-- the first element has this many bytes, and the rest follows it
 pub record HasSize (first : First Element) (size : ℕ) (rest : List ℕ) : Type 0 where
   pub element : Element
   pub is : first ≡ has element (signs_of rest)

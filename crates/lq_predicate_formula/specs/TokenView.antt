@@ -1,4 +1,4 @@
--- The tokens of the code, seen as those of the definitions.
+-- The code's tokens as those of the definitions.
 use Rattle.lq_predicate_formula.specs.declared.token.Token.{Token}
 use Rattle.lq_predicate_formula.specs.declared.token.Token.TheVariants as tokens
 use Rattle.lq_predicate_formula.specs.declared.token.Placed.{Placed}

@@ -1,4 +1,4 @@
--- The tokens of a text, each with its place: as a relation, and as a list that is had.
+-- The tokens of a text, each with its place: as a relation, and as a list that can be computed.
 use Rattle.std.specs.Prelude.{◌≡◌, ℕ, zero, suc, ◌+◌, ◌<◌, ◌==◌, ◌||◌, if◌then◌else◌, Bool, false, List, [], ◌∷◌, length, take, drop, map, Option, Some, None}
 use Rattle.lq_value.specs.declared.op.Op.{Op}
 use Rattle.lq_value.specs.declared.op.Op.TheVariants.{Eq, Ne, Lt, Le, Gt, Ge}
@@ -15,10 +15,10 @@ pub data Token : Type 0 where
   word : List ℕ → Token
   -- `&` or `|` alone
   lone : Token
-  -- a quoted text without its end, or a `\` with nothing behind it
+  -- a quoted text without its end, or a `\` with nothing after it
   cut : Token
 
--- a token, how many bytes it has, and at which of them its raw text begins
+-- a token, its length in bytes, and the offset of its raw text
 pub record Front : Type 0 where
   pub token : Token
   pub size : ℕ
@@ -31,7 +31,7 @@ abbrev pub begins_with : ℕ → List ℕ → Bool
 begins_with c [] = false
 begins_with c (b ∷ bs) = b == c
 
--- the longer token, if the byte stands next
+-- the longer token, if this byte is next
 abbrev pub longer : ℕ → List ℕ → Token → Token → Front
 longer c bs t u = if begins_with c bs then fixed t 2 else fixed u 1
 
@@ -49,7 +49,7 @@ word_front bs n =
 abbrev pub is_symbol : ℕ → Bool
 is_symbol b = b == 40 || b == 41 || b == 33 || b == 61 || b == 60 || b == 62 || b == 38 || b == 124
 
--- the token that begins with the symbol b, of which bs follow
+-- the token that begins with the symbol b, with bs after it
 abbrev pub symbol_front : ℕ → List ℕ → Front
 symbol_front b bs =
     if b == 40 then fixed opens 1
@@ -61,14 +61,14 @@ symbol_front b bs =
     else (if b == 38 then longer 38 bs ands lone
     else longer 124 bs ors lone))))))
 
--- the token that begins with the byte b, of which bs follow
+-- the token that begins with the byte b, with bs after it
 abbrev pub front : ℕ → List ℕ → Front
 front b bs =
     if is_symbol b then symbol_front b bs
     else (if b == 34 || b == 39 then quoted_front bs (quoted_bytes b false bs)
     else word_front (b ∷ bs) (word_bytes false (b ∷ bs)))
 
--- a token with the place of its first byte and that of its raw text
+-- a token with the offsets of its first byte and of its raw text
 pub record Placed : Type 0 where
   pub place : ℕ
   pub raw_place : ℕ
@@ -88,16 +88,16 @@ abbrev pub Begins : ℕ → List ℕ → Placed → ℕ → List ℕ → Type 0
 Begins at bs t next rest = (0 < length bs) × (t ≡ placed_at at (front_at bs))
     × (next ≡ at + (front_at bs).size) × (rest ≡ drop (front_at bs).size bs)
 
--- the text behind its white space
+-- the text after its white space
 abbrev pub trimmed : List ℕ → List ℕ
 trimmed bs = drop (spaces bs) bs
 
--- The text from a place on begins with the token behind
--- white space; the rest stands at the next place.
+-- The text from an offset on begins, after white space, with the token; the rest is at the next
+-- offset.
 abbrev pub Yields : ℕ → List ℕ → Placed → ℕ → List ℕ → Type 0
 Yields at bs t next rest = Begins (at + spaces bs) (trimmed bs) t next rest
 
--- The text from a place on has these tokens.
+-- The text from an offset on has these tokens.
 abbrev pub HasTokens : ℕ → List ℕ → List Placed → Type 0
 HasTokens at bs [] = trimmed bs ≡ []
 HasTokens at bs (t ∷ ts) =
@@ -105,19 +105,19 @@ HasTokens at bs (t ∷ ts) =
 
 -- ---- the tokens as a list
 
--- the token that trimmed bytes begin with, and those behind it
+-- the token at the start of trimmed bytes, and those after it
 abbrev pub first_and : ℕ → List ℕ → (ℕ → List ℕ → List Placed) → List Placed
 first_and at [] others = []
 first_and at (b ∷ bs) others =
     placed_at at (front b bs) ∷ others (at + (front b bs).size) (drop (front b bs).size (b ∷ bs))
 
--- the tokens of so many bytes at most
+-- the tokens of the text, at most this many
 unfoldable pub tokens_within : ℕ → ℕ → List ℕ → List Placed
 tokens_within zero at bs = []
 tokens_within (suc most) at bs = first_and (at + spaces bs) (trimmed bs) (tokens_within most)
 
--- the tokens of the text from a place on: each has a byte
--- at least, so that there are no more than bytes
+-- the tokens of the text from an offset on: each has at least one byte, so there are at most as
+-- many as bytes
 unfoldable pub tokens_from : ℕ → List ℕ → List Placed
 tokens_from at bs = tokens_within (length bs) at bs
 

@@ -1,4 +1,4 @@
--- What holds of each word of some tokens.
+-- A property of each word among some tokens.
 use Rattle.std.specs.Prelude.{ℕ, List, [], ◌∷◌}
 use Rattle.lq_predicate_formula.specs.Tokens.{Token, opens, closes, bang, ands, ors, op, word, lone, cut}
 

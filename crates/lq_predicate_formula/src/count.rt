@@ -1,4 +1,4 @@
-//! How far white space, a word and a quoted text go.
+//! The lengths of white space, of a word and of a quoted text.
 ghost use Rattle.std.specs.Prelude.{◌≡◌, ◌≤◌, ◌<◌, length, IfSome, true, false, slice_index, pred};
 ghost use Rattle.lq_predicate_formula.specs.Bytes.{ends_word as ends, is_space as spaced, quoted_bytes, spaces, word_bytes};
 
@@ -25,7 +25,7 @@ fn ends_word(b: u8) -> bool
         || b == b'\''
 }
 
-// How many bytes of white space stand first.
+// The number of bytes of white space at the start.
 pub(crate) fn count_spaces(bytes: &[u8]) -> usize
     ensures bound { result ≤ length bytes.now }
     ensures value { result ≡ spaces bytes.now }
@@ -38,7 +38,7 @@ pub(crate) fn count_spaces(bytes: &[u8]) -> usize
     n
 }
 
-// How many bytes of a word stand first.
+// The number of bytes of the word at the start.
 pub(crate) fn count_word(bytes: &[u8]) -> usize
     ensures bound { result ≤ length bytes.now }
     ensures value { result ≡ word_bytes false bytes.now }
@@ -61,7 +61,7 @@ pub(crate) fn count_word(bytes: &[u8]) -> usize
     n
 }
 
-// How many bytes stand before the mark that ends a quoted text.
+// The number of bytes before the mark that ends a quoted text.
 pub(crate) fn count_quoted(mark: u8, bytes: &[u8]) -> Option<usize>
     ensures value { result ≡ quoted_bytes mark false bytes.now }
     ensures found { IfSome result (λ n. (n < length bytes.now) × (slice_index bytes.now n ≡ mark)) }

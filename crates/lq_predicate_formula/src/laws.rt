@@ -8,18 +8,18 @@ ghost use Rattle.lq_predicate_formula.specs.Laws.{CanonicalIsRead, FaultsAreFoun
 
 use lq_value::sources_are_read;
 
-/// Each text has tokens: those of the list.
+/// Each text has tokens: those of the list `tokens_of`.
 pub fn tokens_exist()
     ensures { (text : List ℕ) → HasTokens 0 text (tokens_of text) }
 {}
 
-/// A text has one list of tokens.
+/// A text has at most one list of tokens.
 pub fn tokens_same()
     ensures { (text : List ℕ) (ts us : List Placed)
         → HasTokens 0 text ts → HasTokens 0 text us → ts ≡ us }
 {}
 
-/// Tokens read as one query at most.
+/// Tokens read as at most one query.
 pub fn reads_one()
     ensures { (n : ℕ) (ts : List Token) (q r : Query)
         → IsFormula n ts q → IsFormula n ts r → q ≡ r }
@@ -31,13 +31,13 @@ pub fn reads_alike()
         → (run (start n) ts ≡ Some q) ↔ IsFormula n ts q }
 {}
 
-/// More room for nesting refuses no less.
+/// More room for nesting refuses nothing that less room accepts.
 pub fn any_room()
     ensures { (k n : ℕ) (ts : List Token) (q : Query) → IsFormula n ts q → IsFormula (k + n) ts q }
 {}
 
-/// A token with which no formula within the nesting limit goes on, and one beyond it does, is `(`
-/// or `!`.
+/// If no formula within the nesting limit continues with a token, but a deeper one does, the token
+/// is `(` or `!`.
 pub fn too_deep()
     ensures { (k : ℕ) (ts : List Token) (t : Token) → IsBegun ts → (IsBegun (ts ++ t ∷ []) → ⊥)
         → (rest : List Token) (q : Query) → IsFormula (nesting + k) ((ts ++ t ∷ []) ++ rest) q
@@ -49,8 +49,8 @@ pub fn formulas_are_read()
     ensures { FormulasAreRead }
 {}
 
-/// The reading of a text is a place just where the text's leftmost fault is there: so a text has
-/// one such place at most, and none where it reads as a query.
+/// The reading of a text is a place exactly where the text's leftmost fault is at this place. So a
+/// text has at most one such place, and none where it reads as a query.
 pub fn faults_are_found()
     ensures { FaultsAreFound }
 {}
@@ -62,22 +62,22 @@ pub fn canonical_is_read()
     sources_are_read();
 }
 
-/// A query that is read has names for attributes, literals that suit their operators and are read
-/// from some raw text, and lists of two parts or more.
+/// A query that was read has names as attributes, literals that suit their operators and are read
+/// from some raw text, and lists of at least two parts.
 pub fn read_is_proper()
     ensures { ReadIsProper }
 {}
 
-/// A query that is read from words of UTF-8 is one whose canonical text reads as it, if that is
-/// within the limits.
+/// The canonical text of a query that was read from UTF-8 words reads as that query, if the query
+/// is within the limits.
 pub fn read_is_good()
     ensures { ReadIsGood }
 {
     sources_are_read();
 }
 
-/// A pattern that is read from a text is of characters, its sets have items, and no range of it
-/// falls: so its canonical text is a source of it.
+/// A pattern that was read from a text consists of characters, its sets have items, and no range
+/// ends below its start. So its canonical text is a source of it.
 pub fn patterns_are_good()
     ensures { PatternsAreGood }
 {

@@ -10,10 +10,10 @@ use crate::count::count_spaces;
 use crate::piece::read_piece;
 use crate::token::{Cursor, Placed};
 
-/// The next token of a text with its places, and what is left after it.
+/// The next token of a text with its offsets, and the rest of the text after it.
 ///
-/// None where only white space is left. It takes no memory, and the token borrows the text.
-/// The tokens are this project's own.
+/// `None` where only white space remains. It takes no memory, and the token borrows the text. The
+/// tokens are this project's own.
 #[tactic(auto, using(crate::proofs::TokenLemmas::tokens_from_yields, crate::proofs::TokenLemmas::tokens_from_none))]
 pub fn next_token<'a>(cursor: Cursor<'a>) -> Option<(Placed<'a>, Cursor<'a>)>
     requires { cursor.place + length cursor.rest.now < 2 ^ 64 }
@@ -21,7 +21,7 @@ pub fn next_token<'a>(cursor: Cursor<'a>) -> Option<(Placed<'a>, Cursor<'a>)>
     ensures some { IfSome result (λ r. Yields cursor.entry.place cursor.entry.rest.now
         (placed_of r.0) r.1.place r.1.rest.now) }
 
-    // The same on the list of all tokens.
+    // The same, stated on the list of all tokens.
     ensures last { IfNone result (tokens_from cursor.entry.place cursor.entry.rest.now ≡ []) }
     ensures first { IfSome result (λ r. tokens_from cursor.entry.place cursor.entry.rest.now
         ≡ placed_of r.0 ∷ tokens_from r.1.place r.1.rest.now) }
@@ -29,7 +29,7 @@ pub fn next_token<'a>(cursor: Cursor<'a>) -> Option<(Placed<'a>, Cursor<'a>)>
     // A word is a text.
     ensures text { IfSome result (λ r. WordIs IsUtf8 (token_of r.0.token)) }
 
-    // What is left is the end of the same text, and shorter.
+    // The rest is the end of the same text, and shorter.
     ensures place { IfSome result (λ r. r.1.place + length r.1.rest.now
         ≡ cursor.entry.place + length cursor.entry.rest.now) }
     ensures shorter { IfSome result (λ r. length r.1.rest.now < length cursor.entry.rest.now) }
@@ -41,7 +41,7 @@ pub fn next_token<'a>(cursor: Cursor<'a>) -> Option<(Placed<'a>, Cursor<'a>)>
     Some(token_at(cursor.place + space, rest))
 }
 
-// The token that begins at a place, and what is left after it.
+// The token that begins at an offset, and the rest after it.
 fn token_at<'a>(place: usize, rest: &'a str) -> (Placed<'a>, Cursor<'a>)
     requires some { 0 < length rest.now }
     requires small { place + length rest.now < 2 ^ 64 }
@@ -66,7 +66,7 @@ fn token_at<'a>(place: usize, rest: &'a str) -> (Placed<'a>, Cursor<'a>)
     )
 }
 
-// How many bytes of white space a text begins with, and the text after them.
+// The number of bytes of white space at a text's start, and the text after them.
 fn trim<'a>(rest: &'a str) -> (usize, &'a str)
     ensures count { result.0 ≡ spaces rest.entry.now }
     ensures bound { result.0 ≤ length rest.entry.now }

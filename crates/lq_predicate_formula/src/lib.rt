@@ -1,10 +1,10 @@
-//! Formulas: their tokens and the canonical text of comparisons in code, and their grammar, reading
-//! and canonical text as definitions.
+//! Formulas: code for their tokens and for the canonical text of comparisons, and definitions of
+//! their grammar, reading and canonical text.
 //!
-//! A contract sees a text as its bytes, its tokens as a list (`specs/Tokens`) and what they say
-//! as a `Query` (`specs/Query`, `specs/Grammar`); `specs/Reading` reads it, `specs/Faults` has the
-//! faults and `specs/Canonical` writes it. Nothing here waits. Begin with `token`, then `laws`,
-//! then `writing`.
+//! Contracts see a text as its bytes, its tokens as a list (`specs/Tokens`) and their meaning as a
+//! `Query` (`specs/Query`, `specs/Grammar`). `specs/Reading` reads a text, `specs/Faults` has the
+//! faults, and `specs/Canonical` writes a query. Nothing here waits. Begin with `token`, then
+//! `laws`, then `writing`.
 #![tactic(auto)]
 
 mod count;

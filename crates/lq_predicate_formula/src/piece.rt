@@ -1,4 +1,4 @@
-//! The token that a text begins with, and how many bytes it has.
+//! The token at the start of a text, and its length in bytes.
 ghost use Rattle.std.specs.Prelude.{◌≡◌, ◌≤◌, ◌<◌, ◌⊎◌, length, IfSome, IfNone, true, false, slice_index, drop, pred};
 ghost use Rattle.std.specs.Str.{IsCharBoundary, IsUtf8};
 ghost use Rattle.lq_predicate_formula.specs.Bytes.{quoted_bytes, word_bytes};
@@ -10,7 +10,7 @@ use crate::count::{count_quoted, count_word};
 use crate::token::Token;
 use lq_value::Op;
 
-// A token, how many bytes it has, and at which of them its raw text begins.
+// A token, its length in bytes, and the offset of its raw text.
 #[derive(Clone, Copy)]
 pub(crate) struct Piece<'a> {
     pub(crate) token: Token<'a>,
@@ -29,7 +29,7 @@ fn fixed(token: Token<'static>, size: usize) -> Piece<'static>
     }
 }
 
-// The longer token, if the byte stands second.
+// The longer token, if the second byte is this one.
 fn longer(byte: u8, bytes: &[u8], long: Token<'static>, short: Token<'static>) -> Piece<'static>
     requires { 0 < length bytes.now }
     ensures value { front_of result
@@ -71,7 +71,7 @@ fn symbol(bytes: &[u8]) -> Option<Piece<'static>>
     }
 }
 
-// A quoted text, from its mark on.
+// A quoted text, from its opening mark.
 fn quoted<'a>(rest: &'a str) -> Piece<'a>
     requires some { 0 < length rest.now }
     requires mark { (slice_index rest.now 0 ≡ 34) ⊎ (slice_index rest.now 0 ≡ 39) }
@@ -126,7 +126,7 @@ fn word<'a>(rest: &'a str) -> Piece<'a>
     }
 }
 
-// The token that a text begins with.
+// The token at the start of a text.
 pub(crate) fn read_piece<'a>(rest: &'a str) -> Piece<'a>
     requires { 0 < length rest.now }
     ensures value { front_of result ≡ front_at rest.entry.now }

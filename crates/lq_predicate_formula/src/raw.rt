@@ -9,8 +9,8 @@ use crate::laws::patterns_are_good;
 use lq_value::{AttrName, Literal, MAX_ATTR_NAME, Op, Pattern, Refusal, Text};
 use std::alloc::Global;
 
-/// Whether a raw text is an attribute's name: with each `\` before a character taken off, it has
-/// 1 to 255 bytes and no NUL. It takes no memory. The limits are our own.
+/// Whether a raw text is an attribute's name: after dropping each `\` before a character, it has 1
+/// to 255 bytes and no NUL. It takes no memory. The limits are our own.
 pub fn is_name(raw: &str) -> bool
     ensures { result ≡ is_some (name_of raw.now) }
 {
@@ -20,9 +20,9 @@ pub fn is_name(raw: &str) -> bool
     }
 }
 
-/// The attribute's name that a raw text is, with each `\` before a character taken off.
+/// The attribute's name in a raw text, without the `\` before each escaped character.
 ///
-/// Refused, the first that fits: `BadName` where it is no such name, `NoMemory`.
+/// Refused, the first that fits: `BadName` where the raw text is no such name, `NoMemory`.
 pub fn read_name(alloc: Global, raw: &str) -> Result<AttrName, Refusal>
     ensures refused { IsRefusedBy result (name_refusal raw.now) }
     ensures value { IfOk result (λ name. name_of raw.now ≡ Some name) }
@@ -34,10 +34,10 @@ pub fn read_name(alloc: Global, raw: &str) -> Result<AttrName, Refusal>
     AttrName::read(alloc, name.as_str())
 }
 
-/// The literal that a raw text is after an operator: after `Eq` and `Ne` the pattern that it
-/// writes, else the text with each `\` before a character taken off.
+/// The literal that a raw text writes after an operator: after `Eq` and `Ne` a pattern, else the
+/// text without the `\` before each escaped character.
 ///
-/// Refused, the first that fits: `BadQuery` with the byte place in the raw text of the pattern's
+/// Refused, the first that fits: `BadQuery` with the byte offset in the raw text of the pattern's
 /// leftmost fault, `NoMemory`. The literal suits the operator, and its canonical text is a source
 /// of it.
 pub fn read_literal(alloc: Global, op: Op, raw: &str) -> Result<Literal, Refusal>
@@ -62,7 +62,7 @@ pub(crate) fn takes_pattern(op: Op) -> bool
     }
 }
 
-// How many bytes there are with each `\` before a byte taken off; none where one of them is NUL.
+// The number of bytes without the `\` before each escaped byte; none where one of them is NUL.
 pub(crate) fn count_unescaped(bytes: &[u8]) -> Option<usize>
     ensures none { IfNone result (has_no_nul (unescaped false bytes.now) ≡ false) }
     ensures some { IfSome result (λ n. n ≡ length (unescaped false bytes.now)) }
@@ -91,7 +91,7 @@ pub(crate) fn count_unescaped(bytes: &[u8]) -> Option<usize>
     Some(count)
 }
 
-// The text with each `\` before a character taken off.
+// The text without the `\` before each escaped character.
 fn unescape(alloc: Global, raw: &str) -> Result<String, Refusal>
     ensures refused { IsRefusedBy result None }
     ensures value { IfOk result (λ text. string_bytes text ≡ unescaped false raw.now) }

@@ -1,4 +1,4 @@
-//! How many bytes names and literals have as canonical text, from their raw texts.
+//! The size in canonical text of names and literals, from their raw texts.
 ghost use Rattle.std.specs.Prelude.{◌≡◌, ◌∷◌, ◌<◌, ◌≤◌, ℕ, List, [], None, Some, IfErr, IfOk, IfSome, MatchOption, drop, false, length, option_map};
 ghost use Rattle.std.specs.List.{list_all};
 ghost use Rattle.lq_predicate_formula.specs.Canonical.{attr_then, canonical, is_bare_byte, literal_text, quoted};
@@ -14,8 +14,8 @@ use crate::source_size::source_size;
 use crate::writing::is_bare_byte;
 use lq_value::{MAX_ATTR_NAME, Op};
 
-/// How many bytes the attribute's name that a raw text is has as canonical text, or the greatest
-/// usize where there are more; `None` where it is no such name. It takes no memory.
+/// The number of bytes in canonical text of the attribute's name in a raw text; the greatest usize
+/// stands for more. `None` where the raw text is no such name. It takes no memory.
 pub fn raw_name_size(raw: &str) -> Option<usize>
     ensures { result ≡ option_map name_bytes (name_of raw.now) }
 {
@@ -31,10 +31,11 @@ pub fn raw_name_size(raw: &str) -> Option<usize>
     }
 }
 
-/// How many bytes the literal that a raw text is after an operator has between its marks as
-/// canonical text, or the greatest usize where there are more.
+/// The number of bytes, between its marks in canonical text, of the literal that a raw text writes
+/// after an operator; the greatest usize stands for more.
 ///
-/// Refused with the byte place in the raw text of its pattern's leftmost fault. It takes no memory.
+/// Refused with the byte offset in the raw text of the pattern's leftmost fault. It takes no
+/// memory.
 pub fn raw_literal_size(op: Op, raw: &str) -> Result<usize, u64>
     ensures ok { IfOk result (λ n. option_map literal_bytes (literal_of op raw.now) ≡ Some n) }
     ensures fine { IfOk result (λ _. literal_fault op raw.now ≡ None) }
@@ -48,8 +49,8 @@ pub fn raw_literal_size(op: Op, raw: &str) -> Result<usize, u64>
     }
 }
 
-/// The size of a comparison from those of its attribute's name and its literal, as the calls above
-/// count them. It takes no memory.
+/// The size of a comparison, from the sizes of its attribute's name and of its literal as the calls
+/// above count them. It takes no memory.
 pub fn joined_size(attr: usize, op: Op, literal: usize) -> usize
     ensures { (name : List ℕ) (l : Literal) → attr ≡ name_bytes name → literal ≡ literal_bytes l
         → result ≡ capped (length (canonical (Compare name op l))) }
@@ -59,7 +60,7 @@ pub fn joined_size(attr: usize, op: Op, literal: usize) -> usize
         .saturating_add(4)
 }
 
-// Whether each byte may stand bare, with each `\` before a byte taken off.
+// Whether each byte may stand without marks, after dropping each `\` before an escaped byte.
 fn is_unescaped_bare(bytes: &[u8]) -> bool
     ensures { result ≡ list_all is_bare_byte (unescaped false bytes.now) }
 {
@@ -73,7 +74,7 @@ fn is_unescaped_bare(bytes: &[u8]) -> bool
     true
 }
 
-// The size of the quoted text, with each `\` before a byte taken off.
+// The size of the quoted text, after dropping each `\` before an escaped byte.
 fn unescaped_size(bytes: &[u8]) -> usize
     ensures { result ≡ capped (length (quoted (unescaped false bytes.now))) }
 {
@@ -92,7 +93,7 @@ fn quoted_byte_size(byte: u8) -> usize
     if byte == b'\\' || byte == b'"' { 2 } else { 1 }
 }
 
-// The next byte that isn't a `\` before another, and the place after it.
+// The next byte that isn't a `\` before another byte, and the offset after it.
 fn next_unescaped(bytes: &[u8], at: usize) -> Option<(u8, usize)>
     requires { at ≤ length bytes.now }
     ensures value { MatchOption result (unescaped false (drop at bytes.now) ≡ [])

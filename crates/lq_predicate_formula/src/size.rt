@@ -1,4 +1,4 @@
-//! How many bytes the canonical text of a comparison has.
+//! The length of a comparison's canonical text, in bytes.
 ghost use Rattle.std.specs.Prelude.{◌≡◌, ◌≤◌, ◌+◌, [], length};
 ghost use Rattle.std.specs.Str.{chars, encode_utf8_all};
 ghost use Rattle.lq_value.specs.Elements.{elements_shown};
@@ -10,16 +10,16 @@ ghost use Rattle.lq_predicate_formula.specs.Capped.{capped};
 use crate::writing::is_bare;
 use lq_value::{AttrName, Element, Elements, Item, Literal, Op, Pattern};
 
-/// How many bytes the canonical text of a comparison has, or the greatest usize where there are
-/// more. It takes no memory.
+/// The number of bytes in the canonical text of a comparison; the greatest usize stands for more.
+/// It takes no memory.
 pub fn comparison_size(attr: &AttrName, op: Op, literal: &Literal) -> usize
     ensures { result ≡ capped (length (canonical (Compare attr.now op literal.now))) }
 {
     size_with(attr, op, literal_size(literal))
 }
 
-/// The size of a comparison whose literal isn't made yet, from the number of bytes that the
-/// literal's text takes between its marks. It takes no memory.
+/// The size of a comparison whose literal isn't made yet, from the number of bytes of the literal's
+/// text between its marks. It takes no memory.
 pub fn comparison_size_with(attr: &AttrName, op: Op, literal: usize) -> usize
     ensures { (l : Literal) → literal ≡ capped (length (literal_text l))
         → result ≡ capped (length (canonical (Compare attr.now op l))) }
@@ -27,7 +27,7 @@ pub fn comparison_size_with(attr: &AttrName, op: Op, literal: usize) -> usize
     size_with(attr, op, literal)
 }
 
-// Four bytes stand beside the attribute, the operator and the literal.
+// The attribute, the operator and the literal, and four further bytes.
 fn size_with(attr: &AttrName, op: Op, literal: usize) -> usize
     ensures { result
         ≡ capped (length (attr_then attr.now []) + length (op_text op) + literal + 4) }
@@ -58,8 +58,8 @@ fn attr_size(attr: &AttrName) -> usize
     }
 }
 
-/// How many bytes a plain literal has between its marks: the text, with `\` before each `\` and
-/// `"`; the greatest usize where there are more. It takes no memory.
+/// The number of bytes of a plain literal between its marks, with `\` before each `\` and `"`; the
+/// greatest usize stands for more. It takes no memory.
 pub fn plain_size(text: &str) -> usize
     ensures { result ≡ capped (length (quoted text.now)) }
 {
@@ -90,8 +90,8 @@ fn literal_size(literal: &Literal) -> usize
     }
 }
 
-/// How many bytes a pattern has between its marks, as canonical text, or the greatest usize where
-/// there are more. It takes no memory.
+/// The number of bytes of a pattern between its marks in canonical text; the greatest usize stands
+/// for more. It takes no memory.
 pub fn pattern_size(pattern: &Pattern) -> usize
     ensures { result ≡ capped (length (encode_utf8_all (pattern_text pattern.now))) }
 {
@@ -101,8 +101,8 @@ pub fn pattern_size(pattern: &Pattern) -> usize
     }
 }
 
-/// The size of the pattern whose elements are the characters of a text, which isn't made yet. It
-/// takes no memory.
+/// The size of the pattern, not made yet, whose elements are the characters of a text. It takes no
+/// memory.
 pub fn characters_size(text: &str) -> usize
     ensures { result
         ≡ capped (length (encode_utf8_all (pattern_text (plain_elements (chars text.now))))) }

@@ -1,4 +1,4 @@
-//! How many bytes a pattern has as canonical text, from its source.
+//! The size of a pattern's canonical text, from its source.
 ghost use Rattle.std.specs.Prelude.{◌≡◌, ◌≤◌, ◌-◌, ◌^◌, if◌then◌else◌, None, Some, MatchOption, IfSome};
 ghost use Rattle.std.specs.Str.{IsUtf8};
 ghost use Rattle.lq_predicate_formula.specs.Sizes.{IsSized, items_sized, pattern_sized};
@@ -8,15 +8,15 @@ ghost use Rattle.lq_value.specs.Source.{element_at, item_at, pattern_of, pieces_
 use crate::size::{character_size, item_size};
 use lq_value::{FirstItem, FirstPiece, first_item, first_piece, sources_are_walked};
 
-// What stands first where an element is looked for: how many bytes it has as canonical text, and
-// the source after it.
+// The element at the start of a text: its number of bytes in canonical text, and the source after
+// it.
 pub(crate) enum FirstSize<'a> {
     End,
     Has(usize, &'a str),
     Faulty,
 }
 
-// The size of the pattern that a source writes, or the byte place of its leftmost fault.
+// The size of the pattern that a source writes, or the byte offset of its leftmost fault.
 pub(crate) fn source_size(source: &str) -> Result<usize, u64>
     ensures { result ≡ pattern_sized (pattern_of source.now) }
 {
@@ -48,7 +48,7 @@ fn first_size<'a>(source: &'a str) -> FirstSize<'a>
     }
 }
 
-// The set whose items the text begins with: it has one at least.
+// The set whose items are at the start of the text: it has at least one item.
 fn set_size<'a>(negated: bool, text: &'a str) -> FirstSize<'a>
     ensures { IsSized (set_with negated (pieces_of item_at (signs_of text.entry.now))) result }
 {

@@ -14,9 +14,9 @@ pub enum Token<'a> {
     Ands,
     /// `||`.
     Ors,
-    /// An operator; `=` and `==` are one.
+    /// An operator; `=` and `==` are the same one.
     Is(Op),
-    /// The raw text of a word, or what stands between the marks of a quoted text.
+    /// The raw text of a word, or the text between the marks of a quoted text.
     Word(&'a str),
     /// `&` or `|` alone.
     Lone,
@@ -24,7 +24,7 @@ pub enum Token<'a> {
     Cut,
 }
 
-/// A token with the byte place of its first byte and that of its raw text.
+/// A token with the byte offsets of its first byte and of its raw text.
 #[derive(Clone, Copy)]
 pub struct Placed<'a> {
     pub place: usize,
@@ -32,7 +32,7 @@ pub struct Placed<'a> {
     pub token: Token<'a>,
 }
 
-/// What is left of a text, and the byte place where it begins.
+/// The rest of a text, and the byte offset where it begins.
 #[derive(Clone, Copy)]
 pub struct Cursor<'a> {
     pub place: usize,

@@ -1,4 +1,4 @@
-//! Writing comparisons, as canonical text.
+//! Writes comparisons as canonical text.
 ghost use Rattle.std.specs.Prelude.{encode_utf8, ◌≡◌, ◌++◌, ◌∷◌, [], None, IfOk, true};
 ghost use Rattle.std.specs.List.{list_all};
 ghost use Rattle.std.specs.String.{string_bytes};
@@ -11,8 +11,8 @@ ghost use Rattle.lq_predicate_formula.specs.Canonical.{attr_then, canonical, ele
 
 use lq_value::{AttrName, Element, Elements, Item, Literal, Op, Refusal};
 
-/// Puts the canonical text of a comparison after what is there: in parentheses, the literal
-/// between `"` marks. Refused: `NoMemory`, and then a part of it may be there.
+/// Appends the canonical text of a comparison: in parentheses, with the literal between `"` marks.
+/// Refused: `NoMemory`; a part of it may be appended then.
 pub fn put_comparison(
     attr: &AttrName,
     op: Op,
@@ -45,7 +45,7 @@ fn op_text(op: Op) -> &'static str
     }
 }
 
-// An attribute, bare where each of its bytes may stand bare.
+// Appends an attribute, without marks if each of its bytes may stand without them.
 fn put_attr(attr: &AttrName, out: &mut String) -> Result<(), Refusal>
     ensures refused { IsRefusedBy result None }
     ensures value { IfOk result
@@ -74,7 +74,7 @@ pub(crate) fn is_bare_byte(byte: u8) -> bool
     matches!(byte, b'A'..=b'Z' | b'a'..=b'z' | b'0'..=b'9' | b'_' | b':' | b'.' | b'-')
 }
 
-// With `\` before each `\` and `"`.
+// Appends a text with `\` before each `\` and `"`.
 fn put_quoted(text: &str, out: &mut String) -> Result<(), Refusal>
     ensures refused { IsRefusedBy result None }
     ensures value { IfOk result
@@ -126,7 +126,7 @@ fn put_elements(elements: Elements<'_>, out: &mut String) -> Result<(), Refusal>
     }
 }
 
-// The pattern whose elements are the characters of a text.
+// Appends the pattern whose elements are the characters of a text.
 fn put_plain_text(text: &str, out: &mut String) -> Result<(), Refusal>
     ensures refused { IsRefusedBy result None }
     ensures value { IfOk result (λ _. string_bytes out.new ≡ string_bytes out.old
@@ -169,7 +169,7 @@ fn put_element(element: &Element, out: &mut String) -> Result<(), Refusal>
     Ok(())
 }
 
-// A plain character, with `\` before one of `*`, `?`, `[`, `\` and `"`.
+// Appends a plain character, with `\` before one of `*`, `?`, `[`, `\` and `"`.
 fn put_plain(c: char, out: &mut String) -> Result<(), Refusal>
     ensures refused { IsRefusedBy result None }
     ensures value { IfOk result (λ _. string_bytes out.new
@@ -182,7 +182,7 @@ fn put_plain(c: char, out: &mut String) -> Result<(), Refusal>
     Ok(())
 }
 
-// The items of a set, and its `]`.
+// Appends the items of a set, and its `]`.
 fn put_items(items: &[Item], out: &mut String) -> Result<(), Refusal>
     ensures refused { IsRefusedBy result None }
     ensures value { IfOk result (λ _. string_bytes out.new
@@ -210,7 +210,7 @@ fn put_item(item: Item, out: &mut String) -> Result<(), Refusal>
     }
 }
 
-// A character in a set, with `\` before one of `]`, `[`, `\`, `^`, `-` and `"`.
+// Appends a character in a set, with `\` before one of `]`, `[`, `\`, `^`, `-` and `"`.
 fn put_in_set(c: char, out: &mut String) -> Result<(), Refusal>
     ensures refused { IsRefusedBy result None }
     ensures value { IfOk result (λ _. string_bytes out.new

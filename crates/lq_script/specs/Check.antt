@@ -4,7 +4,7 @@ use Rattle.lq_predicate_formula.specs.Query.{Query}
 use Rattle.lq_predicate_formula.specs.Faults.{Reads}
 use Rattle.lq_predicate_formula.specs.Canonical.{canonical}
 
--- the canonical text of the query that a text reads as
+-- `written` is the canonical text of the query that `text` reads as
 pub record IsCanonicalOf (text written : List ℕ) : Type 0 where
   pub query : Query
   pub reads : Reads text query

@@ -1,10 +1,10 @@
--- The command by which clap reads the program's words.
+-- The command with which clap reads the program's arguments.
 use Rattle.std.specs.Prelude.{List, ℕ, [], codes, true, Some}
 use Rattle.clap.specs.Walk.{Rule}
 use Rattle.clap.specs.Simple.{App, new_rule, new_shape, with_rule, with_subcommand}
 use Rattle.clap.specs.declared.builder.action.ArgAction.TheVariants.{Set}
 
--- a command without help and version of its own
+-- a command without clap's help and version
 abbrev pub bare : List ℕ → App
 bare name = record {
   top = record (new_shape name) {
@@ -15,7 +15,7 @@ bare name = record {
   subs = [];
 }
 
--- the formula of `check`, which has to be there
+-- the formula of `check`, which is required
 abbrev pub formula_rule : Rule
 formula_rule = record (new_rule (codes "formula")) { action = Some Set; required = true }
 
@@ -23,7 +23,7 @@ formula_rule = record (new_rule (codes "formula")) { action = Some Set; required
 abbrev pub check_app : App
 check_app = with_rule (bare (codes "check")) formula_rule
 
--- the command itself, whose words begin behind its name and name a subcommand
+-- the command itself: its arguments begin after its name and have to name a subcommand
 abbrev pub lq_top : App
 lq_top = record (bare (codes "lq")) {
   top = record (bare (codes "lq")).top { no_binary_name = true; subcommand_required = true };

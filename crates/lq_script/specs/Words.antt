@@ -1,4 +1,4 @@
--- What the program's words ask for, and what it writes and tells.
+-- What the program's arguments ask for, and what it writes to its output and to standard error.
 use Rattle.std.specs.Prelude.{◌≡◌, ◌⊎◌, ℕ, List, [], ◌∷◌, ◌++◌, Option, Bool, true, false, codes, map, nat_eq, not, ◌&&◌, String}
 use Rattle.std.specs.Str.{bytes_eq}
 use Rattle.std.specs.List.{starts_with}
@@ -16,7 +16,7 @@ use Rattle.lq_script_desk.specs.Script.{script_session, world_rules}
 use Rattle.lq_script.specs.declared.command_line.Subcommand.{Subcommand}
 use Rattle.lq_script.specs.declared.command_line.Subcommand.TheVariants.{Run, Check}
 
--- the texts of words
+-- the texts of the arguments
 abbrev pub texts_of : {Z : Type 0} → List (String Z) → List (List ℕ)
 texts_of words = map string_bytes words
 
@@ -30,19 +30,19 @@ IsCheckOf words formula =
     ((words ≡ codes "check" ∷ formula ∷ []) × (starts_with nat_eq formula (codes "-") ≡ false))
     ⊎ (words ≡ codes "check" ∷ codes "--" ∷ formula ∷ [])
 
--- any other words
+-- any other arguments
 pub record IsUsage (words : List (List ℕ)) : Type 0 where
   pub not_run : ¬ IsRun words
   pub not_check : (formula : List ℕ) → ¬ IsCheckOf words formula
 
--- the second of two words begins with `-`, or the third of three is `--` and the second isn't
+-- the second of two arguments begins with `-`, or the third of three is `--` and the second isn't
 abbrev pub has_stray : List (List ℕ) → Bool
 has_stray (first ∷ second ∷ []) = starts_with nat_eq second (codes "-")
 has_stray (first ∷ second ∷ third ∷ []) =
     not (bytes_eq second (codes "--")) && bytes_eq third (codes "--")
 has_stray words = false
 
--- words ask for this
+-- the arguments ask for this
 abbrev pub IsAskedBy : List (List ℕ) → Subcommand → Type 0
 IsAskedBy words Run = IsRun words
 IsAskedBy words (Check formula) = IsCheckOf words formula.now
@@ -51,7 +51,7 @@ IsAskedBy words (Check formula) = IsCheckOf words formula.now
 abbrev pub line_with : List ℕ → List ℕ
 line_with text = text ++ 10 ∷ []
 
--- the lines on standard error: of a fault, of a formula that is refused, and of any other words
+-- the line on standard error for a fault
 abbrev pub fault_line : RunFault → List ℕ
 fault_line Read = line_with (codes "lq: read fault")
 fault_line Write = line_with (codes "lq: write fault")
@@ -59,40 +59,40 @@ fault_line Limit = line_with (codes "lq: input too long")
 fault_line Memory = line_with (codes "lq: no memory")
 fault_line Thread = line_with (codes "lq: no thread")
 
--- of a formula that is refused at this place
+-- the line for a formula that is refused at this place
 abbrev pub refusal_line : ℕ → List ℕ
 refusal_line place = codes "lq: BadQuery at " ++ line_with (decimal place)
 
--- of any other words
+-- the line for any other arguments
 abbrev pub usage_line : List ℕ
 usage_line = line_with (codes "lq: usage")
 
--- a front of a line was written
+-- a prefix of a line was written
 pub record WritesFront (line : List ℕ) (written written' : Option (List ℕ)) : Type 0 where
   pub text : List ℕ
   pub appended : Appends written written' text
   pub front : Begins line text
 
--- a line was written, or a front of it where the device failed or took nothing of some bytes
+-- a line was written, or a prefix of it where the device failed or accepted none of some bytes
 abbrev pub Tells : List ℕ → Option (List ℕ) → Option (List ℕ) → Bool → Bool → Type 0
 Tells line written written' failed stalled = Appends written written' line
     ⊎ (WritesFront line written written' × ((failed ≡ true) ⊎ (stalled ≡ true)))
 
--- a formula's canonical text and LF were written, or a front of them
+-- the formula reads, and its canonical text and LF were written
 pub record Prints (formula : List ℕ) (written written' : Option (List ℕ)) : Type 0 where
   pub query : Query
   pub reads : Reads formula query
   pub appended : Appends written written' (line_with (canonical query))
 
--- the formula reads, and a front of its canonical text and LF was written
+-- the formula reads, and a prefix of its canonical text and LF was written
 pub record PrintsFront (formula : List ℕ) (written written' : Option (List ℕ)) : Type 0 where
   pub query : Query
   pub reads : Reads formula query
   pub appended : WritesFront (line_with (canonical query)) written written'
 
--- What each fault says. Read: the reader failed, and just the lines that LF ended are answered.
--- Write: the writer failed, or took nothing of some bytes. Limit: a limit was met, and just the
--- lines before it that LF ended are answered. No thread is started.
+-- What each fault says. Read: the reader failed, and exactly the lines ended by LF are answered.
+-- Write: the writer failed, or accepted none of some bytes. Limit: a limit was reached, and exactly
+-- the lines before it that LF ended are answered. No thread is started.
 abbrev pub IsFaultOf : RunFault → Option (List ℕ) → Option (List ℕ) → Bool
     → Option (List ℕ) → Option (List ℕ) → Bool → Bool → Type 0
 IsFaultOf Read left left' fails written written' failed stalled =
@@ -108,7 +108,7 @@ IsFaultOf Thread left left' fails written written' failed stalled = ⊥
 abbrev pub IsThreads : List (List ℕ) → Type 0
 IsThreads words = words ≡ codes "threads" ∷ []
 
--- any words but `threads` and those that ask for something else
+-- any arguments but `threads` and those that ask for something else
 pub record IsOther (words : List (List ℕ)) : Type 0 where
   pub usage : IsUsage words
   pub not_threads : ¬ IsThreads words

@@ -12,7 +12,7 @@ use std::alloc::Global;
 
 /// The canonical text of a formula, as `lq check` prints it.
 ///
-/// Refused, the first that fits: `BadQuery` with the byte place of the formula's leftmost fault,
+/// Refused, the first that fits: `BadQuery` with the byte offset of the formula's leftmost fault,
 /// `NoMemory`.
 pub fn check(alloc: Global, text: &str) -> Result<String, Refusal>
     ensures value { IfOk result (λ written. IsCanonicalOf text.now (string_bytes written)) }

@@ -9,7 +9,7 @@ use clap::error::ErrorKind;
 use clap::{Arg, ArgAction, Command};
 use std::alloc::{AllocError, Global};
 
-/// What the words after the program's name ask for.
+/// What the program's arguments ask for.
 #[derive(Clone, Copy)]
 pub enum Subcommand<'a> {
     /// `run`.
@@ -18,17 +18,17 @@ pub enum Subcommand<'a> {
     Check(&'a str),
 }
 
-/// Why words ask for nothing: they are other words, or there is no memory to read them.
+/// Why arguments ask for nothing: no subcommand fits them, or there is no memory to read them.
 #[derive(Clone, Copy)]
 pub enum WordsFault {
     Usage,
     NoMemory,
 }
 
-/// What these words ask for.
+/// What these arguments ask for.
 ///
-/// `Usage` for any words but `run`, `check FORMULA` and `check -- FORMULA`, help and version too;
-/// a FORMULA that begins with `-` stands after `--`. `NoMemory` for want of memory.
+/// Refused: `Usage` for all but `run`, `check FORMULA` and `check -- FORMULA`, so also for help and
+/// version; a FORMULA that begins with `-` has to follow `--`. `NoMemory` where memory runs out.
 pub fn subcommand_of<'a>(alloc: Global, words: &'a [String]) -> Result<Subcommand<'a>, WordsFault>
     ensures ok { IfOk result (IsAskedBy (texts_of words.entry.now)) }
     ensures usage { IsErrOf result WordsFault.Usage → IsUsage (texts_of words.entry.now) }
@@ -56,7 +56,7 @@ pub fn subcommand_of<'a>(alloc: Global, words: &'a [String]) -> Result<Subcomman
     }
 }
 
-// clap takes `-` as a FORMULA, and a `--` that nothing stands after; this program takes neither.
+// clap accepts `-` as a FORMULA, and a `--` with nothing after it; this program accepts neither.
 fn has_stray_dashes(words: &[String]) -> bool
     ensures { result ≡ has_stray (texts_of words.now) }
 {
@@ -76,7 +76,7 @@ fn command_of<'a>(alloc: Global) -> Result<Command<'a>, AllocError>
     command.subcommand(check)
 }
 
-// The command with `run` alone, whose words begin after its name and name a subcommand.
+// The command with `run` alone. Its arguments begin after its name and have to name a subcommand.
 fn run_command<'a>(alloc: Global) -> Result<Command<'a>, AllocError>
     ensures { IfOk result (λ command.
         app_of command ≡ with_subcommand lq_top (bare (codes "run")).top) }
@@ -87,7 +87,7 @@ fn run_command<'a>(alloc: Global) -> Result<Command<'a>, AllocError>
         .subcommand(without_help(alloc, "run"))
 }
 
-// The subcommand `check`, whose formula has to be there.
+// The subcommand `check`, which requires a formula.
 fn check_command<'a>(alloc: Global) -> Result<Command<'a>, AllocError>
     ensures app { IfOk result (λ command. app_of command ≡ check_app) }
     ensures locals { IfOk result (λ command. (fields_of command).has_globals ≡ false) }
@@ -98,7 +98,7 @@ fn check_command<'a>(alloc: Global) -> Result<Command<'a>, AllocError>
     without_help(alloc, "check").arg(formula)
 }
 
-// A command without help and version of its own: those are other words.
+// A command without clap's help and version: both count as other arguments.
 fn without_help<'a>(alloc: Global, name: &'a str) -> Command<'a>
     ensures app { app_of result ≡ bare name.entry.now }
     ensures locals { (fields_of result).has_globals ≡ false }

@@ -1,10 +1,10 @@
-//! The script library: what the program `lq` does with its words, and scripts by one thread or
-//! more.
+//! The script library: what the program `lq` does with its arguments, and scripts carried out by
+//! one thread or by several.
 //!
-//! A contract sees the program's words as texts (`specs/Words`), and the output of a script as the
-//! texts of what a world answers its lines (`specs/Script` of lq_script_desk). `run_threads` may
-//! wait. The display texts of `RunFault` are derived by `thiserror`. Begin with `words`, then `run`
-//! and `run_threads`.
+//! Contracts see the program's arguments as texts (`specs/Words`), and a script's output as the
+//! texts of a world's answers to its lines (`specs/Script` of lq_script_desk). `run_threads` may
+//! wait. `thiserror` derives the display texts of `RunFault`. Begin with `words`, then `run` and
+//! `run_threads`.
 #![tactic(auto)]
 
 mod checking;

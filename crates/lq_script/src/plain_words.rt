@@ -1,4 +1,4 @@
-//! The program's words, and its status.
+//! The program's arguments without `threads`, and its exit status.
 ghost use Rattle.std.specs.Prelude.{◌≡◌, ◌⊎◌, ◌≤◌, ℕ, List, false, true, Some, Err, IfErr, IfOk, OnErr, OnOk};
 ghost use Rattle.std.specs.Io.KnownBytes.{Appends};
 ghost use Rattle.std.specs.String.{string_bytes};
@@ -17,12 +17,12 @@ use lq_script_lines::{Failed, RunFault, Sink, Source, write_all};
 use lq_value::Refusal;
 use std::alloc::{AllocError, Global};
 
-/// Does what the words after the program's name ask for, and answers its status.
+/// Does what the program's arguments ask for, and answers the exit status.
 ///
-/// `run` carries out the reader's script, `check FORMULA` writes the formula's canonical text and
-/// LF; a formula that begins with `-` stands after `--`. Status 0: done; 1: a `RunFault`, a fault
-/// of the writer in `check`, or want of memory in `check` or for the words, with one line on
-/// `faults`; 2: a formula that is refused, with `lq: BadQuery at P` there, or any other words, with
+/// `run` carries out the reader's script. `check FORMULA` writes the formula's canonical text and
+/// LF; a formula that begins with `-` has to follow `--`. Status 0: done. 1: a `RunFault`, a fault
+/// of the writer in `check`, or no memory in `check` or for the arguments, with one line on
+/// `faults`. 2: a refused formula, with `lq: BadQuery at P` there, or any other arguments, with
 /// `lq: usage`. A fault of `faults` is ignored.
 pub(crate) fn plain_program<R: Source, W: Sink, F: Sink>(
     alloc: Global,
@@ -36,7 +36,7 @@ pub(crate) fn plain_program<R: Source, W: Sink, F: Sink>(
     requires writer_moves { W.stalled writer.old ≡ false }
     ensures status { result ≤ 2 }
 
-    // 0: a whole script was carried out, or a formula was printed; nothing is told.
+    // 0: a whole script was carried out, or a formula was printed; `faults` stays the same.
     ensures run_done { IsRun (texts_of words.now) → result ≡ 0 →
         Answered world_rules script_session
         (R.left reader.old) (R.left reader.new) (W.written writer.old) (W.written writer.new) }
@@ -45,7 +45,7 @@ pub(crate) fn plain_program<R: Source, W: Sink, F: Sink>(
     ensures flushed { result ≡ 0 → W.flushed writer.new ≡ true }
     ensures quiet { result ≡ 0 → faults.new ≡ faults.old }
 
-    // 1: what was written is a prefix of that, and a fault is told.
+    // 1: what was written is a prefix of that, and a fault is written.
     ensures run_stopped { IsRun (texts_of words.now) → result ≡ 1 →
         Stopped world_rules script_session
         (R.left reader.old) (R.left reader.new) (W.written writer.old) (W.written writer.new) }
@@ -59,7 +59,7 @@ pub(crate) fn plain_program<R: Source, W: Sink, F: Sink>(
         (W.written writer.old) (W.written writer.new)
         (W.failed writer.new) (W.stalled writer.new)) }
 
-    // 2: the formula is refused with the place of its fault, or the words are other words.
+    // 2: the formula is refused with the place of its fault, or the arguments fit no subcommand.
     ensures refused { (formula : List ℕ) → IsCheckOf (texts_of words.now) formula → result ≡ 2 →
         (place : ℕ) × ((reading_of formula ≡ Err place)
         × Tells (refusal_line place) (F.written faults.old) (F.written faults.new)
@@ -69,7 +69,7 @@ pub(crate) fn plain_program<R: Source, W: Sink, F: Sink>(
         (F.failed faults.new) (F.stalled faults.new) }
     ensures writes_nothing { result ≡ 2 → writer.new ≡ writer.old }
 
-    // `run` is never refused, other words are never done, and only a script is read.
+    // `run` is never refused, other arguments never succeed, and only `run` reads.
     ensures run_status { IsRun (texts_of words.now) → result ≤ 1 }
     ensures usage_status { IsUsage (texts_of words.now) →
         (1 ≤ result) × (writer.new ≡ writer.old) }
@@ -89,7 +89,7 @@ pub(crate) fn plain_program<R: Source, W: Sink, F: Sink>(
     }
 }
 
-// Prints a formula's canonical text and LF, and answers the status.
+// Prints a formula's canonical text and LF, and answers the exit status.
 fn check_formula<W: Sink, F: Sink>(
     alloc: Global,
     formula: &str,
@@ -119,7 +119,7 @@ fn check_formula<W: Sink, F: Sink>(
             Err(Failed) => tell_fault(RunFault::Write, faults),
         },
         Err(Refusal::BadQuery { place }) => tell_refusal(alloc, place, faults),
-        // Any other is want of memory.
+        // Every other refusal is `NoMemory`.
         Err(_) => tell_fault(RunFault::Memory, faults),
     }
 }
@@ -136,7 +136,7 @@ fn line_for(alloc: Global, formula: &str) -> Result<String, Refusal>
     Ok(line)
 }
 
-// Writes a line, and flushes.
+// Writes a line and flushes.
 fn write_line<W: Sink>(line: &str, writer: &mut W) -> Result<(), Failed>
     ensures ok { OnOk result (Appends (W.written writer.old) (W.written writer.new) line.now) }
     ensures flushed { OnOk result (W.flushed writer.new ≡ true) }
@@ -148,7 +148,7 @@ fn write_line<W: Sink>(line: &str, writer: &mut W) -> Result<(), Failed>
     writer.flush()
 }
 
-// Tells that a formula has its leftmost fault at this place, and answers the status.
+// Writes that a formula has its leftmost fault at this place, and answers the exit status.
 fn tell_refusal<F: Sink>(alloc: Global, place: u64, faults: &mut F) -> u8
     ensures status { (result ≡ 1) ⊎ (result ≡ 2) }
     ensures told { result ≡ 2 →
@@ -167,7 +167,7 @@ fn tell_refusal<F: Sink>(alloc: Global, place: u64, faults: &mut F) -> u8
     }
 }
 
-// Tells a fault, and answers its status.
+// Writes a fault, and answers its exit status.
 fn tell_fault<F: Sink>(fault: RunFault, faults: &mut F) -> u8
     ensures status { result ≡ 1 }
     ensures told { Tells (fault_line fault) (F.written faults.old) (F.written faults.new)
@@ -177,7 +177,7 @@ fn tell_fault<F: Sink>(fault: RunFault, faults: &mut F) -> u8
     1
 }
 
-// Writes a line to standard error. A fault there is told to nobody.
+// Writes a line to standard error, and ignores a fault there.
 fn tell<F: Sink>(line: &str, faults: &mut F)
     ensures { Tells line.now (F.written faults.old) (F.written faults.new)
         (F.failed faults.new) (F.stalled faults.new) }
@@ -185,7 +185,7 @@ fn tell<F: Sink>(line: &str, faults: &mut F)
     let _ = write_all(faults, line.as_bytes());
 }
 
-// The line on standard error.
+// A fault's line on standard error.
 fn line_of(fault: RunFault) -> &'static str
     ensures { result.now ≡ fault_line fault }
 {

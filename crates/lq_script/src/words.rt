@@ -1,4 +1,4 @@
-//! The program's words, with `threads` among them.
+//! The program's arguments, with `threads` among them.
 ghost use Rattle.std.specs.Prelude.{◌≡◌, ◌↔◌, ◌⊎◌, ◌≤◌, ℕ, List, false, true, Err};
 ghost use Rattle.lq_predicate_formula.specs.Reading.{reading_of};
 ghost use Rattle.lq_script_lines.specs.Output.{Answered, Stopped};
@@ -14,11 +14,13 @@ use std::alloc::Global;
 use std::sync::Wait;
 use std::thread::Threads;
 
-/// Does what the words after the program's name ask for, and answers its status.
+/// Does what the program's arguments, `words`, ask for, and answers the exit status.
 ///
-/// `threads` alone carries out the reader's script by `run_threads` with an open gate. Status 0:
-/// done; 1: a `RunFault`, with its line on `faults`, whose own faults are ignored. All other words
-/// are those of lq_script_desk's `program`.
+/// `threads` alone carries out the reader's script by `run_threads` with an open gate, `run` by one
+/// thread. `check FORMULA` writes the formula's canonical text and LF; a formula that begins with
+/// `-` has to follow `--`. Status 0: done. 1: a `RunFault`, a fault of the writer in `check`, or no
+/// memory, with one line on `faults`. 2: a refused formula, with `lq: BadQuery at P` there, or any
+/// other arguments, with `lq: usage`. A fault of `faults` is ignored.
 pub fn program<T: Threads + Wait + Sync, R: Source, W: Sink, F: Sink>(
     rt: &T,
     alloc: Global,
@@ -32,7 +34,7 @@ pub fn program<T: Threads + Wait + Sync, R: Source, W: Sink, F: Sink>(
     requires writer_moves { W.stalled writer.old ≡ false }
     ensures status { result ≤ 2 }
 
-    // 0: a whole script was carried out, or a formula was printed; nothing is told.
+    // 0: a whole script was carried out, or a formula was printed; `faults` stays the same.
     ensures run_done { IsRun (texts_of words.now) → result ≡ 0 →
         Answered world_rules script_session
         (R.left reader.old) (R.left reader.new) (W.written writer.old) (W.written writer.new) }
@@ -41,7 +43,7 @@ pub fn program<T: Threads + Wait + Sync, R: Source, W: Sink, F: Sink>(
     ensures flushed { ¬ IsThreads (texts_of words.now) → result ≡ 0 → W.flushed writer.new ≡ true }
     ensures quiet { result ≡ 0 → faults.new ≡ faults.old }
 
-    // 1: what was written is a prefix of that, and a fault is told.
+    // 1: what was written is a prefix of that, and a fault is written.
     ensures run_stopped { IsRun (texts_of words.now) → result ≡ 1 →
         Stopped world_rules script_session
         (R.left reader.old) (R.left reader.new) (W.written writer.old) (W.written writer.new) }
@@ -55,7 +57,7 @@ pub fn program<T: Threads + Wait + Sync, R: Source, W: Sink, F: Sink>(
         (W.written writer.old) (W.written writer.new)
         (W.failed writer.new) (W.stalled writer.new)) }
 
-    // 2: the formula is refused with the place of its fault, or the words are other words.
+    // 2: the formula is refused with the place of its fault, or the arguments fit no subcommand.
     ensures refused { (formula : List ℕ) → IsCheckOf (texts_of words.now) formula → result ≡ 2 →
         (place : ℕ) × ((reading_of formula ≡ Err place)
         × Tells (refusal_line place) (F.written faults.old) (F.written faults.new)
@@ -65,7 +67,7 @@ pub fn program<T: Threads + Wait + Sync, R: Source, W: Sink, F: Sink>(
         (F.failed faults.new) (F.stalled faults.new) }
     ensures writes_nothing { result ≡ 2 → writer.new ≡ writer.old }
 
-    // `run` and `threads` are never refused, other words never done; only a script is read.
+    // `run` and `threads` are never refused, other arguments never succeed; only a script is read.
     ensures run_status { IsRun (texts_of words.now) → result ≤ 1 }
     ensures threads_status { IsThreads (texts_of words.now) → result ≤ 1 }
     ensures usage_status { IsOther (texts_of words.now) →
@@ -79,14 +81,14 @@ pub fn program<T: Threads + Wait + Sync, R: Source, W: Sink, F: Sink>(
     match run_threads(rt, alloc, reader, writer, &OpenGate) {
         Ok(()) => 0,
         Err(fault) => {
-            // A fault there is told to nobody.
+            // A fault there is ignored.
             let _ = write_all(faults, line_of(fault).as_bytes());
             1
         }
     }
 }
 
-// Whether the words are `threads` alone.
+// Whether the arguments are `threads` alone.
 fn asks_threads(words: &[String]) -> bool
     ensures { (result ≡ true) ↔ IsThreads (texts_of words.now) }
 {
@@ -96,7 +98,7 @@ fn asks_threads(words: &[String]) -> bool
     }
 }
 
-// The line on standard error.
+// A fault's line on standard error.
 fn line_of(fault: RunFault) -> &'static str {
     match fault {
         RunFault::Read => "lq: read fault\n",

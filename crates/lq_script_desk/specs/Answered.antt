@@ -1,4 +1,4 @@
--- What a question is answered over a volume and the folds of the slots, and the session after it.
+-- The answer to a question over a volume and the folds of the slots, and the session after it.
 use Rattle.std.specs.Prelude.{ℕ, List, Option, Some, None, Result, Ok, Err}
 use Rattle.lq_value.specs.declared.refusal.Refusal.{Refusal}
 use Rattle.lq_value.specs.declared.refusal.Refusal.TheVariants.{NoNode, NoEntry, NotOpen}
@@ -16,23 +16,23 @@ use Rattle.lq_script_reply.specs.Response.{Response, Answers, Refuses, Found, Li
 use Rattle.lq_script_desk.specs.Folds.{Folds, fold_at, folds_after}
 use Rattle.lq_script_desk.specs.Session.{Session, session_with}
 
--- the node that has a place, and the entry of a node, where the look-up isn't refused
+-- the answer to a look-up of a place: its refusal, or the node there
 abbrev pub found : Option Refusal → Option ℕ → Response
 found (Some e) _ = Refuses e
 found None None = Refuses NoEntry
 found None (Some node) = Found node
 
--- what a look-up is answered: its refusal, or the entry
+-- the answer to a look-up of a node: its refusal, or the entry
 abbrev pub shown : Option Refusal → ℕ → Option Record → Response
 shown (Some e) node entry = Refuses e
 shown None node None = Refuses NoNode
 shown None node (Some entry) = Listed node entry
 
--- what a look-up shows of a volume
+-- the answer to a look-up of a place in a volume
 abbrev pub found_in : State → ℕ → List ℕ → Response
 found_in s dir name = found (first_refusal (find_refusals s dir name)) (node_in s.records dir name)
 
--- what a look-up of a node is answered over a volume
+-- the answer to a look-up of a node in a volume
 abbrev pub shown_in : State → ℕ → Response
 shown_in s node = shown (first_refusal (entry_refusals s node)) node (record_at s node)
 
@@ -47,16 +47,16 @@ slot_of (Notice slot) = slot
 slot_of (Close slot) = slot
 slot_of (Finish slot) = slot
 
--- what a slot's fold shows
+-- the answer from a slot's fold
 abbrev pub rebuilt : Option Folding → Response
 rebuilt None = Refuses NotOpen
 rebuilt (Some f) = Rebuilt f.change f.entries f.settled
 
--- an event's answer, and what it leaves: the answer is noted in the folds
+-- an event's answer and the session after it: the answer updates the folds
 abbrev pub noted : {Core : Type 0} → ℕ → Folds → Answer × Core → Response × Session Core
 noted slot folds p = (Answers slot p.0, session_with p.1 (folds_after slot p.0 folds))
 
--- what a question is answered, and the session after it: only an event changes it
+-- the answer to a question, and the session after it: only an event changes it
 abbrev pub responds : {Core : Type 0} → (Core → Event → Answer × Core) → (Core → State)
     → Session Core → Question → Response × Session Core
 responds step volume s (question.Event e) = noted (slot_of e) s.folds (step s.core e)
@@ -66,7 +66,7 @@ responds step volume s (question.Fetch q) =
     (Fetched (volume s.core).number (result_of q (volume s.core)), s)
 responds step volume s (question.Rebuilt slot) = (rebuilt (fold_at s.folds slot), s)
 
--- a line that asks nothing is refused, and nothing changes
+-- a line without a question is refused, and nothing changes
 abbrev pub answered : {Core : Type 0} → (Core → Event → Answer × Core) → (Core → State)
     → Session Core → Result Question Refusal → Response × Session Core
 answered step volume s (Err e) = (Refuses e, s)

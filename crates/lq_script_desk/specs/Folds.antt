@@ -1,4 +1,4 @@
--- The result of each slot, as what was read of it tells: one fold for each.
+-- The result of each slot by what was read from it: one fold for each.
 use Rattle.std.specs.Prelude.{ℕ, ◌-◌, List, replicate, Option, Some, None, ◌==◌, slice_get, slice_set, if◌then◌else◌}
 use Rattle.std.specs.Option.{option_map, option_flatten}
 use Rattle.lq_value.specs.declared.refusal.Refusal.{Refusal}
@@ -8,7 +8,7 @@ use Rattle.lq_update.specs.declared.parcel.Parcel.TheVariants.{Update}
 use Rattle.lq_update.specs.Fold.{Folding, EntriesRise, fold_refusals, folding_after, opened_at}
 use Rattle.lq_desk_world.specs.Events.{Answer, Opened, Took, Finished}
 
--- the fold of slot k at place k - 1, where that slot is open
+-- the fold of slot k is at index k - 1, if that slot is open
 abbrev pub Folds : Type 0
 Folds = List (Option Folding)
 
@@ -20,21 +20,21 @@ no_folds = replicate 64 None
 abbrev pub fold_at : Folds → ℕ → Option Folding
 fold_at folds slot = if slot == 0 then None else option_flatten (slice_get folds (slot - 1))
 
--- with this fold, or none, at a slot
+-- the folds with this fold, or none, at a slot
 abbrev pub with_fold : Folds → ℕ → Option Folding → Folds
 with_fold folds slot fold = if slot == 0 then folds else slice_set folds (slot - 1) fold
 
--- after a message, where the fold takes it
+-- the fold after a message, if it takes the message
 abbrev pub fed_if : Folding → Message → Option Refusal → Folding
 fed_if f m None = folding_after f m
 fed_if f m (Some e) = f
 
--- a fold after a message, which it takes unless it refuses it
+-- a fold after a message; a refused message changes nothing
 abbrev pub fed : Message → Folding → Folding
 fed m f = fed_if f m (first_refusal (fold_refusals f m))
 
--- What the event of a slot was answered begins a fold, if it opened one; goes into the slot's, if
--- it is an update that was read; and drops it, if the slot is free.
+-- The answer to a slot's event starts a fold if it opened a subscription, goes into the slot's fold
+-- if it is an update that was read, and drops the fold if the slot is freed.
 abbrev pub folds_after : ℕ → Answer → Folds → Folds
 folds_after slot (Opened opened at result) folds =
     with_fold folds opened (Some (opened_at at result))
@@ -43,7 +43,7 @@ folds_after slot (Took (Update m)) folds =
 folds_after slot Finished folds = with_fold folds slot None
 folds_after slot a folds = folds
 
--- an opening's result rises by node, so that a fold can begin with it
+-- an opening's result rises by node, so a fold can start from it
 abbrev pub Rises : Answer → Type 0
 Rises (Opened slot at result) = EntriesRise result
 Rises a = Unit {0}

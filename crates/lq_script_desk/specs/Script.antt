@@ -1,4 +1,4 @@
--- What is written for a whole script: what each line asks, its answer in the world, and the
+-- What is written for a whole script: the question of each line, its answer in the world, and the
 -- answer's text.
 use Rattle.std.specs.Prelude.{ℕ, List, []}
 use Rattle.lq_value.specs.declared.refusal.Refusal.TheVariants.{LongLine}
@@ -19,7 +19,7 @@ use Rattle.lq_script_reply.specs.Response.{Refuses}
 use Rattle.lq_script_desk.specs.Answered.{answered}
 use Rattle.lq_script_reply.specs.Reply.{reply_text}
 
--- how lines are answered where turns are, over a volume
+-- how lines are answered by what carries out turns over a volume
 abbrev pub rules_by : {Core : Type 0} → (Core → Event → Answer × Core) → (Core → State)
     → Rules (Session Core)
 rules_by step volume = record {
@@ -28,7 +28,7 @@ rules_by step volume = record {
   long = reply_text (Refuses LongLine);
 }
 
--- over worlds, and over what a desk keeps
+-- the volume of a world
 abbrev pub volume_of : World → State
 volume_of w = state_of w.book
 
@@ -44,11 +44,11 @@ kept_volume k = k.volume
 abbrev pub kept_rules : Rules (Session Kept)
 kept_rules = rules_by kept_turn_outcome kept_volume
 
--- a script begins with the root alone, which takes 1,000,000,000,000 changes
+-- a script begins with the root alone, and its volume accepts 1,000,000,000,000 changes
 abbrev pub script_world : World
 script_world = first_world (record { start = empty_state 1000000000000; changes = [] })
 
--- the session that a script begins with: no slot has a fold
+-- the initial session of a script: no slot has a fold
 abbrev pub script_session : Session World
 script_session = session_with script_world no_folds
 

@@ -1,8 +1,8 @@
-//! Scripts by a desk: what each line of a script asks of it, and a whole run.
+//! Scripts carried out by a desk: a single line, and a whole run.
 //!
-//! A contract sees a session as what its desk keeps and the result that was read of each slot
-//! (`specs/Folds`), and the output of a script as the texts of what a world answers its lines
-//! (`specs/Script`). Nothing here waits. Begin with `session`, then `script`.
+//! Contracts see a session as its desk's state and the result read from each slot (`specs/Folds`),
+//! and a script's output as the texts of a world's answers to its lines (`specs/Script`). Nothing
+//! here waits. Begin with `session`, then `script`.
 #![tactic(auto)]
 
 mod rebuilds;

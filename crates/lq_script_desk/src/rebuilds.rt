@@ -1,4 +1,4 @@
-//! The result of each slot, rebuilt from what was read of it.
+//! The result of each slot, rebuilt from what was read from it.
 ghost use Rattle.std.specs.Prelude.{◌≡◌, IfOk, IfErr, OnOk};
 ghost use Rattle.std.specs.Option.{option_map};
 ghost use Rattle.lq_value.specs.declared.refusal.Refusal.TheVariants.{NoMemory};
@@ -11,7 +11,7 @@ use lq_update::{IndexedRebuild, Message};
 use lq_value::Refusal;
 use std::alloc::Global;
 
-/// None for each slot. Refused: `NoMemory`.
+/// A list with no rebuilt result for any slot. Refused: `NoMemory`.
 pub fn no_rebuilds(alloc: Global) -> Result<Vec<Option<IndexedRebuild>>, Refusal>
     ensures refused { IsRefusedBy result None }
     ensures none { IfOk result (λ rebuilds. rebuilds.items ≡ no_folds) }
@@ -23,8 +23,8 @@ pub fn no_rebuilds(alloc: Global) -> Result<Vec<Option<IndexedRebuild>>, Refusal
     Ok(rebuilds)
 }
 
-/// Goes on by what the event of a slot was answered: begins with what was opened, takes an update
-/// that was read, and drops what was finished.
+/// Updates the results by the reply to an event of a slot: starts one for an opening, folds an
+/// update that was read into it, and drops it when the slot is freed.
 ///
 /// Refused: `NoMemory`.
 pub fn note(
@@ -63,7 +63,7 @@ pub fn note(
     }
 }
 
-// Puts this in the place of a slot, or drops it where there is none.
+// Puts a slot's result at its index, or removes it.
 fn put(rebuilds: &mut Vec<Option<IndexedRebuild>>, slot: u64, rebuild: Option<IndexedRebuild>)
     ensures { rebuilds.new.items ≡ with_fold rebuilds.old.items slot rebuild }
 {
@@ -73,7 +73,7 @@ fn put(rebuilds: &mut Vec<Option<IndexedRebuild>>, slot: u64, rebuild: Option<In
     rebuilds[(slot - 1) as usize] = rebuild;
 }
 
-// What was rebuilt of a slot takes a message.
+// Folds a message into the rebuilt result of a slot.
 fn feed_at(
     rebuilds: &mut Vec<Option<IndexedRebuild>>,
     slot: u64,
@@ -89,7 +89,7 @@ fn feed_at(
     feed(&mut rebuilds[(slot - 1) as usize], message)
 }
 
-// A message that isn't the next one, or doesn't fit, is passed over.
+// Ignores a message that isn't the next one or doesn't fit.
 fn feed(rebuild: &mut Option<IndexedRebuild>, message: &Message) -> Result<(), Refusal>
     ensures ok { OnOk result (rebuild.new ≡ option_map (fed message.now) rebuild.old) }
     ensures memory { IfErr result (λ e. e ≡ NoMemory) }
@@ -103,7 +103,7 @@ fn feed(rebuild: &mut Option<IndexedRebuild>, message: &Message) -> Result<(), R
     }
 }
 
-/// What was rebuilt of a slot; `None` where it is free.
+/// The rebuilt result of a slot; `None` if the slot has none.
 pub fn rebuild_at(rebuilds: &[Option<IndexedRebuild>], slot: u64) -> Option<&IndexedRebuild>
     ensures { option_map (λ r. r.now) result ≡ fold_at rebuilds.now slot }
 {

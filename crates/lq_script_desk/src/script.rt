@@ -1,4 +1,4 @@
-//! A whole script, over the root alone.
+//! A whole script over a volume with the root alone.
 ghost use Rattle.std.specs.Prelude.{◌≡◌, ◌⊎◌, OnOk, OnErr, IsErrOf, true, false};
 ghost use Rattle.lq_script_lines.specs.Output.{Answered, Ended, Passed, Stopped};
 ghost use Rattle.lq_script_desk.specs.Script.{script_session, world_rules};
@@ -12,12 +12,11 @@ use std::alloc::Global;
 
 /// Carries out a script: reads lines to the end of the input, and writes a reply to each.
 ///
-/// Before each read of the device, and before the answer, every reply so far has been given to
-/// the writer, which is flushed once at the end, also after `Read`, `Limit` and `Memory`.
-/// Refused: `Read` and `Write` where that device failed, `Write` too where the writer took none
-/// of the bytes given, `Limit` where a byte follows 10,000,000 lines or 1,073,741,824 bytes,
-/// `Memory`, also where it can't begin; the first fault is the answer. The formats and limits are
-/// our own.
+/// Before each read of the device, and before the call answers, the writer has every reply so far.
+/// The writer is flushed once at the end, also after `Read`, `Limit` and `Memory`. Refused with the
+/// first fault: `Read` and `Write` where that device failed, `Write` also where the writer took
+/// none of the bytes given, `Limit` where a byte follows 10,000,000 lines or 1,073,741,824 bytes,
+/// `Memory`, also where the run can't begin. The formats and limits are our own.
 pub fn run<R: Source, W: Sink>(
     alloc: Global,
     reader: &mut R,
@@ -32,13 +31,13 @@ pub fn run<R: Source, W: Sink>(
     ensures works { OnOk result ((R.failed reader.new ≡ false)
         × (W.failed writer.new ≡ false) × (W.stalled writer.new ≡ false)) }
 
-    // After a fault what was written is a prefix of the output of what was read.
+    // After a fault, the bytes written are a prefix of the output for the bytes read.
     ensures err { OnErr result (Stopped world_rules script_session
         (R.left reader.old) (R.left reader.new) (W.written writer.old) (W.written writer.new)) }
     ensures flush { OnErr result ((result ≡ Err RunFault.Write)
         ⊎ ((W.flushed writer.new ≡ true) ⊎ (W.failed writer.new ≡ true))) }
 
-    // After a read fault and at a limit it is the output for the lines that LF ended.
+    // After a read fault and at a limit, they are the output for the lines that LF ended.
     ensures read { IsErrOf result RunFault.Read → Ended world_rules script_session
         (R.left reader.old) (R.left reader.new) (W.written writer.old) (W.written writer.new) }
     ensures limit { IsErrOf result RunFault.Limit → Passed world_rules script_session

@@ -1,4 +1,4 @@
-//! A script's session: a desk, and what was rebuilt of each slot, that answer lines.
+//! A script's session, which answers lines: a desk, and the rebuilt result of each slot.
 ghost use Rattle.std.specs.Prelude.{◌≡◌, ◌++◌, None, IfErr, OnOk, OnErr};
 ghost use Rattle.lq_value.specs.Refusal.{IsRefusedBy};
 ghost use Rattle.lq_value.specs.declared.refusal.Refusal.TheVariants.{NoMemory};
@@ -23,16 +23,16 @@ use lq_value::{Name, Refusal};
 use lq_volume::Volume;
 use std::alloc::Global;
 
-/// A desk, and what was rebuilt of each slot, that answer the lines of a script.
+/// A desk, and the rebuilt result of each slot; together they answer the lines of a script.
 pub struct Session {
     alloc: Global,
     desk: Desk,
     rebuilds: Vec<Option<IndexedRebuild>>,
-    // What the reading of a line takes, kept from line to line.
+    // The scratch for reading lines, reused from line to line.
     scratch: Scratch,
 }
 
-// One call takes it apart, wherever one is dropped.
+// Dropping one is a single call, instead of code at each place.
 impl Drop for Session {
     fn drop(self) {
         let Session {
@@ -45,7 +45,7 @@ impl Drop for Session {
 }
 
 impl Session {
-    /// A session over a desk, and what was rebuilt of each of its slots. It takes no memory.
+    /// A session over a desk and the rebuilt results of its slots. It takes no memory.
     pub fn new(alloc: Global, desk: Desk, rebuilds: Vec<Option<IndexedRebuild>>) -> Session
         ensures desk { result.desk ≡ desk }
         ensures rebuilds { result.rebuilds.items ≡ rebuilds.items }
@@ -78,7 +78,7 @@ impl Session {
         }
     }
 
-    // Carries out an event, notes what it was answered for its slot, and appends that to `out`.
+    // Carries out an event, updates its slot's result by the reply, and appends the reply to `out`.
     fn carry_out(&mut self, event: &Event, out: &mut Vec<u8>) -> Result<(), Refusal>
         ensures ok { OnOk result (out.new.items ≡ out.old.items
             ++ reply_text (noted (slot_of event.now) self.old.rebuilds.items
@@ -116,8 +116,8 @@ fn slot_of(event: &Event) -> u64
     }
 }
 
-// Appends why a line isn't carried out to `out`. It stands apart, as all that answers no event
-// does: a call clears places for its values, and most lines are events.
+// Appends a refusal of a line to `out`. This and the other answers to no event are separate
+// functions: a call clears places for its values, and most lines are events.
 #[inline(never)]
 fn put_refusal(out: &mut Vec<u8>, refusal: Refusal) -> Result<(), Refusal>
     ensures refused { IsRefusedBy result None }
@@ -128,7 +128,7 @@ fn put_refusal(out: &mut Vec<u8>, refusal: Refusal) -> Result<(), Refusal>
     put_reply(out, &Response::Refused(refusal))
 }
 
-// Appends what has a place to `out`.
+// Appends the node at a place to `out`.
 #[inline(never)]
 fn put_found(out: &mut Vec<u8>, volume: &Volume, dir: u64, name: &Name) -> Result<(), Refusal>
     ensures refused { IsRefusedBy result None }
@@ -170,7 +170,7 @@ fn put_fetched(out: &mut Vec<u8>, volume: &Volume, predicate: &Predicate) -> Res
     put_reply(out, &Response::Fetched { at, result })
 }
 
-// Appends what was rebuilt of a slot to `out`.
+// Appends the rebuilt result of a slot to `out`.
 #[inline(never)]
 fn put_rebuilt(
     out: &mut Vec<u8>,

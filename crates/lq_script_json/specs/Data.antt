@@ -1,4 +1,4 @@
--- The data that a JSON value over borrowed text stands for, as serde_json reads it.
+-- The data of a JSON value over borrowed text, as serde_json reads it.
 use Rattle.std.specs.Prelude.{Bool, true, ◌&&◌, is_some, option_map, unwrap_or}
 use Rattle.json.specs.Json as json
 use Rattle.json.specs.Value.{value_view}
@@ -6,7 +6,7 @@ use Rattle.json.specs.declared.value.Value.{Value}
 use Rattle.serde_json.specs.Data.{Data, null, boolean, number, string, array, object, Items, no_items, item, Members, no_members, put}
 use Rattle.serde_json.specs.Read.{number_of}
 
--- each number is one that serde_json takes
+-- each number is one that serde_json accepts
 abbrev mutual
   -- of a value
   pub in_range : json.Json → Bool
@@ -27,7 +27,7 @@ abbrev mutual
   members_in_range json.no_members = true
   members_in_range (json.member k j ms) = in_range j && members_in_range ms
 
--- the data, with null for a number beyond the range; of equal keys the last one stays
+-- the data, with null for a number beyond the range; the last one of equal keys counts
 abbrev mutual
   -- of a value
   pub data_of : json.Json → Data

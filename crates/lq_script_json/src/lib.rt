@@ -1,8 +1,8 @@
-//! JSON in, read with a scratch that is kept from text to text.
+//! JSON input, read with a scratch that is reused from text to text.
 //!
-//! A contract sees a value as the data that serde_json reads of the same text (`specs/Data`): of
-//! equal keys the last one stays, and a text with a number beyond the doubles is none. A scratch
-//! has no meaning. Nothing waits. Begin with `reading`, then `fields`.
+//! Contracts see a value as the data that serde_json reads from the same text (`specs/Data`): the
+//! last one of equal keys counts, and a text with a number beyond the doubles is no value.
+//! Contracts don't see the scratch. Nothing waits. Begin with `reading`, then `fields`.
 #![tactic(auto)]
 
 mod fields;

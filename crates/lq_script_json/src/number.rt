@@ -1,4 +1,4 @@
-//! The number that a text of JSON writes.
+//! The number in a JSON text.
 ghost use Rattle.std.specs.Prelude.{◌≡◌, ◌==◌, ◌+◌, ◌*◌, ◌<◌, ◌≤◌, ◌^◌, IfSome, IsTrue, None, Some, false, length, option_map, slice_index, true, if◌then◌else◌};
 ghost use Rattle.std.specs.Char.{digit_value, is_ascii_digit};
 ghost use Rattle.std.specs.List.{list_all};
@@ -9,7 +9,7 @@ ghost use Rattle.serde_json.specs.View.{number_view};
 use fast_float::Numeral;
 use serde_json::Number;
 
-/// The most digits that are read one by one: what they write has less than 64 bits.
+/// The most digits that are read one by one: their number has less than 64 bits.
 const MAX_DIGITS: usize = 18;
 
 /// A whole number of 64 bits, else the nearest double; `None` where that is infinite.
@@ -27,7 +27,7 @@ pub(crate) fn number_in(text: &str) -> Option<Number>
     }
 }
 
-// The number that the bytes write, where they are 1 to 18 digits alone, as in most numbers.
+// The number of these bytes if they are 1 to 18 digits and nothing else, as in most numbers.
 fn digits_in(bytes: &[u8]) -> Option<u64>
     ensures some { IfSome result (λ n. 0 < length bytes.now) }
     ensures few { IfSome result (λ n. length bytes.now ≤ 18) }
@@ -44,7 +44,7 @@ fn digits_in(bytes: &[u8]) -> Option<u64>
     Some(value)
 }
 
-// The number with one more digit after it; `None` where the code is no digit's.
+// The number with one more digit appended; `None` where the code isn't a digit's.
 #[inline(always)]
 fn with_digit(value: u64, code: u32) -> Option<u64>
     requires { value < 10 ^ 18 }
@@ -73,7 +73,7 @@ fn unsigned(numeral: &Numeral<'_>) -> Option<Number>
     }
 }
 
-// `-0` is no whole number.
+// A number with a sign; `-0` is no whole number.
 fn negative(numeral: &Numeral<'_>) -> Option<Number>
     ensures { option_map number_view result ≡ number_from true numeral.now }
 {

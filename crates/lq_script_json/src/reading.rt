@@ -13,12 +13,11 @@ use std::alloc::Global;
 /// How deep arrays and objects may nest.
 const MAX_DEPTH: usize = 127;
 
-/// The JSON value that a text writes, as serde_json reads it.
+/// The JSON value of a text, as serde_json reads it.
 ///
-/// It borrows the text, and the scratch where a string has escapes. A scratch that is kept serves
-/// each text after the longest so far with no allocation of its own. Refused: `NoMemory`, else
-/// `NotJson`, also where arrays and objects nest deeper than 127, or where a number rounds to an
-/// infinite double.
+/// It borrows the text, and also the scratch where a string has escapes. A reused scratch allocates
+/// nothing more once it has read the longest text. Refused: `NoMemory`, else `NotJson`, also where
+/// arrays and objects nest deeper than 127, or where a number rounds to an infinite double.
 pub fn read<'a>(
     alloc: Global,
     scratch: &'a mut Scratch,
@@ -35,7 +34,7 @@ pub fn read<'a>(
     Ok(value)
 }
 
-// The value, with numbers of any size.
+// The value; its numbers may have any size.
 fn value_in<'a>(
     alloc: Global,
     scratch: &'a mut Scratch,

@@ -1,27 +1,27 @@
--- The bytes of a script cut into lines, and the replies to them.
+-- The lines of a script's bytes, and the replies to them.
 use Rattle.std.specs.Prelude.{◌≡◌, ℕ, List, [], ◌∷◌, ◌++◌, false, if◌then◌else◌, ◌==◌, length, nat_lt}
 use Rattle.std.specs.Io.BufRead.{strip_last}
 
--- front stands at the front of whole
+-- `front` is a prefix of `whole`
 abbrev pub Begins : List ℕ → List ℕ → Type 0
 Begins whole front = (rest : List ℕ) × (whole ≡ front ++ rest)
 
--- a byte before the first line, which is the whole text where there is none
+-- the lines with a byte added before the first one; without lines, the byte is the only line
 abbrev pub with_front : ℕ → List (List ℕ) → List (List ℕ)
 with_front b [] = (b ∷ []) ∷ []
 with_front b (line ∷ lines) = (b ∷ line) ∷ lines
 
--- Cut at LF. A last line without LF is a line, and after a final LF there is none.
+-- The text cut at LF. A last line without LF counts as a line; after a final LF there is none.
 abbrev pub lines_of : List ℕ → List (List ℕ)
 lines_of [] = []
 lines_of (b ∷ bs) = if b == 10 then [] ∷ lines_of bs else with_front b (lines_of bs)
 
--- a byte before the first line that LF ended, if there is one
+-- the ended lines with a byte added before the first one, if there is one
 abbrev pub before_ended : ℕ → List (List ℕ) → List (List ℕ)
 before_ended b [] = []
 before_ended b (line ∷ lines) = (b ∷ line) ∷ lines
 
--- no LF
+-- the bytes have no LF
 abbrev pub IsUnbroken : List ℕ → Type 0
 IsUnbroken [] = Unit {0}
 IsUnbroken (b ∷ bs) = ((b == 10) ≡ false) × IsUnbroken bs
@@ -31,27 +31,27 @@ abbrev pub ended_lines : List ℕ → List (List ℕ)
 ended_lines [] = []
 ended_lines (b ∷ bs) = if b == 10 then [] ∷ ended_lines bs else before_ended b (ended_lines bs)
 
--- without one CR at the end
+-- the bytes without a single CR at the end
 abbrev pub without_cr : List ℕ → List ℕ
 without_cr bytes = strip_last 13 bytes
 
--- a line as it is answered
+-- a line as the responder gets it
 pub data Line : Type 0 where
   long : Line
   empty : Line
   whole : List ℕ → Line
 
--- a line that is not too long, without its CR
+-- a line that isn't too long and has lost its CR
 abbrev pub given_line : List ℕ → Line
 given_line [] = empty
 given_line (b ∷ bs) = whole (b ∷ bs)
 
--- A line of more than 65,536 bytes is too long, also where the last one is a CR.
+-- A line of more than 65,536 bytes is too long, even if the last byte is a CR.
 abbrev pub line_of : List ℕ → Line
 line_of bytes = if nat_lt 65536 (length bytes) then long else given_line (without_cr bytes)
 
--- how lines are answered: the reply at each state, the state after it, and the reply to a line
--- that is too long
+-- how lines are answered: the reply in each state, the state after it, and the reply to a line that
+-- is too long
 pub record Rules (State : Type 0) : Type 0 where
   pub reply : State → List ℕ → List ℕ
   pub after : State → List ℕ → State
@@ -69,7 +69,7 @@ state_after rules state long = state
 state_after rules state empty = state
 state_after rules state (whole bytes) = rules.after state bytes
 
--- what is written for lines, one reply after another
+-- what is written for several lines, one reply after another
 abbrev pub replies_to : {State : Type 0} → Rules State → State → List (List ℕ) → List ℕ
 replies_to rules state [] = []
 replies_to rules state (bytes ∷ lines) =

@@ -11,7 +11,7 @@ output_of rules state bytes = replies_to rules state (lines_of bytes)
 abbrev pub IsWithin : List ℕ → Type 0
 IsWithin bytes = (length (lines_of bytes) ≤ 10000000) × (length bytes ≤ 1073741824)
 
--- a run that ended well: all was read, it was within the limits, and its output was written
+-- a run that succeeded: all was read, it was within the limits, and its output was written
 pub record Answered {State : Type 0} (rules : Rules State) (state : State)
     (left left' written written' : Option (List ℕ)) : Type 0 where
   pub given : List ℕ
@@ -20,7 +20,7 @@ pub record Answered {State : Type 0} (rules : Rules State) (state : State)
   pub within : IsWithin given
   pub appended : Appends written written' (output_of rules state given)
 
--- a run that stopped: what was written is a front of the output of what was read
+-- a run that stopped: what was written is a prefix of the output for what was read
 pub record Stopped {State : Type 0} (rules : Rules State) (state : State)
     (left left' written written' : Option (List ℕ)) : Type 0 where
   pub given : List ℕ
@@ -29,7 +29,7 @@ pub record Stopped {State : Type 0} (rules : Rules State) (state : State)
   pub appended : Appends written written' text
   pub front : Begins (output_of rules state given) text
 
--- a run that stopped between two reads: just the lines that LF ended were answered
+-- a run that stopped between two reads: exactly the lines that LF ended were answered
 pub record Ended {State : Type 0} (rules : Rules State) (state : State)
     (left left' written written' : Option (List ℕ)) : Type 0 where
   pub given : List ℕ
@@ -37,8 +37,8 @@ pub record Ended {State : Type 0} (rules : Rules State) (state : State)
   pub within : IsWithin given
   pub appended : Appends written written' (replies_to rules state (ended_lines given))
 
--- A run that stopped at a limit: one byte more than what is within the limits was read, and of
--- what is within them just the lines that LF ended were answered.
+-- A run that stopped at a limit: it read at least one byte beyond the limits. Of the input within
+-- them, exactly the lines that LF ended were answered.
 pub record Passed {State : Type 0} (rules : Rules State) (state : State)
     (left left' written written' : Option (List ℕ)) : Type 0 where
   pub given : List ℕ

@@ -1,33 +1,33 @@
--- How far a run over a script has come.
+-- The progress of a run over a script.
 use Rattle.std.specs.Prelude.{◌≡◌, ◌<◌, ◌≤◌, ◌⊎◌, ℕ, List, [], ◌∷◌, ◌++◌, Bool, true, false, length, take, Option}
 use Rattle.std.specs.Io.KnownBytes.{Appends}
 use Rattle.lq_script_lines.specs.declared.intake.Intake.{Intake}
 use Rattle.lq_script_lines.specs.Lines.{Begins, IsUnbroken, Rules, ended_lines, line_of, lines_of, replies_to, state_after}
 
--- what is kept of a line in progress: that it is too long, or its bytes
+-- what is kept of a line in progress: its bytes, or only that it is too long
 abbrev pub IsKept : List ℕ → Bool → List ℕ → Type 0
 IsKept bytes true line = 65536 < length bytes
 IsKept bytes false line = (bytes ≡ line) × (length line ≤ 65536)
 
--- An input is cut into lines and the bytes of a line in progress, whatever comes next.
+-- An input consists of lines and the bytes of a line in progress, whatever comes next.
 pub record IsCut (given : List ℕ) (lines : List (List ℕ)) (bytes : List ℕ) : Type 0 where
   pub ahead : (rest : List ℕ) → lines_of (given ++ rest) ≡ lines ++ lines_of (bytes ++ rest)
   pub ended : (rest : List ℕ) → ended_lines (given ++ rest) ≡ lines ++ ended_lines (bytes ++ rest)
   pub unbroken : IsUnbroken bytes
 
--- the state after lines
+-- the state after several lines
 abbrev pub state_after_all : {State : Type 0} → Rules State → State → List (List ℕ) → State
 state_after_all rules state [] = state
 state_after_all rules state (bytes ∷ lines) =
     state_after_all rules (state_after rules state (line_of bytes)) lines
 
--- where a run began: the state, and what had been written
+-- the start of a run: the state, and what was written before
 pub record Began (State : Type 0) : Type 0 where
   pub state : State
   pub written : Option (List ℕ)
 
--- what a run knows after an input: its lines are answered, and the replies are written but for
--- those in `out`
+-- the invariant of a run after an input: its lines are answered, and their replies are written
+-- except for those in `out`
 pub record Stands {State : Type 0} (rules : Rules State) (began : Began State)
     (given : List ℕ) (written : Option (List ℕ)) (state : State) (intake : Intake) (out : List ℕ)
     : Type 0 where
@@ -45,14 +45,14 @@ pub record Stands {State : Type 0} (rules : Rules State) (began : Began State)
   pub bytes_within : intake.bytes ≤ 1073741824
   pub full : intake.lines ≡ 10000000 → bytes ≡ []
 
--- a front of the output of an input was written, but for what is in `out`
+-- a prefix of the output for an input is what was written and then `out`
 pub record Fronts {State : Type 0} (rules : Rules State) (began : Began State)
     (given : List ℕ) (written : Option (List ℕ)) (out : List ℕ) : Type 0 where
   pub text : List ℕ
   pub appended : Appends began.written written text
   pub front : Begins (replies_to rules began.state (lines_of given)) (text ++ out)
 
--- a limit was met in a piece: what came before stands, and a byte follows it
+-- a limit was reached in a piece: the invariant holds before it, and a byte follows
 pub record Meets {State : Type 0} (rules : Rules State) (began : Began State)
     (given piece : List ℕ) (written : Option (List ℕ)) (state : State) (intake : Intake)
     (out : List ℕ) : Type 0 where
@@ -61,7 +61,7 @@ pub record Meets {State : Type 0} (rules : Rules State) (began : Began State)
   pub stands : Stands rules began (given ++ take count piece) written state intake out
   pub at_limit : (intake.lines ≡ 10000000) ⊎ (intake.bytes ≡ 1073741824)
 
--- from one place to another over these bytes, wherever the run began
+-- these bytes keep the invariant, wherever the run began
 abbrev pub Goes : {State : Type 0} → Rules State → List ℕ
     → Option (List ℕ) → State → Intake → List ℕ
     → Option (List ℕ) → State → Intake → List ℕ → Type 0
@@ -69,7 +69,7 @@ Goes {State} rules bytes written state intake out written' state' intake' out' =
     (began : Began State) → (given : List ℕ) → Stands rules began given written state intake out
     → Stands rules began (given ++ bytes) written' state' intake' out'
 
--- from a place to a fault in these bytes: a front of the output is left
+-- a fault in these bytes leaves a prefix of the output
 abbrev pub Leaves : {State : Type 0} → Rules State → List ℕ
     → Option (List ℕ) → State → Intake → List ℕ
     → Option (List ℕ) → List ℕ → Type 0
@@ -77,7 +77,7 @@ Leaves {State} rules bytes written state intake out written' out' =
     (began : Began State) → (given : List ℕ) → Stands rules began given written state intake out
     → Fronts rules began (given ++ bytes) written' out'
 
--- from a place to a limit in this piece
+-- this piece reaches a limit
 abbrev pub MeetsLimit : {State : Type 0} → Rules State → List ℕ
     → Option (List ℕ) → State → Intake → List ℕ
     → Option (List ℕ) → State → Intake → List ℕ → Type 0

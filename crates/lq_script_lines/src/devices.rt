@@ -1,25 +1,25 @@
-//! A source of bytes and a sink for bytes, each of which may fail.
+//! Devices that may fail: a source of bytes, and a sink for bytes.
 ghost use Rattle.std.specs.Prelude.{◌≡◌, ◌<◌, ◌≤◌, ℕ, List, length, Bool, true, false, Option, IfOk, OnOk, OnErr};
 ghost use Rattle.std.specs.Io.KnownBytes.{Keeps, WriteAppends, ReadConsumes};
 
 use std::io::{Read, Write};
 
-/// A device failed. It has no cause.
+/// A device failed. The error carries no cause.
 #[derive(Clone, Copy)]
 pub struct Failed;
 
-/// What gives bytes, and may fail. Our own, as `Read` of Rust's std.
+/// A device that gives bytes and may fail. Our own, as `Read` of Rust's std.
 pub trait Source {
-    /// The bytes that reads will give from here on, where they are known.
+    /// The bytes that reads will still give, if they are known.
     ghost left: { Self → Option (List ℕ) };
 
     /// Whether the device has failed.
     ghost failed: { Self → Bool };
 
-    /// The number of bytes read, which now stand at the front of `buf`.
+    /// Reads bytes into the start of `buf`, and answers their number.
     ///
-    /// It is 0 only at the end of the input, or where `buf` is empty. An error comes only
-    /// where the device failed, and then no byte was read.
+    /// The number is 0 only at the end of the input, or where `buf` is empty. An error comes only
+    /// where the device failed; no byte was read then.
     fn read(&mut self, buf: &mut [u8]) -> Result<usize, Failed>
         ensures bound { IfOk result (λ n. n ≤ length buf.new) }
         ensures bytes { ReadConsumes (left self.old) (left self.new) result buf.new }
@@ -27,23 +27,23 @@ pub trait Source {
         ensures fails { OnErr result (failed self.new ≡ true) };
 }
 
-/// What takes bytes, and may fail. Our own, as `Write` of Rust's std.
+/// A device that takes bytes and may fail. Our own, as `Write` of Rust's std.
 pub trait Sink {
-    /// The bytes that were taken, where they are known.
+    /// The bytes taken so far, if they are known.
     ghost written: { Self → Option (List ℕ) };
 
     /// Whether the device has failed.
     ghost failed: { Self → Bool };
 
-    /// Whether it took nothing of bytes that it was given.
+    /// Whether the device took none of some bytes that it was given.
     ghost stalled: { Self → Bool };
 
     /// Whether no write came after the last flush that succeeded.
     ghost flushed: { Self → Bool };
 
-    /// The number of bytes taken, from the front of `bytes`.
+    /// Takes bytes from the start of `bytes`, and answers their number.
     ///
-    /// An error comes only where the device failed, and then no byte was taken.
+    /// An error comes only where the device failed; no byte was taken then.
     fn write(&mut self, bytes: &[u8]) -> Result<usize, Failed>
         ensures bound { IfOk result (λ n. n ≤ length bytes.now) }
         ensures bytes { WriteAppends (written self.old) (written self.new) result bytes.now }
@@ -52,7 +52,7 @@ pub trait Sink {
         ensures some { IfOk result (λ n. 0 < n → stalled self.new ≡ stalled self.old) }
         ensures fails { OnErr result (failed self.new ≡ true) };
 
-    /// Passes on what was taken so far. An error comes only where the device failed.
+    /// Passes on the bytes taken so far. An error comes only where the device failed.
     fn flush(&mut self) -> Result<(), Failed>
         ensures bytes { Keeps (written self.old) (written self.new) }
         ensures works { OnOk result (failed self.new ≡ failed self.old) }
@@ -61,7 +61,7 @@ pub trait Sink {
         ensures fails { OnErr result (failed self.new ≡ true) };
 }
 
-/// A reader or a writer of std as a `Source` or a `Sink`.
+/// A reader or writer of std, used as a `Source` or a `Sink`.
 #[derive(Drop)]
 pub struct Host<D> {
     device: D,
@@ -71,7 +71,7 @@ pub struct Host<D> {
 }
 
 impl<D> Host<D> {
-    /// This device, which has not failed.
+    /// The device wrapped, as one that hasn't failed.
     pub fn new(device: D) -> Self
         ensures works { result.failed ≡ false }
         ensures moves { result.stalled ≡ false }
@@ -85,7 +85,7 @@ impl<D> Host<D> {
         }
     }
 
-    /// The device itself.
+    /// Gives back the device.
     pub fn into_device(self) -> D
         ensures { result ≡ self.device }
     {

@@ -1,4 +1,4 @@
-//! What has come of an input: the line in progress and the counts.
+//! The part of an input that has come so far: the line in progress and the counts.
 ghost use Rattle.std.specs.Prelude.{◌≡◌, ◌+◌, ◌++◌, ◌≤◌, ℕ, List, [], length, false, true, IfErr, IsOk, OnOk, OnErr};
 ghost use Rattle.lq_script_lines.specs.Lines.{Begins, given_line, line_of, reply_to, state_after, without_cr};
 ghost use Rattle.lq_script_lines.specs.Progress.{IsKept};
@@ -19,21 +19,21 @@ pub const MAX_BYTES: u64 = 1073741824;
 
 const CR: u8 = 13;
 
-/// What has come of an input so far.
+/// The state of an input that has come so far.
 #[derive(Drop)]
 pub struct Intake {
-    /// What has come of the line in progress, where it is not too long.
+    /// The bytes of the line in progress, if it isn't too long.
     pub line: Vec<u8>,
     /// Whether the line in progress is too long.
     pub long: bool,
-    /// The number of lines that have ended.
+    /// The number of lines that ended.
     pub lines: u64,
-    /// The number of bytes that have come.
+    /// The number of bytes that came.
     pub bytes: u64,
 }
 
 impl Intake {
-    /// Nothing has come.
+    /// The state before any input.
     pub fn new(alloc: Global) -> Self
         ensures line { result.line.items ≡ [] }
         ensures long { result.long ≡ false }
@@ -50,7 +50,7 @@ impl Intake {
 
     /// Appends the reply to the line in progress to `out`.
     ///
-    /// Refused: `Memory`, and then `out` is as before.
+    /// Refused: `Memory`; `out` is then unchanged.
     pub fn answer<S: Responder>(&self, responder: &mut S, out: &mut Vec<u8>) -> Result<(), RunFault>
         ensures ok { OnOk result ((bytes : List ℕ)
             → IsKept bytes self.now.long self.now.line.items
@@ -62,7 +62,7 @@ impl Intake {
         ensures err { OnErr result (out.new.items ≡ out.old.items) }
         ensures memory { IfErr result (λ e. e ≡ RunFault.Memory) }
 
-        // An empty line has no reply, and takes no memory.
+        // An empty line has no reply and takes no memory.
         ensures empty { self.now.long ≡ false → self.now.line.items ≡ [] → IsOk result }
     {
         let before = out.len();
@@ -78,7 +78,7 @@ impl Intake {
         Ok(())
     }
 
-    /// Takes bytes among which is no LF to the line in progress.
+    /// Adds bytes without LF to the line in progress.
     pub fn keep(&mut self, bytes: &[u8]) -> Result<(), RunFault>
         requires { self.old.bytes + length bytes.now ≤ MAX_BYTES }
         ensures ok { OnOk result ((before : List ℕ)
@@ -86,7 +86,7 @@ impl Intake {
             → IsKept (before ++ bytes.now) self.new.long self.new.line.items) }
         ensures memory { IfErr result (λ e. e ≡ RunFault.Memory) }
 
-        // A line that is too long is not kept, and takes no memory.
+        // A line that is too long isn't kept and takes no memory.
         ensures long { self.old.long ≡ true → IsOk result }
         ensures lines { self.new.lines ≡ self.old.lines }
         ensures bytes { OnOk result (self.new.bytes ≡ self.old.bytes + length bytes.now) }
@@ -101,7 +101,7 @@ impl Intake {
     }
 }
 
-/// The line without one CR at its end.
+/// The line without a single CR at its end.
 fn cut_cr(line: &[u8]) -> &[u8]
     ensures { result.now ≡ without_cr line.now }
 {

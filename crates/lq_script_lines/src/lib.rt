@@ -1,8 +1,8 @@
-//! Lines in, replies out, over devices that may fail.
+//! Runs over a script: lines in, replies out, over devices that may fail.
 //!
-//! A contract sees a device as the bytes that it has left or has taken, an input as its list of
-//! lines (`specs/Lines`), and what answers lines as rules on a state; what a run has read and
-//! written when it answers is in `specs/Output`. Nothing here waits. Begin with `devices`, then
+//! Contracts see a device as the bytes that it has left or has taken, an input as its list of lines
+//! (`specs/Lines`), and the responder to lines as rules on a state. `specs/Output` says what a run
+//! has read and written when it answers. Nothing here waits. Begin with `devices`, then
 //! `responder`, then `over_lines`.
 #![tactic(auto)]
 

@@ -1,4 +1,4 @@
-//! A run over a script: each line is answered before a later one is read.
+//! A run over a script: each line is answered before the next read.
 ghost use Rattle.std.specs.Prelude.{◌≡◌, ◌+◌, ◌⊎◌, [], length, true, false, OnOk, OnErr, IsErrOf};
 ghost use Rattle.lq_script_lines.specs.Output.{Answered, Ended, Passed, Stopped};
 ghost use Rattle.lq_script_lines.specs.Progress.{Goes, Leaves, MeetsLimit};
@@ -11,11 +11,11 @@ use crate::run_fault::RunFault;
 use crate::writing::{write_and_flush, write_replies};
 use std::alloc::Global;
 
-/// The bytes that one read asks for.
+/// The number of bytes that one read asks for.
 const BLOCK: usize = 65536;
 
-/// Takes a piece of the input, and after a fault that isn't the writer's writes the replies that
-/// wait and flushes once.
+/// Takes a piece of the input. After a fault that isn't the writer's, writes the waiting replies
+/// and flushes once.
 fn take_block<S: Responder, W: Sink>(
     intake: &mut Intake,
     piece: &[u8],
@@ -54,11 +54,11 @@ fn take_block<S: Responder, W: Sink>(
 
 /// Reads a script to the end of its input, and writes the reply to each line.
 ///
-/// Before each read of the device, and before the answer, every reply so far has been given to
-/// the writer, which is flushed once at the end, also after `Read`, `Limit` and `Memory`.
-/// Refused: `Read` and `Write` where that device failed, `Write` too where the writer took none
-/// of the bytes given, `Limit` where a byte follows 10,000,000 lines or 1,073,741,824 bytes,
-/// `Memory`; the first fault is the answer.
+/// Before each read of the device, and before the call answers, the writer has every reply so far.
+/// The writer is flushed once at the end, also after `Read`, `Limit` and `Memory`. Refused with the
+/// first fault: `Read` and `Write` where that device failed, `Write` also where the writer took
+/// none of the bytes given, `Limit` where a byte follows 10,000,000 lines or 1,073,741,824 bytes,
+/// `Memory`.
 pub fn run_lines<R: Source, W: Sink, S: Responder>(
     alloc: Global,
     reader: &mut R,
@@ -74,13 +74,13 @@ pub fn run_lines<R: Source, W: Sink, S: Responder>(
     ensures works { OnOk result ((R.failed reader.new ≡ false)
         × (W.failed writer.new ≡ false) × (W.stalled writer.new ≡ false)) }
 
-    // After a fault what was written is a prefix of the output of what was read.
+    // After a fault, the bytes written are a prefix of the output for the bytes read.
     ensures err { OnErr result (Stopped S.rules (S.state responder.old)
         (R.left reader.old) (R.left reader.new) (W.written writer.old) (W.written writer.new)) }
     ensures flush { OnErr result ((result ≡ Err RunFault.Write)
         ⊎ ((W.flushed writer.new ≡ true) ⊎ (W.failed writer.new ≡ true))) }
 
-    // After a read fault and at a limit it is the output for the lines that LF ended.
+    // After a read fault and at a limit, they are the output for the lines that LF ended.
     ensures read { IsErrOf result RunFault.Read → Ended S.rules (S.state responder.old)
         (R.left reader.old) (R.left reader.new) (W.written writer.old) (W.written writer.new) }
     ensures limit { IsErrOf result RunFault.Limit → Passed S.rules (S.state responder.old)

@@ -1,4 +1,4 @@
-//! A piece of an input: each line that ends in it is answered.
+//! A piece of an input, and the replies to each line that ends in it.
 ghost use Rattle.std.specs.Prelude.{◌≡◌, ◌+◌, ◌++◌, ◌⊎◌, ◌<◌, ◌≤◌, ℕ, List, [], ◌∷◌, length, slice_index, take, drop, true, IfErr, OnOk, OnErr, IsErrOf};
 ghost use Rattle.std.specs.Io.KnownBytes.{Appends};
 ghost use Rattle.lq_script_lines.specs.Lines.{IsUnbroken};
@@ -12,12 +12,12 @@ use crate::run_fault::RunFault;
 use crate::writing::{write_and_flush, write_replies};
 use memchr::memchr;
 
-/// The bytes of replies from which on they are written.
+/// Replies are written once they have this many bytes.
 const GATHERED: usize = 65536;
 
 const LF: u8 = 10;
 
-/// Answers the line that LF ended, and writes the replies where many wait.
+/// Answers the line that LF ended, and writes the replies if many wait.
 fn end_line<S: Responder, W: Sink>(
     intake: &mut Intake,
     responder: &mut S,
@@ -50,7 +50,7 @@ fn end_line<S: Responder, W: Sink>(
     write_replies(out, writer)
 }
 
-/// Takes a piece of the input, and answers each line that ends in it.
+/// Takes a piece of the input and answers each line that ends in it.
 pub fn take_piece<S: Responder, W: Sink>(
     intake: &mut Intake,
     piece: &[u8],
@@ -92,7 +92,7 @@ pub fn take_piece<S: Responder, W: Sink>(
     Ok(())
 }
 
-/// The bytes from a place to the next LF, and at most so many of them.
+/// The bytes from an index to the next LF, at most this many.
 fn run_at(piece: &[u8], at: usize, most: usize) -> &[u8]
     requires at { at < length piece.now }
     requires some { 0 < most }

@@ -1,26 +1,26 @@
-//! What answers the lines of a script.
+//! The responder to a script's lines.
 ghost use Rattle.std.specs.Prelude.{◌≡◌, ◌++◌, IfErr, OnOk, OnErr};
 ghost use Rattle.lq_script_lines.specs.Lines.{Begins, Rules};
 
 use lq_value::Refusal;
 
-/// What answers one line after another.
+/// A responder to lines, one after another.
 ///
-/// Lines come without their LF and CR. Lines that are empty, and the bytes of those that are
-/// too long, don't come.
+/// It gets lines without their LF and CR. It gets no empty line, and of a line that is too long not
+/// the bytes.
 pub trait Responder {
-    /// What the replies depend on.
+    /// The state that the replies depend on.
     ghost State: { Type 0 };
 
-    /// The state that the lines so far have led to.
+    /// The state after the lines so far.
     ghost state: { Self → State };
 
-    /// The reply to each line at each state, and the state after it.
+    /// The reply to each line in each state, and the state after it.
     ghost rules: { Rules State };
 
-    /// Appends the reply to this line to `out`, and goes on to the state after it.
+    /// Appends the reply to this line to `out`, and moves on to the state after it.
     ///
-    /// Refused: `NoMemory`, and then a part of the reply may have been appended to `out`.
+    /// Refused: `NoMemory`; a part of the reply may be appended to `out` then.
     fn respond(&mut self, line: &[u8], out: &mut Vec<u8>) -> Result<(), Refusal>
         ensures ok { OnOk result (out.new.items
             ≡ out.old.items ++ rules.reply (state self.old) line.now) }
@@ -28,9 +28,9 @@ pub trait Responder {
         ensures err { OnErr result (Begins out.new.items out.old.items) }
         ensures memory { IfErr result (λ e. e ≡ Refusal.NoMemory) };
 
-    /// Appends the reply to a line that is too long to `out`. The state stays.
+    /// Appends the reply to a line that is too long to `out`. The state stays the same.
     ///
-    /// Refused: `NoMemory`, and then a part of the reply may have been appended to `out`.
+    /// Refused: `NoMemory`; a part of the reply may be appended to `out` then.
     fn respond_long(&self, out: &mut Vec<u8>) -> Result<(), Refusal>
         ensures ok { OnOk result (out.new.items ≡ out.old.items ++ rules.long) }
         ensures err { OnErr result (Begins out.new.items out.old.items) }

@@ -1,4 +1,4 @@
-//! Why a run over a script stops.
+//! The reasons why a run over a script stops.
 use std::fmt;
 use thiserror::Error;
 
@@ -10,16 +10,16 @@ pub enum RunFault {
     /// The reader failed.
     #[error("read fault")]
     Read,
-    /// The writer failed, or took none of the bytes that it was given.
+    /// The writer failed, or took none of the bytes given.
     #[error("write fault")]
     Write,
-    /// A byte follows the limit on lines or the limit on bytes.
+    /// A byte follows the greatest number of lines or bytes.
     #[error("input too long")]
     Limit,
-    /// Memory was wanting.
+    /// Memory ran out.
     #[error("no memory")]
     Memory,
-    /// A thread could not be made.
+    /// A thread couldn't be started.
     #[error("no thread")]
     Thread,
 }

@@ -1,11 +1,11 @@
-//! Writing all of what is due to a sink.
+//! Writes all waiting bytes to a sink.
 ghost use Rattle.std.specs.Prelude.{◌≡◌, ◌⊎◌, ℕ, [], take, true, IfErr, OnOk, OnErr};
 ghost use Rattle.std.specs.Io.KnownBytes.{Appends, Keeps};
 
 use crate::devices::{Failed, Sink};
 use crate::run_fault::RunFault;
 
-/// Writes the replies that wait. After a fault none waits either.
+/// Writes the waiting replies. Afterwards none waits, even after a fault.
 pub fn write_replies<W: Sink>(out: &mut Vec<u8>, writer: &mut W) -> Result<(), RunFault>
     ensures ok { OnOk result
         (Appends (W.written writer.old) (W.written writer.new) out.old.items) }
@@ -25,8 +25,8 @@ pub fn write_replies<W: Sink>(out: &mut Vec<u8>, writer: &mut W) -> Result<(), R
     }
 }
 
-/// Writes the replies that wait, and flushes once after another fault, which goes before one
-/// of this flush.
+/// Writes the waiting replies, and flushes once, after another fault. A fault of this flush is
+/// ignored, since the other one comes first.
 pub fn write_and_flush<W: Sink>(out: &mut Vec<u8>, writer: &mut W) -> Result<(), RunFault>
     ensures ok { OnOk result
         (Appends (W.written writer.old) (W.written writer.new) out.old.items) }
@@ -45,7 +45,7 @@ pub fn write_and_flush<W: Sink>(out: &mut Vec<u8>, writer: &mut W) -> Result<(),
     }
 }
 
-/// Writes all of the bytes. On an error some of them were written, from the front.
+/// Writes all bytes. On an error a prefix of them was written.
 pub fn write_all<W: Sink>(writer: &mut W, bytes: &[u8]) -> Result<(), Failed>
     ensures ok { OnOk result (Appends (W.written writer.old) (W.written writer.new) bytes.now) }
     ensures err { OnErr result ((n : ℕ)
@@ -66,7 +66,7 @@ pub fn write_all<W: Sink>(writer: &mut W, bytes: &[u8]) -> Result<(), Failed>
     Ok(())
 }
 
-/// The fault of a run that can't begin for want of memory: the writer is flushed once, as after
+/// The fault of a run that can't begin because memory ran out. It flushes the writer once, as after
 /// any other fault.
 pub fn out_of_memory<W: Sink>(writer: &mut W) -> RunFault
     ensures fault { result ≡ RunFault.Memory }

@@ -1,4 +1,4 @@
--- A response of the code, as what is answered.
+-- A response of the code as a response of the definitions.
 use Rattle.lq_volume.specs.Lookup.{listed}
 use Rattle.lq_desk.specs.Reply.{answer_of}
 use Rattle.lq_script_reply.specs.declared.response.Response.{Response as Response_}

@@ -1,7 +1,7 @@
--- A text that has another at its front.
+-- A text with another one as its prefix.
 use Rattle.std.specs.Prelude.{◌≡◌, ℕ, List, ◌++◌}
 
--- the new text is the old one and what stands behind it
+-- the new text is the old one with more text after it
 pub record Extends (new old : List ℕ) : Type 0 where
   pub rest : List ℕ
   pub split : new ≡ old ++ rest

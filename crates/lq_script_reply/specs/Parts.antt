@@ -1,4 +1,4 @@
--- The members that end a reply.
+-- The members at the end of a reply.
 use Rattle.std.specs.Prelude.{ℕ, codes}
 use Rattle.serde_json.specs.Data.{number, boolean, Members, member, no_members}
 use Rattle.serde_json.specs.Find.{of_integer}
@@ -7,21 +7,21 @@ use Rattle.lq_update.specs.declared.message.Message.{Message}
 use Rattle.lq_update.specs.declared.message.Opcode.{Opcode}
 use Rattle.lq_script_reply.specs.Reply.{count, word, opcode_name}
 
--- of a message, from its opcode on
+-- the members of a message from its opcode on
 abbrev pub numbered_members : Opcode → ℕ → Members
 numbered_members op seq =
     member (codes "op") (word (opcode_name op))
     (member (codes "seq") (count seq)
     (member (codes "what") (word (codes "B_QUERY_UPDATE")) no_members))
 
--- of a message, behind its places
+-- the members of a message after its places
 abbrev pub told_members : Message → Members
 told_members m =
     member (codes "last") (boolean m.last)
     (member (codes "name") (word m.name)
     (member (codes "node") (count m.node) (numbered_members m.op m.seq)))
 
--- of all of an entry, behind its name
+-- the members of a whole entry after its name
 abbrev pub sized_members : ℕ → Record → Members
 sized_members node e =
     member (codes "node") (count node)

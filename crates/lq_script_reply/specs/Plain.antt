@@ -1,6 +1,6 @@
 -- The bytes that stand for themselves in a JSON text.
 use Rattle.std.specs.Prelude.{ℕ, Bool, not, ◌||◌, ◌==◌, nat_lt}
 
--- no control character, quote or backslash
+-- whether the byte is no control character, quote or backslash
 abbrev pub is_plain : ℕ → Bool
 is_plain x = not (nat_lt x 32 || (x == 34 || x == 92))

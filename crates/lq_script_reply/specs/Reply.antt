@@ -1,4 +1,4 @@
--- What is written for a response: the compact text of a JSON value, its keys in byte order, and LF.
+-- The text of a response: the compact text of a JSON value, with its keys in byte order, and LF.
 use Rattle.std.specs.Prelude.{ℕ, Bool, List, [], ◌∷◌, ◌++◌, map, Option, Some, None, codes}
 use Rattle.serde_json.specs.Data.{Data, number, unsigned, string, boolean, array, object, member, no_members}
 use Rattle.serde_json.specs.Find.{of_integer}
@@ -55,7 +55,7 @@ opcode_name Created = codes "B_ENTRY_CREATED"
 opcode_name Removed = codes "B_ENTRY_REMOVED"
 opcode_name (Moved dir name) = codes "B_ENTRY_MOVED"
 
--- a message that names one place, and one that names the old place too
+-- a message with one place, and one with the old place too
 abbrev pub placed_data : Message → Data
 placed_data m =
     object (member (codes "change") (count m.change)
@@ -104,7 +104,7 @@ abbrev pub parcel_data : Parcel → Data
 parcel_data (Update message) = message_data message
 parcel_data (Fin mark) = mark_data mark
 
--- a read that takes nothing
+-- a read that gives no parcel
 abbrev pub what_data : List ℕ → Data
 what_data what = object (member (codes "what") (word what) no_members)
 
@@ -116,7 +116,7 @@ shut_data change slot =
     object (member (codes "change") (count change)
     (member (codes "slot") (count slot) no_members))
 
--- the place that a refusal has
+-- the place in a refusal, if it has one
 abbrev pub place_of : Refusal → Option ℕ
 place_of (BadQuery place) = Some place
 place_of e = None
@@ -134,7 +134,7 @@ fault_data code name (Some place) =
 abbrev pub refusal_data : Refusal → Data
 refusal_data e = fault_data (code_of e) (name_of e) (place_of e)
 
--- what the event of a slot is answered; no line asks for a put or a notice
+-- the reply to the event of a slot; no line asks for a put or a notice
 abbrev pub answer_data : ℕ → Answer → Data
 answer_data slot (Changed applied) = applied_data applied
 answer_data slot (Opened opened at result) = opened_data opened at result
@@ -173,7 +173,7 @@ abbrev pub kind_name : Kind → List ℕ
 kind_name File = codes "file"
 kind_name Folder = codes "folder"
 
--- all of an entry
+-- a whole entry
 abbrev pub listing_data : ℕ → Record → Data
 listing_data node e =
     object (member (codes "attrs") (array (items_of (map attr_data e.attrs)))

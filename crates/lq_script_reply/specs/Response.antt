@@ -1,5 +1,5 @@
--- What a line is answered: the core's answer to its event, what a
--- look at the volume shows, a rebuilt result, or a refusal.
+-- The response to a line: the core's answer to its event, the answer of a look at the volume, a
+-- rebuilt result, or a refusal.
 use Rattle.std.specs.Prelude.{ℕ, List, Bool}
 use Rattle.lq_value.specs.declared.entry.Entry.{Entry}
 use Rattle.lq_value.specs.declared.refusal.Refusal.{Refusal}

@@ -1,9 +1,9 @@
-//! The replies of a script's lines.
+//! The replies to a script's lines.
 //!
-//! A contract sees a response as what it tells (`specs/Response`), and its text as serde_json's
-//! compact text of its data (`specs/Reply`), with LF. The code makes no such data: it writes the
-//! text piece by piece (`pieces`, `text`), after what stands there (`specs/Front`). Begin with
-//! `response`, then `reply`, then `pieces` and `text`.
+//! Contracts see a response as what it says (`specs/Response`), and its text as serde_json's
+//! compact text of its data (`specs/Reply`), with LF. The code makes no such data: it appends the
+//! text piece by piece (`pieces`, `text`) to a buffer (`specs/Front`). Begin with `response`, then
+//! `reply`, then `pieces` and `text`.
 #![tactic(auto)]
 
 mod listing;

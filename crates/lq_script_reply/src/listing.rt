@@ -1,4 +1,4 @@
-//! The text of all of an entry.
+//! The text of a whole entry.
 #![tactic(auto, unfolding(json::specs::Print::escape_byte))]
 
 ghost use Rattle.std.specs.Prelude.{◌≡◌, ◌++◌, codes, OnOk, map, true, false};
@@ -15,9 +15,10 @@ use lq_value::{AttrName, Kind, Value};
 use lq_volume::Listing;
 use std::alloc::AllocError;
 
-/// Appends all of the entry of a node to `out`.
+/// Appends the whole entry of a node to `out`.
 ///
-/// An error says that memory ran out: `out` then has what it had, and maybe a part of the text.
+/// An error says that memory ran out: `out` then keeps what it had, maybe followed by a part of the
+/// text.
 pub fn put_listing(out: &mut Vec<u8>, node: u64, listing: &Listing) -> Result<(), AllocError>
     ensures ok { OnOk result (out.new.items
         ≡ out.old.items ++ compact_text (listing_data node (listed listing.now))) }
@@ -50,7 +51,7 @@ fn kind_name(kind: Kind) -> &'static str
     }
 }
 
-// With the closing bracket of the list.
+// Appends the attributes, and the closing bracket of their list.
 fn put_attrs(
     out: &mut Vec<u8>,
     before: &[u8],
@@ -69,7 +70,7 @@ fn put_attrs(
     put_bytes(out, b"]")
 }
 
-// With a comma before a later one.
+// Appends an attribute, after a comma if it isn't the first.
 fn put_attr(
     out: &mut Vec<u8>,
     later: bool,
@@ -89,7 +90,7 @@ fn put_attr(
     put_bytes(out, b"}")
 }
 
-// The type's member and the value's.
+// Appends the members of the type and of the value.
 fn put_typed(out: &mut Vec<u8>, value: &Value) -> Result<(), AllocError>
     ensures ok { OnOk result (out.new.items
         ≡ out.old.items ++ (codes ",\"type\":" ++ (compact_text (word (type_name value.now))

@@ -1,4 +1,4 @@
-//! The text of what is read of a subscription.
+//! The text of a read from a subscription.
 #![tactic(auto, unfolding(json::specs::Print::escape_byte))]
 
 ghost use Rattle.std.specs.Prelude.{◌≡◌, ℕ, ◌++◌, codes, OnOk, true};
@@ -15,9 +15,10 @@ use lq_update::{Cause, Mark, Message, Opcode};
 use lq_value::Name;
 use std::alloc::AllocError;
 
-/// Appends what taking from a slot gave to `out`: the same text whatever the slot.
+/// Appends the result of a take from a slot to `out`; the text doesn't depend on the slot.
 ///
-/// An error says that memory ran out: `out` then has what it had, and maybe a part of the text.
+/// An error says that memory ran out: `out` then keeps what it had, maybe followed by a part of the
+/// text.
 pub fn put_read(out: &mut Vec<u8>, read: &Read) -> Result<(), AllocError>
     ensures ok { OnOk result ((slot : ℕ) → out.new.items
         ≡ out.old.items ++ compact_text (answer_data slot (answer_of_read read.now))) }
@@ -65,7 +66,7 @@ fn put_message(out: &mut Vec<u8>, message: &Message) -> Result<(), AllocError>
     }
 }
 
-// Of a message that names one place.
+// Appends a message with one place.
 fn put_placed(out: &mut Vec<u8>, message: &Message) -> Result<(), AllocError>
     ensures ok { OnOk result
         (out.new.items ≡ out.old.items ++ compact_text (placed_data message.now)) }
@@ -76,7 +77,7 @@ fn put_placed(out: &mut Vec<u8>, message: &Message) -> Result<(), AllocError>
     put_told(out, message)
 }
 
-// Of a message that names two.
+// Appends a message with two places.
 fn put_moved(
     out: &mut Vec<u8>,
     message: &Message,
@@ -114,7 +115,7 @@ fn put_numbered(out: &mut Vec<u8>, op: &Opcode, seq: u64) -> Result<(), AllocErr
     put_bytes(out, b",\"what\":\"B_QUERY_UPDATE\"}")
 }
 
-// The opcode's member and the key of the next.
+// The member of the opcode and the key of the next member.
 fn before_seq(op: &Opcode) -> &'static [u8]
     ensures { result.now
         ≡ codes ",\"op\":" ++ (compact_text (word (opcode_name op.now)) ++ codes ",\"seq\":") }

@@ -1,4 +1,4 @@
-//! Bytes, numbers and truths.
+//! The text of bytes, numbers and truth values.
 ghost use Rattle.std.specs.Prelude.{◌≡◌, ◌++◌, OnErr, OnOk};
 ghost use Rattle.serde_json.specs.Data.{number, unsigned, boolean};
 ghost use Rattle.serde_json.specs.Find.{of_integer};
@@ -9,7 +9,7 @@ use std::alloc::AllocError;
 
 /// Appends `bytes` to `out`.
 ///
-/// An error says that memory ran out: `out` then has what it had.
+/// An error says that memory ran out: `out` is then unchanged.
 #[inline(always)]
 pub fn put_bytes(out: &mut Vec<u8>, bytes: &[u8]) -> Result<(), AllocError>
     ensures ok { OnOk result (out.new.items ≡ out.old.items ++ bytes.now) }
@@ -20,9 +20,9 @@ pub fn put_bytes(out: &mut Vec<u8>, bytes: &[u8]) -> Result<(), AllocError>
     Ok(())
 }
 
-/// Appends `before` to `out`, and then the decimal digits of `count`.
+/// Appends `before` to `out`, then the decimal digits of `count`.
 ///
-/// An error says that memory ran out: `out` then has what it had, and maybe `before` after it.
+/// An error says that memory ran out: `out` then keeps what it had, maybe followed by `before`.
 #[inline(always)]
 pub fn put_unsigned(out: &mut Vec<u8>, before: &[u8], count: u64) -> Result<(), AllocError>
     ensures ok { OnOk result (out.new.items
@@ -34,10 +34,10 @@ pub fn put_unsigned(out: &mut Vec<u8>, before: &[u8], count: u64) -> Result<(), 
     put_bytes(out, digits.format(count).as_bytes())
 }
 
-/// Appends `before` to `out`, and then the decimal digits of `integer`, with `-` before those of
-/// one below 0.
+/// Appends `before` to `out`, then the decimal digits of `integer`, with `-` before them if it is
+/// below 0.
 ///
-/// An error says that memory ran out: `out` then has what it had, and maybe `before` after it.
+/// An error says that memory ran out: `out` then keeps what it had, maybe followed by `before`.
 #[inline(always)]
 pub fn put_signed(out: &mut Vec<u8>, before: &[u8], integer: i64) -> Result<(), AllocError>
     ensures ok { OnOk result (out.new.items
@@ -49,9 +49,9 @@ pub fn put_signed(out: &mut Vec<u8>, before: &[u8], integer: i64) -> Result<(), 
     put_bytes(out, digits.format(integer).as_bytes())
 }
 
-/// Appends `before` to `out`, and then `true` or `false`.
+/// Appends `before` to `out`, then `true` or `false`.
 ///
-/// An error says that memory ran out: `out` then has what it had, and maybe `before` after it.
+/// An error says that memory ran out: `out` then keeps what it had, maybe followed by `before`.
 #[inline(always)]
 pub fn put_truth(out: &mut Vec<u8>, before: &[u8], truth: bool) -> Result<(), AllocError>
     ensures ok { OnOk result (out.new.items

@@ -34,11 +34,11 @@ pub fn put_reply(out: &mut Vec<u8>, response: &Response) -> Result<(), Refusal>
     Ok(())
 }
 
-/// Appends the text of what an event of this slot was answered, and LF, to `out`. The slot is 0
-/// where the event names none.
+/// Appends the text of the reply to an event of this slot, and LF, to `out`. The slot is 0 where
+/// the event names none.
 ///
-/// The text is that of `Response::Reply`, without a response that it would be moved into. Refused:
-/// `NoMemory`.
+/// The text is that of `Response::Reply`, but the reply needn't be moved into a `Response`.
+/// Refused: `NoMemory`.
 pub fn put_event_reply(out: &mut Vec<u8>, slot: u64, reply: &Reply) -> Result<(), Refusal>
     ensures refused { IsRefusedBy result None }
     ensures ok { OnOk result (out.new.items
@@ -106,7 +106,7 @@ fn put_rebuilt(
     put_bytes(out, b"}")
 }
 
-// Of a reply to an event of this slot.
+// Appends the reply to an event of this slot.
 fn put_answer(out: &mut Vec<u8>, slot: u64, reply: &Reply) -> Result<(), AllocError>
     ensures ok { OnOk result (out.new.items
         ≡ out.old.items ++ compact_text (answer_data slot (answer_of reply.now))) }
@@ -190,7 +190,7 @@ fn place_of(refusal: Refusal) -> Option<u64>
     }
 }
 
-// With the closing bracket of the list.
+// Appends the entries, and the closing bracket of their list.
 fn put_entries(out: &mut Vec<u8>, before: &[u8], entries: &[Entry]) -> Result<(), AllocError>
     ensures ok { OnOk result (out.new.items ≡ out.old.items
         ++ (before.now ++ items_text false (items_of (map entry_data entries.now)))) }
@@ -205,7 +205,7 @@ fn put_entries(out: &mut Vec<u8>, before: &[u8], entries: &[Entry]) -> Result<()
     put_bytes(out, b"]")
 }
 
-// With a comma before a later one.
+// Appends an entry, after a comma if it isn't the first.
 fn put_entry(out: &mut Vec<u8>, later: bool, entry: &Entry) -> Result<(), AllocError>
     ensures ok { OnOk result (out.new.items
         ≡ out.old.items ++ (comma_if later ++ compact_text (entry_data entry.now))) }

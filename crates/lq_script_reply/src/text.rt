@@ -10,11 +10,11 @@ ghost use Rattle.lq_script_reply.specs.Plain.{is_plain};
 
 use std::alloc::AllocError;
 
-/// Appends `before` to `out`, and then `text` in quotes.
+/// Appends `before` to `out`, then `text` in quotes.
 ///
-/// A quote, a backslash and each control character gets its shortest escape, as `\n` or `\u001f`;
-/// all else stands as it is. An error says that memory ran out: `out` then has what it had, and
-/// maybe a part of the piece after it.
+/// A quote, a backslash and each control character are written with their shortest escape, as `\n`
+/// or `\u001f`; everything else stands unchanged. An error says that memory ran out: `out` then
+/// keeps what it had, maybe followed by a part of the new text.
 pub fn put_text(out: &mut Vec<u8>, before: &[u8], text: &str) -> Result<(), AllocError>
     ensures ok { OnOk result (out.new.items
         ≡ out.old.items ++ (before.now ++ compact_text (string text.now))) }
@@ -35,7 +35,7 @@ pub fn put_text(out: &mut Vec<u8>, before: &[u8], text: &str) -> Result<(), Allo
     }
 }
 
-// How many bytes stand before the first that has an escape.
+// The number of bytes before the first one that has an escape.
 #[inline(always)]
 fn plain_len(text: &[u8]) -> usize
     ensures value { result ≡ prefix_len is_plain text.now }
@@ -73,7 +73,7 @@ fn put_escape(out: &mut Vec<u8>, byte: u8) -> Result<(), AllocError>
     Ok(())
 }
 
-// The letter of the short escape, or 0 where a byte has none.
+// The letter of the byte's short escape, or 0 if it has none.
 fn escape_letter(byte: u8) -> u8
     ensures { result ≡ escape_letter byte }
 {

@@ -1,4 +1,4 @@
--- A request of the code, as what it asks for.
+-- The request of the code as what it asks for.
 use Rattle.lq_value.specs.declared.value.Value.TheVariants as value
 use Rattle.lq_value.specs.declared.view.View.{View}
 use Rattle.lq_value.specs.declared.view.View.TheVariants as view
@@ -6,7 +6,7 @@ use Rattle.lq_script_request.specs.declared.request.Request.{Request}
 use Rattle.lq_script_request.specs.declared.request.Request.TheVariants as request
 use Rattle.lq_script_request.specs.Request.{Asked, Given, given_text, given_number, asks_create, asks_remove, asks_move, asks_write, asks_set, asks_unset, asks_open, asks_at, asks_find, asks_entry, asks_fetch, asks_rebuilt}
 
--- the value of a `set`, as it was given
+-- the value of a `set` as it was given
 abbrev pub given : View → Given
 given (view.Text text) = given_text text.now
 given (view.Int32 n) = given_number (value.Int32 n)

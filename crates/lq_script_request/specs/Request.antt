@@ -1,4 +1,4 @@
--- What a line of a script asks for: a function of the JSON value that it writes.
+-- What a line of a script asks for, as a function of its JSON value.
 use Rattle.std.specs.Prelude.{ℕ, ℤ, pos, negsuc, int_le, nat_le, ◌&&◌, List, Bool, false, Option, Some, None, option_and_then, option_map, Result, Ok, Err, codes, if◌then◌else◌}
 use Rattle.std.specs.Str.{bytes_eq, is_utf8}
 use Rattle.serde_json.specs.Data.{Data}
@@ -22,12 +22,12 @@ use Rattle.lq_desk_world.specs.declared.event.Act.TheVariants as act
 use Rattle.lq_script_request.specs.declared.question.Question.{Question}
 use Rattle.lq_script_request.specs.declared.question.Question.TheVariants.{Event, Find, Entry, Fetch, Rebuilt}
 
--- the value of a `set`: a text not yet read, or a number of one of four types
+-- the value of a `set`: a text that isn't read yet, or a number of one of four types
 pub data Given : Type 0 where
   given_text : (text : List ℕ) → Given
   given_number : (value : Value) → Given
 
--- what a line asks for, its fields taken and its values not yet read
+-- what a line asks for, with its fields taken and its values not read yet
 pub data Asked : Type 0 where
   asks_create : (dir : ℕ) (name : List ℕ) (kind : Kind) (size : ℕ) (time : ℤ) → Asked
   asks_remove : (node : ℕ) → Asked
@@ -42,20 +42,20 @@ pub data Asked : Type 0 where
   asks_fetch : (query : List ℕ) → Asked
   asks_rebuilt : (slot : ℕ) → Asked
 
--- a text, and a whole number from 0 up, which have to be there
+-- a text that is required
 abbrev pub needed_text : List ℕ → Data → Option (List ℕ)
 needed_text key d = option_and_then as_str (get key d)
 
--- a whole number from 0 up, which has to be there
+-- a whole number from 0 up that is required
 abbrev pub needed_u64 : List ℕ → Data → Option ℕ
 needed_u64 key d = option_and_then as_u64 (option_and_then as_number (get key d))
 
--- a field that may be absent, and then has a default
+-- a whole number from 0 up that may be absent, with a default
 abbrev pub u64_or : ℕ → Option Data → Option ℕ
 u64_or default None = Some default
 u64_or default (Some d) = option_and_then as_u64 (as_number d)
 
--- a whole number that may be absent
+-- a whole number that may be absent, with a default
 abbrev pub i64_or : ℤ → Option Data → Option ℤ
 i64_or default None = Some default
 i64_or default (Some d) = option_and_then as_i64 (as_number d)
@@ -67,17 +67,17 @@ kind_named text =
     else if bytes_eq text (codes "folder") then Some Folder
     else None
 
--- a kind that may be absent
+-- a kind that may be absent, with a default
 abbrev pub kind_or : Kind → Option Data → Option Kind
 kind_or default None = Some default
 kind_or default (Some d) = option_and_then kind_named (as_str d)
 
--- a truth value that may be absent
+-- a truth value that may be absent, with a default
 abbrev pub flag_or : Bool → Option Data → Option Bool
 flag_or default None = Some default
 flag_or default (Some d) = as_bool d
 
--- a whole number of 32 bits, with a sign and without
+-- a whole number of 32 bits with a sign
 abbrev pub within_i32 : ℤ → Option Given
 within_i32 n =
     if int_le (negsuc 2147483647) n && int_le n (pos 2147483647) then Some (given_number (Int32 n))
@@ -87,7 +87,7 @@ within_i32 n =
 abbrev pub within_u32 : ℕ → Option Given
 within_u32 n = if nat_le n 4294967295 then Some (given_number (UInt32 n)) else None
 
--- by the text of `type`
+-- the value of a `set`, by the text of `type`
 abbrev pub given_by : List ℕ → Data → Option Given
 given_by kind d =
     if bytes_eq kind (codes "CSTR") then option_map given_text (as_str d)
@@ -101,7 +101,7 @@ given_by kind d =
     then option_map (λ n. given_number (UInt64 n)) (option_and_then as_u64 (as_number d))
     else None
 
--- what a `move` asks for, if its fields are there
+-- what a `move` asks for, if its fields are present
 abbrev pub move_of : Data → Option Asked
 move_of d =
     option_and_then (λ node.
@@ -175,7 +175,7 @@ open_of d =
     (needed_u64 (codes "port") d))
     (needed_text (codes "query") d)
 
--- what a line asks for that is an act at a slot
+-- what an act at a slot asks for
 abbrev pub act_of : Act → Data → Option Asked
 act_of a d = option_map (λ slot. asks_at slot a) (needed_u64 (codes "slot") d)
 
@@ -199,7 +199,7 @@ fetch_of d = option_map (λ query. asks_fetch query) (needed_text (codes "query"
 abbrev pub rebuilt_of : Data → Option Asked
 rebuilt_of d = option_map (λ slot. asks_rebuilt slot) (needed_u64 (codes "slot") d)
 
--- by the text of `do`
+-- what a line asks for, by the text of `do`
 abbrev pub asked_by : List ℕ → Data → Option Asked
 asked_by word d =
     if bytes_eq word (codes "create") then create_of d
@@ -223,26 +223,26 @@ asked_by word d =
 abbrev pub asked_of : Data → Option Asked
 asked_of d = option_and_then (λ word. asked_by word d) (needed_text (codes "do") d)
 
--- the line's faults, in their order
+-- a line without a request is refused with `BadLine`
 abbrev pub asked_or : Option Asked → Result Asked Refusal
 asked_or None = Err BadLine
 asked_or (Some a) = Ok a
 
--- what a text asks for, which may be no JSON
+-- what a text asks for; it may be no JSON
 abbrev pub asked_from : Option Data → Result Asked Refusal
 asked_from None = Err NotJson
 asked_from (Some d) = asked_or (asked_of d)
 
--- what a line asks for, which may be no UTF-8
+-- what a line asks for; it may be no UTF-8
 abbrev pub asked_in : List ℕ → Result Asked Refusal
 asked_in line = if is_utf8 line then asked_from (read line) else Err NotUtf8
 
--- the refusals of the values
+-- an opening, or the refusal of its formula
 abbrev pub opening_or : Result Query ℕ → ℕ → ℕ → Bool → Result Question Refusal
 opening_or (Err place) port backlog moved = Err (BadQuery place)
 opening_or (Ok q) port backlog moved = Ok (Event (Open q port backlog moved))
 
--- a predicate to fetch by, or its refusal
+-- a fetch, or the refusal of its formula
 abbrev pub fetching_or : Result Query ℕ → Result Question Refusal
 fetching_or (Err place) = Err (BadQuery place)
 fetching_or (Ok q) = Ok (Fetch q)
@@ -257,12 +257,12 @@ abbrev pub value_for : Given → Result Value Refusal
 value_for (given_text text) = text_or (text_refusal text) text
 value_for (given_number value) = Ok value
 
--- a setting, or the refusal of its value
+-- a `set`, or the refusal of its value
 abbrev pub setting_for : ℕ → List ℕ → Result Value Refusal → Result Question Refusal
 setting_for node attr (Err e) = Err e
 setting_for node attr (Ok value) = Ok (Event (Change (SetAttr node attr value)))
 
--- what is asked once the values are read, or the first refusal
+-- the question after its values are read, or the first refusal
 abbrev pub question_for : Asked → Result Question Refusal
 question_for (asks_create dir name kind size time) =
     if is_name name then Ok (Event (Change (Create dir name kind size time)))
@@ -285,11 +285,11 @@ question_for (asks_entry node) = Ok (Entry node)
 question_for (asks_fetch query) = fetching_or (reading_of query)
 question_for (asks_rebuilt slot) = Ok (Rebuilt slot)
 
--- what is asked where a line may have been refused already
+-- the question of a line that may be refused already
 abbrev pub question_from : Result Asked Refusal → Result Question Refusal
 question_from (Err e) = Err e
 question_from (Ok a) = question_for a
 
--- what a line asks, or why it asks nothing
+-- the question of a line, or why it has none
 abbrev pub question_in : List ℕ → Result Question Refusal
 question_in line = question_from (asked_in line)

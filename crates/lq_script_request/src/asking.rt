@@ -1,4 +1,4 @@
-//! From the bytes of a line to what it asks.
+//! From the bytes of a line to its question.
 ghost use Rattle.std.specs.Prelude.{◌≡◌, ◌⊎◌, IfOk, IfErr, Ok, Err};
 ghost use Rattle.lq_script_json.specs.Data.{view};
 ghost use Rattle.lq_value.specs.declared.refusal.Refusal.TheVariants.{NoMemory};
@@ -16,12 +16,12 @@ use lq_value::{Kind, Name, Refusal, View};
 use lq_volume::Change;
 use std::alloc::Global;
 
-/// What a line asks, the line being without its LF and CR.
+/// The question of a line without its LF and CR.
 ///
-/// A scratch that is kept from line to line spares its memory, and changes no answer.
-/// Refused: `NoMemory`; else, the first that fits, `NotUtf8`, `NotJson`, `BadLine` (no object, an
-/// unknown `do`, a field missing, of the wrong type or out of its range), then as the values are,
-/// `BadName` or `BadQuery`. The faults and their order are our own.
+/// A scratch reused from line to line saves memory and changes no answer. Refused: `NoMemory`;
+/// else, the first that fits, `NotUtf8`, `NotJson`, `BadLine` (no object, an unknown `do`, a field
+/// missing, of the wrong type or out of its range), then, as the values are read, `BadName` or
+/// `BadQuery`. The faults and their order are our own.
 pub fn question_in(alloc: Global, scratch: &mut Scratch, line: &[u8]) -> Result<Question, Refusal>
     ensures value { IfOk result (λ question. question_in line.now ≡ Ok question) }
     ensures refused { IfErr result (λ e. (e ≡ NoMemory) ⊎ (question_in line.now ≡ Err e)) }
@@ -48,7 +48,7 @@ fn value_in<'a>(
     lq_script_json::read(alloc, scratch, text)
 }
 
-// What a line's JSON value asks.
+// The question of a line's JSON value.
 fn question_of(
     alloc: Global,
     attrs: &mut RecentAttrs,
@@ -65,7 +65,7 @@ fn question_of(
     }
 }
 
-// What a request asks, its values read.
+// The question of a request, with its values read.
 fn question_for(
     alloc: Global,
     attrs: &mut RecentAttrs,
@@ -164,7 +164,7 @@ fn moving(
     }))
 }
 
-// The question that sets an attribute, its name read before its value.
+// The question that sets an attribute; its name is read before its value.
 fn setting(
     alloc: Global,
     attrs: &mut RecentAttrs,
@@ -234,7 +234,7 @@ fn opening(
     }))
 }
 
-// The question that finds the node of a place.
+// The question that finds the node at a place.
 fn finding(alloc: Global, dir: u64, name: &str) -> Result<Question, Refusal>
     ensures value { IfOk result (λ question.
         question_for (asks_find dir name.now) ≡ Ok question) }
@@ -245,7 +245,7 @@ fn finding(alloc: Global, dir: u64, name: &str) -> Result<Question, Refusal>
     Ok(Question::Find { dir, name })
 }
 
-// The question that fetches the entries of a formula.
+// The question that fetches the entries that match a formula.
 fn fetching(alloc: Global, query: &str) -> Result<Question, Refusal>
     ensures value { IfOk result (λ question.
         question_for (asks_fetch query.now) ≡ Ok question) }

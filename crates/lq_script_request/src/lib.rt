@@ -1,7 +1,7 @@
-//! What a line of a script asks.
+//! The questions that a script's lines ask.
 //!
-//! A contract sees a line as its bytes, its JSON as serde_json's data, and what it asks as a
-//! question, or the first fault that fits (`specs/Request`). Begin with `question`, then `asking`.
+//! Contracts see a line as its bytes, its JSON as serde_json's data, and its meaning as a question
+//! or the first fault that fits (`specs/Request`). Begin with `question`, then `asking`.
 #![tactic(auto)]
 
 mod asking;

@@ -2,17 +2,17 @@
 ghost use Rattle.std.specs.Prelude.{◌≡◌, ◌<◌, ◌+◌, IfSome};
 ghost use Rattle.lq_script_request.specs.Plain.{read_line};
 
-/// What stands before the slot.
+/// The bytes before the slot.
 const FRONT: &str = "{\"do\":\"read\",\"slot\":";
 
 const CLOSING: u8 = b'}';
 
-/// The slot of a line that asks for a read of it and is written as `{"do":"read","slot":7}`:
-/// without spaces, and with a slot of 1 to 99 in one or two digits. `None` for each other line,
-/// also for one that asks the same in another way.
+/// The slot of a line that asks for a read and is written exactly as `{"do":"read","slot":7}`:
+/// without spaces, and with a slot of 1 to 99 in one or two digits. `None` for any other line, even
+/// one that asks the same in another way.
 ///
-/// A program that follows a window sends this line again and again, so it is told apart without
-/// reading JSON. It takes no memory. The form is our own.
+/// A program that follows a live query sends this line again and again, so this call recognises it
+/// without reading JSON. It takes no memory. The form is our own.
 pub fn plain_read(line: &[u8]) -> Option<u64>
     ensures line { IfSome result (λ slot. line.now ≡ read_line slot) }
     ensures small { IfSome result (λ slot. slot < 100) }
@@ -28,7 +28,7 @@ pub fn plain_read(line: &[u8]) -> Option<u64>
     None
 }
 
-// What a digit from 1 to 9 writes.
+// The value of a digit from 1 to 9.
 fn leading_digit(byte: u8) -> Option<u64>
     ensures { IfSome result (λ n. (byte ≡ 48 + n) × (0 < n) × (n < 10)) }
 {
@@ -39,7 +39,7 @@ fn leading_digit(byte: u8) -> Option<u64>
     Some(number)
 }
 
-// What a digit writes.
+// The value of a digit.
 fn digit(byte: u8) -> Option<u64>
     ensures { IfSome result (λ n. (byte ≡ 48 + n) × (n < 10)) }
 {

@@ -1,4 +1,4 @@
-//! What a line of a script asks for.
+//! The requests of a script's lines.
 ghost use Rattle.std.specs.Prelude.{◌≡◌, codes, option_and_then, pos, false};
 ghost use Rattle.std.specs.Option.{option_map};
 ghost use Rattle.lq_value.specs.declared.value.Value.TheVariants.{Int32, UInt32};
@@ -13,7 +13,7 @@ use lq_desk_world::Act;
 use lq_script_json::{bool_of, field, i64_of, text_in, text_of, u64_in, u64_of};
 use lq_value::{Kind, View};
 
-/// What a line asks for, its texts borrowed from the line's JSON value.
+/// The request of a line, with its texts borrowed from the line's JSON value.
 #[derive(Drop)]
 pub enum Request<'a> {
     Create {
@@ -203,7 +203,7 @@ fn unset_in<'a>(value: &Value<'a>) -> Option<Request<'a>>
     Some(Request::Unset { node, attr })
 }
 
-// A value of one of the five attribute types, by the type's text.
+// A value of one of the five attribute types, given the type's text.
 fn typed_in<'a>(kind: &str, value: &Value<'a>) -> Option<View<'a>>
     ensures { option_map given result ≡ given_by kind.now (view value.now) }
 {
@@ -242,7 +242,7 @@ fn typed_in<'a>(kind: &str, value: &Value<'a>) -> Option<View<'a>>
     }
 }
 
-// The whole number of 32 bits with a sign that a value is.
+// The whole number in a value, if it fits into 32 bits with a sign.
 fn i32_of(value: &Value<'_>) -> Option<i32>
     ensures { option_map (λ n. given_number (Int32 n)) result
         ≡ option_and_then within_i32 (option_and_then as_i64 (as_number (view value.now))) }
@@ -256,7 +256,7 @@ fn i32_of(value: &Value<'_>) -> Option<i32>
     Some(number as i32)
 }
 
-// The whole number of 32 bits from 0 up that a value is.
+// The whole number in a value, if it fits into 32 bits without a sign.
 fn u32_of(value: &Value<'_>) -> Option<u32>
     ensures { option_map (λ n. given_number (UInt32 n)) result
         ≡ option_and_then within_u32 (option_and_then as_u64 (as_number (view value.now))) }
@@ -333,7 +333,7 @@ fn rebuilt_in<'a>(value: &Value<'a>) -> Option<Request<'a>>
     Some(Request::Rebuilt { slot })
 }
 
-// A whole number from 0 up, or the default where there is no such field.
+// A whole number from 0 up, or the default if the field is absent.
 fn u64_or(value: &Value<'_>, key: &str, default: u64) -> Option<u64>
     ensures { result ≡ u64_or default (get key.now (view value.now)) }
 {
@@ -343,7 +343,7 @@ fn u64_or(value: &Value<'_>, key: &str, default: u64) -> Option<u64>
     }
 }
 
-// A whole number of 64 bits with a sign, or 0 where there is no such field.
+// A whole number of 64 bits with a sign, or 0 if the field is absent.
 fn i64_or_zero(value: &Value<'_>, key: &str) -> Option<i64>
     ensures { result ≡ i64_or (pos 0) (get key.now (view value.now)) }
 {
@@ -353,7 +353,7 @@ fn i64_or_zero(value: &Value<'_>, key: &str) -> Option<i64>
     }
 }
 
-// A truth value, or false where there is no such field.
+// A truth value, or false if the field is absent.
 fn bool_or_false(value: &Value<'_>, key: &str) -> Option<bool>
     ensures { result ≡ flag_or false (get key.now (view value.now)) }
 {
@@ -363,7 +363,7 @@ fn bool_or_false(value: &Value<'_>, key: &str) -> Option<bool>
     }
 }
 
-// The kind, or a file where there is none.
+// The kind, or a file if the field is absent.
 fn kind_or_file(value: &Value<'_>) -> Option<Kind>
     ensures { result ≡ kind_or File (get (codes "kind") (view value.now)) }
 {

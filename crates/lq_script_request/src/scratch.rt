@@ -1,4 +1,4 @@
-//! What the reading of lines keeps from line to line.
+//! What the reader of lines keeps from line to line.
 ghost use Rattle.std.specs.Prelude.{◌≡◌, Some, None, IfOk, IfSome, IsTrue, if◌then◌else◌};
 ghost use Rattle.lq_value.specs.declared.refusal.Refusal.TheVariants.{BadName};
 ghost use Rattle.lq_value.specs.Name.{is_attr_name};
@@ -7,11 +7,11 @@ ghost use Rattle.lq_value.specs.Refusal.{IsRefusedBy};
 use lq_value::{AttrName, Refusal, same_text};
 use std::alloc::Global;
 
-/// How many names of attributes are kept.
+/// The number of attribute names that are kept.
 const RECENT: usize = 16;
 
-/// What the reading of a line takes. One that is kept from line to line spares memory, and changes
-/// no answer.
+/// Memory for reading lines. One scratch reused from line to line saves memory and changes no
+/// answer.
 #[derive(Drop)]
 pub struct Scratch {
     pub(crate) json: json::Scratch,
@@ -19,7 +19,7 @@ pub struct Scratch {
 }
 
 impl Scratch {
-    /// One in which nothing is kept. It takes no memory.
+    /// An empty scratch. It takes no memory.
     pub fn new(alloc: Global) -> Scratch {
         Scratch {
             json: json::Scratch::new(alloc),
@@ -31,11 +31,11 @@ impl Scratch {
     }
 }
 
-// The names of attributes that lines named last: a name that is read again shares its text.
+// The attribute names that lines used last: a name that is read again shares its text.
 #[derive(Drop)]
 pub(crate) struct RecentAttrs {
     names: Vec<AttrName>,
-    // Where the next is put once all places are taken.
+    // The index for the next name, once all indices are used.
     oldest: usize,
 }
 
@@ -67,7 +67,7 @@ impl RecentAttrs {
         None
     }
 
-    // Keeps a name, in place of the oldest where all places are taken. Refused: `NoMemory`.
+    // Keeps a name, in place of the oldest one if there is no room. Refused: `NoMemory`.
     fn keep(&mut self, name: AttrName) -> Result<(), Refusal>
         ensures refused { IsRefusedBy result None }
     {

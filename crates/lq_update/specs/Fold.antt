@@ -1,4 +1,4 @@
--- Folding messages into a result: a set of triples, here its list by rising node.
+-- Folding messages into a result, which is a set of triples: here a list by rising node.
 use Rattle.std.specs.Prelude.{ℕ, ◌+◌, ◌<◌, List, [], ◌∷◌, Bool, true, not, ◌&&◌, ◌==◌, nat_le, nat_lt, filter, if◌then◌else◌}
 use Rattle.std.specs.List.{list_any, AllByRecursion}
 use Rattle.lq_value.specs.declared.entry.Entry.{Entry}
@@ -9,16 +9,16 @@ use Rattle.lq_update.specs.declared.message.Opcode.TheVariants.{Created, Removed
 use Rattle.lq_update.specs.declared.message.Message.{Message}
 use Rattle.lq_update.specs.Diff.{same_entry, has_node}
 
--- the nodes rise strictly, so none comes twice
+-- the nodes rise strictly, so none occurs twice
 abbrev pub EntriesRise : List Entry → Type 0
 EntriesRise [] = Unit {0}
 EntriesRise (e ∷ es) = AllByRecursion (λ f. e.node < f.node) es × EntriesRise es
 
--- the set without a triple, and with one more
+-- the set without a triple
 abbrev pub taken_out : Entry → List Entry → List Entry
 taken_out e entries = filter (λ f. not (same_entry e f)) entries
 
--- the set with one more triple, before the first of a higher node
+-- the set with one more triple, before the first one of a higher node
 abbrev pub put_in : Entry → List Entry → List Entry
 put_in e [] = e ∷ []
 put_in e (f ∷ fs) = if nat_lt e.node f.node then e ∷ f ∷ fs else f ∷ put_in e fs
@@ -37,13 +37,13 @@ folded_by Created e entries = put_in e entries
 folded_by Removed e entries = taken_out e entries
 folded_by (Moved dir name) e entries = put_in e (taken_out (old_entry dir name e) entries)
 
--- what a message takes out is there, and the node of what it only puts in isn't
+-- what a message takes out is in the set; the node of a triple that is only put in isn't
 abbrev pub fits_by : Opcode → Entry → List Entry → Bool
 fits_by Created e entries = not (has_node e.node entries)
 fits_by Removed e entries = has_entry e entries
 fits_by (Moved dir name) e entries = has_entry (old_entry dir name e) entries
 
--- the triple that a message tells of, with the new place where it moved
+-- a message's triple, with the new place if it moved
 abbrev pub entry_in : Message → Entry
 entry_in m = record { dir = m.dir; name = m.name; node = m.node }
 
@@ -55,39 +55,38 @@ folded_one entries m = folded_by m.op (entry_in m) entries
 abbrev pub fits_in : List Entry → Message → Bool
 fits_in entries m = fits_by m.op (entry_in m) entries
 
--- the set after messages, one after another
+-- the set after messages, in order
 abbrev pub folded : List Entry → List Message → List Entry
 folded entries [] = entries
 folded entries (m ∷ ms) = folded (folded_one entries m) ms
 
--- whether the final message was the last of its change, and that change, where there is a message
+-- whether the final message was the last of its change; with no message, what was given
 abbrev pub settled_after : Bool → List Message → Bool
 settled_after settled [] = settled
 settled_after settled (m ∷ ms) = settled_after m.last ms
 
--- whether the final message was the last of its change; so it is of no message
+-- whether the final message was the last of its change; true of no message
 abbrev pub is_settled : List Message → Bool
 is_settled ms = settled_after true ms
 
--- the change of the final message, or the number given where there is none
+-- the change of the final message; with no message, the number given
 abbrev pub last_change : ℕ → List Message → ℕ
 last_change at [] = at
 last_change at (m ∷ ms) = last_change m.change ms
 
--- How far a fold has come: how many messages it has taken, whether the latest was the last of its
--- change, that change, and the entries by rising node.
+-- The state of a fold: how many messages it has taken, whether the latest one was the last of its
+-- change, the number of that change, and the entries by rising node.
 pub record Folding : Type 0 where
   pub seq : ℕ
   pub change : ℕ
   pub settled : Bool
   pub entries : List Entry
 
--- before any message, from an opening's result
+-- the fold before any message, from an opening's result
 abbrev pub opened_at : ℕ → List Entry → Folding
 opened_at at entries = record { seq = 0; change = at; settled = true; entries = entries }
 
--- why a message is refused: it is not the next one, or its change can't be told now, or it doesn't
--- fit
+-- the refusals of a message: it isn't the next one, its change may not come now, or it doesn't fit
 abbrev pub fold_refusals : Folding → Message → List (Bool × Refusal)
 fold_refusals f m =
     (not (m.seq == f.seq + 1), OutOfStep)
@@ -96,12 +95,12 @@ fold_refusals f m =
     ∷ (not (fits_in f.entries m), Mismatch)
     ∷ []
 
--- the fold by one message
+-- the fold after one more message
 abbrev pub folding_after : Folding → Message → Folding
 folding_after f m =
     record { seq = m.seq; change = m.change; settled = m.last; entries = folded_one f.entries m }
 
--- the fold by many messages
+-- the fold after many more messages
 abbrev pub folding_after_all : Folding → List Message → Folding
 folding_after_all f [] = f
 folding_after_all f (m ∷ ms) = folding_after_all (folding_after f m) ms

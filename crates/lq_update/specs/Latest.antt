@@ -2,8 +2,8 @@
 use Rattle.std.specs.Prelude.{ℕ, ◌+◌, Bool, ◌&&◌, ◌==◌, nat_lt, if◌then◌else◌}
 use Rattle.lq_update.specs.declared.message.Message.{Message}
 
--- its number is one more, and its change is a later one where the latest was the last of its
--- change, and else the same
+-- the message's number is one more; its change is later if the latest message was the last of its
+-- change, else the same
 abbrev pub may_follow : ℕ → ℕ → Bool → Message → Bool
 may_follow seq change last m =
     (m.seq == seq + 1) && (if last then nat_lt change m.change else m.change == change)

@@ -1,4 +1,4 @@
--- What is so of every update list.
+-- Facts about every update list.
 use Rattle.std.specs.Prelude.{◌≡◌, ◌↔◌, ℕ, ◌+◌, ◌≤◌, List, [], ◌∷◌, ◌++◌, length, Bool, true, false, codes, Option, Some, None}
 use Rattle.std.specs.List.{AllByRecursion, list_any}
 use Rattle.std.specs.Str.{bytes_eq}
@@ -17,20 +17,20 @@ use Rattle.lq_update.specs.Diff.{diff}
 use Rattle.lq_update.specs.Updates.{step_of, updates_from, updates_of, IsPrefixOf, IsSettled}
 use Rattle.lq_update.specs.Fold.{Folding, is_settled, settled_after, fold_refusals, folding_after_all, opened_at, EntriesRise, folded, fits_in, last_change}
 
--- a longer book only adds to the end of an update list
+-- a longer book only appends to an update list
 abbrev pub UpdatesGrow : Type 0
 UpdatesGrow = (q : Query) (moved : Bool) (b : Book) (m n : ℕ)
     → IsPrefixOf (updates_of q moved b m n) (updates_of q moved b m (n + 1))
 
--- the messages of some changes, and then those of more, from the state and the number that those
--- lead to
+-- the messages of a list of changes and further changes are those of the first list, then those of
+-- the further ones from the state and number that the first ones lead to
 abbrev pub UpdatesJoin : Type 0
 UpdatesJoin = (q : Query) (moved : Bool) (s : State) (cs ds : List Change) (seq : ℕ) →
     updates_from q moved s (cs ++ ds) seq
     ≡ updates_from q moved s cs seq
     ++ updates_from q moved (after_all s cs) ds (seq + length (updates_from q moved s cs seq))
 
--- one more change in a book adds just its messages to the end of an update list
+-- one more change in a book appends exactly its messages to an update list
 abbrev pub ChangesAddSteps : Type 0
 ChangesAddSteps = (q : Query) (moved : Bool) (b : Book) (c : Change) (m n : ℕ)
     → n ≡ number_of b → m ≤ n →
@@ -44,65 +44,66 @@ UpdatesStay = (q : Query) (moved : Bool) (longer b : Book) (m e : ℕ) → Exten
     → b.start.number ≤ m → m ≤ e → e ≤ number_of b
     → updates_of q moved longer m e ≡ updates_of q moved b m e
 
--- an update list up to a number is a prefix of that up to a later one
+-- an update list up to a number is a prefix of the update list up to a later number
 abbrev pub UpdatesArePrefixes : Type 0
 UpdatesArePrefixes = (q : Query) (moved : Bool) (b : Book) (m e n : ℕ) → e ≤ n
     → IsPrefix (updates_of q moved b m e) (updates_of q moved b m n)
 
--- an update list begins with no message
+-- an update list over no change is empty
 abbrev pub UpdatesBeginEmpty : Type 0
 UpdatesBeginEmpty = (q : Query) (moved : Bool) (b : Book) (m : ℕ) → updates_of q moved b m m ≡ []
 
--- an accepted change tells a query at most three messages
+-- an accepted change makes at most three messages for a query
 abbrev pub StepsAreFew : Type 0
 StepsAreFew = (q : Query) (moved : Bool) (s : State) (c : Change) (seq : ℕ) → IsVolume s
     → IsLawful s c → length (step_of q moved s c seq) ≤ 3
 
--- a result rises by node
+-- the entries of a result rise by node
 abbrev pub ResultsRise : Type 0
 ResultsRise = (q : Query) (s : State) → IsVolume s → EntriesRise (result_of q s)
 
--- folding a settled front of an update list over the opening's result gives the result after its
--- last change
+-- folding a settled prefix of an update list over the opening's result gives the result after the
+-- prefix's last change
 abbrev pub FoldsGiveResults : Type 0
 FoldsGiveResults = (q : Query) (moved : Bool) (b : Book) (m n : ℕ) (front : List Message)
     → IsVolume b.start → IsBook b → b.start.number ≤ m → m ≤ number_of b
     → IsPrefixOf front (updates_of q moved b m n) → IsSettled front
     → folded (result_of q (state_at b m)) front ≡ result_of q (state_at b (last_change m front))
 
--- and folding all of it gives the result after the whole book of its changes
+-- folding a whole update list gives the result after all its changes
 abbrev pub WholeFoldsGiveResults : Type 0
 WholeFoldsGiveResults = (q : Query) (moved : Bool) (b : Book) (m n : ℕ) → IsVolume b.start
     → IsBook b → b.start.number ≤ m → m ≤ n
     → folded (result_of q (state_at b m)) (updates_of q moved b m n) ≡ result_of q (state_at b n)
 
--- Behind each front of an update list the next message fits: a removed triple and a moved one's old
--- triple are in the fold of the front, and a created one's node isn't.
+-- After each prefix of an update list the next message fits: a removed triple or a moved one's old
+-- triple is in the fold of the prefix, and a created one's node isn't.
 abbrev pub MessagesFitIn : Type 0
 MessagesFitIn = (q : Query) (moved : Bool) (b : Book) (m n : ℕ) (front rest : List Message)
     (message : Message) → IsVolume b.start → IsBook b
     → front ++ message ∷ rest ≡ updates_of q moved b m n
     → fits_in (folded (result_of q (state_at b m)) front) message ≡ true
 
--- a fold from the opening's result that has taken a front of an update list refuses no next message
+-- after a prefix of an update list, a fold from the opening's result refuses no next message
 abbrev pub RebuildsTakeAll : Type 0
 RebuildsTakeAll = (q : Query) (moved : Bool) (b : Book) (m n : ℕ) (front rest : List Message)
     (message : Message) → IsVolume b.start → IsBook b → b.start.number ≤ m → m ≤ number_of b
     → front ++ message ∷ rest ≡ updates_of q moved b m n → first_refusal (fold_refusals
     (folding_after_all (opened_at m (result_of q (state_at b m))) front) message) ≡ None
 
--- a fold by many messages has their entries, their last change, and whether they are settled
+-- folding many messages gives the entries of their fold, their last change, and whether they are
+-- settled
 abbrev pub FoldingsFollow : Type 0
 FoldingsFollow = (f : Folding) (ms : List Message)
     → ((folding_after_all f ms).entries ≡ folded f.entries ms)
     × ((folding_after_all f ms).change ≡ last_change f.change ms)
     × ((folding_after_all f ms).settled ≡ settled_after f.settled ms)
 
--- the test of a settled list
+-- a list is settled exactly where the test says so
 abbrev pub SettledIsTested : Type 0
 SettledIsTested = (ms : List Message) → IsSettled ms ↔ (is_settled ms ≡ true)
 
--- the names under which alone a change alters what an entry shows, where it leaves every place
+-- the only names under which a change alters what an entry shows, if no place changes
 abbrev pub names_altered : Change → Option (List (List ℕ))
 names_altered (Create dir name kind size time) = None
 names_altered (Remove node) = None
@@ -111,7 +112,7 @@ names_altered (Write node size time) = Some (codes "size" ∷ codes "last_modifi
 names_altered (SetAttr node attr value) = Some (attr ∷ [])
 names_altered (RemoveAttr node attr) = Some (attr ∷ [])
 
--- a change under names that a predicate doesn't go by tells it nothing
+-- a change under names that a predicate doesn't depend on makes no message for it
 abbrev pub ChangesPassOver : Type 0
 ChangesPassOver = (q : Query) (moved : Bool) (s : State) (c : Change)
     (names altered : List (List ℕ)) → IsVolume s → GoesBy names q → names_altered c ≡ Some altered

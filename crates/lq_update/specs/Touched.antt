@@ -1,4 +1,4 @@
--- What one node tells, by what matched there before and after.
+-- The messages for one node, by what matched there before and after.
 use Rattle.std.specs.Prelude.{ℕ, Option, Some, None, Bool, true, false, if◌then◌else◌}
 use Rattle.std.specs.Option.{option_map, option_map_or}
 use Rattle.lq_value.specs.declared.entry.Entry.{Entry}
@@ -13,23 +13,23 @@ use Rattle.lq_update.specs.Diff.{same_entry}
 abbrev pub entry_at : ℕ → Option Record → Option Entry
 entry_at node seen = option_map (λ r. entry_of (node, r)) seen
 
--- the entry that left, where a node matched and now matches at another place or not at all
+-- the entry that left: the node matched, and now matches at another place or not at all
 abbrev pub left : Option Entry → Option Entry → Option Entry
 left None now = None
 left (Some e) now = if option_map_or (same_entry e) now false then None else Some e
 
--- that of a node from one state to another
+-- the entry of a node that left from one state to another
 abbrev pub left_at : Query → State → State → ℕ → Option Entry
 left_at q s t node = left (match_at q s node) (match_at q t node)
 
--- what is told behind the removed entries: the one that came, or in place of two the move
+-- what follows the removed entries: the entry that came, or the move that replaces two messages
 abbrev pub told_last : Bool → Option Entry → Option Entry → Option (Opcode × Entry)
 told_last moved old None = None
 told_last moved None (Some f) = Some (Created, f)
 told_last false (Some e) (Some f) = Some (Created, f)
 told_last true (Some e) (Some f) = Some (Moved e.dir e.name, f)
 
--- the removed entry, where no move stands in its place
+-- the removed entry, unless a move replaces it
 abbrev pub told_first : Bool → Option Entry → Option Entry → Option Entry
 told_first false old new = old
 told_first true old None = old

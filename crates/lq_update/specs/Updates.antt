@@ -29,7 +29,7 @@ numbered seq change (x ∷ xs) =
 abbrev pub step_of : Query → Bool → State → Change → ℕ → List Message
 step_of q moved s c seq = numbered seq (s.number + 1) (diff q moved s (after s c))
 
--- the messages of changes one after another, numbered from `seq` on
+-- the messages of changes made one after another, numbered from `seq` on
 abbrev pub updates_from : Query → Bool → State → List Change → ℕ → List Message
 updates_from q moved s [] seq = []
 updates_from q moved s (c ∷ cs) seq =
@@ -40,7 +40,7 @@ updates_from q moved s (c ∷ cs) seq =
 abbrev pub updates_of : Query → Bool → Book → ℕ → ℕ → List Message
 updates_of q moved b m n = updates_from q moved (state_at b m) (changes_between b m n) 1
 
--- the second list begins with the first
+-- the first list is a prefix of the second
 abbrev pub IsPrefixOf : List Message → List Message → Type 0
 IsPrefixOf xs ys = (rest : List Message) × (xs ++ rest ≡ ys)
 

@@ -1,4 +1,4 @@
-//! One message folded into the entries of a result.
+//! Folds one message into the entries of a result.
 ghost use Rattle.std.specs.Prelude.{◌≡◌, Some, None, IfOk, IfErr, IfSome, OnOk, OnErr, is_ok, is_some, not, if◌then◌else◌};
 ghost use Rattle.lq_value.specs.declared.refusal.Refusal.TheVariants.{Mismatch};
 ghost use Rattle.lq_value.specs.Refusal.{IsRefusedBy};
@@ -10,10 +10,10 @@ use crate::message::{Message, Opcode};
 use lq_value::{Entry, Name, Refusal};
 use std::alloc::Global;
 
-/// Folds a message into entries that rise by node, which they do afterwards too.
+/// Folds a message into entries that rise by node. Afterwards they still rise by node.
 ///
-/// Refused, the first that fits: `Mismatch` where it doesn't fit, `NoMemory`. A refused message
-/// changes nothing.
+/// Refused, the first that fits: `Mismatch` where the message doesn't fit the entries, `NoMemory`.
+/// A refused message changes nothing.
 pub fn fold(alloc: Global, entries: &mut Vec<Entry>, message: &Message) -> Result<(), Refusal>
     requires { EntriesRise entries.old.items }
     ensures refused { IsRefusedBy result
@@ -99,7 +99,7 @@ fn entry_of(alloc: Global, message: &Message) -> Result<Entry, Refusal>
     })
 }
 
-// The place of an entry, where it is in the result.
+// The index of an entry, if it is in the result.
 fn place_with(entries: &[Entry], dir: u64, name: &Name, node: u64) -> Option<usize>
     requires { EntriesRise entries.now }
     ensures found { IfSome result
@@ -123,7 +123,7 @@ fn is_triple(entry: &Entry, dir: u64, name: &Name, node: u64) -> bool
     dir == entry.dir && *name == entry.name && node == entry.node
 }
 
-// Where a node's entry is, or where it would go. It is found by halving.
+// The index of a node's entry, or where it would go, found by binary search.
 fn place_of(entries: &[Entry], node: u64) -> Result<usize, usize>
     requires { EntriesRise entries.now }
     ensures found { IfOk result (IsEntryAt entries.now node) }

@@ -11,10 +11,10 @@ use std::alloc::Global;
 use std::collections::BTreeMap;
 use std::marker::Model;
 
-/// A query's result as `Rebuild` keeps it, in a map by node: a message costs time logarithmic in
-/// the entries, wherever its node stands among them, and there is no slice of the entries.
+/// A query's result as in `Rebuild`, but kept in a map by node. A message costs time logarithmic in
+/// the number of entries, wherever its node stands among them. There is no slice of the entries.
 ///
-/// A contract sees it as a `Folding`, as it sees a `Rebuild`.
+/// Contracts see it as a `Folding`, as they see a `Rebuild`.
 #[derive(Drop)]
 pub struct IndexedRebuild {
     latest: Latest,
@@ -41,7 +41,7 @@ impl Model for IndexedRebuild {
 impl IndexedRebuild {
     /// The result at an opening, after `at` changes, before any message.
     ///
-    /// The entries' nodes rise strictly, as those of a fetch do. Refused: `NoMemory`.
+    /// The entries' nodes rise strictly, as in the result of a fetch. Refused: `NoMemory`.
     pub fn new(alloc: Global, at: u64, entries: &[Entry]) -> Result<IndexedRebuild, Refusal>
         requires { EntriesRise entries.now }
         ensures refused { IsRefusedBy result None }
@@ -63,16 +63,16 @@ impl IndexedRebuild {
         entries_of(self.alloc, &self.locations)
     }
 
-    /// Whether no message was taken yet or the latest was the last of its change, so that the
-    /// entries are the result after a whole change. It takes no memory.
+    /// Whether the entries are the result after a whole change: no message was taken yet, or the
+    /// latest one was the last of its change. It takes no memory.
     pub fn is_settled(&self) -> bool
         ensures { result ≡ self.now.settled }
     {
         self.latest.last
     }
 
-    /// The change of the latest message, or the opening's before the first message. It takes no
-    /// memory.
+    /// The number of the change of the latest message; before the first message, of the opening. It
+    /// takes no memory.
     pub fn last_change(&self) -> u64
         ensures { result ≡ self.now.change }
     {

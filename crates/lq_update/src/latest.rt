@@ -1,13 +1,13 @@
-//! How far a fold of messages has come.
+//! The progress of a fold of messages.
 ghost use Rattle.std.specs.Prelude.{◌≡◌, true};
 ghost use Rattle.lq_update.specs.Latest.{may_follow};
 
 use crate::message::Message;
 
-/// The latest message that was folded, or before the first what the opening stands for.
+/// The latest message that was folded; before the first message, what stands for the opening.
 ///
-/// `seq` is its number, 0 before the first, `change` the change that it told of, and `last` whether
-/// it was the last of that change.
+/// `seq` is the message's number, 0 before the first. `change` is the number of its change, and
+/// `last` says whether it was the last message of that change.
 #[derive(Clone, Copy)]
 pub struct Latest {
     pub seq: u64,
@@ -16,7 +16,7 @@ pub struct Latest {
 }
 
 impl Latest {
-    /// What an opening after `at` changes stands for.
+    /// The value for an opening after `at` changes.
     pub fn opening(at: u64) -> Latest
         ensures { result ≡ record { seq = 0; change = at; last = true } }
     {
@@ -27,7 +27,7 @@ impl Latest {
         }
     }
 
-    /// That of a message.
+    /// The value for a message.
     pub fn of(message: &Message) -> Latest
         ensures { result ≡ record {
           seq = message.now.seq;
@@ -42,8 +42,8 @@ impl Latest {
         }
     }
 
-    /// Whether this message may come next: its `seq` is one more, and its change is a later one
-    /// where the latest was the last of its change, and else the same.
+    /// Whether this message may come next. Its `seq` has to be one more. Its change has to be later
+    /// if the latest message was the last of its change, else the same.
     pub fn is_followed_by(self, message: &Message) -> bool
         ensures { result ≡ may_follow self.seq self.change self.last message.now }
     {

@@ -5,18 +5,18 @@ use lq_volume::{
     accepted_changes_keep_trees, changes_are_counted, clobbered_nodes_go, untouched_nodes_stay,
 };
 
-/// A longer book only adds to the end of an update list: the prefix law.
+/// A longer book only appends to an update list: the prefix law.
 pub fn updates_grow()
     ensures { UpdatesGrow }
 {}
 
-/// The messages of some changes and then more are those of the first, and then those of the
-/// others from the state and the number that the first lead to.
+/// The messages of a list of changes and of further changes are those of the first list, then those
+/// of the further ones from the state and the number that the first ones lead to.
 pub fn updates_join()
     ensures { UpdatesJoin }
 {}
 
-/// One more change in a book adds just its messages to the end of an update list, numbered on.
+/// One more change in a book appends exactly its messages to an update list, numbered onwards.
 pub fn changes_add_steps()
     ensures { ChangesAddSteps }
 {}
@@ -26,18 +26,18 @@ pub fn updates_stay()
     ensures { UpdatesStay }
 {}
 
-/// An update list up to a number is a prefix of that up to a later one: `updates_grow`, over many
-/// changes.
+/// An update list up to a number is a prefix of the update list up to a later number:
+/// `updates_grow`, over many changes.
 pub fn updates_are_prefixes()
     ensures { UpdatesArePrefixes }
 {}
 
-/// Before any change an update list has no message.
+/// An update list over no change is empty.
 pub fn updates_begin_empty()
     ensures { UpdatesBeginEmpty }
 {}
 
-/// An accepted change tells a query at most three messages.
+/// An accepted change makes at most three messages for a query.
 pub fn steps_are_few()
     ensures { StepsAreFew }
 {
@@ -46,13 +46,13 @@ pub fn steps_are_few()
     clobbered_nodes_go();
 }
 
-/// The entries of a result rise by node, so that a rebuild can begin with them.
+/// The entries of a result rise by node, so a rebuild can start from them.
 pub fn results_rise()
     ensures { ResultsRise }
 {}
 
-/// Folding a settled front of an update list over the opening's result gives the query's result
-/// after the change of its final message: the fold law.
+/// Folding a settled prefix of an update list over the opening's result gives the query's result
+/// after the change of the prefix's final message: the fold law.
 pub fn folds_give_results()
     ensures { FoldsGiveResults }
 {
@@ -67,25 +67,26 @@ pub fn whole_folds_give_results()
     accepted_changes_keep_trees();
 }
 
-/// Behind each front of an update list the next message fits what was folded: the presence law.
+/// After each prefix of an update list, the next message fits the fold so far: the presence law.
 pub fn messages_fit_in()
     ensures { MessagesFitIn }
 {
     accepted_changes_keep_trees();
 }
 
-/// A fold by many messages goes by their own fold, last change and settledness.
+/// Folding many messages into a rebuild gives the entries of their fold, their last change and
+/// whether they are settled.
 pub fn foldings_follow()
     ensures { FoldingsFollow }
 {}
 
-/// A list of messages is settled just where its test says so.
+/// A list of messages is settled exactly where the test `is_settled` says so.
 pub fn settled_is_tested()
     ensures { SettledIsTested }
 {}
 
-/// A rebuild that began with an opening's result and took a prefix of its update list takes the
-/// next message too: it is refused at most for want of memory.
+/// A rebuild that started with an opening's result and took a prefix of its update list also takes
+/// the next message: only `NoMemory` can refuse it.
 pub fn rebuilds_take_all()
     ensures { RebuildsTakeAll }
 {
@@ -93,11 +94,11 @@ pub fn rebuilds_take_all()
     changes_are_counted();
 }
 
-/// A write tells nothing to a predicate that names neither `size` nor `last_modified`, nor does a
-/// setting or removal of an attribute that it doesn't name: the passing-over law.
+/// A write makes no message for a predicate that names neither `size` nor `last_modified`. Setting
+/// or removing an attribute makes none for a predicate that doesn't name it: the passing-over law.
 ///
-/// It is stated over any list of names that the truth of the predicate goes by, as it goes by its
-/// `names` (`truth_goes_by_names` of lq_predicate).
+/// The law is stated for any list of names that the predicate's truth depends on alone, as it does
+/// on its `names` (`truth_goes_by_names` of lq_predicate).
 pub fn changes_pass_over()
     ensures { ChangesPassOver }
 {}

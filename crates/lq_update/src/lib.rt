@@ -1,7 +1,7 @@
-//! What one change does to one query's result, as numbered messages.
+//! The effect of one change on one query's result, as numbered messages.
 //!
-//! A contract sees the messages of a query over a book of changes as a list (`specs/Updates`),
-//! which goes by the results before and after each change alone (`specs/Diff`). Nothing here
+//! Contracts see the messages of a query over a book of changes as a list (`specs/Updates`). This
+//! list depends only on the results before and after each change (`specs/Diff`). Nothing here
 //! waits. Begin with `message`, then `step`.
 #![tactic(auto)]
 

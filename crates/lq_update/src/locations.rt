@@ -1,4 +1,4 @@
-//! One message folded into the locations of a result's nodes.
+//! Folds one message into the locations of a result's nodes.
 ghost use Rattle.std.specs.Prelude.{◌≡◌, None, Some, IfOk, OnOk, OnErr, not, if◌then◌else◌};
 ghost use Rattle.lq_value.specs.declared.refusal.Refusal.TheVariants.{Mismatch};
 ghost use Rattle.lq_value.specs.Refusal.{IsRefusedBy};
@@ -11,7 +11,7 @@ use lq_value::{Entry, Name, Refusal};
 use std::alloc::Global;
 use std::collections::BTreeMap;
 
-/// Where an entry is: the folder that it is in, and its name.
+/// The location of an entry: its folder and its name.
 #[derive(Drop)]
 pub struct Location {
     dir: u64,
@@ -63,8 +63,8 @@ pub fn entries_of(alloc: Global, locations: &BTreeMap<u64, Location>) -> Result<
 
 /// Folds a message into the locations of a result, in time logarithmic in their number.
 ///
-/// Refused, the first that fits: `Mismatch` where it doesn't fit, `NoMemory`. A refused message
-/// changes nothing.
+/// Refused, the first that fits: `Mismatch` where the message doesn't fit the locations,
+/// `NoMemory`. A refused message changes nothing.
 pub fn fold_into(
     alloc: Global,
     locations: &mut BTreeMap<u64, Location>,

@@ -7,13 +7,13 @@ pub enum Cause {
     Closed,
     /// Its reader asked for its end.
     HungUp,
-    /// More messages came than its backlog holds.
+    /// There were more messages than its backlog holds.
     Overrun,
 }
 
 /// The closing mark of a subscription, after its last message: our own.
 ///
-/// `seq` is one more than the last message's, and `change` is the last change that the messages
+/// `seq` is one more than that of the last message. `change` is the last change that the messages
 /// cover.
 #[derive(Clone, Copy, Debug)]
 pub struct Mark {

@@ -1,22 +1,22 @@
 //! The messages of a live query.
 use lq_value::Name;
 
-/// What a message tells of an entry, by the opcodes of B_QUERY_UPDATE.
+/// What a message says about an entry, by the opcodes of B_QUERY_UPDATE.
 #[derive(Debug, Drop)]
 pub enum Opcode {
-    /// B_ENTRY_CREATED: the entry has come into the result.
+    /// B_ENTRY_CREATED: the entry entered the result.
     Created,
-    /// B_ENTRY_REMOVED: the entry has left the result.
+    /// B_ENTRY_REMOVED: the entry left the result.
     Removed,
-    /// B_ENTRY_MOVED: the entry was in the result at this place, and is there at a new one.
+    /// B_ENTRY_MOVED: the entry was in the result at this place and is now in it at a new one.
     Moved { from_dir: u64, from_name: Name },
 }
 
 /// One update of a live query's result, as B_QUERY_UPDATE in The Be Book.
 ///
-/// `seq` counts a subscription's messages from 1, `change` is the number of the change that it
-/// tells of, and `last` is true on the final message of that change. `dir` and `name` are the
-/// entry's place; of a moved one it is the new one.
+/// `seq` counts a subscription's messages from 1. `change` is the number of the change that made
+/// the message, and `last` is true on the final message of that change. `dir` and `name` are the
+/// entry's place; for a moved entry, its new place.
 #[derive(Debug, Drop)]
 pub struct Message {
     pub seq: u64,

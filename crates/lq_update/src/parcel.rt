@@ -1,4 +1,4 @@
-//! What a subscription's port carries.
+//! The items in a subscription's port.
 use crate::mark::Mark;
 use crate::message::Message;
 

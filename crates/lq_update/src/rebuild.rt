@@ -12,8 +12,8 @@ use std::marker::Model;
 
 /// A query's result, kept by folding the messages of its subscription.
 ///
-/// A contract sees it as a `Folding`: how many messages it has taken, whether the latest was the
-/// last of its change, that change, and the entries by rising node.
+/// Contracts see it as a `Folding`: how many messages it has taken, whether the latest one was the
+/// last of its change, the number of that change, and the entries by rising node.
 #[derive(Drop)]
 pub struct Rebuild {
     latest: Latest,
@@ -39,7 +39,7 @@ impl Model for Rebuild {
 impl Rebuild {
     /// The result at an opening, after `at` changes, before any message.
     ///
-    /// The entries' nodes rise strictly, as those of a fetch do. It takes no memory.
+    /// The entries' nodes rise strictly, as in the result of a fetch. It takes no memory.
     pub fn new(alloc: Global, at: u64, entries: Vec<Entry>) -> Rebuild
         requires { EntriesRise entries.items }
         ensures { result ≡ opened_at at entries.items }
@@ -59,30 +59,30 @@ impl Rebuild {
         &self.entries
     }
 
-    /// Whether no message was taken yet or the latest was the last of its change, so that the
-    /// entries are the result after a whole change. It takes no memory.
+    /// Whether the entries are the result after a whole change: no message was taken yet, or the
+    /// latest one was the last of its change. It takes no memory.
     pub fn is_settled(&self) -> bool
         ensures { result ≡ self.now.settled }
     {
         self.latest.last
     }
 
-    /// The change of the latest message, or the opening's before the first message. It takes no
-    /// memory.
+    /// The number of the change of the latest message; before the first message, of the opening. It
+    /// takes no memory.
     pub fn last_change(&self) -> u64
         ensures { result ≡ self.now.change }
     {
         self.latest.change
     }
 
-    /// Takes the next message: what was removed goes, what was created comes, what moved changes
-    /// its place.
+    /// Takes the next message: a removed entry is taken out, a created one is put in, a moved one
+    /// gets its new place.
     ///
-    /// Refused, the first that fits: `OutOfStep` where `seq` isn't one more than that of the
-    /// latest message (1 for the first), or `change` isn't above the latest's where this was the
-    /// last of its change, or isn't the same where it wasn't; `Mismatch` where a removed
-    /// entry or a moved one's old place isn't in the result, or a created one's node is;
-    /// `NoMemory`. A refused message changes nothing.
+    /// Refused, the first that fits: `OutOfStep` where `seq` isn't one more than the latest (1 for
+    /// the first), or `change` isn't above the latest message's although that was the last of its
+    /// change, or differs from it although that wasn't; `Mismatch` where a removed entry or a moved
+    /// one's old place isn't in the result, or a created entry's node is; `NoMemory`. A refused
+    /// message changes nothing.
     pub fn apply(&mut self, message: &Message) -> Result<(), Refusal>
         ensures refused { IsRefusedBy result (first_refusal (fold_refusals self.old message.now)) }
         ensures ok { OnOk result (self.new ≡ folding_after self.old message.now) }

@@ -21,13 +21,14 @@ use lq_volume::{
 };
 use std::alloc::Global;
 
-/// What an accepted change tells a query, by the match step of Practical File System Design.
+/// The messages of an accepted change for a query, by the match step of Practical File System
+/// Design.
 ///
-/// The removed entries by rising node, then the moved ones, then the created ones; with `moved`
-/// one moved message stands in place of a removed and a created one of the same node, without it
-/// there is none. `change` is the number of this change, `seq` counts from `first_seq`, and `last`
-/// is true on the final message. Refused: `NoMemory`. It changes nothing. One who has planned the
-/// change calls `step_planned`, which doesn't check it again.
+/// First the removed entries by rising node, then the moved, then the created ones. With `moved`,
+/// one moved message replaces a removed and a created one of the same node; else there is none.
+/// `change` is the number of this change, `seq` counts from `first_seq`, and `last` is true on the
+/// final message. Refused: `NoMemory`. It changes nothing. For a planned change call
+/// `step_planned`, which doesn't check the change again.
 pub fn step(
     alloc: Global,
     predicate: &Predicate,
@@ -47,12 +48,12 @@ pub fn step(
     step_planned(alloc, predicate, &planned, first_seq, moved)
 }
 
-/// What a change that was planned tells a query: as `step` on the volume and the change of the
-/// plan.
+/// The messages of a planned change for a query, as `step` gives them for the plan's volume and
+/// change.
 ///
-/// It looks only at the entries that the plan has, searches for none, and takes memory for its
-/// messages alone. Refused: `NoMemory`. It changes nothing. One who asks `may_tell` first is
-/// quicker where there is no message.
+/// It reads only the entries in the plan, looks up no other, and takes memory only for its
+/// messages. Refused: `NoMemory`. It changes nothing. Asking `may_tell` first is faster where there
+/// is no message.
 pub fn step_planned(
     alloc: Global,
     predicate: &Predicate,
@@ -70,10 +71,9 @@ pub fn step_planned(
     tell_difference(alloc, predicate, planned, left, came, first_seq, moved)
 }
 
-/// Whether a planned change may tell a query something: where it is false, `step_planned` has no
-/// message.
+/// Whether a planned change may make a message for a query: if false, `step_planned` gives none.
 ///
-/// It looks only at the entries that the plan has. It takes no memory.
+/// It reads only the entries in the plan. It takes no memory.
 pub fn may_tell(predicate: &Predicate, planned: &Planned<'_>) -> bool
     ensures { (moved : Bool) → (seq : ℕ) → result ≡ false
         → step_of predicate.now moved planned.now.before planned.now.change seq ≡ [] }
@@ -88,10 +88,11 @@ pub fn may_tell(predicate: &Predicate, planned: &Planned<'_>) -> bool
     true
 }
 
-/// Whether a planned change is a write whose size and time stay on one side of all numbers that a
-/// query compares them with: where it is true, `step_planned` has no message.
+/// Whether a planned change is a write whose old and new size are on the same side of all numbers
+/// that a query compares sizes with, and its times likewise: if true, `step_planned` gives no
+/// message.
 ///
-/// It asks the predicate nothing, but its `Spans`. It takes no memory.
+/// It reads the predicate's `Spans`, not the predicate. It takes no memory.
 pub fn writes_beside(spans: &Spans, planned: &Planned<'_>) -> bool
     ensures { (q : Query) → (moved : Bool) → (seq : ℕ) → result ≡ true → spans.now ≡ spans_of q
         → step_of q moved planned.now.before planned.now.change seq ≡ [] }
@@ -109,7 +110,7 @@ pub fn writes_beside(spans: &Spans, planned: &Planned<'_>) -> bool
     spans.is_beside_sizes(seen.size(), *size) && spans.is_beside_times(seen.time(), *time)
 }
 
-// What is told where these left at the change's own node and came into it there.
+// The messages for the entries that left the result and came into it at the change's own node.
 #[inline(never)]
 fn tell_difference<'s, 'a>(
     alloc: Global,
@@ -141,8 +142,8 @@ fn tell_difference<'s, 'a>(
     tell_joined(alloc, predicate, planned, made, removed, last, first_seq)
 }
 
-// The messages for the change's own node, joined with those for the node that it takes away, if
-// there is one.
+// The messages for the change's own node, joined with those for the node that the change removes,
+// if any.
 #[inline(always)]
 fn tell_joined(
     alloc: Global,
@@ -190,7 +191,7 @@ fn tell_joined(
     )
 }
 
-// The entry of the node that a change takes away, where it matched.
+// The entry of the node that a change removes, if it matched.
 #[inline(always)]
 fn gone_of(
     alloc: Global,
@@ -207,7 +208,7 @@ fn gone_of(
     }
 }
 
-// Whether a change takes away a node below this one.
+// Whether a change removes another node that is lower than this one.
 #[inline(always)]
 fn is_below(taken: Option<(u64, &Seen<'_>)>, node: u64) -> bool
     ensures { result ≡ option_map_or (λ e. nat_lt e.0 node) taken.entry false }
@@ -218,8 +219,8 @@ fn is_below(taken: Option<(u64, &Seen<'_>)>, node: u64) -> bool
     }
 }
 
-// The messages of the entry that left at the change's own node and of the one of the node that it
-// takes away, by rising node, and of one that came or moved.
+// The messages of the entries that left, by rising node: at the change's own node and at the one
+// that it removes. Then the message of an entry that came or moved.
 #[inline(always)]
 fn tell_by_node(
     alloc: Global,
@@ -246,7 +247,7 @@ fn tell_by_node(
     }
 }
 
-// A change keeps the tree, and alters no more than its own node and the one that it takes away.
+// A change keeps the tree, and alters at most its own node and the one that it removes.
 fn changes_touch_few()
     ensures trees { ChangesKeepTrees }
     ensures stay { UntouchedStay }
@@ -276,7 +277,7 @@ fn difference<'s, 'a>(
     split(old, new)
 }
 
-// The entry that is seen, where it matches the predicate.
+// What is seen of an entry, if it matches the predicate.
 fn matching<'s, 'a>(predicate: &Predicate, seen: Option<&'s Seen<'a>>) -> Option<&'s Seen<'a>>
     ensures { (node : ℕ) → entry_at node (option_copied result)
         ≡ option_and_then (λ r. entry_if predicate.now (node, r)) (option_copied seen.entry) }
@@ -293,8 +294,8 @@ fn matching<'s, 'a>(predicate: &Predicate, seen: Option<&'s Seen<'a>>) -> Option
     }
 }
 
-// What left at a node and what came, where these matched there before and after: nothing where
-// both did at one place.
+// What left at a node and what came, by what matched there before and after: nothing where both
+// matched at one place.
 fn split<'s, 'a>(
     old: Option<&'s Seen<'a>>,
     new: Option<&'s Seen<'a>>,
@@ -316,7 +317,7 @@ fn split<'s, 'a>(
     }
 }
 
-// The entry of what is seen at a node.
+// The entry at a node, from what is seen of it.
 fn copied(alloc: Global, seen: Option<&Seen<'_>>, node: u64) -> Result<Option<Entry>, Refusal>
     ensures refused { IsRefusedBy result None }
     ensures value { IfOk result (λ entry. entry ≡ entry_at node (option_copied seen.entry)) }
@@ -385,8 +386,8 @@ fn tell(
     }
 }
 
-// Behind these the message of the entry that left, if one did, and of the one that came or moved,
-// if one did: the last ones of their change.
+// Appends the message of the entry that left, if any, and of the one that came or moved, if any:
+// the last messages of their change.
 #[inline(always)]
 fn put_rest(
     mut messages: Vec<Message>,
@@ -411,7 +412,7 @@ fn put_rest(
     }
 }
 
-// Behind these the message of an entry that came or moved, if one did: the last one of its change.
+// Appends the message of an entry that came or moved, if any: the last one of its change.
 #[inline(always)]
 fn put_last(
     mut messages: Vec<Message>,

@@ -21,7 +21,7 @@ HasOwnNames (a ∷ attrs) = AllByRecursion (λ b. bytes_eq a.0 b.0 ≡ false) at
 abbrev pub value_of : Attributes → List ℕ → Option Value
 value_of attrs attr = lookup (bytes_eq attr) attrs
 
--- a present attribute keeps its place and takes the value, another goes last
+-- an attribute that is there keeps its position and takes the value, a new one goes last
 abbrev pub with_attr : Attributes → List ℕ → Value → Attributes
 with_attr attrs attr value = insert_entry bytes_eq attrs attr value
 
@@ -29,7 +29,7 @@ with_attr attrs attr value = insert_entry bytes_eq attrs attr value
 abbrev pub without_attr : Attributes → List ℕ → Attributes
 without_attr attrs attr = filter (λ a. not (bytes_eq attr a.0)) attrs
 
--- the names that show what every entry has
+-- the names under which every entry shows its own properties
 abbrev pub is_reserved : List ℕ → Bool
 is_reserved attr =
     bytes_eq attr (codes "name") || bytes_eq attr (codes "size")

@@ -1,15 +1,15 @@
--- A book: a state to begin with, and the accepted changes since, in order.
+-- A book: an initial state, and the changes accepted since, in order.
 use Rattle.std.specs.Prelude.{◌≡◌, ℕ, ◌+◌, ◌-◌, List, [], ◌∷◌, ◌++◌, length, take, drop}
 use Rattle.lq_volume.specs.declared.change.Change.{Change}
 use Rattle.lq_volume.specs.State.{State}
 use Rattle.lq_volume.specs.Change.{after, IsLawful}
 
--- a state to begin with, and the changes since
+-- an initial state, and the changes since
 pub record Book : Type 0 where
   pub start : State
   pub changes : List Change
 
--- the state after these changes, one after another
+-- the state after these changes, made one after another
 abbrev pub after_all : State → List Change → State
 after_all s [] = s
 after_all s (c ∷ cs) = after_all (after s c) cs
@@ -19,7 +19,7 @@ abbrev pub AreLawful : State → List Change → Type 0
 AreLawful s [] = Unit {0}
 AreLawful s (c ∷ cs) = IsLawful s c × AreLawful (after s c) cs
 
--- each change of the book is lawful where it is made
+-- each change of the book is lawful in the state that it meets
 abbrev pub IsBook : Book → Type 0
 IsBook b = AreLawful b.start b.changes
 
@@ -35,14 +35,14 @@ number_of b = b.start.number + length b.changes
 abbrev pub state_at : Book → ℕ → State
 state_at b n = after_all b.start (take (n - b.start.number) b.changes)
 
--- the changes above number m, up to number n
+-- the changes with numbers above m, up to n
 abbrev pub changes_between : Book → ℕ → ℕ → List Change
 changes_between b m n = take (n - m) (drop (m - b.start.number) b.changes)
 
--- the book with more changes at its end
+-- the book with more changes added at its end
 abbrev pub grown : Book → List Change → Book
 grown b changes = record { start = b.start; changes = b.changes ++ changes }
 
--- one start, and a prefix of the changes
+-- both books have the same initial state, and the changes of the second are a prefix of the first's
 abbrev pub Extends : Book → Book → Type 0
 Extends c b = (more : List Change) × (c ≡ grown b more)

@@ -1,4 +1,4 @@
--- When a change is refused, and the state after one that is not.
+-- When a change is refused, and the state after an accepted one.
 use Rattle.std.specs.Prelude.{◌≡◌, ℕ, ℤ, ◌+◌, List, [], ◌∷◌, ◌++◌, Bool, false, not, ◌&&◌, ◌==◌, nat_le, nat_lt, Option, Some, None, is_none, filter, map, option_and_then, if◌then◌else◌}
 use Rattle.std.specs.Option.{option_map, option_map_or, option_to_list}
 use Rattle.lq_value.specs.declared.kind.Kind.{Kind}
@@ -12,28 +12,28 @@ use Rattle.lq_volume.specs.Attributes.{Attributes, value_of, with_attr, without_
 use Rattle.lq_volume.specs.Kind.{is_folder}
 use Rattle.lq_volume.specs.State.{State, Record, root, record_at, kind_at, is_folder_at, has_entries, is_taken, node_in, reaches}
 
--- whether the node is there and is no folder
+-- whether the node is there and isn't a folder
 abbrev pub is_file_at : State → ℕ → Bool
 is_file_at s node = option_map_or (λ k. not (is_folder k)) (kind_at s node) false
 
--- whether no change more is accepted
+-- whether the volume accepts no further change
 abbrev pub is_full : State → Bool
 is_full s = nat_le s.limit s.number
 
--- the node that has a place, if it is another one
+-- the node at a place, if it is another one
 abbrev pub other_than : ℕ → Option ℕ → Option ℕ
 other_than node None = None
 other_than node (Some there) = if there == node then None else Some there
 
--- the node that has this place, if it is another than this one
+-- the node at this place, if it is another than this one
 abbrev pub other_at : State → ℕ → ℕ → List ℕ → Option ℕ
 other_at s node dir name = other_than node (node_in s.records dir name)
 
--- whether another node is there, with a property
+-- whether there is another node, with this property
 abbrev pub is_other : Option ℕ → (ℕ → Bool) → Bool
 is_other other test = option_map_or test other false
 
--- whether two tests answer differently
+-- whether two tests give different answers
 abbrev pub differ : Bool → Bool → Bool
 differ a b = if a then not b else b
 
@@ -41,7 +41,7 @@ differ a b = if a then not b else b
 abbrev pub attr_of : State → ℕ → List ℕ → Option Value
 attr_of s node attr = option_and_then (λ r. value_of r.attrs attr) (record_at s node)
 
--- the tests of a change in their order, and what each that holds refuses it with
+-- the tests of a creation in order, each with the refusal that it gives where it holds
 abbrev pub create_refusals : State → ℕ → List ℕ → Kind → ℕ → List (Bool × Refusal)
 create_refusals s dir name kind size =
     (is_none (kind_at s dir), NoNode)
@@ -61,7 +61,7 @@ remove_refusals s node =
     ∷ (is_full s, Exhausted)
     ∷ []
 
--- a node that has its place already is refused by none of the three tests of the other there
+-- a node that is already at its place passes the three tests of the other node there
 abbrev pub move_refusals : State → ℕ → ℕ → List ℕ → Bool → List (Bool × Refusal)
 move_refusals s node dir name clobber =
     (is_none (kind_at s node), NoNode)
@@ -82,7 +82,7 @@ move_refusals s node dir name clobber =
     ∷ (is_full s, Exhausted)
     ∷ []
 
--- the tests of a write
+-- the tests of a write, in order
 abbrev pub write_refusals : State → ℕ → ℕ → List (Bool × Refusal)
 write_refusals s node size =
     (is_none (kind_at s node), NoNode)
@@ -92,7 +92,7 @@ write_refusals s node size =
     ∷ (is_full s, Exhausted)
     ∷ []
 
--- the tests of a setting of an attribute
+-- the tests of setting an attribute, in order
 abbrev pub set_refusals : State → ℕ → List ℕ → List (Bool × Refusal)
 set_refusals s node attr =
     (is_none (kind_at s node), NoNode)
@@ -101,7 +101,7 @@ set_refusals s node attr =
     ∷ (is_full s, Exhausted)
     ∷ []
 
--- the tests of a removal of an attribute
+-- the tests of removing an attribute, in order
 abbrev pub unset_refusals : State → ℕ → List ℕ → List (Bool × Refusal)
 unset_refusals s node attr =
     (is_none (kind_at s node), NoNode)
@@ -111,7 +111,7 @@ unset_refusals s node attr =
     ∷ (is_full s, Exhausted)
     ∷ []
 
--- the tests of any change, each with its refusal
+-- the tests of any change in order, each with its refusal
 abbrev pub refusals : State → Change → List (Bool × Refusal)
 refusals s (Create dir name kind size time) = create_refusals s dir name kind size
 refusals s (Remove node) = remove_refusals s node
@@ -120,11 +120,11 @@ refusals s (Write node size time) = write_refusals s node size
 refusals s (SetAttr node attr value) = set_refusals s node attr
 refusals s (RemoveAttr node attr) = unset_refusals s node attr
 
--- the first of them that holds
+-- the refusal of the first test that holds
 abbrev pub refused : State → Change → Option Refusal
 refused s c = first_refusal (refusals s c)
 
--- no row of the table holds
+-- no test of the change holds
 abbrev pub IsLawful : State → Change → Type 0
 IsLawful s c = refused s c ≡ None
 
@@ -133,15 +133,15 @@ abbrev pub without : Option ℕ → List (ℕ × Record) → List (ℕ × Record
 without None es = es
 without (Some node) es = filter (λ e. not (e.0 == node)) es
 
--- an entry, where the record of one node is altered
+-- an entry, with its record altered if it is the entry of this node
 abbrev pub altered_at : ℕ → (Record → Record) → ℕ × Record → ℕ × Record
 altered_at node f e = (e.0, if e.0 == node then f e.1 else e.1)
 
--- the entries, where the record of one node is altered
+-- the entries, with the record of one node altered
 abbrev pub altered : ℕ → (Record → Record) → List (ℕ × Record) → List (ℕ × Record)
 altered node f es = map (altered_at node f) es
 
--- a record at another place, one with another size, and one with other attributes
+-- a record with another place
 abbrev pub at_place : ℕ → List ℕ → Record → Record
 at_place dir name r =
     record { dir = dir; name = name; kind = r.kind; size = r.size; time = r.time; attrs = r.attrs }
@@ -162,15 +162,15 @@ with_attrs attrs r = record {
   attrs = attrs;
 }
 
--- a record where one attribute is set
+-- a record with one attribute set
 abbrev pub set_attr : List ℕ → Value → Record → Record
 set_attr attr value r = with_attrs (with_attr r.attrs attr value) r
 
--- a record where one attribute is removed
+-- a record with one attribute removed
 abbrev pub remove_attr : List ℕ → Record → Record
 remove_attr attr r = with_attrs (without_attr r.attrs attr) r
 
--- one change more, and other records
+-- the state with one more change counted, and these records
 abbrev pub changed : State → List (ℕ × Record) → State
 changed s records =
     record { limit = s.limit; number = s.number + 1; next = s.next; records = records }
@@ -205,7 +205,7 @@ node_of s (Write node size time) = node
 node_of s (SetAttr node attr value) = node
 node_of s (RemoveAttr node attr) = node
 
--- the other node that a move takes away
+-- the other node that a move removes
 abbrev pub clobbered : State → Change → Option ℕ
 clobbered s (Create dir name kind size time) = None
 clobbered s (Remove node) = None
@@ -218,7 +218,7 @@ clobbered s (RemoveAttr node attr) = None
 abbrev pub touched_by : State → Change → List ℕ
 touched_by s c = node_of s c ∷ option_to_list (clobbered s c)
 
--- the record that a change leaves at its own node
+-- the record of the change's own node after the change
 abbrev pub record_left : State → Change → Option Record
 record_left s (Create dir name kind size time) =
     Some (record { dir = dir; name = name; kind = kind; size = size; time = time; attrs = [] })

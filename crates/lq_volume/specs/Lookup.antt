@@ -6,7 +6,7 @@ use Rattle.lq_volume.specs.declared.entry_ref.Listing.{Listing}
 use Rattle.lq_volume.specs.State.{State, Record, root, kind_at, node_in}
 use Rattle.lq_volume.specs.Change.{is_file_at}
 
--- of the node at a place
+-- the tests of a look-up of the node at a place
 abbrev pub find_refusals : State → ℕ → List ℕ → List (Bool × Refusal)
 find_refusals s dir name =
     (is_none (kind_at s dir), NoNode)
@@ -14,7 +14,7 @@ find_refusals s dir name =
     ∷ (is_none (node_in s.records dir name), NoEntry)
     ∷ []
 
--- of the entry of a node: the root is none
+-- the tests of a look-up of the entry of a node; the root is not an entry
 abbrev pub entry_refusals : State → ℕ → List (Bool × Refusal)
 entry_refusals s node =
     (is_none (kind_at s node), NoNode)

@@ -1,10 +1,10 @@
--- Lists in the order of a number that each item has. No public clause names them.
+-- Lists ordered by a number of each item. No public clause names them.
 use Rattle.std.specs.Prelude.{◌<◌, ℕ, List, [], ◌∷◌, nat_le, if◌then◌else◌}
 use Rattle.std.specs.Borrow.{Bor}
 use Rattle.std.specs.List.{AllByRecursion}
 use Rattle.lq_volume.specs.State.{Record}
 
--- a list with one item more, before the first whose number is no less
+-- a list with one more item, before the first item whose number is at least as great
 abbrev pub insert_by : {X : Type 0} → (X → ℕ) → X → List X → List X
 insert_by number x [] = x ∷ []
 insert_by number x (y ∷ ys) =

@@ -11,7 +11,7 @@ pub record Plan : Type 0 where
   pub before : State
   pub change : Change
 
--- the change is lawful, and what was looked up is what the definitions say
+-- the change is lawful, and each look-up gave what the definitions say
 pub record IsPlanned (s : State) (c : Change) (t : Touched) : Type 0 where
   pub volume : IsVolume s
   pub lawful : IsLawful s c
@@ -19,6 +19,6 @@ pub record IsPlanned (s : State) (c : Change) (t : Touched) : Type 0 where
   pub node : t.node ≡ node_of s c
   pub before : t.before ≡ record_at s (node_of s c)
   pub after : t.after ≡ record_left s c
-  -- the other node that goes, with its record
+  -- the other node that is removed, with its record
   pub clobbered : option_map (λ e. e.0) t.clobbered ≡ clobbered s c
   pub gone : IfSome t.clobbered (λ e. record_at s e.0 ≡ Some e.1)

@@ -1,4 +1,4 @@
--- What a query gives: the entries of the records that its predicate holds of, by rising node.
+-- The result of a query: the entries of the records that match its predicate, by rising node.
 use Rattle.std.specs.Prelude.{ℕ, pos, List, Option, Some, None, option_and_then, map, filter, codes, if◌then◌else◌}
 use Rattle.std.specs.Option.{option_map}
 use Rattle.std.specs.Str.{bytes_eq}
@@ -21,14 +21,14 @@ shown r attr =
 abbrev pub entry_of : ℕ × Record → Entry
 entry_of e = record { dir = e.1.dir; name = e.1.name; node = e.0 }
 
--- the entries of the records that the predicate holds of, by rising node
+-- the entries of the records that match the predicate, by rising node
 abbrev pub result_of : Query → State → List Entry
 result_of q s = map entry_of (filter (λ e. truth q (shown e.1)) s.records)
 
--- the entry of one record, where the predicate holds of it
+-- the entry of one record, if it matches the predicate
 abbrev pub entry_if : Query → ℕ × Record → Option Entry
 entry_if q e = if truth q (shown e.1) then Some (entry_of e) else None
 
--- the entry of the result that has this node
+-- the entry in the result with this node
 abbrev pub match_at : Query → State → ℕ → Option Entry
 match_at q s node = option_and_then (λ r. entry_if q (node, r)) (record_at s node)

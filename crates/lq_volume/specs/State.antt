@@ -1,4 +1,4 @@
--- What a volume holds: its limit, how many changes it accepted, the next node, and the records by
+-- What a volume holds: its limit, the number of accepted changes, the next node, and the records by
 -- rising node.
 use Rattle.std.specs.Prelude.{ℕ, ℤ, zero, suc, ◌≡◌, ◌+◌, ◌≤◌, ◌<◌, List, [], ◌∷◌, length, Bool, true, false, ◌&&◌, ◌||◌, ◌==◌, nat_eq, Option, Some, None, if◌then◌else◌}
 use Rattle.std.specs.Option.{option_map, option_map_or}
@@ -34,7 +34,7 @@ root = 1
 abbrev pub record_at : State → ℕ → Option Record
 record_at s node = lookup (nat_eq node) s.records
 
--- the kind of a node: the root is a folder
+-- the kind of a node; the root is a folder
 abbrev pub kind_at : State → ℕ → Option Kind
 kind_at s node = if node == root then Some Folder else option_map (λ r. r.kind) (record_at s node)
 
@@ -42,31 +42,31 @@ kind_at s node = if node == root then Some Folder else option_map (λ r. r.kind)
 abbrev pub is_folder_at : State → ℕ → Bool
 is_folder_at s node = option_map_or is_folder (kind_at s node) false
 
--- the folder that a node is in; the root is in none
+-- the folder that contains a node; none for the root
 abbrev pub dir_of : List (ℕ × Record) → ℕ → Option ℕ
 dir_of es node = option_map (λ r. r.dir) (lookup (nat_eq node) es)
 
--- whether a walk up from a node, of at most so many steps, comes to another
+-- whether a walk up from a node, of at most this many steps, reaches another
 abbrev pub climbs : ℕ → (ℕ → Option ℕ) → ℕ → ℕ → Bool
 climbs zero up to at = at == to
 climbs (suc steps) up to at = (at == to) || option_map_or (climbs steps up to) (up at) false
 
--- whether a walk up by the folders comes from a node to another: whether it is that one or below it
+-- whether a walk up, folder by folder, leads from one node to another: the same node or one above
 abbrev pub reaches : State → ℕ → ℕ → Bool
 reaches s at to = climbs (length s.records) (dir_of s.records) to at
 
--- the node that has a place
+-- the node at a place
 abbrev pub node_in : List (ℕ × Record) → ℕ → List ℕ → Option ℕ
 node_in [] dir name = None
 node_in (e ∷ es) dir name =
     if (e.1.dir == dir) && bytes_eq e.1.name name then Some e.0
     else node_in es dir name
 
--- whether an entry is in the folder, and whether one has that place
+-- whether the folder contains an entry
 abbrev pub has_entries : State → ℕ → Bool
 has_entries s dir = list_any (λ r. r.dir == dir) (values_of s.records)
 
--- whether an entry has that place
+-- whether an entry is at that place
 abbrev pub is_taken : State → ℕ → List ℕ → Bool
 is_taken s dir name = list_any (λ r. (r.dir == dir) && bytes_eq r.name name) (values_of s.records)
 
@@ -74,27 +74,27 @@ is_taken s dir name = list_any (λ r. (r.dir == dir) && bytes_eq r.name name) (v
 abbrev pub empty_state : ℕ → State
 empty_state limit = record { limit = limit; number = 0; next = 2; records = [] }
 
--- the nodes rise, so none comes twice
+-- the nodes rise, so none occurs twice
 abbrev pub Rises : List (ℕ × Record) → Type 0
 Rises [] = Unit {0}
 Rises (e ∷ es) = AllByRecursion (λ f. e.0 < f.0) es × Rises es
 
--- what is always so of a volume's numbers and nodes
+-- the invariants of a volume's numbers and nodes
 pub record IsNumbered (s : State) : Type 0 where
   pub limit : s.limit ≤ 1000000000000
   pub number : s.number ≤ s.limit
   pub next : 2 ≤ s.next
   pub few : s.next ≤ s.number + 2
   pub rise : Rises s.records
-  -- each node is from 2 to the one before the next
+  -- each node is at least 2 and below the next one to be used
   pub above : AllByRecursion (λ e. 2 ≤ e.0) s.records
   pub below : AllByRecursion (λ e. e.0 < s.next) s.records
 
 -- the records are a tree
 pub record IsTree (s : State) : Type 0 where
-  -- each record is in the root or in a folder of the map
+  -- each record is in the root or in a folder that has a record
   pub folders : (n : ℕ) (r : Record) → record_at s n ≡ Some r → is_folder_at s r.dir ≡ true
-  -- walking up reaches the root
+  -- a walk up from each record reaches the root
   pub climb : (n : ℕ) (r : Record) → record_at s n ≡ Some r → reaches s n root ≡ true
   -- no two records share a folder and a name
   pub apart : (m n : ℕ) (q r : Record) → record_at s m ≡ Some q → record_at s n ≡ Some r
@@ -104,9 +104,9 @@ pub record IsTree (s : State) : Type 0 where
   -- the root has no record
   pub no_root : record_at s root ≡ None
 
--- what is always so of a volume
+-- the invariants of a volume
 pub record IsVolume (s : State) : Type 0 where
   pub numbered : IsNumbered s
   pub tree : IsTree s
-  -- the attributes of an entry have names of their own
+  -- no two attributes of an entry have the same name
   pub named : AllByRecursion (λ e. HasOwnNames e.1.attrs) s.records

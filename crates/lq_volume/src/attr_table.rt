@@ -1,4 +1,4 @@
-//! The attributes of an entry that has some.
+//! The attributes of an entry that has at least one.
 ghost use Rattle.std.specs.Prelude.{◌≡◌, [], length, slice_get, Some, None, IfOk, IfSome, IfNone, OnOk, OnErr};
 ghost use Rattle.std.specs.Map.Iter.{deref_pair};
 ghost use Rattle.std.specs.Option.{option_copied, option_map};
@@ -10,21 +10,21 @@ use lq_value::{AttrName, Refusal, Value, same_text};
 use std::alloc::Global;
 use std::marker::Model;
 
-/// A list with this many attributes becomes a map before the next is set.
+/// A list with this many attributes becomes a map before the next one is set.
 const FEW: usize = 16;
 
-/// The attributes of an entry that has some, in the order in which they were first set.
+/// The attributes of an entry that has at least one, in the order in which they were first set.
 ///
-/// A contract sees them as the list of their names and values.
+/// Contracts see them as the list of their names and values.
 #[derive(Debug)]
 pub struct AttrTable {
     alloc: Global,
-    // A list that is searched, since a map takes far more memory; it is empty where there are many.
+    // A list to search, since a map takes far more memory; empty where there are many attributes.
     few: Vec<(AttrName, Value)>,
     many: Option<Box<IndexMap<AttrName, Value>>>,
 }
 
-// One call takes it apart, wherever one is dropped.
+// Dropping one is a single call, instead of code at each place.
 impl Drop for AttrTable {
     fn drop(self) {
         let AttrTable {
@@ -49,7 +49,7 @@ impl Model for AttrTable {
 impl AttrTable {
     ghost use Rattle.lq_volume.specs.Attributes.{value_of, with_attr, without_attr};
 
-    /// None. It takes no memory.
+    /// No attributes. It takes no memory.
     pub fn new(alloc: Global) -> AttrTable
         ensures { result ≡ [] }
     {
@@ -60,7 +60,7 @@ impl AttrTable {
         }
     }
 
-    /// How many there are.
+    /// The number of attributes.
     pub fn len(&self) -> usize
         ensures { result ≡ length self.now }
     {
@@ -80,7 +80,7 @@ impl AttrTable {
         }
     }
 
-    /// The name and value at a place, counted from 0.
+    /// The name and value at an index, counted from 0.
     pub fn at(&self, place: usize) -> Option<(&AttrName, &Value)>
         ensures { option_map deref_pair result ≡ slice_get self.now place }
     {
@@ -93,7 +93,7 @@ impl AttrTable {
         }
     }
 
-    /// Sets an attribute. Refused: `NoMemory`, and then nothing changes.
+    /// Sets an attribute. Refused: `NoMemory`; a refused call changes nothing.
     pub fn set(&mut self, attr: AttrName, value: Value) -> Result<(), Refusal>
         ensures refused { IsRefusedBy result None }
         ensures ok { OnOk result (self.new ≡ with_attr self.old attr value) }
@@ -122,7 +122,7 @@ impl AttrTable {
         Ok(())
     }
 
-    /// Takes an attribute out. Those after it move up, so it is linear in their number.
+    /// Removes an attribute. Those after it move up, so the time is linear in their number.
     pub fn remove(&mut self, attr: &AttrName)
         ensures { self.new ≡ without_attr self.old attr.now }
     {
@@ -132,7 +132,7 @@ impl AttrTable {
         }
     }
 
-    /// The same attributes in the same order. Refused: `NoMemory`.
+    /// A copy of the attributes, in the same order. Refused: `NoMemory`.
     pub fn copy(&self, alloc: Global) -> Result<AttrTable, Refusal>
         ensures refused { IsRefusedBy result None }
         ensures value { IfOk result (λ copy. copy ≡ self.now) }
@@ -154,7 +154,7 @@ impl AttrTable {
         }
     }
 
-    /// The names and values, copied, in order. Refused: `NoMemory`.
+    /// A copy of the names and values, in order. Refused: `NoMemory`.
     pub fn list(&self, alloc: Global) -> Result<Vec<(AttrName, Value)>, Refusal>
         ensures refused { IsRefusedBy result None }
         ensures value { IfOk result (λ list. list.items ≡ self.now) }
@@ -178,7 +178,7 @@ fn find<'a>(list: &'a [(AttrName, Value)], attr: &AttrName) -> Option<&'a Value>
     None
 }
 
-// The place of an attribute in a list, counted from 0.
+// The index of an attribute in a list, counted from 0.
 fn place_of(list: &[(AttrName, Value)], attr: &AttrName) -> Option<usize>
     ensures found { IfSome result (λ place.
         option_map (λ a. a.0) (slice_get list.now place) ≡ Some attr.now) }
@@ -194,7 +194,7 @@ fn place_of(list: &[(AttrName, Value)], attr: &AttrName) -> Option<usize>
     None
 }
 
-// Sets an attribute in a list. Refused: `NoMemory`, and then nothing changes.
+// Sets an attribute in a list. Refused: `NoMemory`; a refused call changes nothing.
 fn put(list: &mut Vec<(AttrName, Value)>, attr: AttrName, value: Value) -> Result<(), Refusal>
     requires { HasOwnNames list.old.items }
     ensures refused { IsRefusedBy result None }
@@ -211,7 +211,7 @@ fn put(list: &mut Vec<(AttrName, Value)>, attr: AttrName, value: Value) -> Resul
     Ok(())
 }
 
-// Takes an attribute out of a list.
+// Removes an attribute from a list.
 fn take_out(list: &mut Vec<(AttrName, Value)>, attr: &AttrName)
     requires { HasOwnNames list.old.items }
     ensures { list.new.items ≡ without_attr list.old.items attr.now }
@@ -221,7 +221,7 @@ fn take_out(list: &mut Vec<(AttrName, Value)>, attr: &AttrName)
     }
 }
 
-// The names and values of a list, copied. Refused: `NoMemory`.
+// A copy of a list's names and values. Refused: `NoMemory`.
 fn copied(alloc: Global, list: &[(AttrName, Value)]) -> Result<Vec<(AttrName, Value)>, Refusal>
     ensures refused { IsRefusedBy result None }
     ensures value { IfOk result (λ copy. copy.items ≡ list.now) }
@@ -233,7 +233,7 @@ fn copied(alloc: Global, list: &[(AttrName, Value)]) -> Result<Vec<(AttrName, Va
     Ok(copy)
 }
 
-// The names and values of a map, copied, in order. Refused: `NoMemory`.
+// A copy of a map's names and values, in order. Refused: `NoMemory`.
 fn listed(alloc: Global, map: &IndexMap<AttrName, Value>) -> Result<Vec<(AttrName, Value)>, Refusal>
     ensures refused { IsRefusedBy result None }
     ensures value { IfOk result (λ list. list.items ≡ map.now.entries) }
@@ -246,7 +246,7 @@ fn listed(alloc: Global, map: &IndexMap<AttrName, Value>) -> Result<Vec<(AttrNam
     Ok(list)
 }
 
-// The attributes of a list, in a map. Refused: `NoMemory`.
+// A map with the attributes of a list. Refused: `NoMemory`.
 fn map_of(alloc: Global, list: Vec<(AttrName, Value)>) -> Result<IndexMap<AttrName, Value>, Refusal>
     requires { HasOwnNames list.items }
     ensures refused { IsRefusedBy result None }

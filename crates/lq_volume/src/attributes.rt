@@ -11,8 +11,8 @@ use std::marker::Model;
 
 /// The attributes of an entry, in the order in which they were first set.
 ///
-/// Most entries have none: they take no memory, and 8 bytes where they stand. A contract sees them
-/// as the list of their names and values.
+/// Most entries have none; these take no memory beyond the 8 bytes of this value. Contracts see the
+/// attributes as the list of their names and values.
 #[derive(Debug, Drop)]
 pub struct Attributes {
     alloc: Global,
@@ -32,14 +32,14 @@ impl Model for Attributes {
 impl Attributes {
     ghost use Rattle.lq_volume.specs.Attributes.{value_of, with_attr, without_attr};
 
-    /// None. It takes no memory.
+    /// No attributes. It takes no memory.
     pub fn new(alloc: Global) -> Attributes
         ensures { result ≡ [] }
     {
         Attributes { alloc, table: None }
     }
 
-    /// How many there are.
+    /// The number of attributes.
     pub fn len(&self) -> usize
         ensures { result ≡ length self.now }
     {
@@ -59,7 +59,7 @@ impl Attributes {
         }
     }
 
-    /// The name and value at a place, counted from 0.
+    /// The name and value at an index, counted from 0.
     pub fn at(&self, place: usize) -> Option<(&AttrName, &Value)>
         ensures { option_map deref_pair result ≡ slice_get self.now place }
     {
@@ -69,7 +69,7 @@ impl Attributes {
         }
     }
 
-    /// Sets an attribute. Refused: `NoMemory`, and then nothing changes.
+    /// Sets an attribute. Refused: `NoMemory`; a refused call changes nothing.
     pub fn set(&mut self, attr: AttrName, value: Value) -> Result<(), Refusal>
         ensures refused { IsRefusedBy result None }
         ensures ok { OnOk result (self.new ≡ with_attr self.old attr value) }
@@ -86,7 +86,7 @@ impl Attributes {
         Ok(())
     }
 
-    /// Takes an attribute out. Those after it move up, so it is linear in their number.
+    /// Removes an attribute. Those after it move up, so the time is linear in their number.
     pub fn remove(&mut self, attr: &AttrName)
         ensures { self.new ≡ without_attr self.old attr.now }
     {
@@ -95,7 +95,7 @@ impl Attributes {
         }
     }
 
-    /// The same attributes in the same order. Refused: `NoMemory`.
+    /// A copy of the attributes, in the same order. Refused: `NoMemory`.
     pub fn copy(&self, alloc: Global) -> Result<Attributes, Refusal>
         ensures refused { IsRefusedBy result None }
         ensures value { IfOk result (λ copy. copy ≡ self.now) }
@@ -112,7 +112,7 @@ impl Attributes {
         }
     }
 
-    /// The names and values, copied, in order. Refused: `NoMemory`.
+    /// A copy of the names and values, in order. Refused: `NoMemory`.
     pub fn list(&self, alloc: Global) -> Result<Vec<(AttrName, Value)>, Refusal>
         ensures refused { IsRefusedBy result None }
         ensures value { IfOk result (λ list. list.items ≡ self.now) }

@@ -4,7 +4,7 @@ use lq_value::{AttrName, Kind, Name, Value};
 /// One act on a volume. Nodes count from 1, the root; times are seconds since 1970.
 #[derive(Drop)]
 pub enum Change {
-    /// A new entry in the folder `dir`, under the next node; `size` is in bytes.
+    /// Creates an entry in the folder `dir`, under the next node; `size` is in bytes.
     Create {
         dir: u64,
         name: Name,
@@ -12,37 +12,38 @@ pub enum Change {
         size: u64,
         time: i64,
     },
-    /// The entry of a node goes.
+    /// Removes the entry of a node.
     Remove {
         node: u64,
     },
-    /// The entry of a node has another place; with `clobber` another node there goes.
+    /// Moves the entry of a node to another place; with `clobber` another node there is removed.
     Move {
         node: u64,
         dir: u64,
         name: Name,
         clobber: bool,
     },
-    /// A file has another size, in bytes, and `last_modified`.
+    /// Sets a file's size, in bytes, and its `last_modified`.
     Write {
         node: u64,
         size: u64,
         time: i64,
     },
-    /// An attribute of an entry has this value; one that it has already keeps its place.
+    /// Sets an attribute of an entry; an attribute that it already has keeps its position.
     SetAttr {
         node: u64,
         attr: AttrName,
         value: Value,
     },
-    /// An attribute of an entry goes.
+    /// Removes an attribute of an entry.
     RemoveAttr {
         node: u64,
         attr: AttrName,
     },
 }
 
-/// What an accepted change did: its number, from 1 on, and the node that it created or named.
+/// The effect of an accepted change: its number, counted from 1, and the node that it created or
+/// named.
 #[derive(Clone, Copy, Debug)]
 pub struct Applied {
     pub change: u64,

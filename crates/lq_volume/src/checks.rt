@@ -1,4 +1,4 @@
-//! Why each change is refused, by the first test of its table that holds, or what it touches.
+//! Why each change is refused, by the first test of its table that holds, else what it touches.
 ghost use Rattle.std.specs.Prelude.{◌≡◌, [], ◌∷◌, ◌==◌, ◌&&◌, true, Some, None, IfErr, IfOk, IfSome, OnOk, is_none};
 ghost use Rattle.std.specs.Option.{option_map};
 ghost use Rattle.lq_value.specs.declared.refusal.Refusal.TheVariants.{NoNode, NotFolder, Reserved};
@@ -16,7 +16,7 @@ use crate::stored::Stored;
 use crate::volume::{ROOT, Volume};
 use lq_value::{AttrName, Kind, Name, Refusal, Value};
 
-/// The most bytes of a file: it shows as an `i64`.
+/// The most bytes of a file: the size is shown as an `i64`.
 const MAX_SIZE: u64 = 9_223_372_036_854_775_807;
 
 pub fn check_create(
@@ -167,7 +167,7 @@ pub fn check_remove_attr<'a>(
     Ok(touched_at(owner, record, Some(after), None))
 }
 
-// The record of a node that is there, and is not the root.
+// The record of a node that is there and is not the root.
 fn entry_at(volume: &Volume, node: u64) -> Result<&Stored, Refusal>
     ensures ok { OnOk result (first_refusal
         ((is_none (kind_at volume.now node), NoNode) ∷ (node == root, Reserved) ∷ []) ≡ None) }
@@ -192,7 +192,7 @@ fn is_filled(volume: &Volume, node: u64, stored: &Stored) -> bool
     stored.is_folder() && volume.has_entries(node)
 }
 
-// Whether an entry would go into itself: nothing is in a file, so only a folder needs a walk.
+// Whether an entry would move into itself: a file contains nothing, so only a folder needs a walk.
 fn would_loop(volume: &Volume, moved: u64, stored: &Stored, dir: u64) -> bool
     requires kind { kind_at volume.now moved ≡ Some stored.now.kind }
     requires dir { is_folder_at volume.now dir ≡ true }
@@ -203,7 +203,7 @@ fn would_loop(volume: &Volume, moved: u64, stored: &Stored, dir: u64) -> bool
     stored.is_folder() && volume.reaches(dir, moved)
 }
 
-// The other node that has the place, and its record.
+// The other node at the place, and its record.
 fn other_in<'a>(volume: &'a Volume, moved: u64, dir: u64, name: &Name) -> Option<(u64, &'a Stored)>
     ensures node { option_map (λ e. e.0) result ≡ other_at volume.now moved dir name.now }
     ensures record { IfSome result (λ e. record_at volume.now e.0 ≡ Some e.1.now) }
@@ -220,7 +220,7 @@ fn other_in<'a>(volume: &'a Volume, moved: u64, dir: u64, name: &Name) -> Option
     }
 }
 
-// A folder that is there.
+// Refuses a node that isn't there or isn't a folder.
 fn check_folder(volume: &Volume, dir: u64) -> Result<(), Refusal>
     ensures ok { OnOk result (first_refusal
         ((is_none (kind_at volume.now dir), NoNode)

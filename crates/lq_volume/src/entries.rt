@@ -16,8 +16,9 @@ use std::marker::Model;
 
 /// The records of all entries, and an index of their places.
 ///
-/// A node is found in the same time however many there are, a place in time logarithmic in the
-/// folders and in the names of its own. A contract sees the records alone, by rising node.
+/// The time to find a node doesn't depend on how many there are. The time to find a place is
+/// logarithmic in the number of folders and in the number of names in its folder. Contracts see the
+/// records alone, by rising node.
 #[derive(Debug)]
 pub struct Entries {
     alloc: Global,
@@ -25,7 +26,7 @@ pub struct Entries {
     places: Places,
 }
 
-// One call takes them apart, wherever they are dropped.
+// Dropping one is a single call, instead of code at each place.
 impl Drop for Entries {
     fn drop(self) {
         let Entries {
@@ -72,7 +73,7 @@ impl Entries {
         self.records.get(node)
     }
 
-    /// The node that has a place.
+    /// The node at a place.
     pub fn node_in(&self, dir: u64, name: &Name) -> Option<u64>
         ensures { result ≡ node_in self.now dir name.now }
     {
@@ -89,7 +90,7 @@ impl Entries {
         self.places.has_names(dir)
     }
 
-    /// Whether a walk up by the folders comes from one node to another.
+    /// Whether a walk up from one node, folder by folder, reaches another.
     pub fn reaches(&self, from: u64, to: u64) -> bool
         ensures { result ≡ climbs (length self.now) (dir_of self.now) to from }
     {
@@ -110,7 +111,7 @@ impl Entries {
             Err(_) => Err(Refusal::NoMemory),
             Ok(()) => match self.places.put(dir, &name, node, None) {
                 Ok(()) => Ok(()),
-                // What grew first is taken back without memory.
+                // Undoing what grew first takes no memory.
                 Err(refusal) => {
                     self.records.remove(node);
                     Err(refusal)
@@ -119,7 +120,7 @@ impl Entries {
         }
     }
 
-    /// Takes a node's record out.
+    /// Removes a node's record.
     pub fn remove(&mut self, node: u64)
         requires { IsApart self.old }
         ensures { self.new ≡ filter (λ e. not (e.0 == node)) self.old }
@@ -131,7 +132,7 @@ impl Entries {
         self.records.remove(node);
     }
 
-    /// Gives a node another place, from which another node goes. Refused: `NoMemory`.
+    /// Moves a node to another place and removes the other node there, if any. Refused: `NoMemory`.
     pub fn shift(
         &mut self,
         node: u64,
@@ -145,7 +146,7 @@ impl Entries {
             (self.new ≡ altered node (at_place dir name.now) (without other self.old)) }
         ensures err { OnErr result (self.new ≡ self.old) }
     {
-        // What grows comes first, so that nothing is undone.
+        // What may fail for lack of memory comes first, so nothing has to be undone.
         let kept = name.copy(self.alloc)?;
         if let Some(record) = self.records.get(node) {
             if !record.is_at(dir, name) {
@@ -159,7 +160,7 @@ impl Entries {
         Ok(())
     }
 
-    /// Gives a node another size and time.
+    /// Sets a node's size and time.
     pub fn write(&mut self, node: u64, size: u64, time: i64)
         requires { size < 2 ^ 63 }
         ensures { self.new ≡ altered node (written size time) self.old }
@@ -167,7 +168,7 @@ impl Entries {
         self.records.write(node, size, time);
     }
 
-    /// Sets an attribute of a node. Refused: `NoMemory`, and then nothing changes.
+    /// Sets an attribute of a node. Refused: `NoMemory`; a refused call changes nothing.
     pub fn set_attr(&mut self, node: u64, attr: &AttrName, value: &Value) -> Result<(), Refusal>
         ensures refused { IsRefusedBy result None }
         ensures ok { OnOk result
@@ -180,7 +181,7 @@ impl Entries {
         Ok(())
     }
 
-    /// Takes an attribute of a node out.
+    /// Removes an attribute of a node.
     pub fn remove_attr(&mut self, node: u64, attr: &AttrName)
         ensures { self.new ≡ altered node (remove_attr attr.now) self.old }
     {
@@ -196,7 +197,7 @@ impl Entries {
         self.records.fetch(self.alloc, predicate)
     }
 
-    /// The same records under the same nodes. Refused: `NoMemory`.
+    /// A copy: the same records under the same nodes. Refused: `NoMemory`.
     pub fn copy(&self) -> Result<Entries, Refusal>
         requires { IsApart self.now }
         ensures refused { IsRefusedBy result None }

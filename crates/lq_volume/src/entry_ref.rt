@@ -1,4 +1,4 @@
-//! One entry of a volume, as a look-up shows it.
+//! One entry of a volume, as a look-up gives it.
 ghost use Rattle.std.specs.Prelude.{◌≡◌, None, IfOk, length, slice_get};
 ghost use Rattle.std.specs.Option.{option_map};
 ghost use Rattle.lq_value.specs.Refusal.{IsRefusedBy};
@@ -8,7 +8,7 @@ use lq_value::{AttrName, Kind, Name, Refusal, Value, View};
 use std::alloc::Global;
 use std::marker::Model;
 
-/// One entry of a volume, borrowed. A contract sees it as its `Record`.
+/// One entry of a volume, borrowed. Contracts see it as its `Record`.
 #[derive(Drop)]
 pub struct EntryRef<'a> {
     stored: &'a Stored,
@@ -22,8 +22,8 @@ impl<'a> Model for EntryRef<'a> {
     ghost view = { λ e. e.stored.now };
 }
 
-/// What a volume keeps for an entry: its place, its kind, its size in bytes and `last_modified`
-/// in seconds since 1970.
+/// A copy of an entry: its place, its kind, its size in bytes, its `last_modified` in seconds since
+/// 1970, and its attributes.
 #[derive(Drop)]
 pub struct Listing {
     pub dir: u64,
@@ -46,42 +46,42 @@ impl<'a> EntryRef<'a> {
         EntryRef { stored }
     }
 
-    /// The node of the folder that it is in. It takes no memory, as each call here but `listing`.
+    /// The node of the entry's folder. No call here but `listing` takes memory.
     pub fn dir(&self) -> u64
         ensures { result ≡ self.now.dir }
     {
         self.stored.dir()
     }
 
-    /// Its name.
+    /// The entry's name.
     pub fn name(&self) -> &'a Name
         ensures { result.now ≡ self.now.name }
     {
         self.stored.name()
     }
 
-    /// Whether it is a file or a folder.
+    /// Whether the entry is a file or a folder.
     pub fn kind(&self) -> Kind
         ensures { result ≡ self.now.kind }
     {
         self.stored.kind()
     }
 
-    /// Its size in bytes, 0 of a folder.
+    /// The entry's size in bytes; 0 for a folder.
     pub fn size(&self) -> u64
         ensures { result ≡ self.now.size }
     {
         self.stored.size()
     }
 
-    /// Its `last_modified`, in seconds since 1970.
+    /// The entry's `last_modified`, in seconds since 1970.
     pub fn time(&self) -> i64
         ensures { result ≡ self.now.time }
     {
         self.stored.time()
     }
 
-    /// The value of an attribute, if it has one of that name.
+    /// The value of an attribute, if the entry has one of that name.
     pub fn attr(&self, attr: &AttrName) -> Option<View<'_>>
         ensures { option_map shown_by result ≡ value_of self.now.attrs attr.now }
     {
@@ -91,14 +91,14 @@ impl<'a> EntryRef<'a> {
         }
     }
 
-    /// How many attributes it has.
+    /// The number of the entry's attributes.
     pub fn attr_count(&self) -> usize
         ensures { result ≡ length self.now.attrs }
     {
         self.stored.attrs().len()
     }
 
-    /// The attribute at a place, counted from 0 in the order in which they were first set.
+    /// The attribute at an index, counted from 0 in the order in which they were first set.
     pub fn attr_at(&self, place: usize) -> Option<(&AttrName, View<'_>)>
         ensures { option_map (λ p. (p.0.now, shown_by p.1)) result
             ≡ slice_get self.now.attrs place }
@@ -109,7 +109,7 @@ impl<'a> EntryRef<'a> {
         }
     }
 
-    /// All of it, copied. Refused: `NoMemory`.
+    /// A copy of the whole entry. Refused: `NoMemory`.
     pub(crate) fn listing(&self, alloc: Global) -> Result<Listing, Refusal>
         ensures refused { IsRefusedBy result None }
         ensures value { IfOk result (λ listing. listed listing ≡ self.now) }

@@ -2,22 +2,22 @@
 ghost use Rattle.lq_volume.specs.Laws.{ChangesCount, ChangesKeepTrees, UntouchedStay, ClobberedGo};
 ghost use Rattle.lq_volume.specs.Walk.{ReachesAll};
 
-/// A node is found to be within another just where some walk up leads there.
+/// The test whether a node is within another is true exactly where some walk up leads there.
 pub fn walks_are_bounded()
     ensures { ReachesAll }
 {}
 
-/// The state after an accepted change is a tree within its limit again.
+/// The state after an accepted change is again a tree within its limit.
 pub fn accepted_changes_keep_trees()
     ensures { ChangesKeepTrees }
 {}
 
-/// A node that an accepted change doesn't touch has the record that it had.
+/// A node that an accepted change doesn't touch keeps its record.
 pub fn untouched_nodes_stay()
     ensures { UntouchedStay }
 {}
 
-/// The other node that a move takes away is gone afterwards.
+/// The other node that a move removes is gone afterwards.
 pub fn clobbered_nodes_go()
     ensures { ClobberedGo }
 {}

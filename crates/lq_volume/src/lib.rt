@@ -1,8 +1,8 @@
-//! One volume: its tree of entries, the changes that it takes, and the static query.
+//! One volume: its tree of entries, the changes that it accepts, and the static query.
 //!
-//! A contract sees a volume as a `State` (`specs/State`), which is always a tree. When a change
-//! is refused, and the state after one that isn't, stand in `specs/Change`; when a look-up is, in
-//! `specs/Lookup`; the result of a query in `specs/Result`. Nothing here waits. Begin with
+//! Contracts see a volume as a `State` (`specs/State`), which is always a tree. `specs/Change` says
+//! when a change is refused and what the state is after an accepted one; `specs/Lookup` says when a
+//! look-up is refused; `specs/Result` gives the result of a query. Nothing here waits. Begin with
 //! `change`, then `volume`.
 #![tactic(auto)]
 

@@ -10,8 +10,8 @@ use std::collections::BTreeMap;
 
 /// The nodes of a folder's entries, by their names.
 ///
-/// A node stands under the hash of its name, where its record alone has the name. Where another
-/// name had that hash before, it stands among the others, under its name.
+/// A node stands under the hash of its name, and its record alone has the name. If another name had
+/// that hash before, the node stands among the others, under its name.
 #[derive(Debug, Drop)]
 pub(crate) struct Names {
     pub(crate) first: BTreeMap<u64, u64>,
@@ -19,7 +19,7 @@ pub(crate) struct Names {
 }
 
 impl Names {
-    // Whether a node stands here.
+    // Whether any node is here.
     fn has_any(&self) -> bool
         ensures { result ≡ (not (length self.now.first.entries == 0)
             || not (length self.now.others.entries == 0)) }
@@ -30,9 +30,9 @@ impl Names {
 
 /// The node at each place, by folder and then by name.
 ///
-/// A hash is sought among numbers that stand in the index, and a name is compared with one. Names
-/// that are made to share a hash cost a search among them that is logarithmic. The names of a
-/// folder come with the first of them and go with the last.
+/// A look-up searches the index for a number, the hash, and compares the name with one other name.
+/// Names chosen to share a hash cost a logarithmic search among them. A folder's map of names is
+/// made with its first name and dropped with its last.
 #[derive(Debug, Drop)]
 pub struct Places {
     alloc: Global,
@@ -53,7 +53,7 @@ impl Places {
         }
     }
 
-    /// The node that stands under a hash.
+    /// The node under a hash.
     pub fn first(&self, dir: u64, hash: u64) -> Option<u64>
         ensures { result ≡ first_in self.now.folders dir hash }
     {
@@ -63,7 +63,7 @@ impl Places {
         }
     }
 
-    /// The node that stands under a name.
+    /// The node under a name.
     pub fn other(&self, dir: u64, name: &Name) -> Option<u64>
         ensures { result ≡ other_in self.now.folders dir name.now }
     {
@@ -73,7 +73,7 @@ impl Places {
         }
     }
 
-    /// Whether a node is in the folder.
+    /// Whether a folder contains a node.
     pub fn has_names(&self, dir: u64) -> bool
         ensures { result ≡ has_names self.now.folders dir }
     {
@@ -83,7 +83,7 @@ impl Places {
         }
     }
 
-    /// Whether it is this node that stands under the hash of a name.
+    /// Whether this node is the one under the hash of a name.
     pub fn is_first(&self, dir: u64, name: &Name, node: u64) -> bool
         ensures { result ≡ is_first self.now.folders dir name.now node }
     {
@@ -93,9 +93,10 @@ impl Places {
         }
     }
 
-    /// Puts a node at a place. Under the hash a node stays that is there, but `over`, which goes.
+    /// Puts a node at a place. A node that is already under the hash stays there, unless it is
+    /// `over`, which goes.
     ///
-    /// Refused: `NoMemory`, and then no place changes.
+    /// Refused: `NoMemory`; a refused call changes no place.
     pub fn put(
         &mut self,
         dir: u64,
@@ -119,7 +120,7 @@ impl Places {
         }
     }
 
-    // Makes room for the names of a folder that has none.
+    // Makes the map of names for a folder that has none.
     fn open_folder(&mut self, dir: u64) -> Result<(), Refusal>
         ensures refused { IsRefusedBy result None }
         ensures ok { OnOk result (IsSome (get nat_cmp self.new.folders dir)) }
@@ -135,7 +136,7 @@ impl Places {
         Ok(())
     }
 
-    // Puts a node under a hash, and gives the one that stood there.
+    // Puts a node under a hash, and gives the one that was there.
     fn put_first(&mut self, dir: u64, hash: u64, node: u64) -> Result<Option<u64>, Refusal>
         requires { IsSome (get nat_cmp self.old.folders dir) }
         ensures refused { IsRefusedBy result None }
@@ -149,7 +150,7 @@ impl Places {
         }
     }
 
-    // Gives a hash back to the node that stood there. It takes no memory.
+    // Gives a hash back to the node that was there. It takes no memory.
     fn put_back(&mut self, dir: u64, hash: u64, node: u64)
         requires { IsSome (first_in self.old.folders dir hash) }
         ensures { PutsFirst self.old.folders self.new.folders dir hash node }
@@ -173,7 +174,7 @@ impl Places {
         Ok(())
     }
 
-    /// Empties a place, under the hash too where its node was the first.
+    /// Empties a place, also under the hash if its node was the one there.
     pub fn take(&mut self, dir: u64, name: &Name, was_first: bool)
         ensures { Takes self.old.folders self.new.folders dir name.now was_first }
     {
@@ -182,7 +183,7 @@ impl Places {
         }
     }
 
-    // Empties a place, and tells whether the folder has other names.
+    // Empties a place, and answers whether the folder has other names.
     fn take_name(&mut self, dir: u64, name: &Name, was_first: bool) -> bool
         ensures has { result ≡ has_names self.new.folders dir }
         ensures takes { Takes self.old.folders self.new.folders dir name.now was_first }
@@ -199,7 +200,7 @@ impl Places {
         }
     }
 
-    // Drops what a folder has for names, where it has none.
+    // Drops a folder's map of names, if it is empty.
     fn drop_names(&mut self, dir: u64)
         requires { has_names self.old.folders dir ≡ false }
         ensures { SamePlaces self.old.folders self.new.folders }

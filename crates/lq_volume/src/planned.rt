@@ -17,8 +17,8 @@ use std::marker::Model;
 
 /// A change that a volume accepts, with the entries that it touches, each looked up once.
 ///
-/// A contract sees it as a `Plan` (`specs/Plan`): the state before, and the change, which is
-/// lawful there. It borrows the volume and the change. No call here takes memory.
+/// Contracts see it as a `Plan` (`specs/Plan`): the state before, and the change, which is lawful
+/// there. It borrows the volume and the change. No call here takes memory.
 #[derive(Drop)]
 pub struct Planned<'a> {
     volume: &'a Volume,
@@ -39,7 +39,7 @@ impl<'a> Model for Planned<'a> {
     ghost invariant = { λ p. IsPlanned p.volume.now p.change.now p.touched };
 }
 
-/// What a change touches: its own node, before and after, and the other node that goes.
+/// What a change touches: its own node, before and after, and the other node that it removes.
 #[derive(Drop)]
 pub struct Touched<'a> {
     pub node: u64,
@@ -66,7 +66,7 @@ impl<'a> Planned<'a> {
 
     /// What `make` answers: the number of the change, and the node that it creates or names.
     ///
-    /// The change is lawful, and the volume a tree within its limit.
+    /// The change is lawful, and the volume is a tree within its limit.
     pub fn applied(&self) -> Applied
         ensures value { result ≡ record {
           change = self.now.before.number + 1;
@@ -88,7 +88,7 @@ impl<'a> Planned<'a> {
         self.change
     }
 
-    /// The entry of the change's own node before it; none where it creates one.
+    /// The entry of the change's own node before the change; `None` where the change creates it.
     pub fn seen_before(&self) -> Option<&Seen<'a>>
         ensures { option_copied result
             ≡ record_at self.now.before (node_of self.now.before self.now.change) }
@@ -96,7 +96,7 @@ impl<'a> Planned<'a> {
         self.touched.before.as_ref()
     }
 
-    /// The entry of the change's own node after it; none where it removes one.
+    /// The entry of the change's own node after the change; `None` where the change removes it.
     pub fn seen_after(&self) -> Option<&Seen<'a>>
         ensures { option_copied result ≡ record_at (after self.now.before self.now.change)
             (node_of self.now.before self.now.change) }
@@ -104,7 +104,7 @@ impl<'a> Planned<'a> {
         self.touched.after.as_ref()
     }
 
-    /// The other node that a move takes away, and its entry.
+    /// The other node that a move removes, and its entry.
     pub fn clobbered(&self) -> Option<(u64, &Seen<'a>)>
         ensures node { option_map (λ e. e.0) result ≡ clobbered self.now.before self.now.change }
         ensures entry { IfSome result (λ e. record_at self.now.before e.0 ≡ Some e.1.now) }
@@ -116,7 +116,7 @@ impl<'a> Planned<'a> {
     }
 }
 
-// What a change touches, looked up while it is checked.
+// Looks up what a change touches, and checks the change at the same time.
 fn touched_by<'a>(volume: &'a Volume, change: &'a Change) -> Result<Touched<'a>, Refusal>
     ensures ok { OnOk result (refused volume.now change.now ≡ None) }
     ensures err { IfErr result (λ e. refused volume.now change.now ≡ Some e) }
@@ -154,7 +154,7 @@ fn touched_by<'a>(volume: &'a Volume, change: &'a Change) -> Result<Touched<'a>,
     }
 }
 
-// What a change touches that names a node, and perhaps takes another away.
+// What is touched by a change that names a node and may remove another.
 pub fn touched_at<'a>(
     node: u64,
     before: &'a Stored,

@@ -16,10 +16,10 @@ use lq_value::{AttrName, Entry, Name, Refusal, Value};
 use std::alloc::Global;
 use std::marker::Model;
 
-/// The records of all entries, each under its node, in no order that matters.
+/// The records of all entries, each under its node; their stored order doesn't matter.
 ///
-/// To look one up, add one, take one out or alter one takes the same time on average, however many
-/// there are, but for the times that the map grows. A contract sees a list by rising node.
+/// To look up, add, remove or alter a record takes the same time on average however many there are,
+/// except when the map grows. Contracts see a list by rising node.
 #[derive(Debug, Drop)]
 pub struct Records {
     stored: IndexMap<u64, Stored>,
@@ -59,7 +59,7 @@ impl Records {
         self.stored.get(&node)
     }
 
-    /// Whether the record of a node has a name.
+    /// Whether the record of a node has this name.
     pub fn is_named(&self, node: u64, name: &Name) -> bool
         ensures { result ≡ is_named self.now name.now node }
     {
@@ -69,7 +69,7 @@ impl Records {
         }
     }
 
-    /// Whether a walk up by the folders comes from one node to another.
+    /// Whether a walk up from one node, folder by folder, reaches another.
     pub fn climbs(&self, from: u64, to: u64) -> bool
         ensures { result ≡ climbs (length self.now) (dir_of self.now) to from }
     {
@@ -110,12 +110,12 @@ impl Records {
             ≡ map entry_of (filter (λ e. truth predicate.now (shown e.1)) self.now)) }
     {
         let mut entries = finds_in(&self.stored, alloc, predicate)?;
-        // Linear where they rise already, as while nothing was ever removed.
+        // Linear where the nodes rise already, as long as nothing was ever removed.
         entries.sort_unstable_by_key(|entry| entry.node);
         Ok(entries)
     }
 
-    /// Adds a record under a node above all others, or hands it back where there is no memory.
+    /// Adds a record under a node above all others, or gives it back where there is no memory.
     pub fn add(&mut self, node: u64, stored: Stored) -> Result<(), Stored>
         requires { AllByRecursion (λ e. e.0 < node) self.old }
         ensures ok { OnOk result (self.new ≡ self.old ++ (node, stored) ∷ []) }
@@ -128,7 +128,7 @@ impl Records {
         }
     }
 
-    /// Takes a node's record out.
+    /// Removes a node's record, and gives it.
     pub fn remove(&mut self, node: u64) -> Option<Stored>
         ensures record { result ≡ lookup (nat_eq node) self.old }
         ensures rise { Rises self.old }
@@ -137,7 +137,7 @@ impl Records {
         self.stored.swap_remove(&node)
     }
 
-    /// Takes a node's record out, if one is named.
+    /// Removes a node's record, if a node is given.
     pub fn remove_if(&mut self, node: Option<u64>)
         ensures { self.new ≡ without node self.old }
     {
@@ -146,7 +146,7 @@ impl Records {
         }
     }
 
-    /// Gives a node another place.
+    /// Moves a node to another place.
     pub fn relocate(&mut self, node: u64, dir: u64, name: Name)
         ensures { self.new ≡ altered node (at_place dir name) self.old }
     {
@@ -155,7 +155,7 @@ impl Records {
         }
     }
 
-    /// Gives a node another size and time.
+    /// Sets a node's size and time.
     pub fn write(&mut self, node: u64, size: u64, time: i64)
         requires { size < 2 ^ 63 }
         ensures { self.new ≡ altered node (written size time) self.old }
@@ -165,7 +165,7 @@ impl Records {
         }
     }
 
-    /// Sets an attribute of a node. Refused: `NoMemory`, and then nothing changes.
+    /// Sets an attribute of a node. Refused: `NoMemory`; a refused call changes nothing.
     pub fn set_attr(&mut self, node: u64, attr: AttrName, value: Value) -> Result<(), Refusal>
         ensures refused { IsRefusedBy result None }
         ensures ok { OnOk result (self.new ≡ altered node (set_attr attr value) self.old) }
@@ -177,7 +177,7 @@ impl Records {
         Ok(())
     }
 
-    /// Takes an attribute of a node out.
+    /// Removes an attribute of a node.
     pub fn remove_attr(&mut self, node: u64, attr: &AttrName)
         ensures { self.new ≡ altered node (remove_attr attr.now) self.old }
     {
@@ -200,7 +200,7 @@ fn pairs_of(stored: &IndexMap<u64, Stored>, alloc: Global) -> Result<Vec<(u64, &
     Ok(pairs)
 }
 
-// The entries of a map that the predicate holds of, in its order. Refused: `NoMemory`.
+// The entries of a map that match the predicate, in its order. Refused: `NoMemory`.
 fn finds_in(
     stored: &IndexMap<u64, Stored>,
     alloc: Global,

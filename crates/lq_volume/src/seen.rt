@@ -1,4 +1,4 @@
-//! An entry, as a predicate sees it.
+//! An entry as a predicate sees it.
 ghost use Rattle.std.specs.Prelude.{◌≡◌, ◌<◌, ◌^◌, [], None, IfOk};
 ghost use Rattle.std.specs.Option.{option_copied};
 ghost use Rattle.lq_value.specs.Refusal.{IsRefusedBy};
@@ -11,7 +11,7 @@ use lq_value::{AttrName, Entry, Field, Kind, Name, Refusal, Value, View, same_te
 use std::alloc::Global;
 use std::marker::Model;
 
-/// What a change would make of the attributes of an entry.
+/// The effect that a change would have on the attributes of an entry.
 #[derive(Clone, Copy)]
 pub enum Difference<'a> {
     None,
@@ -24,9 +24,9 @@ pub enum Difference<'a> {
     },
 }
 
-/// An entry as it is, or as a change leaves it, borrowed: what a predicate looks at.
+/// An entry as it is, or as a change would leave it, borrowed: what a predicate looks at.
 ///
-/// A contract sees it as its `Record`. Its size is at most that of an `i64`.
+/// Contracts see it as its `Record`. Its size fits into an `i64`.
 #[derive(Drop)]
 pub struct Seen<'a> {
     pub(crate) dir: u64,
@@ -85,28 +85,28 @@ impl<'a> Seen<'a> {
         }
     }
 
-    /// Its size, in bytes. It takes no memory.
+    /// The entry's size, in bytes. It takes no memory.
     pub fn size(&self) -> u64
         ensures { result ≡ self.now.size }
     {
         self.size
     }
 
-    /// When it was last modified, in seconds since 1970. It takes no memory.
+    /// The entry's `last_modified`, in seconds since 1970. It takes no memory.
     pub fn time(&self) -> i64
         ensures { result ≡ self.now.time }
     {
         self.time
     }
 
-    /// Whether another has the same place: the same folder and name. It takes no memory.
+    /// Whether another entry has the same place: the same folder and name. It takes no memory.
     pub fn shares_place(&self, other: &Seen<'_>) -> bool
         ensures { result ≡ has_same_place self.now other.now }
     {
         self.dir == other.dir && *self.name == *other.name
     }
 
-    /// Its triple, with its node. Refused: `NoMemory`.
+    /// The entry's triple of folder, name and this node. Refused: `NoMemory`.
     pub fn entry(&self, alloc: Global, node: u64) -> Result<Entry, Refusal>
         ensures refused { IsRefusedBy result None }
         ensures value { IfOk result (λ entry. entry ≡ entry_of (node, self.now)) }
@@ -142,7 +142,7 @@ impl<'a> Seen<'a> {
     }
 }
 
-// The value of an attribute of an entry, as it is.
+// The value of an attribute in the stored attributes of an entry.
 fn kept<'a>(attrs: Option<&'a Attributes>, asked: &AttrName) -> Option<&'a Value>
     ensures { option_copied result ≡ value_of (attrs_of attrs.entry) asked.now }
 {

@@ -1,4 +1,4 @@
-//! An entry, as a volume keeps it.
+//! An entry as a volume stores it.
 ghost use Rattle.std.specs.Prelude.{◌≡◌, ◌==◌, ◌&&◌, ◌<◌, ◌^◌, [], None, IfOk, OnOk, OnErr};
 ghost use Rattle.std.specs.Str.{bytes_eq};
 ghost use Rattle.lq_value.specs.Refusal.{IsRefusedBy};
@@ -9,7 +9,7 @@ use lq_value::{AttrName, Kind, Name, Refusal, Value};
 use std::alloc::Global;
 use std::marker::Model;
 
-/// An entry, as it is kept under its node. Its size shows as an `i64`.
+/// An entry as it is stored under its node. Its size fits into an `i64`.
 #[derive(Debug)]
 pub struct Stored {
     dir: u64,
@@ -20,7 +20,7 @@ pub struct Stored {
     attrs: Attributes,
 }
 
-// One call takes it apart, wherever one is dropped.
+// Dropping one is a single call, instead of code at each place.
 impl Drop for Stored {
     fn drop(self) {
         let Stored {
@@ -129,7 +129,7 @@ impl Stored {
         self.dir == dir && self.name == *name
     }
 
-    /// Gives the entry another place.
+    /// Moves the entry to another place.
     pub fn relocate(&mut self, dir: u64, name: Name)
         ensures { self.new ≡ at_place dir name self.old }
     {
@@ -137,7 +137,7 @@ impl Stored {
         self.name = name;
     }
 
-    /// Gives the entry another size and time.
+    /// Sets the entry's size and time.
     pub fn write(&mut self, size: u64, time: i64)
         requires { size < 2 ^ 63 }
         ensures { self.new ≡ written size time self.old }
@@ -146,7 +146,7 @@ impl Stored {
         self.time = time;
     }
 
-    /// Sets an attribute. Refused: `NoMemory`, and then nothing changes.
+    /// Sets an attribute. Refused: `NoMemory`; a refused call changes nothing.
     pub fn set_attr(&mut self, attr: AttrName, value: Value) -> Result<(), Refusal>
         ensures refused { IsRefusedBy result None }
         ensures ok { OnOk result (self.new ≡ set_attr attr value self.old) }
@@ -156,14 +156,14 @@ impl Stored {
         Ok(())
     }
 
-    /// Takes an attribute out.
+    /// Removes an attribute.
     pub fn remove_attr(&mut self, attr: &AttrName)
         ensures { self.new ≡ remove_attr attr.now self.old }
     {
         self.attrs.remove(attr);
     }
 
-    /// What a predicate sees of it, but for a difference.
+    /// What a predicate sees of the entry, with a difference applied to its attributes.
     pub fn seen<'a>(&'a self, difference: Difference<'a>) -> Seen<'a>
         ensures { result ≡ with_attrs (attrs_after difference.entry self.now.attrs) self.now }
     {
@@ -178,7 +178,7 @@ impl Stored {
         }
     }
 
-    /// What a predicate would see of it at another place.
+    /// What a predicate would see of the entry at another place.
     pub fn seen_at<'a>(&'a self, dir: u64, name: &'a Name) -> Seen<'a>
         ensures { result ≡ at_place dir name.now self.now }
     {
@@ -189,7 +189,7 @@ impl Stored {
         }
     }
 
-    /// What a predicate would see of it with another size and time.
+    /// What a predicate would see of the entry with another size and time.
     pub fn seen_with(&self, size: u64, time: i64) -> Seen<'_>
         requires { size < 2 ^ 63 }
         ensures { result ≡ written size time self.now }
@@ -201,7 +201,7 @@ impl Stored {
         }
     }
 
-    /// Another that is the same.
+    /// A copy of the record.
     pub fn copy(&self, alloc: Global) -> Result<Stored, Refusal>
         ensures refused { IsRefusedBy result None }
         ensures value { IfOk result (λ copy. copy ≡ self.now) }

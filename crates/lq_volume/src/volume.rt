@@ -12,16 +12,16 @@ use lq_value::{Entry, Kind, Name, Refusal};
 use std::alloc::Global;
 use std::marker::Model;
 
-/// The node of the root, which is a folder and no entry.
+/// The node of the root, which is a folder but not an entry.
 pub(crate) const ROOT: u64 = 1;
 
-/// The most changes that a volume can be made to take.
+/// The greatest limit on changes that a volume can have.
 pub const MAX_CHANGES: u64 = 1_000_000_000_000;
 
-/// A tree of entries below one root, and the number of changes that it took.
+/// A tree of entries below one root, and the number of changes that it accepted.
 ///
-/// It accepts at most `limit` changes. Nodes count from 2 and are never used again. A contract
-/// sees it as a `State`, and every volume is a tree.
+/// It accepts at most `limit` changes. The nodes of entries count from 2 and are never used again.
+/// Contracts see a volume as a `State`, and every volume is a tree.
 #[derive(Debug)]
 pub struct Volume {
     limit: u64,
@@ -31,7 +31,7 @@ pub struct Volume {
     entries: Entries,
 }
 
-// One call takes it apart, wherever one is dropped.
+// Dropping one is a single call, instead of code at each place.
 impl Drop for Volume {
     fn drop(self) {
         let Volume {
@@ -71,7 +71,7 @@ impl Volume {
     ghost use Rattle.lq_volume.specs.Lookup.{find_refusals, entry_refusals, listed};
     ghost use Rattle.lq_volume.specs.Result.{result_of};
 
-    /// The root alone, which takes at most `limit` changes, 1 to 1,000,000,000,000.
+    /// A volume with the root alone. It accepts at most `limit` changes, 1 to 1,000,000,000,000.
     ///
     /// It takes no memory. The limit is our own.
     pub fn new(alloc: Global, limit: u64) -> Volume
@@ -87,9 +87,10 @@ impl Volume {
         }
     }
 
-    /// How many changes it accepted, and so the number of the latest one. It takes no memory.
+    /// How many changes the volume accepted, which is also the number of the latest one. It takes
+    /// no memory.
     ///
-    /// The volume is a tree within its limit, and its nodes are 2 and up.
+    /// The volume is a tree within its limit, and the nodes of its entries are 2 or more.
     pub fn changes(&self) -> u64
         ensures number { result ≡ self.now.number }
         ensures volume { IsVolume self.now }
@@ -97,17 +98,17 @@ impl Volume {
         self.changes
     }
 
-    /// The most changes that it accepts. It takes no memory.
+    /// The most changes that the volume accepts. It takes no memory.
     pub fn limit(&self) -> u64
         ensures { result ≡ self.now.limit }
     {
         self.limit
     }
 
-    /// The node that has a place. It takes no memory.
+    /// The node at a place. It takes no memory.
     ///
-    /// Refused, the first that fits: `NoNode` where there is no node `dir`, `NotFolder` where it
-    /// is a file, `NoEntry` where it has no entry of that name.
+    /// Refused, the first that fits: `NoNode` where there is no node `dir`, `NotFolder` where `dir`
+    /// is a file, `NoEntry` where the folder has no entry of that name.
     pub fn find(&self, dir: u64, name: &Name) -> Result<u64, Refusal>
         ensures value { IfOk result (λ node. node_in self.now.records dir name.now ≡ Some node) }
         ensures ok { OnOk result (first_refusal (find_refusals self.now dir name.now) ≡ None) }
@@ -127,8 +128,8 @@ impl Volume {
 
     /// The entry of a node. It takes no memory.
     ///
-    /// Refused, the first that fits: `NoNode` where there is no such node, `NoEntry` for the
-    /// root, which is none.
+    /// Refused, the first that fits: `NoNode` where there is no such node, `NoEntry` for the root,
+    /// which is not an entry.
     pub fn entry(&self, node: u64) -> Result<EntryRef<'_>, Refusal>
         ensures value { IfOk result (λ entry. record_at self.now node ≡ Some entry) }
         ensures ok { OnOk result (first_refusal (entry_refusals self.now node) ≡ None) }
@@ -143,10 +144,10 @@ impl Volume {
         }
     }
 
-    /// All of the entry of a node, copied.
+    /// A copy of the whole entry of a node.
     ///
-    /// Refused, the first that fits: `NoNode` where there is no such node, `NoEntry` for the
-    /// root, `NoMemory`.
+    /// Refused, the first that fits: `NoNode` where there is no such node, `NoEntry` for the root,
+    /// `NoMemory`.
     pub fn listing(&self, node: u64) -> Result<Listing, Refusal>
         ensures value { IfOk result (λ listing. record_at self.now node ≡ Some (listed listing)) }
         ensures refused { IsRefusedBy result (first_refusal (entry_refusals self.now node)) }
@@ -157,12 +158,12 @@ impl Volume {
 
     /// What `apply` would answer. It takes no memory and changes nothing.
     ///
-    /// Refused, the first row of the change's table in `specs/Change` that fits, each at last with
-    /// `Exhausted`. `NoNode`: a node or `dir` isn't there. `Reserved`: the root, or an attribute
-    /// named as what every entry has. `NotFolder`: `dir` is a file. `Exists`, `KindClash`,
-    /// `NotEmpty`: what has the place, without `clobber` and with it, or what is removed.
-    /// `WouldLoop`: `dir` is the node or below it. `IsFolder`, `TooLong`: the size. `NoAttr`: there
-    /// is none of that name. The order is our own.
+    /// Refused by the first row that fits of the change's table in `specs/Change`; the last row is
+    /// always `Exhausted`. `NoNode`: a node or `dir` is missing. `Reserved`: the root, or an
+    /// attribute `name`, `size` or `last_modified`. `NotFolder`: `dir` is a file. `Exists`,
+    /// `KindClash`, `NotEmpty`: the entry at the place, without and with `clobber`, or the one to
+    /// remove. `WouldLoop`: `dir` is the node or below it. `IsFolder`, `TooLong`: the size.
+    /// `NoAttr`: no attribute of that name. The order is our own.
     pub fn check(&self, change: &Change) -> Result<Applied, Refusal>
         ensures ok { OnOk result (refused self.now change.now ≡ None) }
         ensures err { IfErr result (λ e. refused self.now change.now ≡ Some e) }
@@ -173,9 +174,10 @@ impl Volume {
         Ok(planned.applied())
     }
 
-    /// A change as it may be made, with what it touches. It takes no memory and changes nothing.
+    /// A plan of a change that would be accepted, with what it touches. It takes no memory and
+    /// changes nothing.
     ///
-    /// Refused just as `check` is.
+    /// Refused exactly as `check`.
     pub fn plan<'a>(&'a self, change: &'a Change) -> Result<Planned<'a>, Refusal>
         ensures ok { OnOk result (refused self.now change.now ≡ None) }
         ensures err { IfErr result (λ e. refused self.now change.now ≡ Some e) }
@@ -185,9 +187,9 @@ impl Volume {
         Planned::new(self, change)
     }
 
-    /// Makes a change, or is refused as `check` is, or with `NoMemory`.
+    /// Makes a change. Refused: as `check` refuses it, or `NoMemory`.
     ///
-    /// A refused change leaves the volume as it was.
+    /// A refused change leaves the volume unchanged.
     pub fn apply(&mut self, change: &Change) -> Result<Applied, Refusal>
         ensures refused { IsRefusedBy result (refused self.old change.now) }
         ensures value { IfOk result (λ applied.
@@ -201,7 +203,7 @@ impl Volume {
 
     /// Makes a change that `check` doesn't refuse.
     ///
-    /// Refused: `NoMemory`, and then the volume is as it was.
+    /// Refused: `NoMemory`, which leaves the volume unchanged.
     pub fn make(&mut self, change: &Change) -> Result<Applied, Refusal>
         requires { IsLawful self.old change.now }
         ensures refused { IsRefusedBy result None }
@@ -251,7 +253,7 @@ impl Volume {
         Ok(applied)
     }
 
-    /// Another volume that is the same. Refused: `NoMemory`.
+    /// A copy of the volume. Refused: `NoMemory`.
     pub fn copy(&self) -> Result<Volume, Refusal>
         ensures refused { IsRefusedBy result None }
         ensures value { IfOk result (λ copy. copy ≡ self.now) }
@@ -265,9 +267,10 @@ impl Volume {
         })
     }
 
-    /// The entries that match the predicate, by rising node: the static query.
+    /// The entries that match the predicate, by rising node: the static query, as a BQuery that
+    /// isn't live.
     ///
-    /// Refused: `NoMemory`. It changes nothing. As a BQuery that isn't live.
+    /// Refused: `NoMemory`. It changes nothing.
     pub fn fetch(&self, predicate: &Predicate) -> Result<Vec<Entry>, Refusal>
         ensures refused { IsRefusedBy result None }
         ensures entries { IfOk result (λ entries.
@@ -321,7 +324,7 @@ impl Volume {
         self.entries.node_in(dir, name).is_some()
     }
 
-    // The node that has the place, if it is another one.
+    // The node at the place, if it is another one.
     pub(crate) fn other_at(&self, node: u64, dir: u64, name: &Name) -> Option<u64>
         ensures { result ≡ other_at self.now node dir name.now }
     {
