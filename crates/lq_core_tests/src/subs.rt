@@ -1,10 +1,11 @@
 //! A subscription is told a change that is checked, not planned: so one does with a volume alone.
-ghost use Rattle.std.specs.Prelude.{◌≡◌, OnOk, true};
+ghost use Rattle.std.specs.Prelude.{◌≡◌, ◌<◌, ◌≤◌, ◌+◌, IsTrue, OnOk};
+ghost use Rattle.lq_desk_sub.specs.Held.{is_live};
 
 use crate::boards::lawful_file;
 use lq_desk_sub::Sub;
 use lq_predicate::read;
-use lq_update::{Cause, Parcel};
+use lq_update::{Cause, Parcel, steps_are_few};
 use lq_value::Refusal;
 use lq_volume::Volume;
 use std::alloc::Global;
@@ -19,28 +20,53 @@ fn number(parcel: &Option<Parcel>) -> u64 {
     }
 }
 
-// What a subscription to every entry, `name=*`, gives of two files that were made: the first
-// message, after which it is put back, then each, and after the end the mark.
-fn given(alloc: Global) -> Result<[u64; 6], Refusal> {
-    let mut volume = Volume::new(alloc, 9);
-    let mut sub = Sub::new(alloc, &read(alloc, "name=*")?, 0, 2, false)?;
-    for name in ["a", "b"] {
-        let create = lawful_file(alloc, &volume, name)?;
-        sub.ready(&volume, &create)?;
-        sub.commit();
-        volume.apply(&create)?;
+// Tells it of a file that comes into the volume. `NotOpen` where that ended it.
+fn tell(alloc: Global, sub: &mut Sub, volume: &mut Volume, name: &str) -> Result<(), Refusal>
+    requires few { sub.old.held.sent < 100 }
+    requires live { IsTrue (is_live sub.old.held) }
+    ensures few { OnOk result (sub.new.held.sent ≤ sub.old.held.sent + 3) }
+    ensures live { OnOk result (IsTrue (is_live sub.new.held)) }
+{
+    let create = lawful_file(alloc, volume, name)?;
+    // What it ensures, that this is a volume, makes the messages few.
+    volume.changes();
+    steps_are_few();
+    sub.ready(volume, &create)?;
+    sub.commit();
+    volume.apply(&create)?;
+    if sub.is_live() {
+        Ok(())
+    } else {
+        Err(Refusal::NotOpen)
     }
+}
+
+// The number of its next parcel, and of the same once more after it was put back.
+fn lent(sub: &mut Sub) -> (u64, u64)
+    ensures sent { sub.new.held.sent ≡ sub.old.held.sent }
+    ensures mark { sub.new.held.mark ≡ sub.old.held.mark }
+{
     let first = sub.next();
-    let lent = number(&first);
+    let given = number(&first);
     if let Some(parcel) = first {
         sub.put_back(parcel);
     }
-    let again = number(&sub.next());
+    (given, number(&sub.next()))
+}
+
+// What a subscription to every entry, `name=*`, gives of two files that come: the first message,
+// which is put back, twice, the second and none; then it ends, and gives its mark and none.
+fn given(alloc: Global) -> Result<[u64; 6], Refusal> {
+    let mut volume = Volume::new(alloc, 9);
+    let mut sub = Sub::new(alloc, &read(alloc, "name=*")?, 0, 2, false)?;
+    tell(alloc, &mut sub, &mut volume, "a")?;
+    tell(alloc, &mut sub, &mut volume, "b")?;
+    let (first, again) = lent(&mut sub);
     let second = number(&sub.next());
     let none = number(&sub.next());
     sub.finish_with(Cause::Closed, 2);
     let mark = number(&sub.next());
-    Ok([lent, again, second, none, mark, number(&sub.next())])
+    Ok([first, again, second, none, mark, number(&sub.next())])
 }
 
 #[test]
