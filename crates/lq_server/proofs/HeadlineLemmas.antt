@@ -13,17 +13,16 @@ use Rattle.lq_update.specs.declared.message.Opcode.{Opcode}
 use Rattle.lq_update.specs.declared.message.Message.{Message}
 use Rattle.lq_update.specs.declared.mark.Mark.{Mark}
 use Rattle.lq_update.specs.Diff.{diff}
-use Rattle.lq_update.specs.Updates.{numbered, step_of, updates_from, updates_of, IsSettled}
+use Rattle.lq_update.specs.Updates.{numbered, step_of, updates_from, IsSettled}
 use Rattle.lq_update.specs.Fold.{folded, last_change}
 use Rattle.lq_update.specs.Laws.{FoldsGiveResults, WholeFoldsGiveResults}
 use Rattle.lq_desk_sub.specs.declared.read.Read.{Read}
 use Rattle.lq_desk_sub.specs.declared.read.Read.TheVariants.{Update, Fin, Empty, Ended}
-use Rattle.lq_server_subscription.specs.declared.delivery.Opening.{Opening}
 use Rattle.lq_server_subscription.specs.Updates.{updates}
 use Rattle.lq_server_subscription.specs.Rule.{floor_of, query_of, messages_in, IsMark}
 use Rattle.lq_server_subscription.specs.Reading.{ReadingHold, Gives, IsTold, known, received, mark_read}
 use Rattle.lq_server.specs.Hold.{ReaderHold}
-use Rattle.lq_server.specs.Headline.{updates_upto, result_after, AreNumbered, IsMarkAfter, EndsWhole, ReaderIsTold, GoesOn, IsAnswered, AreAnswers, update_in, updates_in, HasMark, AnswersTell, AnswersAreTold}
+use Rattle.lq_server.specs.Headline.{updates_upto, result_after, AreNumbered, IsMarkAfter, EndsWhole, ReaderIsTold, IsAnswered, AreAnswers, update_in, updates_in, HasMark, AnswersAreTold}
 use Rattle.lq_server.proofs.ParcelLemmas.{extends_trans}
 use Rattle.lq_server.proofs.OwnLemmas.{received_front}
 

@@ -129,7 +129,8 @@ impl Reader {
 
     /// As `read`, but it fills its port first, and waits for the next of what is told.
     ///
-    /// `Ended` at once after the mark; `Empty` only where no more can be told.
+    /// `Ended` at once after the mark. `Empty` says besides that the server is gone, which no clause
+    /// says.
     pub fn read_waiting<N: Named, R: Wait>(
         &mut self,
         rt: &R,
