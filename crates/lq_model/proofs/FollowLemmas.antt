@@ -1,26 +1,31 @@
 -- A query that was followed: what its reader received, and the volume.
-use Rattle.std.proofs.Common.{◌≡◌, ℕ, ◌<◌, Bool, false, List, ◌++◌, Option, Some, None, refl, sym, ap, ◌∙◌, subst, append_assoc}
-use Rattle.std.specs.Prelude.{IsSomeAnd}
+use Rattle.std.proofs.Common.{◌≡◌, ℕ, ◌+◌, ◌-◌, ◌<◌, ◌≤◌, Bool, false, true≢false, List, ◌++◌, length, take, Option, Some, None, refl, sym, ap, ◌∙◌, subst, arith, append_assoc, length-append}
+use Rattle.std.specs.Prelude.{IsSome, IsSomeAnd}
+use Rattle.std.proofs.lemmas.List.{take-append-le}
 use Rattle.atomic_table.specs.Seated.{TableId}
 use Rattle.lq_predicate_formula.specs.Query.{Query}
 use Rattle.lq_volume.specs.declared.change.Change.{Change}
-use Rattle.lq_volume.specs.Book.{Book, Extends, grown}
+use Rattle.lq_volume.specs.State.{State}
+use Rattle.lq_volume.specs.Book.{Book, Extends, grown, after_all, state_at}
+use Rattle.lq_volume.specs.Result.{result_of}
 use Rattle.lq_board.specs.Token.{SeatToken}
 use Rattle.lq_update.specs.declared.message.Message.{Message}
+use Rattle.lq_update.specs.declared.mark.Mark.{Mark}
 use Rattle.lq_update.specs.Updates.{updates_of}
+use Rattle.lq_update.specs.Laws.{UpdatesStay}
 use Rattle.lq_server_subscription.specs.declared.identity.Identity.{Identity}
-use Rattle.lq_server_subscription.specs.Updates.{updates}
-use Rattle.lq_server_subscription.specs.Rule.{query_of}
-use Rattle.lq_server_subscription.specs.Reading.{received}
-use Rattle.lq_server_subscription.specs.Standing.{upto}
+use Rattle.lq_server_subscription.specs.declared.delivery.Delivery.{Delivery}
+use Rattle.lq_server_subscription.specs.Rule.{query_of, mark_in}
+use Rattle.lq_server_subscription.specs.Reading.{known, received, mark_read}
 use Rattle.lq_server_slots.specs.Opening.{IdentityFits, asks_after}
 use Rattle.lq_server.specs.declared.server.Synced.{Synced}
 use Rattle.lq_server.specs.declared.server.Retired.{Retired}
 use Rattle.lq_server.specs.Hold.{ReaderHold}
 use Rattle.lq_server.specs.Opened.{IsNewReader}
 use Rattle.lq_server.specs.Syncing.{IsSynced}
+use Rattle.lq_server.specs.Headline.{ReaderIsTold}
 use Rattle.lq_server.specs.Retired.{IsRetired}
-use Rattle.lq_model.specs.Followed.{GoesOn, IsFollowed}
+use Rattle.lq_model.specs.Followed.{GoesOn, GoesOut, IsFollowed}
 
 -- a book that goes on from one that goes on from the first
 extends_trans : (b c d : Book) → Extends c b → Extends d c → Extends d b
@@ -30,11 +35,22 @@ extends_trans b c d e f = (
       record { start = b.start; changes = cs } in x) (append_assoc b.changes e.0 f.0)),
 )
 
--- both names of an update list say the same
-updates_are : (q : Query) (mv : Bool) (b : Book) (m n : ℕ)
-    → updates q mv b m n ≡ updates_of q mv b m n
-unfolding updates
-updates_are q mv b m n = refl
+-- a book that goes on from another has no fewer changes
+extends_length : (b c : Book) → Extends c b → length b.changes ≤ length c.changes
+extends_length b c e =
+    omega (arith, ap (λ (x : Book). length x.changes) e.1, length-append b.changes e.0)
+
+-- and leads to the same state at each number of the first
+state_stays : (b c : Book) (n : ℕ) → Extends c b → n - b.start.number ≤ length b.changes
+    → state_at c n ≡ state_at b n
+state_stays b c n e le =
+    ap (λ (x : Book). state_at x n) e.1
+    ∙ ap (after_all b.start) (take-append-le (n - b.start.number) b.changes e.0 le)
+
+-- a mark is there, where the test says so
+some_there : (o : Option Mark) → IsSome o → (k : Mark) × (o ≡ Some k)
+some_there (Some k) h = (k, refl)
+some_there None h = absurd (true≢false (sym h))
 
 -- what a name has to do with its reader
 abbrev Fits : ReaderHold → Identity → Type 0
@@ -49,12 +65,19 @@ same_query : (o : Option Identity) (old new : ReaderHold) → IsSomeAnd o (Fits 
 same_query (Some t) old new x y = (sym y.0.query ∙ x.0.query, sym y.0.moved ∙ x.0.moved)
 same_query None old new x y = absurd x
 
+-- a slot's seat met another, and knows a book that goes on from its own
+pub record Meets (was now : SeatToken Identity) : Type 0 where
+  pub slot : now.slot ≡ was.slot
+  pub rest : 0 < was.slot → (now.asks ≡ was.asks) × (now.name ≡ was.name)
+  pub later : Extends now.book was.book
+
 -- from the opening over the reads to the last sync, a meeting of the seats and the end of the
 -- server
-pub followed : (q : Query) (board : TableId) (begun : Book) (port backlog : ℕ)
+pub followed : UpdatesStay → (q : Query) (board : TableId) (begun : Book) (port backlog : ℕ)
     (first old new : ReaderHold) (x : Synced) (one two : SeatToken Identity) (z : Retired)
-    → IsNewReader first board begun q false port backlog → GoesOn first old → IsSynced old new x
-    → Extends one.book new.seat.book → one.book ≡ two.book → IsRetired two.book z.volume z.changes
+    → IsNewReader first board begun q false port backlog → GoesOut first old → IsSynced old new x
+    → ReaderIsTold new
+    → Meets new.seat one → one.book ≡ two.book → IsRetired two.book z.volume z.changes
     → IsFollowed q (record {
       reader = record {
         reading = new.reading;
@@ -65,26 +88,65 @@ pub followed : (q : Query) (board : TableId) (begun : Book) (port backlog : ℕ)
       synced = x;
       retired = z;
     })
-followed q board begun port backlog first old new x one two z o g s later same r =
+followed stay q board begun port backlog first old new x one two z o out s told met same r =
     let name : new.seat.name ≡ first.seat.name =
-    ap (λ (t : SeatToken Identity). t.name) s.seat ∙ g.name in
+    ap (λ (t : SeatToken Identity). t.name) s.seat ∙ out.goes.name in
     let query = same_query first.seat.name first new o.own.name
     (subst (λ n. IsSomeAnd n (Fits new)) name s.own.name) in
-    let n : ℕ = upto x.mark x.change in
-    let got : List Message = received new.reading in
+    let f = new.reading.port.floor in
+    let b : Book = known new.reading in
+    let book : Book = new.seat.book in
+    let k = some_there (mark_read old.reading) out.marked in
+    let mark : Mark = k.0 in
+    let read : mark_read new.reading ≡ Some mark =
+    ap (λ (ps : List Delivery). mark_in ps) s.taken ∙ k.1 in
+    let knows : Extends book b =
+    subst (λ (c : Book). Extends book c) (sym s.known_stays) s.knows in
+    let whole = told.mark mark read in
+    let zero : b.start.number ≡ 0 = told.book.first in
+    let long = extends_length b book knows in
+    let here = whole.within in
+    let after = whole.opened in
+    let low : 0 < new.seat.slot = subst (λ (n : ℕ). 0 < n) (sym s.own.slot) s.own.low in
+    let rest = met.rest low in
+    let is : query_of f ≡ q = query.0 ∙ o.opened.query in
+    let moves : f.moved ≡ false = query.1 ∙ o.opened.moved in
     record {
-      book = new.seat.book;
+      own = record {
+        low = s.own.low;
+        high = s.own.high;
+        slot = met.slot ∙ s.own.slot;
+        name = subst
+            (λ (t : Option Identity × ℕ). IsSomeAnd t.0 (λ n.
+            IdentityFits n new.reading.port × (t.1 ≡ asks_after n.asks new.hang_up_asked)
+            × (n.asks < 1000000000000)))
+            (λ i. (sym rest.1 i, sym rest.0 i)) s.own.name;
+      };
+      query = is;
+      moved = moves;
+      asked = s.hang_up_asked ∙ out.asked;
+      book = book;
+      lawful = s.lawful;
       number = s.number;
-      prefix = (
-        s.w ++ s.h,
-        sym (append_assoc got s.w s.h) ∙ s.lists.all
-            ∙ (λ i. updates ((query.0 ∙ o.opened.query) i)
-            ((query.1 ∙ o.opened.moved) i) new.seat.book new.reading.port.floor.opened n)
-            ∙ updates_are q false new.seat.book new.reading.port.floor.opened n,
-      );
+      knows = knows;
+      mark = mark;
+      read = read;
+      synced = s.read out.marked ∙ k.1;
+      opened = whole.opened;
+      within = omega arith;
+      all = whole.all
+          ∙ sym (stay (query_of f) f.moved book b f.opened mark.change knows (omega arith)
+          whole.opened (omega arith))
+          ∙ (λ i. updates_of (is i) (moves i) book f.opened mark.change);
+      seq = whole.seq;
+      entries = told.closed mark read
+          ∙ ap (λ (t : State). result_of (query_of f) t)
+          (sym (state_stays b book mark.change knows (omega arith)))
+          ∙ ap (λ (p : Query). result_of p (state_at book mark.change)) is;
       retired = record {
         book = r.book;
-        later = extends_trans new.seat.book one.book r.book later
+        full = r.full;
+        later = extends_trans book one.book r.book met.later
             (subst (λ (b : Book). Extends r.book b) (sym same) r.later);
         state = r.state;
         number = r.number;

@@ -1,13 +1,14 @@
 //! A server from its beginning to its end: one thread makes changes, another reads what they tell.
 ghost use Rattle.std.specs.Prelude.{◌≡◌, IfOk};
 ghost use Rattle.lq_server.specs.Own.{IsOwn};
-ghost use Rattle.lq_model.specs.Followed.{GoesOn, IsFollowed};
+ghost use Rattle.lq_model.specs.Followed.{GoesOut, IsFollowed};
 
 use lq_board::Seat;
 use lq_desk_sub::Read;
 use lq_predicate::Predicate;
 use lq_server::{Base, Named, Reader, Retired, Server, Synced, Work, join_over};
 use lq_server_subscription::Identity;
+use lq_update::updates_stay;
 use lq_value::Refusal;
 use lq_volume::Change;
 use std::sync::Wait;
@@ -23,11 +24,11 @@ pub struct Followed {
 
 /// Makes changes at a new server in one thread, and reads what they tell a query in another.
 ///
-/// There is one book of changes: what the reader has received is a prefix of the query's update
-/// list over it, and the volume that is left is the state after it, or after one that goes on from
-/// it.
-/// The reader reads that many times, hangs up, and goes on to its mark. Refused as `Server::seat`,
-/// `open` and `apply` are, or `NoMemory`.
+/// The reader reads that many times, hangs up, and goes on to its mark. There is one book of
+/// changes: what it has received is the query's whole update list over the book up to its mark,
+/// its entries are the query's result after the mark's change, and the volume that is left is the
+/// state after the book, or after one that goes on from it. Refused as `Server::seat`, `open` and
+/// `apply` are, or `NoMemory`.
 pub fn follow<N: Named + Send + Sync, R: Threads + Wait + Sync>(
     rt: &R,
     base: Base,
@@ -45,7 +46,9 @@ pub fn follow<N: Named + Send + Sync, R: Threads + Wait + Sync>(
     let (reader, seat) = join_over(rt, &server, reads, Applies { seat, changes });
     let mut reader = reader?;
     let mut seat = seat?;
+    updates_stay();
     let synced = server.sync(rt, &mut reader);
+    reader.headline();
     server.meet(rt, reader.seat(), &mut seat);
     let retired = server.retire(rt, seat);
     Ok(Followed {
@@ -91,7 +94,7 @@ impl Work for Reads {
 
     ghost can = { λ reads board. (reads.reader.seat.board ≡ board) × IsOwn reads.reader };
 
-    ghost gives = { λ reads _ given. IfOk given (GoesOn reads.reader) };
+    ghost gives = { λ reads _ given. IfOk given (GoesOut reads.reader) };
 
     fn work<N: Named, R: Wait>(self, rt: &R, server: &Server<N>) -> Result<Reader, Refusal> {
         let Reads { reader, reads } = self;
@@ -122,7 +125,7 @@ fn read_out<N: Named, R: Wait>(
     reads: u64,
 ) -> Result<Reader, Refusal>
     requires { (reader.seat.board ≡ N.board) × IsOwn reader }
-    ensures { IfOk result (GoesOn reader) }
+    ensures { IfOk result (GoesOut reader) }
 {
     for _ in 0..reads {
         reader.read(rt)?;

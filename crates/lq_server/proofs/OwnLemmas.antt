@@ -1,5 +1,5 @@
 -- Readers whose seat is their own, and what a read leaves of them.
-use Rattle.std.proofs.Common.{◌≡◌, ℕ, ◌<◌, Bool, false, ◌++◌, Option, Some, None, inr, refl, sym, ap, ◌∙◌, subst, append_assoc}
+use Rattle.std.proofs.Common.{◌≡◌, ℕ, ◌+◌, ◌<◌, Bool, true, false, arith, ◌++◌, Option, Some, None, inr, refl, sym, ap, ◌∙◌, subst, append_assoc}
 use Rattle.std.specs.Prelude.{IsSome, IsSomeAnd, IfOk, OnErr, Result, Ok, Err, option_to_list}
 use mathlib.Core.List.{List, IsPrefix}
 use Rattle.atomic_table.specs.Seated.{TableId}
@@ -62,6 +62,15 @@ pub own_asked : (r : ReaderHold) → IsOwn r
 own_asked r own =
     and_then r.seat.name (IsNameOf r) (λ t. r.seat.asks ≡ asks_after t.asks r.hang_up_asked)
     (λ t h. h.1) own.name
+
+-- where it asked, that is more often than at the opening
+pub own_late : (r : ReaderHold) → IsOwn r → r.hang_up_asked ≡ true
+    → (name_or r.seat.name).asks < r.seat.asks
+own_late r own asked =
+    let n = and_name r.seat.name (IsNameOf r) own.name in
+    let more : asks_after (name_or r.seat.name).asks r.hang_up_asked
+    ≡ (name_or r.seat.name).asks + 1 = ap (asks_after (name_or r.seat.name).asks) asked in
+    omega (arith, n.1, more)
 
 -- a reader whose seat knows another book stays own
 pub own_knows : (r : ReaderHold) (seat : SeatToken Identity) (book : Book)

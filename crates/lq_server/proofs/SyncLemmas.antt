@@ -1,5 +1,5 @@
 -- What the lock shows is what a sync tells.
-use Rattle.std.proofs.Common.{◌≡◌, ℕ, suc, ◌+◌, ◌<◌, ◌≤◌, ◌^◌, Bool, true, false, true≢false, List, [], ◌∷◌, ◌++◌, length, map, Option, Some, None, refl, sym, ap, ◌∙◌, subst, arith, append_assoc, append-nil, length-append, ⊎_elim}
+use Rattle.std.proofs.Common.{◌≡◌, ◌⊎◌, ℕ, suc, ◌+◌, ◌<◌, ◌≤◌, ◌^◌, Bool, true, false, true≢false, List, [], ◌∷◌, ◌++◌, length, map, Option, Some, None, refl, sym, ap, ◌∙◌, subst, arith, append_assoc, append-nil, length-append, ⊎_elim, inl, inr}
 use Rattle.std.specs.Prelude.{IfSome, IsSome, IsSomeAnd, is_some, option_to_list}
 use Rattle.std.proofs.lemmas.List.{map-append}
 use Rattle.lq_volume.specs.Book.{Book, Extends}
@@ -371,6 +371,7 @@ module _ (s : Subscription) (old new : ReaderHold) (l : Progress)
             (λ i. (lv.port.2 i, lv.taken i))
             (known_later e.floor e.taken e.ahead lv.legal)))
             lv.stands.later;
+        lawful = lv.stands.full;
         number = number;
         w = w;
         h = s.sub.held.messages;
@@ -386,6 +387,12 @@ module _ (s : Subscription) (old new : ReaderHold) (l : Progress)
           front = ready_now;
           closes = λ none empty room.
               ap fin_list (closing none (sym h ∙ empty) (omega (arith, wait)) ∙ sym mk);
+          last = rest_is (mark_in e.taken) refl (mark_in e.ahead) refl mk;
+          mark = subst
+              (λ o. IfSome o (λ k.
+              (k.seq ≡ length (received new.reading ++ w ++ s.sub.held.messages) + 1)
+              × (e.floor.opened ≤ k.change) × (k.change ≤ x.change)))
+              (sym mk) (mark_of s.sub.held.mark refl);
         };
         full = λ some. full_at (omega (arith, h)) wait;
         ended = λ is.
@@ -414,6 +421,49 @@ module _ (s : Subscription) (old new : ReaderHold) (l : Progress)
     where
       known_put : known_by e.floor (e.taken ++ e.ahead) ≡ known_by s.input.floor (all_put s.input)
       known_put = λ i. known_by (lv.floor i) (sym put_is i)
+
+      -- nothing follows the messages that wait but the mark
+      rest_is : (o : Option Mark) → mark_in e.taken ≡ o → (p : Option Mark) → mark_in e.ahead ≡ p
+          → x.mark ≡ s.sub.held.mark
+          → (fin_list (mark_in e.ahead) ≡ []) ⊎ (fin_list (mark_in e.ahead) ≡ fin_list x.mark)
+      rest_is (Some j) there p is mk =
+          inl
+          (ap (λ (ps : List Delivery). fin_list (mark_in ps))
+          (mark_ends e.floor e.taken e.ahead j lv.legal there))
+      rest_is None none None is mk = inl (ap fin_list is)
+      rest_is None none (Some k) is mk =
+          let same : mark_in e.ahead ≡ moved_mark s.sub.held.mark_out s.sub.held.mark =
+          sym (mark_in-append e.taken e.ahead none) ∙ mark_put in
+          inr
+          (ap fin_list (is
+          ∙ sym (moved_mark-some s.sub.held.mark_out s.sub.held.mark k (sym same ∙ is))
+          ∙ sym mk))
+
+      -- what the lock knows of a mark, in the words of the answer
+      mark_of : (o : Option Mark) → s.sub.held.mark ≡ o
+          → IfSome o (λ k.
+          (k.seq ≡ length (received new.reading ++ w ++ s.sub.held.messages) + 1)
+          × (e.floor.opened ≤ k.change) × (k.change ≤ x.change))
+      mark_of None is = tt
+      mark_of (Some k) is =
+          let fits =
+          subst
+          (λ o. IfSome o (λ k.
+          (k.seq ≡ s.sub.held.sent + 1) × (k.change ≤ length new.seat.book.changes)))
+          is lv.stands.mark in
+          let begun : s.sub.held.opened ≤ k.change =
+          subst (λ o. s.sub.held.opened ≤ upto o (length new.seat.book.changes)) is
+          lv.stands.opened in
+          let at : s.sub.held.opened ≡ e.floor.opened =
+          mine.0.opened ∙ ap (λ (f : Opening). f.opened) (sym lv.port.2) in
+          let count : x.change ≡ length new.seat.book.changes = change ∙ lv.number in
+          let sent : s.sub.held.sent
+          ≡ length (received new.reading ++ w ++ s.sub.held.messages) =
+          lv.stands.sent ∙ ap (length {A = Message}) (sym given_is) in (
+            fits.0 ∙ ap (λ (n : ℕ). n + 1) sent,
+            omega arith,
+            omega arith,
+          )
 
       full_at : 0 < length s.sub.held.messages → length w ≡ x.waiting → e.places ≤ x.waiting
       full_at some wait =

@@ -6,3 +6,4 @@ pub mod Retired
 pub mod Lending
 pub mod Works
 pub mod Applied
+pub mod Headline

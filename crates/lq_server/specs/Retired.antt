@@ -2,10 +2,13 @@
 use Rattle.std.specs.Prelude.{◌≡◌, ℕ, length}
 use Rattle.lq_volume.specs.State.{State}
 use Rattle.lq_volume.specs.Book.{Book, Extends, state_of}
+use Rattle.lq_board.specs.Book.{IsFullBook}
 
--- the volume is the state after a book of so many changes, which goes on from what was known
+-- the volume is the state after a lawful book of so many changes, which goes on from what was
+-- known
 pub record IsRetired (known : Book) (volume : State) (changes : ℕ) : Type 0 where
   pub book : Book
+  pub full : IsFullBook book
   pub later : Extends book known
   pub state : volume ≡ state_of book
   pub number : changes ≡ length book.changes

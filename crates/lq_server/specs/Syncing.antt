@@ -1,6 +1,7 @@
 -- What a sync tells its reader.
-use Rattle.std.specs.Prelude.{◌⊎◌, ◌≡◌, ℕ, ◌<◌, ◌≤◌, Bool, true, false, List, [], ◌∷◌, ◌++◌, length, map, Option, Some, None, IsSome, IfSome, IsSomeAnd}
+use Rattle.std.specs.Prelude.{◌⊎◌, ◌≡◌, ℕ, ◌+◌, ◌<◌, ◌≤◌, Bool, true, false, List, [], ◌∷◌, ◌++◌, length, map, Option, Some, None, IsSome, IfSome, IsSomeAnd}
 use Rattle.lq_volume.specs.Book.{Extends}
+use Rattle.lq_board.specs.Book.{IsFullBook}
 use Rattle.lq_update.specs.declared.message.Message.{Message}
 use Rattle.lq_update.specs.declared.mark.Mark.{Mark}
 use Rattle.lq_update.specs.declared.mark.Cause.TheVariants.{Overrun}
@@ -34,6 +35,12 @@ pub record IsListed (r : ReaderHold) (x : Synced) (w h : List Message) : Type 0 
   pub front : ready r.reading ≡ map (λ m. Update m) w ++ rest
   pub closes : mark_read r.reading ≡ None → x.held ≡ 0 → x.waiting < r.reading.port.places
       → rest ≡ fin_list x.mark
+  -- nothing follows them but the mark
+  pub last : (rest ≡ []) ⊎ (rest ≡ fin_list x.mark)
+  -- a mark, read or not, comes after all of them, and its change is within the book
+  pub mark : IfSome x.mark (λ k.
+      (k.seq ≡ length (received r.reading ++ w ++ h) + 1)
+      × (r.reading.port.floor.opened ≤ k.change) × (k.change ≤ x.change))
 
 -- old and new are the reader before and after a sync that answers x
 pub record IsSynced (old new : ReaderHold) (x : Synced) : Type 0 where
@@ -49,6 +56,7 @@ pub record IsSynced (old new : ReaderHold) (x : Synced) : Type 0 where
   pub seat : new.seat ≡ record old.seat { book = new.seat.book }
   pub later : Extends new.seat.book old.seat.book
   pub knows : Extends new.seat.book (known old.reading)
+  pub lawful : IsFullBook new.seat.book
   pub number : x.change ≡ length new.seat.book.changes
   pub w : List Message
   pub h : List Message

@@ -11,7 +11,7 @@ ghost use Rattle.lq_board.specs.Book.{IsFullBook};
 ghost use Rattle.lq_server_subscription.specs.declared.identity.Shut.TheVariants.{Never};
 ghost use Rattle.lq_server_subscription.specs.declared.subscription.Subscription.{Subscription as SubscriptionOf};
 ghost use Rattle.lq_server_subscription.specs.Marking.{first_close};
-ghost use Rattle.lq_server_slots.specs.Slots.{SlotsStand};
+ghost use Rattle.lq_server_slots.specs.Slots.{IsPut, SlotsStand};
 ghost use Rattle.lq_server_slots.specs.Opening.{IsOpened, IsOpeningRefused, IdentityFits, asks_after, name_or, opening_refusal};
 ghost use Rattle.lq_server_slots.specs.Progress.{ShowsProgress};
 ghost use Rattle.lq_server.specs.Applied.{IsAdded};
@@ -316,8 +316,8 @@ impl<N: Named> Locked<N> {
 
     /// Closes a reader's subscription, and answers the number of changes then.
     ///
-    /// `None` where it had ended before. The seat knows the book, and its name tells what the
-    /// first close answered. It takes no memory.
+    /// `None` where it had ended before, as it has where its reader asked. Its port is filled. The
+    /// seat knows the book, and its name tells what the first close answered. It takes no memory.
     pub fn close<R: Wait>(
         &mut self,
         rt: &R,
@@ -331,6 +331,8 @@ impl<N: Named> Locked<N> {
         ensures same { self.new ≡ self.old }
         ensures number { IfSome result (λ n. n ≡ length seat.new.book.changes) }
         ensures closes { IfSome result (λ _. (name_or seat.old.name).shut ≡ Never) }
+        ensures late { (name_or seat.old.name).asks < seat.old.asks → result ≡ None }
+        ensures put { (s : SubscriptionOf) × IsPut s seat.new.name seat.new.book }
         ensures seat { seat.new ≡ record seat.old { book = self.old; name = seat.new.name } }
         ensures later { Extends seat.new.book seat.old.book }
         ensures name { seat.new.name ≡ Some (record (name_or seat.old.name) {

@@ -13,6 +13,7 @@ ghost use Rattle.lq_server_subscription.specs.Reading.{Gives, Fails, known, rece
 ghost use Rattle.lq_server.specs.Own.{IsOwn};
 ghost use Rattle.lq_server.specs.Lending.{LendsSeat};
 ghost use Rattle.lq_server.specs.Syncing.{IsRead, IsUnread};
+ghost use Rattle.lq_server.specs.Headline.{ReaderIsTold};
 
 use crate::named::{Named, Seat};
 use crate::server::Server;
@@ -128,7 +129,8 @@ impl Reader {
 
     /// As `read`, but it fills its port first, and waits for the next of what is told.
     ///
-    /// `Ended` at once after the mark; `Empty` only where no more can be told.
+    /// `Ended` at once after the mark. `Empty` says besides that the server is gone, which no clause
+    /// says.
     pub fn read_waiting<N: Named, R: Wait>(
         &mut self,
         rt: &R,
@@ -194,5 +196,19 @@ impl Reader {
             (received self.now.reading) }
     {
         self.reading.last_change()
+    }
+
+    /// The headline: what it has received is a prefix of its query's update list, each message once
+    /// and in order; its mark comes after the whole list up to the change that it names; and its
+    /// result is the query's wherever that is settled, and after the mark.
+    ///
+    /// It does nothing. `answers_are_told` says the same of the answers of its reads.
+    pub fn headline(&self)
+        ensures { ReaderIsTold self.now }
+    {
+        self.reading.told();
+        self.reading.result();
+        self.reading.is_settled();
+        self.reading.last_change();
     }
 }

@@ -5,6 +5,8 @@ ghost use Rattle.lq_volume.specs.Book.{Extends};
 ghost use Rattle.lq_server_subscription.specs.declared.identity.Shut.TheVariants.{Never};
 ghost use Rattle.lq_server_subscription.specs.Marking.{first_close};
 ghost use Rattle.lq_server_subscription.specs.Reading.{is_marked};
+ghost use Rattle.lq_server_subscription.specs.declared.subscription.Subscription.{Subscription as SubscriptionOf};
+ghost use Rattle.lq_server_slots.specs.Slots.{IsPut};
 ghost use Rattle.lq_server_slots.specs.Opening.{IsOpeningRefused, name_or, opening_refusal};
 ghost use Rattle.lq_server.specs.declared.server.Synced.{Synced as SyncedOf};
 ghost use Rattle.lq_server.specs.Opened.{IsNewReader};
@@ -100,8 +102,8 @@ impl<N: Named> Server<N> {
     /// Ends the reader's subscription as closed, after as many changes as is answered, and fills
     /// its port.
     ///
-    /// Refused: `NotOpen` where it has ended. What the reader has received and knows stays. It
-    /// takes no memory.
+    /// Refused: `NotOpen` where it has ended, as it has where its reader asked for that. What the
+    /// reader has received and knows stays. It takes no memory.
     pub fn close<R: Wait>(&self, rt: &R, reader: &mut Reader) -> Result<u64, Refusal>
         requires board { reader.old.seat.board ≡ N.board }
         requires own { IsOwn reader.old }
@@ -109,7 +111,12 @@ impl<N: Named> Server<N> {
         ensures number { IfOk result (λ n. n ≡ length reader.new.seat.book.changes) }
         ensures first { IfOk result (λ _. (name_or reader.old.seat.name).shut ≡ Never) }
         ensures refused { IfErr result (λ e. e ≡ NotOpen) }
+        ensures late { reader.old.hang_up_asked ≡ true → result ≡ Err NotOpen }
         ensures later { Extends reader.new.seat.book reader.old.seat.book }
+
+        // What it had to tell was put, until nothing was left or its port was full.
+        ensures put { (s : SubscriptionOf)
+            × IsPut s reader.new.seat.name reader.new.seat.book }
         ensures seat { reader.new.seat ≡ record reader.old.seat {
           book = reader.new.seat.book;
           name = reader.new.seat.name;

@@ -22,7 +22,8 @@ impl<N: Named> Server<N> {
     ///
     /// The seat then knows a book that ends with this change, under the number that is answered.
     /// Refused as `Volume::apply` is after the book that the seat then knows, or `NoMemory`; then
-    /// the volume is as it was. Each subscription whose reader hung up before ends in any case.
+    /// the volume is as it was. In any case each subscription whose reader hung up before ends, as
+    /// `change_in` of lq_server_slots says.
     pub fn apply<R: Wait>(
         &self,
         rt: &R,

@@ -5,12 +5,15 @@ use mathlib.Core.Logic.{dite}
 use native.Mathlib.Decide.{ℕ_discrete}
 use Rattle.lq_volume.specs.declared.change.Change.{Change}
 use Rattle.lq_volume.specs.Book.{state_of}
-use Rattle.lq_board.specs.Slot.{slot_at}
+use Rattle.lq_board.specs.declared.views.Slot.{Slot as Known}
+use Rattle.lq_board.specs.Slot.{slot_at, counted}
 use Rattle.lq_board.specs.Token.{KeeperToken}
+use Rattle.lq_update.specs.declared.mark.Mark.{Mark}
 use Rattle.lq_server_subscription.specs.declared.identity.Identity.{Identity}
 use Rattle.lq_server_subscription.specs.declared.subscription.Subscription.{Subscription}
-use Rattle.lq_server_slots.specs.Slots.{SlotStands, asks_of, slot_in, place_at, AllStand, IsListed, IsReadyAt, AllReady, before_of, PartlyTold}
-use Rattle.lq_server_slots.proofs.SlotLemmas.{in_here, in_else}
+use Rattle.lq_server_subscription.specs.Standing.{IsStuck}
+use Rattle.lq_server_slots.specs.Slots.{SlotStands, asks_of, slot_in, place_at, AllStand, IsListed, IsReadyAt, AllReady, before_of, PartlyTold, OnlyAt, SlotIs, SlotsAre, IsNoticed, IsServed}
+use Rattle.lq_server_slots.proofs.SlotLemmas.{in_here, in_else, counted_here}
 use Rattle.lq_server_slots.proofs.TakenLemmas.{free_or_taken, some_ap, listed-set}
 
 -- none was told yet
@@ -109,3 +112,87 @@ partly_told-last keeper slots taken openings c told most m =
           (free_or_taken (slot_in slots k));
       asks = m.asks;
     }
+
+-- ---- a fact of each taken slot
+
+module _ (P : Subscription → Known Identity → Type 0) where
+  -- one slot was set, and what the keeper knows of it: one more of the listed slots has the fact
+  pub slots_are-more : (taken : List ℕ) (slots : List (Option Subscription))
+      (ps qs : List (Known Identity)) (index place : ℕ) (o : Option Subscription)
+      → IsListed taken slots → length slots ≡ 65 → index < length taken
+      → place ≡ place_at taken index → OnlyAt ps qs place → SlotIs P o (slot_at qs place)
+      → ((j : ℕ) → j < index → j < length taken
+      → SlotIs P (slot_in slots (place_at taken j)) (slot_at ps (place_at taken j)))
+      → (j : ℕ) → j < index + 1 → j < length taken
+      → SlotIs P (slot_in (slice_set slots place o) (place_at taken j))
+      (slot_at qs (place_at taken j))
+  slots_are-more taken slots ps qs index place o l wide lt is only here before j under within =
+      let high = l.high index lt in
+      dite (ℕ_discrete j index)
+      (λ (e : j ≡ index). subst (λ (p : ℕ). SlotIs P (slot_in (slice_set slots place o) p)
+      (slot_at qs p)) (is ∙ ap (place_at taken) (sym e))
+      (subst (λ (z : Option Subscription). SlotIs P z (slot_at qs place))
+      (sym (in_here slots place o (omega arith))) here))
+      (λ (ne : j ≢ index).
+      let apart : place_at taken j ≢ place = λ q. ne (l.once j index within lt (q ∙ is)) in
+      subst (λ (z : Option Subscription × Known Identity). SlotIs P z.0 z.1)
+      (λ i. (
+        sym (in_else slots place (place_at taken j) o apart) i,
+        sym (only.others (place_at taken j) apart) i,
+      ))
+      (before j (omega (arith, ne)) within))
+
+  -- and those behind it keep it
+  pub slots_are-left : (taken : List ℕ) (slots : List (Option Subscription))
+      (ps : List (Known Identity)) (index place : ℕ) (o : Option Subscription)
+      → IsListed taken slots → index < length taken → place ≡ place_at taken index
+      → ((j : ℕ) → index ≤ j → j < length taken
+      → SlotIs P (slot_in slots (place_at taken j)) (slot_at ps (place_at taken j)))
+      → (j : ℕ) → index + 1 ≤ j → j < length taken
+      → SlotIs P (slot_in (slice_set slots place o) (place_at taken j))
+      (slot_at ps (place_at taken j))
+  slots_are-left taken slots ps index place o l lt is before j over within =
+      let apart : place_at taken j ≢ place =
+      λ q. let e : j ≡ index = l.once j index within lt (q ∙ is) in absurd (omega arith) in
+      subst (λ (z : Option Subscription). SlotIs P z (slot_at ps (place_at taken j)))
+      (sym (in_else slots place (place_at taken j) o apart)) (before j (omega arith) within)
+
+  -- what all listed slots have, each slot has
+  pub slots_are-all : (taken : List ℕ) (slots : List (Option Subscription))
+      (ps : List (Known Identity)) (index : ℕ) → IsListed taken slots → length taken ≤ index
+      → ((j : ℕ) → j < index → j < length taken
+      → SlotIs P (slot_in slots (place_at taken j)) (slot_at ps (place_at taken j)))
+      → SlotsAre P slots ps
+  slots_are-all taken slots ps index l most h k pos within =
+      ⊎_elim
+      (λ (none : slot_in slots k ≡ None).
+      subst (λ (z : Option Subscription). SlotIs P z (slot_at ps k)) (sym none) tt)
+      (λ (some : IsSome (slot_in slots k)).
+      let i = l.each k pos within some in
+      let lt = i.1 in
+      subst (λ (p : ℕ). SlotIs P (slot_in slots p) (slot_at ps p)) i.2
+      (h i.0 (omega arith) lt))
+      (free_or_taken (slot_in slots k))
+
+-- one that has its mark where its reader asked has it after a commit or puts, and is served
+pub served_then : (s t : Subscription) (p : Known Identity) → IsNoticed s p → t.asks ≡ s.asks
+    → (IsSome s.sub.held.mark → t.sub.held.mark ≡ s.sub.held.mark) → IsStuck t → IsServed t p
+served_then s t p noticed asks still stuck = record {
+  noticed = λ lt.
+      let some = noticed (subst (λ (n : ℕ). n < p.asks) asks lt) in
+      subst (λ (o : Option Mark). IsSome o) (sym (still some)) some;
+  stuck = stuck;
+}
+
+-- after a notice the keeper knows just as many asks as were read
+pub noticed_then : (s t : Subscription) (ps qs : List (Known Identity)) (k n : ℕ)
+    → length ps ≡ 65 → k < 65 → qs ≡ counted ps k n → t.asks ≡ s.asks
+    → (s.asks < n → IsSome t.sub.held.mark) → IsNoticed t (slot_at qs k)
+noticed_then s t ps qs k n wide within is asks ended = λ lt.
+    let at : slot_at qs k ≡ record {
+      out = (slot_at ps k).out;
+      asks = n;
+      name = (slot_at ps k).name;
+    } = ap (λ (l : List (Known Identity)). slot_at l k) is
+    ∙ counted_here ps k n (omega arith) in
+    ended (subst (λ (z : ℕ × ℕ). z.0 < z.1) (λ i. (asks i, (at i).asks)) lt)

@@ -13,7 +13,7 @@ use Rattle.lq_server_subscription.specs.declared.identity.Identity.{Identity}
 use Rattle.lq_server_subscription.specs.declared.subscription.Subscription.{Subscription}
 use Rattle.lq_server_subscription.specs.Marking.{hung_mark}
 use Rattle.lq_server_subscription.specs.Identity.{identity_of}
-use Rattle.lq_server_subscription.specs.Standing.{StandsAt, IsFilled, IsReady}
+use Rattle.lq_server_subscription.specs.Standing.{StandsAt, IsFilled, IsReady, IsStuck}
 use Rattle.lq_server_slots.specs.declared.slots.Slots.{Slots}
 
 -- a taken slot: what stands in it, and what the keeper knows of its seat
@@ -76,6 +76,34 @@ abbrev pub SlotsStand : Slots → Book → Type 0
 SlotsStand s book =
     AllStand s.keeper s.subscriptions.items s.openings book
     × IsListed s.taken.items s.subscriptions.items
+
+-- a subscription whose reader asked for its end, as the keeper knows, has its mark
+abbrev pub IsNoticed : Subscription → Known Identity → Type 0
+IsNoticed s p = s.asks < p.asks → IsSome s.sub.held.mark
+
+-- and what it has to tell was put, until nothing was left or its port was full
+pub record IsServed (s : Subscription) (p : Known Identity) : Type 0 where
+  pub noticed : IsNoticed s p
+  pub stuck : IsStuck s
+
+-- a fact of each taken slot, one or all
+abbrev pub SlotIs :
+    (Subscription → Known Identity → Type 0) → Option Subscription → Known Identity → Type 0
+SlotIs P None p = Unit {0}
+SlotIs P (Some s) p = P s p
+
+abbrev pub SlotsAre :
+    (Subscription → Known Identity → Type 0) → List (Option Subscription) → List (Known Identity)
+    → Type 0
+SlotsAre P slots known =
+    (k : ℕ) → 0 < k → k < 65 → SlotIs P (slot_in slots k) (slot_at known k)
+
+-- a subscription under this name stands over the book, and what it has to tell was put, until
+-- nothing was left or its port was full
+pub record IsPut (s : Subscription) (name : Option Identity) (book : Book) : Type 0 where
+  pub named : name ≡ Some (identity_of s)
+  pub stands : StandsAt s book
+  pub stuck : IsStuck s
 
 -- what the keeper knows, what is in the slots, which are taken, and how often one was opened
 pub record AreUnchanged (old new : Slots) : Type 0 where

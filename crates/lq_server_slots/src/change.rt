@@ -4,7 +4,7 @@ ghost use Rattle.lq_value.specs.Refusal.{IsRefusedBy};
 ghost use Rattle.lq_volume.specs.Book.{grown, state_of};
 ghost use Rattle.lq_volume.specs.Change.{refused, node_of};
 ghost use Rattle.lq_board.specs.Book.{IsFullBook};
-ghost use Rattle.lq_server_slots.specs.Slots.{SlotsStand, AllReady};
+ghost use Rattle.lq_server_slots.specs.Slots.{SlotsStand, AllReady, IsNoticed, IsServed, SlotsAre};
 
 use crate::slots::{Slots, fill_all, ready_all, tell_all};
 use lq_board::Board;
@@ -14,6 +14,9 @@ use lq_volume::{Applied, Change, Volume};
 use std::sync::Wait;
 
 /// Ends the subscriptions whose readers asked, makes a change, and fills the ports.
+///
+/// Then each subscription whose reader asked, as the keeper knows, has its mark, and was put to
+/// until nothing was left or its port was full, also where the change was refused.
 ///
 /// A refused change takes one walk over the taken slots, or two where memory was wanting; an
 /// accepted one takes two.
@@ -41,6 +44,7 @@ pub fn change_in<R: Wait>(
     ensures limit { volume.new.limit ≡ volume.old.limit }
     ensures full { IsFullBook slots.new.keeper.book }
     ensures holding { SlotsStand slots.new slots.new.keeper.book }
+    ensures served { SlotsAre IsServed slots.new.subscriptions.items slots.new.keeper.slots }
 {
     match add(board, slots, volume, change) {
         Ok(applied) => {
@@ -74,6 +78,8 @@ fn add(
     ensures ready { OnOk result (AllReady slots.new.subscriptions.items
         (state_of slots.old.keeper.book) change.now) }
     ensures lawful { OnOk result (refused volume.old change.now ≡ None) }
+    ensures noticed { OnOk result
+        (SlotsAre IsNoticed slots.new.subscriptions.items slots.new.keeper.slots) }
     ensures err { OnErr result (slots.new.keeper.book ≡ slots.old.keeper.book) }
     ensures board { slots.new.keeper.board ≡ slots.old.keeper.board }
     ensures openings { slots.new.openings ≡ slots.old.openings }

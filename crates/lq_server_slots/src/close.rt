@@ -5,7 +5,8 @@ ghost use Rattle.lq_board.specs.Slot.{slot_at};
 ghost use Rattle.lq_server_subscription.specs.declared.identity.Shut.TheVariants.{Never};
 ghost use Rattle.lq_server_subscription.specs.Marking.{first_close};
 ghost use Rattle.lq_server_subscription.specs.Identity.{identity_of};
-ghost use Rattle.lq_server_slots.specs.Slots.{IsTaken, SlotStands, SlotsStand, IsPlaceIn, IsDropped, place_at, OnlyAt, asks_of, slot_in};
+ghost use Rattle.lq_server_subscription.specs.declared.subscription.Subscription.{Subscription as SubscriptionOf};
+ghost use Rattle.lq_server_slots.specs.Slots.{IsTaken, SlotStands, SlotsStand, IsPlaceIn, IsDropped, IsPut, place_at, OnlyAt, asks_of, slot_in};
 ghost use Rattle.lq_server_slots.specs.Opening.{asks_after, name_or};
 
 use crate::slots::Slots;
@@ -32,6 +33,8 @@ fn close_slot<R: Wait>(
     requires number { number ≡ length keeper.old.book.changes }
     requires taken { IsTaken slot.old (slot_at keeper.old.slots seat.old.slot) keeper.old.book }
     ensures closes { result ≡ true → (name_or seat.old.name).shut ≡ Never }
+    ensures late { slot.old.asks < seat.old.asks → result ≡ false }
+    ensures put { IsPut slot.new seat.new.name keeper.new.book }
     ensures board { keeper.new.board ≡ keeper.old.board }
     ensures book { keeper.new.book ≡ keeper.old.book }
     ensures only { OnlyAt keeper.old.slots keeper.new.slots seat.old.slot }
@@ -64,6 +67,8 @@ fn close_at<R: Wait>(
     requires fits { SlotStands slot.old (slot_at keeper.old.slots seat.old.slot) keeper.old.book }
     ensures number { IfSome result (λ n. n ≡ length keeper.old.book.changes) }
     ensures closes { IfSome result (λ _. (name_or seat.old.name).shut ≡ Never) }
+    ensures late { (name_or seat.old.name).asks < seat.old.asks → result ≡ None }
+    ensures put { (s : SubscriptionOf) × IsPut s seat.new.name keeper.new.book }
     ensures board { keeper.new.board ≡ keeper.old.board }
     ensures book { keeper.new.book ≡ keeper.old.book }
     ensures only { OnlyAt keeper.old.slots keeper.new.slots seat.old.slot }
@@ -88,6 +93,8 @@ fn close_at<R: Wait>(
 }
 
 /// Closes the seat's subscription, unless it has ended, and answers the number of changes.
+///
+/// First it ends as hung up, where its reader asked. Then its port is filled.
 pub fn close_in<R: Wait>(
     rt: &R,
     board: &Board<Identity>,
@@ -101,6 +108,8 @@ pub fn close_in<R: Wait>(
     requires holding { SlotsStand slots.old slots.old.keeper.book }
     ensures number { IfSome result (λ n. n ≡ length slots.old.keeper.book.changes) }
     ensures closes { IfSome result (λ _. (name_or seat.old.name).shut ≡ Never) }
+    ensures late { (name_or seat.old.name).asks < seat.old.asks → result ≡ None }
+    ensures put { (s : SubscriptionOf) × IsPut s seat.new.name slots.new.keeper.book }
     ensures board { slots.new.keeper.board ≡ slots.old.keeper.board }
     ensures book { slots.new.keeper.book ≡ slots.old.keeper.book }
     ensures openings { slots.new.openings ≡ slots.old.openings }

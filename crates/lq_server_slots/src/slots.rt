@@ -3,8 +3,8 @@ ghost use Rattle.std.specs.Prelude.{◌≡◌, ◌+◌, ◌<◌, ◌≤◌, ◌^
 ghost use Rattle.lq_value.specs.Refusal.{IsRefusedBy};
 ghost use Rattle.lq_volume.specs.Book.{state_of};
 ghost use Rattle.lq_board.specs.Slot.{slot_at, counted};
-ghost use Rattle.lq_server_subscription.specs.Standing.{SameButHeld, SameButPuts};
-ghost use Rattle.lq_server_slots.specs.Slots.{IsTaken, SlotStands, asks_of, SlotsStand, IsListed, place_at, OnlyAt, IsReadyAt, AllReady, before_of, IsGrown, slot_in};
+ghost use Rattle.lq_server_subscription.specs.Standing.{SameButHeld, SameButPuts, IsStuck};
+ghost use Rattle.lq_server_slots.specs.Slots.{IsTaken, SlotStands, asks_of, SlotsStand, IsListed, place_at, OnlyAt, IsReadyAt, AllReady, before_of, IsGrown, slot_in, IsNoticed, IsServed, SlotIs, SlotsAre};
 
 use lq_board::{Board, Keeper};
 use lq_server_subscription::{Identity, Subscription, commit, notice, pump, ready};
@@ -121,6 +121,7 @@ fn fill_at<R: Wait>(
     ensures asks { asks_of slot.new (slot_at keeper.new.slots place)
         ≤ asks_of slot.old (slot_at keeper.old.slots place) }
     ensures kept { is_some slot.new ≡ is_some slot.old }
+    ensures served { SlotIs IsServed slot.new (slot_at keeper.new.slots place) }
 {
     if let Some(taken) = slot {
         notice_slot(board, keeper, taken, place, number);
@@ -137,6 +138,7 @@ pub(crate) fn fill_all<R: Wait>(rt: &R, board: &Board<Identity>, slots: &mut Slo
     ensures book { slots.new.keeper.book ≡ slots.old.keeper.book }
     ensures openings { slots.new.openings ≡ slots.old.openings }
     ensures holding { SlotsStand slots.new slots.new.keeper.book }
+    ensures served { SlotsAre IsServed slots.new.subscriptions.items slots.new.keeper.slots }
 {
     for index in 0..slots.taken.len() {
         let place = place_of(slots, index);
@@ -172,6 +174,7 @@ fn ready_slot(
     ensures asks { slot.new.asks ≡ slot.old.asks }
     ensures ready { OnOk result
         (IsReadyAt (Some slot.new) planned.now.before planned.now.change) }
+    ensures noticed { IsNoticed slot.new (slot_at keeper.new.slots place) }
 {
     let number = planned.applied().change - 1;
     notice_slot(board, keeper, slot, place, number);
@@ -200,6 +203,7 @@ fn ready_at(
     ensures kept { is_some slot.new ≡ is_some slot.old }
     ensures ready { OnOk result
         (IsReadyAt slot.new planned.now.before planned.now.change) }
+    ensures noticed { SlotIs IsNoticed slot.new (slot_at keeper.new.slots place) }
 {
     match slot {
         Some(taken) => ready_slot(board, keeper, taken, place, planned),
@@ -223,6 +227,8 @@ pub(crate) fn ready_all(
     ensures holding { SlotsStand slots.new slots.new.keeper.book }
     ensures ready { OnOk result (AllReady slots.new.subscriptions.items
         planned.now.before planned.now.change) }
+    ensures noticed { OnOk result
+        (SlotsAre IsNoticed slots.new.subscriptions.items slots.new.keeper.slots) }
 {
     for index in 0..slots.taken.len() {
         let place = place_of(slots, index);
@@ -250,10 +256,12 @@ fn tell_at<R: Wait>(
     requires ready { IsReadyAt slot.old (state_of (before_of keeper.now.book)) change.now }
     requires fits { SlotStands slot.old (slot_at keeper.now.slots place)
         (before_of keeper.now.book) }
+    requires noticed { SlotIs IsNoticed slot.old (slot_at keeper.now.slots place) }
     ensures fits { SlotStands slot.new (slot_at keeper.now.slots place) keeper.now.book }
     ensures asks { asks_of slot.new (slot_at keeper.now.slots place)
         ≤ asks_of slot.old (slot_at keeper.now.slots place) }
     ensures kept { is_some slot.new ≡ is_some slot.old }
+    ensures served { SlotIs IsServed slot.new (slot_at keeper.now.slots place) }
 {
     if let Some(taken) = slot {
         tell_slot(rt, keeper, taken, place, change);
@@ -271,8 +279,10 @@ fn tell_slot<R: Wait>(
     requires ready { IsReadyAt (Some slot.old) (state_of (before_of keeper.now.book)) change.now }
     requires taken { IsTaken slot.old (slot_at keeper.now.slots place)
         (before_of keeper.now.book) }
+    requires noticed { IsNoticed slot.old (slot_at keeper.now.slots place) }
     ensures taken { IsTaken slot.new (slot_at keeper.now.slots place) keeper.now.book }
     ensures asks { slot.new.asks ≡ slot.old.asks }
+    ensures served { IsServed slot.new (slot_at keeper.now.slots place) }
 {
     let _ = place;
     commit(slot, change);
@@ -285,9 +295,11 @@ pub(crate) fn tell_all<R: Wait>(rt: &R, slots: &mut Slots, change: &Change)
     requires ready { AllReady slots.old.subscriptions.items
         (state_of (before_of slots.old.keeper.book)) change.now }
     requires holding { SlotsStand slots.old (before_of slots.old.keeper.book) }
+    requires noticed { SlotsAre IsNoticed slots.old.subscriptions.items slots.old.keeper.slots }
     ensures keeper { slots.new.keeper ≡ slots.old.keeper }
     ensures openings { slots.new.openings ≡ slots.old.openings }
     ensures holding { SlotsStand slots.new slots.new.keeper.book }
+    ensures served { SlotsAre IsServed slots.new.subscriptions.items slots.new.keeper.slots }
 {
     for index in 0..slots.taken.len() {
         let place = place_of(slots, index);
@@ -306,6 +318,7 @@ fn pump_slot<R: Wait>(rt: &R, keeper: &Keeper<Identity>, taken: &mut Subscriptio
     requires taken { IsTaken taken.old (slot_at keeper.now.slots place) keeper.now.book }
     ensures taken { IsTaken taken.new (slot_at keeper.now.slots place) keeper.now.book }
     ensures alike { SameButPuts taken.old taken.new }
+    ensures stuck { IsStuck taken.new }
 {
     let _ = place;
     pump(rt, keeper, taken);

@@ -1,5 +1,5 @@
 -- The update list of a book, and of a longer one.
-use Rattle.std.proofs.Common.{◌≡◌, ℕ, ◌+◌, ◌-◌, ◌≤◌, Bool, List, [], ◌∷◌, ◌++◌, length, take, drop, sym, ap, ◌∙◌, arith, append_assoc, append-nil, add-zero, length-append, length-drop}
+use Rattle.std.proofs.Common.{◌≡◌, ℕ, ◌+◌, ◌-◌, ◌≤◌, Bool, List, [], ◌∷◌, ◌++◌, length, take, drop, refl, sym, ap, ◌∙◌, arith, append_assoc, append-nil, add-zero, length-append, length-drop}
 use Rattle.std.proofs.lemmas.List.{take_all, take-append-le, take-take, take-append-drop, drop-append-le}
 use mathlib.Core.List.{IsPrefix}
 use Rattle.lq_predicate_formula.specs.Query.{Query}
@@ -8,7 +8,7 @@ use Rattle.lq_volume.specs.State.{State}
 use Rattle.lq_volume.specs.Change.{after}
 use Rattle.lq_volume.specs.Book.{Book, Extends, grown, after_all, state_of, state_at}
 use Rattle.lq_update.specs.declared.message.Message.{Message}
-use Rattle.lq_update.specs.Updates.{step_of, updates_from}
+use Rattle.lq_update.specs.Updates.{step_of, updates_from, updates_of}
 use Rattle.lq_server_subscription.specs.Updates.{updates}
 use Rattle.lq_server_subscription.proofs.Books.{after_all-append}
 
@@ -27,6 +27,12 @@ append q mv s (c ∷ cs) ds seq =
     ∙ sym (append_assoc here rest
     (updates_from q mv (after_all (after s c) cs) ds (seq + length here + length rest)))
     ∙ ap (λ n. (here ++ rest) ++ updates_from q mv (after_all (after s c) cs) ds n) count
+
+-- both names of an update list say the same
+pub updates_are : (q : Query) (mv : Bool) (b : Book) (m n : ℕ)
+    → updates q mv b m n ≡ updates_of q mv b m n
+unfolding updates
+updates_are q mv b m n = refl
 
 -- one more change adds just its messages
 pub updates-add : (q : Query) (mv : Bool) (b : Book) (c : Change) (m : ℕ) → b.start.number ≡ 0

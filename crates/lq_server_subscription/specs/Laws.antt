@@ -1,19 +1,37 @@
 -- What is so of each book and each new subscription.
-use Rattle.std.specs.Prelude.{◌≡◌, ℕ, Bool, [], length}
+use Rattle.std.specs.Prelude.{◌≡◌, ℕ, ◌≤◌, Bool, [], length}
 use Rattle.lq_predicate_formula.specs.Query.{Query}
-use Rattle.lq_volume.specs.Book.{Book, Extends}
+use Rattle.lq_volume.specs.Book.{Book, Extends, number_of, state_at}
 use Rattle.lq_board.specs.Book.{IsFullBook}
+use Rattle.lq_update.specs.Updates.{updates_of}
 use Rattle.lq_desk_sub.specs.Held.{opened_with}
 use Rattle.lq_port.specs.End.{End}
 use Rattle.lq_server_subscription.specs.declared.delivery.Delivery.{Delivery}
 use Rattle.lq_server_subscription.specs.declared.delivery.Opening.{Opening}
 use Rattle.lq_server_subscription.specs.declared.identity.Shut.TheVariants.{Never}
+use Rattle.lq_server_subscription.specs.Updates.{updates}
 use Rattle.lq_server_subscription.specs.Rule.{floor_of, query_of}
 use Rattle.lq_server_subscription.specs.Standing.{Stands}
 
 -- a book extends itself
 abbrev pub BooksExtendThemselves : Type 0
 BooksExtendThemselves = (b : Book) → Extends b b
+
+-- and a book that extends one that extends another extends that
+abbrev pub BooksExtendOn : Type 0
+BooksExtendOn = (b c d : Book) → Extends c b → Extends d c → Extends d b
+
+-- a longer book leads to the same state at each number of the shorter one
+abbrev pub StatesStay : Type 0
+StatesStay =
+    (longer b : Book) (n : ℕ) → Extends longer b → n ≤ number_of b
+    → state_at longer n ≡ state_at b n
+
+-- the update list of a port's rule is the query's update list
+abbrev pub UpdatesAreUpdateLists : Type 0
+UpdatesAreUpdateLists =
+    (q : Query) (moved : Bool) (b : Book) (m n : ℕ)
+    → updates q moved b m n ≡ updates_of q moved b m n
 
 -- a subscription that is opened over a book, with an empty port, stands over it
 abbrev pub NewSubscriptionsStand : Type 0

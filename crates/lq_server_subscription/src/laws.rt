@@ -1,9 +1,24 @@
 //! Laws of books and subscriptions: each is the contract of a function with no body.
-ghost use Rattle.lq_server_subscription.specs.Laws.{BooksExtendThemselves, NewSubscriptionsStand};
+ghost use Rattle.lq_server_subscription.specs.Laws.{BooksExtendOn, BooksExtendThemselves, NewSubscriptionsStand, StatesStay, UpdatesAreUpdateLists};
 
 /// Each book extends itself.
 pub fn books_extend_themselves()
     ensures { BooksExtendThemselves }
+{}
+
+/// A book that extends one that extends another extends that.
+pub fn books_extend_on()
+    ensures { BooksExtendOn }
+{}
+
+/// A longer book leads to the same state at each number of the shorter one.
+pub fn states_stay()
+    ensures { StatesStay }
+{}
+
+/// The update list in the rule of a port, which is opaque, is the query's update list.
+pub fn updates_are_update_lists()
+    ensures { UpdatesAreUpdateLists }
 {}
 
 /// A new subscription stands over the book of its opening, with an empty port.

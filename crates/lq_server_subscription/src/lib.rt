@@ -15,7 +15,10 @@ mod subscription;
 
 pub use delivery::{Delivery, Opening};
 pub use identity::{Identity, PortId, Shut};
-pub use laws::{books_extend_themselves, new_subscriptions_stand};
+pub use laws::{
+    books_extend_on, books_extend_themselves, new_subscriptions_stand, states_stay,
+    updates_are_update_lists,
+};
 pub use puts::{drain, pump, put_one};
 pub use reading::Reading;
 pub use subscription::{Subscription, close, commit, notice, ready};

@@ -75,6 +75,8 @@ pub fn commit(slot: &mut Subscription, change: &Change)
     ensures others { SameButHeld slot.old slot.new }
     ensures shut { slot.new.shut ≡ slot.old.shut }
     ensures hung { hung_mark slot.new.sub.held.mark → hung_mark slot.old.sub.held.mark }
+    ensures still { IsSome slot.old.sub.held.mark
+        → slot.new.sub.held.mark ≡ slot.old.sub.held.mark }
 {
     let _ = change;
     steps_are_few();

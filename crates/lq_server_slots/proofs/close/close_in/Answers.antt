@@ -11,3 +11,6 @@ returns-clause-holding g c =
     was.keeper.book c.close_at.new.keeper.book c.requires.holding c.requires.place.0
     c.requires.place.1 c.requires.seat.0 f.book c.index_mut.ensures.value f.only f.fits f.asks
     f.kept
+
+pub returns-clause-put : goal.returns-clause-put
+returns-clause-put g c = c.close_at.ensures.put

@@ -1,6 +1,10 @@
-use Rattle.std.proofs.Common.{◌≡◌, length, sym, ap, ◌∙◌, subst}
+use Rattle.std.proofs.Common.{◌≡◌, false, true≢false, length, Option, Some, None, refl, sym, ap, ◌∙◌, subst}
+use Rattle.std.specs.Prelude.{IsSome, is_none}
 use Rattle.lq_volume.specs.Book.{Book}
 use Rattle.lq_board.specs.Slot.{slot_at}
+use Rattle.lq_board.specs.Token.{SeatToken}
+use Rattle.lq_update.specs.declared.mark.Mark.{Mark}
+use Rattle.lq_server_subscription.specs.declared.identity.Identity.{Identity}
 use Rattle.lq_server_subscription.specs.Marking.{hung_mark}
 use Rattle.lq_server_slots.proofs.SlotLemmas.{taken_then, identity_alike}
 use Rattle.lq_server_slots.proofs.SyncLemmas.{only_trans, taken_closed}
@@ -36,3 +40,23 @@ returns-clause-seat g c =
     let was = c.args.seat.now in
     let m = c.meet_under.ensures.seat in
     m ∙ (λ i. record was { book = c.notice_by.ensures.book i; name = (sym m i).name })
+
+-- where a mark is there, it isn't absent
+not_none : (o : Option Mark) → IsSome o → is_none o ≡ false
+not_none (Some k) h = refl
+not_none None h = absurd (true≢false (sym h))
+
+pub returns-clause-late : goal.returns-clause-late
+returns-clause-late g c = λ lt.
+    c.close-closed.ensures.closes
+    ∙ not_none c.notice_by.new.slot.sub.held.mark (c.notice_by.ensures.ended lt)
+
+pub returns-clause-put : goal.returns-clause-put
+returns-clause-put g c =
+    let p = c.pump.ensures in record {
+      named = ap (λ (s : SeatToken Identity). s.name) c.meet_under.ensures.seat
+          ∙ ap (λ (x : Identity). Some x)
+          (sym (identity_alike c.close-closed.new.slot c.pump.new.slot p.alike));
+      stands = p.stands;
+      stuck = p.stuck;
+    }

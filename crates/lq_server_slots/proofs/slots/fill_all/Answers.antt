@@ -1,5 +1,7 @@
-use Rattle.std.proofs.Common.{◌∙◌, refl}
+use Rattle.std.proofs.Common.{◌∙◌, refl, arith}
+use Rattle.lq_server_slots.specs.Slots.{IsServed}
 use Rattle.lq_server_slots.proofs.TakenLemmas.{slots_stand-step}
+use Rattle.lq_server_slots.proofs.TellLemmas.{slots_are-more, slots_are-all}
 use Rattle.lq_server_slots.proofs.slots.fill_all.Goals as goal
 
 pub loop-index-preserved : goal.loop-index-preserved
@@ -17,4 +19,14 @@ loop-index-preserved g c =
           place was.openings c.index_mut.result.now c.fill_at.new.slot was.keeper.book
           c.fill_at.new.keeper.book i.4 p.low p.high refl f.book c.index_mut.ensures.value f.only
           f.fits f.asks f.kept,
+      slots_are-more IsServed was.taken.items was.subscriptions.items was.keeper.slots
+          c.fill_at.new.keeper.slots c.loop-index.index place c.fill_at.new.slot i.4.1 i.4.0.wide
+          (omega (arith, i.3, c.loop-index-test.true)) p.value f.only f.served i.5,
     )
+
+pub returns-clause-served : goal.returns-clause-served
+returns-clause-served g c =
+    let i = c.loop-index.invariant in
+    let was = c.loop-index.slots in
+    slots_are-all IsServed was.taken.items was.subscriptions.items was.keeper.slots
+    c.loop-index.index i.4.1 (omega (arith, i.3, c.loop-index-test.false)) i.5

@@ -1,5 +1,7 @@
 use Rattle.std.proofs.Common.{◌∙◌, refl, arith}
+use Rattle.lq_server_slots.specs.Slots.{IsNoticed}
 use Rattle.lq_server_slots.proofs.TakenLemmas.{slots_stand-step, ready_more}
+use Rattle.lq_server_slots.proofs.TellLemmas.{slots_are-more, slots_are-all}
 use Rattle.lq_server_slots.proofs.slots.ready_all.Goals as goal
 
 pub returns-in_err-ready_at-clause-holding : goal.returns-in_err-ready_at-clause-holding
@@ -32,4 +34,14 @@ loop-index-preserved c =
       ready_more was.taken.items items c.loop-index.index place c.ready_at.new.slot
           c.args.planned.now.before c.args.planned.now.change i.4.1 i.4.0.wide
           (omega (arith, i.3, c.loop-index-test.true)) p.value c.in_ok-ready_at.ensures.ready i.5,
+      slots_are-more IsNoticed was.taken.items items was.keeper.slots c.ready_at.new.keeper.slots
+          c.loop-index.index place c.ready_at.new.slot i.4.1 i.4.0.wide
+          (omega (arith, i.3, c.loop-index-test.true)) p.value f.only f.noticed i.6,
     )
+
+pub returns-clause-noticed : goal.returns-clause-noticed
+returns-clause-noticed c =
+    let i = c.loop-index.invariant in
+    let was = c.loop-index.slots in
+    slots_are-all IsNoticed was.taken.items was.subscriptions.items was.keeper.slots
+    c.loop-index.index i.4.1 (omega (arith, i.3, c.loop-index-test.false)) i.6

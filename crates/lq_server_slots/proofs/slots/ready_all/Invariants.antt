@@ -1,5 +1,6 @@
 use Rattle.std.proofs.Common.{◌≡◌, ℕ, ◌<◌, length}
-use Rattle.lq_server_slots.specs.Slots.{SlotsStand, IsReadyAt, slot_in, place_at}
+use Rattle.lq_board.specs.Slot.{slot_at}
+use Rattle.lq_server_slots.specs.Slots.{SlotsStand, IsReadyAt, SlotIs, IsNoticed, slot_in, place_at}
 use Rattle.lq_server_slots.proofs.slots.ready_all.Given as goal
 
 abbrev pub invariant-loop-index : goal.invariant-loop-index
@@ -12,3 +13,6 @@ invariant-loop-index l =
     × ((j : ℕ) → j < l.index → j < length l.slots.taken.items
     → IsReadyAt (slot_in l.slots.subscriptions.items (place_at l.slots.taken.items j))
     l.planned.before l.planned.change)
+    × ((j : ℕ) → j < l.index → j < length l.slots.taken.items
+    → SlotIs IsNoticed (slot_in l.slots.subscriptions.items (place_at l.slots.taken.items j))
+    (slot_at l.slots.keeper.slots (place_at l.slots.taken.items j)))

@@ -1,11 +1,12 @@
 use borrow.Author.Rules.{rules}
-use Rattle.std.proofs.Common.{◌≡◌, ◌≤◌, Option, None, refl, subst, arith}
+use Rattle.std.proofs.Common.{◌≡◌, ◌≤◌, ℕ, Option, None, refl, sym, subst, arith}
 use Rattle.std.specs.Prelude.{is_some}
 use Rattle.std.proofs.lemmas.List.{get_or_read}
 use Rattle.lq_board.specs.Slot.{slot_at}
 use Rattle.lq_server_subscription.specs.declared.subscription.Subscription.{Subscription}
-use Rattle.lq_server_slots.specs.Slots.{asks_of}
-use Rattle.lq_server_slots.proofs.TellLemmas.{partly_told-first, partly_told-step}
+use Rattle.lq_server_slots.specs.Slots.{asks_of, slot_in, place_at, SlotIs, IsNoticed, IsServed}
+use Rattle.lq_server_slots.proofs.SlotLemmas.{only_self}
+use Rattle.lq_server_slots.proofs.TellLemmas.{partly_told-first, partly_told-step, slots_are-more, slots_are-left, slots_are-all}
 use Rattle.lq_server_slots.proofs.slots.tell_all.Goals as goal
 
 pub loop-index-init : goal.loop-index-init
@@ -16,6 +17,9 @@ loop-index-init g c =
       search rules,
       partly_told-first was.keeper was.subscriptions.items was.taken.items was.openings
           c.args.change.now c.requires.holding.0 c.requires.holding.1 c.requires.ready,
+      λ j lt. absurd (omega arith),
+      λ j le lt. let l = c.requires.holding.1 in
+          c.requires.noticed (place_at was.taken.items j) (l.low j lt) (l.high j lt),
     )
 
 pub loop-index-preserved : goal.loop-index-preserved
@@ -38,4 +42,33 @@ loop-index-preserved g c =
           (subst (λ (z : Option Subscription). asks_of c.tell_at.new.slot at ≤ asks_of z at) read
           t.asks)
           (subst (λ (z : Option Subscription). is_some c.tell_at.new.slot ≡ is_some z) read t.kept),
+      slots_are-more IsServed slots.taken.items items slots.keeper.slots slots.keeper.slots
+          c.loop-index.index place c.tell_at.new.slot i.3.listed wide
+          (omega (arith, i.2, c.loop-index-test.true)) c.place_of-place.ensures.value
+          (only_self slots.keeper.slots place) t.served i.4,
+      slots_are-left IsNoticed slots.taken.items items slots.keeper.slots c.loop-index.index place
+          c.tell_at.new.slot i.3.listed (omega (arith, i.2, c.loop-index-test.true))
+          c.place_of-place.ensures.value i.5,
     )
+
+pub tell_at-requires-clause-noticed : goal.tell_at-requires-clause-noticed
+tell_at-requires-clause-noticed g c =
+    let i = c.loop-index.invariant in
+    let slots = c.loop-index.slots in
+    let items = slots.subscriptions.items in
+    let place = c.place_of-place.result in
+    let wide = i.3.wide in
+    let high = c.place_of-place.ensures.high in
+    let read = get_or_read items place _ (omega arith) c.index_mut.ensures.value None in
+    subst (λ (z : Option Subscription). SlotIs IsNoticed z (slot_at slots.keeper.slots place))
+    (sym read)
+    (subst (λ (p : ℕ). SlotIs IsNoticed (slot_in items p) (slot_at slots.keeper.slots p))
+    (sym c.place_of-place.ensures.value)
+    (i.5 c.loop-index.index (omega arith) (omega (arith, i.2, c.loop-index-test.true))))
+
+pub returns-clause-served : goal.returns-clause-served
+returns-clause-served g c =
+    let i = c.loop-index.invariant in
+    let slots = c.loop-index.slots in
+    slots_are-all IsServed slots.taken.items slots.subscriptions.items slots.keeper.slots
+    c.loop-index.index i.3.listed (omega (arith, i.2, c.loop-index-test.false)) i.4

@@ -1,5 +1,6 @@
-use Rattle.std.proofs.Common.{◌≡◌, length}
-use Rattle.lq_server_slots.specs.Slots.{PartlyTold}
+use Rattle.std.proofs.Common.{◌≡◌, ℕ, ◌<◌, ◌≤◌, length}
+use Rattle.lq_board.specs.Slot.{slot_at}
+use Rattle.lq_server_slots.specs.Slots.{PartlyTold, SlotIs, IsNoticed, IsServed, slot_in, place_at}
 use Rattle.lq_server_slots.proofs.slots.tell_all.Given as goal
 
 abbrev pub invariant-loop-index : goal.invariant-loop-index
@@ -8,3 +9,9 @@ invariant-loop-index g l =
     × (length l.slots.taken.items ≡ l.index-end)
     × PartlyTold l.slots.keeper l.slots.subscriptions.items l.slots.taken.items l.slots.openings
     l.change l.index
+    × ((j : ℕ) → j < l.index → j < length l.slots.taken.items
+    → SlotIs IsServed (slot_in l.slots.subscriptions.items (place_at l.slots.taken.items j))
+    (slot_at l.slots.keeper.slots (place_at l.slots.taken.items j)))
+    × ((j : ℕ) → l.index ≤ j → j < length l.slots.taken.items
+    → SlotIs IsNoticed (slot_in l.slots.subscriptions.items (place_at l.slots.taken.items j))
+    (slot_at l.slots.keeper.slots (place_at l.slots.taken.items j)))

@@ -1,0 +1,329 @@
+-- The headline of a reader, and of the answers of its reads.
+use Rattle.std.proofs.Common.{◌≡◌, ◌↔◌, ℕ, ◌+◌, ◌≤◌, Bool, true, true≢false, List, [], ◌∷◌, ◌++◌, length, Option, Some, None, refl, sym, ap, ◌∙◌, subst, arith, add-zero, append_assoc, append-nil, length-append}
+use Rattle.std.specs.Prelude.{IfSome, IsSome, IsTrue, option_to_list, unwrap_or}
+use Rattle.std.specs.List.{AllByRecursion}
+use mathlib.Core.List.{IsPrefix}
+use Rattle.lq_value.specs.declared.entry.Entry.{Entry}
+use Rattle.lq_predicate_formula.specs.Query.{Query}
+use Rattle.lq_volume.specs.declared.change.Change.{Change}
+use Rattle.lq_volume.specs.State.{State}
+use Rattle.lq_volume.specs.Change.{after}
+use Rattle.lq_volume.specs.Book.{Book, Extends, state_at, changes_between}
+use Rattle.lq_update.specs.declared.message.Opcode.{Opcode}
+use Rattle.lq_update.specs.declared.message.Message.{Message}
+use Rattle.lq_update.specs.declared.mark.Mark.{Mark}
+use Rattle.lq_update.specs.Diff.{diff}
+use Rattle.lq_update.specs.Updates.{numbered, step_of, updates_from, IsSettled}
+use Rattle.lq_update.specs.Fold.{folded, last_change}
+use Rattle.lq_update.specs.Laws.{FoldsGiveResults, WholeFoldsGiveResults}
+use Rattle.lq_desk_sub.specs.declared.read.Read.{Read}
+use Rattle.lq_desk_sub.specs.declared.read.Read.TheVariants.{Update, Fin, Empty, Ended}
+use Rattle.lq_server_subscription.specs.Updates.{updates}
+use Rattle.lq_server_subscription.specs.Rule.{floor_of, query_of, messages_in, IsMark}
+use Rattle.lq_server_subscription.specs.Reading.{ReadingHold, Gives, IsTold, known, received, mark_read}
+use Rattle.lq_server.specs.Hold.{ReaderHold}
+use Rattle.lq_server.specs.Headline.{updates_upto, result_after, AreNumbered, IsMarkAfter, EndsWhole, ReaderIsTold, IsAnswered, AreAnswers, update_in, updates_in, HasMark, AnswersAreTold}
+use Rattle.lq_server.proofs.ParcelLemmas.{extends_trans}
+use Rattle.lq_server.proofs.OwnLemmas.{received_front}
+
+-- ---- the numbers of an update list
+
+-- the messages of one change are numbered on
+numbered-are : (seq change : ℕ) (xs : List (Opcode × Entry))
+    → AreNumbered seq (numbered seq change xs)
+numbered-are seq change [] = tt
+numbered-are seq change (x ∷ xs) = (refl, numbered-are (seq + 1) change xs)
+
+-- and so are two lists of which the second goes on from the first
+numbered-append : (n : ℕ) (xs ys : List Message) → AreNumbered n xs
+    → AreNumbered (n + length xs) ys → AreNumbered n (xs ++ ys)
+numbered-append n [] ys h k = subst (λ (m : ℕ). AreNumbered m ys) (add-zero n) k
+numbered-append n (x ∷ xs) ys h k =
+    let more : n + length (x ∷ xs) ≡ n + 1 + length xs = omega arith in
+    (h.0, numbered-append (n + 1) xs ys h.1 (subst (λ (m : ℕ). AreNumbered m ys) more k))
+
+-- and a front of such a list
+numbered-front : (n : ℕ) (xs ys : List Message) → AreNumbered n (xs ++ ys) → AreNumbered n xs
+numbered-front n [] ys h = tt
+numbered-front n (x ∷ xs) ys h = (h.0, numbered-front (n + 1) xs ys h.1)
+
+-- the messages of changes one after another are numbered
+updates_from-numbered : (q : Query) (mv : Bool) (s : State) (cs : List Change) (seq : ℕ)
+    → AreNumbered seq (updates_from q mv s cs seq)
+updates_from-numbered q mv s [] seq = tt
+updates_from-numbered q mv s (c ∷ cs) seq =
+    let here : List Message = step_of q mv s c seq in
+    numbered-append seq here (updates_from q mv (after s c) cs (seq + length here))
+    (numbered-are seq (s.number + 1) (diff q mv s (after s c)))
+    (updates_from-numbered q mv (after s c) cs (seq + length here))
+
+-- ---- one reader
+
+-- a mark is there, where the test says so
+some_there : (o : Option Mark) → IsSome o → (k : Mark) × (o ≡ Some k)
+some_there (Some k) h = (k, refl)
+some_there None h = absurd (true≢false (sym h))
+
+-- a book that extends another has no fewer changes
+extends_length : (b c : Book) → Extends c b → length b.changes ≤ length c.changes
+extends_length b c e =
+    omega (arith, ap (λ (x : Book). length x.changes) e.1, length-append b.changes e.0)
+
+-- what was received is a front of the update list over the known book
+prefix_told : (r : ReadingHold) → IsTold r
+    → IsPrefix (received r) (updates_upto r.port.floor (known r) (length (known r).changes))
+unfolding updates
+prefix_told r told = received_front r told
+
+-- after the mark it is the whole list up to its change
+ends_whole : (r : ReadingHold) → IsTold r → EndsWhole r
+unfolding updates
+ends_whole r told k is =
+    let ps = r.port.taken in
+    let fits : IsMark r.port.floor (messages_in ps) (known r) k =
+    subst (λ o. IfSome o (IsMark r.port.floor (messages_in ps) (known r))) is
+    told.legal_list.mark in
+    let bare : r.hand ≡ None = told.no_hand (subst IsSome (sym is) refl) in
+    let got : received r ≡ messages_in ps =
+    sym (append-nil (received r))
+    ∙ ap (λ (o : Option Message). received r ++ option_to_list o) (sym bare) ∙ sym told.all in
+    record {
+      opened = fits.opened;
+      within = fits.within;
+      all = got ∙ fits.all;
+      seq = fits.seq ∙ ap (λ (l : List Message). length l + 1) (sym got);
+    }
+
+-- behind the mark a read gives nothing but `Ended`
+only_ended : (r next : ReadingHold) (a : Read) → EndsWhole r → EndsWhole next
+    → IsSome (mark_read r) → Gives r next a → a ≡ Ended
+only_ended r next (Update m) whole after some g =
+    let k = some_there (mark_read r) some in
+    let one = (whole k.0 k.1).seq in
+    let two = (after k.0 (g.2 ∙ k.1)).seq in
+    let more : length (received next) ≡ length (received r) + 1 =
+    ap (length {A = Message}) g.0 ∙ length-append (received r) (m ∷ []) in
+    absurd (omega arith)
+only_ended r next (Fin k) whole after some g =
+    absurd (true≢false (sym (subst IsSome g.2 some)))
+only_ended r next Empty whole after some g =
+    absurd (true≢false (sym (subst IsSome g.2 some)))
+only_ended r next Ended whole after some g = refl
+
+-- what is there by a test is so of it
+if_some : (o : Option Mark) (P : Mark → Type 0) → IfSome o P → (k : Mark) → o ≡ Some k → P k
+if_some (Some j) P h k is =
+    subst P (ap (λ (o : Option Mark). unwrap_or o j) is) h
+if_some None P h k is = absurd (cc)
+
+-- the headline of a reader, from what its own calls say of it
+pub reader_told : (r : ReaderHold) (settled : Bool) (change : ℕ) (shown : List Entry)
+    → IsTold r.reading → ((settled ≡ true) ↔ IsSettled (received r.reading))
+    → (IsTrue settled → r.reading.result.entries
+    ≡ result_after r.reading.port.floor (known r.reading) r.reading.result.change)
+    → change ≡ r.reading.result.change
+    → change ≡ last_change r.reading.port.floor.opened (received r.reading)
+    → shown ≡ r.reading.result.entries
+    → IfSome (mark_read r.reading)
+    (λ k. shown ≡ result_after r.reading.port.floor (known r.reading) k.change)
+    → ReaderIsTold r
+reader_told r settled change shown told test whole now latest is marked =
+    let f = r.reading.port.floor in
+    let b = known r.reading in
+    let list = told.legal_list in
+    let front = prefix_told r.reading told in
+    let ends = ends_whole r.reading told in
+    let long = extends_length (floor_of f) b list.later in
+    let opening = list.opening in
+    record {
+      book = list.full;
+      opened = omega arith;
+      prefix = front;
+      once = numbered-front 1 (received r.reading) front.0
+          (subst (AreNumbered 1) (sym front.1)
+          (updates_from-numbered (query_of f) f.moved (state_at b f.opened)
+          (changes_between b f.opened (length b.changes)) 1));
+      mark = ends;
+      over = λ some next a after g. only_ended r.reading next a ends after some g;
+      settled = λ yes. whole (test.1 yes)
+          ∙ ap (λ (n : ℕ). result_after f b n) (sym now ∙ latest);
+      closed = λ k there. sym is
+          ∙ if_some (mark_read r.reading) (λ (k : Mark). shown ≡ result_after f b k.change)
+          marked k there;
+    }
+
+-- ---- the answers of reads
+
+-- a read that answers adds its message to what was received
+gives_one : (old new : ReadingHold) (a : Read) → Gives old new a
+    → received new ≡ received old ++ update_in a
+gives_one old new (Update m) g = g.0
+gives_one old new (Fin k) g = g.0 ∙ sym (append-nil (received old))
+gives_one old new Empty g = ap received g.0 ∙ sym (append-nil (received old))
+gives_one old new Ended g = ap received g.0 ∙ sym (append-nil (received old))
+
+-- what all answers leave: their messages were received, over a longer book, from the same port
+answers-grow : (old new : ReadingHold) (answers : List Read) → AreAnswers old answers new
+    → (received new ≡ received old ++ updates_in answers) × Extends (known new) (known old)
+    × (new.port.floor ≡ old.port.floor)
+answers-grow old new [] h = (h.received ∙ sym (append-nil (received old)), h.known, h.port.2)
+answers-grow old new (a ∷ answers) h =
+    let mid : ReadingHold = h.0 in
+    let next : ReadingHold = h.1 in
+    let rest = answers-grow next new answers h.4 in
+    let one : received next ≡ received old ++ update_in a =
+    gives_one mid next a h.3.gives
+    ∙ ap (λ (l : List Message). l ++ update_in a) h.2.received in (
+      rest.0 ∙ ap (λ (l : List Message). l ++ updates_in answers) one
+          ∙ append_assoc (received old) (update_in a) (updates_in answers),
+      extends_trans (known old) (known next) (known new)
+          (extends_trans (known old) (known mid) (known next) h.2.known h.3.known) rest.1,
+      rest.2 ∙ h.3.port.2 ∙ h.2.port.2,
+    )
+
+-- a mark that was read stays the mark
+mark-stays : (old new : ReadingHold) (a : Read) → Gives old new a → (k : Mark)
+    → mark_read old ≡ Some k → mark_read new ≡ Some k
+mark-stays old new (Update m) g k is = g.2 ∙ is
+mark-stays old new (Fin j) g k is =
+    absurd (true≢false (sym (subst IsSome g.2 (subst IsSome (sym is) refl))))
+mark-stays old new Empty g k is =
+    absurd (true≢false (sym (subst IsSome g.2 (subst IsSome (sym is) refl))))
+mark-stays old new Ended g k is = ap mark_read g.0 ∙ is
+
+-- and so over all answers
+marks-stay : (old new : ReadingHold) (answers : List Read) → AreAnswers old answers new
+    → (k : Mark) → mark_read old ≡ Some k → mark_read new ≡ Some k
+marks-stay old new [] h k is = h.mark ∙ is
+marks-stay old new (a ∷ answers) h k is =
+    marks-stay h.1 new answers h.4 k
+    (mark-stays h.0 h.1 a h.3.gives k (h.2.mark ∙ is))
+
+-- answers after the mark that have no message are all `Ended`
+all_ended : (old new : ReadingHold) (answers : List Read) → AreAnswers old answers new
+    → (k : Mark) → mark_read old ≡ Some k → updates_in answers ≡ []
+    → AllByRecursion (λ a. a ≡ Ended) answers
+all_ended old new [] h k is none = tt
+all_ended old new (Update m ∷ answers) h k is none = absurd (cc)
+all_ended old new (Fin j ∷ answers) h k is none =
+    let some = subst IsSome (sym (h.2.mark ∙ is)) refl in
+    absurd (true≢false (sym (subst IsSome h.3.gives.2 some)))
+all_ended old new (Empty ∷ answers) h k is none =
+    let some = subst IsSome (sym (h.2.mark ∙ is)) refl in
+    absurd (true≢false (sym (subst IsSome h.3.gives.2 some)))
+all_ended old new (Ended ∷ answers) h k is none = (
+  refl,
+  all_ended h.1 new answers h.4 k (mark-stays h.0 h.1 Ended h.3.gives k (h.2.mark ∙ is)) none,
+)
+
+-- the answers before one, that one, and those after it
+split : (old new : ReadingHold) (front : List Read) (a : Read) (rest : List Read)
+    → AreAnswers old (front ++ a ∷ rest) new
+    → (mid : ReadingHold) × (next : ReadingHold)
+    × AreAnswers old front mid × IsAnswered mid next a × AreAnswers next rest new
+split old new [] a rest h = h
+split old new (b ∷ front) a rest h =
+    let s = split h.1 new front a rest h.4 in
+    (s.0, s.1, (h.0, h.1, h.2, h.3, s.2), s.3, s.4)
+
+-- a mark that is read is among the answers
+has_mark : (old new : ReadingHold) (answers : List Read) → AreAnswers old answers new
+    → mark_read old ≡ None → IsSome (mark_read new) → HasMark answers
+has_mark old new [] h none some =
+    absurd (true≢false (sym (subst IsSome (h.mark ∙ none) some)))
+has_mark old new (Update m ∷ answers) h none some =
+    let t = has_mark h.1 new answers h.4 (h.3.gives.2 ∙ h.2.mark ∙ none) some in
+    (t.0, Update m ∷ t.1, t.2, ap (λ (l : List Read). Update m ∷ l) t.3)
+has_mark old new (Fin k ∷ answers) h none some = (k, [], answers, refl)
+has_mark old new (Empty ∷ answers) h none some =
+    let t = has_mark h.1 new answers h.4 (ap mark_read h.3.gives.0 ∙ h.2.mark ∙ none) some in
+    (t.0, Empty ∷ t.1, t.2, ap (λ (l : List Read). Empty ∷ l) t.3)
+has_mark old new (Ended ∷ answers) h none some =
+    absurd (true≢false (sym (subst IsSome (h.2.mark ∙ none) h.3.gives.2)))
+
+-- the messages of answers and of more
+updates_in-append : (front rest : List Read)
+    → updates_in (front ++ rest) ≡ updates_in front ++ updates_in rest
+updates_in-append [] rest = refl
+updates_in-append (a ∷ front) rest =
+    ap (λ (l : List Message). update_in a ++ l) (updates_in-append front rest)
+    ∙ sym (append_assoc (update_in a) (updates_in front) (updates_in rest))
+
+-- a list of no length is empty
+no_length : (xs : List Message) → length xs ≡ 0 → xs ≡ []
+no_length [] e = refl
+no_length (x ∷ xs) e = absurd (omega arith)
+
+module _ (first last : ReadingHold) (answers : List Read) (empty : received first ≡ [])
+    (h : AreAnswers first answers last) where
+  -- the messages of the answers are what was received
+  got_all : received last ≡ updates_in answers
+  got_all =
+      (answers-grow first last answers h).0
+      ∙ ap (λ (l : List Message). l ++ updates_in answers) empty
+
+  -- the mark among the answers, and what is before and after it
+  mark_at : EndsWhole last → (front rest : List Read) (k : Mark)
+      → answers ≡ front ++ Fin k ∷ rest
+      → IsMarkAfter last.port.floor (known last) (updates_in front) k
+      × AllByRecursion (λ a. a ≡ Ended) rest
+  mark_at ends front rest k is =
+      let s = split first last front (Fin k) rest
+      (subst (λ (l : List Read). AreAnswers first l last) is h) in
+      let mid : ReadingHold = s.0 in
+      let next : ReadingHold = s.1 in
+      let g = s.3.gives in
+      let before = answers-grow first mid front s.2 in
+      let after = answers-grow next last rest s.4 in
+      let front_is : received next ≡ updates_in front =
+      g.0 ∙ before.0 ∙ ap (λ (l : List Message). l ++ updates_in front) empty in
+      let whole : IsMarkAfter last.port.floor (known last) (received last) k =
+      ends k (marks-stay next last rest s.4 k g.3) in
+      let one : k.seq ≡ length (received next) + 1 = g.4.seq in
+      let two : k.seq ≡ length (received last) + 1 = whole.seq in
+      let long : length (received last) ≡ length (received next) + length (updates_in rest) =
+      ap (length {A = Message}) after.0
+      ∙ length-append (received next) (updates_in rest) in
+      let none : updates_in rest ≡ [] = no_length (updates_in rest) (omega arith) in
+      let all : received last ≡ updates_in front =
+      after.0 ∙ ap (λ (l : List Message). received next ++ l) none
+      ∙ append-nil (received next) ∙ front_is in (
+        subst (λ (l : List Message). IsMarkAfter last.port.floor (known last) l k) all whole,
+        all_ended next last rest s.4 k g.3 none,
+      )
+
+-- the law of a reader's answers
+pub answers_told : FoldsGiveResults → WholeFoldsGiveResults → AnswersAreTold
+answers_told folds wholes first last answers empty none h told =
+    let f = last.reading.port.floor in
+    let b = known last.reading in
+    let got = got_all first.reading last.reading answers empty h in
+    let marks = mark_at first.reading last.reading answers empty h told.mark in
+    let zero : b.start.number ≡ 0 = told.book.first in
+    let within : f.opened ≤ length b.changes = told.opened in (
+      got,
+      record {
+        prefix = subst (λ (l : List Message). IsPrefix l (updates_upto f b (length b.changes)))
+            got told.prefix;
+        once = subst (AreNumbered 1) got told.once;
+        mark = marks;
+        ended = λ front rest is.
+            let s = split first.reading last.reading front Ended rest
+            (subst (λ (l : List Read). AreAnswers first.reading l last.reading) is h) in
+            has_mark first.reading s.0 front s.2 none s.3.gives.2;
+        folding = λ front rest is settled.
+            let more = updates_in rest ++ told.prefix.0 in
+            let split_is : updates_in front ++ more ≡ updates_upto f b (length b.changes) =
+            sym (append_assoc (updates_in front) (updates_in rest) told.prefix.0)
+            ∙ ap (λ (l : List Message). l ++ told.prefix.0)
+            (sym (updates_in-append front rest) ∙ ap updates_in (sym is) ∙ sym got)
+            ∙ told.prefix.1 in
+            folds (query_of f) f.moved b f.opened (length b.changes) (updates_in front) told.book.start
+            told.book.lawful (omega arith) (omega arith) (more, split_is) settled;
+        closing = λ front rest k is.
+            let m = (marks front rest k is).0 in
+            ap (folded (result_after f b f.opened)) m.all
+            ∙ wholes (query_of f) f.moved b f.opened k.change told.book.start told.book.lawful
+            (omega arith) m.opened;
+      },
+    )
