@@ -32,7 +32,7 @@ use std::sync::Wait;
 /// The most seats that are out at a time.
 const MAX_SEATS: u64 = 16;
 
-/// The entries that a predicate holds of after `at` changes, by rising node.
+/// The entries that match a predicate after `at` changes, by rising node.
 #[derive(Drop)]
 pub struct Found {
     pub at: u64,
@@ -154,7 +154,7 @@ impl<N: Named> Locked<N> {
         meet_in(board, &mut self.slots, place as usize, seat)
     }
 
-    /// The entries that a predicate holds of, by rising node, after the book that the seat then
+    /// The entries that match a predicate, by rising node, after the book that the seat then
     /// knows. Refused: `NoMemory`.
     pub fn fetch(
         &mut self,

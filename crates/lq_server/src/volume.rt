@@ -47,7 +47,7 @@ impl<N: Named> Server<N> {
         })
     }
 
-    /// The entries that a predicate holds of, by rising node, and the number of changes then.
+    /// The entries that match a predicate, by rising node, and the number of changes then.
     ///
     /// They are those after the book that the seat then knows. Refused: `NoMemory`.
     pub fn fetch<R: Wait>(

@@ -95,7 +95,7 @@ fn begin(
     Ok((slot, reading))
 }
 
-// The slot's seat, under a name, that of a subscription.
+// The slot's seat, under the name of a subscription.
 fn sit_named(
     board: &Board<Identity>,
     keeper: &mut Keeper<Identity>,

@@ -52,7 +52,7 @@ pub(crate) fn meet_same(
     board.meet_slot(keeper, seat)
 }
 
-// The keeper and a slot's seat meet under a name, that of a subscription.
+// The keeper and a slot's seat meet, under the name of a subscription.
 fn meet_named(
     board: &Board<Identity>,
     keeper: &mut Keeper<Identity>,

@@ -90,7 +90,7 @@ fn has_same(plain: &serde_json::Value, value: &Value<'_>, key: &str) -> bool {
     }
 }
 
-// Whether serde_json and lq_script_json have the same fields `a` and `b` of a text, or both refuse it.
+// Whether serde_json and lq_script_json read the same fields `a` and `b`, or both refuse a text.
 fn is_read_alike(alloc: Global, scratch: &mut Scratch, text: &str) -> bool {
     let Ok(plain) = serde_json::Value::from_str(alloc, text) else {
         return read(alloc, scratch, text).err() == Some(Refusal::NotJson);
