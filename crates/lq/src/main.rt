@@ -50,10 +50,10 @@ fn words_of(rt: &HostRuntime) -> io::Result<Vec<String>> {
     Ok(words)
 }
 
-// Takes the stack while a lack of memory can still be reported. The system grows the stack, and where
-// it can't, ends the program by a signal. So more than the stack is allocated first, which can be
-// refused, and freed again; then the stack grows into what was free. It is twice as much, since the
-// C library keeps smaller pieces when they are freed.
+// Takes the stack while a lack of memory can still be reported. The system grows the stack, and
+// where it can't, ends the program by a signal. So more than the stack is allocated first, which
+// can be refused, and freed again; then the stack grows into what was free. It is twice as much,
+// since the C library keeps smaller pieces when they are freed.
 fn take_stack(alloc: Global) -> Result<(), AllocError> {
     let room: Vec<u8> = Vec::with_capacity(alloc, 2 * STACK)?;
     let bytes = room.capacity();
