@@ -1,8 +1,9 @@
--- Read in this order. Matching: PatternLemmas, MatchingLemmas, StarredLemmas. Reading a source:
+-- Read in this order. Matching: PatternLemmas, MatchingLemmas, SeekLemmas, StarredLemmas. Reading a source:
 -- PieceLemmas, ReadingLemmas, WrittenLemmas, SourceLemmas, SourceLaws.
 pub mod PatternLemmas
 pub mod MatchingLemmas
 pub mod StarredLemmas
+pub mod SeekLemmas
 pub mod PieceLemmas
 pub mod ReadingLemmas
 pub mod WrittenLemmas
