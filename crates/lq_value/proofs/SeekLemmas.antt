@@ -344,7 +344,7 @@ flags_more es cs part old new k e h is same long at room flags keeps = λ j lt.
     keeps j (omega (arith, long, same)) in
     let far : k < length (drop j cs) = omega (arith, length-drop j cs) in
     let front : take_front (take (suc k) es) (drop j cs)
-        ≡ (take_front (take k es) (drop j cs) && takes e (get_or (drop j cs) k 0)) =
+    ≡ (take_front (take k es) (drop j cs) && takes e (get_or (drop j cs) k 0)) =
     front_more es (drop j cs) k e h far
     ∙ ap (λ x. take_front (take k es) (drop j cs) && takes x (get_or (drop j cs) k 0)) (sym is) in
     let told : slice_index new j ≡ kept (take_front (take (suc k) es) (drop j cs)) 1 =

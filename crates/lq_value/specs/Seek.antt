@@ -1,8 +1,9 @@
 -- How single elements are sought at many places of a text at once: a flag for each place says
 -- whether the elements so far have taken the characters from there on.
-use Rattle.std.specs.Prelude.{◌≡◌, ◌<◌, ◌≤◌, ◌+◌, ℕ, List, [], ◌∷◌, ◌++◌, Bool, true, false, ◌&&◌, length, drop, slice_index}
+use Rattle.std.specs.Prelude.{◌≡◌, ◌<◌, ◌≤◌, ◌+◌, ℕ, List, [], ◌∷◌, ◌++◌, Bool, true, false, ◌&&◌, ◌==◌, not, if◌then◌else◌, length, drop, slice_index}
 use Rattle.lq_value.specs.declared.element.Element.{Element}
-use Rattle.lq_value.specs.Element.{takes}
+use Rattle.lq_value.specs.declared.element.Item.{Item}
+use Rattle.lq_value.specs.Element.{set_has, takes}
 use Rattle.lq_value.specs.Matching.{AreSingle, IsAtStar}
 
 -- the elements take the text's first characters, one each
@@ -15,6 +16,30 @@ take_front (e ∷ es) (c ∷ cs) = takes e c && take_front es cs
 abbrev pub kept : Bool → ℕ → ℕ
 kept true flag = flag
 kept false flag = 0
+
+-- a mark that is put, or is as it was
+abbrev pub marked : Bool → ℕ → ℕ
+marked true mark = 1
+marked false mark = mark
+
+-- whether a flag stays by its mark, or by its lack of one where the set is negated
+abbrev pub stays : Bool → ℕ → Bool
+stays true mark = mark == 0
+stays false mark = not (mark == 0)
+
+-- the character, for a set with these items
+abbrev pub set_takes : Bool → List Item → ℕ → Bool
+set_takes negated items c = if negated then not (set_has items c) else set_has items c
+
+-- marks are put where the test passes the text's character
+abbrev pub AreMarked : (ℕ → Bool) → List ℕ → List ℕ → List ℕ → Type 0
+AreMarked test cs old new = (k : ℕ) → k < length cs
+    → slice_index new k ≡ marked (test (slice_index cs k)) (slice_index old k)
+
+-- the marks of the characters that an item has
+abbrev pub AreMarksOf : List Item → List ℕ → List ℕ → Type 0
+AreMarksOf items cs marks = (k : ℕ) → k < length cs
+    → slice_index marks k ≡ kept (set_has items (slice_index cs k)) 1
 
 -- the flags stay where the test passes the text's character, and go out elsewhere
 abbrev pub AreKept : (ℕ → Bool) → List ℕ → List ℕ → List ℕ → Type 0

@@ -8,9 +8,8 @@ use crate::element::Element;
 use crate::first::first_char;
 use crate::long::fits_long;
 
-// From how many elements on, and how many bytes, a text is matched by its characters in a row.
-const MANY_ELEMENTS: usize = 8;
-const LONG_TEXT: usize = 64;
+// From how many bytes on a text is matched at many places at once.
+const LONG_TEXT: usize = 128;
 
 /// What is left of a pattern and of a text.
 #[derive(Clone, Copy)]
@@ -47,17 +46,17 @@ fn fits_stars(start: Left<'_>) -> bool
     requires { IsAtStar start.elements.now }
     ensures { result ≡ fits start.entry.elements.now (chars start.entry.text.now) }
 {
-    if start.elements.len() < MANY_ELEMENTS || start.text.len() < LONG_TEXT {
-        return fits_few(start);
+    if start.text.len() < LONG_TEXT {
+        return fits_short(start);
     }
     match fits_long(start.elements, start.text) {
-        None => fits_few(start),
+        None => fits_short(start),
         Some(fits) => fits,
     }
 }
 
 // The same an element and a character at a time.
-fn fits_few(start: Left<'_>) -> bool
+fn fits_short(start: Left<'_>) -> bool
     requires { IsAtStar start.elements.now }
     ensures { result ≡ fits start.entry.elements.now (chars start.entry.text.now) }
 {

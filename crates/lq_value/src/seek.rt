@@ -1,9 +1,9 @@
 //! Seeking single elements at many places of a text at once.
-ghost use Rattle.std.specs.Prelude.{◌≡◌, ◌≤◌, ◌<◌, ◌+◌, ◌==◌, length, drop, MatchOption};
-ghost use Rattle.lq_value.specs.Element.{takes};
-ghost use Rattle.lq_value.specs.Seek.{kept, AreKept, AreOn, IsNextOn, TakeNoneBefore, IsFirstPlace, IsFirstPlaceBefore, TakeNowhere};
+ghost use Rattle.std.specs.Prelude.{◌≡◌, ◌≤◌, ◌<◌, ◌+◌, ◌==◌, ◌&&◌, nat_le, length, drop, MatchOption};
+ghost use Rattle.lq_value.specs.Element.{has, takes};
+ghost use Rattle.lq_value.specs.Seek.{kept, marked, stays, set_takes, AreKept, AreMarked, AreMarksOf, AreOff, AreOn, IsNextOn, TakeNoneBefore, IsFirstPlace, IsFirstPlaceBefore, TakeNowhere};
 
-use crate::element::Element;
+use crate::element::{Element, Item};
 
 // How many places are tried at once.
 const WINDOW: usize = 256;
@@ -58,6 +58,7 @@ fn find_among(elements: &[Element], text: &[char], places: usize) -> Option<usiz
 #[tactic(auto, using(crate::proofs::SeekLemmas::flags_on, crate::proofs::SeekLemmas::flags_more, crate::proofs::SeekLemmas::off_more, crate::proofs::SeekLemmas::none_flagged, crate::proofs::SeekLemmas::first_flagged))]
 fn find_flagged(elements: &[Element], text: &[char], flags: &mut [u32]) -> Option<usize>
     requires some { 0 < length flags.old }
+    requires window { length flags.old ≤ 256 }
     requires on { AreOn flags.old }
     requires room { length elements.now + length flags.old ≤ length text.now + 1 }
     ensures { MatchOption result (TakeNoneBefore elements.now text.now (length flags.old))
@@ -87,14 +88,25 @@ fn next_on(flags: &[u32], from: usize) -> usize
 }
 
 // The flags stay where the element takes the character.
+#[tactic(auto, using(crate::proofs::MarkLemmas::none_kept))]
 fn keep(flags: &mut [u32], element: &Element, text: &[char])
-    requires { length flags.old ≡ length text.now }
+    requires same { length flags.old ≡ length text.now }
+    requires window { length text.now ≤ 256 }
     ensures { AreKept (takes element.now) text.now flags.old flags.new }
 {
     match element {
+        Element::Star => put_out(flags),
         Element::Any => {}
         Element::Plain(c) => keep_char(flags, *c, text),
-        Element::Star | Element::Set { .. } => keep_taken(flags, element, text),
+        Element::Set { negated, items } => keep_set(flags, items.as_slice(), *negated, text),
+    }
+}
+
+fn put_out(flags: &mut [u32])
+    ensures { AreOff flags.new 0 (length flags.old) }
+{
+    for flag in flags.iter_mut() {
+        *flag = 0;
     }
 }
 
@@ -107,13 +119,72 @@ fn keep_char(flags: &mut [u32], c: char, text: &[char])
     }
 }
 
-fn keep_taken(flags: &mut [u32], element: &Element, text: &[char])
-    requires { length flags.old ≡ length text.now }
-    ensures { AreKept (takes element.now) text.now flags.old flags.new }
+fn keep_set(flags: &mut [u32], items: &[Item], negated: bool, text: &[char])
+    requires same { length flags.old ≡ length text.now }
+    requires window { length text.now ≤ 256 }
+    ensures { AreKept (set_takes negated items.now) text.now flags.old flags.new }
 {
+    let mut all = [0_u32; WINDOW];
+    keep_marked(flags, &mut all[..text.len()], items, negated, text);
+}
+
+// The same with a mark for each character, which is put where an item has it.
+#[tactic(auto, using(crate::proofs::MarkLemmas::marked_kept))]
+fn keep_marked(flags: &mut [u32], marks: &mut [u32], items: &[Item], negated: bool, text: &[char])
+    requires same { length flags.old ≡ length text.now }
+    requires marks { length marks.old ≡ length text.now }
+    requires off { AreOff marks.old 0 (length marks.old) }
+    ensures { AreKept (set_takes negated items.now) text.now flags.old flags.new }
+{
+    mark_items(marks, items, text);
     for i in 0..flags.len() {
-        flags[i] = kept_taken(flags[i], element, text[i]);
+        flags[i] = kept(stays(negated, marks[i]), flags[i]);
     }
+}
+
+#[tactic(auto, using(crate::proofs::MarkLemmas::marks_none, crate::proofs::MarkLemmas::marks_more, crate::proofs::MarkLemmas::marks_all))]
+fn mark_items(marks: &mut [u32], items: &[Item], text: &[char])
+    requires same { length marks.old ≡ length text.now }
+    requires off { AreOff marks.old 0 (length marks.old) }
+    ensures { AreMarksOf items.now text.now marks.new }
+{
+    for item in items {
+        mark_item(marks, *item, text);
+    }
+}
+
+fn mark_item(marks: &mut [u32], item: Item, text: &[char])
+    requires { length marks.old ≡ length text.now }
+    ensures { AreMarked (has item) text.now marks.old marks.new }
+{
+    match item {
+        Item::One(c) => mark_char(marks, c, text),
+        Item::Range(first, last) => mark_range(marks, first, last, text),
+    }
+}
+
+fn mark_char(marks: &mut [u32], c: char, text: &[char])
+    requires { length marks.old ≡ length text.now }
+    ensures { AreMarked (λ d. c == d) text.now marks.old marks.new }
+{
+    for i in 0..marks.len() {
+        marks[i] = marked(c == text[i], marks[i]);
+    }
+}
+
+fn mark_range(marks: &mut [u32], first: char, last: char, text: &[char])
+    requires { length marks.old ≡ length text.now }
+    ensures { AreMarked (λ d. nat_le first d && nat_le d last) text.now marks.old marks.new }
+{
+    for i in 0..marks.len() {
+        marks[i] = marked(is_within(first, last, text[i]), marks[i]);
+    }
+}
+
+fn is_within(first: char, last: char, c: char) -> bool
+    ensures { result ≡ (nat_le first c && nat_le c last) }
+{
+    first <= c && c <= last
 }
 
 fn kept(stays: bool, flag: u32) -> u32
@@ -122,8 +193,14 @@ fn kept(stays: bool, flag: u32) -> u32
     if stays { flag } else { 0 }
 }
 
-fn kept_taken(flag: u32, element: &Element, c: char) -> u32
-    ensures { result ≡ kept (takes element.now c) flag }
+fn marked(hit: bool, mark: u32) -> u32
+    ensures { result ≡ marked hit mark }
 {
-    if flag == 0 { 0 } else { kept(element.takes(c), flag) }
+    if hit { 1 } else { mark }
+}
+
+fn stays(negated: bool, mark: u32) -> bool
+    ensures { result ≡ stays negated mark }
+{
+    (mark == 0) == negated
 }

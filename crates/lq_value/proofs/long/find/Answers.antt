@@ -1,7 +1,7 @@
 use Rattle.std.proofs.Common.{◌≡◌, length, false, arith, rules}
 use Rattle.std.proofs.lemmas.Bool.Decides.{nat_tests}
 use Rattle.lq_value.specs.Pattern.{fits, some_rest}
-use Rattle.lq_value.specs.Seek.{IsFirstPlace, TakeNowhere}
+use Rattle.lq_value.specs.Seek.{TakeNowhere}
 use Rattle.lq_value.proofs.SeekLemmas.{found_piece, nowhere_end}
 use Rattle.lq_value.proofs.long.find.Goals as goal
 

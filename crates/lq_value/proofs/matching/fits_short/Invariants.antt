@@ -2,7 +2,7 @@ use Rattle.std.proofs.Common.{◌≡◌, length}
 use Rattle.std.specs.Str.{chars}
 use Rattle.lq_value.specs.Matching.{IsAtStar}
 use Rattle.lq_value.specs.Pattern.{fits}
-use Rattle.lq_value.proofs.matching.fits_few.Given as goal
+use Rattle.lq_value.proofs.matching.fits_short.Given as goal
 
 -- what is left decides, and begins with a star
 abbrev pub invariant-loop-after : goal.invariant-loop-after
