@@ -1,11 +1,11 @@
 -- What marks say of the items of a set.
 use Rattle.std.proofs.Common.{◌≡◌, ◌<◌, ◌≤◌, ◌+◌, ℕ, List, [], ◌∷◌, ◌++◌, length, take, get_or, Bool, true, false, refl, sym, ap, ◌∙◌, subst, arith}
-use Rattle.std.specs.Prelude.{◌||◌, slice_index, replicate}
+use Rattle.std.specs.Prelude.{◌||◌, ◌==◌, slice_index, replicate}
 use Rattle.std.proofs.lemmas.List.{take_more, take_all, take-replicate, get_or-replicate, length-replicate}
 use Rattle.lq_value.specs.declared.element.Item.{Item}
 use Rattle.lq_value.specs.declared.element.Element.TheVariants.{Star}
 use Rattle.lq_value.specs.Element.{has, set_has, takes}
-use Rattle.lq_value.specs.Seek.{kept, marked, stays, set_takes, AreKept, AreMarked, AreMarksOf, AreOff}
+use Rattle.lq_value.specs.Seek.{kept, marked, wanted, set_takes, AreKept, AreMarked, AreMarksOf, AreOff}
 
 -- a test or false is the test
 or_false : (b : Bool) → (b || false) ≡ b
@@ -32,13 +32,13 @@ marked_both true false = refl
 marked_both false true = refl
 marked_both false false = refl
 
--- a mark says which flags stay
-stays_marked : (negated : Bool) (items : List Item) (c : ℕ) (b : Bool) → set_has items c ≡ b
-    → stays negated (kept b 1) ≡ set_takes negated items c
-stays_marked true items c true e = rw e refl
-stays_marked true items c false e = rw e refl
-stays_marked false items c true e = rw e refl
-stays_marked false items c false e = rw e refl
+-- the mark of a character says whether the set takes it
+wanted_marked : (negated : Bool) (items : List Item) (c : ℕ) (b : Bool) → set_has items c ≡ b
+    → (wanted negated == kept b 1) ≡ set_takes negated items c
+wanted_marked true items c true e = rw e refl
+wanted_marked true items c false e = rw e refl
+wanted_marked false items c true e = rw e refl
+wanted_marked false items c false e = rw e refl
 
 -- a number of marks that are not put
 pub marks_made : (n places : ℕ) → places ≤ n
@@ -73,15 +73,15 @@ marks_all items cs marks i h marked = subst (λ l. AreMarksOf l cs marks) (take_
 
 -- flags that stay by their marks stay where the set takes the character
 pub marked_kept : (negated : Bool) (items : List Item) (cs marks old new : List ℕ)
-    → AreMarksOf items cs marks
-    → ((k : ℕ) → k < length cs
-    → slice_index new k ≡ kept (stays negated (slice_index marks k)) (slice_index old k))
+    → length marks ≡ length cs → AreMarksOf items cs marks
+    → AreKept (λ mark. wanted negated == mark) marks old new
     → AreKept (set_takes negated items) cs old new
-marked_kept negated items cs marks old new are keeps = λ k lt.
+marked_kept negated items cs marks old new same are keeps = λ k lt.
     let c = slice_index cs k in
-    keeps k lt
+    keeps k (omega (arith, same))
     ∙ ap (λ b. kept b (slice_index old k))
-    (ap (stays negated) (are k lt) ∙ stays_marked negated items c (set_has items c) refl)
+    (ap (λ mark. wanted negated == mark) (are k lt)
+    ∙ wanted_marked negated items c (set_has items c) refl)
 
 -- flags that are put out are those that a star takes
 pub none_kept : (cs old new : List ℕ) → length old ≡ length cs → AreOff new 0 (length old)

@@ -22,10 +22,10 @@ abbrev pub marked : Bool → ℕ → ℕ
 marked true mark = 1
 marked false mark = mark
 
--- whether a flag stays by its mark, or by its lack of one where the set is negated
-abbrev pub stays : Bool → ℕ → Bool
-stays true mark = mark == 0
-stays false mark = not (mark == 0)
+-- the mark of a character that a set takes, which may be negated
+abbrev pub wanted : Bool → ℕ
+wanted true = 0
+wanted false = 1
 
 -- the character, for a set with these items
 abbrev pub set_takes : Bool → List Item → ℕ → Bool

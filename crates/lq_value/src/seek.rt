@@ -1,12 +1,12 @@
 //! Seeking single elements at many places of a text at once.
 ghost use Rattle.std.specs.Prelude.{◌≡◌, ◌≤◌, ◌<◌, ◌+◌, ◌==◌, ◌&&◌, nat_le, length, drop, MatchOption};
 ghost use Rattle.lq_value.specs.Element.{has, takes};
-ghost use Rattle.lq_value.specs.Seek.{kept, marked, stays, set_takes, AreKept, AreMarked, AreMarksOf, AreOff, AreOn, IsNextOn, TakeNoneBefore, IsFirstPlace, IsFirstPlaceBefore, TakeNowhere};
+ghost use Rattle.lq_value.specs.Seek.{kept, marked, wanted, set_takes, AreKept, AreMarked, AreMarksOf, AreOff, AreOn, IsNextOn, TakeNoneBefore, IsFirstPlace, IsFirstPlaceBefore, TakeNowhere};
 
 use crate::element::{Element, Item};
 
 // How many places are tried at once.
-const WINDOW: usize = 256;
+const WINDOW: usize = 512;
 
 /// The first place of the text from which on the elements take a character each.
 ///
@@ -45,7 +45,7 @@ pub(crate) fn from_place(text: &[char], place: usize) -> &[char]
 // The same among the first places.
 fn find_among(elements: &[Element], text: &[char], places: usize) -> Option<usize>
     requires some { 0 < places }
-    requires window { places ≤ 256 }
+    requires window { places ≤ 512 }
     requires room { length elements.now + places ≤ length text.now + 1 }
     ensures { MatchOption result (TakeNoneBefore elements.now text.now places)
         (IsFirstPlaceBefore elements.now text.now places) }
@@ -58,7 +58,7 @@ fn find_among(elements: &[Element], text: &[char], places: usize) -> Option<usiz
 #[tactic(auto, using(crate::proofs::SeekLemmas::flags_on, crate::proofs::SeekLemmas::flags_more, crate::proofs::SeekLemmas::off_more, crate::proofs::SeekLemmas::none_flagged, crate::proofs::SeekLemmas::first_flagged))]
 fn find_flagged(elements: &[Element], text: &[char], flags: &mut [u32]) -> Option<usize>
     requires some { 0 < length flags.old }
-    requires window { length flags.old ≤ 256 }
+    requires window { length flags.old ≤ 512 }
     requires on { AreOn flags.old }
     requires room { length elements.now + length flags.old ≤ length text.now + 1 }
     ensures { MatchOption result (TakeNoneBefore elements.now text.now (length flags.old))
@@ -91,7 +91,7 @@ fn next_on(flags: &[u32], from: usize) -> usize
 #[tactic(auto, using(crate::proofs::MarkLemmas::none_kept))]
 fn keep(flags: &mut [u32], element: &Element, text: &[char])
     requires same { length flags.old ≡ length text.now }
-    requires window { length text.now ≤ 256 }
+    requires window { length text.now ≤ 512 }
     ensures { AreKept (takes element.now) text.now flags.old flags.new }
 {
     match element {
@@ -121,7 +121,7 @@ fn keep_char(flags: &mut [u32], c: char, text: &[char])
 
 fn keep_set(flags: &mut [u32], items: &[Item], negated: bool, text: &[char])
     requires same { length flags.old ≡ length text.now }
-    requires window { length text.now ≤ 256 }
+    requires window { length text.now ≤ 512 }
     ensures { AreKept (set_takes negated items.now) text.now flags.old flags.new }
 {
     let mut all = [0_u32; WINDOW];
@@ -137,8 +137,15 @@ fn keep_marked(flags: &mut [u32], marks: &mut [u32], items: &[Item], negated: bo
     ensures { AreKept (set_takes negated items.now) text.now flags.old flags.new }
 {
     mark_items(marks, items, text);
+    keep_wanted(flags, wanted(negated), marks);
+}
+
+fn keep_wanted(flags: &mut [u32], wanted: u32, marks: &[u32])
+    requires { length flags.old ≡ length marks.now }
+    ensures { AreKept (λ mark. wanted == mark) marks.now flags.old flags.new }
+{
     for i in 0..flags.len() {
-        flags[i] = kept(stays(negated, marks[i]), flags[i]);
+        flags[i] = kept(wanted == marks[i], flags[i]);
     }
 }
 
@@ -199,8 +206,9 @@ fn marked(hit: bool, mark: u32) -> u32
     if hit { 1 } else { mark }
 }
 
-fn stays(negated: bool, mark: u32) -> bool
-    ensures { result ≡ stays negated mark }
+// The mark of a character that the set takes.
+fn wanted(negated: bool) -> u32
+    ensures { result ≡ wanted negated }
 {
-    (mark == 0) == negated
+    if negated { 0 } else { 1 }
 }
