@@ -1,8 +1,10 @@
--- Read in this order. Matching: PatternLemmas, MatchingLemmas, StarredLemmas. Reading a source:
--- PieceLemmas, ReadingLemmas, WrittenLemmas, SourceLemmas, SourceLaws.
+-- Read in this order. Matching: PatternLemmas, MatchingLemmas, SeekLemmas, MarkLemmas,
+-- StarredLemmas. Reading a source: PieceLemmas, ReadingLemmas, WrittenLemmas, SourceLemmas, SourceLaws.
 pub mod PatternLemmas
 pub mod MatchingLemmas
 pub mod StarredLemmas
+pub mod SeekLemmas
+pub mod MarkLemmas
 pub mod PieceLemmas
 pub mod ReadingLemmas
 pub mod WrittenLemmas

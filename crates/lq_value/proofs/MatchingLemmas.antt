@@ -25,7 +25,7 @@ single (Plain d) c t = tt
 single (Set n is) c t = tt
 
 -- an element that takes the first character leaves the rest to the others
-fits_taken : (e : Element) (es : List Element) (c : ℕ) (cs : List ℕ) → takes e c ≡ true
+pub fits_taken : (e : Element) (es : List Element) (c : ℕ) (cs : List ℕ) → takes e c ≡ true
     → fits (e ∷ es) (c ∷ cs) ≡ fits es cs
 fits_taken Star es c cs t = absurd (both_ways false refl t)
 fits_taken Any es c cs t = refl
@@ -33,7 +33,7 @@ fits_taken (Plain d) es c cs t = rw t refl
 fits_taken (Set n is) es c cs t = rw t refl
 
 -- a single element after single elements makes single elements
-AreSingle-push : (piece : List Element) (e : Element) → AreSingle piece → IsSingle e
+pub AreSingle-push : (piece : List Element) (e : Element) → AreSingle piece → IsSingle e
     → AreSingle (piece ++ e ∷ [])
 AreSingle-push [] e s t = (t, tt)
 AreSingle-push (p ∷ piece) e s t = (s.0, AreSingle-push piece e s.1 t)

@@ -10,6 +10,7 @@ pub mod Element
 pub mod Pattern
 pub mod Elements
 pub mod Matching
+pub mod Seek
 pub mod Compare
 pub mod Sign
 pub mod Source

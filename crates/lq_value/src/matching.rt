@@ -6,6 +6,10 @@ ghost use Rattle.lq_value.specs.Pattern.{fits, is_end, some_rest};
 
 use crate::element::Element;
 use crate::first::first_char;
+use crate::long::fits_long;
+
+// From how many bytes on a text is matched at many places at once.
+const LONG_TEXT: usize = 128;
 
 /// What is left of a pattern and of a text.
 #[derive(Clone, Copy)]
@@ -27,8 +31,7 @@ pub(crate) enum Taken<'a> {
 
 /// Whether the elements fit the whole text. It takes no memory.
 ///
-/// It takes at most about as many steps as the elements' number times the text's length: it
-/// goes back to the latest star alone, since that one takes what any earlier star could have.
+/// It goes back to the latest star alone, since that one takes what any earlier star could have.
 pub(crate) fn fits_text(left: Left<'_>) -> bool
     ensures { result ≡ fits left.entry.elements.now (chars left.entry.text.now) }
 {
@@ -40,6 +43,20 @@ pub(crate) fn fits_text(left: Left<'_>) -> bool
 
 // The same from a star on, or where there are no elements.
 fn fits_stars(start: Left<'_>) -> bool
+    requires { IsAtStar start.elements.now }
+    ensures { result ≡ fits start.entry.elements.now (chars start.entry.text.now) }
+{
+    if start.text.len() < LONG_TEXT {
+        return fits_short(start);
+    }
+    match fits_long(start.elements, start.text) {
+        None => fits_short(start),
+        Some(fits) => fits,
+    }
+}
+
+// The same an element and a character at a time.
+fn fits_short(start: Left<'_>) -> bool
     requires { IsAtStar start.elements.now }
     ensures { result ≡ fits start.entry.elements.now (chars start.entry.text.now) }
 {

@@ -1,15 +1,14 @@
 use Rattle.std.proofs.Common.{◌≡◌, length}
-use Rattle.std.specs.Str.{chars}
 use Rattle.lq_value.specs.Matching.{IsAtStar}
 use Rattle.lq_value.specs.Pattern.{fits}
-use Rattle.lq_value.proofs.matching.fits_stars.Given as goal
+use Rattle.lq_value.proofs.long.fits_chars.Given as goal
 
 -- what is left decides, and begins with a star
 abbrev pub invariant-loop-after : goal.invariant-loop-after
 invariant-loop-after l = record {
   star : IsAtStar l.left.elements.now;
-  same : fits l.left.elements.now (chars l.left.text.now)
-      ≡ fits l.fn.start.elements.now (chars l.fn.start.text.now);
+  same : fits l.left.elements.now l.left.text.now
+      ≡ fits l.fn.start.elements.now l.fn.start.text.now;
 }
 
 abbrev pub decreases-loop-after : goal.decreases-loop-after

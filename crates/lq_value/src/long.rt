@@ -1,0 +1,136 @@
+//! Matching a long text, by its characters in a row.
+ghost use Rattle.std.specs.Prelude.{◌≡◌, ◌≤◌, length, take, drop, IfSome, MatchOption, false};
+ghost use Rattle.std.specs.Str.{chars};
+ghost use Rattle.lq_value.specs.Matching.{AreSingle, Finds, IsAtStar};
+ghost use Rattle.lq_value.specs.Pattern.{fits, some_rest};
+ghost use Rattle.lq_value.specs.Seek.{IsPiece};
+
+use crate::element::Element;
+use crate::first::first_char;
+use crate::seek::{find_place, from_place};
+
+// How many characters a text may have.
+const MAX_CHARS: usize = 4096;
+
+// What is left of a pattern and of a text's characters.
+#[derive(Clone, Copy)]
+struct Rest<'a> {
+    elements: &'a [Element],
+    text: &'a [char],
+}
+
+// What is left of a text.
+#[derive(Clone, Copy)]
+struct Unread<'a> {
+    text: &'a str,
+}
+
+// Elements up to a star, and those from it on.
+#[derive(Clone, Copy)]
+struct Piece<'a> {
+    single: &'a [Element],
+    after: &'a [Element],
+}
+
+/// Whether the elements, of which the first is a star, fit the whole text; `None` for a text of
+/// more than 4,096 characters. It takes no memory.
+pub(crate) fn fits_long(elements: &[Element], text: &str) -> Option<bool>
+    requires { IsAtStar elements.now }
+    ensures { IfSome result (λ r. r ≡ fits elements.now (chars text.now)) }
+{
+    let mut buffer = ['\0'; MAX_CHARS];
+    let count = copy_chars(text, &mut buffer)?;
+    Some(fits_chars(Rest {
+        elements,
+        text: &buffer[..count],
+    }))
+}
+
+// The number of the text's characters, which then stand in the buffer, if it has room for them.
+#[tactic(auto, using(crate::proofs::SeekLemmas::copied_char, crate::proofs::SeekLemmas::copied_all))]
+fn copy_chars(text: &str, buffer: &mut [char]) -> Option<usize>
+    ensures room { IfSome result (λ count. count ≤ length buffer.new) }
+    ensures value { IfSome result (λ count. take count buffer.new ≡ chars text.now) }
+{
+    let mut left = Unread { text };
+    let mut count = 0;
+    while let Some((c, rest)) = first_char(left.text) {
+        if count == buffer.len() {
+            return None;
+        }
+        buffer[count] = c;
+        count += 1;
+        left.text = rest;
+    }
+    Some(count)
+}
+
+fn fits_chars(start: Rest<'_>) -> bool
+    requires { IsAtStar start.elements.now }
+    ensures { result ≡ fits start.entry.elements.now start.entry.text.now }
+{
+    let mut left = start;
+    while let Some((_, after)) = left.elements.split_first() {
+        match find(Rest {
+            elements: after,
+            text: left.text,
+        }) {
+            None => return false,
+            Some(found) => left = found,
+        }
+    }
+    left.text.is_empty()
+}
+
+// What is left behind the first place of the text at which the elements up to the next star fit.
+#[tactic(auto, using(crate::proofs::SeekLemmas::short_piece, crate::proofs::SeekLemmas::nowhere_end, crate::proofs::SeekLemmas::nowhere_piece, crate::proofs::SeekLemmas::found_end, crate::proofs::SeekLemmas::found_piece))]
+fn find<'a>(start: Rest<'a>) -> Option<Rest<'a>>
+    ensures { MatchOption result
+        (some_rest (fits start.entry.elements.now) start.entry.text.now ≡ false)
+        (λ found. Finds start.entry.elements.now start.entry.text.now
+        found.elements.now found.text.now) }
+{
+    let piece = split_at_star(start.elements);
+    let text = start.text;
+    if text.len() < piece.single.len() {
+        return None;
+    }
+    if piece.after.is_empty() {
+        let end = from_place(text, text.len() - piece.single.len());
+        find_place(piece.single, end)?;
+        let nothing = from_place(text, text.len());
+        return Some(Rest {
+            elements: piece.after,
+            text: nothing,
+        });
+    }
+    let place = find_place(piece.single, text)?;
+    let left = from_place(text, place + piece.single.len());
+    Some(Rest {
+        elements: piece.after,
+        text: left,
+    })
+}
+
+#[tactic(auto, using(crate::proofs::SeekLemmas::piece_at))]
+fn split_at_star<'a>(elements: &'a [Element]) -> Piece<'a>
+    ensures { IsPiece elements.entry.now result.single.now result.after.now }
+{
+    let (single, after) = elements.split_at(count_single(elements));
+    Piece { single, after }
+}
+
+// How many elements stand before the first star.
+#[tactic(auto, using(crate::proofs::SeekLemmas::single_more, crate::proofs::SeekLemmas::star_at, crate::proofs::SeekLemmas::star_end))]
+fn count_single(elements: &[Element]) -> usize
+    ensures within { result ≤ length elements.now }
+    ensures single { AreSingle (take result elements.now) }
+    ensures star { IsAtStar (drop result elements.now) }
+{
+    for (k, element) in elements.iter().enumerate() {
+        if let Element::Star = element {
+            return k;
+        }
+    }
+    elements.len()
+}
