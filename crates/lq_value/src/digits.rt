@@ -33,7 +33,7 @@ fn digits_of_bytes(bytes: &[u8]) -> Option<u128>
     Some(value)
 }
 
-// The number with one more digit behind it; `None` where the code is no digit's.
+// The number with one more digit after it; `None` where the code is no digit's.
 fn with_digit(value: u128, code: u32) -> Option<u128>
     requires { value < 10 ^ 20 }
     ensures { result ≡

@@ -74,7 +74,7 @@ impl Items {
         self.items.iter().any(|item| item.has(c))
     }
 
-    /// One item more, behind the others. Refused: `NoMemory`.
+    /// One item more, after the others. Refused: `NoMemory`.
     pub(crate) fn push(&mut self, item: Item) -> Result<(), Refusal>
         ensures refused { IsRefusedBy result None }
         ensures value { IfOk result (λ _. self.new ≡ self.old ++ item ∷ []) }

@@ -12,8 +12,8 @@ pub fn faults_are_found()
     ensures { FaultsAreFound }
 {}
 
-/// The elements of a source are what stands first and then those of the source behind it, and the
-/// items of a set likewise; what stands behind is shorter.
+/// The elements of a source are what stands first and then those of the source after it, and the
+/// items of a set likewise; what stands after is shorter.
 pub fn sources_are_walked()
     ensures { SourcesAreWalked }
 {}

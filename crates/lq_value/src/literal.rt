@@ -61,7 +61,7 @@ impl Literal {
 
 /// Compares what an attribute holds with a literal that suits the operator.
 ///
-/// `Eq` holds of a text where the pattern fits all of it and `Ne` where it doesn't; the operators
+/// `Eq` is true for a text that the pattern fits as a whole, `Ne` for any other; the operators
 /// of order compare bytes. Numbers are compared as whole numbers, and falsely, also by `Ne`, with
 /// a literal that writes none. It takes no memory. The operators are BQuery's.
 pub fn compare(view: View<'_>, op: Op, literal: &Literal) -> bool

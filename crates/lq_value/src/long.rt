@@ -82,7 +82,7 @@ fn fits_chars(start: Rest<'_>) -> bool
     left.text.is_empty()
 }
 
-// What is left behind the first place of the text at which the elements up to the next star fit.
+// What is left after the first place of the text at which the elements up to the next star fit.
 #[tactic(auto, using(crate::proofs::SeekLemmas::short_piece, crate::proofs::SeekLemmas::nowhere_end, crate::proofs::SeekLemmas::nowhere_piece, crate::proofs::SeekLemmas::found_end, crate::proofs::SeekLemmas::found_piece))]
 fn find<'a>(start: Rest<'a>) -> Option<Rest<'a>>
     ensures { MatchOption result

@@ -79,7 +79,7 @@ fn is_at_end(text: &str) -> bool
     first_char(text).is_none()
 }
 
-// What is left behind the first place of the text at which the elements up to the next star fit.
+// What is left after the first place of the text at which the elements up to the next star fit.
 #[tactic(auto, using(crate::proofs::MatchingLemmas::found_later, crate::proofs::MatchingLemmas::some_later))]
 fn find<'a>(start: Left<'a>) -> Option<Left<'a>>
     ensures { MatchOption result

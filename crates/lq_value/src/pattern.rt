@@ -203,7 +203,7 @@ fn plain_text(alloc: Global, elements: &[Element]) -> Result<Option<String>, Ref
     Ok(Some(text))
 }
 
-// The elements as plain text with a star before it, behind it or both, if they are.
+// The elements as plain text with a star before it, after it or both, if they are.
 fn starred_text(alloc: Global, elements: &[Element]) -> Result<Option<Starred>, Refusal>
     ensures refused { IsRefusedBy result None }
     ensures value { IfOk result (λ text. IfSome text

@@ -6,7 +6,7 @@ ghost use Rattle.lq_value.specs.Source.{element_at, set_at};
 
 use crate::sign::{Sign, first_sign};
 
-/// What stands first where an element of a pattern is looked for, and the source behind it.
+/// What stands first where an element of a pattern is looked for, and the source after it.
 #[derive(Clone, Copy)]
 pub enum FirstPiece<'a> {
     /// The end of the source.

@@ -9,7 +9,7 @@ use crate::refusal::Refusal;
 use crate::sign::{Sign, first_sign};
 use std::alloc::Global;
 
-/// What stands first where an item of a set is looked for, and the text behind it.
+/// What stands first where an item of a set is looked for, and the text after it.
 #[derive(Clone, Copy)]
 pub enum FirstItem<'a> {
     /// The `]` that ends the set.
@@ -20,7 +20,7 @@ pub enum FirstItem<'a> {
     Faulty,
 }
 
-/// The items of a set, and the text behind its `]`; `None` where the set is faulty.
+/// The items of a set, and the text after its `]`; `None` where the set is faulty.
 ///
 /// Where memory runs out the rest is read all the same, since a fault comes before it.
 pub(crate) fn read_items<'a>(
@@ -53,7 +53,7 @@ fn with_item(items: Result<Items, Refusal>, item: Item) -> Result<Items, Refusal
     Ok(items)
 }
 
-/// What stands first in the text behind a set's begin, where an item is looked for. It takes no
+/// What stands first in the text after a set's begin, where an item is looked for. It takes no
 /// memory.
 pub fn first_item<'a>(text: &'a str) -> FirstItem<'a>
     ensures first { item_at (signs_of text.entry.now) ≡ first_item_of result }
@@ -68,7 +68,7 @@ pub fn first_item<'a>(text: &'a str) -> FirstItem<'a>
     }
 }
 
-// The item that begins with a character, where the text stands behind it.
+// The item that begins with a character, where the text stands after it.
 fn item_from<'a>(c: char, text: &'a str) -> FirstItem<'a>
     ensures first { behind_char c (signs_of text.entry.now) ≡ first_item_of result }
     ensures text { IsTextBehindItem result }

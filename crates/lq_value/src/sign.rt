@@ -9,13 +9,13 @@ use crate::first::first_char;
 pub(crate) enum Sign {
     /// A character without a `\` before it.
     Bare(char),
-    /// A character behind a `\`.
+    /// A character after a `\`.
     Escaped(char),
     /// A `\` that ends the source.
     Dangling,
 }
 
-/// The first sign, and the text behind it; `None` for the empty text.
+/// The first sign, and the text after it; `None` for the empty text.
 pub(crate) fn first_sign<'a>(text: &'a str) -> Option<(Sign, &'a str)>
     ensures { MatchOption result (signs_of text.entry.now ≡ [])
         (λ r. signs_of text.entry.now ≡ r.0 ∷ signs_of r.1.now) }

@@ -11,7 +11,7 @@ use crate::refusal::Refusal;
 use crate::set::read_items;
 use std::alloc::Global;
 
-/// What stands first where an element is looked for, and the text behind it.
+/// What stands first where an element is looked for, and the text after it.
 #[derive(Drop)]
 pub(crate) enum FirstElement<'a> {
     /// The end of the source.

@@ -1,4 +1,4 @@
-//! Plain text with a star before it, behind it or both, which is sought as text.
+//! Plain text with a star before it, after it or both, which is sought as text.
 ghost use Rattle.std.specs.Prelude.{◌≡◌, ◌++◌, None, IfOk, nat_eq};
 ghost use Rattle.std.specs.List.{starts_with};
 ghost use Rattle.std.specs.Str.{chars};
@@ -9,7 +9,7 @@ use crate::element::Element;
 use crate::refusal::Refusal;
 use std::alloc::Global;
 
-/// The plain text of a pattern, and whether a star stands before it and behind it.
+/// The plain text of a pattern, and whether a star stands before it and after it.
 #[derive(Drop)]
 pub(crate) struct Starred {
     pub(crate) text: String,
@@ -56,7 +56,7 @@ fn begins(text: &str, plain: &str) -> bool
     }
 }
 
-/// Elements, and whether a star stands before them and behind them.
+/// Elements, and whether a star stands before them and after them.
 #[derive(Clone, Copy)]
 pub(crate) struct Inner<'a> {
     pub(crate) before: bool,
