@@ -9,7 +9,10 @@ use crate::element::Element;
 use crate::first::first_char;
 use crate::seek::{find_place, from_place};
 
-// How many characters a text may have.
+// From how many bytes on a text is matched at many places at once.
+const LONG_TEXT: usize = 128;
+
+// How many characters it may have.
 const MAX_CHARS: usize = 4096;
 
 // What is left of a pattern and of a text's characters.
@@ -32,9 +35,19 @@ struct Piece<'a> {
     after: &'a [Element],
 }
 
-/// Whether the elements, of which the first is a star, fit the whole text; `None` for a text of
-/// more than 4,096 characters. It takes no memory.
+/// Whether the elements, of which the first is a star, fit the whole text; `None` for one of less
+/// than 128 bytes or more than 4,096 characters. It takes no memory.
 pub(crate) fn fits_long(elements: &[Element], text: &str) -> Option<bool>
+    requires { IsAtStar elements.now }
+    ensures { IfSome result (λ r. r ≡ fits elements.now (chars text.now)) }
+{
+    if text.len() < LONG_TEXT {
+        return None;
+    }
+    fits_copied(elements, text)
+}
+
+fn fits_copied(elements: &[Element], text: &str) -> Option<bool>
     requires { IsAtStar elements.now }
     ensures { IfSome result (λ r. r ≡ fits elements.now (chars text.now)) }
 {

@@ -8,9 +8,6 @@ use crate::element::Element;
 use crate::first::first_char;
 use crate::long::fits_long;
 
-// From how many bytes on a text is matched at many places at once.
-const LONG_TEXT: usize = 128;
-
 /// What is left of a pattern and of a text.
 #[derive(Clone, Copy)]
 pub(crate) struct Left<'a> {
@@ -46,9 +43,6 @@ fn fits_stars(start: Left<'_>) -> bool
     requires { IsAtStar start.elements.now }
     ensures { result ≡ fits start.entry.elements.now (chars start.entry.text.now) }
 {
-    if start.text.len() < LONG_TEXT {
-        return fits_short(start);
-    }
     match fits_long(start.elements, start.text) {
         None => fits_short(start),
         Some(fits) => fits,

@@ -1,4 +1,4 @@
-use Rattle.std.proofs.Common.{◌≡◌, length, ap, subst, arith}
+use Rattle.std.proofs.Common.{subst, arith}
 use Rattle.std.specs.Prelude.{◌==◌}
 use Rattle.lq_value.specs.Seek.{AreKept}
 use Rattle.lq_value.proofs.MarkLemmas.{marked_kept}
