@@ -1,22 +1,20 @@
 -- A query that was followed: what its reader received, and the volume.
-use Rattle.std.proofs.Common.{◌≡◌, ℕ, ◌+◌, ◌-◌, ◌<◌, ◌≤◌, Bool, false, true≢false, List, ◌++◌, length, take, Option, Some, None, refl, sym, ap, ◌∙◌, subst, arith, append_assoc, length-append}
+use Rattle.std.proofs.Common.{◌≡◌, ℕ, ◌<◌, ◌≤◌, false, true≢false, List, length, Option, Some, None, refl, sym, ap, ◌∙◌, subst, arith, length-append}
 use Rattle.std.specs.Prelude.{IsSome, IsSomeAnd}
-use Rattle.std.proofs.lemmas.List.{take-append-le}
 use Rattle.atomic_table.specs.Seated.{TableId}
 use Rattle.lq_predicate_formula.specs.Query.{Query}
-use Rattle.lq_volume.specs.declared.change.Change.{Change}
 use Rattle.lq_volume.specs.State.{State}
-use Rattle.lq_volume.specs.Book.{Book, Extends, grown, after_all, state_at}
+use Rattle.lq_volume.specs.Book.{Book, Extends, state_at}
 use Rattle.lq_volume.specs.Result.{result_of}
 use Rattle.lq_board.specs.Token.{SeatToken}
-use Rattle.lq_update.specs.declared.message.Message.{Message}
 use Rattle.lq_update.specs.declared.mark.Mark.{Mark}
 use Rattle.lq_update.specs.Updates.{updates_of}
 use Rattle.lq_update.specs.Laws.{UpdatesStay}
 use Rattle.lq_server_subscription.specs.declared.identity.Identity.{Identity}
 use Rattle.lq_server_subscription.specs.declared.delivery.Delivery.{Delivery}
+use Rattle.lq_server_subscription.specs.Laws.{BooksExtendOn, StatesStay}
 use Rattle.lq_server_subscription.specs.Rule.{query_of, mark_in}
-use Rattle.lq_server_subscription.specs.Reading.{known, received, mark_read}
+use Rattle.lq_server_subscription.specs.Reading.{known, mark_read}
 use Rattle.lq_server_slots.specs.Opening.{IdentityFits, asks_after}
 use Rattle.lq_server.specs.declared.server.Synced.{Synced}
 use Rattle.lq_server.specs.declared.server.Retired.{Retired}
@@ -25,27 +23,12 @@ use Rattle.lq_server.specs.Opened.{IsNewReader}
 use Rattle.lq_server.specs.Syncing.{IsSynced}
 use Rattle.lq_server.specs.Headline.{ReaderIsTold}
 use Rattle.lq_server.specs.Retired.{IsRetired}
-use Rattle.lq_model.specs.Followed.{GoesOn, GoesOut, IsFollowed}
-
--- a book that goes on from one that goes on from the first
-extends_trans : (b c d : Book) → Extends c b → Extends d c → Extends d b
-extends_trans b c d e f = (
-  e.0 ++ f.0,
-  f.1 ∙ (ap (λ (x : Book). grown x f.0) e.1 ∙ ap (λ (cs : List Change). let x : Book =
-      record { start = b.start; changes = cs } in x) (append_assoc b.changes e.0 f.0)),
-)
+use Rattle.lq_model.specs.Followed.{GoesOut, IsFollowed}
 
 -- a book that goes on from another has no fewer changes
 extends_length : (b c : Book) → Extends c b → length b.changes ≤ length c.changes
 extends_length b c e =
     omega (arith, ap (λ (x : Book). length x.changes) e.1, length-append b.changes e.0)
-
--- and leads to the same state at each number of the first
-state_stays : (b c : Book) (n : ℕ) → Extends c b → n - b.start.number ≤ length b.changes
-    → state_at c n ≡ state_at b n
-state_stays b c n e le =
-    ap (λ (x : Book). state_at x n) e.1
-    ∙ ap (after_all b.start) (take-append-le (n - b.start.number) b.changes e.0 le)
 
 -- a mark is there, where the test says so
 some_there : (o : Option Mark) → IsSome o → (k : Mark) × (o ≡ Some k)
@@ -73,7 +56,7 @@ pub record Meets (was now : SeatToken Identity) : Type 0 where
 
 -- from the opening over the reads to the last sync, a meeting of the seats and the end of the
 -- server
-pub followed : UpdatesStay → (q : Query) (board : TableId) (begun : Book) (port backlog : ℕ)
+pub followed : UpdatesStay → BooksExtendOn → StatesStay → (q : Query) (board : TableId) (begun : Book) (port backlog : ℕ)
     (first old new : ReaderHold) (x : Synced) (one two : SeatToken Identity) (z : Retired)
     → IsNewReader first board begun q false port backlog → GoesOut first old → IsSynced old new x
     → ReaderIsTold new
@@ -88,7 +71,8 @@ pub followed : UpdatesStay → (q : Query) (board : TableId) (begun : Book) (por
       synced = x;
       retired = z;
     })
-followed stay q board begun port backlog first old new x one two z o out s told met same r =
+followed stay on states q board begun port backlog first old new x one two z o out s told met same
+  r =
     let name : new.seat.name ≡ first.seat.name =
     ap (λ (t : SeatToken Identity). t.name) s.seat ∙ out.goes.name in
     let query = same_query first.seat.name first new o.own.name
@@ -141,12 +125,12 @@ followed stay q board begun port backlog first old new x one two z o out s told 
       seq = whole.seq;
       entries = told.closed mark read
           ∙ ap (λ (t : State). result_of (query_of f) t)
-          (sym (state_stays b book mark.change knows (omega arith)))
+          (sym (states book b mark.change knows (omega arith)))
           ∙ ap (λ (p : Query). result_of p (state_at book mark.change)) is;
       retired = record {
         book = r.book;
         full = r.full;
-        later = extends_trans book one.book r.book met.later
+        later = on book one.book r.book met.later
             (subst (λ (b : Book). Extends r.book b) (sym same) r.later);
         state = r.state;
         number = r.number;

@@ -7,7 +7,7 @@ use lq_board::Seat;
 use lq_desk_sub::Read;
 use lq_predicate::Predicate;
 use lq_server::{Base, Named, Reader, Retired, Server, Synced, Work, join_over};
-use lq_server_subscription::Identity;
+use lq_server_subscription::{Identity, books_extend_on, states_stay};
 use lq_update::updates_stay;
 use lq_value::Refusal;
 use lq_volume::Change;
@@ -47,6 +47,8 @@ pub fn follow<N: Named + Send + Sync, R: Threads + Wait + Sync>(
     let mut reader = reader?;
     let mut seat = seat?;
     updates_stay();
+    books_extend_on();
+    states_stay();
     let synced = server.sync(rt, &mut reader);
     reader.headline();
     server.meet(rt, reader.seat(), &mut seat);
