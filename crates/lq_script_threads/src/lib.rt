@@ -9,10 +9,12 @@ mod batch;
 mod carrier;
 mod gate;
 mod held;
+mod jobs;
 mod lines;
 mod places;
 mod session;
 mod threads;
+mod workers;
 
 pub use gate::{Gate, OpenGate};
 pub use threads::run_threads;
