@@ -1,8 +1,8 @@
-//! Reads of several slots, each slot's in a thread of its own.
+//! Reads of several slots, side by side.
 use crate::gate::Gate;
 use crate::held::Held;
-use crate::jobs::Work;
 use crate::places::Places;
+use crate::tasks::Task;
 use crate::workers::Workers;
 use lq_script_reply::{Response, put_reply};
 use lq_server::{Named, Server};
@@ -23,13 +23,13 @@ pub struct Turn<'a, N: Named, G> {
     told: usize,
 }
 
-impl<'a, N: Named, G: Gate> Work for Turn<'a, N, G> {
+impl<'a, N: Named, G: Gate> Task for Turn<'a, N, G> {
     fn slot(&self) -> u64 {
         self.slot
     }
 
     // Each read in order. It ends before the reads do where memory was wanting.
-    fn work<R: Wait>(&mut self, rt: &R) {
+    fn run<R: Wait>(&mut self, rt: &R) {
         for _ in 0..self.reads {
             self.gate.pass(rt, self.slot);
             let Ok(reply) = self.held.read(rt, self.server) else {
@@ -56,8 +56,8 @@ impl<'a, N: Named, G> Turn<'a, N, G> {
 
 /// Puts the replies to reads of these slots behind `out`, in their order.
 ///
-/// Each slot that has a reader has a thread of its own, which carries out that slot's reads in
-/// order; a read of another slot is refused `NotOpen`. Refused: `NoMemory`, and then a part of the
+/// The reads of a slot that has a reader are carried out in order, and beside those of each other
+/// slot (`Workers::do_all`); a read of another slot is refused `NotOpen`. Refused: `NoMemory`, and then a part of the
 /// replies may stand behind `out`, and readers may be lost.
 pub fn read_beside<
     's,

@@ -78,9 +78,9 @@ impl<
         }
     }
 
-    /// Ends the threads of the session.
-    pub fn end(&mut self) {
-        self.session.end();
+    /// Ends the threads of all slots; the carrier is then of no more use.
+    pub fn end_threads(&mut self) {
+        self.session.end_threads();
     }
 
     /// What a run that met a fault answers: after one that isn't the writer's the replies that wait

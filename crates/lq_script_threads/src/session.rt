@@ -26,13 +26,13 @@ pub struct Session<'s, E: 's, N: Named, R, G> {
     workers: Workers<'s, E, R, Turn<'s, N, G>>,
 }
 
-impl<
+impl<'s, E: 's, N: Named + Send + Sync + 's, R: Threads + Wait + Sync, G: Gate + Sync + 's> Session<
     's,
-    E: 's,
-    N: Named + Send + Sync + 's,
-    R: Threads + Wait + Sync,
-    G: Gate + Sync + 's,
-> Session<'s, E, N, R, G> {
+    E,
+    N,
+    R,
+    G,
+> {
     /// A session at a server, with no readers. Refused: `NoSeat`, `NoMemory`.
     pub fn new(
         rt: &'s R,
@@ -70,9 +70,9 @@ impl<
         )
     }
 
-    /// Ends all threads of slots. It reads no more.
-    pub fn end(&mut self) {
-        self.workers.dismiss_all();
+    /// Ends the threads of all slots; the session is then of no more use.
+    pub fn end_threads(&mut self) {
+        self.workers.end_all();
     }
 
     /// What a question is answered that is no read. Refused as that is; after `NoMemory` the
@@ -122,7 +122,7 @@ impl<
     fn finish(&mut self, slot: u64) -> Result<Response, Refusal> {
         match self.places.take(slot)?.finish(self.rt, self.server) {
             Ok(()) => {
-                self.workers.dismiss(slot);
+                self.workers.end(slot)?;
                 Ok(Response::Reply {
                     slot,
                     reply: Reply::Finished,

@@ -33,13 +33,21 @@ pub fn run_threads<T: Threads + Wait + Sync, R: Source, W: Sink, G: Gate + Sync>
 }
 
 // Carries out a script at a server over a base.
-fn serve<N: Named + Send + Sync, T: Threads + Wait + Sync, R: Source, W: Sink, G: Gate + Sync>(
-    rt: &T,
+fn serve<
+    'x,
+    'y,
+    N: Named + Send + Sync,
+    T: Threads + Wait + Sync,
+    R: Source,
+    W: Sink,
+    G: Gate + Sync,
+>(
+    rt: &'y T,
     alloc: Global,
     base: Base,
-    reader: &mut R,
-    writer: &mut W,
-    gate: &G,
+    reader: &'x mut R,
+    writer: &'x mut W,
+    gate: &'y G,
 ) -> Result<(), RunFault>
     requires board { base ≡ N.board }
 {
@@ -73,7 +81,7 @@ fn serve_in<
     };
     let mut carrier = Carrier::new(alloc, session, writer);
     let ran = carry_all(rt, alloc, reader, &mut carrier);
-    carrier.end();
+    carrier.end_threads();
     ran
 }
 

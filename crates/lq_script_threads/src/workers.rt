@@ -1,122 +1,148 @@
 //! The threads of the slots, which stay over batches.
-use crate::jobs::{Jobs, Work};
+use crate::tasks::{Task, Tasks};
 use lq_desk::SLOTS;
 use std::alloc::{AllocError, Global};
+use std::hint::spin_loop;
+use std::sync::atomic::{AtomicU64, Ordering};
 use std::sync::{Arc, Condvar, Mutex, Wait};
 use std::thread::{Scope, Threads};
 
-/// What the threads of a run share: what is asked of them under a lock, and what wakes them.
+/// How often the threads that are at work are looked at before the caller's sleeps: for some five
+/// microseconds, since a task is mostly shorter.
+const LOOKS: u32 = 100;
+
+/// What all threads of a run share. A thread sleeps on the condition of its slot.
 #[derive(Drop)]
-pub struct Crew<W: Drop> {
-    jobs: Mutex<Jobs<W>>,
-    bells: Vec<Condvar>,
-    all_done: Condvar,
+struct Shared<T: Drop> {
+    tasks: Mutex<Tasks<T>>,
+    // The tasks that threads have begun and not done. It changes under the lock.
+    begun: AtomicU64,
+    of_slots: Vec<Condvar>,
+    of_caller: Condvar,
 }
 
-impl<W: Work + Drop> Crew<W> {
-    /// Nothing is asked. Refused: no memory.
-    pub fn new(alloc: Global) -> Result<Crew<W>, AllocError> {
-        let mut bells = Vec::with_capacity(alloc, SLOTS)?;
+impl<T: Task + Drop> Shared<T> {
+    // No tasks. Refused: no memory.
+    fn new(alloc: Global) -> Result<Shared<T>, AllocError> {
+        let mut of_slots = Vec::with_capacity(alloc, SLOTS)?;
         for _ in 0..SLOTS {
-            bells.push(Condvar::new())?;
+            of_slots.push(Condvar::new())?;
         }
-        let ended = Vec::with_capacity(alloc, SLOTS)?;
-        Ok(Crew {
-            jobs: Mutex::new(Jobs::new(Vec::new(alloc), Vec::new(alloc), ended)),
-            bells,
-            all_done: Condvar::new(),
+        let ending = Vec::with_capacity(alloc, SLOTS)?;
+        Ok(Shared {
+            tasks: Mutex::new(Tasks::new(Vec::new(alloc), Vec::new(alloc), ending)),
+            begun: AtomicU64::new(0),
+            of_slots,
+            of_caller: Condvar::new(),
         })
     }
 
-    /// Ends all threads.
-    pub fn dismiss_all<R: Wait>(&self, rt: &R) {
-        let mut jobs = self.jobs.lock(rt);
-        jobs.dismiss_all();
-        drop(jobs);
-        for bell in &self.bells {
-            bell.notify_all();
+    // Asks for these tasks, and wakes one thread. `done` is empty and has room for them.
+    fn ask<R: Wait>(&self, rt: &R, waiting: Vec<T>, done: Vec<T>) {
+        let mut tasks = self.tasks.lock(rt);
+        tasks.ask(waiting, done);
+        let woken = tasks.wake();
+        drop(tasks);
+        self.wake(woken);
+    }
+
+    // A task that nobody has begun, for the caller's thread; it wakes a thread where more wait.
+    fn take_back<R: Wait>(&self, rt: &R) -> Option<T> {
+        let mut tasks = self.tasks.lock(rt);
+        let task = tasks.take_back();
+        let woken = tasks.wake();
+        drop(tasks);
+        self.wake(woken);
+        task
+    }
+
+    // Waits until the threads have done all that they began, and puts those tasks behind these.
+    fn wait_for_all<R: Wait>(&self, rt: &R, done: &mut Vec<T>) {
+        for _ in 0..LOOKS {
+            if self.is_done() {
+                break;
+            }
+            spin_loop();
         }
-    }
-
-    // Asks for these works, and wakes a thread.
-    fn ask<R: Wait>(&self, rt: &R, asked: Vec<W>, done: Vec<W>) {
-        let mut jobs = self.jobs.lock(rt);
-        jobs.ask(asked, done);
-        let woken = jobs.wake();
-        drop(jobs);
-        self.ring(woken);
-    }
-
-    // Takes a work that no thread has begun, and wakes a thread where more wait.
-    fn take_back<R: Wait>(&self, rt: &R) -> Option<W> {
-        let mut jobs = self.jobs.lock(rt);
-        let work = jobs.take_back();
-        let woken = jobs.wake();
-        drop(jobs);
-        self.ring(woken);
-        work
-    }
-
-    // Waits until each work that was begun is done, and puts them behind these.
-    fn wait_for_all<R: Wait>(&self, rt: &R, works: &mut Vec<W>) {
-        let mut jobs = self.jobs.lock(rt);
+        let mut tasks = self.tasks.lock(rt);
         for _ in rt.forever() {
-            if jobs.is_done() {
-                jobs.give_back(works);
+            if self.is_done() {
+                tasks.give_back(done);
                 return;
             }
-            jobs = self.all_done.wait(rt, jobs);
+            tasks = self.of_caller.wait(rt, tasks);
         }
         unreachable!()
     }
 
-    // Ends a thread of a slot.
-    fn dismiss<R: Wait>(&self, rt: &R, slot: u64) {
-        let mut jobs = self.jobs.lock(rt);
-        jobs.dismiss(slot);
-        drop(jobs);
-        self.ring(Some(slot));
+    fn is_done(&self) -> bool {
+        self.begun.load(Ordering::SeqCst) == 0
     }
 
-    // The next work of a slot, which its thread waits for; `None` where it is to end. A thread that
-    // comes wakes the next one whose work waits, so that one wakes another while more wait.
-    fn next<R: Wait>(&self, rt: &R, slot: u64) -> Option<W> {
-        let bell = self.bells.get(index_of(slot))?;
-        let mut jobs = self.jobs.lock(rt);
+    // The next task of a slot, for its thread, which waits for it; `None` where it is to end. A thread
+    // wakes the next one before it begins, so that no task waits for another to be done.
+    fn next<R: Wait>(&self, rt: &R, slot: u64) -> Option<T> {
+        let condition = self.of_slots.get(index_of(slot))?;
+        let mut tasks = self.tasks.lock(rt);
         for _ in rt.forever() {
-            jobs.come(slot);
-            let leaves = jobs.leaves(slot);
-            let work = if leaves { None } else { jobs.begin(slot) };
-            let woken = jobs.wake();
-            if leaves || work.is_some() || woken.is_some() {
-                drop(jobs);
-                self.ring(woken);
-                if leaves || work.is_some() {
-                    return work;
-                }
-                jobs = self.jobs.lock(rt);
+            tasks.look(slot);
+            let ends = tasks.ends(slot);
+            let task = if ends { None } else { tasks.begin(slot) };
+            if task.is_some() {
+                self.begun.fetch_add(1, Ordering::SeqCst);
+            }
+            let woken = tasks.wake();
+            if ends || task.is_some() {
+                drop(tasks);
+                self.wake(woken);
+                return task;
+            }
+            if woken.is_some() {
+                drop(tasks);
+                self.wake(woken);
+                tasks = self.tasks.lock(rt);
             } else {
-                jobs = bell.wait(rt, jobs);
+                tasks = condition.wait(rt, tasks);
             }
         }
         unreachable!()
     }
 
-    // Takes a work that a thread has done.
-    fn end<R: Wait>(&self, rt: &R, work: W) {
-        let mut jobs = self.jobs.lock(rt);
-        let is_last = jobs.end(work);
-        drop(jobs);
-        if is_last {
-            self.all_done.notify_one();
+    // Takes a task that a thread has done.
+    fn finish<R: Wait>(&self, rt: &R, task: T) {
+        let mut tasks = self.tasks.lock(rt);
+        tasks.finish(task);
+        let begun = self.begun.fetch_sub(1, Ordering::SeqCst);
+        drop(tasks);
+        if begun == 1 {
+            self.of_caller.notify_one();
+        }
+    }
+
+    // Ends a thread of a slot. Refused: no memory.
+    fn end<R: Wait>(&self, rt: &R, slot: u64) -> Result<(), AllocError> {
+        let mut tasks = self.tasks.lock(rt);
+        tasks.end(slot)?;
+        drop(tasks);
+        self.wake(Some(slot));
+        Ok(())
+    }
+
+    // Ends all threads.
+    fn end_all<R: Wait>(&self, rt: &R) {
+        let mut tasks = self.tasks.lock(rt);
+        tasks.end_all();
+        drop(tasks);
+        for condition in &self.of_slots {
+            condition.notify_all();
         }
     }
 
     // Wakes the thread of a slot.
-    fn ring(&self, slot: Option<u64>) {
+    fn wake(&self, slot: Option<u64>) {
         if let Some(slot) = slot {
-            if let Some(bell) = self.bells.get(index_of(slot)) {
-                bell.notify_one();
+            if let Some(condition) = self.of_slots.get(index_of(slot)) {
+                condition.notify_one();
             }
         }
     }
@@ -126,95 +152,98 @@ fn index_of(slot: u64) -> usize {
     slot.wrapping_sub(1) as usize
 }
 
-/// The threads that were made, each for a slot.
+/// The threads of a run, at most one for each slot beside those that are to end.
 #[derive(Drop)]
-pub struct Workers<'s, E: 's, R, W: Drop> {
+pub struct Workers<'s, E: 's, R, T: Drop> {
     rt: &'s R,
     alloc: Global,
     scope: &'s Scope<'s, E>,
-    crew: Arc<Crew<W>, Global>,
+    shared: Arc<Shared<T>, Global>,
     // The slots that have a thread.
     slots: Vec<u64>,
 }
 
-impl<'s, E: 's, R: Threads + Wait + Sync, W: Work + Send + Drop + 's> Workers<'s, E, R, W> {
+impl<'s, E: 's, R: Threads + Wait + Sync, T: Task + Send + Drop + 's> Workers<'s, E, R, T> {
     /// No threads. Refused: no memory.
     pub fn new(
         rt: &'s R,
         alloc: Global,
         scope: &'s Scope<'s, E>,
-    ) -> Result<Workers<'s, E, R, W>, AllocError> {
-        let crew = Arc::new(alloc, Crew::new(alloc)?)?;
+    ) -> Result<Workers<'s, E, R, T>, AllocError> {
+        let shared = Arc::new(alloc, Shared::new(alloc)?)?;
         Ok(Workers {
             rt,
             alloc,
             scope,
-            crew,
+            shared,
             slots: Vec::new(alloc),
         })
     }
 
-    /// Does all of the works side by side, each in the thread of its slot or in this one: the first,
-    /// those whose thread can't be made, and those that no thread has come to. In any order they
-    /// come back. Refused: no memory, and then works may be lost.
-    pub fn do_all(&mut self, works: Vec<W>) -> Result<Vec<W>, AllocError> {
-        let count = works.len();
+    /// Does the tasks of a batch, one of each slot, side by side, and gives them back in any order.
+    ///
+    /// This thread does the first, each whose thread can't be made, and then each that its thread has
+    /// not begun: so none waits for a thread to wake, and where one takes long the others go on.
+    /// Refused: no memory, and then tasks may be lost.
+    pub fn do_all(&mut self, batch: Vec<T>) -> Result<Vec<T>, AllocError> {
+        let count = batch.len();
         let mut own = Vec::with_capacity(self.alloc, count)?;
-        let mut asked = Vec::with_capacity(self.alloc, count)?;
-        for work in works {
-            if own.is_empty() || !self.has_thread(work.slot())? {
-                own.push(work)?;
+        let mut waiting = Vec::with_capacity(self.alloc, count)?;
+        for task in batch {
+            if own.is_empty() || !self.has_thread(task.slot())? {
+                own.push(task)?;
             } else {
-                asked.push(work)?;
+                waiting.push(task)?;
             }
         }
-        if asked.is_empty() {
-            do_each(self.rt, &mut own);
+        if waiting.is_empty() {
+            run_each(self.rt, &mut own);
             return Ok(own);
         }
-        self.crew
-            .ask(self.rt, asked, Vec::with_capacity(self.alloc, count)?);
-        do_each(self.rt, &mut own);
+        let done = Vec::with_capacity(self.alloc, count)?;
+        self.shared.ask(self.rt, waiting, done);
+        run_each(self.rt, &mut own);
         for _ in 0..count {
-            let Some(mut work) = self.crew.take_back(self.rt) else {
+            let Some(mut task) = self.shared.take_back(self.rt) else {
                 break;
             };
-            work.work(self.rt);
-            own.push(work)?;
+            task.run(self.rt);
+            own.push(task)?;
         }
-        self.crew.wait_for_all(self.rt, &mut own);
+        self.shared.wait_for_all(self.rt, &mut own);
         if own.len() < count {
             return Err(AllocError);
         }
         Ok(own)
     }
 
-    /// Ends the thread of a slot, where it has one.
-    pub fn dismiss(&mut self, slot: u64) {
-        if let Some(index) = self.slots.iter().position(|other| *other == slot) {
-            if index < self.slots.len() {
+    /// Ends the thread of a slot, where it has one. Refused: no memory.
+    pub fn end(&mut self, slot: u64) -> Result<(), AllocError> {
+        match self.slots.iter().position(|other| *other == slot) {
+            Some(index) if index < self.slots.len() => {
                 self.slots.swap_remove(index);
-                self.crew.dismiss(self.rt, slot);
+                self.shared.end(self.rt, slot)
             }
+            _ => Ok(()),
         }
     }
 
-    /// Ends all threads.
-    pub fn dismiss_all(&mut self) {
-        self.crew.dismiss_all(self.rt);
+    /// Ends all threads. The scope waits for them.
+    pub fn end_all(&mut self) {
+        self.shared.end_all(self.rt);
     }
 
-    // Whether a slot has a thread, which is made where it has none.
+    // Whether a slot has a thread, which is made where there is none. Refused: no memory.
     fn has_thread(&mut self, slot: u64) -> Result<bool, AllocError> {
         if self.slots.contains(&slot) {
             return Ok(true);
         }
         self.slots.reserve(1)?;
         let rt = self.rt;
-        let crew = Arc::try_clone(&self.crew)?;
+        let shared = Arc::try_clone(&self.shared)?;
         if self
             .scope
-            .spawn(move || serve_slot(rt, &*crew, slot))
+            .spawn(move || serve_slot(rt, &*shared, slot))
             .is_err()
         {
             return Ok(false);
@@ -224,20 +253,20 @@ impl<'s, E: 's, R: Threads + Wait + Sync, W: Work + Send + Drop + 's> Workers<'s
     }
 }
 
-fn do_each<W: Work, R: Wait>(rt: &R, works: &mut [W]) {
-    for work in works {
-        work.work(rt);
+fn run_each<T: Task, R: Wait>(rt: &R, tasks: &mut [T]) {
+    for task in tasks {
+        task.run(rt);
     }
 }
 
-// Does each work of a slot.
-fn serve_slot<W: Work + Drop, R: Wait>(rt: &R, crew: &Crew<W>, slot: u64) {
+// Does each task of a slot, in its thread, until that is to end.
+fn serve_slot<T: Task + Drop, R: Wait>(rt: &R, shared: &Shared<T>, slot: u64) {
     for _ in rt.forever() {
-        let Some(mut work) = crew.next(rt, slot) else {
+        let Some(mut task) = shared.next(rt, slot) else {
             return;
         };
-        work.work(rt);
-        crew.end(rt, work);
+        task.run(rt);
+        shared.finish(rt, task);
     }
     unreachable!()
 }
