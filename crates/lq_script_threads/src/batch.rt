@@ -57,8 +57,8 @@ impl<'a, N: Named, G> Turn<'a, N, G> {
 /// Puts the replies to reads of these slots behind `out`, in their order.
 ///
 /// The reads of a slot that has a reader are carried out in order, and beside those of each other
-/// slot (`Workers::do_all`); a read of another slot is refused `NotOpen`. Refused: `NoMemory`, and then a part of the
-/// replies may stand behind `out`, and readers may be lost.
+/// slot (`Workers::do_all`); a read of another slot is refused `NotOpen`. Refused: `NoMemory`, and
+/// then a part of the replies may stand behind `out`, and readers may be lost.
 pub fn read_beside<
     's,
     E: 's,

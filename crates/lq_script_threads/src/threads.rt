@@ -33,28 +33,31 @@ pub fn run_threads<T: Threads + Wait + Sync, R: Source, W: Sink, G: Gate + Sync>
 }
 
 // Carries out a script at a server over a base.
-fn serve<
-    'x,
-    'y,
-    N: Named + Send + Sync,
-    T: Threads + Wait + Sync,
-    R: Source,
-    W: Sink,
-    G: Gate + Sync,
->(
-    rt: &'y T,
+fn serve<N: Named + Send + Sync, T: Threads + Wait + Sync, R: Source, W: Sink, G: Gate + Sync>(
+    rt: &T,
     alloc: Global,
     base: Base,
-    reader: &'x mut R,
-    writer: &'x mut W,
-    gate: &'y G,
+    reader: &mut R,
+    writer: &mut W,
+    gate: &G,
 ) -> Result<(), RunFault>
     requires board { base ≡ N.board }
 {
     let server: Server<N> = Server::new(base);
-    let shared = &server;
+    serve_over(rt, alloc, &server, reader, writer, gate)
+}
+
+// Carries out a script at a server. Each of its threads has ended when it answers.
+fn serve_over<N: Named + Send + Sync, T: Threads + Wait + Sync, R: Source, W: Sink, G: Gate + Sync>(
+    rt: &T,
+    alloc: Global,
+    server: &Server<N>,
+    reader: &mut R,
+    writer: &mut W,
+    gate: &G,
+) -> Result<(), RunFault> {
     thread::scope(thread::scope_env(), rt, |scope| {
-        serve_in(rt, alloc, scope, shared, reader, writer, gate)
+        serve_in(rt, alloc, scope, server, reader, writer, gate)
     })
 }
 

@@ -7,8 +7,8 @@ use std::sync::atomic::{AtomicU64, Ordering};
 use std::sync::{Arc, Condvar, Mutex, Wait};
 use std::thread::{Scope, Threads};
 
-/// How often the threads that are at work are looked at before the caller's sleeps: for some five
-/// microseconds, since a task is mostly shorter.
+/// How often the caller's thread looks whether the others are done before it sleeps. That takes some
+/// five microseconds, longer than most tasks.
 const LOOKS: u32 = 100;
 
 /// What all threads of a run share. A thread sleeps on the condition of its slot.
@@ -163,7 +163,7 @@ pub struct Workers<'s, E: 's, R, T: Drop> {
     slots: Vec<u64>,
 }
 
-impl<'s, E: 's, R: Threads + Wait + Sync, T: Task + Send + Drop + 's> Workers<'s, E, R, T> {
+impl<'s, E: 's, R: Wait, T: Task + Drop> Workers<'s, E, R, T> {
     /// No threads. Refused: no memory.
     pub fn new(
         rt: &'s R,
@@ -180,6 +180,24 @@ impl<'s, E: 's, R: Threads + Wait + Sync, T: Task + Send + Drop + 's> Workers<'s
         })
     }
 
+    /// Ends the thread of a slot, where it has one. Refused: no memory.
+    pub fn end(&mut self, slot: u64) -> Result<(), AllocError> {
+        match self.slots.iter().position(|other| *other == slot) {
+            Some(index) if index < self.slots.len() => {
+                self.slots.swap_remove(index);
+                self.shared.end(self.rt, slot)
+            }
+            _ => Ok(()),
+        }
+    }
+
+    /// Ends all threads. The scope waits for them.
+    pub fn end_all(&mut self) {
+        self.shared.end_all(self.rt);
+    }
+}
+
+impl<'s, E: 's, R: Threads + Wait + Sync, T: Task + Send + Drop + 's> Workers<'s, E, R, T> {
     /// Does the tasks of a batch, one of each slot, side by side, and gives them back in any order.
     ///
     /// This thread does the first, each whose thread can't be made, and then each that its thread has
@@ -215,22 +233,6 @@ impl<'s, E: 's, R: Threads + Wait + Sync, T: Task + Send + Drop + 's> Workers<'s
             return Err(AllocError);
         }
         Ok(own)
-    }
-
-    /// Ends the thread of a slot, where it has one. Refused: no memory.
-    pub fn end(&mut self, slot: u64) -> Result<(), AllocError> {
-        match self.slots.iter().position(|other| *other == slot) {
-            Some(index) if index < self.slots.len() => {
-                self.slots.swap_remove(index);
-                self.shared.end(self.rt, slot)
-            }
-            _ => Ok(()),
-        }
-    }
-
-    /// Ends all threads. The scope waits for them.
-    pub fn end_all(&mut self) {
-        self.shared.end_all(self.rt);
     }
 
     // Whether a slot has a thread, which is made where there is none. Refused: no memory.
