@@ -1,9 +1,11 @@
 /* Refuses one growth of memory, the one whose number REFUSE has, counted from 1, and then makes the
-   file MET: a test tool that is loaded in front of the program's allocator, and no part of it. */
+   file MET; and refuses each thread where NO_THREADS is set: a test tool that is loaded in front of the
+   program's allocator, and no part of it. */
 #define _GNU_SOURCE
 #include <dlfcn.h>
 #include <errno.h>
 #include <fcntl.h>
+#include <pthread.h>
 #include <stdlib.h>
 #include <unistd.h>
 
@@ -50,4 +52,10 @@ int posix_memalign(void **block, size_t step, size_t size) {
     static int (*next)(void **, size_t, size_t);
     if (!next) next = dlsym(RTLD_NEXT, "posix_memalign");
     return is_refused() ? ENOMEM : next(block, step, size);
+}
+
+int pthread_create(pthread_t *thread, const pthread_attr_t *how, void *(*work)(void *), void *given) {
+    static int (*next)(pthread_t *, const pthread_attr_t *, void *(*)(void *), void *);
+    if (!next) next = dlsym(RTLD_NEXT, "pthread_create");
+    return getenv("NO_THREADS") ? EAGAIN : next(thread, how, work, given);
 }

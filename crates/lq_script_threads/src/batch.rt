@@ -1,17 +1,19 @@
-//! Reads of several slots, each slot's in a thread of its own.
+//! Reads of several slots, side by side.
 use crate::gate::Gate;
 use crate::held::Held;
 use crate::places::Places;
+use crate::tasks::Task;
+use crate::workers::Workers;
 use lq_script_reply::{Response, put_reply};
 use lq_server::{Named, Server};
 use lq_value::Refusal;
 use std::alloc::Global;
 use std::sync::Wait;
-use std::thread::{Threads, for_each_mut};
+use std::thread::Threads;
 
-// The reads of one slot in a batch, and the replies to those that were carried out.
+/// The reads of one slot in a batch, and the replies to those that were carried out.
 #[derive(Drop)]
-struct Turn<'a, N: Named, G> {
+pub struct Turn<'a, N: Named, G> {
     server: &'a Server<N>,
     gate: &'a G,
     held: Held<N>,
@@ -21,14 +23,13 @@ struct Turn<'a, N: Named, G> {
     told: usize,
 }
 
-// What a thread does by itself.
-trait Work {
-    fn work<R: Wait>(&mut self, rt: &R);
-}
+impl<'a, N: Named, G: Gate> Task for Turn<'a, N, G> {
+    fn slot(&self) -> u64 {
+        self.slot
+    }
 
-impl<'a, N: Named, G: Gate> Work for Turn<'a, N, G> {
     // Each read in order. It ends before the reads do where memory was wanting.
-    fn work<R: Wait>(&mut self, rt: &R) {
+    fn run<R: Wait>(&mut self, rt: &R) {
         for _ in 0..self.reads {
             self.gate.pass(rt, self.slot);
             let Ok(reply) = self.held.read(rt, self.server) else {
@@ -53,31 +54,28 @@ impl<'a, N: Named, G> Turn<'a, N, G> {
     }
 }
 
-// Does all of the work, each part in a thread of its own, or in turn where none can be made. One
-// part alone needs no second thread.
-fn work_beside<W: Work + Send, R: Threads + Wait + Sync>(rt: &R, parts: &mut [W]) {
-    let count = parts.len();
-    if count > 0 {
-        for_each_mut(rt, parts, count, &|_, part| part.work(rt));
-    }
-}
-
 /// Puts the replies to reads of these slots behind `out`, in their order.
 ///
-/// Each slot that has a reader has a thread of its own, which carries out that slot's reads in
-/// order; a read of another slot is refused `NotOpen`. Refused: `NoMemory`, and then a part of the
-/// replies may stand behind `out`, and readers may be lost.
-pub fn read_beside<N: Named + Send + Sync, G: Gate + Sync, R: Threads + Wait + Sync>(
-    rt: &R,
+/// The reads of a slot that has a reader are carried out in order, and beside those of each other
+/// slot (`Workers::do_all`); a read of another slot is refused `NotOpen`. Refused: `NoMemory`, and
+/// then a part of the replies may stand behind `out`, and readers may be lost.
+pub fn read_beside<
+    's,
+    E: 's,
+    N: Named + Send + Sync + 's,
+    G: Gate + Sync + 's,
+    R: Threads + Wait + Sync,
+>(
     alloc: Global,
-    server: &Server<N>,
-    gate: &G,
+    server: &'s Server<N>,
+    gate: &'s G,
+    workers: &mut Workers<'s, E, R, Turn<'s, N, G>>,
     places: &mut Places<N>,
     slots: &[u64],
     out: &mut Vec<u8>,
 ) -> Result<(), Refusal> {
-    let mut turns = turns_of(alloc, server, gate, places, slots)?;
-    work_beside(rt, &mut turns);
+    let turns = turns_of(alloc, server, gate, places, slots)?;
+    let mut turns = workers.do_all(turns)?;
     let told = put_replies(&mut turns, slots, out);
     for turn in turns {
         places.put(turn.held);

@@ -22,29 +22,31 @@ const LF: u8 = 10;
 
 /// Carries out the lines that `Lines` gives, and writes the reply to each.
 #[derive(Drop)]
-pub struct Carrier<'a, N: Named, R, G, W> {
+pub struct Carrier<'s, 'w, E: 's, N: Named, R, G, W> {
     alloc: Global,
-    session: Session<'a, N, R, G>,
-    writer: &'a mut W,
+    session: Session<'s, E, N, R, G>,
+    writer: &'w mut W,
     // What the reading of a line takes, kept from line to line.
     scratch: Scratch,
     slots: Vec<u64>,
     replies: Vec<u8>,
 }
 
-impl<'a, N: Named + Send + Sync, R: Threads + Wait + Sync, G: Gate + Sync, W: Sink> Carrier<
-    'a,
-    N,
-    R,
-    G,
-    W,
-> {
+impl<
+    's,
+    'w,
+    E: 's,
+    N: Named + Send + Sync + 's,
+    R: Threads + Wait + Sync,
+    G: Gate + Sync + 's,
+    W: Sink,
+> Carrier<'s, 'w, E, N, R, G, W> {
     /// A carrier of a session's lines, which was given none.
     pub fn new(
         alloc: Global,
-        session: Session<'a, N, R, G>,
-        writer: &'a mut W,
-    ) -> Carrier<'a, N, R, G, W> {
+        session: Session<'s, E, N, R, G>,
+        writer: &'w mut W,
+    ) -> Carrier<'s, 'w, E, N, R, G, W> {
         Carrier {
             alloc,
             session,
@@ -74,6 +76,11 @@ impl<'a, N: Named + Send + Sync, R: Threads + Wait + Sync, G: Gate + Sync, W: Si
             Ok(()) => Ok(()),
             Err(Failed) => Err(RunFault::Write),
         }
+    }
+
+    /// Ends the threads of all slots; the carrier is then of no more use.
+    pub fn end_threads(&mut self) {
+        self.session.end_threads();
     }
 
     /// What a run that met a fault answers: after one that isn't the writer's the replies that wait

@@ -1,8 +1,9 @@
 //! What the lines of a script are answered, by the public calls of a server.
-use crate::batch::read_beside;
+use crate::batch::{Turn, read_beside};
 use crate::gate::Gate;
 use crate::held::Caller;
 use crate::places::Places;
+use crate::workers::Workers;
 use lq_desk::{Event, Reply};
 use lq_predicate::Predicate;
 use lq_script_reply::Response;
@@ -11,29 +12,38 @@ use lq_server::{Named, Server};
 use lq_value::Refusal;
 use std::alloc::Global;
 use std::sync::Wait;
-use std::thread::Threads;
+use std::thread::{Scope, Threads};
 
 /// A seat and the readers at a server, that answer the lines of a script.
 #[derive(Drop)]
-pub struct Session<'a, N: Named, R, G> {
-    rt: &'a R,
+pub struct Session<'s, E: 's, N: Named, R, G> {
+    rt: &'s R,
     alloc: Global,
-    server: &'a Server<N>,
-    gate: &'a G,
+    server: &'s Server<N>,
+    gate: &'s G,
     caller: Caller<N>,
     places: Places<N>,
+    workers: Workers<'s, E, R, Turn<'s, N, G>>,
 }
 
-impl<'a, N: Named + Send + Sync, R: Threads + Wait + Sync, G: Gate + Sync> Session<'a, N, R, G> {
+impl<'s, E: 's, N: Named + Send + Sync + 's, R: Threads + Wait + Sync, G: Gate + Sync + 's> Session<
+    's,
+    E,
+    N,
+    R,
+    G,
+> {
     /// A session at a server, with no readers. Refused: `NoSeat`, `NoMemory`.
     pub fn new(
-        rt: &'a R,
+        rt: &'s R,
         alloc: Global,
-        server: &'a Server<N>,
-        gate: &'a G,
-    ) -> Result<Session<'a, N, R, G>, Refusal> {
+        scope: &'s Scope<'s, E>,
+        server: &'s Server<N>,
+        gate: &'s G,
+    ) -> Result<Session<'s, E, N, R, G>, Refusal> {
         let caller = Caller::new(rt, server)?;
         let places = Places::new(alloc)?;
+        let workers = Workers::new(rt, alloc, scope)?;
         Ok(Session {
             rt,
             alloc,
@@ -41,6 +51,7 @@ impl<'a, N: Named + Send + Sync, R: Threads + Wait + Sync, G: Gate + Sync> Sessi
             gate,
             caller,
             places,
+            workers,
         })
     }
 
@@ -49,14 +60,19 @@ impl<'a, N: Named + Send + Sync, R: Threads + Wait + Sync, G: Gate + Sync> Sessi
     /// stand behind `out`, and the session is of no more use.
     pub fn read(&mut self, slots: &[u64], out: &mut Vec<u8>) -> Result<(), Refusal> {
         read_beside(
-            self.rt,
             self.alloc,
             self.server,
             self.gate,
+            &mut self.workers,
             &mut self.places,
             slots,
             out,
         )
+    }
+
+    /// Ends the threads of all slots; the session is then of no more use.
+    pub fn end_threads(&mut self) {
+        self.workers.end_all();
     }
 
     /// What a question is answered that is no read. Refused as that is; after `NoMemory` the
@@ -105,10 +121,13 @@ impl<'a, N: Named + Send + Sync, R: Threads + Wait + Sync, G: Gate + Sync> Sessi
 
     fn finish(&mut self, slot: u64) -> Result<Response, Refusal> {
         match self.places.take(slot)?.finish(self.rt, self.server) {
-            Ok(()) => Ok(Response::Reply {
-                slot,
-                reply: Reply::Finished,
-            }),
+            Ok(()) => {
+                self.workers.end(slot)?;
+                Ok(Response::Reply {
+                    slot,
+                    reply: Reply::Finished,
+                })
+            }
             Err((held, refusal)) => {
                 self.places.put(held);
                 Err(refusal)

@@ -11,7 +11,8 @@ use lq_volume::{MAX_CHANGES, Volume};
 use std::alloc::Global;
 use std::marker::Brand;
 use std::sync::Wait;
-use std::thread::Threads;
+use std::thread;
+use std::thread::{Scope, Threads};
 
 /// Carries out a script as lq_script_desk's `run` does, its reads in threads.
 pub fn run_threads<T: Threads + Wait + Sync, R: Source, W: Sink, G: Gate + Sync>(
@@ -43,10 +44,66 @@ fn serve<N: Named + Send + Sync, T: Threads + Wait + Sync, R: Source, W: Sink, G
     requires board { base ≡ N.board }
 {
     let server: Server<N> = Server::new(base);
-    let Ok(session) = Session::new(rt, alloc, &server, gate) else {
+    serve_over(rt, alloc, &server, reader, writer, gate)
+}
+
+// Carries out a script at a server. Each of its threads has ended when it answers.
+fn serve_over<N: Named + Send + Sync, T: Threads + Wait + Sync, R: Source, W: Sink, G: Gate + Sync>(
+    rt: &T,
+    alloc: Global,
+    server: &Server<N>,
+    reader: &mut R,
+    writer: &mut W,
+    gate: &G,
+) -> Result<(), RunFault> {
+    thread::scope(thread::scope_env(), rt, |scope| {
+        serve_in(rt, alloc, scope, server, reader, writer, gate)
+    })
+}
+
+// Carries out a script at a server, with threads of this scope.
+fn serve_in<
+    's,
+    E: 's,
+    N: Named + Send + Sync + 's,
+    T: Threads + Wait + Sync,
+    R: Source,
+    W: Sink,
+    G: Gate + Sync + 's,
+>(
+    rt: &'s T,
+    alloc: Global,
+    scope: &'s Scope<'s, E>,
+    server: &'s Server<N>,
+    reader: &mut R,
+    writer: &mut W,
+    gate: &'s G,
+) -> Result<(), RunFault> {
+    let Ok(session) = Session::new(rt, alloc, scope, server, gate) else {
         return Err(out_of_memory(writer));
     };
     let mut carrier = Carrier::new(alloc, session, writer);
+    let ran = carry_all(rt, alloc, reader, &mut carrier);
+    carrier.end_threads();
+    ran
+}
+
+// Carries out all lines of a reader.
+fn carry_all<
+    's,
+    'w,
+    E: 's,
+    N: Named + Send + Sync + 's,
+    T: Threads + Wait + Sync,
+    R: Source,
+    W: Sink,
+    G: Gate + Sync + 's,
+>(
+    rt: &T,
+    alloc: Global,
+    reader: &mut R,
+    carrier: &mut Carrier<'s, 'w, E, N, T, G, W>,
+) -> Result<(), RunFault> {
     let mut lines = Lines::new(alloc);
     for _ in rt.forever() {
         let read = lines.read(reader);

@@ -1,0 +1,113 @@
+//! The tasks of a batch, from one that is asked for to one that is done.
+use std::alloc::AllocError;
+use std::sync::Wait;
+
+/// What the thread of a slot is given, does and gives back.
+pub trait Task {
+    /// The slot whose thread it is for, 1 to 64.
+    fn slot(&self) -> u64;
+
+    /// Does all of it.
+    fn run<R: Wait>(&mut self, rt: &R);
+}
+
+/// The tasks of a batch that nobody has begun, and those that threads have done.
+#[derive(Drop)]
+pub struct Tasks<T: Drop> {
+    waiting: Vec<T>,
+    done: Vec<T>,
+    // The slot whose thread was woken and has not looked yet.
+    woken: Option<u64>,
+    // The slots of which a thread is to end, each as often as threads are.
+    ending: Vec<u64>,
+    is_over: bool,
+}
+
+impl<T: Task + Drop> Tasks<T> {
+    /// No tasks. The lists are empty.
+    pub fn new(waiting: Vec<T>, done: Vec<T>, ending: Vec<u64>) -> Tasks<T> {
+        Tasks {
+            waiting,
+            done,
+            woken: None,
+            ending,
+            is_over: false,
+        }
+    }
+
+    /// Takes the tasks of a batch, and an empty list with room for those that threads do.
+    pub fn ask(&mut self, waiting: Vec<T>, done: Vec<T>) {
+        self.waiting = waiting;
+        self.done = done;
+    }
+
+    /// A task that nobody has begun; `None` where there is none.
+    pub fn take_back(&mut self) -> Option<T> {
+        self.waiting.pop()
+    }
+
+    /// The task of a slot, for its thread; `None` where none waits.
+    pub fn begin(&mut self, slot: u64) -> Option<T> {
+        let index = self.waiting.iter().position(|task| task.slot() == slot)?;
+        if index >= self.waiting.len() {
+            return None;
+        }
+        Some(self.waiting.swap_remove(index))
+    }
+
+    /// Takes a task that a thread has done. It is lost where there is no room for it.
+    pub fn finish(&mut self, task: T) {
+        let _ = self.done.push(task);
+    }
+
+    /// Puts the tasks that threads have done behind these. One is lost where there is no room.
+    pub fn give_back(&mut self, tasks: &mut Vec<T>) {
+        for _ in 0..self.done.len() {
+            if let Some(task) = self.done.pop() {
+                let _ = tasks.push(task);
+            }
+        }
+    }
+
+    /// A thread of this slot looks at the tasks.
+    pub fn look(&mut self, slot: u64) {
+        if self.woken == Some(slot) {
+            self.woken = None;
+        }
+    }
+
+    /// The slot whose thread is to be woken now: one whose task waits, unless a thread that was woken
+    /// has not looked yet. That one then wakes the next.
+    pub fn wake(&mut self) -> Option<u64> {
+        if self.woken.is_some() {
+            return None;
+        }
+        self.woken = self.waiting.first().map(|task| task.slot());
+        self.woken
+    }
+
+    /// A thread of this slot is to end. Refused: no memory.
+    pub fn end(&mut self, slot: u64) -> Result<(), AllocError> {
+        self.ending.push(slot)?;
+        Ok(())
+    }
+
+    /// All threads are to end.
+    pub fn end_all(&mut self) {
+        self.is_over = true;
+    }
+
+    /// Whether the thread of this slot that asks is to end. It has to end then.
+    pub fn ends(&mut self, slot: u64) -> bool {
+        if self.is_over {
+            return true;
+        }
+        match self.ending.iter().position(|other| *other == slot) {
+            Some(index) if index < self.ending.len() => {
+                self.ending.swap_remove(index);
+                true
+            }
+            _ => false,
+        }
+    }
+}

@@ -1,0 +1,274 @@
+//! The threads of the slots, which stay over batches.
+use crate::tasks::{Task, Tasks};
+use lq_desk::SLOTS;
+use std::alloc::{AllocError, Global};
+use std::hint::spin_loop;
+use std::sync::atomic::{AtomicU64, Ordering};
+use std::sync::{Arc, Condvar, Mutex, Wait};
+use std::thread::{Scope, Threads};
+
+/// How often the caller's thread looks whether the others are done before it sleeps. That takes some
+/// five microseconds, longer than most tasks.
+const LOOKS: u32 = 100;
+
+/// What all threads of a run share. A thread sleeps on the condition of its slot.
+#[derive(Drop)]
+struct Shared<T: Drop> {
+    tasks: Mutex<Tasks<T>>,
+    // The tasks that threads have begun and not done. It changes under the lock.
+    begun: AtomicU64,
+    of_slots: Vec<Condvar>,
+    of_caller: Condvar,
+}
+
+impl<T: Task + Drop> Shared<T> {
+    // No tasks. Refused: no memory.
+    fn new(alloc: Global) -> Result<Shared<T>, AllocError> {
+        let mut of_slots = Vec::with_capacity(alloc, SLOTS)?;
+        for _ in 0..SLOTS {
+            of_slots.push(Condvar::new())?;
+        }
+        let ending = Vec::with_capacity(alloc, SLOTS)?;
+        Ok(Shared {
+            tasks: Mutex::new(Tasks::new(Vec::new(alloc), Vec::new(alloc), ending)),
+            begun: AtomicU64::new(0),
+            of_slots,
+            of_caller: Condvar::new(),
+        })
+    }
+
+    // Asks for these tasks, and wakes one thread. `done` is empty and has room for them.
+    fn ask<R: Wait>(&self, rt: &R, waiting: Vec<T>, done: Vec<T>) {
+        let mut tasks = self.tasks.lock(rt);
+        tasks.ask(waiting, done);
+        let woken = tasks.wake();
+        drop(tasks);
+        self.wake(woken);
+    }
+
+    // A task that nobody has begun, for the caller's thread; it wakes a thread where more wait.
+    fn take_back<R: Wait>(&self, rt: &R) -> Option<T> {
+        let mut tasks = self.tasks.lock(rt);
+        let task = tasks.take_back();
+        let woken = tasks.wake();
+        drop(tasks);
+        self.wake(woken);
+        task
+    }
+
+    // Waits until the threads have done all that they began, and puts those tasks behind these.
+    fn wait_for_all<R: Wait>(&self, rt: &R, done: &mut Vec<T>) {
+        for _ in 0..LOOKS {
+            if self.is_done() {
+                break;
+            }
+            spin_loop();
+        }
+        let mut tasks = self.tasks.lock(rt);
+        for _ in rt.forever() {
+            if self.is_done() {
+                tasks.give_back(done);
+                return;
+            }
+            tasks = self.of_caller.wait(rt, tasks);
+        }
+        unreachable!()
+    }
+
+    fn is_done(&self) -> bool {
+        self.begun.load(Ordering::SeqCst) == 0
+    }
+
+    // The next task of a slot, for its thread, which waits for it; `None` where it is to end. A thread
+    // wakes the next one before it begins, so that no task waits for another to be done.
+    fn next<R: Wait>(&self, rt: &R, slot: u64) -> Option<T> {
+        let condition = self.of_slots.get(index_of(slot))?;
+        let mut tasks = self.tasks.lock(rt);
+        for _ in rt.forever() {
+            tasks.look(slot);
+            let ends = tasks.ends(slot);
+            let task = if ends { None } else { tasks.begin(slot) };
+            if task.is_some() {
+                self.begun.fetch_add(1, Ordering::SeqCst);
+            }
+            let woken = tasks.wake();
+            if ends || task.is_some() {
+                drop(tasks);
+                self.wake(woken);
+                return task;
+            }
+            if woken.is_some() {
+                drop(tasks);
+                self.wake(woken);
+                tasks = self.tasks.lock(rt);
+            } else {
+                tasks = condition.wait(rt, tasks);
+            }
+        }
+        unreachable!()
+    }
+
+    // Takes a task that a thread has done.
+    fn finish<R: Wait>(&self, rt: &R, task: T) {
+        let mut tasks = self.tasks.lock(rt);
+        tasks.finish(task);
+        let begun = self.begun.fetch_sub(1, Ordering::SeqCst);
+        drop(tasks);
+        if begun == 1 {
+            self.of_caller.notify_one();
+        }
+    }
+
+    // Ends a thread of a slot. Refused: no memory.
+    fn end<R: Wait>(&self, rt: &R, slot: u64) -> Result<(), AllocError> {
+        let mut tasks = self.tasks.lock(rt);
+        tasks.end(slot)?;
+        drop(tasks);
+        self.wake(Some(slot));
+        Ok(())
+    }
+
+    // Ends all threads.
+    fn end_all<R: Wait>(&self, rt: &R) {
+        let mut tasks = self.tasks.lock(rt);
+        tasks.end_all();
+        drop(tasks);
+        for condition in &self.of_slots {
+            condition.notify_all();
+        }
+    }
+
+    // Wakes the thread of a slot.
+    fn wake(&self, slot: Option<u64>) {
+        if let Some(slot) = slot {
+            if let Some(condition) = self.of_slots.get(index_of(slot)) {
+                condition.notify_one();
+            }
+        }
+    }
+}
+
+fn index_of(slot: u64) -> usize {
+    slot.wrapping_sub(1) as usize
+}
+
+/// The threads of a run, at most one for each slot beside those that are to end.
+#[derive(Drop)]
+pub struct Workers<'s, E: 's, R, T: Drop> {
+    rt: &'s R,
+    alloc: Global,
+    scope: &'s Scope<'s, E>,
+    shared: Arc<Shared<T>, Global>,
+    // The slots that have a thread.
+    slots: Vec<u64>,
+}
+
+impl<'s, E: 's, R: Wait, T: Task + Drop> Workers<'s, E, R, T> {
+    /// No threads. Refused: no memory.
+    pub fn new(
+        rt: &'s R,
+        alloc: Global,
+        scope: &'s Scope<'s, E>,
+    ) -> Result<Workers<'s, E, R, T>, AllocError> {
+        let shared = Arc::new(alloc, Shared::new(alloc)?)?;
+        Ok(Workers {
+            rt,
+            alloc,
+            scope,
+            shared,
+            slots: Vec::new(alloc),
+        })
+    }
+
+    /// Ends the thread of a slot, where it has one. Refused: no memory.
+    pub fn end(&mut self, slot: u64) -> Result<(), AllocError> {
+        match self.slots.iter().position(|other| *other == slot) {
+            Some(index) if index < self.slots.len() => {
+                self.slots.swap_remove(index);
+                self.shared.end(self.rt, slot)
+            }
+            _ => Ok(()),
+        }
+    }
+
+    /// Ends all threads. The scope waits for them.
+    pub fn end_all(&mut self) {
+        self.shared.end_all(self.rt);
+    }
+}
+
+impl<'s, E: 's, R: Threads + Wait + Sync, T: Task + Send + Drop + 's> Workers<'s, E, R, T> {
+    /// Does the tasks of a batch, one of each slot, side by side, and gives them back in any order.
+    ///
+    /// This thread does the first, each whose thread can't be made, and then each that its thread has
+    /// not begun: so none waits for a thread to wake, and where one takes long the others go on.
+    /// Refused: no memory, and then tasks may be lost.
+    pub fn do_all(&mut self, batch: Vec<T>) -> Result<Vec<T>, AllocError> {
+        let count = batch.len();
+        let mut own = Vec::with_capacity(self.alloc, count)?;
+        let mut waiting = Vec::with_capacity(self.alloc, count)?;
+        for task in batch {
+            if own.is_empty() || !self.has_thread(task.slot())? {
+                own.push(task)?;
+            } else {
+                waiting.push(task)?;
+            }
+        }
+        if waiting.is_empty() {
+            run_each(self.rt, &mut own);
+            return Ok(own);
+        }
+        let done = Vec::with_capacity(self.alloc, count)?;
+        self.shared.ask(self.rt, waiting, done);
+        run_each(self.rt, &mut own);
+        for _ in 0..count {
+            let Some(mut task) = self.shared.take_back(self.rt) else {
+                break;
+            };
+            task.run(self.rt);
+            own.push(task)?;
+        }
+        self.shared.wait_for_all(self.rt, &mut own);
+        if own.len() < count {
+            return Err(AllocError);
+        }
+        Ok(own)
+    }
+
+    // Whether a slot has a thread, which is made where there is none. Refused: no memory.
+    fn has_thread(&mut self, slot: u64) -> Result<bool, AllocError> {
+        if self.slots.contains(&slot) {
+            return Ok(true);
+        }
+        self.slots.reserve(1)?;
+        let rt = self.rt;
+        let shared = Arc::try_clone(&self.shared)?;
+        if self
+            .scope
+            .spawn(move || serve_slot(rt, &*shared, slot))
+            .is_err()
+        {
+            return Ok(false);
+        }
+        self.slots.push(slot)?;
+        Ok(true)
+    }
+}
+
+fn run_each<T: Task, R: Wait>(rt: &R, tasks: &mut [T]) {
+    for task in tasks {
+        task.run(rt);
+    }
+}
+
+// Does each task of a slot, in its thread, until that is to end.
+fn serve_slot<T: Task + Drop, R: Wait>(rt: &R, shared: &Shared<T>, slot: u64) {
+    for _ in rt.forever() {
+        let Some(mut task) = shared.next(rt, slot) else {
+            return;
+        };
+        task.run(rt);
+        shared.finish(rt, task);
+    }
+    unreachable!()
+}
