@@ -12,8 +12,8 @@ use Rattle.lq_board.specs.Book.{IsFullBook}
 use Rattle.lq_board.specs.Slot.{slot_at}
 
 module _ {M : Type 0} where
-  -- what is so of a seat that came back: its book begins the keeper's, and that of a slot was
-  -- out, under the name that the keeper knew, and had asked at least as often as it knew
+  -- what holds for a seat that came back: its book is a prefix of the keeper's; a slot's seat was
+  -- out under the name that the keeper knew, and had asked at least as often as the keeper knew
   abbrev pub CameBack : Book → Sitting M → Slot M → Type 0
   CameBack book back was =
       Extends book back.book
@@ -32,7 +32,7 @@ module _ {M : Type 0} where
     pub word : slice_index words slot ≡ asks
     pub only : by ≡ owner slot
 
-  -- there is one keeper, and a seat's book begins the keeper's
+  -- there is one keeper, and a seat's book is a prefix of the keeper's
   abbrev pub Fits : ℕ → Book → List (Slot M) → (ℕ → ℕ) → List ℕ → ℕ → View M → Type 0
   Fits id book slots owner words by (Keeper v) =
       (by ≡ id) × (v.book ≡ book) × (v.slots ≡ slots) × CameBack book v.back v.was
@@ -40,7 +40,7 @@ module _ {M : Type 0} where
       Extends book w.book × (0 < w.slot → Sits slots owner words by w.slot w.asks w.name)
   Fits id book slots owner words by Spent = Unit {0}
 
-  -- a slot's word is at least what the keeper knows, and just that with no seat of it out
+  -- a slot's word is at least what the keeper knows, and equals it where no seat of the slot is out
   pub record Agrees (words : List ℕ) (slots : List (Slot M)) : Type 0 where
     pub wide : length words ≡ 65
     pub places : length slots ≡ 65

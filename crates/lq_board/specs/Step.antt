@@ -1,4 +1,4 @@
--- What a step on the words tells.
+-- What a step on the words proves.
 use Rattle.std.specs.Prelude.{◌≡◌, ℕ, ◌+◌, ◌≤◌, false, length, Option, option_to_list}
 use Rattle.atomic_table.specs.Table.{Step, Me}
 use Rattle.lq_volume.specs.declared.change.Change.{Change}
@@ -20,7 +20,7 @@ module _ {M : Type 0} where
       × (found ≡ length book.changes)
       × IsFullBook (grown book (option_to_list change))
 
-  -- the number is that of a book that extends the one that was known
+  -- the number is the length of a book that extends the book known before
   abbrev pub Sees : Step ℕ → Me ℕ (View M) → ℕ → Me ℕ (View M) → Type 0
   Sees s m found n =
       let was = sitting_of m.0 in
@@ -38,7 +38,7 @@ module _ {M : Type 0} where
       × CameBack was.book was.back was.was
       × (found ≡ length was.book.changes)
 
-  -- a slot's seat asked at least as often as was known, and just so often with no seat out
+  -- a slot's seats asked at least as often as was known, and exactly as often where no seat is out
   abbrev pub Counts : Step ℕ → Me ℕ (View M) → ℕ → Me ℕ (View M) → Type 0
   Counts s m found n =
       let was = keeping_of m.0 in

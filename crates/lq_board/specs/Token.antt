@@ -9,13 +9,13 @@ use Rattle.lq_board.specs.declared.views.View.{View}
 use Rattle.lq_board.specs.declared.views.View.TheVariants.{Spent}
 use Rattle.lq_board.specs.View.{keeping_of, sitting_of}
 
--- the keeper of a board: the book of all changes, and what is known of each slot
+-- the keeper of a board: the book of all changes, and what it knows of each slot
 pub record KeeperToken (M : Type 0) : Type 0 where
   pub board : TableId
   pub book : Book
   pub slots : List (Slot M)
 
--- a seat: the book that it knows, its slot or 0, how often it asked, and its name
+-- a seat: the book that it knows, its slot or 0, how often it has asked, and its name
 pub record SeatToken (M : Type 0) : Type 0 where
   pub board : TableId
   pub slot : ℕ
@@ -51,7 +51,7 @@ module _ {M : Type 0} where
         name = (sitting_of me.0).name;
       }
 
-  -- a seat's view of the words, which is away only within a call
+  -- a seat's view of the words, which is absent only within a call
   abbrev pub board_of : Option (Seat ℕ (View M)) → TableId
   board_of (Some token) = token.table_id
   board_of None = no_board

@@ -16,7 +16,7 @@ module _ {M : Type 0} where
   abbrev pub plain : Book → Sitting M
   plain book = record { slot = 0; book = book; asks = 0; name = None }
 
-  -- a keeper, to whom a seat of no slot came back last
+  -- a keeper to which a seat of no slot came back last
   abbrev pub keeping : Book → List (Slot M) → Keeping M
   keeping book slots =
       record { book = book; slots = slots; back = plain book; was = unused }
@@ -38,11 +38,11 @@ module _ {M : Type 0} where
   sitting_of (Seat w) = w
   sitting_of Spent = plain no_book
 
-  -- a seat of no slot is split off
+  -- a seat of no slot, split off the keeper
   abbrev pub copy_of : View M → View M
   copy_of v = Seat (plain (keeping_of v).book)
 
-  -- a slot's seat is split off, under this name: the keeper and the seat
+  -- the keeper and the seat after a slot's seat is split off, under this name
   abbrev pub opened : ℕ → Option M → View M → View M
   opened k name v = keeper (keeping_of v).book (gone_out (keeping_of v).slots k name)
 
@@ -55,7 +55,7 @@ module _ {M : Type 0} where
         name = name;
       })
 
-  -- a seat comes back to the keeper
+  -- the keeper after a seat comes back
   abbrev pub taken : View M → View M → View M
   taken v w =
       let back = sitting_of w in

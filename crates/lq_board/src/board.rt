@@ -15,12 +15,12 @@ use lq_volume::{Change, Volume};
 use std::alloc::Global;
 use std::marker::{Brand, Model};
 
-/// The number of changes, and a word for each of 64 slots.
+/// One word for the number of changes, and one for each of 64 slots.
 const WORDS: usize = 65;
 
-/// The words that stand beside a lock: the number of changes, and how often each slot's seat asked.
+/// The words beside a lock: the number of changes, and how often each slot's seat has asked.
 ///
-/// Its calls take `&self`, so threads share it. Contracts see which board it is.
+/// Its calls take `&self`, so threads can share it. Contracts see which board it is.
 #[derive(Drop)]
 pub struct Board<M> {
     pub(crate) table: Table<u8, View<M>, Volume, Law, Global>,
@@ -52,10 +52,10 @@ impl<M> Board<M> {
         ensures slots { IfOk result (λ made. made.1.slots ≡ unused_slots) }
         ensures full { IfOk result (λ made. IsFullBook made.1.book) }
 
-        // Only memory can be wanting.
+        // `NoMemory` is the only refusal.
         ensures refused { IsRefusedBy result None }
     {
-        // For the proof: it tells that the volume is a tree within its limit.
+        // For the proof: this call says that the volume is a tree within its limit.
         let _ = volume.changes();
         let (table, token) = Table::of_words(alloc, &[0; WORDS], volume)?;
         Ok((Board { table }, Keeper { token }))
@@ -82,7 +82,7 @@ impl<M> Board<M> {
 
     /// The seat of a slot, 1 to 64, under the name that the caller gives for contracts alone.
     ///
-    /// It knows the keeper's book, and how often the slot's seats asked. No other seat of the
+    /// It knows the keeper's book, and how often the slot's seats have asked. No other seat of the
     /// slot may be out. It takes no memory.
     pub fn slot_seat(&self, keeper: &mut Keeper<M>, slot: u64) -> Seat<M>
         ghost name: { M }
@@ -109,10 +109,10 @@ impl<M> Board<M> {
         }
     }
 
-    /// A seat comes back, and the keeper knows how often it asked. It takes no memory.
+    /// Takes a seat back. The keeper then knows how often it has asked. It takes no memory.
     ///
-    /// The keeper's book extends the seat's. A slot's seat was out, under the name that the
-    /// keeper knew, and asked at least as often as it knew.
+    /// The keeper's book extends the seat's. A slot's seat was out under the name that the keeper
+    /// knew, and had asked at least as often as the keeper knew.
     pub fn join(&self, keeper: &mut Keeper<M>, seat: Seat<M>)
         requires board { (keeper.old.board ≡ self.now) × (seat.board ≡ self.now) }
         ensures keeper { keeper.new ≡ record {
@@ -130,10 +130,10 @@ impl<M> Board<M> {
         self.back(keeper, token);
     }
 
-    /// Adds a lawful change to the book, and answers how many it then has. It takes no memory.
+    /// Adds a lawful change to the book, and answers the number of changes that it then has.
     ///
-    /// The state after the book is then that after the change. A lawful change has room: the
-    /// volume takes at most 1,000,000,000,000.
+    /// The state after the new book is the state after the change. A lawful change has room: a
+    /// volume takes at most 1,000,000,000,000 changes. It takes no memory.
     pub fn add(&self, keeper: &mut Keeper<M>, change: &Change) -> u64
         requires board { keeper.old.board ≡ self.now }
         requires lawful { IsLawful (state_of keeper.old.book) change.now }
@@ -149,9 +149,9 @@ impl<M> Board<M> {
         self.add_as::<Brand>(keeper, change)
     }
 
-    /// How often a slot's seats have asked, which the keeper then knows. It takes no memory.
+    /// How often a slot's seats have asked. The keeper then knows it. It takes no memory.
     ///
-    /// It is at least what the keeper knew, and just that where no seat of the slot is out.
+    /// The answer is at least what the keeper knew, and equals it where no seat of the slot is out.
     pub fn asks(&self, keeper: &mut Keeper<M>, slot: u64) -> u64
         requires board { keeper.old.board ≡ self.now }
         requires slot { (0 < slot) × (slot < 65) }
@@ -169,7 +169,7 @@ impl<M> Board<M> {
             .load::<Count>(&mut keeper.token, slot as usize)
     }
 
-    /// The number of changes so far, whose book the seat then knows.
+    /// The number of changes so far. The seat then knows the book of these changes.
     ///
     /// It neither waits nor takes memory.
     pub fn latest(&self, seat: &mut Seat<M>) -> u64
@@ -193,9 +193,10 @@ impl<M> Board<M> {
         number
     }
 
-    /// A slot's seat asks once more, which the keeper sees by `asks`.
+    /// Records that a slot's seat asks once more, which the keeper sees by `asks`.
     ///
-    /// It has asked fewer than 1,000,000,000,000 times before. It neither waits nor takes memory.
+    /// The seat must have asked fewer than 1,000,000,000,000 times before. It neither waits nor
+    /// takes memory.
     pub fn ask(&self, seat: &mut Seat<M>)
         requires board { seat.old.board ≡ self.now }
         requires slot { 0 < seat.old.slot }
@@ -216,7 +217,7 @@ impl<M> Board<M> {
         seat.token = Some(token);
     }
 
-    /// A seat of no slot knows the keeper's book, of as many changes as is answered.
+    /// The number of changes in the keeper's book, which a seat of no slot then knows.
     ///
     /// It takes no memory.
     pub fn meet(&self, keeper: &mut Keeper<M>, seat: &mut Seat<M>) -> u64
@@ -242,11 +243,11 @@ impl<M> Board<M> {
         number
     }
 
-    /// A slot's seat knows the keeper's book, of as many changes as is answered.
+    /// The number of changes in the keeper's book, which a slot's seat then knows.
     ///
-    /// The keeper knows how often it asked, and both have the name that the caller gives for
-    /// contracts alone. The seat was out, under the name that the keeper knew, and asked at
-    /// least as often as it knew. It takes no memory.
+    /// The keeper then knows how often the seat has asked, and both have the name that the caller
+    /// gives for contracts alone. The seat was out under the name that the keeper knew, and had
+    /// asked at least as often as the keeper knew. It takes no memory.
     pub fn meet_slot(&self, keeper: &mut Keeper<M>, seat: &mut Seat<M>) -> u64
         ghost name: { M }
         requires board { (keeper.old.board ≡ self.now) × (seat.old.board ≡ self.now) }
@@ -282,7 +283,7 @@ impl<M> Board<M> {
         number
     }
 
-    /// The number of changes in all, at the end of the board. It takes no memory.
+    /// The number of all changes, at the end of the board. It takes no memory.
     pub fn close_with(self, mut keeper: Keeper<M>, seat: Seat<M>) -> u64
         requires board { (keeper.board ≡ self) × (seat.board ≡ self) }
         ensures number { result ≡ length keeper.book.changes }

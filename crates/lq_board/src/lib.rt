@@ -1,8 +1,8 @@
-//! Words that stand beside a lock: the number of changes, and how often each slot's seat asked.
+//! Atomic words beside a lock: the number of changes, and how often each slot's seat has asked.
 //!
-//! A keeper adds changes, and seats read the number without the lock. A contract sees a token as
-//! a `KeeperToken` or a `SeatToken` (`specs/Token`), each with a lawful book. The rule that ties
-//! them stands in `specs/Rule`. Nothing here waits. Begin with `tokens`, then `board`.
+//! A keeper adds changes, and seats read the number without the lock. A contract sees a token as a
+//! `KeeperToken` or a `SeatToken` (`specs/Token`), each with a lawful book. `specs/Rule` has the
+//! rule that relates the tokens. Nothing here waits. Begin with `tokens`, then `board`.
 #![tactic(auto)]
 
 mod board;

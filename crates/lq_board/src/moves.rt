@@ -1,4 +1,4 @@
-//! The steps of a board's words that several calls share, or that a call picks.
+//! Steps on a board's words that several calls share, or that a call chooses.
 ghost use Rattle.std.specs.Prelude.{◌≡◌, ◌<◌, [], ◌∷◌, length, false, Some};
 ghost use Rattle.lq_volume.specs.Book.{grown, state_of};
 ghost use Rattle.lq_volume.specs.Change.{after, IsLawful};
@@ -14,7 +14,7 @@ use crate::views::View;
 use lq_volume::{Change, accepted_changes_keep_trees};
 
 impl<M> Board<M> {
-    // A seat of no slot is split off.
+    // Splits a seat of no slot off the keeper.
     pub(crate) fn plain_token(&self, keeper: &mut Keeper<M>) -> Token<M>
         requires board { keeper.old.board ≡ self.now }
         ensures board { result.table_id ≡ keeper.old.board }
@@ -25,7 +25,8 @@ impl<M> Board<M> {
         self.table.shared.split_seat::<Plain>(&mut keeper.token)
     }
 
-    // A slot's seat is split off. `slot` is for the proof: the call picks it from there.
+    // Splits a slot's seat off the keeper. `slot` is for the proof: the call takes W's slot from
+    // it.
     pub(crate) fn slot_token<W: Given<M>>(&self, keeper: &mut Keeper<M>, slot: u64) -> Token<M>
         requires board { keeper.old.board ≡ self.now }
         requires given { W.slot ≡ slot }
@@ -52,7 +53,7 @@ impl<M> Board<M> {
         self.table.shared.split_seat::<Open<W>>(&mut keeper.token)
     }
 
-    // A seat comes back. The keeper's look at the number then tells what is so of it.
+    // Takes a seat back. The keeper then reads the number, which proves what holds for that seat.
     pub(crate) fn back(&self, keeper: &mut Keeper<M>, token: Token<M>) -> u64
         requires board { (keeper.old.board ≡ self.now) × (token.table_id ≡ self.now) }
         requires view { token.me ≡ (View.Seat (sitting_of token.me.0), []) }
@@ -72,7 +73,7 @@ impl<M> Board<M> {
         self.table.shared.load::<Check>(&mut keeper.token, 0)
     }
 
-    // A change is added. `change` is for the proof: the call picks it from there.
+    // Adds a change. `change` is for the proof: the call takes W's change from it.
     #[tactic(auto, using(crate::proofs::BookLemmas::state_of_grown))]
     pub(crate) fn add_as<W: Added>(&self, keeper: &mut Keeper<M>, change: &Change) -> u64
         requires board { keeper.old.board ≡ self.now }
@@ -88,7 +89,7 @@ impl<M> Board<M> {
         } }
     {
         let _ = change;
-        // For the proof: a volume that takes the change is one within its limit after it.
+        // For the proof: a volume that takes the change is within its limit after it.
         accepted_changes_keep_trees();
         self.table
             .shared

@@ -1,10 +1,10 @@
-//! The steps on the words, and what each tells. No value of these types is made.
+//! The steps on the words, and what each one proves. No value of these types exists.
 use crate::views::View;
 use atomic_table::{Join, Play, Split};
 use lq_volume::Change;
 use std::marker::{Brand, PhantomData};
 
-/// Which change a step adds. A call picks it.
+/// Which change a step adds. A call chooses it.
 pub trait Added {
     ghost use Rattle.std.specs.Prelude.{Option};
     ghost use Rattle.lq_volume.specs.declared.change.Change.{Change};
@@ -18,7 +18,7 @@ impl Added for Brand {
     ghost change = { None };
 }
 
-/// Which slot's seat a step gives out, and under which name. A call picks them.
+/// Which slot's seat a step gives out, and under which name. A call chooses both.
 pub trait Given<M> {
     ghost use Rattle.std.specs.Prelude.{ℕ, Option};
 
@@ -35,7 +35,7 @@ impl<M> Given<M> for Brand {
     ghost name = { None };
 }
 
-// A change is added.
+// Adds a change.
 pub(crate) struct Add<W> {
     said: PhantomData<W>,
 }
@@ -46,7 +46,7 @@ impl<M, W: Added> Play<u8, View<M>> for Add<W> {
     ghost then = { Adds W.change };
 }
 
-// A seat's look at the number.
+// A seat reads the number.
 pub(crate) struct See;
 
 impl<M> Play<u8, View<M>> for See {
@@ -55,7 +55,7 @@ impl<M> Play<u8, View<M>> for See {
     ghost then = { Sees };
 }
 
-// The keeper's look at the number and at what came back.
+// The keeper reads the number and checks the seat that came back.
 pub(crate) struct Check;
 
 impl<M> Play<u8, View<M>> for Check {
@@ -64,7 +64,7 @@ impl<M> Play<u8, View<M>> for Check {
     ghost then = { Checks };
 }
 
-// The keeper's look at a slot's word.
+// The keeper reads a slot's word.
 pub(crate) struct Count;
 
 impl<M> Play<u8, View<M>> for Count {
@@ -82,7 +82,7 @@ impl<M> Play<u8, View<M>> for Ask {
     ghost then = { Asks };
 }
 
-// A new seat of no slot.
+// Makes a new seat of no slot.
 pub(crate) struct Plain;
 
 impl<M> Split<View<M>> for Plain {
@@ -93,7 +93,7 @@ impl<M> Split<View<M>> for Plain {
     ghost right = { copy_of };
 }
 
-// A new seat of a slot.
+// Makes a new seat of a slot.
 pub(crate) struct Open<W> {
     said: PhantomData<W>,
 }
@@ -106,7 +106,7 @@ impl<M, W: Given<M>> Split<View<M>> for Open<W> {
     ghost right = { seated W.slot W.name };
 }
 
-// A seat comes back to the keeper.
+// Joins a seat to the keeper.
 pub(crate) struct Back;
 
 impl<M> Join<View<M>> for Back {

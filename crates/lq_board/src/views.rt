@@ -1,4 +1,4 @@
-//! What a token knows, and the rule of the words. No value of these types is made.
+//! What a token knows, and the rule of the words. No value of these types exists.
 use atomic_table::TableRule;
 use lq_volume::{Change, Volume};
 use std::collections::LinkedList;
@@ -20,15 +20,15 @@ impl Model for Pages {
 
 /// What the keeper knows of a slot, where `M` is the type of the names that contracts give.
 ///
-/// `out` says whether its seat is out, `asks` how often that asked at least, and `name` is the
-/// name that the latest seat went out with. The form is our own.
+/// `out` says whether the slot's seat is out. `asks` is a lower bound on how often its seats have
+/// asked. `name` is the name that the latest seat went out with. The form is our own.
 pub struct Slot<M> {
     pub out: bool,
     pub asks: u64,
     pub name: Option<M>,
 }
 
-/// What a seat knows. One of no slot has slot 0.
+/// What a seat knows. A seat of no slot has slot 0.
 pub struct Sitting<M> {
     pub slot: u64,
     pub book: Pages,
@@ -36,7 +36,7 @@ pub struct Sitting<M> {
     pub name: Option<M>,
 }
 
-/// What the keeper knows. `back` is the seat that came back last, `was` its slot before that.
+/// What the keeper knows. `back` is the latest seat that came back, `was` its slot before that.
 pub struct Keeping<M> {
     pub book: Pages,
     pub slots: LinkedList<Slot<M>>,
@@ -51,7 +51,7 @@ pub enum View<M> {
     Spent,
 }
 
-/// The rule of a board's words. They are made for a volume.
+/// The rule of a board's words. The words are made for a volume.
 pub struct Law;
 
 impl<M> TableRule<u8, View<M>, Volume> for Law {

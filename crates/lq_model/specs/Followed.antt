@@ -1,4 +1,4 @@
--- What is left where a query was followed.
+-- What is left after a query was followed.
 use Rattle.std.specs.Prelude.{◌≡◌, ◌+◌, ◌≤◌, true, false, length, Some, IsSome}
 use Rattle.lq_predicate_formula.specs.Query.{Query}
 use Rattle.lq_volume.specs.Book.{Book, Extends, state_at}
@@ -19,35 +19,35 @@ pub record GoesOn (old new : ReaderHold) : Type 0 where
   pub board : new.seat.board ≡ old.seat.board
   pub name : new.seat.name ≡ old.seat.name
 
--- that asked for its end, and has read its mark
+-- it has also asked for its end, and has read its mark
 pub record GoesOut (old new : ReaderHold) : Type 0 where
   pub goes : GoesOn old new
   pub asked : new.hang_up_asked ≡ true
   pub marked : IsSome (mark_read new.reading)
 
--- The headline for the reader that is left, and the volume after the changes that it was told.
+-- The headline for the reader that is left, and the volume after the changes.
 pub record IsFollowed (q : Query) (f : Followed) : Type 0 where
-  -- its seat is its own, it is of this query, and it asked for its end
+  -- its seat is its own, it reads this query, and it asked for its end
   pub own : IsOwn f.reader
   pub query : query_of f.reader.reading.port.floor ≡ q
   pub moved : f.reader.reading.port.floor.moved ≡ false
   pub asked : f.reader.hang_up_asked ≡ true
-  -- there is one lawful book of changes, which goes on from what the reader knows
+  -- there is one lawful book of changes, which extends the book that the reader knows
   pub book : Book
   pub lawful : IsFullBook book
   pub number : f.synced.change ≡ length book.changes
   pub knows : Extends book (known f.reader.reading)
-  -- its mark was read, and is that which the last sync answered
+  -- it has read its mark, which is the mark that the last sync answered
   pub mark : Mark
   pub read : mark_read f.reader.reading ≡ Some mark
   pub synced : f.synced.mark ≡ Some mark
   pub opened : f.reader.reading.port.floor.opened ≤ mark.change
   pub within : mark.change ≤ length book.changes
-  -- what it has received is the query's whole update list over the book, up to that mark
+  -- it has received the query's whole update list over the book, up to that mark
   pub all : received f.reader.reading
       ≡ updates_of q false book f.reader.reading.port.floor.opened mark.change
   pub seq : mark.seq ≡ length (received f.reader.reading) + 1
   -- its entries are the query's result after the mark's change
   pub entries : f.reader.reading.result.entries ≡ result_of q (state_at book mark.change)
-  -- and the volume is the state after the book and what was added later
+  -- the volume is the state after the book and the changes added later
   pub retired : IsRetired book f.retired.volume f.retired.changes

@@ -1,8 +1,9 @@
 //! A model of how a program uses the server, from its beginning to its end.
 //!
-//! Its contract says what is left (`specs/Followed`): one book of changes, of which the reader has
-//! received its query's whole update list up to its mark, the result after that, and the volume
-//! after the book. Calls may wait. Begin with `follow`.
+//! Its contract says what is left at the end (`specs/Followed`). There is one book of changes: the
+//! reader has received its query's whole update list up to its mark, it has the result after that,
+//! and the volume is the state after the book or one that extends it. Calls may wait. Begin with
+//! `follow`.
 #![tactic(auto)]
 
 mod model;

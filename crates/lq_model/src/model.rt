@@ -1,4 +1,4 @@
-//! A server from its beginning to its end: one thread makes changes, another reads what they tell.
+//! A server from its beginning to its end: one thread makes changes, another reads the updates.
 ghost use Rattle.std.specs.Prelude.{◌≡◌, IfOk};
 ghost use Rattle.lq_server.specs.Own.{IsOwn};
 ghost use Rattle.lq_model.specs.Followed.{GoesOut, IsFollowed};
@@ -14,7 +14,7 @@ use lq_volume::Change;
 use std::sync::Wait;
 use std::thread::Threads;
 
-/// What is left where a query was followed: its reader, how far it is, and the volume.
+/// What is left after a query was followed: its reader, its progress, and what the server left.
 #[derive(Drop)]
 pub struct Followed {
     pub reader: Reader,
@@ -22,13 +22,12 @@ pub struct Followed {
     pub retired: Retired,
 }
 
-/// Makes changes at a new server in one thread, and reads what they tell a query in another.
+/// Makes changes at a new server in one thread, and reads a query's updates in another.
 ///
-/// The reader reads that many times, hangs up, and goes on to its mark. There is one book of
-/// changes: what it has received is the query's whole update list over the book up to its mark,
-/// its entries are the query's result after the mark's change, and the volume that is left is the
-/// state after the book, or after one that goes on from it. Refused as `Server::seat`, `open` and
-/// `apply` are, or `NoMemory`.
+/// The reader makes `reads` reads, hangs up, and reads on to its mark. Then there is one book of
+/// changes. The reader has received the query's whole update list over it up to the mark. Its
+/// entries are the query's result after the mark's change. The volume is the state after the book
+/// or after one that extends it. Refused as `Server::seat`, `open` and `apply` are, or `NoMemory`.
 pub fn follow<N: Named + Send + Sync, R: Threads + Wait + Sync>(
     rt: &R,
     base: Base,
@@ -60,7 +59,7 @@ pub fn follow<N: Named + Send + Sync, R: Threads + Wait + Sync>(
     })
 }
 
-// What one thread does: it makes changes.
+// The work of one thread: it makes changes.
 #[derive(Drop)]
 struct Applies<'a> {
     seat: Seat<Identity>,
@@ -84,7 +83,7 @@ impl<'a> Work for Applies<'a> {
     }
 }
 
-// What another does: it reads that many times, and goes on to its mark.
+// The work of the other thread: it makes `reads` reads, and then reads on to its mark.
 #[derive(Drop)]
 struct Reads {
     reader: Reader,
@@ -119,7 +118,7 @@ fn apply_all<N: Named, R: Wait>(
     Ok(seat)
 }
 
-// After that many reads it hangs up, so that its mark comes, and goes on to that.
+// Makes `reads` reads, then hangs up so that the mark comes, and reads on to the mark.
 fn read_out<N: Named, R: Wait>(
     rt: &R,
     server: &Server<N>,

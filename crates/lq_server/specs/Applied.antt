@@ -6,8 +6,8 @@ use Rattle.lq_volume.specs.Change.{node_of}
 use Rattle.lq_volume.specs.Book.{Book, Extends, grown, state_of}
 use Rattle.lq_server_slots.specs.Slots.{before_of}
 
--- the change is the last of a book that goes on from what was known, and its number is above what
--- was known
+-- the change is the last of a book that extends the old one, and its number is above that of all
+-- changes known before
 pub record IsAdded (old new : Book) (a : Applied) (c : Change) : Type 0 where
   pub later : Extends new old
   pub above : length old.changes < a.change

@@ -1,4 +1,4 @@
--- The headline: what is so of each reader, and of the answers of its reads in their order.
+-- The headline: what holds for each reader, and for the answers of its reads in their order.
 use Rattle.std.specs.Prelude.{◌≡◌, ℕ, ◌+◌, ◌≤◌, List, [], ◌∷◌, ◌++◌, length, Some, None, IsSome}
 use Rattle.std.specs.List.{AllByRecursion}
 use mathlib.Core.List.{IsPrefix}
@@ -31,8 +31,8 @@ abbrev pub AreNumbered : ℕ → List Message → Type 0
 AreNumbered n [] = Unit {0}
 AreNumbered n (m ∷ ms) = (m.seq ≡ n) × AreNumbered (n + 1) ms
 
--- These messages are the whole update list up to the change that the mark names, and its number is
--- one more than theirs.
+-- These messages are the whole update list up to the change that the mark names, and the mark's
+-- number is one more than theirs.
 pub record IsMarkAfter (f : Opening) (b : Book) (messages : List Message) (k : Mark)
     : Type 0 where
   pub opened : f.opened ≤ k.change
@@ -40,7 +40,7 @@ pub record IsMarkAfter (f : Opening) (b : Book) (messages : List Message) (k : M
   pub all : messages ≡ updates_upto f b k.change
   pub seq : k.seq ≡ length messages + 1
 
--- where the mark was read, all before it was
+-- where the mark was read, the messages received are the whole list up to its change
 abbrev pub EndsWhole : ReadingHold → Type 0
 EndsWhole r =
     (k : Mark) → mark_read r ≡ Some k → IsMarkAfter r.port.floor (known r) (received r) k
@@ -59,22 +59,22 @@ pub record ReaderIsTold (r : ReaderHold) : Type 0 where
   -- and nothing but `Ended` comes after it
   pub over : IsSome (mark_read r.reading) → (next : ReadingHold) (a : Read) → EndsWhole next
       → Gives r.reading next a → a ≡ Ended
-  -- wherever a change's last message is in, the result is the query's after that change
+  -- after each message that is the last of its change, the result is the query's after that change
   pub settled : IsSettled (received r.reading) → r.reading.result.entries
       ≡ result_after r.reading.port.floor (known r.reading)
       (last_change r.reading.port.floor.opened (received r.reading))
-  -- and so it is after the mark, for the change that this names
+  -- after the mark, the result is the query's after the change that the mark names
   pub closed : (k : Mark) → mark_read r.reading ≡ Some k → r.reading.result.entries
       ≡ result_after r.reading.port.floor (known r.reading) k.change
 
--- what every call of a reader but a read that answers leaves of it
+-- how a reading goes on over a call of its reader, except a read that answers
 pub record GoesOn (old new : ReadingHold) : Type 0 where
   pub port : IsSamePort old.port new.port
   pub known : Extends (known new) (known old)
   pub received : received new ≡ received old
   pub mark : mark_read new ≡ mark_read old
 
--- and what a read that answers leaves
+-- and over a read that answers
 pub record IsAnswered (old new : ReadingHold) (a : Read) : Type 0 where
   pub port : IsSamePort old.port new.port
   pub known : Extends (known new) (known old)
@@ -111,19 +111,19 @@ pub record AnswersTell (f : Opening) (b : Book) (answers : List Read) : Type 0 w
   -- the mark comes after the whole list up to the change that it names, and only `Ended` after it
   pub mark : (front rest : List Read) (k : Mark) → answers ≡ front ++ Fin k ∷ rest
       → IsMarkAfter f b (updates_in front) k × AllByRecursion (λ a. a ≡ Ended) rest
-  -- and `Ended` only after the mark
+  -- `Ended` comes only after the mark
   pub ended : (front rest : List Read) → answers ≡ front ++ Ended ∷ rest → HasMark front
-  -- wherever a change's last message is in, folding over the opening's result gives the result
-  -- after that change
+  -- after each message that is the last of its change, folding the messages into the opening's
+  -- result gives the result after that change
   pub folding : (front rest : List Read) → answers ≡ front ++ rest → IsSettled (updates_in front)
       → folded (result_after f b f.opened) (updates_in front)
       ≡ result_after f b (last_change f.opened (updates_in front))
-  -- and so it does before the mark, for the change that this names
+  -- before the mark, folding gives the result after the change that the mark names
   pub closing : (front rest : List Read) (k : Mark) → answers ≡ front ++ Fin k ∷ rest
       → folded (result_after f b f.opened) (updates_in front) ≡ result_after f b k.change
 
--- A reader had received nothing, and its reads then gave these answers: what it received are the
--- messages among them, and over the book that it knows they tell the query's update list.
+-- For a reader that had received nothing, and whose reads then gave these answers: it has received
+-- the messages among them, and `AnswersTell` holds over the book that it knows.
 abbrev pub AnswersAreTold : Type 0
 AnswersAreTold =
     (first last : ReaderHold) (answers : List Read) → received first.reading ≡ []

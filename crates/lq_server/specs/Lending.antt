@@ -12,6 +12,6 @@ abbrev pub with_seat : ReaderHold → SeatToken Identity → ReaderHold
 with_seat r s =
     record { reading = r.reading; seat = s; slot = r.slot; hang_up_asked = r.hang_up_asked }
 
--- the reader ends with the last seat that s has
+-- when the loan ends, the reader has the last seat that s has
 abbrev pub LendsSeat : MutBor ReaderHold → MutBor (SeatToken Identity) → Fml
 LendsSeat r s = Lends reader.the_row (seat.the_row identity.the_row) r s (with_seat r.now)

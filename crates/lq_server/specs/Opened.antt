@@ -8,11 +8,11 @@ use Rattle.lq_server_slots.specs.Opening.{IsOpened}
 use Rattle.lq_server.specs.Hold.{ReaderHold}
 use Rattle.lq_server.specs.Own.{IsOwn}
 
--- what a reader was opened with
+-- what an opening gave the reader
 abbrev pub opened_of : ReaderHold → Opened
 opened_of r = record { reading = r.reading; seat = r.seat; slot = r.slot }
 
--- its subscription was just opened over this book, and its end wasn't asked for
+-- its subscription was just opened over this book, and nobody asked for its end
 pub record IsNewReader (r : ReaderHold) (board : TableId) (book : Book) (q : Query) (mv : Bool)
     (port backlog : ℕ) : Type 0 where
   pub own : IsOwn r

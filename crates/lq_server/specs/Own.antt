@@ -3,7 +3,7 @@ use Rattle.std.specs.Prelude.{◌≡◌, ◌<◌, IsSomeAnd}
 use Rattle.lq_server_slots.specs.Opening.{IdentityFits, asks_after}
 use Rattle.lq_server.specs.Hold.{ReaderHold}
 
--- its seat is that of its slot and of its port, and has asked as often as the reader
+-- its seat belongs to its slot and its port, and has asked as often as the reader
 pub record IsOwn (r : ReaderHold) : Type 0 where
   pub low : 0 < r.slot
   pub high : r.slot < 65

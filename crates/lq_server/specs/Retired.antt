@@ -1,11 +1,10 @@
--- What is left of a server.
+-- What a server leaves at its end.
 use Rattle.std.specs.Prelude.{◌≡◌, ℕ, length}
 use Rattle.lq_volume.specs.State.{State}
 use Rattle.lq_volume.specs.Book.{Book, Extends, state_of}
 use Rattle.lq_board.specs.Book.{IsFullBook}
 
--- the volume is the state after a lawful book of so many changes, which goes on from what was
--- known
+-- the volume is the state after a lawful book of this many changes, which extends the known book
 pub record IsRetired (known : Book) (volume : State) (changes : ℕ) : Type 0 where
   pub book : Book
   pub full : IsFullBook book

@@ -1,4 +1,4 @@
--- What a sync tells its reader.
+-- What a sync answers.
 use Rattle.std.specs.Prelude.{◌⊎◌, ◌≡◌, ℕ, ◌+◌, ◌<◌, ◌≤◌, Bool, true, false, List, [], ◌∷◌, ◌++◌, length, map, Option, Some, None, IsSome, IfSome, IsSomeAnd}
 use Rattle.lq_volume.specs.Book.{Extends}
 use Rattle.lq_board.specs.Book.{IsFullBook}
@@ -19,12 +19,12 @@ use Rattle.lq_server.specs.Own.{IsOwn}
 use Rattle.lq_server.specs.Hold.{ReaderHold}
 use Rattle.lq_server.specs.declared.server.Synced.{Synced}
 
--- a mark as a parcel
+-- a mark as a list of parcels
 abbrev pub fin_list : Option Mark → List Parcel
 fin_list None = []
 fin_list (Some k) = Fin k ∷ []
 
--- the messages that wait, and those that are held
+-- the messages that wait are w, and those that are held are h
 pub record IsListed (r : ReaderHold) (x : Synced) (w h : List Message) : Type 0 where
   pub wait : length w ≡ x.waiting
   pub hold : length h ≡ x.held
@@ -70,12 +70,12 @@ pub record IsSynced (old new : ReaderHold) (x : Synced) : Type 0 where
       k.cause ≡ Overrun
       → IsOverrun t.query t.moved t.opened t.places t.backlog new.seat.book k.change))
 
--- one for a mark, or for a message in hand
+-- one where it is true: for a mark, or for a message in hand
 abbrev pub bit : Bool → ℕ
 bit true = 1
 bit false = 0
 
--- the mark is in the port where it is out and wasn't read
+-- the mark is in the port where it was put and wasn't read
 abbrev pub in_port : Bool → Bool → Bool
 in_port true false = true
 in_port true true = false
@@ -89,7 +89,7 @@ IsRead old new r =
     × ((mid : ReaderHold) × (x : Synced) × IsSynced old mid x × Gives mid.reading new.reading r
     × (new ≡ record mid { reading = new.reading })))
 
--- a read after the pump of its slot that found no memory
+-- a read after the pump of its slot that had no memory
 abbrev pub IsUnread : ReaderHold → ReaderHold → Type 0
 IsUnread old new =
     (is_marked old.reading ≡ false)

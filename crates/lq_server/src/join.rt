@@ -9,9 +9,10 @@ use lq_value::Refusal;
 use std::sync::Wait;
 use std::thread::{Threads, join, map_vec};
 
-/// What a thread does with a server that it shares with others.
+/// The work of a thread at a server that it shares with others.
 ///
-/// `can` is what it needs of the server's board, and `gives` what it then says of its answer.
+/// `can` is what the work requires of the server's board, and `gives` what then holds for its
+/// answer.
 pub trait Work {
     ghost use Rattle.atomic_table.specs.Seated.{TableId};
 
@@ -21,16 +22,16 @@ pub trait Work {
 
     ghost gives: { Self → TableId → Self.Given → Type 0 };
 
-    /// Does it over this server.
+    /// Does the work at this server.
     fn work<N: Named, R: Wait>(self, rt: &R, server: &Server<N>) -> Self::Given
         requires { can self N.board }
         ensures { gives self N.board result };
 }
 
-/// What two works over one server give, the first in a thread of its own, or last where none can
-/// be made, and the second in this one.
+/// The answers of two works at one server.
 ///
-/// Both are done when it answers. It takes no memory.
+/// The second work runs in this thread. The first has a thread of its own, or runs last where none
+/// can be made. Both are done when the call returns. It takes no memory.
 pub fn join_over<
     N: Named + Send + Sync,
     R: Threads + Wait + Sync,
@@ -45,10 +46,10 @@ pub fn join_over<
     join(rt, || first.work(rt, server), || second.work(rt, server))
 }
 
-/// What the works of a list over one server give, in order, each in a thread of its own where one
-/// can be made.
+/// The answers of a list of works at one server, in order.
 ///
-/// Refused: `NoMemory`; some works may then have been dropped undone, and the results are dropped.
+/// Each work has a thread of its own where one can be made. Refused: `NoMemory`; some works may
+/// then have been dropped undone, and the results are dropped.
 pub fn map_over<
     N: Named + Send + Sync,
     R: Threads + Wait + Sync,

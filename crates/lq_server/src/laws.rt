@@ -1,13 +1,13 @@
-//! Laws of readers: each is the contract of a function with no body.
+//! The law of readers, as the contract of a function with no body.
 ghost use Rattle.lq_server.specs.Headline.{AnswersAreTold};
 
 use lq_update::{folds_give_results, whole_folds_give_results};
 
-/// The answers of a reader's reads, in their order, tell its query's update list: the headline.
+/// The headline: the reads of a reader give its query's update list, in order.
 ///
-/// Their messages are a prefix of it, each once. The mark comes after the whole list up to the
-/// change that it names, and only `Ended` after it. Folding gives the query's result wherever a
-/// change's last message is in, and before the mark.
+/// Their messages are a prefix of that list, and each comes once. The mark comes after the whole
+/// list up to the change that it names, and only `Ended` comes after the mark. Folding gives the
+/// query's result after each message that is the last of its change, and before the mark.
 pub fn answers_are_told()
     ensures { AnswersAreTold }
 {

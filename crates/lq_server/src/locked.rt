@@ -1,4 +1,4 @@
-//! What lies under the lock.
+//! The state under the lock.
 ghost use Rattle.std.specs.Prelude.{◌≡◌, ◌<◌, [], ◌∷◌, length, IfOk, IfErr, OnOk, OnErr, IfSome, IfNone, IsSome, IsSomeAnd, is_some, Some, None, Err, unwrap_or};
 ghost use Rattle.lq_value.specs.declared.refusal.Refusal.TheVariants.{NoMemory, NoSeat};
 ghost use Rattle.lq_value.specs.Refusal.{IsRefusedBy, first_refusal};
@@ -29,7 +29,7 @@ use std::alloc::Global;
 use std::marker::{Model, PhantomData};
 use std::sync::Wait;
 
-/// The most seats that are out at a time.
+/// The most seats that are out at the same time.
 const MAX_SEATS: u64 = 16;
 
 /// The entries that match a predicate after `at` changes, by rising node.
@@ -48,7 +48,7 @@ pub struct Locked<N: Named> {
     of: PhantomData<N>,
 }
 
-// One call takes it apart, wherever one is dropped.
+// Dropping one is a single call, instead of code at each place.
 impl<N: Named> Drop for Locked<N> {
     fn drop(self) {
         let Locked {
@@ -79,7 +79,7 @@ impl<N: Named> Model for Locked<N> {
 }
 
 impl<N: Named> Locked<N> {
-    /// What stands under the lock of a server that begins: no seat is out, and no slot taken.
+    /// The state under the lock of a new server: no seat is out, and no slot is taken.
     pub(crate) fn new(alloc: Global, slots: Slots, volume: Volume) -> Locked<N>
         requires board { slots.keeper.board ≡ N.board }
         requires volume { volume ≡ state_of slots.keeper.book }
@@ -97,8 +97,8 @@ impl<N: Named> Locked<N> {
         }
     }
 
-    /// A seat that knows the book. Refused: `NoSeat`, as tests show just where 16 are out. It takes
-    /// no memory.
+    /// A seat that knows the book. Refused: `NoSeat`, as tests show just where 16 seats are out. It
+    /// takes no memory.
     pub fn seat(&mut self, board: &Board<Identity>) -> Result<Seat<Identity>, Refusal>
         requires { board.now ≡ N.board }
         ensures same { self.new ≡ self.old }
@@ -113,7 +113,7 @@ impl<N: Named> Locked<N> {
         Ok(board.seat(&mut self.slots.keeper))
     }
 
-    /// Takes a seat back, so that another may go out. It takes no memory.
+    /// Takes a seat back, so that another can be given out. It takes no memory.
     pub fn give_back(&mut self, board: &Board<Identity>, seat: Seat<Identity>)
         requires { (board.now ≡ N.board) × (seat.board ≡ N.board) × (seat.slot ≡ 0) }
         ensures same { self.new ≡ self.old }
@@ -123,7 +123,7 @@ impl<N: Named> Locked<N> {
         self.seats = self.seats.saturating_sub(1);
     }
 
-    /// The seat knows the book, of as many changes as is answered. It takes no memory.
+    /// The number of changes in the book, which the seat then knows. It takes no memory.
     pub fn meet(&mut self, board: &Board<Identity>, seat: &mut Seat<Identity>) -> u64
         requires { (board.now ≡ N.board) × (seat.old.board ≡ N.board) × (seat.old.slot ≡ 0) }
         ensures same { self.new ≡ self.old }
@@ -135,7 +135,7 @@ impl<N: Named> Locked<N> {
         board.meet(&mut self.slots.keeper, seat)
     }
 
-    /// As `meet`, for a seat of any slot, which keeps all but its book. It takes no memory.
+    /// As `meet`, for a seat of any slot. Only the seat's book changes. It takes no memory.
     pub fn meet_any(&mut self, board: &Board<Identity>, seat: &mut Seat<Identity>) -> u64
         requires board { (board.now ≡ N.board) × (seat.old.board ≡ N.board) }
         requires named { 0 < seat.old.slot → IsSome seat.old.name }
@@ -154,8 +154,8 @@ impl<N: Named> Locked<N> {
         meet_in(board, &mut self.slots, place as usize, seat)
     }
 
-    /// The entries that match a predicate, by rising node, after the book that the seat then
-    /// knows. Refused: `NoMemory`.
+    /// The entries that match a predicate, by rising node, after the book that the seat then knows.
+    /// Refused: `NoMemory`.
     pub fn fetch(
         &mut self,
         board: &Board<Identity>,
@@ -170,7 +170,7 @@ impl<N: Named> Locked<N> {
         ensures entries { IfOk result (λ found.
             found.entries.items ≡ result_of predicate.now (state_of seat.new.book)) }
 
-        // Only memory can be wanting.
+        // `NoMemory` is the only refusal.
         ensures refused { IsRefusedBy result None }
     {
         let at = self.meet(board, seat);
@@ -178,7 +178,7 @@ impl<N: Named> Locked<N> {
         Ok(Found { at, entries })
     }
 
-    /// The node that has a place, after the book that the seat then knows.
+    /// The node at a place, after the book that the seat then knows.
     ///
     /// Refused as `Volume::find` is.
     pub fn find(
@@ -203,7 +203,7 @@ impl<N: Named> Locked<N> {
         self.volume.find(dir, name)
     }
 
-    /// All of the entry of a node, copied, after the book that the seat then knows.
+    /// A copy of a node's whole entry, after the book that the seat then knows.
     ///
     /// Refused as `Volume::listing` is.
     pub fn listing(
@@ -225,11 +225,10 @@ impl<N: Named> Locked<N> {
         self.volume.listing(node)
     }
 
-    /// Makes a change, and tells the subscriptions. The seat then knows the book.
+    /// Makes a change and notifies the subscriptions. The seat then knows the book.
     ///
-    /// First each subscription whose reader asked ends as hung up. Refused as the volume refuses
-    /// it, or `NoMemory`; then the book stays, but the ports are still filled, as the code of
-    /// `change_in` says.
+    /// First the subscriptions whose readers hung up end. Refused as the volume refuses the change,
+    /// or `NoMemory`; the book is then as it was, but `change_in` still fills the ports.
     pub fn apply<R: Wait>(
         &mut self,
         rt: &R,
@@ -255,11 +254,11 @@ impl<N: Named> Locked<N> {
 
     /// Opens a live query over the book that the seat then knows.
     ///
-    /// `port` is how many parcels its port holds, 1 to 1,024, and `backlog` how many messages may
-    /// be held before it, at most 65,536; `moved` asks for entries that moved too. Refused, the
-    /// first that fits: `BadPort`, `BadBacklog`, `NoSlot` where 64 are open, `Exhausted` where as
-    /// many were opened as the volume takes changes; or else `NoMemory`. Which of the last three it
-    /// is, and that a refused opening isn't counted, are clauses of `open_in`.
+    /// The port has `port` places, 1 to 1,024. At most `backlog` messages are held before it, up to
+    /// 65,536. `moved` asks for moved entries too. Refused, the first that fits: `BadPort`,
+    /// `BadBacklog`, `NoSlot` where 64 are open, `Exhausted` where the openings have reached the
+    /// volume's limit on changes, `NoMemory`. Clauses of `open_in` say which of the last three it
+    /// is, and that a refused opening isn't counted.
     pub fn open(
         &mut self,
         board: &Board<Identity>,
@@ -277,7 +276,7 @@ impl<N: Named> Locked<N> {
         ensures opened { IfOk result (λ o.
             IsOpened o N.board seat.new.book predicate.now moved port backlog) }
 
-        // Its numbers refuse it first, and just by their bounds.
+        // The numbers are checked first, by their bounds alone.
         ensures refused { IfSome (opening_refusal port backlog) (λ e. result ≡ Err e) }
         ensures others { IfNone (opening_refusal port backlog) (IfErr result IsOpeningRefused) }
     {
@@ -291,9 +290,9 @@ impl<N: Named> Locked<N> {
         open_in(self.alloc, board, &mut self.slots, &self.volume, &asked)
     }
 
-    /// How far a reader's subscription is. Its port is filled, and the seat knows the book.
+    /// The progress of a reader's subscription. Its port is filled, and the seat knows the book.
     ///
-    /// It ends as hung up first, where its reader asked. It takes no memory.
+    /// First the subscription ends as hung up where its reader asked for that. It takes no memory.
     pub fn sync<R: Wait>(
         &mut self,
         rt: &R,
@@ -316,8 +315,9 @@ impl<N: Named> Locked<N> {
 
     /// Closes a reader's subscription, and answers the number of changes then.
     ///
-    /// `None` where it had ended before, as it has where its reader asked. Its port is filled. The
-    /// seat knows the book, and its name tells what the first close answered. It takes no memory.
+    /// `None` where it had ended before, also where its reader asked for that. Its port is filled.
+    /// The seat then knows the book, and its name says what the first close answered. It takes no
+    /// memory.
     pub fn close<R: Wait>(
         &mut self,
         rt: &R,
@@ -343,9 +343,9 @@ impl<N: Named> Locked<N> {
         close_in(rt, board, &mut self.slots, place as usize, seat)
     }
 
-    /// Frees a slot, whose seat comes back; `asked` tells whether its reader asked for the end.
+    /// Takes the seat of a slot back and frees the slot.
     ///
-    /// It takes no memory.
+    /// `asked` says whether its reader asked for the end. It takes no memory.
     pub fn free(&mut self, board: &Board<Identity>, place: u64, seat: Seat<Identity>, asked: bool)
         requires board { (board.now ≡ N.board) × (seat.board ≡ N.board) }
         requires place { (0 < place) × (place < 65) }

@@ -11,7 +11,7 @@ use lq_volume::Volume;
 use std::alloc::Global;
 use std::marker::{Brand, Model};
 
-/// A seat at a server: what one caller knows of the changes. 16 may be out at a time.
+/// A seat at a server: what one caller knows of the changes. 16 may be out at the same time.
 pub type Seat = lq_board::Seat<Identity>;
 
 /// Names one board, for contracts alone.
@@ -37,7 +37,7 @@ pub struct Base {
     alloc: Global,
 }
 
-// One call takes it apart, wherever one is dropped.
+// Dropping one is a single call, instead of code at each place.
 impl Drop for Base {
     fn drop(self) {
         let Base {
@@ -85,7 +85,7 @@ impl Base {
         })
     }
 
-    /// The board, and what stands under the lock, of which N names the board.
+    /// The board and the state under the lock. N names the board.
     pub fn into_parts<N: Named>(self) -> (Board<Identity>, Locked<N>)
         requires { self ≡ N.board }
         ensures { result.0 ≡ N.board }

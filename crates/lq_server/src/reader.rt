@@ -23,7 +23,7 @@ use lq_value::{Entry, Refusal};
 use std::marker::Model;
 use std::sync::Wait;
 
-/// The end of a subscription that reads, with the seat of its slot.
+/// The reading end of a subscription, with the seat of its slot.
 #[derive(Drop)]
 pub struct Reader {
     pub(crate) reading: Reading,
@@ -53,21 +53,22 @@ impl Model for Reader {
 }
 
 impl Reader {
-    /// Its slot, 1 to 64. It takes no lock.
+    /// The slot, 1 to 64. It takes no lock.
     pub fn slot(&self) -> u64
         ensures { result ≡ self.now.slot }
     {
         self.slot
     }
 
-    /// The number of changes at its opening. It takes no lock.
+    /// The number of changes at the opening. It takes no lock.
     pub fn opened(&self) -> u64
         ensures { result ≡ self.now.reading.port.floor.opened }
     {
         self.reading.opened()
     }
 
-    /// The number of changes so far, whose book its seat then knows. It takes no lock.
+    /// The number of changes so far. Its seat then knows the book of these changes. It takes no
+    /// lock.
     pub fn latest<N: Named>(&mut self, server: &Server<N>) -> u64
         requires board { self.old.seat.board ≡ N.board }
         ensures number { result ≡ length self.new.seat.book.changes }
@@ -100,7 +101,7 @@ impl Reader {
 
     /// The seat of its slot, as the board gave it.
     ///
-    /// A caller who puts another in its place can call no more with this reader.
+    /// A caller who puts another seat in its place can make no further calls with this reader.
     pub fn seat(&mut self) -> &mut Seat
         ensures* lends { sem 𝓛 (LendsSeat self.entry result) }
         ensures now { result.now ≡ self.old.seat }
@@ -108,10 +109,10 @@ impl Reader {
         &mut self.seat
     }
 
-    /// The next of what was told, as far as it waits in the port. It takes no lock.
+    /// The next update or the mark, if one waits in the port. It takes no lock.
     ///
-    /// `Empty` where none waited; `Ended` after the mark. Refused: `NoMemory`; the message is then
-    /// in hand, and the next read gives it.
+    /// `Empty` only where none is known to wait; `Ended` after the mark. Refused: `NoMemory`; the
+    /// reader then keeps the message, and the next read gives it.
     pub fn read<R: Wait>(&mut self, rt: &R) -> Result<Read, Refusal>
         ensures refused { IsRefusedBy result None }
         ensures port { IsSamePort self.old.reading.port self.new.reading.port }
@@ -127,10 +128,9 @@ impl Reader {
         self.reading.read(rt)
     }
 
-    /// As `read`, but it fills its port first, and waits for the next of what is told.
+    /// As `read`, but it fills its port first and waits for the next update or the mark.
     ///
-    /// `Ended` at once after the mark. `Empty` says besides that the server is gone, which no clause
-    /// says.
+    /// `Ended` at once after the mark. `Empty` only where the server is gone, which no clause says.
     pub fn read_waiting<N: Named, R: Wait>(
         &mut self,
         rt: &R,
@@ -163,8 +163,10 @@ impl Reader {
         self.reading.read_waiting(rt)
     }
 
-    /// The result after what was received, by rising node: the opening's, with each message
-    /// received folded in. After the mark it is the query's result after the mark's change.
+    /// The result after the messages received, by rising node: the opening's result with each
+    /// message folded in.
+    ///
+    /// After the mark it is the query's result after the mark's change.
     pub fn result(&self) -> &[Entry]
         ensures entries { result.now ≡ self.now.reading.result.entries }
         ensures rise { EntriesRise result.now }
@@ -177,8 +179,8 @@ impl Reader {
         self.reading.result()
     }
 
-    /// Whether no update was received or the latest was the last of its change. The result is
-    /// then the query's after `last_change`. It takes no lock.
+    /// Whether no update was received, or the latest was the last of its change. The result is then
+    /// the query's after `last_change`. It takes no lock.
     pub fn is_settled(&self) -> bool
         ensures settled { result ≡ self.now.reading.result.settled }
         ensures received { (result ≡ true) ↔ IsSettled (received self.now.reading) }
@@ -198,11 +200,12 @@ impl Reader {
         self.reading.last_change()
     }
 
-    /// The headline: what it has received is a prefix of its query's update list, each message once
-    /// and in order; its mark comes after the whole list up to the change that it names; and its
-    /// result is the query's wherever that is settled, and after the mark.
+    /// The headline for this reader.
     ///
-    /// It does nothing. `answers_are_told` says the same of the answers of its reads.
+    /// What it has received is a prefix of its query's update list, each message once and in order.
+    /// Its mark comes after the whole list up to the change that it names. Its result is the
+    /// query's wherever that is settled, and after the mark. The call does nothing.
+    /// `answers_are_told` says the same of the answers of its reads.
     pub fn headline(&self)
         ensures { ReaderIsTold self.now }
     {

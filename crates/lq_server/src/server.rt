@@ -14,8 +14,10 @@ use lq_volume::Volume;
 use std::marker::Model;
 use std::sync::{Mutex, Wait};
 
-/// How far a subscription is: the changes so far, the updates that wait in its port or in hand,
-/// those held, and the mark if it has ended.
+/// The progress of a subscription: the number of changes so far, the updates that wait to be read,
+/// those held before its port, and the mark if it has ended.
+///
+/// A waiting update is in the port, or was taken and isn't folded yet.
 #[derive(Clone, Copy)]
 pub struct Synced {
     pub change: u64,
@@ -24,29 +26,29 @@ pub struct Synced {
     pub mark: Option<Mark>,
 }
 
-/// What an accepted change was given: its number, and the node that it created or named.
+/// The answer to an accepted change: its number, and the node that it created or named.
 #[derive(Clone, Copy, Debug, PartialEq, Eq)]
 pub struct Accepted {
     pub change: u64,
     pub node: u64,
 }
 
-/// What is left of a server: its volume, and the number of its changes.
+/// What a server leaves at its end: its volume, and the number of its changes.
 #[derive(Debug, Drop)]
 pub struct Retired {
     pub volume: Volume,
     pub changes: u64,
 }
 
-/// A lock round a volume and its subscriptions, with the board beside it.
+/// A volume and its subscriptions under a lock, with the board beside it.
 ///
-/// Threads share it by reference. Contracts see which board it has, which is the one that N names.
+/// Threads share it by reference. Contracts see which board it has: the one that N names.
 pub struct Server<N: Named> {
     pub(crate) state: Mutex<Locked<N>>,
     pub(crate) board: Board<Identity>,
 }
 
-// One call takes it apart, wherever one is dropped.
+// Dropping one is a single call, instead of code at each place.
 impl<N: Named> Drop for Server<N> {
     fn drop(self) {
         let Server { state: _, board: _ } = self;
@@ -67,7 +69,7 @@ impl<N: Named> Model for Server<N> {
 }
 
 impl<N: Named> Server<N> {
-    /// A server over a base, whose board N names.
+    /// A server over a base. N names the board of the base.
     pub fn new(base: Base) -> Server<N>
         requires { base ≡ N.board }
     {
@@ -78,9 +80,10 @@ impl<N: Named> Server<N> {
         }
     }
 
-    /// A seat of no slot, which knows the changes so far.
+    /// A seat of no slot.
     ///
-    /// Refused: `NoSeat` where 16 are out, as is one that was dropped. It takes no memory.
+    /// It knows the changes so far, as tests show. Refused: `NoSeat`, as tests show just where 16
+    /// seats are out. A dropped seat still counts as out. It takes no memory.
     pub fn seat<R: Wait>(&self, rt: &R) -> Result<Seat, Refusal>
         ensures seat { IfOk result (λ seat. (seat.board ≡ N.board) × (seat.slot ≡ 0)) }
         ensures refused { IfErr result (λ e. e ≡ NoSeat) }
@@ -88,14 +91,15 @@ impl<N: Named> Server<N> {
         self.state.lock(rt).seat(&self.board)
     }
 
-    /// Takes a seat back, so that another may go out. It takes no memory.
+    /// Takes a seat back, so that another can be given out. It takes no memory.
     pub fn give_back<R: Wait>(&self, rt: &R, seat: Seat)
         requires { (seat.board ≡ N.board) × (seat.slot ≡ 0) }
     {
         self.state.lock(rt).give_back(&self.board, seat);
     }
 
-    /// The number of changes so far, whose book the seat then knows. It takes no lock.
+    /// The number of changes so far. The seat then knows the book of these changes. It takes no
+    /// lock.
     pub fn latest(&self, seat: &mut Seat) -> u64
         requires { seat.old.board ≡ N.board }
         ensures same { seat.new ≡ record seat.old { book = seat.new.book } }
@@ -105,7 +109,8 @@ impl<N: Named> Server<N> {
         self.board.latest(seat)
     }
 
-    /// Both seats know one book, of as many changes as is answered. A reader's seat may meet too.
+    /// The number of changes in one book, which both seats then know. Either may be a reader's
+    /// seat.
     pub fn meet<R: Wait>(&self, rt: &R, one: &mut Seat, two: &mut Seat) -> u64
         requires boards { (one.old.board ≡ N.board) × (two.old.board ≡ N.board) }
         requires one { 0 < one.old.slot → IsSome one.old.name }
@@ -128,7 +133,7 @@ impl<N: Named> Server<N> {
 
     /// The volume and the number of its changes, at the end of the server.
     ///
-    /// What is held then isn't delivered. It takes no memory.
+    /// The messages that are still held aren't delivered. It takes no memory.
     pub fn retire<R: Wait>(self, rt: &R, seat: Seat) -> Retired
         requires board { seat.board ≡ N.board }
         ensures { IsRetired seat.book result.volume result.changes }

@@ -23,11 +23,11 @@ use std::sync::Wait;
 impl<N: Named> Server<N> {
     /// Opens a live query in the lowest free slot.
     ///
-    /// `port` is the number of parcels that its port holds, 1 to 1,024, and `backlog` the number
-    /// of messages that are held before it, up to 65,536. With `moved` an entry that matches
-    /// before and after a move is told as moved. The seat then knows the book that the reader
-    /// begins with. Refused, the first that fits: `BadPort`, `BadBacklog`, `NoSlot` where 64 are
-    /// taken, `Exhausted` where as many openings were made as the volume takes changes, `NoMemory`.
+    /// The port has `port` places, 1 to 1,024. At most `backlog` messages are held before it, up to
+    /// 65,536. With `moved`, one message reports a move of an entry that matches before and after
+    /// it. The seat then knows the book that the reader begins with. Refused, the first that fits:
+    /// `BadPort`, `BadBacklog`, `NoSlot` where 64 are taken, `Exhausted` where the openings have
+    /// reached the volume's limit on changes, `NoMemory`.
     pub fn open<R: Wait>(
         &self,
         rt: &R,
@@ -43,7 +43,7 @@ impl<N: Named> Server<N> {
         ensures opened { IfOk result (λ r.
             IsNewReader r N.board seat.new.book predicate.now moved port backlog) }
 
-        // Its numbers refuse it first, and just by their bounds.
+        // The numbers are checked first, by their bounds alone.
         ensures refused { IfSome (opening_refusal port backlog) (λ e. result ≡ Err e) }
         ensures others { IfNone (opening_refusal port backlog) (IfErr result IsOpeningRefused) }
     {
@@ -59,10 +59,10 @@ impl<N: Named> Server<N> {
         })
     }
 
-    /// How far the reader's subscription is, over the book that the reader's seat then knows.
+    /// The progress of the reader's subscription, over the book that the reader's seat then knows.
     ///
-    /// First it ends where its reader asked for that, and its port is filled. What the reader has
-    /// received and knows stays. It takes no memory.
+    /// First the subscription ends where its reader asked for that, and then its port is filled.
+    /// What the reader has received and knows stays. It takes no memory.
     pub fn sync<R: Wait>(&self, rt: &R, reader: &mut Reader) -> Synced
         requires board { reader.old.seat.board ≡ N.board }
         requires own { IsOwn reader.old }
@@ -90,7 +90,7 @@ impl<N: Named> Server<N> {
         }
     }
 
-    /// As `sync`, without its answer.
+    /// As `sync`, without the answer.
     pub fn pump<R: Wait>(&self, rt: &R, reader: &mut Reader)
         requires board { reader.old.seat.board ≡ N.board }
         requires own { IsOwn reader.old }
@@ -99,11 +99,10 @@ impl<N: Named> Server<N> {
         self.sync(rt, reader);
     }
 
-    /// Ends the reader's subscription as closed, after as many changes as is answered, and fills
-    /// its port.
+    /// Closes the reader's subscription, fills its port, and answers the number of changes then.
     ///
-    /// Refused: `NotOpen` where it has ended, as it has where its reader asked for that. What the
-    /// reader has received and knows stays. It takes no memory.
+    /// Refused: `NotOpen` where its reader asked for the end, and, as tests show, where it had
+    /// ended before. What the reader has received and knows stays. It takes no memory.
     pub fn close<R: Wait>(&self, rt: &R, reader: &mut Reader) -> Result<u64, Refusal>
         requires board { reader.old.seat.board ≡ N.board }
         requires own { IsOwn reader.old }
@@ -114,7 +113,7 @@ impl<N: Named> Server<N> {
         ensures late { reader.old.hang_up_asked ≡ true → result ≡ Err NotOpen }
         ensures later { Extends reader.new.seat.book reader.old.seat.book }
 
-        // What it had to tell was put, until nothing was left or its port was full.
+        // Messages and the mark were put until none was left or the port was full.
         ensures put { (s : SubscriptionOf)
             × IsPut s reader.new.seat.name reader.new.seat.book }
         ensures seat { reader.new.seat ≡ record reader.old.seat {
@@ -134,8 +133,10 @@ impl<N: Named> Server<N> {
         closed.ok_or(Refusal::NotOpen)
     }
 
-    /// Frees the reader's slot. Refused: `StillOpen` just where its mark wasn't read; the reader
-    /// then comes back as it was. It takes no memory.
+    /// Frees the reader's slot, as tests show.
+    ///
+    /// Refused: `StillOpen` just where its mark wasn't read; the reader then comes back as it was.
+    /// It takes no memory.
     pub fn finish<R: Wait>(&self, rt: &R, reader: Reader) -> Result<(), (Reader, Refusal)>
         requires board { reader.seat.board ≡ N.board }
         requires own { IsOwn reader }
@@ -159,8 +160,10 @@ impl<N: Named> Server<N> {
     }
 }
 
-// How many updates wait in a port of so many parcels, or in hand, where the mark may be out, and
-// then in the port or read.
+// How many updates wait, in a port with this many parcels or in hand.
+//
+// `in_hand` says whether a message was taken and isn't folded yet, `out` whether the mark was put,
+// and `ended` whether the mark was read.
 fn waiting(parcels: u64, in_hand: bool, out: bool, ended: bool) -> u64
     requires marks { bit (in_port out ended) ≤ parcels + bit in_hand }
     requires few { parcels < 2 ^ 63 }

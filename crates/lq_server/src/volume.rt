@@ -18,12 +18,14 @@ use lq_volume::{Change, Listing};
 use std::sync::Wait;
 
 impl<N: Named> Server<N> {
-    /// Makes a change, tells the subscriptions that it concerns, and fills their ports.
+    /// Makes a change, notifies the subscriptions that it concerns, and fills their ports.
     ///
-    /// The seat then knows a book that ends with this change, under the number that is answered.
-    /// Refused as `Volume::apply` is after the book that the seat then knows, or `NoMemory`; then
-    /// the volume is as it was. In any case each subscription whose reader hung up before ends, as
-    /// `change_in` of lq_server_slots says.
+    /// The seat then knows a book that ends with this change, under the number that the call
+    /// answers. Refused as `Volume::apply` is after the book that the seat then knows, or
+    /// `NoMemory`; the volume is then as it was. A subscription whose reader hung up before ends,
+    /// even where the change is refused. No clause of this call says what becomes of the
+    /// subscriptions; clauses of `change_in` in lq_server_slots do, for the requests that its
+    /// keeper knows of.
     pub fn apply<R: Wait>(
         &self,
         rt: &R,
@@ -36,7 +38,7 @@ impl<N: Named> Server<N> {
         ensures ok { IfOk result (λ a. IsAdded seat.old.book seat.new.book
             (record { change = a.change; node = a.node }) change.now) }
 
-        // The first refusal that fits, and no other but for want of memory.
+        // The first refusal that fits, or `NoMemory` where none fits.
         ensures err { IfErr result (λ e.
             e ≡ unwrap_or (refused (state_of seat.new.book) change.now) NoMemory) }
     {
@@ -49,7 +51,7 @@ impl<N: Named> Server<N> {
 
     /// The entries that match a predicate, by rising node, and the number of changes then.
     ///
-    /// They are those after the book that the seat then knows. Refused: `NoMemory`.
+    /// They are the matches after the book that the seat then knows. Refused: `NoMemory`.
     pub fn fetch<R: Wait>(
         &self,
         rt: &R,
@@ -63,16 +65,16 @@ impl<N: Named> Server<N> {
         ensures entries { IfOk result (λ found.
             found.entries.items ≡ result_of predicate.now (state_of seat.new.book)) }
 
-        // Only memory can be wanting.
+        // `NoMemory` is the only refusal.
         ensures refused { IsRefusedBy result None }
     {
         self.state.lock(rt).fetch(&self.board, seat, predicate)
     }
 
-    /// The node that has a place, after the book that the seat then knows.
+    /// The node at a place, after the book that the seat then knows.
     ///
-    /// Refused, the first that fits: `NoNode` where there is no node `dir`, `NotFolder` where it
-    /// is a file, `NoEntry` where it has no entry of that name. It takes no memory.
+    /// Refused, the first that fits: `NoNode` where there is no node `dir`, `NotFolder` where `dir`
+    /// is a file, `NoEntry` where the folder has no entry of that name. It takes no memory.
     pub fn find<R: Wait>(
         &self,
         rt: &R,
@@ -93,10 +95,10 @@ impl<N: Named> Server<N> {
         self.state.lock(rt).find(&self.board, seat, dir, name)
     }
 
-    /// All of the entry of a node, copied, after the book that the seat then knows.
+    /// A copy of a node's whole entry, after the book that the seat then knows.
     ///
-    /// Refused, the first that fits: `NoNode` where there is no such node, `NoEntry` for the
-    /// root, `NoMemory`.
+    /// Refused, the first that fits: `NoNode` where there is no such node, `NoEntry` for the root,
+    /// `NoMemory`.
     pub fn listing<R: Wait>(&self, rt: &R, seat: &mut Seat, node: u64) -> Result<Listing, Refusal>
         requires { (seat.old.board ≡ N.board) × (seat.old.slot ≡ 0) }
         ensures seat { (seat.new.board ≡ N.board) × (seat.new.slot ≡ 0) }

@@ -1,4 +1,4 @@
--- When a comparison of what an attribute holds with a literal is true.
+-- When a comparison of an attribute's value with a literal is true.
 use Rattle.std.specs.Prelude.{ℕ, ℤ, List, Bool, true, false, not, Option, Some, None}
 use Rattle.std.specs.Cmp.Lexicographic.{slice_cmp}
 use Rattle.std.specs.Ordering.{nat_cmp, int_cmp, is_lt, is_le, is_gt, is_ge, is_eq}
@@ -41,7 +41,7 @@ abbrev pub literal_number : Literal → Option ℤ
 literal_number (literal.Pattern elements) = pattern_number elements
 literal_number (literal.Plain text) = number_of text
 
--- `==` holds of a text where the pattern fits it, `!=` where it doesn't
+-- whether `==` or `!=` is true for a text that the pattern fits, or doesn't fit
 abbrev pub fits_by : Op → Bool → Bool
 fits_by Eq fit = fit
 fits_by Ne fit = not fit
@@ -50,12 +50,12 @@ fits_by Le fit = false
 fits_by Gt fit = false
 fits_by Ge fit = false
 
--- a text goes by the pattern or by its bytes
+-- a text is compared with the pattern, or byte by byte
 abbrev pub compares_text : List ℕ → Op → Literal → Bool
 compares_text bytes op (literal.Pattern elements) = fits_by op (fits elements (chars bytes))
 compares_text bytes op (literal.Plain text) = accepts op (slice_cmp nat_cmp bytes text)
 
--- a number is compared as a whole number, and falsely with a literal that writes none
+-- a number is compared as a whole number; with a literal that writes none the answer is false
 abbrev pub compares_number : ℤ → Op → Option ℤ → Bool
 compares_number value op None = false
 compares_number value op (Some number) = accepts op (int_cmp value number)

@@ -1,4 +1,4 @@
--- The elements that a view of a pattern shows.
+-- The elements that a borrowed view of a pattern shows.
 use Rattle.std.specs.Prelude.{List}
 use Rattle.std.specs.Str.{chars}
 use Rattle.lq_value.specs.declared.element.Element.{Element}

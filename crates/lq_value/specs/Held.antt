@@ -1,16 +1,16 @@
--- What an attribute holds.
+-- The value of an attribute, without its type.
 use Rattle.std.specs.Prelude.{ℕ, ℤ, pos, List}
 use Rattle.lq_value.specs.declared.value.Value.{Value}
 use Rattle.lq_value.specs.declared.value.Value.TheVariants as values
 use Rattle.lq_value.specs.declared.view.View.{View}
 use Rattle.lq_value.specs.declared.view.View.TheVariants as view
 
--- what an attribute holds: a text as its bytes, or a whole number
+-- the value of an attribute: a text as its bytes, or a whole number
 pub data Held : Type 0 where
   Words : (bytes : List ℕ) → Held
   Number : (value : ℤ) → Held
 
--- what a view holds
+-- the same for a view
 abbrev pub held_of : View → Held
 held_of (view.Text text) = Words text.now
 held_of (view.Int32 value) = Number value
@@ -18,7 +18,7 @@ held_of (view.Int64 value) = Number value
 held_of (view.UInt32 value) = Number (pos value)
 held_of (view.UInt64 value) = Number (pos value)
 
--- what a value holds
+-- the same for a value
 abbrev pub held_in : Value → Held
 held_in (values.Text bytes) = Words bytes
 held_in (values.Int32 number) = Number number

@@ -1,4 +1,4 @@
--- The bytes of a text that stands in its place or apart.
+-- The bytes of a text, stored inline or apart.
 use Rattle.std.specs.Prelude.{ℕ, List}
 use Rattle.std.specs.String.{string_bytes}
 use Rattle.lq_value.specs.declared.small_text.Kept.{Kept}
@@ -6,12 +6,12 @@ use Rattle.lq_value.specs.declared.small_text.Kept.TheVariants.{Here, Apart}
 use Rattle.lq_value.specs.declared.name_text.Named.{Named}
 use Rattle.lq_value.specs.declared.name_text.Named.TheVariants.{Short, Shared}
 
--- of a text that is nobody else's
+-- for a text with one owner
 abbrev pub small_bytes : Kept → List ℕ
 small_bytes (Here text) = text
 small_bytes (Apart text) = string_bytes text
 
--- of a text that a longer name shares with its copies
+-- for the text of a name, which a longer name shares with its copies
 abbrev pub name_bytes : Named → List ℕ
 name_bytes (Short text) = text
 name_bytes (Shared text) = text

@@ -1,4 +1,4 @@
--- How a pattern is matched: from star to star, a piece of single elements at a time.
+-- How a pattern is matched: from star to star, with elements other than stars in between.
 use Rattle.std.specs.Prelude.{◌≡◌, ◌≤◌, ℕ, List, [], ◌∷◌, ◌++◌, length, true, false}
 use Rattle.std.specs.Str.{chars}
 use Rattle.lq_value.specs.declared.element.Element.{Element}
@@ -26,7 +26,7 @@ IsAtStar (Any ∷ es) = ⊥
 IsAtStar (Plain d ∷ es) = ⊥
 IsAtStar (Set negated items ∷ es) = ⊥
 
--- the first element takes the first character, and these are left
+-- the first element takes the first character, and these elements and characters are left
 pub record TakesOne (es : List Element) (cs : List ℕ) (es' : List Element)
     (cs' : List ℕ) : Type 0 where
   pub e : Element
@@ -40,7 +40,7 @@ IsTaken (More left) es cs = TakesOne es cs left.elements.now (chars left.text.no
 IsTaken AtStar es cs = IsAtStar es
 IsTaken Never es cs = fits es cs ≡ false
 
--- single elements took a character each, and these elements and characters are left
+-- some elements other than stars took a character each, and these elements and characters are left
 pub record Passes (es : List Element) (cs : List ℕ) (es' : List Element)
     (cs' : List ℕ) : Type 0 where
   pub piece : List Element
@@ -57,7 +57,7 @@ pub record PassesToStar (es : List Element) (cs : List ℕ) (es' : List Element)
   pub passes : Passes es cs es' cs'
   pub star : IsAtStar es'
 
--- the elements up to the next star fit at some place behind which what is left decides
+-- the elements up to the next star fit at some place, and the rest after it decides the match
 pub record Finds (es : List Element) (cs : List ℕ) (es' : List Element)
     (cs' : List ℕ) : Type 0 where
   pub same : some_rest (fits es) cs ≡ fits es' cs'

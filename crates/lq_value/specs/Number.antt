@@ -1,13 +1,13 @@
 -- The whole number that a text writes: an optional `-` and 1 to 20 decimal digits, and nothing
--- else. A text is seen as the codes of its characters, or as its bytes: what writes a number has
--- the same.
+-- else. A text is the codes of its characters or its bytes: for a text that writes a number both
+-- are the same.
 use Rattle.std.specs.Prelude.{ℕ, ℤ, pos, neg_ℤ, List, [], ◌∷◌, length, ◌&&◌, ◌==◌, nat_le, Option, Some, None, if◌then◌else◌}
 use Rattle.std.specs.Option.{option_map}
 use Rattle.std.specs.List.{list_all}
 use Rattle.std.specs.Char.{is_ascii_digit}
 use Rattle.std.specs.Str.Parse.{digits_value}
 
--- the number that digits alone write, where there are 1 to 20 of them
+-- the number that digits write, where there are 1 to 20 of them and nothing else
 abbrev pub digits_number : List ℕ → Option ℕ
 digits_number cs =
     if nat_le 1 (length cs) && nat_le (length cs) 20 && list_all is_ascii_digit cs

@@ -1,5 +1,5 @@
--- When a pattern fits a text: some split of the text into one part for each element,
--- in order, has each part fit its element. A text is seen as its characters.
+-- When a pattern fits a text: some split of the text into one part for each element, in order, lets
+-- each part fit its element. A text is the list of its characters.
 use Rattle.std.specs.Prelude.{◌≡◌, ℕ, ℤ, List, [], ◌∷◌, ◌++◌, Bool, true, false, not, ◌&&◌, ◌||◌, Option, Some, None, option_and_then}
 use Rattle.std.specs.Option.{option_map}
 use Rattle.std.specs.Str.{chars, encode_utf8_all}
@@ -26,7 +26,7 @@ Fits (e ∷ es) text =
 
 -- ---- the same as a test
 
--- some rest of the text, also the whole or the empty one, passes
+-- the test passes for some suffix of the text, which may be the whole text or empty
 abbrev pub some_rest : (List ℕ → Bool) → List ℕ → Bool
 some_rest p [] = p []
 some_rest p (c ∷ cs) = p (c ∷ cs) || some_rest p cs
@@ -57,7 +57,7 @@ plain_chars (Any ∷ es) = None
 plain_chars (Plain c ∷ es) = option_map (λ cs. c ∷ cs) (plain_chars es)
 plain_chars (Set negated items ∷ es) = None
 
--- the elements that are these characters
+-- one plain element for each character
 abbrev pub plain_elements : List ℕ → List Element
 plain_elements [] = []
 plain_elements (c ∷ cs) = Plain c ∷ plain_elements cs
@@ -67,7 +67,7 @@ abbrev pub star_if : Bool → List Element
 star_if false = []
 star_if true = Star ∷ []
 
--- the elements that are these characters, with a star before them, behind them, or both
+-- plain elements for these characters, with a star before them, after them, or both
 abbrev pub with_stars : Bool → List ℕ → Bool → List Element
 with_stars before cs behind = star_if before ++ (plain_elements cs ++ star_if behind)
 
@@ -78,14 +78,14 @@ starred_elements s = with_stars s.before (chars (string_bytes s.text)) s.behind
 abbrev pub pattern_number : List Element → Option ℤ
 pattern_number es = option_and_then (λ cs. number_of (encode_utf8_all cs)) (plain_chars es)
 
--- the elements that a form of them stands for
+-- the elements that a form stores
 abbrev pub elements_of : Form → List Element
 elements_of (PlainText text number) = plain_elements (chars (string_bytes text))
 elements_of (StarredText elements starred) = elements.items
 elements_of (Elements elements) = elements.items
 
--- A form is a text just where all elements are plain, and has the number that it writes. One with
--- stars has the elements that they and its text are.
+-- A form is a text exactly where all elements are plain, and it stores the number that they write.
+-- A form with stars stores elements that are these stars and its text.
 abbrev pub IsTextIfPlain : Form → Type 0
 IsTextIfPlain (PlainText text number) =
     number ≡ pattern_number (plain_elements (chars (string_bytes text)))

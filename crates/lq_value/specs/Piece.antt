@@ -1,4 +1,4 @@
--- What the code finds first in a source, as the definitions say it.
+-- What the code finds first in a source, in terms of the definitions.
 use Rattle.std.specs.Prelude.{[]}
 use Rattle.std.specs.Str.{IsUtf8}
 use Rattle.lq_value.specs.declared.element.Element.{Element}
@@ -16,7 +16,7 @@ first_of (pieces.Plain c rest) = has (element.Plain c) (signs_of rest.now)
 first_of (pieces.Opens negated items) = set_with negated (pieces_of item_at (signs_of items.now))
 first_of pieces.Faulty = faulty
 
--- what stands behind is a text
+-- the rest is a text
 abbrev pub IsTextBehindPiece : FirstPiece → Type 0
 IsTextBehindPiece pieces.End = Unit {0}
 IsTextBehindPiece (pieces.Star rest) = IsUtf8 rest.now

@@ -1,4 +1,4 @@
--- What the reader of sources has read, and what of it found memory.
+-- What the reader of sources has read, and what part of it had memory.
 use Rattle.std.specs.Prelude.{◌≡◌, ℕ, List, [], ◌∷◌, ◌++◌, Result, Ok, Err}
 use Rattle.std.specs.Str.{IsUtf8}
 use Rattle.std.specs.Global.{Vec}
@@ -19,7 +19,7 @@ first_item_of (first_item.End rest) = ends (signs_of rest.now)
 first_item_of (first_item.Has item rest) = has item (signs_of rest.now)
 first_item_of first_item.Faulty = faulty
 
--- what stands behind is a text
+-- the rest is a text
 abbrev pub IsTextBehindItem : FirstItem → Type 0
 IsTextBehindItem (first_item.End rest) = IsUtf8 rest.now
 IsTextBehindItem (first_item.Has item rest) = IsUtf8 rest.now
@@ -29,19 +29,19 @@ abbrev pub IsStuck : {A : Type 0} → Pieces A → Type 0
 IsStuck (whole xs rest) = ⊥
 IsStuck (stuck rest) = Unit {0}
 
--- one item more, or no memory, for these or before
+-- one more item, or no memory for it or for an earlier one
 abbrev pub IsWithItem : Result (List Item) Refusal → Item → Result (List Item) Refusal → Type 0
 IsWithItem (Ok items) item (Ok more) = more ≡ items ++ item ∷ []
 IsWithItem (Err e) item (Ok more) = ⊥
 IsWithItem (Ok items) item (Err e) = e ≡ NoMemory
 IsWithItem (Err e) item (Err e') = e' ≡ e
 
--- the items, or no memory for them, and then there are some
+-- the items, or no memory for them; then there is at least one
 abbrev pub AreGathered : List Item → Result (List Item) Refusal → Type 0
 AreGathered items (Ok gathered) = gathered ≡ items
 AreGathered items (Err e) = (e ≡ NoMemory) × (items ≡ [] → ⊥)
 
--- the items of the set, with what stands behind it
+-- the items of the set, and the rest after it
 pub record ReadsItems (ss : List Sign) (gathered : Result (List Item) Refusal)
     (rest : List Sign) : Type 0 where
   pub items : List Item
@@ -53,7 +53,7 @@ abbrev pub IsFound : Element → Result Element Refusal → Type 0
 IsFound element (Ok found) = found ≡ element
 IsFound element (Err e) = e ≡ NoMemory
 
--- the element that is first, with what stands behind it
+-- the first element, and the rest after it
 pub record HasElement (first : First Element) (found : Result Element Refusal)
     (rest : List ℕ) : Type 0 where
   pub element : Element
@@ -66,7 +66,7 @@ IsFirst first first_element.End = first ≡ ends []
 IsFirst first (first_element.Has found rest) = HasElement first found rest.now
 IsFirst first first_element.Faulty = first ≡ faulty
 
--- one element more, or no memory, for these or before
+-- one more element, or no memory for it or for an earlier one
 abbrev pub IsWithElement : Result (Vec Element) Refusal
     → Result Element Refusal → Result (Vec Element) Refusal → Type 0
 IsWithElement (Ok elements) (Ok element) (Ok more) = more.items ≡ elements.items ++ element ∷ []

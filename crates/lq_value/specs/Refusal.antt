@@ -1,4 +1,4 @@
--- Why a call is refused: each refusal's number and name, and the form in which contracts say it.
+-- Why a call is refused: each refusal's number and name, and its form in contracts.
 use Rattle.std.specs.Prelude.{◌≡◌, ℕ, List, [], ◌∷◌, Bool, Option, Some, None, Result, OnOk, IfErr, unwrap_or, if◌then◌else◌, codes}
 use Rattle.lq_value.specs.declared.refusal.Refusal.{Refusal}
 use Rattle.lq_value.specs.declared.refusal.Refusal.TheVariants.{BadName, NoNode, NotFolder, NoEntry, Exists, WouldLoop, NotEmpty, KindClash, IsFolder, NoAttr, Reserved, TooLong, Exhausted, NoMemory, BadQuery, BadPort, BadBacklog, NoSlot, NoSeat, NotOpen, StillOpen, LongLine, NotUtf8, NotJson, BadLine, OutOfStep, Mismatch}
@@ -66,8 +66,8 @@ abbrev pub first_refusal : List (Bool × Refusal) → Option Refusal
 first_refusal [] = None
 first_refusal (row ∷ rows) = if row.0 then Some row.1 else first_refusal rows
 
--- The call is refused just where `refusal` is one, and with
--- that one. Else it is done, or memory ran out.
+-- Where `refusal` is a refusal, the call is refused with exactly that one. Otherwise the call
+-- succeeds, or memory ran out.
 abbrev pub IsRefusedBy : {T : Type 0} → Result T Refusal → Option Refusal → Type 0
 IsRefusedBy result refusal =
     OnOk result (refusal ≡ None) × IfErr result (λ e. e ≡ unwrap_or refusal NoMemory)

@@ -12,65 +12,65 @@ take_front [] cs = true
 take_front (e ∷ es) [] = false
 take_front (e ∷ es) (c ∷ cs) = takes e c && take_front es cs
 
--- a flag that stays, or goes out
+-- a flag that stays or is cleared
 abbrev pub kept : Bool → ℕ → ℕ
 kept true flag = flag
 kept false flag = 0
 
--- a mark that is put, or is as it was
+-- a mark that is set or stays as it was
 abbrev pub marked : Bool → ℕ → ℕ
 marked true mark = 1
 marked false mark = mark
 
--- the mark of a character that a set takes, which may be negated
+-- the mark of a character that a set takes; the set may be negated
 abbrev pub wanted : Bool → ℕ
 wanted true = 0
 wanted false = 1
 
--- the character, for a set with these items
+-- whether a set with these items takes the character
 abbrev pub set_takes : Bool → List Item → ℕ → Bool
 set_takes negated items c = if negated then not (set_has items c) else set_has items c
 
--- marks are put where the test passes the text's character
+-- marks are set where the test passes for the text's character
 abbrev pub AreMarked : (ℕ → Bool) → List ℕ → List ℕ → List ℕ → Type 0
 AreMarked test cs old new = (k : ℕ) → k < length cs
     → slice_index new k ≡ marked (test (slice_index cs k)) (slice_index old k)
 
--- the marks of the characters that an item has
+-- exactly the characters that an item includes are marked
 abbrev pub AreMarksOf : List Item → List ℕ → List ℕ → Type 0
 AreMarksOf items cs marks = (k : ℕ) → k < length cs
     → slice_index marks k ≡ kept (set_has items (slice_index cs k)) 1
 
--- the flags stay where the test passes the text's character, and go out elsewhere
+-- the flags stay where the test passes for the text's character, and are cleared elsewhere
 abbrev pub AreKept : (ℕ → Bool) → List ℕ → List ℕ → List ℕ → Type 0
 AreKept test cs old new = (k : ℕ) → k < length cs
     → slice_index new k ≡ kept (test (slice_index cs k)) (slice_index old k)
 
--- every flag is on
+-- every flag is set
 abbrev pub AreOn : List ℕ → Type 0
 AreOn flags = (k : ℕ) → k < length flags → slice_index flags k ≡ 1
 
--- the flag of a place is on where the elements take the characters from there on
+-- a place's flag is set exactly where the elements take the characters from that place on
 abbrev pub AreFlags : List Element → List ℕ → List ℕ → Type 0
 AreFlags es cs flags = (k : ℕ) → k < length flags
     → slice_index flags k ≡ kept (take_front es (drop k cs)) 1
 
--- no flag from one place up to another is on
+-- no flag from one place up to another is set
 abbrev pub AreOff : List ℕ → ℕ → ℕ → Type 0
 AreOff flags from to = (k : ℕ) → from ≤ k → k < to → slice_index flags k ≡ 0
 
--- the first flag from a place on that is on, or the flags' number
+-- the first set flag from a place on, or the number of flags
 pub record IsNextOn (flags : List ℕ) (from next : ℕ) : Type 0 where
   pub within : next ≤ length flags
   pub behind : from ≤ next
   pub off : AreOff flags from next
   pub on : next < length flags → slice_index flags next ≡ 0 → ⊥
 
--- before this place there is none from which on the elements take the characters
+-- at no place before this one do the elements take the characters
 abbrev pub TakeNoneBefore : List Element → List ℕ → ℕ → Type 0
 TakeNoneBefore es cs end = (q : ℕ) → q < end → take_front es (drop q cs) ≡ false
 
--- the first place from which on the elements take the characters
+-- the first place at which the elements take the characters
 pub record IsFirstPlace (es : List Element) (cs : List ℕ) (place : ℕ) : Type 0 where
   pub within : place + length es ≤ length cs
   pub taken : take_front es (drop place cs) ≡ true
@@ -81,11 +81,11 @@ pub record IsFirstPlaceBefore (es : List Element) (cs : List ℕ) (end place : �
   pub before : place < end
   pub is : IsFirstPlace es cs place
 
--- no place has room for the elements and takes them
+-- no place that has room for the elements takes them
 abbrev pub TakeNowhere : List Element → List ℕ → Type 0
 TakeNowhere es cs = (q : ℕ) → q + length es ≤ length cs → take_front es (drop q cs) ≡ false
 
--- single elements up to a star or to the end, and the others
+-- elements up to a star or to the end, none of which is a star, and the others
 pub record IsPiece (es piece after : List Element) : Type 0 where
   pub elements : es ≡ piece ++ after
   pub single : AreSingle piece

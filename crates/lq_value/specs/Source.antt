@@ -1,5 +1,5 @@
--- The pattern of a source text, or the byte place of its leftmost fault. A source is
--- read from the left, an element at a time, and the items of a set likewise.
+-- The pattern of a source text, or the byte offset of its leftmost fault. A source is read from the
+-- left, one element at a time, and so are the items of a set.
 use Rattle.std.specs.Prelude.{ℕ, zero, suc, ◌-◌, ◌==◌, nat_le, if◌then◌else◌, Bool, true, false, List, [], ◌∷◌, length, Option, Some, None, Result, Ok, Err}
 use Rattle.lq_value.specs.declared.element.Item.{Item}
 use Rattle.lq_value.specs.declared.element.Item.TheVariants.{One, Range}
@@ -11,13 +11,13 @@ use Rattle.lq_value.specs.declared.sign.Sign.{Sign}
 use Rattle.lq_value.specs.declared.sign.Sign.TheVariants.{Bare, Escaped, Dangling}
 use Rattle.lq_value.specs.Sign.{signs_of, signs_len}
 
--- what stands first: the end of the pieces, a piece, or neither; and what stands behind it
+-- what comes first: the end of the pieces, a piece, or neither; and the signs after it
 pub data First (A : Type 0) : Type 0 where
   ends : List Sign → First A
   has : A → List Sign → First A
   faulty : First A
 
--- the pieces up to their end with what stands behind it, or where they stop without one
+-- the pieces and the signs after their end, or the signs where they stop without an end
 pub data Pieces (A : Type 0) : Type 0 where
   whole : List A → List Sign → Pieces A
   stuck : List Sign → Pieces A
@@ -37,7 +37,7 @@ unfoldable pub pieces_within : {A : Type 0} → (List Sign → First A) → ℕ 
 pieces_within first zero ss = stuck ss
 pieces_within first (suc most) ss = after_first ss (first ss) (pieces_within first most)
 
--- the pieces one behind another: each has a sign at least, so that there are no more than signs
+-- the pieces one after another: each has at least one sign, so there are at most as many as signs
 unfoldable pub pieces_of : {A : Type 0} → (List Sign → First A) → List Sign → Pieces A
 pieces_of first ss = pieces_within first (suc (length ss)) ss
 
@@ -52,7 +52,7 @@ is_bare d Dangling = false
 abbrev pub range_at : ℕ → ℕ → List Sign → First Item
 range_at c d ss = if nat_le c d then has (Range c d) ss else faulty
 
--- a `]` ends the set, and so a `-` before it, at `here`, is no range's
+-- a `]` ends the set, so a `-` before it, which begins `here`, makes no range
 abbrev pub behind_dash : ℕ → List Sign → List Sign → First Item
 behind_dash c here [] = has (One c) here
 behind_dash c here (Bare d ∷ ss) = if d == 93 then has (One c) here else range_at c d ss
@@ -73,13 +73,13 @@ item_at (Dangling ∷ ss) = faulty
 
 -- ---- the elements
 
--- a set has an item at least
+-- a set has at least one item
 abbrev pub set_with : Bool → Pieces Item → First Element
 set_with negated (whole [] rest) = faulty
 set_with negated (whole (i ∷ is) rest) = has (Set negated (i ∷ is)) rest
 set_with negated (stuck rest) = faulty
 
--- the set whose `[` stands before these signs; a `^` that is first negates it
+-- the set whose `[` is just before these signs; a leading `^` negates it
 abbrev pub set_at : List Sign → First Element
 set_at [] = set_with false (pieces_of item_at [])
 set_at (s ∷ ss) =
@@ -98,12 +98,12 @@ element_at (Bare c ∷ ss) =
 element_at (Escaped c ∷ ss) = has (Plain c) ss
 element_at (Dangling ∷ ss) = faulty
 
--- the elements, or the byte place where none begins
+-- the elements, or the byte offset where none begins
 abbrev pub elements_or_place : List ℕ → Pieces Element → Result (List Element) ℕ
 elements_or_place text (whole es rest) = Ok es
 elements_or_place text (stuck rest) = Err (length text - signs_len rest)
 
--- the pattern of a source text, or the place of its leftmost fault
+-- the pattern of a source text, or the byte offset of its leftmost fault
 abbrev pub pattern_of : List ℕ → Result (List Element) ℕ
 pattern_of text = elements_or_place text (pieces_of element_at (signs_of text))
 

@@ -1,4 +1,4 @@
--- What a value is, seen from what shows it, and why a text is no value.
+-- The value that a view shows, and why a text is refused as a value.
 use Rattle.std.specs.Prelude.{ℕ, List, length, nat_le, Option, Some, None, if◌then◌else◌}
 use Rattle.lq_value.specs.declared.refusal.Refusal.{Refusal}
 use Rattle.lq_value.specs.declared.refusal.Refusal.TheVariants.{TooLong}
@@ -7,7 +7,7 @@ use Rattle.lq_value.specs.declared.value.Value.TheVariants as value
 use Rattle.lq_value.specs.declared.view.View.{View}
 use Rattle.lq_value.specs.declared.view.View.TheVariants as view
 
--- why a text is no value: it has more than 4,096 bytes
+-- why a text is refused as a value: it has more than 4,096 bytes
 abbrev pub text_refusal : List ℕ → Option Refusal
 text_refusal bytes = if nat_le (length bytes) 4096 then None else Some TooLong
 

@@ -1,4 +1,4 @@
--- What a source writes: some split of its signs into one part for each element, in order, has each
+-- What a source writes: some split of its signs into one part for each element, in order, lets each
 -- part write its element. At a fault the elements before it end, and no element is written there.
 use Rattle.std.specs.Prelude.{◌≡◌, ◌≤◌, ◌==◌, ◌||◌, ℕ, List, [], ◌∷◌, ◌++◌, Bool, true, false}
 use Rattle.lq_value.specs.declared.element.Item.{Item}
@@ -13,23 +13,23 @@ use Rattle.lq_value.specs.Sign.{signs_of, signs_len}
 abbrev pub is_special : ℕ → Bool
 is_special c = c == 42 || c == 63 || c == 91
 
--- the sign stands for the character outside a set
+-- the sign means the character outside a set
 abbrev pub StandsFor : Sign → ℕ → Type 0
 StandsFor (Bare d) c = (d ≡ c) × (is_special d ≡ false)
 StandsFor (Escaped d) c = d ≡ c
 StandsFor Dangling c = ⊥
 
--- the sign stands for the character inside a set, where `]` alone has a meaning
+-- the sign means the character inside a set, where only `]` has a meaning of its own
 abbrev pub StandsInSet : Sign → ℕ → Type 0
 StandsInSet (Bare d) c = (d ≡ c) × ((d == 93) ≡ false)
 StandsInSet (Escaped d) c = d ≡ c
 StandsInSet Dangling c = ⊥
 
--- a `-` that is first is the last sign before the `]`
+-- a `-` that comes first is the last sign before the `]`
 abbrev pub BeginsNoRange : List Sign → Type 0
 BeginsNoRange text = (s : Sign) (behind : List Sign) → text ≡ Bare 45 ∷ s ∷ behind → s ≡ Bare 93
 
--- the part writes the item, where the rest of the set stands behind it
+-- the part writes the item, where the rest of the set comes after it
 abbrev pub IsItem : Item → List Sign → List Sign → Type 0
 IsItem (One c) part rest = (s : Sign) × (part ≡ s ∷ []) × StandsInSet s c × BeginsNoRange rest
 IsItem (Range c d) part rest = (s : Sign) × (t : Sign) × (part ≡ s ∷ Bare 45 ∷ t ∷ [])
@@ -41,7 +41,7 @@ AreItems [] text = text ≡ Bare 93 ∷ []
 AreItems (i ∷ is) text = (part : List Sign) × (rest : List Sign) × (text ≡ part ++ rest)
     × IsItem i part rest × AreItems is rest
 
--- the items of a set, one at least
+-- the items of a set, at least one
 abbrev pub AreSome : List Item → List Sign → Type 0
 AreSome items text = AreItems items text × (items ≡ [] → ⊥)
 
@@ -62,7 +62,7 @@ Writes text [] = text ≡ []
 Writes text (e ∷ es) = (part : List Sign) × (rest : List Sign) × (text ≡ part ++ rest)
     × IsElement e part × Writes rest es
 
--- the leftmost fault of a source has this byte place
+-- the leftmost fault of a source is at this byte offset
 pub record HasFaultAt (text : List ℕ) (place : ℕ) : Type 0 where
   pub elements : List Element
   pub front : List Sign

@@ -25,15 +25,15 @@ pub const MAX_ATTR_NAME: usize = 255;
 
 /// The name of an attribute: 1 to 255 bytes of UTF-8 without NUL.
 ///
-/// A contract sees it as its bytes. A name and its copies share one text, which is counted and goes
-/// with the last of them. The field that it names is found once, when it is read, so that no row
-/// compares texts for it.
+/// A contract sees it as its bytes. A name and its copies share one text, which is freed with the
+/// last of them. The name keeps the field that it stands for, so that no later look-up compares
+/// texts for it.
 pub struct AttrName {
     text: SharedText,
     field: Field,
 }
 
-// One call takes it apart, wherever one is dropped.
+// Dropping one is a single call, instead of code at each place.
 impl Drop for AttrName {
     fn drop(self) {
         let AttrName { text: _, field: _ } = self;
@@ -62,8 +62,8 @@ impl Model for AttrName {
 impl AttrName {
     /// The attribute's name with this text.
     ///
-    /// Refused, the first that fits: `BadName` where the text is no such name, `NoMemory`.
-    /// The limits are our own.
+    /// Refused, the first that fits: `BadName` where the text isn't the name of an attribute,
+    /// `NoMemory`. The limits are our own.
     pub fn read(alloc: Global, text: &str) -> Result<AttrName, Refusal>
         ensures refused { IsRefusedBy result
             (if is_attr_name text.now then None else Some BadName) }
@@ -93,9 +93,10 @@ impl AttrName {
         self.field
     }
 
-    /// Another name with the same text, which the two share: it takes no memory.
+    /// Another name that shares this one's text, which takes no memory.
     ///
-    /// Where 2^63 - 1 names share the text, the new name has a text of its own. Refused: `NoMemory`.
+    /// Only where 2^63 - 1 names share the text already, the new name has a text of its own.
+    /// Refused: `NoMemory`.
     pub fn copy(&self, alloc: Global) -> Result<AttrName, Refusal>
         ensures refused { IsRefusedBy result None }
         ensures value { IfOk result (λ name. name ≡ self.now) }

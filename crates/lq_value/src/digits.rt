@@ -1,4 +1,4 @@
-//! The number that digits write.
+//! The number that decimal digits write.
 ghost use Rattle.std.specs.Prelude.{◌≡◌, ◌+◌, ◌*◌, ◌-◌, ◌<◌, ◌^◌, Some, None, IfSome, if◌then◌else◌};
 ghost use Rattle.std.specs.Char.{is_ascii_digit, digit_value};
 ghost use Rattle.lq_value.specs.Number.{digits_number, number_of};
@@ -8,7 +8,7 @@ const MAX_DIGITS: usize = 20;
 
 /// The whole number that the bytes write: an optional `-` and 1 to 20 decimal digits.
 ///
-/// `None` where they write none. It takes no memory. The form is this project's own.
+/// `None` where they write no number. It takes no memory. The form is our own.
 pub fn number_of_bytes(bytes: &[u8]) -> Option<i128>
     ensures { result ≡ number_of bytes.now }
 {
@@ -18,7 +18,7 @@ pub fn number_of_bytes(bytes: &[u8]) -> Option<i128>
     }
 }
 
-// The number that the bytes write, where they are digits alone.
+// The number that the bytes write, where all of them are digits.
 fn digits_of_bytes(bytes: &[u8]) -> Option<u128>
     ensures value { result ≡ digits_number bytes.now }
     ensures small { IfSome result (λ n. n < 10 ^ 20) }
@@ -33,7 +33,7 @@ fn digits_of_bytes(bytes: &[u8]) -> Option<u128>
     Some(value)
 }
 
-// The number with one more digit after it; `None` where the code is no digit's.
+// The number with one more digit after it; `None` where the code isn't a digit's.
 fn with_digit(value: u128, code: u32) -> Option<u128>
     requires { value < 10 ^ 20 }
     ensures { result ≡

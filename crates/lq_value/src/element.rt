@@ -7,7 +7,7 @@ use crate::refusal::Refusal;
 use std::alloc::Global;
 use std::marker::Model;
 
-/// One item of a set: a character, or the characters from one to another, both among them.
+/// One item of a set: one character, or a range of characters that includes both ends.
 #[derive(Clone, Copy, PartialEq, Eq)]
 pub enum Item {
     One(char),
@@ -15,7 +15,7 @@ pub enum Item {
 }
 
 impl Item {
-    /// Whether the character is the item's, or one of them. It takes no memory.
+    /// Whether the item is or includes the character. It takes no memory.
     pub(crate) fn has(self, c: char) -> bool
         ensures { result ≡ has self c }
     {
@@ -28,7 +28,7 @@ impl Item {
 
 /// The items of a set, in the order of its source.
 ///
-/// A contract sees them as their list.
+/// A contract sees them as a list.
 #[derive(Drop)]
 pub struct Items {
     items: Vec<Item>,
@@ -44,7 +44,7 @@ impl Model for Items {
 }
 
 impl Items {
-    /// No items. It takes no memory.
+    /// A list of no items. It takes no memory.
     pub(crate) fn new(alloc: Global) -> Items
         ensures { result ≡ [] }
     {
@@ -67,14 +67,14 @@ impl Items {
         self.items.as_slice()
     }
 
-    /// Whether an item has the character. It takes no memory.
+    /// Whether an item includes the character. It takes no memory.
     pub(crate) fn has(&self, c: char) -> bool
         ensures { result ≡ set_has self.now c }
     {
         self.items.iter().any(|item| item.has(c))
     }
 
-    /// One item more, after the others. Refused: `NoMemory`.
+    /// Adds an item after the others. Refused: `NoMemory`.
     pub(crate) fn push(&mut self, item: Item) -> Result<(), Refusal>
         ensures refused { IsRefusedBy result None }
         ensures value { IfOk result (λ _. self.new ≡ self.old ++ item ∷ []) }
@@ -83,7 +83,7 @@ impl Items {
         Ok(())
     }
 
-    /// The same items again. Refused: `NoMemory`.
+    /// A copy of the items. Refused: `NoMemory`.
     pub(crate) fn copy(&self, alloc: Global) -> Result<Items, Refusal>
         ensures refused { IsRefusedBy result None }
         ensures value { IfOk result (λ items. items ≡ self.now) }
@@ -94,21 +94,21 @@ impl Items {
     }
 }
 
-/// One element of a pattern, and what part of a text it fits.
+/// One element of a pattern. Each variant says which part of a text it fits.
 #[derive(Drop)]
 pub enum Element {
-    /// Any run of characters, also the empty one.
+    /// Any run of characters, which may be empty.
     Star,
-    /// One character.
+    /// Any one character.
     Any,
-    /// The character itself.
+    /// This character.
     Plain(char),
-    /// One character that an item has, or where it is negated one that no item has.
+    /// One character that an item includes, or, where the set is negated, that no item includes.
     Set { negated: bool, items: Items },
 }
 
 impl Element {
-    /// Whether the element is one that takes a single character, and takes this one.
+    /// Whether the element takes a single character, and takes this one.
     pub(crate) fn takes(&self, c: char) -> bool
         ensures { result ≡ takes self.now c }
     {
@@ -120,7 +120,7 @@ impl Element {
         }
     }
 
-    /// The same element again. Refused: `NoMemory`.
+    /// A copy of the element. Refused: `NoMemory`.
     pub(crate) fn copy(&self, alloc: Global) -> Result<Element, Refusal>
         ensures refused { IsRefusedBy result None }
         ensures value { IfOk result (λ element. element ≡ self.now) }

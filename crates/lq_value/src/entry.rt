@@ -1,9 +1,9 @@
 //! An entry of a query's result.
 use crate::name::Name;
 
-/// An entry of a result: the folder that it is in, its name, and its node.
+/// An entry of a result: its folder, its name and its node.
 ///
-/// Nodes count from 2 and are never used again; `dir` is 1, the root, or a folder's node.
+/// Nodes count from 2 and are never used again. `dir` is 1, the root, or a folder's node.
 #[derive(Debug, Drop)]
 pub struct Entry {
     pub dir: u64,

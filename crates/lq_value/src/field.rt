@@ -1,6 +1,6 @@
 //! The fields that a name may stand for.
 
-/// What a name stands for: one of the three fields that each entry has, or an attribute.
+/// What a name stands for: an attribute, or one of the three fields that each entry has.
 #[derive(Clone, Copy)]
 pub enum Field {
     Name,

@@ -3,7 +3,7 @@ ghost use Rattle.std.specs.Prelude.{◌≡◌, ◌∷◌, ◌+◌, [], length, I
 ghost use Rattle.std.specs.Char.{len_utf8};
 ghost use Rattle.std.specs.Str.{chars};
 
-/// The first character, and the text after it; `None` for the empty text.
+/// The first character and the text after it; `None` for the empty text.
 pub fn first_char<'a>(text: &'a str) -> Option<(char, &'a str)>
     ensures value { MatchOption result (chars text.entry.now ≡ [])
         (λ r. chars text.entry.now ≡ r.0 ∷ chars r.1.now) }

@@ -1,6 +1,6 @@
-//! What a node is.
+//! The kind of a node.
 
-/// What a node is: a file, or a folder that others are in.
+/// The kind of a node: a file, or a folder, which can hold other nodes.
 #[derive(Clone, Copy, Debug, PartialEq, Eq)]
 pub enum Kind {
     File,

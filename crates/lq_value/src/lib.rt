@@ -1,9 +1,9 @@
-//! Names, values, texts and refusals, patterns and literals: what the other crates speak of.
+//! Names, values, texts, refusals, patterns and literals, for all other crates.
 //!
-//! A contract sees a name or a text as its bytes, and a pattern as its list of elements
-//! (`specs/Pattern` says what it fits, `specs/Written` how it is written). Nothing here waits, and
-//! comparing takes no memory. Begin with `refusal`, then `value`, `name`, `element`, `pattern` and
-//! `literal`.
+//! A contract sees a name or a text as its bytes, and a pattern as its list of elements.
+//! `specs/Pattern` says what a pattern fits, `specs/Written` how its source writes it. Nothing here
+//! waits, and comparing takes no memory. Begin with `refusal`, then `value`, `name`, `element`,
+//! `pattern` and `literal`.
 #![tactic(auto)]
 
 mod attr_name;

@@ -1,4 +1,4 @@
-//! What an attribute is compared with, and the comparison.
+//! Literals, and the comparison of an attribute with one.
 ghost use Rattle.std.specs.Prelude.{◌≡◌, None, IfOk, IsTrue};
 ghost use Rattle.lq_value.specs.Refusal.{IsRefusedBy};
 ghost use Rattle.lq_value.specs.Held.{held_of};
@@ -11,8 +11,8 @@ use crate::text::Text;
 use crate::view::View;
 use std::alloc::Global;
 
-/// What an attribute is compared with: a pattern for `Eq` and `Ne`, a plain text for the
-/// operators of order.
+/// What an attribute is compared with: a pattern for `Eq` and `Ne`, a plain text for the operators
+/// of order.
 #[derive(Drop)]
 pub enum Literal {
     Pattern(Pattern),
@@ -20,7 +20,7 @@ pub enum Literal {
 }
 
 impl Literal {
-    /// Whether the operator takes a literal of this sort. It takes no memory.
+    /// Whether the operator takes a literal of this kind. It takes no memory.
     pub fn suits(&self, op: Op) -> bool
         ensures { result ≡ suits self.now op }
     {
@@ -41,7 +41,7 @@ impl Literal {
         }
     }
 
-    /// Another literal that is the same. Refused: `NoMemory`.
+    /// A copy of the literal. Refused: `NoMemory`.
     pub fn copy(&self, alloc: Global) -> Result<Literal, Refusal>
         ensures refused { IsRefusedBy result None }
         ensures value { IfOk result (λ literal. literal ≡ self.now) }
@@ -59,11 +59,12 @@ impl Literal {
     }
 }
 
-/// Compares what an attribute holds with a literal that suits the operator.
+/// Compares the value of an attribute with a literal that suits the operator.
 ///
-/// `Eq` is true for a text that the pattern fits as a whole, `Ne` for any other; the operators
-/// of order compare bytes. Numbers are compared as whole numbers, and falsely, also by `Ne`, with
-/// a literal that writes none. It takes no memory. The operators are BQuery's.
+/// For a text, `Eq` is true where the pattern fits the whole text, and `Ne` where it doesn't. The
+/// operators of order compare bytes. Numbers are compared as whole numbers; where the literal
+/// writes no number, the answer is false, for `Ne` too. It takes no memory. The operators are
+/// BQuery's.
 pub fn compare(view: View<'_>, op: Op, literal: &Literal) -> bool
     requires { IsTrue (suits literal.now op) }
     ensures { result ≡ compares (held_of view.entry) op literal.now }

@@ -1,4 +1,4 @@
-//! Matching a long text, by its characters in a row.
+//! Matching a long text, through an array of its characters.
 ghost use Rattle.std.specs.Prelude.{◌≡◌, ◌≤◌, length, take, drop, IfSome, MatchOption, false};
 ghost use Rattle.std.specs.Str.{chars};
 ghost use Rattle.lq_value.specs.Matching.{AreSingle, Finds, IsAtStar};
@@ -15,20 +15,20 @@ const LONG_TEXT: usize = 128;
 // How many characters it may have.
 const MAX_CHARS: usize = 4096;
 
-// What is left of a pattern and of a text's characters.
+// The elements and characters that are left.
 #[derive(Clone, Copy)]
 struct Rest<'a> {
     elements: &'a [Element],
     text: &'a [char],
 }
 
-// What is left of a text.
+// The text that is left.
 #[derive(Clone, Copy)]
 struct Unread<'a> {
     text: &'a str,
 }
 
-// Elements up to a star, and those from it on.
+// The elements before the first star, and those from the star on.
 #[derive(Clone, Copy)]
 struct Piece<'a> {
     single: &'a [Element],
@@ -59,7 +59,7 @@ fn fits_copied(elements: &[Element], text: &str) -> Option<bool>
     }))
 }
 
-// The number of the text's characters, which then stand in the buffer, if it has room for them.
+// Copies the characters into the buffer and answers their number; `None` if they have no room.
 #[tactic(auto, using(crate::proofs::SeekLemmas::copied_char, crate::proofs::SeekLemmas::copied_all))]
 fn copy_chars(text: &str, buffer: &mut [char]) -> Option<usize>
     ensures room { IfSome result (λ count. count ≤ length buffer.new) }
@@ -95,7 +95,7 @@ fn fits_chars(start: Rest<'_>) -> bool
     left.text.is_empty()
 }
 
-// What is left after the first place of the text at which the elements up to the next star fit.
+// The rest after the first place of the text at which the elements up to the next star fit.
 #[tactic(auto, using(crate::proofs::SeekLemmas::short_piece, crate::proofs::SeekLemmas::nowhere_end, crate::proofs::SeekLemmas::nowhere_piece, crate::proofs::SeekLemmas::found_end, crate::proofs::SeekLemmas::found_piece))]
 fn find<'a>(start: Rest<'a>) -> Option<Rest<'a>>
     ensures { MatchOption result
@@ -133,7 +133,7 @@ fn split_at_star<'a>(elements: &'a [Element]) -> Piece<'a>
     Piece { single, after }
 }
 
-// How many elements stand before the first star.
+// The number of elements before the first star.
 #[tactic(auto, using(crate::proofs::SeekLemmas::single_more, crate::proofs::SeekLemmas::star_at, crate::proofs::SeekLemmas::star_end))]
 fn count_single(elements: &[Element]) -> usize
     ensures within { result ≤ length elements.now }

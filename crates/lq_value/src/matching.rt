@@ -1,4 +1,4 @@
-//! Matching a text by elements, going back to the latest star alone.
+//! Matching a text with elements, with backtracking to the latest star only.
 ghost use Rattle.std.specs.Prelude.{◌≡◌, MatchOption, false};
 ghost use Rattle.std.specs.Str.{chars};
 ghost use Rattle.lq_value.specs.Matching.{Finds, IsAtStar, IsTaken, PassesToStar};
@@ -15,12 +15,12 @@ pub(crate) struct Left<'a> {
     pub(crate) text: &'a str,
 }
 
-/// What came of matching one element.
+/// The result of matching one element.
 #[derive(Clone, Copy)]
 pub(crate) enum Taken<'a> {
-    /// It took the first character.
+    /// The element took the first character.
     More(Left<'a>),
-    /// It is a star, or there is none.
+    /// The element is a star, or no element is left.
     AtStar,
     /// The pattern doesn't fit the text.
     Never,
@@ -28,7 +28,7 @@ pub(crate) enum Taken<'a> {
 
 /// Whether the elements fit the whole text. It takes no memory.
 ///
-/// It goes back to the latest star alone, since that one takes what any earlier star could have.
+/// It backtracks to the latest star only, since that star can take whatever an earlier one could.
 pub(crate) fn fits_text(left: Left<'_>) -> bool
     ensures { result ≡ fits left.entry.elements.now (chars left.entry.text.now) }
 {
@@ -38,7 +38,7 @@ pub(crate) fn fits_text(left: Left<'_>) -> bool
     }
 }
 
-// The same from a star on, or where there are no elements.
+// The same, from a star on or for no elements.
 fn fits_stars(start: Left<'_>) -> bool
     requires { IsAtStar start.elements.now }
     ensures { result ≡ fits start.entry.elements.now (chars start.entry.text.now) }
@@ -49,7 +49,7 @@ fn fits_stars(start: Left<'_>) -> bool
     }
 }
 
-// The same an element and a character at a time.
+// The same, one element and one character at a time.
 fn fits_short(start: Left<'_>) -> bool
     requires { IsAtStar start.elements.now }
     ensures { result ≡ fits start.entry.elements.now (chars start.entry.text.now) }
@@ -73,7 +73,7 @@ fn is_at_end(text: &str) -> bool
     first_char(text).is_none()
 }
 
-// What is left after the first place of the text at which the elements up to the next star fit.
+// The rest after the first place of the text at which the elements up to the next star fit.
 #[tactic(auto, using(crate::proofs::MatchingLemmas::found_later, crate::proofs::MatchingLemmas::some_later))]
 fn find<'a>(start: Left<'a>) -> Option<Left<'a>>
     ensures { MatchOption result
@@ -93,7 +93,7 @@ fn find<'a>(start: Left<'a>) -> Option<Left<'a>>
     }
 }
 
-// The same at the text's front alone: the elements pass up to a star, or to the text's end.
+// The same at the start of the text only: the elements fit up to a star, or up to the text's end.
 #[tactic(auto, using(crate::proofs::MatchingLemmas::found_at_star, crate::proofs::MatchingLemmas::found_at_end, crate::proofs::MatchingLemmas::not_found))]
 fn find_here<'a>(here: Left<'a>) -> Option<Left<'a>>
     ensures { MatchOption result
@@ -109,7 +109,7 @@ fn find_here<'a>(here: Left<'a>) -> Option<Left<'a>>
     }
 }
 
-// What is left where each element up to the next star has taken a character.
+// The rest after each element up to the next star has taken a character.
 fn pass<'a>(start: Left<'a>) -> Option<Left<'a>>
     ensures { MatchOption result
         (fits start.entry.elements.now (chars start.entry.text.now) ≡ false)
@@ -126,7 +126,7 @@ fn pass<'a>(start: Left<'a>) -> Option<Left<'a>>
     }
 }
 
-// One element and one character more.
+// Matches one element with one character.
 fn take_one<'a>(left: Left<'a>) -> Taken<'a>
     ensures { IsTaken result left.entry.elements.now (chars left.entry.text.now) }
 {

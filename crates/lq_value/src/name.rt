@@ -20,18 +20,19 @@ use std::marker::Model;
 /// The longest name of an entry, in bytes.
 const MAX_NAME: usize = 255;
 
-/// What is kept of a text's hash where another byte follows: 55 bits.
+/// The modulus of a hash before the next byte is added, which keeps 55 bits.
 const KEPT: u64 = 1 << 55;
 
 /// The name of an entry: 1 to 255 bytes of UTF-8 without `/` and NUL, and neither `.` nor `..`.
 ///
-/// A contract sees a name as its bytes, by which names are ordered. Up to 14 of them stand in the
-/// name itself; a longer name and its copies share one text, which goes with the last of them.
+/// A contract sees a name as its bytes, and names are ordered by their bytes. A name of up to 14
+/// bytes holds them itself. A longer name and its copies share one text, which is freed with the
+/// last of them.
 pub struct Name {
     text: NameText,
 }
 
-// One call takes it apart, wherever one is dropped.
+// Dropping one is a single call, instead of code at each place.
 impl Drop for Name {
     fn drop(self) {
         let Name { text: _ } = self;
@@ -58,8 +59,8 @@ impl Model for Name {
 impl Name {
     /// The name with this text.
     ///
-    /// Refused, the first that fits: `BadName` where the text is no name, `NoMemory`.
-    /// The limits are our own.
+    /// Refused, the first that fits: `BadName` where the text isn't a name, `NoMemory`. The limits
+    /// are our own.
     pub fn read(alloc: Global, text: &str) -> Result<Name, Refusal>
         ensures refused { IsRefusedBy result (if is_name text.now then None else Some BadName) }
         ensures value { IfOk result (λ name. name ≡ text.now) }
@@ -80,17 +81,18 @@ impl Name {
         self.text.as_str()
     }
 
-    /// A number that tells most names apart: names with the same text have the same. It takes no
-    /// memory.
+    /// A hash of the name, which differs for most names. Names with the same text have the same
+    /// hash. It takes no memory.
     pub fn hash(&self) -> u64
         ensures { result ≡ hash_of self.now }
     {
         hash_of_bytes(self.as_str().as_bytes())
     }
 
-    /// Another name with the same text: it takes no memory.
+    /// Another name with the same text, which takes no memory.
     ///
-    /// Where 2^63 - 1 names share a text, the new name has a text of its own. Refused: `NoMemory`.
+    /// Only where 2^63 - 1 names share the text already, the new name has a text of its own.
+    /// Refused: `NoMemory`.
     pub fn copy(&self, alloc: Global) -> Result<Name, Refusal>
         ensures refused { IsRefusedBy result None }
         ensures value { IfOk result (λ name. name ≡ self.now) }

@@ -8,14 +8,13 @@ use lq_value_short_text::ShortText;
 use std::alloc::Global;
 use std::marker::Model;
 
-/// The longest name that stands in its place, in bytes: with its length and what tells it from a
-/// longer one it takes 16 bytes, as a longer one does there.
+/// The longest name that is stored inline, in bytes. With its length and the tag of its variant it
+/// takes 16 bytes, as a longer one does there.
 const MAX_SHORT: usize = 14;
 
-/// A text that up to 14 bytes takes no memory of its own, and which its copies share where it is
-/// longer.
+/// A text of up to 14 bytes that is stored inline, or a longer one that its copies share.
 ///
-/// A contract sees it as its bytes.
+/// Inline it takes no memory of its own. A contract sees it as its bytes.
 #[derive(Drop)]
 pub(crate) struct NameText {
     kept: Named,
@@ -59,9 +58,11 @@ impl NameText {
         }
     }
 
-    /// The same text. Up to 14 bytes are copied, a longer text is shared: it takes no memory.
+    /// The same text. Up to 14 bytes are copied and a longer text is shared, so this takes no
+    /// memory.
     ///
-    /// Where 2^63 - 1 share a text, the new one has a text of its own. Refused: `NoMemory`.
+    /// Only where 2^63 - 1 share the text already, the new one has a text of its own. Refused:
+    /// `NoMemory`.
     pub fn copy(&self, alloc: Global) -> Result<NameText, Refusal>
         ensures refused { IsRefusedBy result None }
         ensures value { IfOk result (λ name. name ≡ self.now) }

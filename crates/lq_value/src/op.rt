@@ -3,7 +3,7 @@ ghost use Rattle.std.specs.Prelude.{◌≡◌};
 
 use std::cmp::Ordering;
 
-/// What stands between the two sides of a comparison, as in BQuery.
+/// The operator between the two sides of a comparison, as in BQuery.
 #[derive(Clone, Copy, Debug, PartialEq, Eq)]
 pub enum Op {
     Eq,

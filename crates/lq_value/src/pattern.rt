@@ -18,42 +18,42 @@ use crate::starred::{Starred, without_stars};
 use std::alloc::Global;
 use std::marker::Model;
 
-/// A pattern: a list of elements, read from the left, that a whole text fits or doesn't.
+/// A pattern: a list of elements, read from the left, that fits a whole text or doesn't.
 ///
-/// A contract sees it as its list of elements. The patterns are this project's own.
+/// A contract sees it as its list of elements. The patterns are our own.
 pub struct Pattern {
     form: Form,
 }
 
-// One call takes it apart, wherever one is dropped.
+// Dropping one is a single call, instead of code at each place.
 impl Drop for Pattern {
     fn drop(self) {
         let Pattern { form: _ } = self;
     }
 }
 
-// How the elements are kept.
+// How a pattern keeps its elements.
 #[derive(Drop)]
 pub(crate) enum Form {
-    // The text of plain elements, which compares by its bytes, and the number that it writes.
+    // The text of plain elements, which is compared by its bytes, and the number that it writes.
     PlainText {
         text: String,
         number: Option<i128>,
     },
-    // Elements that are plain but for a first and a last star, and the text between these.
+    // Elements that are plain except a star at one end or both, and the text between the stars.
     StarredText {
         elements: Vec<Element>,
         starred: Starred,
     },
-    // Other elements that are not all plain.
+    // Other elements, of which not all are plain.
     Elements(Vec<Element>),
 }
 
-/// The elements of a pattern, from the left: plain ones as their text, or a list.
+/// The elements of a pattern, from the left: plain ones as their text, others as a list.
 pub enum Elements<'a> {
-    /// Each character is a plain element.
+    /// The text of the elements, which are all plain: one for each character.
     Text(&'a str),
-    /// Not all of these are plain.
+    /// A list of elements, of which not all are plain.
     List(&'a [Element]),
 }
 
@@ -75,9 +75,9 @@ impl Pattern {
     /// The pattern that a source text writes.
     ///
     /// `*` is a star, `?` any character, `[..]` a set and `[^..]` a negated one; `\` before a
-    /// character makes it plain. Refused, the first that fits: `BadQuery` with the byte place of
-    /// the leftmost fault (the `[` of a set that is empty, has no end, or has a range that falls; a
-    /// `\` that ends the source), `NoMemory`.
+    /// character makes it plain. Refused, the first that fits: `BadQuery` with the byte offset of
+    /// the leftmost fault, `NoMemory`. A fault is the `[` of a set that is empty, has no end or has
+    /// a range that falls, or a `\` that ends the source.
     pub fn read(alloc: Global, source: &str) -> Result<Pattern, Refusal>
         ensures value { IfOk result (λ pattern. pattern_of source.now ≡ Ok pattern) }
         ensures written { IfOk result (λ pattern. Writes (signs_of source.now) pattern) }
@@ -137,8 +137,10 @@ impl Pattern {
         }
     }
 
-    /// The whole number that the pattern writes, if all its elements are plain and their text is
-    /// an optional `-` and 1 to 20 decimal digits. It takes no memory.
+    /// The whole number that the pattern writes, where all its elements are plain and their text is
+    /// an optional `-` and 1 to 20 decimal digits.
+    ///
+    /// `None` for any other pattern. It takes no memory.
     pub fn number(&self) -> Option<i128>
         ensures { result ≡ pattern_number self.now }
     {
@@ -148,7 +150,7 @@ impl Pattern {
         }
     }
 
-    /// Another pattern with the same elements. Refused: `NoMemory`.
+    /// A copy of the pattern. Refused: `NoMemory`.
     pub fn copy(&self, alloc: Global) -> Result<Pattern, Refusal>
         ensures refused { IsRefusedBy result None }
         ensures value { IfOk result (λ pattern. pattern ≡ self.now) }
@@ -204,7 +206,7 @@ fn plain_text(alloc: Global, elements: &[Element]) -> Result<Option<String>, Ref
     Ok(Some(text))
 }
 
-// The elements as plain text with a star before it, after it or both, if they are.
+// The elements as plain text with a star before it, after it or both, if they have that form.
 fn starred_text(alloc: Global, elements: &[Element]) -> Result<Option<Starred>, Refusal>
     ensures refused { IsRefusedBy result None }
     ensures value { IfOk result (λ text. IfSome text

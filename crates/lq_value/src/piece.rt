@@ -1,4 +1,4 @@
-//! What stands first in a pattern's source.
+//! What comes first in a pattern's source.
 ghost use Rattle.std.specs.Prelude.{◌≡◌};
 ghost use Rattle.lq_value.specs.Piece.{IsTextBehindPiece, first_of};
 ghost use Rattle.lq_value.specs.Sign.{signs_of};
@@ -6,7 +6,7 @@ ghost use Rattle.lq_value.specs.Source.{element_at, set_at};
 
 use crate::sign::{Sign, first_sign};
 
-/// What stands first where an element of a pattern is looked for, and the source after it.
+/// What comes first in a source where an element is expected, and the source after it.
 #[derive(Clone, Copy)]
 pub enum FirstPiece<'a> {
     /// The end of the source.
@@ -17,15 +17,15 @@ pub enum FirstPiece<'a> {
     Any(&'a str),
     /// A character that stands for itself.
     Plain(char, &'a str),
-    /// The `[` of a set, or `[^`, and the source where its items are looked for.
+    /// The `[` of a set, or `[^`, and the source where its items begin.
     Opens { negated: bool, items: &'a str },
     /// A `\` that ends the source.
     Faulty,
 }
 
-/// What stands first in a pattern's source, where an element is looked for. It takes no memory.
+/// What comes first in a pattern's source where an element is expected. It takes no memory.
 ///
-/// Of a set only its begin is read: whether it has items and an end, `first_item` says.
+/// Of a set it reads only the beginning. `first_item` says whether the set has items and an end.
 pub fn first_piece<'a>(source: &'a str) -> FirstPiece<'a>
     ensures first { element_at (signs_of source.entry.now) ≡ first_of result }
     ensures text { IsTextBehindPiece result }
@@ -41,7 +41,7 @@ pub fn first_piece<'a>(source: &'a str) -> FirstPiece<'a>
     }
 }
 
-// The set whose `[` stands before the text.
+// The set whose `[` is just before the text.
 fn set_begin<'a>(text: &'a str) -> FirstPiece<'a>
     ensures first { set_at (signs_of text.entry.now) ≡ first_of result }
     ensures text { IsTextBehindPiece result }

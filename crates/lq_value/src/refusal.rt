@@ -8,8 +8,8 @@ use thiserror::Error;
 
 /// Why a call was refused: a numbered answer that changes nothing.
 ///
-/// The numbers and names are this project's own; the display text is the name, and that of
-/// `BadQuery` also has the byte place of the fault, counted from 0.
+/// The numbers and names are our own. The display text is the name, and for `BadQuery` also the
+/// byte offset of the fault, counted from 0.
 #[derive(Clone, Copy, PartialEq, Eq, Error)]
 pub enum Refusal {
     #[error("BadName")]
@@ -71,7 +71,7 @@ pub enum Refusal {
 impl Refusal {
     ghost use Rattle.lq_value.specs.Refusal.{code_of, name_of};
 
-    /// The refusal's number, the same for every place of a `BadQuery`.
+    /// The refusal's number, which is the same for every offset of a `BadQuery`.
     pub fn code(self) -> u64
         ensures { result ≡ code_of self }
     {
@@ -106,7 +106,7 @@ impl Refusal {
         }
     }
 
-    /// The refusal's name, without a place.
+    /// The refusal's name, without an offset.
     pub fn name(self) -> &'static str
         ensures { result.now ≡ name_of self }
     {

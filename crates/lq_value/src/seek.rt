@@ -1,17 +1,17 @@
-//! Seeking single elements at many places of a text at once.
+//! Looking for elements other than stars at many places of a text at once.
 ghost use Rattle.std.specs.Prelude.{◌≡◌, ◌≤◌, ◌<◌, ◌+◌, ◌==◌, ◌&&◌, nat_le, length, drop, MatchOption};
 ghost use Rattle.lq_value.specs.Element.{has, takes};
 ghost use Rattle.lq_value.specs.Seek.{kept, marked, wanted, set_takes, AreKept, AreMarked, AreMarksOf, AreOff, AreOn, IsNextOn, TakeNoneBefore, IsFirstPlace, IsFirstPlaceBefore, TakeNowhere};
 
 use crate::element::{Element, Item};
 
-// How many places are tried at once.
+// The number of places that are tried at once.
 const WINDOW: usize = 512;
 
-/// The first place of the text from which on the elements take a character each.
+/// The first place of the text from which on each element takes a character.
 ///
-/// It takes a step for each place and each element that isn't `?`, several of them at once, and an
-/// item of a set is a step of its own.
+/// It takes one step for each place and each element except `?`, and does several at once. Each
+/// item of a set is a step too.
 #[tactic(auto, using(crate::proofs::SeekLemmas::empty_first, crate::proofs::SeekLemmas::none_more, crate::proofs::SeekLemmas::first_more))]
 pub(crate) fn find_place(elements: &[Element], text: &[char]) -> Option<usize>
     requires { length elements.now ≤ length text.now }
@@ -42,7 +42,7 @@ pub(crate) fn from_place(text: &[char], place: usize) -> &[char]
     &text[place..]
 }
 
-// The same among the first places.
+// The same for the first places only.
 fn find_among(elements: &[Element], text: &[char], places: usize) -> Option<usize>
     requires some { 0 < places }
     requires window { places ≤ 512 }
@@ -54,7 +54,8 @@ fn find_among(elements: &[Element], text: &[char], places: usize) -> Option<usiz
     find_flagged(elements, text, &mut flags[..places])
 }
 
-// The same with a flag for each of them, which goes out where an element doesn't take its character.
+// The same with a flag for each place. A flag is cleared where an element doesn't take its
+// character.
 #[tactic(auto, using(crate::proofs::SeekLemmas::flags_on, crate::proofs::SeekLemmas::flags_more, crate::proofs::SeekLemmas::off_more, crate::proofs::SeekLemmas::none_flagged, crate::proofs::SeekLemmas::first_flagged))]
 fn find_flagged(elements: &[Element], text: &[char], flags: &mut [u32]) -> Option<usize>
     requires some { 0 < length flags.old }
@@ -87,7 +88,7 @@ fn next_on(flags: &[u32], from: usize) -> usize
     next
 }
 
-// The flags stay where the element takes the character.
+// Keeps the flags where the element takes the character, and clears the others.
 #[tactic(auto, using(crate::proofs::MarkLemmas::none_kept))]
 fn keep(flags: &mut [u32], element: &Element, text: &[char])
     requires same { length flags.old ≡ length text.now }
@@ -128,7 +129,7 @@ fn keep_set(flags: &mut [u32], items: &[Item], negated: bool, text: &[char])
     keep_marked(flags, &mut all[..text.len()], items, negated, text);
 }
 
-// The same with a mark for each character, which is put where an item has it.
+// The same with a mark for each character, which is set where an item includes the character.
 #[tactic(auto, using(crate::proofs::MarkLemmas::marked_kept))]
 fn keep_marked(flags: &mut [u32], marks: &mut [u32], items: &[Item], negated: bool, text: &[char])
     requires same { length flags.old ≡ length text.now }

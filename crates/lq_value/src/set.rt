@@ -9,7 +9,7 @@ use crate::refusal::Refusal;
 use crate::sign::{Sign, first_sign};
 use std::alloc::Global;
 
-/// What stands first where an item of a set is looked for, and the text after it.
+/// What comes first in a text where an item of a set is expected, and the text after it.
 #[derive(Clone, Copy)]
 pub enum FirstItem<'a> {
     /// The `]` that ends the set.
@@ -20,9 +20,9 @@ pub enum FirstItem<'a> {
     Faulty,
 }
 
-/// The items of a set, and the text after its `]`; `None` where the set is faulty.
+/// The items of a set, and the text after its `]`; `None` where the set has a fault.
 ///
-/// Where memory runs out the rest is read all the same, since a fault comes before it.
+/// After memory runs out the rest is still read, since a fault comes first among the refusals.
 pub(crate) fn read_items<'a>(
     alloc: Global,
     text: &'a str,
@@ -44,7 +44,7 @@ pub(crate) fn read_items<'a>(
     }
 }
 
-// One item more, unless memory ran out or does so now.
+// Adds an item, unless memory ran out before or runs out now.
 fn with_item(items: Result<Items, Refusal>, item: Item) -> Result<Items, Refusal>
     ensures { IsWithItem items item result }
 {
@@ -53,8 +53,8 @@ fn with_item(items: Result<Items, Refusal>, item: Item) -> Result<Items, Refusal
     Ok(items)
 }
 
-/// What stands first in the text after a set's begin, where an item is looked for. It takes no
-/// memory.
+/// What comes first in the text after the beginning of a set, where an item is expected. It takes
+/// no memory.
 pub fn first_item<'a>(text: &'a str) -> FirstItem<'a>
     ensures first { item_at (signs_of text.entry.now) ≡ first_item_of result }
     ensures text { IsTextBehindItem result }
@@ -68,7 +68,7 @@ pub fn first_item<'a>(text: &'a str) -> FirstItem<'a>
     }
 }
 
-// The item that begins with a character, where the text stands after it.
+// The item that begins with this character, before the text.
 fn item_from<'a>(c: char, text: &'a str) -> FirstItem<'a>
     ensures first { behind_char c (signs_of text.entry.now) ≡ first_item_of result }
     ensures text { IsTextBehindItem result }
@@ -79,7 +79,8 @@ fn item_from<'a>(c: char, text: &'a str) -> FirstItem<'a>
     }
 }
 
-// The item that begins with a character, where a `-` and the text `behind` it stand at `here`.
+// The item that begins with this character, where `here` begins with a `-` and `behind` comes after
+// it.
 fn range_from<'a>(c: char, here: &'a str, behind: &'a str) -> FirstItem<'a>
     ensures first { behind_dash c (signs_of here.entry.now) (signs_of behind.entry.now)
         ≡ first_item_of result }

@@ -1,4 +1,4 @@
-//! A text that is kept once for all its copies.
+//! A text that is stored once for all its copies.
 ghost use Rattle.std.specs.Prelude.{◌≡◌, None, IfOk};
 ghost use Rattle.lq_value.specs.Refusal.{IsRefusedBy};
 
@@ -8,9 +8,9 @@ use std::alloc::Global;
 use std::marker::Model;
 use std::sync::Arc;
 
-/// A text that its copies share: it is counted, and goes with the last of them.
+/// A text that its copies share. It is reference-counted and freed with the last of them.
 ///
-/// Up to 30 bytes stand beside the count, in one piece of memory. A contract sees the bytes.
+/// Up to 30 bytes are stored beside the count, in one allocation. A contract sees the bytes.
 #[derive(Drop)]
 pub(crate) struct SharedText {
     text: Arc<SmallText>,
@@ -44,9 +44,10 @@ impl SharedText {
         self.text.as_str()
     }
 
-    /// Another that shares the text: it takes no memory.
+    /// Another handle to the same text, which takes no memory.
     ///
-    /// Where 2^63 - 1 share it, the new one has a text of its own. Refused: `NoMemory`.
+    /// Only where 2^63 - 1 share the text already, the new one has a text of its own. Refused:
+    /// `NoMemory`.
     pub fn copy(&self, alloc: Global) -> Result<SharedText, Refusal>
         ensures refused { IsRefusedBy result None }
         ensures value { IfOk result (λ shared. shared ≡ self.now) }

@@ -4,7 +4,7 @@ ghost use Rattle.lq_value.specs.Sign.{signs_of};
 
 use crate::first::first_char;
 
-/// A character of a pattern's source, with the `\` before it if it has one.
+/// A character of a pattern's source, with the `\` before it if there is one.
 #[derive(Clone, Copy)]
 pub(crate) enum Sign {
     /// A character without a `\` before it.

@@ -7,10 +7,10 @@ use lq_value_short_text::ShortText;
 use std::alloc::Global;
 use std::marker::Model;
 
-/// The longest text that stands in its place, in bytes. A `String` takes as much there.
+/// The longest text that is stored inline, in bytes. A `String` takes as much space there.
 const MAX_SHORT: usize = 30;
 
-/// A text of UTF-8, which up to 30 bytes takes no memory of its own.
+/// A text of UTF-8. Up to 30 bytes are stored inline and take no memory of their own.
 ///
 /// A contract sees it as its bytes.
 #[derive(Drop)]

@@ -11,12 +11,12 @@ use crate::refusal::Refusal;
 use crate::set::read_items;
 use std::alloc::Global;
 
-/// What stands first where an element is looked for, and the text after it.
+/// What comes first in a text where an element is expected, and the text after it.
 #[derive(Drop)]
 pub(crate) enum FirstElement<'a> {
     /// The end of the source.
     End,
-    /// An element, if memory was found for it.
+    /// An element, or a refusal where it had no memory.
     Has(Result<Element, Refusal>, &'a str),
     /// Neither.
     Faulty,
@@ -24,8 +24,8 @@ pub(crate) enum FirstElement<'a> {
 
 /// The elements that a source writes.
 ///
-/// Refused, the first that fits: `BadQuery` with the byte place of the leftmost fault, `NoMemory`.
-/// So where memory runs out the rest is read all the same.
+/// Refused, the first that fits: `BadQuery` with the byte offset of the leftmost fault, `NoMemory`.
+/// So after memory runs out the rest is still read.
 pub(crate) fn read_elements(alloc: Global, source: &str) -> Result<Vec<Element>, Refusal>
     ensures refused { IsRefusedBy result (source_refusal source.now) }
     ensures value { IfOk result (λ elements. pattern_of source.now ≡ Ok elements.items) }
@@ -47,7 +47,7 @@ pub(crate) fn read_elements(alloc: Global, source: &str) -> Result<Vec<Element>,
     }
 }
 
-// One element more, unless memory ran out or does so now.
+// Adds an element, unless memory ran out before or runs out now.
 fn with_element(
     elements: Result<Vec<Element>, Refusal>,
     element: Result<Element, Refusal>,
@@ -72,7 +72,7 @@ fn first_element<'a>(alloc: Global, text: &'a str) -> FirstElement<'a>
     }
 }
 
-// The set whose items the text begins with.
+// The set whose items begin the text.
 fn set_of<'a>(alloc: Global, negated: bool, text: &'a str) -> FirstElement<'a>
     ensures { IsFirst (set_with negated (pieces_of item_at (signs_of text.entry.now))) result }
 {

@@ -1,4 +1,4 @@
-//! Plain text with a star before it, after it or both, which is sought as text.
+//! Plain text with a star before it, after it or both, which is searched for as text.
 ghost use Rattle.std.specs.Prelude.{◌≡◌, ◌++◌, None, IfOk, nat_eq};
 ghost use Rattle.std.specs.List.{starts_with};
 ghost use Rattle.std.specs.Str.{chars};
@@ -9,7 +9,7 @@ use crate::element::Element;
 use crate::refusal::Refusal;
 use std::alloc::Global;
 
-/// The plain text of a pattern, and whether a star stands before it and after it.
+/// The plain text of a pattern, and whether a star is before it and after it.
 #[derive(Drop)]
 pub(crate) struct Starred {
     pub(crate) text: String,
@@ -20,7 +20,7 @@ pub(crate) struct Starred {
 impl Starred {
     /// Whether the pattern fits the whole text. It takes no memory.
     ///
-    /// It takes about as many steps as the text has bytes, however long the plain text is.
+    /// The steps are about the text's length in bytes, however long the plain text is.
     pub(crate) fn fits(&self, text: &str) -> bool
         ensures { result ≡ fits (starred_elements self.now) (chars text.now) }
     {
@@ -33,7 +33,7 @@ impl Starred {
         }
     }
 
-    /// The same again. Refused: `NoMemory`.
+    /// A copy. Refused: `NoMemory`.
     pub(crate) fn copy(&self, alloc: Global) -> Result<Starred, Refusal>
         ensures refused { IsRefusedBy result None }
         ensures value { IfOk result (λ copy. starred_elements copy ≡ starred_elements self.now) }
@@ -46,7 +46,7 @@ impl Starred {
     }
 }
 
-// Whether a text begins with a plain one. Most that don't differ in their first byte.
+// Whether a text begins with a plain one. Most texts that don't already differ in the first byte.
 fn begins(text: &str, plain: &str) -> bool
     ensures { result ≡ starts_with nat_eq text.now plain.now }
 {
@@ -56,7 +56,7 @@ fn begins(text: &str, plain: &str) -> bool
     }
 }
 
-/// Elements, and whether a star stands before them and after them.
+/// Elements, and whether a star is before them and after them.
 #[derive(Clone, Copy)]
 pub(crate) struct Inner<'a> {
     pub(crate) before: bool,

@@ -16,7 +16,7 @@ use std::marker::Model;
 #[derive(Drop)]
 pub struct Text {
     text: String,
-    // The whole number that the text writes, kept since it is compared often.
+    // The whole number that the text writes, which is kept because it is compared often.
     number: Option<i128>,
 }
 
@@ -64,7 +64,7 @@ impl Text {
         text
     }
 
-    /// Another text with the same bytes. Refused: `NoMemory`.
+    /// A copy of the text. Refused: `NoMemory`.
     pub fn copy(&self, alloc: Global) -> Result<Text, Refusal>
         ensures refused { IsRefusedBy result None }
         ensures value { IfOk result (λ text. text ≡ self.now) }
@@ -75,8 +75,8 @@ impl Text {
         })
     }
 
-    /// The whole number that the text writes, if it writes one: an optional `-` and 1 to 20
-    /// decimal digits. It takes no memory.
+    /// The whole number that the text writes, if it writes one: an optional `-` and 1 to 20 decimal
+    /// digits. It takes no memory.
     pub fn number(&self) -> Option<i128>
         ensures { result ≡ number_of self.now }
     {
@@ -86,8 +86,9 @@ impl Text {
 
 /// Whether two texts are the same. It takes no memory.
 ///
-/// Most texts that are sought among others differ from them in their length or their first byte,
-/// or, as long names that begin with one word do, in their last: these are looked at first.
+/// The lengths, the first bytes and the last bytes are compared first. Most texts that are searched
+/// differ from the text in question there, as long names that begin with the same word do in their
+/// last byte.
 pub fn same_text(one: &str, other: &str) -> bool
     ensures { result ≡ bytes_eq one.now other.now }
 {
@@ -107,8 +108,8 @@ pub fn same_text(one: &str, other: &str) -> bool
     }
 }
 
-// Whether two lists of bytes are the same, one byte after another: the shortest way where they are
-// few.
+// Whether two byte slices of one length are the same, byte by byte. This is the fastest way for a
+// few bytes.
 fn same_bytes(one: &[u8], other: &[u8]) -> bool
     requires { length one.now ≡ length other.now }
     ensures { result ≡ bytes_eq one.now other.now }

@@ -1,4 +1,4 @@
-//! What an attribute holds, with its type.
+//! The typed value of an attribute.
 ghost use Rattle.std.specs.Prelude.{◌≡◌, None, IfOk};
 ghost use Rattle.lq_value.specs.Refusal.{IsRefusedBy};
 ghost use Rattle.lq_value.specs.Held.{held_in, held_of};
@@ -10,7 +10,7 @@ use crate::view::View;
 use std::alloc::Global;
 use std::fmt;
 
-/// What an attribute holds: a text of at most 4,096 bytes, or a whole number of one of four
+/// The value of an attribute: a text of at most 4,096 bytes, or a whole number of one of four
 /// types.
 ///
 /// The types are among the attribute types of Be's `TypeConstants.h`.
@@ -32,8 +32,7 @@ impl fmt::Debug for Value {
 impl Value {
     /// The value that is this text.
     ///
-    /// Refused, the first that fits: `TooLong` above 4,096 bytes, `NoMemory`. The limit is our
-    /// own.
+    /// Refused, the first that fits: `TooLong` above 4,096 bytes, `NoMemory`. The limit is our own.
     pub fn text(alloc: Global, text: &str) -> Result<Value, Refusal>
         ensures refused { IsRefusedBy result (text_refusal text.now) }
         ensures value { IfOk result (λ value. value ≡ Value.Text text.now) }
@@ -41,7 +40,7 @@ impl Value {
         Ok(Value::Text(ValueText::read(alloc, text)?))
     }
 
-    /// The value as it is shown, of the same type. It takes no memory.
+    /// The value as a borrowed view of the same type. It takes no memory.
     pub fn view(&self) -> View<'_>
         ensures shown { shown_by result ≡ self.now }
         ensures held { held_of result ≡ held_in self.now }
@@ -55,7 +54,7 @@ impl Value {
         }
     }
 
-    /// Another value of the same type that is the same. Refused: `NoMemory`, for a text alone.
+    /// A copy of the value. Refused: `NoMemory`, for a text only.
     pub fn copy(&self, alloc: Global) -> Result<Value, Refusal>
         ensures refused { IsRefusedBy result None }
         ensures value { IfOk result (λ value. value ≡ self.now) }

@@ -19,7 +19,7 @@ pub struct ValueText {
     text: SmallText,
 }
 
-// One call takes it apart, wherever one is dropped.
+// Dropping one is a single call, instead of code at each place.
 impl Drop for ValueText {
     fn drop(self) {
         let ValueText { text: _ } = self;
@@ -45,8 +45,7 @@ impl Model for ValueText {
 impl ValueText {
     /// The value's text with these bytes.
     ///
-    /// Refused, the first that fits: `TooLong` above 4,096 bytes, `NoMemory`. The limit is our
-    /// own.
+    /// Refused, the first that fits: `TooLong` above 4,096 bytes, `NoMemory`. The limit is our own.
     pub fn read(alloc: Global, text: &str) -> Result<ValueText, Refusal>
         ensures refused { IsRefusedBy result (text_refusal text.now) }
         ensures value { IfOk result (λ value. value ≡ text.now) }
@@ -67,7 +66,7 @@ impl ValueText {
         self.text.as_str()
     }
 
-    /// Another text with the same bytes. Refused: `NoMemory`.
+    /// A copy of the text. Refused: `NoMemory`.
     pub fn copy(&self, alloc: Global) -> Result<ValueText, Refusal>
         ensures refused { IsRefusedBy result None }
         ensures value { IfOk result (λ value. value ≡ self.now) }

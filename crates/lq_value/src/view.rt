@@ -1,6 +1,6 @@
-//! What an attribute holds, as it is shown.
+//! The borrowed value of an attribute.
 
-/// What an attribute holds, borrowed: a text, or a whole number of one of four types.
+/// The borrowed value of an attribute: a text, or a whole number of one of four types.
 ///
 /// The types are among the attribute types of Be's `TypeConstants.h`.
 #[derive(Clone, Copy, Debug)]
