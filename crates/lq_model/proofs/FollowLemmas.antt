@@ -72,7 +72,7 @@ pub followed : UpdatesStay → BooksExtendOn → StatesStay → (q : Query) (boa
       retired = z;
     })
 followed stay on states q board begun port backlog first old new x one two z o out s told met same
-  r =
+    r =
     let name : new.seat.name ≡ first.seat.name =
     ap (λ (t : SeatToken Identity). t.name) s.seat ∙ out.goes.name in
     let query = same_query first.seat.name first new o.own.name
