@@ -36,7 +36,7 @@ pub enum Shut {
 pub struct Identity {
     /// The query.
     pub query: Predicate,
-    /// Whether one message tells of a node that changed its place within the result.
+    /// Whether one message reports a node that changed its place within the result.
     pub moved: bool,
     /// The number of changes at the opening.
     pub opened: u64,

@@ -184,7 +184,7 @@ impl Reading {
 
     /// As `read`, but it waits for a parcel if there is none.
     ///
-    /// `Empty` only where the other end is gone too, which no clause says.
+    /// `Empty` also means that the other end is gone, which no clause says.
     pub fn read_waiting<R: Wait>(&mut self, rt: &R) -> Result<Read, Refusal>
         ensures refused { IsRefusedBy result None }
         ensures same { IsSamePort self.old.port self.new.port }
