@@ -82,8 +82,8 @@ impl<N: Named> Server<N> {
 
     /// A seat of no slot.
     ///
-    /// It knows the changes so far, as tests show. Refused: `NoSeat`, as tests show just where 16
-    /// seats are out. A dropped seat still counts as out. It takes no memory.
+    /// It knows the changes so far, which no clause of this call says. Refused: `NoSeat`, as tests
+    /// show just where 16 seats are out. A dropped seat still counts as out. It takes no memory.
     pub fn seat<R: Wait>(&self, rt: &R) -> Result<Seat, Refusal>
         ensures seat { IfOk result (λ seat. (seat.board ≡ N.board) × (seat.slot ≡ 0)) }
         ensures refused { IfErr result (λ e. e ≡ NoSeat) }

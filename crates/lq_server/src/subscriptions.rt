@@ -27,7 +27,8 @@ impl<N: Named> Server<N> {
     /// 65,536. With `moved`, one message reports a move of an entry that matches before and after
     /// it. The seat then knows the book that the reader begins with. Refused, the first that fits:
     /// `BadPort`, `BadBacklog`, `NoSlot` where 64 are taken, `Exhausted` where the openings have
-    /// reached the volume's limit on changes, `NoMemory`.
+    /// reached the volume's limit on changes, `NoMemory`. Clauses of `open_in` in lq_server_slots
+    /// distinguish the last three.
     pub fn open<R: Wait>(
         &self,
         rt: &R,

@@ -22,7 +22,7 @@ use Rattle.lq_server_subscription.specs.Reading.{ReadingHold}
 use Rattle.lq_server_subscription.specs.Standing.{StandsAt}
 use Rattle.lq_server_slots.specs.declared.open.Opened.{Opened}
 
--- a name is that of a port
+-- the name belongs to the port
 pub record IdentityFits (t : Identity) (e : End Delivery Opening) : Type 0 where
   pub query : t.query ≡ query_of e.floor
   pub moved : t.moved ≡ e.floor.moved
@@ -30,12 +30,12 @@ pub record IdentityFits (t : Identity) (e : End Delivery Opening) : Type 0 where
   pub places : t.places ≡ e.places
   pub port : t.port ≡ port_id e.port
 
--- how often a seat has asked, once it asked or not
+-- how often a seat has asked: n times, and once more if the flag is set
 abbrev pub asks_after : ℕ → Bool → ℕ
 asks_after n false = n
 asks_after n true = n + 1
 
--- a subscription that was just made, and its end that reads
+-- a subscription that was just made, and its reading end
 pub record IsBegun (s : Subscription) (r : ReadingHold) (book : Book) (q : Query) (mv : Bool)
     (port backlog : ℕ) : Type 0 where
   pub stands : StandsAt s book
@@ -54,7 +54,7 @@ pub record IsBegun (s : Subscription) (r : ReadingHold) (book : Book) (q : Query
   pub hand : r.hand ≡ None
   pub result : r.result ≡ opened_at (length book.changes) (result_of q (state_of book))
 
--- what goes with the seat of a subscription that was just opened
+-- the name that goes with the seat of a subscription that was just opened
 pub record IsNamed (t : Identity) (o : Opened) (backlog : ℕ) : Type 0 where
   pub fits : IdentityFits t o.reading.port
   pub asks : o.seat.asks ≡ t.asks
@@ -86,8 +86,8 @@ pub record IsOpened (o : Opened) (board : TableId) (book : Book) (q : Query) (mv
 abbrev pub opening_refusal : ℕ → ℕ → Option Refusal
 opening_refusal port backlog = first_refusal (size_refusals port backlog)
 
--- what else may refuse one: no slot is free, as many openings were made as the volume takes
--- changes, or memory
+-- the other reasons to refuse an opening: no slot is free, the openings have reached the volume's
+-- limit on changes, or memory ran out
 abbrev pub IsOpeningRefused : Refusal → Type 0
 IsOpeningRefused e = (e ≡ NoSlot) ⊎ (e ≡ Exhausted) ⊎ (e ≡ NoMemory)
 
@@ -105,7 +105,7 @@ no_identity = record {
   port = gnil;
 }
 
--- the name that goes with a seat, where it has one
+-- the name that goes with a seat, if there is one
 abbrev pub name_or : Option Identity → Identity
 name_or (Some t) = t
 name_or None = no_identity

@@ -14,7 +14,7 @@ use Rattle.lq_server_subscription.specs.Reading.{ReadingHold}
 use Rattle.lq_server_subscription.specs.Standing.{StandsAt, IsDrained}
 use Rattle.lq_server_slots.specs.declared.sync.Progress.{Progress}
 
--- what the lock shows of a subscription: s is what it has of it
+-- what a sync shows of a subscription; s is the subscription under the lock
 pub record ShowsProgress (s : Subscription) (seat0 seat1 : SeatToken Identity) (d e : ReadingHold)
     (x : Progress) : Type 0 where
   pub stands : StandsAt s seat1.book

@@ -16,7 +16,7 @@ use Rattle.lq_server_subscription.specs.Identity.{identity_of}
 use Rattle.lq_server_subscription.specs.Standing.{StandsAt, IsFilled, IsReady, IsStuck}
 use Rattle.lq_server_slots.specs.declared.slots.Slots.{Slots}
 
--- a taken slot: what stands in it, and what the keeper knows of its seat
+-- a taken slot: its subscription, and what the keeper knows of its seat
 pub record IsTaken (s : Subscription) (p : Known Identity) (book : Book) : Type 0 where
   pub stands : StandsAt s book
   pub filled : IsFilled s
@@ -29,12 +29,12 @@ abbrev pub SlotStands : Option Subscription → Known Identity → Book → Type
 SlotStands None p book = p.out ≡ false
 SlotStands (Some s) p book = IsTaken s p book
 
--- how often its seats have asked, at most, once that which is out comes back
+-- at most how often its seats have asked, once the seat that is out comes back
 abbrev pub asks_of : Option Subscription → Known Identity → ℕ
 asks_of None p = p.asks
 asks_of (Some s) p = s.asks + 1
 
--- what is in a slot, 1 to 64
+-- the content of a slot, 1 to 64
 abbrev pub slot_in : List (Option Subscription) → ℕ → Option Subscription
 slot_in slots k = slice_index_or slots k None
 
@@ -47,7 +47,7 @@ pub record AllStand (keeper : KeeperToken Identity) (slots : List (Option Subscr
   pub asks : (k : ℕ) → 0 < k → k < 65
       → asks_of (slot_in slots k) (slot_at keeper.slots k) ≤ openings
 
--- the place that a list of places has at an index
+-- the place at an index of a list of places
 abbrev pub place_at : List ℕ → ℕ → ℕ
 place_at taken i = slice_index taken i
 
@@ -64,29 +64,29 @@ pub record IsListed (taken : List ℕ) (slots : List (Option Subscription)) : Ty
   pub some : (i : ℕ) → i < length taken → IsSome (slot_in slots (place_at taken i))
   pub each : (k : ℕ) → 0 < k → k < 65 → IsSome (slot_in slots k) → IsPlaceIn taken k
 
--- the place was taken out of the list, and the rest stays in order
+-- the place was removed from the list, and the rest keeps its order
 pub record IsDropped (old new : List ℕ) (k : ℕ) : Type 0 where
   pub index : ℕ
   pub within : index < length old
   pub place : place_at old index ≡ k
   pub rest : new ≡ remove old index
 
--- all slots stand over a book, and those that are taken are listed
+-- all slots stand over a book, and the list has exactly the taken ones
 abbrev pub SlotsStand : Slots → Book → Type 0
 SlotsStand s book =
     AllStand s.keeper s.subscriptions.items s.openings book
     × IsListed s.taken.items s.subscriptions.items
 
--- a subscription whose reader asked for its end, as the keeper knows, has its mark
+-- a subscription has its mark if the keeper knows that its reader asked for its end
 abbrev pub IsNoticed : Subscription → Known Identity → Type 0
 IsNoticed s p = s.asks < p.asks → IsSome s.sub.held.mark
 
--- and what it has to tell was put, until nothing was left or its port was full
+-- and its messages and mark were put until none was left or its port was full
 pub record IsServed (s : Subscription) (p : Known Identity) : Type 0 where
   pub noticed : IsNoticed s p
   pub stuck : IsStuck s
 
--- a fact of each taken slot, one or all
+-- a fact of a slot if it is taken, and of all slots that are
 abbrev pub SlotIs :
     (Subscription → Known Identity → Type 0) → Option Subscription → Known Identity → Type 0
 SlotIs P None p = Unit {0}
@@ -98,14 +98,14 @@ abbrev pub SlotsAre :
 SlotsAre P slots known =
     (k : ℕ) → 0 < k → k < 65 → SlotIs P (slot_in slots k) (slot_at known k)
 
--- a subscription under this name stands over the book, and what it has to tell was put, until
--- nothing was left or its port was full
+-- a subscription with this name stands over the book, and its messages and mark were put until none
+-- was left or its port was full
 pub record IsPut (s : Subscription) (name : Option Identity) (book : Book) : Type 0 where
   pub named : name ≡ Some (identity_of s)
   pub stands : StandsAt s book
   pub stuck : IsStuck s
 
--- what the keeper knows, what is in the slots, which are taken, and how often one was opened
+-- the keeper, the subscriptions, the taken places and the number of openings stay
 pub record AreUnchanged (old new : Slots) : Type 0 where
   pub keeper : new.keeper ≡ old.keeper
   pub subscriptions : new.subscriptions ≡ old.subscriptions
@@ -127,7 +127,7 @@ all_taken (Some s ∷ slots) = all_taken slots
 abbrev pub is_full : List (Option Subscription) → Bool
 is_full slots = all_taken (drop 1 slots)
 
--- the messages of a change are made for the slot
+-- the messages of a change are prepared for the slot
 abbrev pub IsReadyAt : Option Subscription → State → Change → Type 0
 IsReadyAt None s c = Unit {0}
 IsReadyAt (Some slot) s c = IsReady slot.sub s c
@@ -140,14 +140,14 @@ AllReady slots s c = (k : ℕ) → 0 < k → k < 65 → IsReadyAt (slot_in slots
 abbrev pub before_of : Book → Book
 before_of b = record { start = b.start; changes = take (length b.changes - 1) b.changes }
 
--- the change is the last of a book, lawful there
+-- the change is the last of a book, and was lawful there
 pub record IsGrown (b : Book) (c : Change) : Type 0 where
   pub book : b ≡ grown (before_of b) (c ∷ [])
   pub lawful : IsLawful (state_of (before_of b)) c
   pub full : IsFullBook b
 
--- the first so many of the listed slots stand over the keeper's book, and the others over that
--- without the last change
+-- the first `told` of the listed slots stand over the keeper's book, and the others over that book
+-- without its last change
 pub record PartlyTold (keeper : KeeperToken Identity) (slots : List (Option Subscription))
     (taken : List ℕ) (openings : ℕ) (c : Change) (told : ℕ) : Type 0 where
   pub known : length keeper.slots ≡ 65

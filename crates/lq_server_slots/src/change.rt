@@ -13,13 +13,14 @@ use lq_value::Refusal;
 use lq_volume::{Applied, Change, Volume};
 use std::sync::Wait;
 
-/// Ends the subscriptions whose readers asked, makes a change, and fills the ports.
+/// Ends the subscriptions whose readers asked for that, makes a change, and fills the ports.
 ///
-/// Then each subscription whose reader asked, as the keeper knows, has its mark, and was put to
-/// until nothing was left or its port was full, also where the change was refused.
+/// Afterwards each subscription has its mark if the keeper knows that its reader asked. Its
+/// messages and mark were put until none was left or its port was full. Both hold even where the
+/// change was refused.
 ///
-/// A refused change takes one walk over the taken slots, or two where memory was wanting; an
-/// accepted one takes two.
+/// A refused change walks over the taken slots once, or twice where memory ran out. An accepted one
+/// walks over them twice.
 pub fn change_in<R: Wait>(
     rt: &R,
     board: &Board<Identity>,
@@ -58,7 +59,8 @@ pub fn change_in<R: Wait>(
     }
 }
 
-// Makes a change: all growth first, then the point of the change, and no message is held yet.
+// Makes a change: first everything that takes memory, then the point of the change. No message is
+// held yet.
 fn add(
     board: &Board<Identity>,
     slots: &mut Slots,

@@ -1,4 +1,4 @@
-//! How a reader ends its subscription under the lock, and frees its slot.
+//! Closing a subscription under the lock, and freeing its slot.
 ghost use Rattle.std.specs.Prelude.{◌≡◌, ◌+◌, ◌<◌, ◌≤◌, ◌≢◌, ℕ, length, IfNone, IsSome, IsSomeAnd, IfSome, is_some, Some, None, true, false};
 ghost use Rattle.lq_volume.specs.Book.{Extends};
 ghost use Rattle.lq_board.specs.Slot.{slot_at};
@@ -52,7 +52,7 @@ fn close_slot<R: Wait>(
     closed
 }
 
-// The same at a place that may be free, which it is not.
+// The same for an optional subscription. The slot is never free here.
 fn close_at<R: Wait>(
     rt: &R,
     board: &Board<Identity>,
@@ -94,7 +94,7 @@ fn close_at<R: Wait>(
 
 /// Closes the seat's subscription, unless it has ended, and answers the number of changes.
 ///
-/// First it ends as hung up, where its reader asked. Then its port is filled.
+/// First it ends as hung up where its reader asked for that. Then its port is filled.
 pub fn close_in<R: Wait>(
     rt: &R,
     board: &Board<Identity>,
@@ -128,7 +128,7 @@ pub fn close_in<R: Wait>(
     close_at(rt, board, keeper, &mut slots.subscriptions[place], seat)
 }
 
-// A slot's seat comes back, and the slot is free.
+// Takes a slot's seat back and frees the slot.
 fn free_at(
     board: &Board<Identity>,
     keeper: &mut Keeper<Identity>,
@@ -155,7 +155,7 @@ fn free_at(
     *slot = None;
 }
 
-// The index of a place.
+// The index of a place in the list.
 fn index_of(taken: &[usize], place: usize) -> Option<usize>
     ensures found { IfSome result (λ i. (i < length taken.now) × (place_at taken.now i ≡ place)) }
     ensures none { IfNone result ((i : ℕ) → i < length taken.now → place_at taken.now i ≢ place) }
@@ -168,7 +168,7 @@ fn index_of(taken: &[usize], place: usize) -> Option<usize>
     None
 }
 
-// Takes a place out of the list.
+// Removes a place from the list.
 fn take_out(taken: &mut Vec<usize>, place: usize)
     requires { IsPlaceIn taken.old.items place }
     ensures { IsDropped taken.old.items taken.new.items place }
@@ -179,7 +179,7 @@ fn take_out(taken: &mut Vec<usize>, place: usize)
     taken.remove(index);
 }
 
-/// Frees a slot, whose seat comes back.
+/// Takes a slot's seat back and frees the slot.
 pub fn free_in(
     board: &Board<Identity>,
     slots: &mut Slots,

@@ -24,7 +24,7 @@ use lq_value::Refusal;
 use lq_volume::Volume;
 use std::alloc::Global;
 
-/// A subscription that was just opened: its reading, the seat of its slot, and its slot, 1 to 64.
+/// A new subscription: its reading, the seat of its slot, and its slot, 1 to 64.
 #[derive(Drop)]
 pub struct Opened {
     pub reading: Reading,
@@ -32,7 +32,7 @@ pub struct Opened {
     pub slot: u64,
 }
 
-// The lowest place that is free.
+// The lowest free place.
 fn free_place(slots: &[Option<Subscription>]) -> Option<usize>
     requires { length slots.now ≡ 65 }
     ensures place { IfSome result (λ k. (0 < k) × (k < 65)) }
@@ -49,7 +49,7 @@ fn free_place(slots: &[Option<Subscription>]) -> Option<usize>
     None
 }
 
-/// What an opening asks for.
+/// The arguments of an opening.
 #[derive(Clone, Copy)]
 pub struct Asked<'a> {
     pub predicate: &'a Predicate,
@@ -58,7 +58,7 @@ pub struct Asked<'a> {
     pub moved: bool,
 }
 
-// A subscription over the keeper's book, and the end of it that reads.
+// A subscription over the keeper's book, and its reading end.
 fn begin(
     alloc: Global,
     keeper: &Keeper<Identity>,
@@ -95,7 +95,7 @@ fn begin(
     Ok((slot, reading))
 }
 
-// The slot's seat, under the name of a subscription.
+// The slot's seat, under a name given for contracts alone, which is this subscription's.
 fn sit_named(
     board: &Board<Identity>,
     keeper: &mut Keeper<Identity>,
@@ -148,8 +148,8 @@ fn sit(
     sit_named(board, keeper, slot, place)
 }
 
-// Puts a subscription into a free place, which has a seat then. All growth comes first, so that
-// want of memory leaves the slots as they were.
+// Puts a subscription into a free place, and gives out the seat of the place. Everything that takes
+// memory comes first, so that the slots stay as they were where memory runs out.
 fn settle(
     board: &Board<Identity>,
     slots: &mut Slots,
@@ -174,7 +174,7 @@ fn settle(
     ensures opened { IfOk result (λ o. IsOpened o slots.old.keeper.board slots.old.keeper.book
         slot.sub.held.query slot.sub.held.moved slot.places slot.sub.held.backlog) }
 {
-    // There is room for all places since the start, so this takes no memory.
+    // There has been room for all places since the start, so this takes no memory.
     slots.taken.reserve(1)?;
     slots.taken.push_reserved(place);
     let asks = board.asks(&mut slots.keeper, place as u64);
@@ -192,8 +192,8 @@ fn settle(
 /// Opens a live query in the lowest free slot.
 ///
 /// Refused, the first that fits: `BadPort`, `BadBacklog`, `NoSlot` where no slot is free,
-/// `Exhausted` where as many were opened as the volume takes changes; or else `NoMemory`. A refused
-/// opening changes nothing, and isn't counted among those.
+/// `Exhausted` where the openings have reached the volume's limit on changes, `NoMemory`. A refused
+/// opening changes nothing, and isn't counted as an opening.
 pub fn open_in(
     alloc: Global,
     board: &Board<Identity>,
@@ -222,7 +222,7 @@ pub fn open_in(
     ensures lowest { IfOk result (λ o. (j : ℕ) → 0 < j → j < o.slot
         → IsSome (slot_in slots.old.subscriptions.items j)) }
 
-    // Its numbers refuse it first, and just by their bounds.
+    // The numbers are checked first, by their bounds alone.
     ensures refused { IfSome (opening_refusal asked.now.port asked.now.backlog)
         (λ e. result ≡ Err e) }
     ensures others { IfNone (opening_refusal asked.now.port asked.now.backlog)

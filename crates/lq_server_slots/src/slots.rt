@@ -13,11 +13,11 @@ use lq_volume::{Change, Planned};
 use std::alloc::Global;
 use std::sync::Wait;
 
-/// The number of slots, and a place that isn't used before them.
+/// The number of places: 64 slots, and an unused place before them.
 pub(crate) const PLACES: usize = 65;
 
-/// What stands in the slots, what the keeper knows of them, the places of those that are taken,
-/// and how often one was opened.
+/// The subscriptions in the slots, what the keeper knows of the slots, the places of the taken
+/// ones, and the number of openings so far.
 #[derive(Drop)]
 pub struct Slots {
     pub keeper: Keeper<Identity>,
@@ -29,7 +29,7 @@ pub struct Slots {
 impl Slots {
     ghost use Rattle.lq_board.specs.Slot.{unused_slots};
 
-    /// 64 free slots, with a keeper of whose seats none is out. Refused: `NoMemory`.
+    /// 64 free slots, with a keeper that has no slot's seat out. Refused: `NoMemory`.
     pub fn new(alloc: Global, keeper: Keeper<Identity>) -> Result<Slots, Refusal>
         requires unused { keeper.slots ≡ unused_slots }
         ensures refused { IsRefusedBy result None }
@@ -48,7 +48,7 @@ impl Slots {
     }
 }
 
-// All slots free.
+// All slots, free.
 fn free(alloc: Global) -> Result<Vec<Option<Subscription>>, Refusal>
     ensures refused { IsRefusedBy result None }
     ensures wide { IfOk result (λ slots. length slots.items ≡ 65) }
@@ -62,7 +62,8 @@ fn free(alloc: Global) -> Result<Vec<Option<Subscription>>, Refusal>
     Ok(slots)
 }
 
-/// Ends a subscription where its reader asked, and answers how often its slot's seat has asked.
+/// Ends a subscription where its reader asked for that, and answers how often its slot's seats have
+/// asked.
 pub(crate) fn notice_slot(
     board: &Board<Identity>,
     keeper: &mut Keeper<Identity>,
@@ -90,7 +91,7 @@ pub(crate) fn notice_slot(
     asks
 }
 
-/// The place of a taken slot, by its index among them.
+/// The place of a taken slot, by its index in the list of taken places.
 pub(crate) fn place_of(slots: &Slots, index: usize) -> usize
     requires index { index < length slots.now.taken.items }
     requires listed { IsListed slots.now.taken.items slots.now.subscriptions.items }
@@ -101,7 +102,7 @@ pub(crate) fn place_of(slots: &Slots, index: usize) -> usize
     slots.taken[index]
 }
 
-// Notices for a slot that may be free whether its reader asked, and puts what its port takes.
+// For a slot that may be free: ends the subscription where its reader asked, and fills its port.
 fn fill_at<R: Wait>(
     rt: &R,
     board: &Board<Identity>,
@@ -129,7 +130,7 @@ fn fill_at<R: Wait>(
     }
 }
 
-/// Ends each subscription whose reader asked, and puts what each port takes.
+/// Ends each subscription whose reader asked for that, and fills each port.
 pub(crate) fn fill_all<R: Wait>(rt: &R, board: &Board<Identity>, slots: &mut Slots, number: u64)
     requires board { slots.old.keeper.board ≡ board.now }
     requires number { number ≡ length slots.old.keeper.book.changes }
@@ -154,7 +155,7 @@ pub(crate) fn fill_all<R: Wait>(rt: &R, board: &Board<Identity>, slots: &mut Slo
     }
 }
 
-// Notices whether the reader of a subscription asked, and makes its messages of a change.
+// Ends a subscription where its reader asked, then prepares its messages of a change if it is live.
 fn ready_slot(
     board: &Board<Identity>,
     keeper: &mut Keeper<Identity>,
@@ -211,7 +212,8 @@ fn ready_at(
     }
 }
 
-/// Ends each subscription whose reader asked, and makes the messages of a change for the others.
+/// Ends each subscription whose reader asked, and prepares the messages of a change for the live
+/// ones.
 pub(crate) fn ready_all(
     board: &Board<Identity>,
     slots: &mut Slots,
@@ -244,7 +246,7 @@ pub(crate) fn ready_all(
     Ok(())
 }
 
-// Tells a slot that may be free the change that was just added, and puts what its port takes.
+// For a slot that may be free: commits the change that was just added, and fills the port.
 fn tell_at<R: Wait>(
     rt: &R,
     keeper: &Keeper<Identity>,
@@ -289,7 +291,7 @@ fn tell_slot<R: Wait>(
     pump(rt, keeper, slot);
 }
 
-/// Tells each subscription the change that was just added.
+/// Commits the change that was just added in each subscription, and fills each port.
 pub(crate) fn tell_all<R: Wait>(rt: &R, slots: &mut Slots, change: &Change)
     requires grown { IsGrown slots.old.keeper.book change.now }
     requires ready { AllReady slots.old.subscriptions.items
@@ -313,7 +315,7 @@ pub(crate) fn tell_all<R: Wait>(rt: &R, slots: &mut Slots, change: &Change)
     }
 }
 
-// Puts what a port takes.
+// Fills a port.
 fn pump_slot<R: Wait>(rt: &R, keeper: &Keeper<Identity>, taken: &mut Subscription, place: usize)
     requires taken { IsTaken taken.old (slot_at keeper.now.slots place) keeper.now.book }
     ensures taken { IsTaken taken.new (slot_at keeper.now.slots place) keeper.now.book }

@@ -1,4 +1,4 @@
-//! What a reader does under the lock.
+//! A reader's calls under the lock.
 ghost use Rattle.std.specs.Prelude.{◌≡◌, ◌<◌, ◌≤◌, length, IsSome, IsSomeAnd, Some, true, is_some};
 ghost use Rattle.lq_volume.specs.Book.{Extends};
 ghost use Rattle.lq_board.specs.Slot.{slot_at};
@@ -16,8 +16,8 @@ use lq_server_subscription::{Identity, Reading, Subscription, drain};
 use lq_update::Mark;
 use std::sync::Wait;
 
-/// How far a subscription is: the changes so far, the parcels in its port, the messages held, its
-/// mark, and whether that was put.
+/// The progress of a subscription: the number of changes so far, the parcels in its port, the
+/// messages held, its mark, and whether the mark was put.
 #[derive(Clone, Copy)]
 pub struct Progress {
     pub change: u64,
@@ -27,7 +27,7 @@ pub struct Progress {
     pub out: bool,
 }
 
-// The keeper and a slot's seat meet, and its name stays.
+// The number of changes in the keeper's book, which a slot's seat then knows. Its name stays.
 pub(crate) fn meet_same(
     board: &Board<Identity>,
     keeper: &mut Keeper<Identity>,
@@ -52,7 +52,7 @@ pub(crate) fn meet_same(
     board.meet_slot(keeper, seat)
 }
 
-// The keeper and a slot's seat meet, under the name of a subscription.
+// As `meet_same`, but the seat gets a name given for contracts alone, which is this subscription's.
 fn meet_named(
     board: &Board<Identity>,
     keeper: &mut Keeper<Identity>,
@@ -79,7 +79,7 @@ fn meet_named(
     board.meet_slot(keeper, seat)
 }
 
-// The keeper and a slot's seat meet, under the name of this subscription.
+// As `meet_same`, but the seat gets the name of this subscription.
 pub(crate) fn meet_under(
     board: &Board<Identity>,
     keeper: &mut Keeper<Identity>,
@@ -103,7 +103,7 @@ pub(crate) fn meet_under(
     meet_named(board, keeper, seat, slot)
 }
 
-// Ends a subscription where its reader asked, at the slot of its seat.
+// Ends a subscription where its reader asked for that, at the slot of its seat.
 pub(crate) fn notice_by(
     board: &Board<Identity>,
     keeper: &mut Keeper<Identity>,
@@ -128,7 +128,7 @@ pub(crate) fn notice_by(
     notice_slot(board, keeper, slot, place, number);
 }
 
-// The rest of a sync, once what the seat asked is noticed.
+// The rest of a sync, after the subscription has ended where its reader asked for that.
 fn sync_slot<R: Wait>(
     rt: &R,
     board: &Board<Identity>,
@@ -164,7 +164,7 @@ fn sync_slot<R: Wait>(
     }
 }
 
-// A sync at a place that may be free, which it is not.
+// A sync of an optional subscription. The slot is never free here.
 fn sync_at<R: Wait>(
     rt: &R,
     board: &Board<Identity>,
@@ -195,7 +195,7 @@ fn sync_at<R: Wait>(
     sync_slot(rt, board, keeper, taken, seat, reading)
 }
 
-// The keeper and the seat of a place that may be free meet, and its name stays.
+// As `meet_same`, for an optional subscription.
 fn meet_slot_at(
     board: &Board<Identity>,
     keeper: &mut Keeper<Identity>,
@@ -221,7 +221,7 @@ fn meet_slot_at(
     meet_same(board, keeper, seat)
 }
 
-/// The seat of a slot knows the keeper's book, of as many changes as is answered.
+/// The number of changes in the keeper's book, which the seat of a slot then knows.
 pub fn meet_in(
     board: &Board<Identity>,
     slots: &mut Slots,
@@ -243,7 +243,7 @@ pub fn meet_in(
     meet_slot_at(board, &mut slots.keeper, &slots.subscriptions[place], seat)
 }
 
-/// How far the seat's subscription is. Its port is filled.
+/// The progress of the seat's subscription. Its port is filled.
 pub fn sync_in<R: Wait>(
     rt: &R,
     board: &Board<Identity>,

@@ -1,4 +1,4 @@
--- The name of a port, as a ghost value that names no type.
+-- The name of a port, as a ghost value that mentions no type.
 use Rattle.std.specs.Prelude.{◌≡◌}
 use base.Stored.{Gv, Coded, coded×}
 use Rattle.atomic_table.specs.Seated.{table_id_coded}
@@ -14,7 +14,7 @@ use Rattle.lq_server_subscription.specs.contracts.delivery.Delivery as delivery
 abbrev pub name_coded : Coded (PortName Delivery)
 name_coded = coded× table_id_coded (badge.the_row (key.the_row delivery.the_row)).coded
 
--- opaque: only `port_id_inj` is used of it
+-- opaque: proofs use only `port_id_inj`
 unfoldable pub port_id : PortName Delivery → Gv
 port_id n = name_coded.code n
 
@@ -32,7 +32,7 @@ identity_of s =
       port = port_id s.input.port;
     }
 
--- each port has a value of its own
+-- different ports have different values
 pub port_id_inj : (m n : PortName Delivery) → port_id m ≡ port_id n → m ≡ n
 unfolding port_id
 port_id_inj m n e = name_coded.inj m n e

@@ -1,4 +1,4 @@
--- What is so of each book and each new subscription.
+-- What holds for each book and each new subscription.
 use Rattle.std.specs.Prelude.{◌≡◌, ℕ, ◌≤◌, Bool, [], length}
 use Rattle.lq_predicate_formula.specs.Query.{Query}
 use Rattle.lq_volume.specs.Book.{Book, Extends, number_of, state_at}
@@ -17,7 +17,7 @@ use Rattle.lq_server_subscription.specs.Standing.{Stands}
 abbrev pub BooksExtendThemselves : Type 0
 BooksExtendThemselves = (b : Book) → Extends b b
 
--- and a book that extends one that extends another extends that
+-- extension of books is transitive
 abbrev pub BooksExtendOn : Type 0
 BooksExtendOn = (b c d : Book) → Extends c b → Extends d c → Extends d b
 

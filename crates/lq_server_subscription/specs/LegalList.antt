@@ -1,4 +1,4 @@
--- What is known of the parcels of a port, from their rule.
+-- What is known of the parcels of a port, by their rule.
 use Rattle.std.specs.Prelude.{◌≡◌, List, length, IfSome}
 use mathlib.Core.List.{IsPrefix}
 use Rattle.lq_volume.specs.Book.{Book, Extends}
@@ -7,11 +7,11 @@ use Rattle.lq_server_subscription.specs.declared.delivery.Delivery.{Delivery}
 use Rattle.lq_server_subscription.specs.declared.delivery.Opening.{Opening}
 use Rattle.lq_server_subscription.specs.Rule.{floor_of, messages_in, mark_in, last_book, whole, IsMark}
 
--- the book known by these parcels
+-- the book that is known from these parcels
 abbrev pub known_by : Opening → List Delivery → Book
 known_by f ps = last_book (floor_of f) ps
 
--- the last book extends the floor, the messages are a front of its updates, and a mark is last
+-- the last book extends the floor, the messages are a prefix of its updates, and a mark comes last
 pub record LegalList (f : Opening) (ps : List Delivery) : Type 0 where
   pub opening : f.opened ≡ length (floor_of f).changes
   pub later : Extends (known_by f ps) (floor_of f)

@@ -15,7 +15,7 @@ use Rattle.lq_server_subscription.specs.declared.delivery.Opening.{Opening}
 use Rattle.lq_server_subscription.specs.Rule.{floor_of, query_of, messages_in, mark_in, IsMark}
 use Rattle.lq_server_subscription.specs.LegalList.{known_by, LegalList}
 
--- the end of the port, the message in hand, and the result so far
+-- the port's end, the message in hand, and the result so far
 pub record ReadingHold : Type 0 where
   pub port : End Delivery Opening
   pub hand : Option Message
@@ -25,7 +25,7 @@ pub record ReadingHold : Type 0 where
 abbrev pub opening_of : Opening → Folding
 opening_of f = opened_at f.opened (result_of (query_of f) (state_of (floor_of f)))
 
--- what was received is what the port gave, but for the message in hand; it is folded
+-- the messages received are those that the port gave, except the one in hand; they are folded
 pub record Reads
     (e : End Delivery Opening) (result : Folding) (hand : Option Message) (ended : Bool)
     : Type 0 where
@@ -40,7 +40,7 @@ pub record Reads
 abbrev pub known : ReadingHold → Book
 known r = known_by r.port.floor r.port.taken
 
--- what it received: what was taken, but for the message in hand
+-- the messages received: those that were taken, except the one in hand
 abbrev pub received : ReadingHold → List Message
 received r =
     take (length (messages_in r.port.taken) - length (option_to_list r.hand))
@@ -50,7 +50,7 @@ received r =
 abbrev pub what_of : Delivery → Parcel
 what_of p = p.what
 
--- what is known to wait, the message in hand first
+-- the parcels that are known to wait, the message in hand first
 abbrev pub ready : ReadingHold → List Parcel
 ready r = map (λ m. told_update m) (option_to_list r.hand) ++ map what_of r.port.ahead
 
@@ -62,8 +62,8 @@ mark_read r = mark_in r.port.taken
 abbrev pub is_marked : ReadingHold → Bool
 is_marked r = is_some (mark_read r)
 
--- What a read leaves: a message is received, and where something was known to wait it was the
--- front of that; the mark comes after all messages; else nothing changes.
+-- What a read leaves. An `Update` was received; where parcels were known to wait, it was the first
+-- of them. The mark comes after all messages. Otherwise nothing changes.
 abbrev pub Gives : ReadingHold → ReadingHold → Read → Type 0
 Gives old new (Update m) =
     (received new ≡ received old ++ m ∷ [])
@@ -79,7 +79,7 @@ Gives old new Empty = (new ≡ old) × (ready old ≡ []) × (mark_read old ≡ 
 Gives old new Ended =
     (new ≡ old) × (ready old ≡ map what_of old.port.ahead) × IsSome (mark_read old)
 
--- no memory: a message is in hand, and what is known to wait begins with it
+-- memory ran out: a message is in hand, and is the first parcel known to wait
 abbrev pub Fails : ReadingHold → ReadingHold → Type 0
 Fails old new =
     (m : Message)
@@ -89,7 +89,7 @@ Fails old new =
     × IsFront (ready old) (told_update m) rest
     × (mark_read new ≡ mark_read old)
 
--- what is so of each reading, in what contracts see of it
+-- the invariant of each reading, in terms of what contracts see of it
 pub record IsTold (r : ReadingHold) : Type 0 where
   pub legal_list : LegalList r.port.floor r.port.taken
   pub all : messages_in r.port.taken ≡ received r ++ option_to_list r.hand

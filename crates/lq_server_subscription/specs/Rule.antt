@@ -13,7 +13,7 @@ use Rattle.lq_server_subscription.specs.declared.delivery.Delivery.{Delivery}
 use Rattle.lq_server_subscription.specs.declared.delivery.Opening.{Opening}
 use Rattle.lq_server_subscription.specs.Updates.{updates}
 
--- a floor that stands for none
+-- a floor for what has none
 abbrev pub no_opening : Opening
 no_opening =
     record {
@@ -39,12 +39,12 @@ floor_of f = f.book.value.book
 abbrev pub query_of : Opening → Query
 query_of f = f.query.value
 
--- the message of a parcel, where it is one
+-- the message of a parcel, if it is one
 abbrev pub message_of : Parcel → List Message
 message_of (Update m) = m ∷ []
 message_of (Fin k) = []
 
--- the mark of a parcel, or else another
+-- the mark of a parcel, or else another mark
 abbrev pub mark_or : Parcel → Option Mark → Option Mark
 mark_or (Update m) o = o
 mark_or (Fin k) o = Some k
@@ -64,11 +64,11 @@ abbrev pub last_book : Book → List Delivery → Book
 last_book book [] = book
 last_book book (p ∷ ps) = last_book (book_of p) ps
 
--- the updates of a book from the opening up to change n
+-- the updates over a book from the opening up to change n
 abbrev pub upto_change : Opening → Book → ℕ → List Message
 upto_change f book n = updates (query_of f) f.moved book f.opened n
 
--- and all of them
+-- and all updates over it
 abbrev pub whole : Opening → Book → List Message
 whole f book = upto_change f book (length book.changes)
 
@@ -79,13 +79,13 @@ pub record IsMark (f : Opening) (messages : List Message) (book : Book) (k : Mar
   pub opened : f.opened ≤ k.change
   pub within : k.change ≤ length book.changes
 
--- after these messages and over this book the next may be this: the next update, or the mark
+-- which parcel may come after these messages and over this book: the next update, or the mark
 abbrev pub Tells : Opening → List Message → Book → Parcel → Type 0
 Tells f messages book (Update m) = IsPrefix (messages ++ m ∷ []) (whole f book)
 Tells f messages book (Fin k) = IsMark f messages book k
 
--- x may come after these parcels: its book extends theirs, and it is the next of the updates over
--- that book, or the mark
+-- x may come after these parcels: its book extends theirs, and it is the next update over that
+-- book, or the mark
 pub record MayFollow (before : List Delivery) (f : Opening) (x : Delivery) : Type 0 where
   pub later : Extends (book_of x) (last_book (floor_of f) before)
   pub full : IsFullBook (book_of x)

@@ -26,16 +26,16 @@ use Rattle.lq_server_subscription.specs.Updates.{updates}
 use Rattle.lq_server_subscription.specs.Rule.{query_of, messages_in, mark_in, MayFollow}
 use Rattle.lq_server_subscription.specs.LegalList.{known_by}
 
--- the messages that were put, and those that are held
+-- the messages that were put, and then those that are held
 abbrev pub given : Held → End Delivery Opening → List Message
 given h e = messages_in (all_put e) ++ h.messages
 
--- the change up to which the subscription is told, of n
+-- the change up to which the subscription follows, of n changes
 abbrev pub upto : Option Mark → ℕ → ℕ
 upto None n = n
 upto (Some k) n = k.change
 
--- the mark, where it was put
+-- the mark, if it was put
 abbrev pub moved_mark : Bool → Option Mark → Option Mark
 moved_mark true o = o
 moved_mark false o = None
@@ -46,14 +46,15 @@ NotClosed Closed = ⊥
 NotClosed HungUp = Unit {0}
 NotClosed Overrun = Unit {0}
 
--- what close answered first, and the mark
+-- the answer of the first close agrees with the mark
 abbrev pub ShutFits : Shut → Option Mark → Type 0
 ShutFits Never o = IfSome o (λ k. NotClosed k.cause)
 ShutFits (At n) o = IsSomeAnd o (λ k. (k.cause ≡ Closed) × (k.change ≡ n))
 ShutFits Late o = IsSomeAnd o (λ k. NotClosed k.cause)
 
--- Change e + 1 was too much: it has messages, and those up to it are more than the backlog; where
--- it has no more than the backlog itself, they are more than port and backlog together.
+-- Change e + 1 was too much. It has messages, and the messages up to it are more than the backlog.
+-- Where its own messages are within the backlog, those up to it are more than port and backlog
+-- together.
 pub record IsOverrun
     (query : Query) (moved : Bool) (opened places backlog : ℕ) (book : Book) (e : ℕ)
     : Type 0 where
@@ -66,8 +67,9 @@ pub record IsOverrun
       ≤ length (updates query moved book opened e) + backlog
       → places + backlog < length (updates query moved book opened (e + 1))
 
--- A subscription stands over a book: what was put and then what is held are its updates over that
--- book, up to its mark or the end; and a mark is put last and has its cause.
+-- A subscription stands over a book: the messages that were put and then those that are held are
+-- its updates over that book, up to its mark or else to the end. A mark is put last and has its
+-- cause.
 pub record Stands
     (h : Held) (e : End Delivery Opening) (places : ℕ) (answer : Shut) (book : Book)
     : Type 0 where
@@ -90,11 +92,11 @@ pub record Stands
       (λ k. k.cause ≡ Overrun
       → IsOverrun h.query h.moved h.opened places h.backlog book k.change)
 
--- and in the words of a lock's value
+-- and for a subscription under the lock
 abbrev pub StandsAt : Subscription → Book → Type 0
 StandsAt s book = Stands s.sub.held s.input s.places s.shut book
 
--- messages are held only where as many as the port has places were put
+-- messages are held only where at least as many as the port has places were put
 abbrev pub IsFilled : Subscription → Type 0
 IsFilled s = 0 < length s.sub.held.messages → s.places ≤ length (messages_in (all_put s.input))
 
@@ -107,7 +109,7 @@ pub record SameHeld (h t : Held) : Type 0 where
   pub sent : t.sent ≡ h.sent
   pub mark : t.mark ≡ h.mark
 
--- only what was put and what is held differ, and not the list of both
+-- only what was put and what is held may differ; the list of both together stays
 pub record SameButPuts (s t : Subscription) : Type 0 where
   pub port : IsSamePort s.input t.input
   pub held : SameHeld s.sub.held t.sub.held
@@ -121,11 +123,11 @@ abbrev pub mark_left : Bool → ℕ
 mark_left true = 0
 mark_left false = 1
 
--- how many parcels are left to put, at most
+-- the most parcels that are left to put
 abbrev pub left_of : Held → ℕ
 left_of h = length h.messages + mark_left h.mark_out
 
--- and of a lock's value
+-- and for a subscription under the lock
 abbrev pub left : Subscription → ℕ
 left s = left_of s.sub.held
 
@@ -137,13 +139,13 @@ IsOut h = (h.messages ≡ []) × ((h.mark ≡ None) ⊎ (h.mark_out ≡ true))
 abbrev pub IsStuck : Subscription → Type 0
 IsStuck s = IsOut s.sub.held ⊎ (s.places ≤ length s.input.ahead)
 
--- a parcel with this and the keeper's book was put
+-- a parcel with this content and the keeper's book was put
 abbrev pub Offered :
     Parcel → KeeperToken Identity → End Delivery Opening → End Delivery Opening → Type 0
 Offered what keeper d e =
     (x : Delivery) × (x.what ≡ what) × (x.book.value ≡ keeper) × Gains d x e
 
--- both ends of the port were seen side by side, and what could be was put
+-- both ends of the port were seen together, and everything that could be put was put
 pub record SideBySide
     (s t : Subscription) (d e : End Delivery Opening) (book : Book) (waiting : ℕ)
     : Type 0 where
@@ -162,14 +164,14 @@ pub record SideBySide
 abbrev pub IsDrained : Subscription → ℕ → Type 0
 IsDrained s waiting = IsOut s.sub.held ⊎ (s.places ≤ waiting)
 
--- the messages of a change are made, where it is live
+-- the messages of a change are prepared, if the subscription is live
 abbrev pub IsReady : Prepared → State → Change → Type 0
 IsReady p s c =
     p.held.mark ≡ None
     → (p.ready ≡ step_of p.held.query p.held.moved s c (p.held.sent + 1))
     × (p.before ≡ s.number)
 
--- all but the messages, their count, the mark and the answer of close
+-- everything but the held messages, their count, the mark and the answer of the close stays
 pub record SameButHeld (s t : Subscription) : Type 0 where
   pub input : t.input ≡ s.input
   pub query : t.sub.held.query ≡ s.sub.held.query

@@ -1,4 +1,4 @@
--- The update list of a query, opaque to what goes by its laws alone.
+-- The update list of a query, opaque where only its laws are used.
 use Rattle.std.specs.Prelude.{ℕ, List, Bool}
 use Rattle.lq_predicate_formula.specs.Query.{Query}
 use Rattle.lq_volume.specs.Book.{Book}

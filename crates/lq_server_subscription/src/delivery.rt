@@ -1,4 +1,4 @@
-//! What goes through a port.
+//! The items of a port.
 use crate::identity::Identity;
 use lq_board::Keeper;
 use lq_port::Follows;
@@ -6,8 +6,9 @@ use lq_predicate::Predicate;
 use lq_server_witness::Witness;
 use lq_update::Parcel;
 
-/// What goes through a port: a message or the mark, and the keeper's book when it was put, which
-/// contracts alone read.
+/// An item of a port: a message or the mark, and the keeper's book when it was put.
+///
+/// Contracts alone read the book.
 #[derive(Drop)]
 pub struct Delivery {
     /// The message or the mark.
@@ -16,12 +17,12 @@ pub struct Delivery {
     pub book: Witness<Keeper<Identity>>,
 }
 
-/// What the rule of a port goes by, fixed at the opening: the floor of the port.
+/// The floor of a port: what its rule depends on, fixed at the opening.
 #[derive(Drop)]
 pub struct Opening {
     /// The query.
     pub query: Witness<Predicate>,
-    /// Whether one message tells of a node that changed its place within the result.
+    /// Whether one message reports a node that changed its place within the result.
     pub moved: bool,
     /// The number of changes at the opening.
     pub opened: u64,

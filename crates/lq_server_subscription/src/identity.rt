@@ -1,8 +1,8 @@
-//! What names a subscription, for contracts alone.
+//! The names of subscriptions, for contracts alone.
 use lq_predicate::Predicate;
 use std::marker::Model;
 
-/// Which port it is, as a contract sees it. No value of it is made.
+/// Which port it is, as a contract sees it. No value of this type exists.
 pub struct PortId {
     none: u8,
 }
@@ -18,31 +18,33 @@ impl Model for PortId {
     ghost view = { λ _. gnil };
 }
 
-/// What the first close of a subscription answered.
+/// The answer of the first close of a subscription.
 #[derive(Clone, Copy, Debug, PartialEq, Eq)]
 pub enum Shut {
     /// There was no close yet.
     Never,
-    /// It ended the subscription, after this many changes.
+    /// The close ended the subscription, after this many changes.
     At(u64),
-    /// The subscription had ended before it.
+    /// The subscription had ended before the close.
     Late,
 }
 
-/// The name that goes with a slot's seat: which subscription it is, and how its close was
-/// answered. No value of it is made.
+/// The name that goes with a slot's seat: which subscription it is, and what its first close
+/// answered.
+///
+/// No value of this type exists.
 pub struct Identity {
     /// The query.
     pub query: Predicate,
-    /// Whether one message tells of a node that changed its place within the result.
+    /// Whether one message reports a node that changed its place within the result.
     pub moved: bool,
     /// The number of changes at the opening.
     pub opened: u64,
-    /// The places of the port.
+    /// The number of places of the port.
     pub places: u64,
     /// The most messages that are held before the port.
     pub backlog: u64,
-    /// How often the slot's seat had asked at the opening.
+    /// How often the slot's seats had asked at the opening.
     pub asks: u64,
     /// What the first close answered.
     pub shut: Shut,

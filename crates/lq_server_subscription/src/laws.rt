@@ -6,22 +6,22 @@ pub fn books_extend_themselves()
     ensures { BooksExtendThemselves }
 {}
 
-/// A book that extends one that extends another extends that.
+/// Extension of books is transitive.
 pub fn books_extend_on()
     ensures { BooksExtendOn }
 {}
 
-/// A longer book leads to the same state at each number of the shorter one.
+/// A book and one that extends it lead to the same state at each number of the shorter one.
 pub fn states_stay()
     ensures { StatesStay }
 {}
 
-/// The update list in the rule of a port, which is opaque, is the query's update list.
+/// The opaque update list in the rule of a port is the query's update list.
 pub fn updates_are_update_lists()
     ensures { UpdatesAreUpdateLists }
 {}
 
-/// A new subscription stands over the book of its opening, with an empty port.
+/// A new subscription with an empty port stands over the book of its opening.
 pub fn new_subscriptions_stand()
     ensures { NewSubscriptionsStand }
 {}

@@ -1,9 +1,9 @@
-//! A subscription with its port: what goes through it, its end under a lock, its end that reads.
+//! A subscription with its port: the parcels, the end under a lock, and the reading end.
 //!
-//! Each parcel carries the keeper's book, for contracts alone; `specs/Rule` says which parcel may
+//! Each parcel carries the keeper's book, for contracts alone. `specs/Rule` says which parcel may
 //! follow. The end under the lock stands over a book (`StandsAt` of `specs/Standing`), and the
-//! other is a `ReadingHold` (`specs/Reading`). A put and a take may wait for a step of the other
-//! end. Begin with `delivery`, then `subscription`, `puts` and `reading`.
+//! reading end is a `ReadingHold` (`specs/Reading`). A put and a take may wait for a step of the
+//! other end. Begin with `delivery`, then `subscription`, `puts` and `reading`.
 #![tactic(auto)]
 
 mod delivery;

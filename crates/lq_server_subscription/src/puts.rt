@@ -1,4 +1,4 @@
-//! Puts: what is held moves into the port.
+//! Puts: held messages and the mark move into the port.
 ghost use Rattle.std.specs.Prelude.{◌≡◌, ◌<◌, ◌≤◌, MatchBool, IfErr, OnOk, OnErr, Some, length};
 ghost use Rattle.lq_port.specs.End.{all_put, IsSamePort, IsFull};
 ghost use Rattle.lq_desk_sub.specs.Held.{next_parcel};
@@ -17,11 +17,11 @@ use lq_server_witness::Witness;
 use lq_update::Parcel;
 use std::sync::Wait;
 
-/// Puts the first held message, or the mark after the last, and tells whether it did.
+/// Puts the first held message, or the mark after the last one, and answers whether it did.
 ///
-/// `false` only where nothing is left to put or as many parcels are known to wait as the port has
-/// places; the port's end is then as it was. It may wait for a step of the other end, and takes no
-/// memory.
+/// `false` only where nothing is left to put, or where this end knows of at least as many waiting
+/// parcels as the port has places. The end is then unchanged. It may wait for a step of the other
+/// end, and takes no memory.
 pub fn put_one<R: Wait>(rt: &R, keeper: &Keeper<Identity>, slot: &mut Subscription) -> bool
     requires { StandsAt slot.old keeper.now.book }
     ensures stands { StandsAt slot.new keeper.now.book }
@@ -42,7 +42,7 @@ pub fn put_one<R: Wait>(rt: &R, keeper: &Keeper<Identity>, slot: &mut Subscripti
     }
 }
 
-// Puts a parcel with the keeper's book, or hands it back where the port was full.
+// Puts a parcel with the keeper's book, or gives it back where the port was full.
 fn offer<R: Wait>(
     rt: &R,
     keeper: &Keeper<Identity>,
@@ -66,7 +66,8 @@ fn offer<R: Wait>(
     }
 }
 
-/// Puts until nothing is left to put or as many parcels are known to wait as the port has places.
+/// Puts until nothing is left to put, or until this end knows of at least as many waiting parcels
+/// as the port has places.
 ///
 /// It may wait for a step of the other end, and takes no memory.
 pub fn pump<R: Wait>(rt: &R, keeper: &Keeper<Identity>, slot: &mut Subscription)
@@ -78,11 +79,10 @@ pub fn pump<R: Wait>(rt: &R, keeper: &Keeper<Identity>, slot: &mut Subscription)
     while put_one(rt, keeper, slot) {}
 }
 
-/// Puts until nothing is left to put or the port is full, and answers how many parcels wait in
-/// it.
+/// Puts until nothing is left to put or the port is full, and answers how many parcels wait in it.
 ///
-/// The port's other end stands beside it, so no take comes between, and full is what it is when
-/// the call returns. It may wait for a step of the port, and takes no memory.
+/// The call has the port's other end too, so no take comes between: a port found full is still full
+/// when the call returns. It may wait for a step of the port, and takes no memory.
 pub fn drain<R: Wait>(
     rt: &R,
     keeper: &Keeper<Identity>,

@@ -23,10 +23,10 @@ use lq_value::{Entry, Refusal};
 use std::marker::Model;
 use std::sync::Wait;
 
-/// The end of a port for takes, with the result of what was received.
+/// The taking end of a port, with the result of what was received.
 ///
-/// A contract sees it as a `ReadingHold`: the port, the result so far, and a message in hand,
-/// which was taken and for want of memory not folded yet.
+/// A contract sees it as a `ReadingHold`: the port, the result so far, and a message in hand. A
+/// message in hand was taken, but isn't folded yet because memory ran out.
 pub struct Reading {
     output: PortOut<Delivery>,
     rebuild: Rebuild,
@@ -35,7 +35,7 @@ pub struct Reading {
     opened: u64,
 }
 
-// One call takes it apart, wherever one is dropped.
+// Dropping one is a single call, instead of code at each place.
 impl Drop for Reading {
     fn drop(self) {
         let Reading {
@@ -71,8 +71,10 @@ impl Model for Reading {
 }
 
 impl Reading {
-    /// A reading that received nothing yet, from a port of which nothing was taken and the query's
-    /// result at the opening. It takes no memory.
+    /// A reading that has received nothing, from a port of which nothing was taken and the query's
+    /// result at the opening.
+    ///
+    /// It takes no memory.
     pub fn new(output: PortOut<Delivery>, rebuild: Rebuild) -> Reading
         requires taken { output.taken ≡ [] }
         requires opening { output.floor.opened ≡ length (floor_of output.floor).changes }
@@ -105,16 +107,17 @@ impl Reading {
         self.ended
     }
 
-    /// Whether a message is in hand, which the next read begins with. It takes no memory.
+    /// Whether a message is in hand. The next read begins with it. It takes no memory.
     pub fn has_hand(&self) -> bool
         ensures { result ≡ is_some self.now.hand }
     {
         self.hand.is_some()
     }
 
-    /// The result after what was received, by rising node: the opening's, with each message
-    /// received folded in. After the mark it is the query's result after the mark's change. It
-    /// takes no memory.
+    /// The result after the messages received, by rising node: the opening's result with each
+    /// message folded in.
+    ///
+    /// After the mark it is the query's result after the mark's change. It takes no memory.
     pub fn result(&self) -> &[Entry]
         ensures entries { result.now ≡ self.now.result.entries }
         ensures rise { EntriesRise result.now }
@@ -128,9 +131,9 @@ impl Reading {
         self.rebuild.result()
     }
 
-    /// Whether what was received is settled: nothing, or with the last message of a change at its
-    /// end. The result is then the query's after that change, or at the opening. It takes no
-    /// memory.
+    /// Whether nothing was received, or the latest message received was the last of its change.
+    ///
+    /// The result is then the query's after that change, or at the opening. It takes no memory.
     pub fn is_settled(&self) -> bool
         ensures settled { result ≡ self.now.result.settled }
         ensures received { (result ≡ true) ↔ IsSettled (received self.now) }
@@ -144,8 +147,7 @@ impl Reading {
         self.rebuild.is_settled()
     }
 
-    /// The change of the latest message received, or `opened` before the first. It takes no
-    /// memory.
+    /// The change of the latest message received, or `opened` before the first. It takes no memory.
     pub fn last_change(&self) -> u64
         ensures change { result ≡ self.now.result.change }
         ensures received { result ≡ last_change self.now.port.floor.opened (received self.now) }
@@ -154,18 +156,18 @@ impl Reading {
         self.rebuild.last_change()
     }
 
-    /// What is so of each reading: its parcels were legal, and what was received is folded.
+    /// The invariant of each reading: its parcels were legal, and the messages received are folded.
     pub fn told(&self)
         ensures { IsTold self.now }
     {
         let _ = &self.rebuild;
     }
 
-    /// Takes the next parcel, and folds it where it is a message.
+    /// Takes the next parcel, and folds it if it is a message.
     ///
-    /// `Empty` never while something is known to wait; `Ended` after the mark and only then.
-    /// Refused: `NoMemory`; the message then stays in hand, and is what the next read begins with.
-    /// It may wait for a step of the other end, but not for a parcel.
+    /// `Empty` only where no parcel is known to wait; `Ended` after the mark and only then.
+    /// Refused: `NoMemory`; the message then stays in hand, and the next read begins with it. It
+    /// may wait for a step of the other end, but not for a parcel.
     pub fn read<R: Wait>(&mut self, rt: &R) -> Result<Read, Refusal>
         ensures refused { IsRefusedBy result None }
         ensures same { IsSamePort self.old.port self.new.port }
@@ -180,9 +182,9 @@ impl Reading {
         self.read_by(rt, false)
     }
 
-    /// As `read`, but where no parcel is there it waits for one.
+    /// As `read`, but it waits for a parcel if there is none.
     ///
-    /// `Empty` then says besides that the other end is gone, which no clause says.
+    /// `Empty` also means that the other end is gone, which no clause says.
     pub fn read_waiting<R: Wait>(&mut self, rt: &R) -> Result<Read, Refusal>
         ensures refused { IsRefusedBy result None }
         ensures same { IsSamePort self.old.port self.new.port }
@@ -197,7 +199,7 @@ impl Reading {
         self.read_by(rt, true)
     }
 
-    // Gives what is in hand, or else what comes next.
+    // Gives the message in hand, or else the next parcel.
     fn read_by<R: Wait>(&mut self, rt: &R, waits: bool) -> Result<Read, Refusal>
         ensures refused { IsRefusedBy result None }
         ensures same { IsSamePort self.old.port self.new.port }
@@ -229,10 +231,10 @@ impl Reading {
         }
     }
 
-    /// How many parcels wait, where the two ends stand side by side.
+    /// How many parcels wait, found with both ends of the port.
     ///
-    /// Each end then knows all that was put and all that was taken. It neither waits nor takes
-    /// memory.
+    /// Afterwards each end knows all that was put and all that was taken. It neither waits nor
+    /// takes memory.
     pub fn beside(&mut self, input: &mut PortIn<Delivery>) -> u64
         requires port { self.old.port.port ≡ input.old.port }
         ensures value { result ≡ length self.new.port.ahead }
@@ -251,7 +253,7 @@ impl Reading {
     }
 }
 
-// Folds a message, or keeps it in hand where there is no memory.
+// Folds a message, or keeps it in hand where memory runs out.
 fn keep(
     rebuild: &mut Rebuild,
     hand: &mut Option<Message>,

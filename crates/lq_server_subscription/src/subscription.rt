@@ -1,4 +1,4 @@
-//! A subscription under a lock: how it takes a change, and how it ends.
+//! A subscription under a lock: what a change does to it, and how it ends.
 ghost use Rattle.std.specs.Prelude.{◌≡◌, ◌+◌, ◌<◌, ◌^◌, ◌⊎◌, [], ◌∷◌, length, None, true, is_none, IsSome, OnOk};
 ghost use Rattle.lq_value.specs.Refusal.{IsRefusedBy};
 ghost use Rattle.lq_volume.specs.Book.{Book, grown, state_of};
@@ -15,21 +15,21 @@ use lq_update::{Cause, steps_are_few};
 use lq_value::Refusal;
 use lq_volume::{Change, Planned};
 
-/// A subscription with the end of its port for puts, as a lock has it.
+/// A subscription with the putting end of its port, as it is stored under a lock.
 pub struct Subscription {
-    /// The query, what is held, and the mark.
+    /// The query, the held messages, and the mark.
     pub sub: Sub,
-    /// The end of its port for puts.
+    /// The putting end of its port.
     pub input: PortIn<Delivery>,
-    /// The places of its port.
+    /// The number of places of its port.
     pub places: u64,
-    /// How often its slot's seat had asked at the opening.
+    /// How often its slot's seats had asked at the opening.
     pub asks: u64,
-    /// What its first close answered.
+    /// The answer of its first close.
     pub shut: Shut,
 }
 
-// One call takes it apart, wherever one is dropped.
+// Dropping one is a single call, instead of code at each place.
 impl Drop for Subscription {
     fn drop(self) {
         let Subscription {
@@ -42,9 +42,9 @@ impl Drop for Subscription {
     }
 }
 
-/// Makes the messages of a lawful change that isn't made yet, where the subscription is live.
+/// Prepares the messages of a lawful change that isn't made yet, where the subscription is live.
 ///
-/// What it holds stays, and so does its mark. Refused: `NoMemory`.
+/// Its held messages and its mark stay. Refused: `NoMemory`.
 pub fn ready(slot: &mut Subscription, planned: &Planned<'_>) -> Result<(), Refusal>
     requires few { slot.old.sub.held.sent < 2 ^ 63 }
     ensures refused { IsRefusedBy result None }
@@ -59,11 +59,11 @@ pub fn ready(slot: &mut Subscription, planned: &Planned<'_>) -> Result<(), Refus
     slot.sub.ready_planned(planned)
 }
 
-/// Holds the messages that `ready` made for this change, or ends with an overrun where they are
+/// Holds the messages that `ready` prepared for this change, or ends with an overrun where they are
 /// too many.
 ///
-/// It then stands over the book with the change, where it stood over the book before. One that
-/// has ended stays as it is. It takes no memory.
+/// A subscription that stood over the book before then stands over the book with the change. One
+/// that has ended stays as it is. It takes no memory.
 pub fn commit(slot: &mut Subscription, change: &Change)
     requires few { slot.old.sub.held.sent < 2 ^ 63 }
     requires filled { IsFilled slot.old }
@@ -86,10 +86,10 @@ pub fn commit(slot: &mut Subscription, change: &Change)
     slot.sub.commit();
 }
 
-/// Ends it as `HungUp`, where it is live and its reader asked.
+/// Ends the subscription as `HungUp` where it is live and its reader asked for that.
 ///
-/// `number` is how many changes there are, and `asked` whether the reader asked. Without that it
-/// stays as it is, and so does one that has ended. It takes no memory.
+/// `number` is the number of changes, and `hang_up_asked` says whether the reader asked. A
+/// subscription stays as it is where its reader didn't ask or it has ended. It takes no memory.
 pub fn notice(slot: &mut Subscription, hang_up_asked: bool, number: u64)
     requires few { slot.old.sub.held.sent < 2 ^ 63 }
     ensures stands { (book : Book) → StandsAt slot.old book → number ≡ length book.changes
@@ -112,10 +112,10 @@ pub fn notice(slot: &mut Subscription, hang_up_asked: bool, number: u64)
     slot.sub.finish_with(Cause::HungUp, number);
 }
 
-/// Ends it as `Closed`, where it is live, and tells whether it did.
+/// Ends the subscription as `Closed` where it is live, and answers whether it did.
 ///
-/// `number` is how many changes there are. One that has ended keeps its mark. The answer of the
-/// first close is kept in `shut`. It takes no memory.
+/// `number` is the number of changes. A subscription that has ended keeps its mark. The answer of
+/// the first close is kept in `shut`. It takes no memory.
 pub fn close(slot: &mut Subscription, number: u64) -> bool
     requires fits { ShutFits slot.old.shut slot.old.sub.held.mark }
     requires few { slot.old.sub.held.sent < 2 ^ 63 }

@@ -4,7 +4,7 @@ ghost use Rattle.std.specs.Borrow.{ftrue};
 
 use std::marker::{Model, PhantomData};
 
-/// What a contract saw of a value at the time of `of`. It has no bytes and owns nothing.
+/// What a contract saw of a value when `of` was called. It has no bytes and owns nothing.
 #[derive(Drop)]
 pub struct Witness<T> {
     marker: PhantomData<T>,

@@ -1,4 +1,4 @@
-//! A text of few bytes.
+//! A short text.
 ghost use Rattle.std.specs.Prelude.{◌≡◌, ◌≤◌, ◌↔◌, IfSome, IsSome, length};
 
 use std::marker::Model;
@@ -6,7 +6,7 @@ use std::{fmt, str};
 
 /// A text of UTF-8 of at most `ROOM` bytes, with one byte for its length.
 ///
-/// It takes `ROOM + 1` bytes where it stands. A contract sees it as its bytes.
+/// It is stored inline in `ROOM + 1` bytes. A contract sees it as its bytes.
 #[derive(Drop)]
 pub struct ShortText<const ROOM: usize> {
     len: u8,
@@ -25,7 +25,7 @@ impl<const ROOM: usize> Model for ShortText<ROOM> {
 }
 
 impl<const ROOM: usize> ShortText<ROOM> {
-    /// The text with these bytes. `None` where it is longer than `ROOM` bytes, or than 255.
+    /// The text with these bytes. `None` where it is longer than `ROOM` bytes or than 255 bytes.
     pub fn new(text: &str) -> Option<ShortText<ROOM>>
         ensures value { IfSome result (λ short. short ≡ text.now) }
         ensures fits { IsSome result ↔ ((length text.now ≤ ROOM) × (length text.now ≤ 255)) }
@@ -50,7 +50,7 @@ impl<const ROOM: usize> ShortText<ROOM> {
         unsafe { str::from_utf8_unchecked(&self.bytes[..self.len as usize]) }
     }
 
-    /// The same text.
+    /// A copy of the text.
     #[inline]
     pub fn copy(&self) -> ShortText<ROOM>
         ensures { result ≡ self.now }
