@@ -177,8 +177,8 @@ module _ (join : UpdatesJoin) (grow : UpdatesGrow) (count : ChangesCount) (fold 
   -- what a run's openings and reads are answered, from any world whose book leads to the state
   openings-told : (w end : World) (events : List Event) (answers : List Answer)
       → Run w events answers end → OpeningsAreTold (state_of w.book) events answers
-  openings-told w end events answers run before after befores afters q port backlog moved slot at first
-      is told same =
+  openings-told w end events answers run before after befores afters q port backlog moved slot at
+      first is told same =
       let parts = run_parts w before (Open q port backlog moved ∷ after) befores
       (Opened slot at first ∷ afters) end same
       (subst (λ (es : List Event). Run w es (befores ++ Opened slot at first ∷ afters) end) is

@@ -56,7 +56,8 @@ pub record Meets (was now : SeatToken Identity) : Type 0 where
 
 -- from the opening over the reads to the last sync, a meeting of the seats and the end of the
 -- server
-pub followed : UpdatesStay → BooksExtendOn → StatesStay → (q : Query) (board : TableId) (begun : Book) (port backlog : ℕ)
+pub followed : UpdatesStay → BooksExtendOn → StatesStay
+    → (q : Query) (board : TableId) (begun : Book) (port backlog : ℕ)
     (first old new : ReaderHold) (x : Synced) (one two : SeatToken Identity) (z : Retired)
     → IsNewReader first board begun q false port backlog → GoesOut first old → IsSynced old new x
     → ReaderIsTold new

@@ -54,11 +54,11 @@ impl<'a, N: Named, G> Turn<'a, N, G> {
     }
 }
 
-/// Puts the replies to reads of these slots behind `out`, in their order.
+/// Appends the replies to reads of these slots to `out`, in their order.
 ///
 /// The reads of a slot that has a reader are carried out in order, and beside those of each other
 /// slot (`Workers::do_all`); a read of another slot is refused `NotOpen`. Refused: `NoMemory`, and
-/// then a part of the replies may stand behind `out`, and readers may be lost.
+/// then a part of the replies may have been appended to `out`, and readers may be lost.
 pub fn read_beside<
     's,
     E: 's,
@@ -83,7 +83,7 @@ pub fn read_beside<
     told
 }
 
-// Puts the reply to each read behind `out`.
+// Appends the reply to each read to `out`.
 fn put_replies<N: Named, G>(
     turns: &mut [Turn<'_, N, G>],
     slots: &[u64],

@@ -150,7 +150,7 @@ impl<
         self.write_replies()
     }
 
-    // Puts a reply behind those that wait, and writes them where they are many.
+    // Puts a reply after those that wait, and writes them where they are many.
     fn put(&mut self, response: &Response) -> Result<(), RunFault> {
         let before = self.replies.len();
         if put_reply(&mut self.replies, response).is_err() {

@@ -80,7 +80,7 @@ impl<N: Named> Caller<N> {
         })
     }
 
-    /// The entries that a predicate holds of. Refused as `Server::fetch` is.
+    /// The entries that match a predicate. Refused as `Server::fetch` is.
     pub fn fetch<R: Wait>(
         &mut self,
         rt: &R,

@@ -1,9 +1,9 @@
 //! Scripts by a server and threads: the reads of several slots go side by side.
 //!
 //! Each line is carried out by the public calls of a server, a run of `read` lines as a batch, with
-//! a thread for each slot, which stays until the slot is finished. The output is that of one thread, as tests show; contracts say that each
-//! call is safe. Calls may wait. Begin with `threads`, then `carrier`, `session`, `batch` and
-//! `workers`.
+//! a thread for each slot, which stays until the slot is finished. The output is the output of one
+//! thread, as tests show; contracts say that each call is safe. Calls may wait. Begin with
+//! `threads`, then `carrier`, `session`, `batch` and `workers`.
 #![tactic(auto)]
 
 mod batch;

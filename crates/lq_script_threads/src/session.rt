@@ -55,9 +55,9 @@ impl<'s, E: 's, N: Named + Send + Sync + 's, R: Threads + Wait + Sync, G: Gate +
         })
     }
 
-    /// Puts the replies to reads of these slots behind `out`, in their order; the reads of
+    /// Appends the replies to reads of these slots to `out`, in their order; the reads of
     /// several slots go side by side. Refused: `NoMemory`, and then a part of the replies may
-    /// stand behind `out`, and the session is of no more use.
+    /// have been appended to `out`, and the session is of no more use.
     pub fn read(&mut self, slots: &[u64], out: &mut Vec<u8>) -> Result<(), Refusal> {
         read_beside(
             self.alloc,

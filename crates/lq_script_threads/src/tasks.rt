@@ -11,13 +11,11 @@ pub trait Task {
     fn run<R: Wait>(&mut self, rt: &R);
 }
 
-/// The tasks of a batch that nobody has begun, and those that threads have done.
+/// The tasks of a batch that no thread has begun, and those that threads have done.
 #[derive(Drop)]
 pub struct Tasks<T: Drop> {
     waiting: Vec<T>,
     done: Vec<T>,
-    // The slot whose thread was woken and has not looked yet.
-    woken: Option<u64>,
     // The slots of which a thread is to end, each as often as threads are.
     ending: Vec<u64>,
     is_over: bool,
@@ -29,7 +27,6 @@ impl<T: Task + Drop> Tasks<T> {
         Tasks {
             waiting,
             done,
-            woken: None,
             ending,
             is_over: false,
         }
@@ -41,9 +38,9 @@ impl<T: Task + Drop> Tasks<T> {
         self.done = done;
     }
 
-    /// A task that nobody has begun; `None` where there is none.
-    pub fn take_back(&mut self) -> Option<T> {
-        self.waiting.pop()
+    /// The tasks that no thread has begun.
+    pub fn waiting(&self) -> &[T] {
+        self.waiting.as_slice()
     }
 
     /// The task of a slot, for its thread; `None` where none waits.
@@ -60,30 +57,13 @@ impl<T: Task + Drop> Tasks<T> {
         let _ = self.done.push(task);
     }
 
-    /// Puts the tasks that threads have done behind these. One is lost where there is no room.
+    /// Appends the tasks that threads have done to these. One is lost where there is no room.
     pub fn give_back(&mut self, tasks: &mut Vec<T>) {
         for _ in 0..self.done.len() {
             if let Some(task) = self.done.pop() {
                 let _ = tasks.push(task);
             }
         }
-    }
-
-    /// A thread of this slot looks at the tasks.
-    pub fn look(&mut self, slot: u64) {
-        if self.woken == Some(slot) {
-            self.woken = None;
-        }
-    }
-
-    /// The slot whose thread is to be woken now: one whose task waits, unless a thread that was woken
-    /// has not looked yet. That one then wakes the next.
-    pub fn wake(&mut self) -> Option<u64> {
-        if self.woken.is_some() {
-            return None;
-        }
-        self.woken = self.waiting.first().map(|task| task.slot());
-        self.woken
     }
 
     /// A thread of this slot is to end. Refused: no memory.

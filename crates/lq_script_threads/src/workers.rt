@@ -7,16 +7,16 @@ use std::sync::atomic::{AtomicU64, Ordering};
 use std::sync::{Arc, Condvar, Mutex, Wait};
 use std::thread::{Scope, Threads};
 
-/// How often the caller's thread looks whether the others are done before it sleeps. That takes some
-/// five microseconds, longer than most tasks.
+/// How often the caller's thread looks whether the others are done before it sleeps. That takes
+/// some five microseconds, longer than most tasks.
 const LOOKS: u32 = 100;
 
 /// What all threads of a run share. A thread sleeps on the condition of its slot.
 #[derive(Drop)]
 struct Shared<T: Drop> {
     tasks: Mutex<Tasks<T>>,
-    // The tasks that threads have begun and not done. It changes under the lock.
-    begun: AtomicU64,
+    // The tasks that threads were asked for and have not done. It changes under the lock.
+    left: AtomicU64,
     of_slots: Vec<Condvar>,
     of_caller: Condvar,
 }
@@ -31,32 +31,23 @@ impl<T: Task + Drop> Shared<T> {
         let ending = Vec::with_capacity(alloc, SLOTS)?;
         Ok(Shared {
             tasks: Mutex::new(Tasks::new(Vec::new(alloc), Vec::new(alloc), ending)),
-            begun: AtomicU64::new(0),
+            left: AtomicU64::new(0),
             of_slots,
             of_caller: Condvar::new(),
         })
     }
 
-    // Asks for these tasks, and wakes one thread. `done` is empty and has room for them.
+    // Asks for these tasks, and wakes the thread of each. `done` is empty and has room for them.
     fn ask<R: Wait>(&self, rt: &R, waiting: Vec<T>, done: Vec<T>) {
         let mut tasks = self.tasks.lock(rt);
+        self.left.store(waiting.len() as u64, Ordering::SeqCst);
         tasks.ask(waiting, done);
-        let woken = tasks.wake();
-        drop(tasks);
-        self.wake(woken);
+        for task in tasks.waiting() {
+            self.wake(task.slot());
+        }
     }
 
-    // A task that nobody has begun, for the caller's thread; it wakes a thread where more wait.
-    fn take_back<R: Wait>(&self, rt: &R) -> Option<T> {
-        let mut tasks = self.tasks.lock(rt);
-        let task = tasks.take_back();
-        let woken = tasks.wake();
-        drop(tasks);
-        self.wake(woken);
-        task
-    }
-
-    // Waits until the threads have done all that they began, and puts those tasks behind these.
+    // Waits until the threads have done all tasks, and appends these.
     fn wait_for_all<R: Wait>(&self, rt: &R, done: &mut Vec<T>) {
         for _ in 0..LOOKS {
             if self.is_done() {
@@ -76,34 +67,22 @@ impl<T: Task + Drop> Shared<T> {
     }
 
     fn is_done(&self) -> bool {
-        self.begun.load(Ordering::SeqCst) == 0
+        self.left.load(Ordering::SeqCst) == 0
     }
 
-    // The next task of a slot, for its thread, which waits for it; `None` where it is to end. A thread
-    // wakes the next one before it begins, so that no task waits for another to be done.
+    // The next task of a slot, for its thread, which waits for it; `None` where it is to end.
     fn next<R: Wait>(&self, rt: &R, slot: u64) -> Option<T> {
         let condition = self.of_slots.get(index_of(slot))?;
         let mut tasks = self.tasks.lock(rt);
         for _ in rt.forever() {
-            tasks.look(slot);
-            let ends = tasks.ends(slot);
-            let task = if ends { None } else { tasks.begin(slot) };
-            if task.is_some() {
-                self.begun.fetch_add(1, Ordering::SeqCst);
+            if tasks.ends(slot) {
+                return None;
             }
-            let woken = tasks.wake();
-            if ends || task.is_some() {
-                drop(tasks);
-                self.wake(woken);
+            let task = tasks.begin(slot);
+            if task.is_some() {
                 return task;
             }
-            if woken.is_some() {
-                drop(tasks);
-                self.wake(woken);
-                tasks = self.tasks.lock(rt);
-            } else {
-                tasks = condition.wait(rt, tasks);
-            }
+            tasks = condition.wait(rt, tasks);
         }
         unreachable!()
     }
@@ -112,9 +91,9 @@ impl<T: Task + Drop> Shared<T> {
     fn finish<R: Wait>(&self, rt: &R, task: T) {
         let mut tasks = self.tasks.lock(rt);
         tasks.finish(task);
-        let begun = self.begun.fetch_sub(1, Ordering::SeqCst);
+        let left = self.left.fetch_sub(1, Ordering::SeqCst);
         drop(tasks);
-        if begun == 1 {
+        if left == 1 {
             self.of_caller.notify_one();
         }
     }
@@ -124,7 +103,7 @@ impl<T: Task + Drop> Shared<T> {
         let mut tasks = self.tasks.lock(rt);
         tasks.end(slot)?;
         drop(tasks);
-        self.wake(Some(slot));
+        self.wake(slot);
         Ok(())
     }
 
@@ -139,11 +118,9 @@ impl<T: Task + Drop> Shared<T> {
     }
 
     // Wakes the thread of a slot.
-    fn wake(&self, slot: Option<u64>) {
-        if let Some(slot) = slot {
-            if let Some(condition) = self.of_slots.get(index_of(slot)) {
-                condition.notify_one();
-            }
+    fn wake(&self, slot: u64) {
+        if let Some(condition) = self.of_slots.get(index_of(slot)) {
+            condition.notify_one();
         }
     }
 }
@@ -200,9 +177,8 @@ impl<'s, E: 's, R: Wait, T: Task + Drop> Workers<'s, E, R, T> {
 impl<'s, E: 's, R: Threads + Wait + Sync, T: Task + Send + Drop + 's> Workers<'s, E, R, T> {
     /// Does the tasks of a batch, one of each slot, side by side, and gives them back in any order.
     ///
-    /// This thread does the first, each whose thread can't be made, and then each that its thread has
-    /// not begun: so none waits for a thread to wake, and where one takes long the others go on.
-    /// Refused: no memory, and then tasks may be lost.
+    /// This thread does the first and each whose thread can't be made. The thread of its slot does
+    /// each other. Refused: no memory, and then tasks may be lost.
     pub fn do_all(&mut self, batch: Vec<T>) -> Result<Vec<T>, AllocError> {
         let count = batch.len();
         let mut own = Vec::with_capacity(self.alloc, count)?;
@@ -221,13 +197,6 @@ impl<'s, E: 's, R: Threads + Wait + Sync, T: Task + Send + Drop + 's> Workers<'s
         let done = Vec::with_capacity(self.alloc, count)?;
         self.shared.ask(self.rt, waiting, done);
         run_each(self.rt, &mut own);
-        for _ in 0..count {
-            let Some(mut task) = self.shared.take_back(self.rt) else {
-                break;
-            };
-            task.run(self.rt);
-            own.push(task)?;
-        }
         self.shared.wait_for_all(self.rt, &mut own);
         if own.len() < count {
             return Err(AllocError);

@@ -318,8 +318,8 @@ answers_told folds wholes first last answers empty none h told =
             ∙ ap (λ (l : List Message). l ++ told.prefix.0)
             (sym (updates_in-append front rest) ∙ ap updates_in (sym is) ∙ sym got)
             ∙ told.prefix.1 in
-            folds (query_of f) f.moved b f.opened (length b.changes) (updates_in front) told.book.start
-            told.book.lawful (omega arith) (omega arith) (more, split_is) settled;
+            folds (query_of f) f.moved b f.opened (length b.changes) (updates_in front)
+            told.book.start told.book.lawful (omega arith) (omega arith) (more, split_is) settled;
         closing = λ front rest k is.
             let m = (marks front rest k is).0 in
             ap (folded (result_after f b f.opened)) m.all

@@ -216,8 +216,8 @@ module _ (h : Held) (d : End Delivery Opening) (places : ℕ) (shut : Shut) (boo
           out = ap mark_in all_then ∙ mark_in-append (all_put d) (x ∷ []) (unput p n)
               ∙ ap (λ z. mark_or z None) is ∙ out_then p n;
           done = done_then p n;
-          shut = subst (λ o. Rattle.lq_server_subscription.specs.Standing.ShutFits shut o) (sym r.mark)
-              s.shut;
+          shut = subst (λ o. Rattle.lq_server_subscription.specs.Standing.ShutFits shut o)
+              (sym r.mark) s.shut;
           overrun =
               subst (λ (z : Query × Bool × ℕ × ℕ × Option Mark). IfSome z.4
               (λ k. k.cause ≡ Overrun → IsOverrun z.0 z.1 z.2 places z.3 book k.change))

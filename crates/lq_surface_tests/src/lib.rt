@@ -1,6 +1,6 @@
 //! Each public call of the nine crates, from its home and with its signature, once where it answers
-//! what was asked for; and the refusals that cost little. A module for each crate. No other crate of
-//! the repository is named here.
+//! what was asked for; and the refusals that cost little. A module for each crate. No other crate
+//! of the repository is named here.
 #![tactic(auto)]
 
 #[cfg(test)]

@@ -105,7 +105,7 @@ fn sixteen_seats_are_out(rt: HostRuntime) -> Result<(), Fail> {
     Ok(())
 }
 
-// The `seq` of an update, 100 more for a mark of this cause, 0 for an empty port, 200 after the end.
+// The `seq` of an update, 100 more for a mark of this cause, 0 for an empty port, 200 at the end.
 fn number(read: &Read, cause: Cause) -> u64 {
     match read {
         Read::Update(message) => message.seq,

@@ -13,8 +13,8 @@ use std::{fs, thread};
 
 const SLOTS: u64 = 64;
 
-// 64 windows, and then batches that name 2, 3 and up to 64 slots, each of them twice. After each batch
-// its last slot ends and is used again.
+// 64 windows, and then batches that name 2, 3 and up to 64 slots, each of them twice. After each
+// batch its last slot ends and is used again.
 fn batches(alloc: Global) -> Result<String, AllocError> {
     let mut text = String::new(alloc);
     for _ in 0..SLOTS {

@@ -1,5 +1,6 @@
 -- Read in this order. Matching: PatternLemmas, MatchingLemmas, SeekLemmas, MarkLemmas,
--- StarredLemmas. Reading a source: PieceLemmas, ReadingLemmas, WrittenLemmas, SourceLemmas, SourceLaws.
+-- StarredLemmas. Reading a source: PieceLemmas, ReadingLemmas, WrittenLemmas, SourceLemmas,
+-- SourceLaws.
 pub mod PatternLemmas
 pub mod MatchingLemmas
 pub mod StarredLemmas

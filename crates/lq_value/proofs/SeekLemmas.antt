@@ -220,7 +220,8 @@ nowhere_end es piece (e ∷ after) cs end is none le at nowhere = absurd (omega 
 
 -- no elements are taken at once
 pub empty_first : (es : List Element) (cs : List ℕ) → length es ≡ 0 → IsFirstPlace es cs 0
-empty_first [] cs h = record { within = omega arith; taken = refl; first = λ q lt. absurd (omega arith) }
+empty_first [] cs h =
+    record { within = omega arith; taken = refl; first = λ q lt. absurd (omega arith) }
 empty_first (e ∷ es) cs h = absurd (omega arith)
 
 -- a place behind others, seen from the text's start
