@@ -8,6 +8,8 @@ mod again;
 #[cfg(test)]
 mod draws;
 #[cfg(test)]
+mod fills;
+#[cfg(test)]
 mod followed;
 #[cfg(test)]
 mod held;
@@ -21,3 +23,5 @@ mod scenarios;
 mod stage;
 #[cfg(test)]
 mod tables;
+#[cfg(test)]
+mod waits;

@@ -1,0 +1,193 @@
+//! Reads that wait, and the numbers of a sync.
+ghost use Rattle.std.specs.Prelude.{◌≡◌};
+ghost use Rattle.lq_server.specs.Own.{IsOwn};
+
+use crate::acts::file;
+use crate::stage::base;
+use lq_predicate::{Predicate, read};
+use lq_server::{Base, Named, Read, Reader, Seat, Server, Synced, Work, join_over};
+use lq_update::Cause;
+use lq_value::{Name, Refusal};
+use lq_volume::Change;
+use std::alloc::Global;
+use std::marker::Brand;
+use std::sync::Wait;
+use std::test::Fail;
+use std::thread::Threads;
+
+/// How many fetches stand before the first change, so that a reader comes to wait.
+const FETCHES: u64 = 400;
+
+/// A reader that waits for so many messages.
+#[derive(Drop)]
+struct Waits {
+    reader: Reader,
+    messages: u64,
+}
+
+impl Work for Waits {
+    type Given = Result<u64, Refusal>;
+
+    ghost can = { λ waits board. (waits.reader.seat.board ≡ board) × IsOwn waits.reader };
+
+    ghost gives = { λ _ _ _. Unit {0} };
+
+    fn work<N: Named, R: Wait>(self, rt: &R, server: &Server<N>) -> Result<u64, Refusal> {
+        let Waits { reader, messages } = self;
+        count_waiting(rt, server, reader, messages)
+    }
+}
+
+/// A writer that fetches before it makes its changes.
+#[derive(Drop)]
+struct Writes<'a> {
+    seat: Seat,
+    predicate: &'a Predicate,
+    changes: &'a [Change],
+}
+
+impl<'a> Work for Writes<'a> {
+    type Given = Result<u64, Refusal>;
+
+    ghost can = { λ writes board. (writes.seat.board ≡ board) × (writes.seat.slot ≡ 0) };
+
+    ghost gives = { λ _ _ _. Unit {0} };
+
+    fn work<N: Named, R: Wait>(self, rt: &R, server: &Server<N>) -> Result<u64, Refusal> {
+        let Writes {
+            mut seat,
+            predicate,
+            changes,
+        } = self;
+        fetch_often(rt, server, &mut seat, predicate)?;
+        apply_all(rt, server, &mut seat, changes)?;
+        Ok(server.latest(&mut seat))
+    }
+}
+
+/// How many messages come in their order, each by one read that waits, up to so many.
+fn count_waiting<N: Named, R: Wait>(
+    rt: &R,
+    server: &Server<N>,
+    mut reader: Reader,
+    messages: u64,
+) -> Result<u64, Refusal>
+    requires { (reader.seat.board ≡ N.board) × IsOwn reader }
+{
+    for count in 0..messages {
+        match reader.read_waiting(rt, server)? {
+            Read::Update(message) if message.seq == count + 1 => {}
+            _ => return Ok(count),
+        }
+    }
+    Ok(messages)
+}
+
+fn fetch_often<N: Named, R: Wait>(
+    rt: &R,
+    server: &Server<N>,
+    seat: &mut Seat,
+    predicate: &Predicate,
+) -> Result<(), Refusal>
+    requires { (seat.old.board ≡ N.board) × (seat.old.slot ≡ 0) }
+    ensures { (seat.new.board ≡ N.board) × (seat.new.slot ≡ 0) }
+{
+    for _ in 0..FETCHES {
+        server.fetch(rt, seat, predicate)?;
+    }
+    Ok(())
+}
+
+fn apply_all<N: Named, R: Wait>(
+    rt: &R,
+    server: &Server<N>,
+    seat: &mut Seat,
+    changes: &[Change],
+) -> Result<(), Refusal>
+    requires { (seat.old.board ≡ N.board) × (seat.old.slot ≡ 0) }
+    ensures { (seat.new.board ≡ N.board) × (seat.new.slot ≡ 0) }
+{
+    for change in changes {
+        server.apply(rt, seat, change)?;
+    }
+    Ok(())
+}
+
+/// How many messages a reader got that waited for them beside the changes.
+fn wait_beside<N: Named + Send + Sync, R: Threads + Wait + Sync>(
+    rt: &R,
+    base: Base,
+    predicate: &Predicate,
+    changes: &[Change],
+) -> Result<u64, Refusal>
+    requires { base ≡ N.board }
+{
+    let server: Server<N> = Server::new(base);
+    let mut seat = server.seat(rt)?;
+    let reader = server.open(rt, &mut seat, predicate, 1, 8, false)?;
+    let waits = Waits {
+        reader,
+        messages: changes.len() as u64,
+    };
+    let writes = Writes {
+        seat,
+        predicate,
+        changes,
+    };
+    let (waited, written) = join_over(rt, &server, waits, writes);
+    written?;
+    waited
+}
+
+/// What a sync answers after these changes, with a port of 2 and a backlog of 8, and what it
+/// answers once the reader hung up.
+fn sync_twice<N: Named, R: Wait>(
+    rt: &R,
+    base: Base,
+    predicate: &Predicate,
+    changes: &[Change],
+) -> Result<(Synced, Synced), Refusal>
+    requires { base ≡ N.board }
+{
+    let server: Server<N> = Server::new(base);
+    let mut seat = server.seat(rt)?;
+    let mut reader = server.open(rt, &mut seat, predicate, 2, 8, false)?;
+    apply_all(rt, &server, &mut seat, changes)?;
+    let live = server.sync(rt, &mut reader);
+    reader.hang_up(&server);
+    let ended = server.sync(rt, &mut reader);
+    Ok((live, ended))
+}
+
+/// Five files.
+fn files(alloc: Global) -> Result<Vec<Change>, Refusal> {
+    let mut changes = Vec::with_capacity(alloc, 5)?;
+    for name in ["a", "b", "c", "d", "e"] {
+        changes.push(file(Name::read(alloc, name)?))?;
+    }
+    Ok(changes)
+}
+
+#[test]
+fn a_read_waits_for_the_next_change(rt: HostRuntime) -> Result<(), Fail> {
+    let base = base(rt.alloc())?;
+    let predicate = read(rt.alloc(), "name=*")?;
+    let changes = files(rt.alloc())?;
+    let waited = wait_beside::<Brand, _>(&rt, base, &predicate, &changes)?;
+    assert!(rt; waited == 5);
+    Ok(())
+}
+
+#[test]
+fn a_sync_answers_each_number(rt: HostRuntime) -> Result<(), Fail> {
+    let base = base(rt.alloc())?;
+    let predicate = read(rt.alloc(), "name=*")?;
+    let changes = files(rt.alloc())?;
+    let (live, ended) = sync_twice::<Brand, _>(&rt, base, &predicate, &changes)?;
+    assert!(rt; live.change == 5 && live.waiting == 2 && live.held == 3);
+    assert!(rt; live.mark.is_none());
+    assert!(rt; ended.change == 5 && ended.waiting == 2 && ended.held == 3);
+    let mark = ended.mark.ok_or("no mark")?;
+    assert!(rt; mark.seq == 6 && mark.change == 5 && mark.cause == Cause::HungUp);
+    Ok(())
+}
