@@ -113,7 +113,7 @@ fn nothing_comes_after_a_mark(rt: HostRuntime) -> Result<(), Fail> {
     Ok(())
 }
 
-/// Whether each call was answered as is wanted, and so many changes were made.
+/// Whether each call was answered as wanted, and this many changes were made.
 fn is_played(done: &Done, changes: u64) -> bool {
     done.acted.stop.is_none() && done.retired.changes == changes
 }

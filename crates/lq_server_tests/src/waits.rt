@@ -18,7 +18,7 @@ use std::thread::Threads;
 /// How many fetches stand before the first change, so that a reader comes to wait.
 const FETCHES: u64 = 400;
 
-/// A reader that waits for so many messages.
+/// A reader that waits for this many messages.
 #[derive(Drop)]
 struct Waits {
     reader: Reader,

@@ -4,7 +4,7 @@ ghost use Rattle.std.specs.Prelude.{◌≡◌, false, true, None};
 use lq_script::{Failed, Sink, Source};
 use std::alloc::Global;
 
-/// Gives a text, at most so many bytes a call, and fails at its end where it is asked to.
+/// Gives a text, at most `step` bytes a call. With `fails` it fails at the end of the text.
 #[derive(Drop)]
 pub struct Given<'a> {
     left: &'a [u8],
@@ -43,7 +43,7 @@ impl<'a> Source for Given<'a> {
     }
 }
 
-/// Takes at most so many bytes a call, and fails after that many in all.
+/// Takes at most `step` bytes a call, and fails after `room` bytes in all.
 #[derive(Drop)]
 pub struct Taken {
     pub text: Vec<u8>,

@@ -141,7 +141,7 @@ fn a_reader_reads(rt: HostRuntime) -> Result<(), Fail> {
     Ok(())
 }
 
-// What a reader says of itself where a change was made and nothing read.
+// What a reader answers without `rt`, after one change and before any read.
 fn shows<N: Named, R: Wait>(rt: &R, alloc: Global, base: Base) -> Result<bool, Refusal>
     requires { base ≡ N.board }
 {

@@ -104,7 +104,7 @@ fn step(
     Ok(next)
 }
 
-// Whether the elements fit the text, of which each prefix is tried with each of theirs.
+// Whether the elements fit the text: tries each prefix of the text with each of the elements.
 fn fits_plainly(alloc: Global, elements: &[Element], text: &str) -> Result<bool, AllocError> {
     let mut ends = Vec::new(alloc);
     ends.push(true)?;
