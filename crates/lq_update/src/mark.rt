@@ -13,7 +13,7 @@ pub enum Cause {
 
 /// The closing mark of a subscription, after its last message: our own.
 ///
-/// `seq` is one more than that of the last message. `change` is the last change that the messages
+/// `seq` is one more than the last message's `seq`. `change` is the last change that the messages
 /// cover.
 #[derive(Clone, Copy, Debug)]
 pub struct Mark {

@@ -35,8 +35,8 @@ struct Piece<'a> {
     after: &'a [Element],
 }
 
-/// Whether the elements, of which the first is a star, fit the whole text; `None` for one of less
-/// than 128 bytes or more than 4,096 characters. It takes no memory.
+/// Whether the elements fit the whole text. There are none, or the first is a star. `None` for a
+/// text of less than 128 bytes or more than 4,096 characters. It takes no memory.
 pub(crate) fn fits_long(elements: &[Element], text: &str) -> Option<bool>
     requires { IsAtStar elements.now }
     ensures { IfSome result (λ r. r ≡ fits elements.now (chars text.now)) }
