@@ -10,13 +10,16 @@
 #   make fmt                lays out the sources: of one crate with C=, else of all
 #   make bench              what five scripts cost
 #   make docs               draws the tables and pictures that scripts draw
-#   make install            copies the proved program to PREFIX/bin: PREFIX=/usr/local
+#   make library            the proved C library: liblq.a and liblq.so in crates/lq_c/out
+#   make install            copies the proved program, its manual page and the library to PREFIX: /usr/local
+#   make install-program    copies the program and its manual page alone
 PREFIX ?= /usr/local
+PYTHON_DIR ?= $(PREFIX)/lib/yazgoulm
 S ?= examples/first-message.jsonl
 W ?= run
 CRATE = $(if $(C),crates/$(C),$(error C=CRATE is missing, as in make $@ C=lq_desk))
 
-.PHONY: all try check test edits scenario scenarios gate fmt bench docs install
+.PHONY: all try check test edits scenario scenarios gate fmt bench docs library install install-program install-library
 
 all:
 	LQ_BUILD=$(or $(LQ_BUILD),always) ./lq run < /dev/null
@@ -40,5 +43,16 @@ bench:
 	bench/run
 docs:
 	tools/crate-table --write && bench/plots
-install: all
+library:
+	tools/library
+install: install-program install-library
+install-program: all
 	install -D -m 755 crates/lq/out/lq $(DESTDIR)$(PREFIX)/bin/lq
+	install -D -m 644 docs/lq.1 $(DESTDIR)$(PREFIX)/share/man/man1/lq.1
+install-library: library
+	install -D -m 644 include/lq.h $(DESTDIR)$(PREFIX)/include/lq.h
+	install -D -m 644 crates/lq_c/out/liblq.a $(DESTDIR)$(PREFIX)/lib/liblq.a
+	install -D -m 755 crates/lq_c/out/liblq.so $(DESTDIR)$(PREFIX)/lib/liblq.so
+	install -D -m 644 python/yazgoulm.py $(DESTDIR)$(PYTHON_DIR)/yazgoulm.py
+	install -d $(DESTDIR)$(PREFIX)/lib/pkgconfig
+	sed 's|@PREFIX@|$(PREFIX)|' tools/lq.pc > $(DESTDIR)$(PREFIX)/lib/pkgconfig/lq.pc

@@ -1,5 +1,5 @@
-"""Talks to `lq run` over pipes: a line, then its reply. A window has a live query."""
-import io, json, subprocess, sys
+"""Talks to lq, in a process or in this one. A window has a live query."""
+import concurrent.futures, io, json, subprocess, sys
 
 from . import ENDED, UNUSABLE, Trouble
 
@@ -17,42 +17,72 @@ class Refused(Trouble):
         self.reply = reply
 
 
-class Server:
-    """One `lq run`, and its windows. It reads them after `patience` changes at the latest."""
+class Process:
+    """One `lq run` over pipes: a line, then its reply. `pipe` reports when it has ended."""
 
-    def __init__(self, program, patience=PATIENCE):
+    def __init__(self, program):
         try:
             pipe = subprocess.PIPE
             self.lq = subprocess.Popen([program, "run"], stdin=pipe, stdout=pipe, bufsize=0)
         except OSError as error:
             raise Trouble(f"{program} can't be run: {error.strerror}", UNUSABLE) from None
-        self.program, self.replies = program, io.BufferedReader(self.lq.stdout)
-        self.windows, self.refused, self.unread, self.patience = [], 0, 0, patience
-        if self.ask("fetch", query="name==*") != {"at": 0, "result": []}:
-            raise Trouble(f"{program} isn't lq: it doesn't answer as lq does", UNUSABLE)
+        self.name, self.pipe, self.replies = program, self.lq.stdout, io.BufferedReader(self.lq.stdout)
 
-    def exchange(self, do, **fields):
-        """Sends a line. Returns the reply, and its line as it came."""
+    def answer(self, line):
         try:
-            self.lq.stdin.write(json.dumps({"do": do, **fields}).encode() + b"\n")
-            line = self.replies.readline()
+            self.lq.stdin.write(line + b"\n")
+            reply = self.replies.readline()
         except BrokenPipeError:
-            line = b""
-        if not line.endswith(b"\n"):
+            reply = b""
+        if not reply.endswith(b"\n"):
             raise self.ended()
-        try:
-            return json.loads(line), line.decode().rstrip("\n")
-        except ValueError:
-            raise Trouble(f"{self.program} answered with a line that isn't JSON", ENDED) from None
-
-    def ask(self, do, **fields):
-        return self.exchange(do, **fields)[0]
+        return reply
 
     def ended(self):
         """Why nothing can be sent any more."""
         status = self.lq.wait()
         how = f"by signal {-status}" if status < 0 else f"with status {status}"
-        return Trouble(f"{self.program} ended {how}, so nothing is followed any more", ENDED)
+        return Trouble(f"{self.name} ended {how}, so nothing is followed any more", ENDED)
+
+
+class Library:
+    """lq in this process, by the Python module. There is no pipe, and nothing that could end.
+
+    A volume is used on one thread, and a page asks on many. So it has a thread of its own."""
+
+    pipe = None
+
+    def __init__(self):
+        try:
+            import yazgoulm
+        except ImportError as error:
+            raise Trouble(f"the library can't be loaded: {error}", UNUSABLE) from None
+        self.name, self.thread = yazgoulm.__name__, concurrent.futures.ThreadPoolExecutor(1)
+        self.volume = self.thread.submit(yazgoulm.Volume).result()
+
+    def answer(self, line):
+        return self.thread.submit(self.volume.answer, line).result()
+
+
+class Server:
+    """lq, and its windows. It reads them after `patience` changes at the latest."""
+
+    def __init__(self, lq, patience=PATIENCE):
+        self.lq = lq
+        self.windows, self.refused, self.unread, self.patience = [], 0, 0, patience
+        if self.ask("fetch", query="name==*") != {"at": 0, "result": []}:
+            raise Trouble(f"{lq.name} isn't lq: it doesn't answer as lq does", UNUSABLE)
+
+    def exchange(self, do, **fields):
+        """Sends a line. Returns the reply, and its line as it came."""
+        line = self.lq.answer(json.dumps({"do": do, **fields}).encode())
+        try:
+            return json.loads(line), line.decode().rstrip("\n")
+        except ValueError:
+            raise Trouble(f"{self.lq.name} answered with a line that isn't JSON", ENDED) from None
+
+    def ask(self, do, **fields):
+        return self.exchange(do, **fields)[0]
 
     def test(self, formula):
         """Raises Refused where lq can't read a formula."""

@@ -1,10 +1,12 @@
-"""What the tests of live_folder share. LQ in the environment names another program than ./lq."""
+"""What the tests of live_folder share. LQ in the environment names another program than ./lq; BY=--library has all of
+them run over the library."""
 import os, subprocess, sys, tempfile, unittest
 
 sys.dont_write_bytecode = True
 HERE = os.path.dirname(os.path.dirname(os.path.realpath(__file__)))
 LIVE = os.path.join(HERE, "live_folder")
 LQ = os.path.realpath(os.environ.get("LQ") or os.path.join(HERE, "../../lq"))
+BY = os.environ.get("BY", "").split()
 LONG = b"\xff" * 200  # a name that lq refuses: as text it is too long
 SECONDS = 20  # the longest wait for something that has to come
 
@@ -12,8 +14,11 @@ SECONDS = 20  # the longest wait for something that has to come
 def run(*words, **variables):
     """The status of live_folder, its standard output and its standard error."""
     env = {**os.environ, "LQ": LQ, **variables}
-    done = subprocess.run([LIVE, *words], capture_output=True, timeout=60, env=env, text=True)
+    done = subprocess.run([LIVE, *BY, *words], capture_output=True, timeout=60, env=env, text=True)
     return done.returncode, done.stdout, done.stderr
+
+
+of_a_process = unittest.skipIf(BY, "there is no process of lq")
 
 
 class Case(unittest.TestCase):
@@ -50,7 +55,7 @@ class Case(unittest.TestCase):
         """A live_folder that goes on until the test has ended."""
         env = {**os.environ, "LQ": LQ, **variables}
         error = subprocess.PIPE
-        live = subprocess.Popen([LIVE, *words], stdout=stdout, stderr=error, env=env, text=True)
+        live = subprocess.Popen([LIVE, *BY, *words], stdout=stdout, stderr=error, env=env, text=True)
 
         def end():
             live.kill()

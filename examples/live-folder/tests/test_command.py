@@ -1,7 +1,7 @@
 """live_folder as a command: its lines, its status, and what it can't use."""
 import os, signal, subprocess, sys
 
-from case import LONG, LQ, Case, run
+from case import LONG, LQ, Case, of_a_process, run
 
 
 class Words(Case):
@@ -53,6 +53,7 @@ class Words(Case):
         self.assert_said(status, error, 2, "name==*&&size>: BadQuery at byte 14")
         self.assertEqual(out, "")
 
+    @of_a_process
     def test_a_program_that_is_not_lq(self):
         for program, status, line in (
             ("/nowhere/lq", 2, "/nowhere/lq can't be run: No such file"),
@@ -76,6 +77,7 @@ class Words(Case):
 class Ends(Case):
     """What may end while live_folder runs."""
 
+    @of_a_process
     def test_lq_is_killed_while_nothing_happens(self):
         number = self.folder + "-number"
         program = self.script("lq", f'echo $$ > "{number}"; exec "{LQ}" "$@"')

@@ -1,0 +1,74 @@
+/* What the tests of the C library share: checks that are counted, texts with their lengths, and replies as lines. */
+#ifndef CHECK_H
+#define CHECK_H
+
+#include <lq.h>
+#include <stdio.h>
+#include <stdlib.h>
+#include <string.h>
+
+static unsigned long checks, failures;
+
+/* Counts a check, and says where one fails. */
+static inline void check(int holds, const char *file, int line, const char *what) {
+    checks++;
+    if (holds) return;
+    failures++;
+    fprintf(stderr, "%s:%d: %s\n", file, line, what);
+}
+
+#define CHECK(what) check((what) ? 1 : 0, __FILE__, __LINE__, #what)
+
+/* A status that a call has to answer. */
+static inline void check_status(uint32_t seen, uint32_t status, const char *file, int line, const char *what) {
+    checks++;
+    if (seen == status) return;
+    failures++;
+    fprintf(stderr, "%s:%d: %s answered %u, wanted %u\n", file, line, what, (unsigned)seen, (unsigned)status);
+}
+
+#define WANT(call, status) check_status((call), (status), __FILE__, __LINE__, #call)
+#define OK(call) WANT(call, LQ_OK)
+
+/* A literal as a pointer and its length. */
+#define TEXT(text) (text), sizeof(text) - 1
+
+/* A text that grows; it is never refused memory in these tests. */
+typedef struct text {
+    char *at;
+    size_t size, room;
+} text;
+
+static inline void add(text *to, const char *from, size_t size) {
+    if (to->size + size > to->room) {
+        to->room = 2 * (to->size + size);
+        to->at = realloc(to->at, to->room);
+        if (!to->at) abort();
+    }
+    memcpy(to->at + to->size, from, size);
+    to->size += size;
+}
+
+static inline int is_same(const text *one, const text *other) {
+    return one->size == other->size && (one->size == 0 || memcmp(one->at, other->at, one->size) == 0);
+}
+
+/* Adds the reply to a line. Where there is none, or a refusal of the line itself, nothing is added. */
+static inline uint32_t answer(lq *handle, const char *line, size_t line_size, text *to) {
+    size_t size = 0;
+    uint32_t status = lq_answer(handle, line, line_size, &size);
+    if (status != LQ_OK || size == 0) return status;
+    char *reply = malloc(size);
+    if (!reply) abort();
+    CHECK(lq_text(handle, reply, size) == size);
+    add(to, reply, size);
+    free(reply);
+    return status;
+}
+
+static inline int done(const char *name) {
+    printf("%s: %lu checks, %lu failures\n", name, checks, failures);
+    return failures != 0;
+}
+
+#endif

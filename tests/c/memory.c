@@ -1,0 +1,306 @@
+/* Each growth of memory that a call asks for, refused in turn. The call answers LQ_NO_MEMORY, leaves its `out`, and
+   changes nothing: it then succeeds, and all that follows is answered as by a handle that was never refused; but a call
+   that takes pushes off does so all the same. lq_read and a subscription go without their rebuilt result instead.
+   Nothing is left once a handle is closed. The linker puts the calls below in place of malloc, realloc and free. */
+#include "acts.h"
+
+void *__real_malloc(size_t size);
+void *__real_realloc(void *block, size_t size);
+void __real_free(void *block);
+
+static long left, live;
+static unsigned long refusals;
+
+static bool is_refused(void) {
+    if (left == 0 || --left != 0) return false;
+    refusals++;
+    return true;
+}
+
+void *__wrap_malloc(size_t size);
+void *__wrap_malloc(size_t size) {
+    void *block = is_refused() ? NULL : __real_malloc(size);
+    live += block != NULL;
+    return block;
+}
+
+void *__wrap_realloc(void *block, size_t size);
+void *__wrap_realloc(void *block, size_t size) {
+    if (is_refused()) return NULL;
+    live += block == NULL;
+    return __real_realloc(block, size);
+}
+
+void __wrap_free(void *block);
+void __wrap_free(void *block) {
+    live -= block != NULL;
+    __real_free(block);
+}
+
+/* A call, or what says the same as a line; what it gives is added to a text. */
+typedef uint32_t step(lq *handle, text *to);
+
+static uint32_t children(lq *handle, text *to) {
+    size_t count;
+    uint32_t status = lq_children(handle, 1, &count);
+    if (status == LQ_OK) say_result(to, handle, count);
+    return status;
+}
+
+static uint32_t path(lq *handle, text *to) {
+    char room[1024];
+    size_t size;
+    uint32_t status = lq_path(handle, 3, &size);
+    if (status == LQ_OK) add(to, room, lq_text(handle, room, sizeof room));
+    return status;
+}
+
+static uint32_t attr_named(lq *handle, text *to) {
+    lq_attr attr;
+    uint32_t status = lq_attr_named(handle, 3, TEXT("a name of many bytes"), &attr);
+    if (status == LQ_OK) add(to, attr.text, attr.text_size);
+    return status;
+}
+
+static uint32_t push_attr(lq *handle, text *to) {
+    (void)to;
+    return lq_push_attr(handle, TEXT("an attribute of many bytes"));
+}
+
+static uint32_t push_text(lq *handle, text *to) {
+    (void)to;
+    return lq_push_text(handle, TEXT("[a-z]*b?c, a text of many bytes"));
+}
+
+static uint32_t push_int32(lq *handle, text *to) {
+    (void)to;
+    return lq_push_int32(handle, INT32_MIN);
+}
+
+static uint32_t push_int64(lq *handle, text *to) {
+    (void)to;
+    return lq_push_int64(handle, INT64_MIN);
+}
+
+static uint32_t push_uint32(lq *handle, text *to) {
+    (void)to;
+    return lq_push_uint32(handle, UINT32_MAX);
+}
+
+static uint32_t push_uint64(lq *handle, text *to) {
+    (void)to;
+    return lq_push_uint64(handle, UINT64_MAX);
+}
+
+static uint32_t push_ne(lq *handle, text *to) {
+    (void)to;
+    return lq_push_op(handle, LQ_NE);
+}
+
+static uint32_t push_contains(lq *handle, text *to) {
+    (void)to;
+    return lq_push_op(handle, LQ_CONTAINS);
+}
+
+static uint32_t push_gt(lq *handle, text *to) {
+    (void)to;
+    return lq_push_op(handle, LQ_GT);
+}
+
+static uint32_t push_and(lq *handle, text *to) {
+    (void)to;
+    return lq_push_op(handle, LQ_AND);
+}
+
+static uint32_t push_or(lq *handle, text *to) {
+    (void)to;
+    return lq_push_op(handle, LQ_OR);
+}
+
+static uint32_t push_not(lq *handle, text *to) {
+    (void)to;
+    return lq_push_op(handle, LQ_NOT);
+}
+
+static uint32_t fetch_pushed(lq *handle, text *to) {
+    lq_fetched fetched;
+    uint32_t status = lq_fetch_pushed(handle, &fetched);
+    if (status == LQ_OK) say_result(to, handle, fetched.count);
+    return status;
+}
+
+static uint32_t subscribe_pushed(lq *handle, text *to) {
+    lq_opening opening;
+    uint32_t status = lq_subscribe_pushed(handle, 4, 16, true, &opening);
+    if (status == LQ_OK) say_result(to, handle, opening.count);
+    return status;
+}
+
+#define LONG_NAME "a name that has more bytes than stand in their place"
+#define FILE_AT(dir, name) {CREATE, 0, dir, 200, 1, 0, name, NULL, sizeof(name) - 1, 0, LQ_FILE, 0, 0, 0, false}
+#define FOLDER_AT(dir, name) {CREATE, 0, dir, 0, 1, 0, name, NULL, sizeof(name) - 1, 0, LQ_FOLDER, 0, 0, 0, false}
+#define QUERY(word, formula, port, backlog, moved) {word, 0, 0, 0, 0, 0, NULL, formula, 0, sizeof(formula) - 1, 0, 0, port, backlog, moved}
+#define MOVE_TO(node, dir, name, clobber) {MOVE, node, dir, 0, 0, 0, name, NULL, sizeof(name) - 1, 0, 0, 0, 0, 0, clobber}
+#define VALUE(type, number) {SET, 3, 0, 0, 0, number, "n", NULL, 1, 0, 0, type, 0, 0, false}
+#define TEXT_VALUE(name, value) {SET, 3, 0, 0, 0, 0, name, value, sizeof(name) - 1, sizeof(value) - 1, 0, LQ_TEXT, 0, 0, false}
+#define OF(word, node) {word, node, 0, 777, 7, 0, NULL, NULL, 0, 0, 0, 0, 0, 0, false}
+#define BY_NAME(word, node, dir, name) {word, node, dir, 0, 0, 0, name, NULL, sizeof(name) - 1, 0, 0, 0, 0, 0, false}
+
+static const act acts[] = {
+    FOLDER_AT(1, "folder"), FILE_AT(2, "a.txt"), FILE_AT(1, LONG_NAME), QUERY(OPEN, "name==*&&!(size<100||TAG==\"[a-c]x*\")", 2, 64, false),
+    QUERY(OPEN, "size>100", 1, 64, true), QUERY(OPEN, "(", 1, 64, true), FILE_AT(1, "b.txt"), MOVE_TO(3, 1, "another name of many bytes", false),
+    MOVE_TO(5, 1, "another name of many bytes", true), OF(WRITE, 4), TEXT_VALUE("a name of many bytes", "a text of more bytes than stand in their place"),
+    MOVE_TO(4, 2, "c", false), OF(READ, 1), OF(READ, 1), OF(READ, 1), OF(READ, 1), OF(READ, 1), OF(READ, 1), OF(RESULT, 1), OF(READ, 2), OF(READ, 2),
+    OF(READ, 2), OF(RESULT, 2), FILE_AT(2, "a.txt"), FILE_AT(1, "again"), OF(READ, 2), OF(READ, 1), BY_NAME(FIND, 0, 1, LONG_NAME),
+    BY_NAME(FIND, 0, 2, "a.txt"), OF(ENTRY, 5), QUERY(FETCH, "size>=0||name==\"*x*\"", 0, 0, false), QUERY(FETCH, "name==[", 0, 0, false),
+    OF(HANG_UP, 2), OF(REMOVE, 4), OF(READ, 2), OF(CLOSE, 1), OF(READ, 1), OF(READ, 1), OF(READ, 1), OF(READ, 1), OF(FINISH, 1),
+    QUERY(OPEN, "name==*", 1, 0, false), OF(REMOVE, 6), OF(READ, 1)};
+
+/* The second list begins anew with the entries of two acts. */
+static const act values[] = {FOLDER_AT(1, "folder"), FILE_AT(2, "a.txt"), VALUE(LQ_INT32, -1), VALUE(LQ_INT64, INT64_MIN), VALUE(LQ_UINT32, 7),
+                             VALUE(LQ_UINT64, -1), TEXT_VALUE("a name of many bytes", "a text of more bytes than stand in their place"),
+                             BY_NAME(UNSET, 3, 0, "n"), BY_NAME(UNSET, 3, 0, "n"), OF(ENTRY, 3)};
+
+static step *const steps[] = {children, path, attr_named, push_attr, push_text, push_ne, push_attr, push_text, push_contains, push_and, push_attr, push_int32,
+                              push_gt, push_or, push_not, fetch_pushed, fetch_pushed, push_attr, push_int64, push_gt, push_not, subscribe_pushed,
+                              push_attr, push_uint32, push_uint64, push_and};
+
+enum { ACTS = sizeof acts / sizeof *acts, VALUES = sizeof values / sizeof *values, STEPS = sizeof steps / sizeof *steps };
+
+/* A call of one of the two scripts: the acts, or the values and then the steps. It is none at the script's end. */
+static bool call(lq *handle, int script, size_t number, text *to, uint32_t *status) {
+    if (script == 0 && number < ACTS) *status = by_call(handle, &acts[number], to);
+    else if (script == 1 && number < VALUES) *status = by_call(handle, &values[number], to);
+    else if (script == 1 && number < VALUES + STEPS) *status = steps[number - VALUES](handle, to);
+    else return false;
+    return true;
+}
+
+/* Whether a call takes the pushes off, whatever it answers. */
+static bool takes_pushes(int script, size_t number) {
+    return script == 1 && number >= VALUES && (steps[number - VALUES] == fetch_pushed || steps[number - VALUES] == subscribe_pushed);
+}
+
+/* Where a call is made again: at itself, or at the first of the pushes that it took off. */
+static size_t from_where(int script, size_t number) {
+    if (!takes_pushes(script, number)) return number;
+    while (number > VALUES + 3 && !takes_pushes(script, number - 1)) number--;
+    return number;
+}
+
+/* The slot of a call that goes without its rebuilt result. */
+static uint64_t lacking(size_t number) {
+    return acts[number].word == READ ? acts[number].node : number == 3 ? 1 : number == 4 ? 2 : 1;
+}
+
+/* Whether a call may go without memory: it does so without the rebuilt result of its slot. */
+static bool is_frugal(int script, size_t number) {
+    return script == 0 ? acts[number].word == READ || acts[number].word == OPEN : number >= VALUES && steps[number - VALUES] == subscribe_pushed;
+}
+
+/* A script on a handle of its own, in which growth `which` of call `refused` is refused; that call is made again where
+   it says so. Each call has to answer as in the replies that are wanted. Where there are none, nothing is refused, and
+   the replies are kept. False: the call asked for fewer growths. */
+static bool run(int script, size_t refused, long which, text *wanted, uint32_t *statuses) {
+    lq handle = LQ_INIT;
+    uint32_t status = LQ_OK;
+    bool was_met = which == 0, lacks = false;
+    text reply = {malloc(1 << 20), 0, 1 << 20};
+    long before = live;
+    if (!reply.at) abort();
+    OK(lq_open(&handle));
+    for (size_t number = 0; reply.size = 0, left = number == refused ? which : 0, call(&handle, script, number, &reply, &status); number++) {
+        bool is_met = number == refused && which != 0 && left == 0;
+        left = 0;
+        if (is_met) {
+            was_met = true;
+            CHECK(status == LQ_NO_MEMORY || is_frugal(script, number));
+            lacks = status == LQ_OK;
+            if (status == LQ_NO_MEMORY) {
+                CHECK(reply.size == 0);
+                for (size_t again = from_where(script, number); again <= number; again++) call(&handle, script, again, &reply, &status);
+            }
+        }
+        bool is_gone = lacks && script == 0 && acts[number].word == RESULT && acts[number].node == lacking(refused);
+        if (which == 0) {
+            statuses[number] = status;
+            add(&wanted[number], reply.at, reply.size);
+        } else if (is_gone) {
+            WANT(status, LQ_NOT_OPEN);
+        } else {
+            WANT(status, statuses[number]);
+            CHECK(is_same(&reply, &wanted[number]));
+        }
+    }
+    lq_close(&handle);
+    if (which != 0) CHECK(live == before);
+    free(reply.at);
+    return was_met;
+}
+
+/* A line whose growths are refused in turn, each time on a handle of its own that has answered the lines before. */
+static void refuse_lines(void) {
+    for (size_t last = 0; last < sizeof acts / sizeof *acts; last++) {
+        unsigned long before;
+        long number = 1;
+        do {
+            lq handle = LQ_INIT;
+            text line = {NULL, 0, 0}, seen = {NULL, 0, 0};
+            size_t size = 77;
+            OK(lq_open(&handle));
+            for (size_t at = 0; at <= last; at++) {
+                line.size = 0;
+                say_line(&line, &acts[at]);
+                if (at < last) OK(answer(&handle, line.at, line.size, &seen));
+            }
+            before = refusals;
+            left = number++;
+            uint32_t status = lq_answer(&handle, line.at, line.size, &size);
+            left = 0;
+            WANT(status, refusals == before ? LQ_OK : LQ_NO_MEMORY);
+            CHECK((size == 77) == (status == LQ_NO_MEMORY));
+            lq_close(&handle);
+            free(line.at);
+            free(seen.at);
+        } while (refusals != before && !failures);
+    }
+}
+
+/* lq_open with each growth refused. */
+static void refuse_open(void) {
+    uint32_t status = LQ_NO_MEMORY;
+    for (long number = 1; status == LQ_NO_MEMORY; number++) {
+        unsigned long before = refusals;
+        lq handle = LQ_INIT;
+        left = number;
+        status = lq_open(&handle);
+        left = 0;
+        WANT(status, refusals == before ? LQ_OK : LQ_NO_MEMORY);
+        CHECK((handle.at == NULL) == (status == LQ_NO_MEMORY));
+        lq_close(&handle);
+    }
+}
+
+int main(void) {
+    static text wanted[ACTS + VALUES + STEPS];
+    static uint32_t statuses[ACTS + VALUES + STEPS];
+    long before = live;
+    refuse_open();
+    CHECK(live == before);
+    for (int script = 0; script < 2; script++) {
+        size_t count = script == 0 ? ACTS : VALUES + STEPS;
+        run(script, 0, 0, wanted, statuses);
+        for (size_t number = 0; number < count; number++)
+            for (long which = 1; !failures && run(script, number, which, wanted, statuses); which++) continue;
+        for (size_t number = 0; number < count; number++) {
+            free(wanted[number].at);
+            wanted[number] = (text){NULL, 0, 0};
+        }
+    }
+    refuse_lines();
+    CHECK(live == before);
+    /* if none was refused, the linker has put nothing in place */
+    CHECK(refusals > 100);
+    printf("memory: %lu growths refused\n", refusals);
+    return done("memory");
+}
