@@ -30,8 +30,35 @@ static inline void check_status(uint32_t seen, uint32_t status, const char *file
 #define WANT(call, status) check_status((call), (status), __FILE__, __LINE__, #call)
 #define OK(call) WANT(call, LQ_OK)
 
+/* An `out` that a refused call has to leave as it was. */
+#define POISON(out) memset(&(out), 0x5a, sizeof(out))
+static inline bool is_poison(const void *out, size_t size) {
+    const unsigned char *bytes = out;
+    for (size_t at = 0; at < size; at++)
+        if (bytes[at] != 0x5a) return false;
+    return true;
+}
+
+/* A call that is refused and leaves its `out`. */
+#define REFUSED(call, status, out) \
+    do { \
+        POISON(out); \
+        WANT(call, status); \
+        CHECK(is_poison(&(out), sizeof(out))); \
+    } while (0)
+
+/* Whether a struct has this name. */
+#define NAMED(it, text) ((it).name_size == sizeof(text) - 1 && memcmp((it).name, (text), sizeof(text) - 1) == 0)
+
 /* A literal as a pointer and its length. */
 #define TEXT(text) (text), sizeof(text) - 1
+
+/* The node of an entry that is created. */
+static inline uint64_t created(lq *handle, uint64_t dir, const char *name, uint32_t kind, uint64_t size) {
+    lq_applied out = {0, 0};
+    OK(lq_create(handle, dir, name, strlen(name), kind, size, 941000000, &out));
+    return out.node;
+}
 
 /* A text that grows; it is never refused memory in these tests. */
 typedef struct text {

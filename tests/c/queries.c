@@ -1,0 +1,236 @@
+/* Live queries from their openings to their ends, and queries by pushes. */
+#include "check.h"
+
+static char long_name[256], long_text[4097];
+
+/* A subscription from its opening to its end, and slots that are free or ended. */
+static void subscriptions(void) {
+    static const uint64_t free_slots[] = {0, 2, 64, 65, UINT64_MAX};
+    lq it = LQ_INIT;
+    lq_opening opening;
+    lq_message message;
+    lq_rebuilt rebuilt;
+    lq_entry entry;
+    lq_applied applied;
+    uint64_t covered;
+    OK(lq_open(&it));
+    created(&it, 1, "in", LQ_FOLDER, 0);
+    created(&it, 2, "a.txt", LQ_FILE, 200);
+    created(&it, 2, "b.txt", LQ_FILE, 50);
+    REFUSED(lq_subscribe(&it, TEXT("size>"), 0, 1, false, &opening), LQ_BAD_QUERY, opening);
+    CHECK(lq_fault_place(&it) == 5);
+    REFUSED(lq_subscribe(&it, "", 0, 1, 1, false, &opening), LQ_BAD_QUERY, opening);
+    CHECK(lq_fault_place(&it) == 0);
+    REFUSED(lq_subscribe(&it, long_text, 4097, 1, 1, false, &opening), LQ_BAD_QUERY, opening);
+    CHECK(lq_fault_place(&it) == 4096);
+    REFUSED(lq_subscribe(&it, TEXT("name==\xff"), 1, 1, false, &opening), LQ_NOT_UTF8, opening);
+    REFUSED(lq_subscribe(&it, TEXT("size>1"), 0, 65537, false, &opening), LQ_BAD_PORT, opening);
+    REFUSED(lq_subscribe(&it, TEXT("size>1"), 1025, 1, false, &opening), LQ_BAD_PORT, opening);
+    REFUSED(lq_subscribe(&it, TEXT("size>1"), UINT64_MAX, 1, false, &opening), LQ_BAD_PORT, opening);
+    REFUSED(lq_subscribe(&it, TEXT("size>1"), 1024, 65537, false, &opening), LQ_BAD_BACKLOG, opening);
+    REFUSED(lq_subscribe(&it, TEXT("size>1"), 1, UINT64_MAX, false, &opening), LQ_BAD_BACKLOG, opening);
+    OK(lq_subscribe(&it, TEXT("size>100"), 2, 16, true, &opening));
+    CHECK(opening.slot == 1 && opening.at == 3 && opening.count == 1 && lq_result_left(&it) == 1);
+    CHECK(lq_result_next(&it, &entry) && entry.dir == 2 && entry.node == 3 && NAMED(entry, "a.txt") && lq_result_left(&it) == 0);
+    POISON(entry);
+    CHECK(!lq_result_next(&it, &entry) && is_poison(&entry, sizeof entry));
+
+    OK(lq_read(&it, 1, &message));
+    CHECK(message.what == LQ_EMPTY && message.seq == 0 && message.change == 0 && message.name_size == 0 && message.from_name_size == 0);
+    OK(lq_write(&it, 4, 300, 1, &applied));
+    OK(lq_move(&it, 3, 1, TEXT("c.txt"), false, &applied));
+    OK(lq_remove(&it, 3, &applied));
+    OK(lq_read(&it, 1, &message));
+    CHECK(message.what == LQ_UPDATE && message.op == LQ_ENTRY_CREATED && message.seq == 1 && message.change == 4 && message.last);
+    CHECK(message.dir == 2 && message.node == 4 && NAMED(message, "b.txt"));
+    CHECK(message.cause == 0 && message.from_dir == 0 && message.from_name_size == 0);
+    OK(lq_read(&it, 1, &message));
+    CHECK(message.what == LQ_UPDATE && message.op == LQ_ENTRY_MOVED && message.seq == 2 && message.change == 5 && message.last);
+    CHECK(message.dir == 1 && message.node == 3 && NAMED(message, "c.txt") && message.from_dir == 2);
+    CHECK(message.from_name_size == 5 && memcmp(message.from_name, "a.txt", 5) == 0);
+    OK(lq_result(&it, 1, &rebuilt));
+    CHECK(rebuilt.change == 5 && rebuilt.settled && rebuilt.count == 2 && lq_result_left(&it) == 2);
+    CHECK(lq_result_next(&it, &entry) && entry.node == 3 && entry.dir == 1 && lq_result_next(&it, &entry) && entry.node == 4);
+
+    for (size_t at = 0; at < sizeof free_slots / sizeof *free_slots; at++) {
+        uint64_t slot = free_slots[at];
+        REFUSED(lq_read(&it, slot, &message), LQ_NOT_OPEN, message);
+        REFUSED(lq_end(&it, slot, &covered), LQ_NOT_OPEN, covered);
+        REFUSED(lq_result(&it, slot, &rebuilt), LQ_NOT_OPEN, rebuilt);
+        WANT(lq_hang_up(&it, slot), LQ_NOT_OPEN);
+        WANT(lq_finish(&it, slot), LQ_NOT_OPEN);
+    }
+    WANT(lq_finish(&it, 1), LQ_STILL_OPEN);
+    OK(lq_end(&it, 1, &covered));
+    CHECK(covered == 6);
+    REFUSED(lq_end(&it, 1, &covered), LQ_NOT_OPEN, covered);
+    WANT(lq_finish(&it, 1), LQ_STILL_OPEN);
+    OK(lq_hang_up(&it, 1));
+    OK(lq_read(&it, 1, &message));
+    CHECK(message.op == LQ_ENTRY_REMOVED && message.seq == 3 && message.change == 6 && message.node == 3 && message.dir == 1);
+    OK(lq_read(&it, 1, &message));
+    CHECK(message.what == LQ_END && message.cause == LQ_CLOSED && message.seq == 4 && message.change == 6 && message.op == 0 && message.name_size == 0);
+    OK(lq_read(&it, 1, &message));
+    CHECK(message.what == LQ_ENDED && message.seq == 0);
+    OK(lq_result(&it, 1, &rebuilt));
+    CHECK(rebuilt.count == 1 && rebuilt.change == 6 && rebuilt.settled);
+    OK(lq_finish(&it, 1));
+    WANT(lq_finish(&it, 1), LQ_NOT_OPEN);
+    REFUSED(lq_read(&it, 1, &message), LQ_NOT_OPEN, message);
+
+    /* without `moved`; an end that its reader asks for, and one by overrun */
+    OK(lq_subscribe(&it, TEXT("name==*"), 1, 2, false, &opening));
+    CHECK(opening.slot == 1);
+    OK(lq_subscribe(&it, TEXT("name==*"), 1, 0, false, &opening));
+    CHECK(opening.slot == 2);
+    OK(lq_move(&it, 4, 1, TEXT("d.txt"), false, &applied));
+    OK(lq_hang_up(&it, 1));
+    OK(lq_read(&it, 1, &message));
+    CHECK(message.op == LQ_ENTRY_REMOVED && message.node == 4 && !message.last);
+    OK(lq_result(&it, 1, &rebuilt));
+    CHECK(!rebuilt.settled && rebuilt.change == 7);
+    OK(lq_read(&it, 1, &message));
+    CHECK(message.op == LQ_ENTRY_CREATED && message.last);
+    OK(lq_read(&it, 1, &message));
+    CHECK(message.what == LQ_END && message.cause == LQ_HUNG_UP && message.change == 7);
+    OK(lq_read(&it, 2, &message));
+    CHECK(message.what == LQ_END && message.cause == LQ_OVERRUN && message.change == 6 && message.seq == 1);
+    OK(lq_finish(&it, 2));
+
+    /* all slots, and one more */
+    for (uint64_t slot = 2; slot <= 64; slot++) {
+        OK(lq_subscribe(&it, TEXT("size<0"), 1024, 65536, false, &opening));
+        CHECK(opening.slot == slot && opening.count == 0);
+    }
+    REFUSED(lq_subscribe(&it, TEXT("size<0"), 1, 1, false, &opening), LQ_NO_SLOT, opening);
+    lq_close(&it);
+}
+
+/* Pushes make the same queries as formulas; one that doesn't fit changes nothing. */
+static void pushes(void) {
+    lq it = LQ_INIT;
+    lq_fetched fetched;
+    lq_opening opening;
+    lq_entry entry;
+    lq_applied applied;
+    OK(lq_open(&it));
+    created(&it, 1, "a.txt", LQ_FILE, 200);
+    created(&it, 1, "b.txt", LQ_FILE, 50);
+    created(&it, 1, "c*", LQ_FILE, 7);
+    OK(lq_set_uint64(&it, 2, TEXT("n"), UINT64_MAX, &applied));
+    OK(lq_set_int64(&it, 3, TEXT("n"), INT64_MIN, &applied));
+    OK(lq_set_int32(&it, 4, TEXT("n"), -3, &applied));
+
+    /* name == *.txt && size > 100 */
+    OK(lq_push_attr(&it, TEXT("name")));
+    OK(lq_push_text(&it, TEXT("*.txt")));
+    OK(lq_push_op(&it, LQ_EQ));
+    OK(lq_push_attr(&it, TEXT("size")));
+    OK(lq_push_int32(&it, 100));
+    REFUSED(lq_fetch_pushed(&it, &fetched), LQ_BAD_QUERY, fetched);
+    OK(lq_push_op(&it, LQ_GT));
+    OK(lq_push_op(&it, LQ_AND));
+    OK(lq_fetch_pushed(&it, &fetched));
+    CHECK(fetched.count == 1 && fetched.at == 6 && lq_result_next(&it, &entry) && entry.node == 2);
+
+    /* each operator, over one attribute and one value: which of the three entries it finds */
+    static const struct { const char *attr, *text; int64_t whole; uint32_t op; size_t count; } rows[] = {
+        {"name", "a.txt", 0, LQ_EQ, 1}, {"name", "*", 0, LQ_NE, 0}, {"name", "b", 0, LQ_GT, 2}, {"name", "b.txt", 0, LQ_GE, 2},
+        {"name", "b.txt", 0, LQ_LT, 1}, {"name", "b.txt", 0, LQ_LE, 2}, {"name", "*", 0, LQ_CONTAINS, 1}, {"name", "c", 0, LQ_BEGINS_WITH, 1},
+        {"name", ".txt", 0, LQ_ENDS_WITH, 2}, {"n", NULL, -3, LQ_EQ, 1}, {"n", NULL, -3, LQ_LT, 1}, {"n", NULL, -3, LQ_GE, 2}};
+    for (size_t at = 0; at < sizeof rows / sizeof *rows; at++)
+        for (int negated = 0; negated < 2; negated++) {
+            OK(lq_push_attr(&it, rows[at].attr, strlen(rows[at].attr)));
+            if (rows[at].text) OK(lq_push_text(&it, rows[at].text, strlen(rows[at].text)));
+            else OK(lq_push_int64(&it, rows[at].whole));
+            OK(lq_push_op(&it, rows[at].op));
+            if (negated) OK(lq_push_op(&it, LQ_NOT));
+            OK(lq_fetch_pushed(&it, &fetched));
+            CHECK(fetched.count == (negated ? 3 - rows[at].count : rows[at].count));
+        }
+
+    /* each kind of number, at the ends of its range */
+    for (int kind = 0; kind < 8; kind++) {
+        const bool is_least = kind % 2;
+        const int64_t whole = kind < 2 ? is_least ? INT32_MIN : INT32_MAX : is_least ? INT64_MIN : INT64_MAX;
+        const uint64_t natural = is_least ? 0 : kind < 6 ? UINT32_MAX : UINT64_MAX;
+        if (kind < 4) OK(lq_set_int64(&it, 4, TEXT("n"), whole, &applied));
+        else OK(lq_set_uint64(&it, 4, TEXT("n"), natural, &applied));
+        OK(lq_push_attr(&it, TEXT("n")));
+        if (kind < 2) OK(lq_push_int32(&it, (int32_t)whole));
+        else if (kind < 4) OK(lq_push_int64(&it, whole));
+        else if (kind < 6) OK(lq_push_uint32(&it, (uint32_t)natural));
+        else OK(lq_push_uint64(&it, natural));
+        OK(lq_push_op(&it, LQ_EQ));
+        OK(lq_push_attr(&it, TEXT("name")));
+        OK(lq_push_text(&it, TEXT("c*")));
+        OK(lq_push_op(&it, LQ_EQ));
+        OK(lq_push_op(&it, LQ_AND));
+        OK(lq_fetch_pushed(&it, &fetched));
+        CHECK(fetched.count == 1 && lq_result_next(&it, &entry) && entry.node == 4);
+    }
+
+    /* as a live query; one that is refused takes the predicate off all the same, and what is cleared has gone */
+    for (int round = 0; round < 3; round++) {
+        if (round == 1) {
+            OK(lq_push_attr(&it, TEXT("left")));
+            lq_clear_pushed(&it);
+            WANT(lq_push_op(&it, LQ_NOT), LQ_BAD_QUERY);
+            CHECK(lq_fault_place(&it) == 0);
+        }
+        OK(lq_push_attr(&it, TEXT("n")));
+        OK(lq_push_uint32(&it, 7));
+        OK(lq_push_op(&it, LQ_GT));
+        OK(lq_push_attr(&it, TEXT("size")));
+        OK(lq_push_int32(&it, 100));
+        OK(lq_push_op(&it, LQ_LT));
+        OK(lq_push_op(&it, LQ_OR));
+        if (round == 0) REFUSED(lq_subscribe_pushed(&it, 0, 1, false, &opening), LQ_BAD_PORT, opening);
+        else OK(lq_subscribe_pushed(&it, 1, 9, round == 1, &opening));
+        REFUSED(lq_subscribe_pushed(&it, 1, 1, false, &opening), LQ_BAD_QUERY, opening);
+        CHECK(lq_fault_place(&it) == 0);
+    }
+    lq_message message;
+    OK(lq_move(&it, 2, 1, TEXT("moved"), false, &applied));
+    OK(lq_read(&it, 1, &message));
+    CHECK(message.op == LQ_ENTRY_MOVED && message.node == 2);
+    OK(lq_read(&it, 2, &message));
+    CHECK(message.op == LQ_ENTRY_REMOVED && message.node == 2);
+    OK(lq_read(&it, 2, &message));
+    CHECK(message.op == LQ_ENTRY_CREATED && message.node == 2);
+
+    /* what doesn't fit, with the number of pushes so far */
+    WANT(lq_push_op(&it, LQ_EQ), LQ_BAD_QUERY);
+    CHECK(lq_fault_place(&it) == 0);
+    WANT(lq_push_attr(&it, "", 0), LQ_BAD_QUERY);
+    WANT(lq_push_attr(&it, long_name, 256), LQ_BAD_QUERY);
+    WANT(lq_push_attr(&it, TEXT("a\0b")), LQ_BAD_QUERY);
+    WANT(lq_push_attr(&it, TEXT("\xff")), LQ_NOT_UTF8);
+    OK(lq_push_attr(&it, long_name, 255));
+    WANT(lq_push_text(&it, long_text, 4097), LQ_BAD_QUERY);
+    CHECK(lq_fault_place(&it) == 1);
+    WANT(lq_push_text(&it, TEXT("\xc3")), LQ_NOT_UTF8);
+    OK(lq_push_text(&it, TEXT("[")));
+    WANT(lq_push_op(&it, LQ_EQ), LQ_BAD_QUERY);
+    CHECK(lq_fault_place(&it) == 2);
+    WANT(lq_push_op(&it, LQ_AND), LQ_BAD_QUERY);
+    WANT(lq_push_op(&it, 0), LQ_BAD_LINE);
+    WANT(lq_push_op(&it, 13), LQ_BAD_LINE);
+    WANT(lq_push_op(&it, UINT32_MAX), LQ_BAD_LINE);
+    OK(lq_push_op(&it, LQ_CONTAINS));
+    for (int depth = 1; depth < 64; depth++) OK(lq_push_op(&it, LQ_NOT));
+    WANT(lq_push_op(&it, LQ_NOT), LQ_BAD_QUERY);
+    CHECK(lq_fault_place(&it) == 66);
+    OK(lq_fetch_pushed(&it, &fetched));
+    CHECK(fetched.count == 3);
+    REFUSED(lq_fetch_pushed(&it, &fetched), LQ_BAD_QUERY, fetched);
+    lq_close(&it);
+}
+
+int main(void) {
+    memset(long_name, 'n', sizeof long_name);
+    memset(long_text, 't', sizeof long_text);
+    subscriptions();
+    pushes();
+    return done("queries");
+}
