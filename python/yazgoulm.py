@@ -475,7 +475,7 @@ class Volume:
 
 
 class Query:
-    """A live query of a volume. `entries` is its result at the opening, `at` the number of changes then, `slot` its slot.
+    """A live query of a volume. `entries` is its result at the opening, `at` the number of changes then.
 
     It is an iterator of the messages that are there: it stops where none waits, and goes on after the next change. Once
     it has ended and all messages are read, `mark` says why. As a context manager it is closed at the end, and what
@@ -538,7 +538,7 @@ class Query:
         return change.value
 
     def close(self) -> None:
-        """Ends the query, drops what wasn't read, and frees its slot. It may be called again, also of a closed volume."""
+        """Ends the query, drops what wasn't read, and frees its slot. It may be called again."""
         volume = self._volume
         if volume is None or volume._at is None:
             return

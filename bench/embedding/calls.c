@@ -19,7 +19,8 @@ static void answer(const char *line, int size, const char *begins) {
     char reply[512];
     size_t replied;
     must(lq_answer(&volume, line, (size_t)size, &replied));
-    if (lq_text(&volume, reply, sizeof reply) > sizeof reply || memcmp(reply, begins, strlen(begins)) != 0) {
+    if (lq_text(&volume, reply, sizeof reply) > sizeof reply ||
+        memcmp(reply, begins, strlen(begins)) != 0) {
         fprintf(stderr, "%s: %.80s\n", line, reply);
         exit(1);
     }
@@ -29,19 +30,22 @@ static void create(int number) {
     char name[16], line[128];
     int size = name_of(number, name);
     if (by_lines) {
-        size = sprintf(line, "{\"do\":\"create\",\"name\":\"%s\",\"size\":%d,\"time\":%d}", name, number % BORDER, TIME);
+        size = sprintf(line, "{\"do\":\"create\",\"name\":\"%s\",\"size\":%d,\"time\":%d}", name,
+                       number % BORDER, TIME);
         answer(line, size, "{\"change\":");
         return;
     }
     lq_applied made;
-    must(lq_create(&volume, 1, name, (size_t)size, LQ_FILE, (uint64_t)(number % BORDER), TIME, &made));
+    must(lq_create(&volume, 1, name, (size_t)size, LQ_FILE, (uint64_t)(number % BORDER), TIME,
+                   &made));
     if (made.node != (uint64_t)number + 2) exit(1);
 }
 
 static void write_size(int number) {
     char line[128];
     if (by_lines) {
-        int size = sprintf(line, "{\"do\":\"write\",\"node\":%d,\"size\":%d,\"time\":%d}", 2 + number % FILES, size_of(number), TIME);
+        int size = sprintf(line, "{\"do\":\"write\",\"node\":%d,\"size\":%d,\"time\":%d}",
+                           2 + number % FILES, size_of(number), TIME);
         answer(line, size, "{\"change\":");
         return;
     }

@@ -27,14 +27,18 @@ static void begin(int windows) {
     char text[512];
     must(sqlite3_open(":memory:", &data), SQLITE_OK);
     run("PRAGMA journal_mode=OFF; PRAGMA synchronous=OFF; PRAGMA temp_store=MEMORY;"
-        "CREATE TABLE entry(node INTEGER PRIMARY KEY, dir INTEGER NOT NULL, name TEXT NOT NULL, kind INTEGER NOT NULL,"
+        "CREATE TABLE entry(node INTEGER PRIMARY KEY, dir INTEGER NOT NULL, name TEXT NOT NULL, "
+        "kind INTEGER NOT NULL,"
         " size INTEGER NOT NULL, time INTEGER NOT NULL, UNIQUE(dir, name));"
-        "CREATE TABLE message(seq INTEGER PRIMARY KEY, window INTEGER NOT NULL, op INTEGER NOT NULL, node INTEGER NOT NULL,"
+        "CREATE TABLE message(seq INTEGER PRIMARY KEY, window INTEGER NOT NULL, op INTEGER NOT "
+        "NULL, node INTEGER NOT NULL,"
         " dir INTEGER NOT NULL, name TEXT NOT NULL);");
     for (int window = 1; window <= windows; window++) {
         sprintf(text,
-                "CREATE TRIGGER wide%d AFTER UPDATE OF size ON entry WHEN (old.size > %d) <> (new.size > %d) BEGIN"
-                " INSERT INTO message(window, op, node, dir, name) VALUES(%d, new.size > %d, new.node, new.dir, new.name);"
+                "CREATE TRIGGER wide%d AFTER UPDATE OF size ON entry WHEN (old.size > %d) <> "
+                "(new.size > %d) BEGIN"
+                " INSERT INTO message(window, op, node, dir, name) VALUES(%d, new.size > %d, "
+                "new.node, new.dir, new.name);"
                 " END",
                 window, BORDER, BORDER, window, BORDER);
         run(text);
@@ -76,7 +80,8 @@ static double writes(int windows) {
     for (int number = 0; number < FILES; number++) create(insert, number);
     sqlite3_finalize(insert);
     sqlite3_stmt *update = prepared("UPDATE entry SET size = ?, time = ? WHERE node = ?");
-    sqlite3_stmt *read = prepared("SELECT seq, op, node, dir, name FROM message WHERE window = ? ORDER BY seq LIMIT 1");
+    sqlite3_stmt *read = prepared(
+        "SELECT seq, op, node, dir, name FROM message WHERE window = ? ORDER BY seq LIMIT 1");
     sqlite3_stmt *took = prepared("DELETE FROM message WHERE seq = ?");
     run("CREATE INDEX waiting ON message(window, seq)");
     double since = now();

@@ -6,7 +6,21 @@
 #include <inttypes.h>
 
 typedef enum word {
-    CREATE, REMOVE, MOVE, WRITE, SET, UNSET, OPEN, READ, HANG_UP, CLOSE, FINISH, RESULT, FIND, ENTRY, FETCH
+    CREATE,
+    REMOVE,
+    MOVE,
+    WRITE,
+    SET,
+    UNSET,
+    OPEN,
+    READ,
+    HANG_UP,
+    CLOSE,
+    FINISH,
+    RESULT,
+    FIND,
+    ENTRY,
+    FETCH
 } word;
 
 /* Which fields count is said by the word. `number` is the value of a `set` with a type other than LQ_TEXT. */
@@ -63,19 +77,26 @@ static inline void say_bool(text *to, const char *key, bool truth) {
 }
 
 static inline const char *type_name(uint32_t type) {
-    return type == LQ_TEXT ? "CSTR" : type == LQ_INT32 ? "LONG" : type == LQ_INT64 ? "LLNG" : type == LQ_UINT32 ? "ULNG" : "ULLG";
+    return type == LQ_TEXT     ? "CSTR"
+           : type == LQ_INT32  ? "LONG"
+           : type == LQ_INT64  ? "LLNG"
+           : type == LQ_UINT32 ? "ULNG"
+                               : "ULLG";
 }
 
 /* The line of an act, without LF. */
 static inline void say_line(text *to, const act *it) {
-    static const char *const words[] = {"create", "remove", "move", "write", "set", "unset", "open", "read", "hang_up",
-                                        "close", "finish", "result", "find", "entry", "fetch"};
+    static const char *const words[] = {"create", "remove", "move", "write",   "set",
+                                        "unset",  "open",   "read", "hang_up", "close",
+                                        "finish", "result", "find", "entry",   "fetch"};
     say_text(to, "{\"do\":", words[it->word], strlen(words[it->word]));
     switch (it->word) {
     case CREATE:
         say_text(to, ",\"name\":", it->name, it->name_size);
         say_natural(to, ",\"dir\":", it->dir);
-        say(to, it->kind == LQ_FOLDER ? ",\"kind\":\"folder\"" : it->kind == LQ_FILE ? ",\"kind\":\"file\"" : ",\"kind\":\"\"");
+        say(to, it->kind == LQ_FOLDER ? ",\"kind\":\"folder\""
+                : it->kind == LQ_FILE ? ",\"kind\":\"file\""
+                                      : ",\"kind\":\"\"");
         say_natural(to, ",\"size\":", it->size);
         say_whole(to, ",\"time\":", it->time);
         break;
@@ -95,7 +116,8 @@ static inline void say_line(text *to, const act *it) {
         say_text(to, ",\"attr\":", it->name, it->name_size);
         say_text(to, ",\"type\":", type_name(it->type), 4);
         if (it->type == LQ_TEXT) say_text(to, ",\"value\":", it->text, it->text_size);
-        else if (it->type == LQ_INT32 || it->type == LQ_INT64) say_whole(to, ",\"value\":", it->number);
+        else if (it->type == LQ_INT32 || it->type == LQ_INT64)
+            say_whole(to, ",\"value\":", it->number);
         else say_natural(to, ",\"value\":", (uint64_t)it->number);
         break;
     case UNSET:
@@ -112,15 +134,10 @@ static inline void say_line(text *to, const act *it) {
         say_natural(to, ",\"dir\":", it->dir);
         say_text(to, ",\"name\":", it->name, it->name_size);
         break;
-    case FETCH:
-        say_text(to, ",\"query\":", it->text, it->text_size);
-        break;
+    case FETCH: say_text(to, ",\"query\":", it->text, it->text_size); break;
     case REMOVE:
-    case ENTRY:
-        say_natural(to, ",\"node\":", it->node);
-        break;
-    default:
-        say_natural(to, ",\"slot\":", it->node);
+    case ENTRY: say_natural(to, ",\"node\":", it->node); break;
+    default: say_natural(to, ",\"slot\":", it->node);
     }
     say(to, "}");
 }
@@ -142,7 +159,9 @@ static inline void say_result(text *to, lq *handle, size_t count) {
 }
 
 static inline void say_message(text *to, const lq_message *it) {
-    static const char *const ops[] = {"", "CREATED", "REMOVED", "MOVED"}, *const causes[] = {"", "closed", "hung_up", "overrun"};
+    static const char *const ops[] = {"", "CREATED", "REMOVED", "MOVED"}, *const causes[] = {
+                                                                              "", "closed",
+                                                                              "hung_up", "overrun"};
     if (it->what == LQ_EMPTY || it->what == LQ_ENDED) {
         say(to, it->what == LQ_EMPTY ? "{\"what\":\"EMPTY\"}" : "{\"what\":\"ENDED\"}");
     } else if (it->what == LQ_END) {
@@ -178,7 +197,8 @@ static inline uint32_t say_entry(text *to, lq *handle, uint64_t node) {
         say_text(to, index ? ",{\"name\":" : "{\"name\":", attr.name, attr.name_size);
         say_text(to, ",\"type\":", type_name(attr.type), 4);
         if (attr.type == LQ_TEXT) say_text(to, ",\"value\":", attr.text, attr.text_size);
-        else if (attr.type == LQ_INT32 || attr.type == LQ_INT64) say_whole(to, ",\"value\":", attr.whole);
+        else if (attr.type == LQ_INT32 || attr.type == LQ_INT64)
+            say_whole(to, ",\"value\":", attr.whole);
         else say_natural(to, ",\"value\":", attr.natural);
         say(to, "}");
     }
@@ -196,18 +216,29 @@ static inline uint32_t say_entry(text *to, lq *handle, uint64_t node) {
 /* The typed call of a change. */
 static inline uint32_t change(lq *handle, const act *it, lq_applied *out) {
     switch (it->word) {
-    case CREATE: return lq_create(handle, it->dir, it->name, it->name_size, it->kind, it->size, it->time, out);
+    case CREATE:
+        return lq_create(handle, it->dir, it->name, it->name_size, it->kind, it->size, it->time,
+                         out);
     case REMOVE: return lq_remove(handle, it->node, out);
     case MOVE: return lq_move(handle, it->node, it->dir, it->name, it->name_size, it->flag, out);
     case WRITE: return lq_write(handle, it->node, it->size, it->time, out);
     case UNSET: return lq_unset(handle, it->node, it->name, it->name_size, out);
     default:
         switch (it->type) {
-        case LQ_TEXT: return lq_set_text(handle, it->node, it->name, it->name_size, it->text, it->text_size, out);
-        case LQ_INT32: return lq_set_int32(handle, it->node, it->name, it->name_size, (int32_t)it->number, out);
-        case LQ_INT64: return lq_set_int64(handle, it->node, it->name, it->name_size, it->number, out);
-        case LQ_UINT32: return lq_set_uint32(handle, it->node, it->name, it->name_size, (uint32_t)it->number, out);
-        default: return lq_set_uint64(handle, it->node, it->name, it->name_size, (uint64_t)it->number, out);
+        case LQ_TEXT:
+            return lq_set_text(handle, it->node, it->name, it->name_size, it->text, it->text_size,
+                               out);
+        case LQ_INT32:
+            return lq_set_int32(handle, it->node, it->name, it->name_size, (int32_t)it->number,
+                                out);
+        case LQ_INT64:
+            return lq_set_int64(handle, it->node, it->name, it->name_size, it->number, out);
+        case LQ_UINT32:
+            return lq_set_uint32(handle, it->node, it->name, it->name_size, (uint32_t)it->number,
+                                 out);
+        default:
+            return lq_set_uint64(handle, it->node, it->name, it->name_size, (uint64_t)it->number,
+                                 out);
         }
     }
 }
@@ -223,7 +254,8 @@ static inline uint32_t by_call(lq *handle, const act *it, text *to) {
     uint32_t status;
     switch (it->word) {
     case OPEN:
-        status = lq_subscribe(handle, it->text, it->text_size, it->port, it->backlog, it->flag, &opening);
+        status = lq_subscribe(handle, it->text, it->text_size, it->port, it->backlog, it->flag,
+                              &opening);
         if (status != LQ_OK) return status;
         say_natural(to, "{\"at\":", opening.at);
         say(to, ",");

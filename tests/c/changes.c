@@ -24,17 +24,41 @@ static void handles(void) {
 }
 
 static void the_names_of_statuses(void) {
-    static const struct { uint32_t status; const char *name; } all[] = {
-        {LQ_OK, "Ok"}, {LQ_BAD_NAME, "BadName"}, {LQ_NO_NODE, "NoNode"}, {LQ_NOT_FOLDER, "NotFolder"}, {LQ_NO_ENTRY, "NoEntry"},
-        {LQ_EXISTS, "Exists"}, {LQ_WOULD_LOOP, "WouldLoop"}, {LQ_NOT_EMPTY, "NotEmpty"}, {LQ_KIND_CLASH, "KindClash"},
-        {LQ_IS_FOLDER, "IsFolder"}, {LQ_NO_ATTR, "NoAttr"}, {LQ_RESERVED, "Reserved"}, {LQ_TOO_LONG, "TooLong"},
-        {LQ_EXHAUSTED, "Exhausted"}, {LQ_NO_MEMORY, "NoMemory"}, {LQ_BAD_QUERY, "BadQuery"}, {LQ_BAD_PORT, "BadPort"},
-        {LQ_BAD_BACKLOG, "BadBacklog"}, {LQ_NO_SLOT, "NoSlot"}, {LQ_NO_SEAT, "NoSeat"}, {LQ_NOT_OPEN, "NotOpen"},
-        {LQ_STILL_OPEN, "StillOpen"}, {LQ_LONG_LINE, "LongLine"}, {LQ_NOT_UTF8, "NotUtf8"}, {LQ_NOT_JSON, "NotJson"},
-        {LQ_BAD_LINE, "BadLine"}, {LQ_OUT_OF_STEP, "OutOfStep"}, {LQ_MISMATCH, "Mismatch"}};
+    static const struct {
+        uint32_t status;
+        const char *name;
+    } all[] = {{LQ_OK, "Ok"},
+               {LQ_BAD_NAME, "BadName"},
+               {LQ_NO_NODE, "NoNode"},
+               {LQ_NOT_FOLDER, "NotFolder"},
+               {LQ_NO_ENTRY, "NoEntry"},
+               {LQ_EXISTS, "Exists"},
+               {LQ_WOULD_LOOP, "WouldLoop"},
+               {LQ_NOT_EMPTY, "NotEmpty"},
+               {LQ_KIND_CLASH, "KindClash"},
+               {LQ_IS_FOLDER, "IsFolder"},
+               {LQ_NO_ATTR, "NoAttr"},
+               {LQ_RESERVED, "Reserved"},
+               {LQ_TOO_LONG, "TooLong"},
+               {LQ_EXHAUSTED, "Exhausted"},
+               {LQ_NO_MEMORY, "NoMemory"},
+               {LQ_BAD_QUERY, "BadQuery"},
+               {LQ_BAD_PORT, "BadPort"},
+               {LQ_BAD_BACKLOG, "BadBacklog"},
+               {LQ_NO_SLOT, "NoSlot"},
+               {LQ_NO_SEAT, "NoSeat"},
+               {LQ_NOT_OPEN, "NotOpen"},
+               {LQ_STILL_OPEN, "StillOpen"},
+               {LQ_LONG_LINE, "LongLine"},
+               {LQ_NOT_UTF8, "NotUtf8"},
+               {LQ_NOT_JSON, "NotJson"},
+               {LQ_BAD_LINE, "BadLine"},
+               {LQ_OUT_OF_STEP, "OutOfStep"},
+               {LQ_MISMATCH, "Mismatch"}};
     size_t known = 0;
     char name[16];
-    for (uint32_t status = 0; status < 1000; status++) known += lq_strerror(status, name, sizeof name) > 0;
+    for (uint32_t status = 0; status < 1000; status++)
+        known += lq_strerror(status, name, sizeof name) > 0;
     CHECK(known == sizeof all / sizeof *all);
     CHECK(lq_strerror(UINT32_MAX, name, sizeof name) == 0);
     for (size_t at = 0; at < known; at++) {
@@ -44,7 +68,8 @@ static void the_names_of_statuses(void) {
         CHECK(lq_strerror(all[at].status, name, 0) == size && name[0] == 'x');
         for (size_t room = size; room <= sizeof name; room++) {
             memset(name, 'x', sizeof name);
-            CHECK(lq_strerror(all[at].status, name, room) == size && memcmp(name, all[at].name, size) == 0 && name[size] == 'x');
+            CHECK(lq_strerror(all[at].status, name, room) == size &&
+                  memcmp(name, all[at].name, size) == 0 && name[size] == 'x');
         }
     }
 }
@@ -60,7 +85,8 @@ static void texts_that_are_copied(void) {
     for (size_t given = 0; given < sizeof room; given++) {
         memset(room, 'x', sizeof room);
         CHECK(lq_text(&it, room, given) == 22);
-        CHECK(given < 22 ? room[0] == 'x' : memcmp(room, TEXT("{\"change\":1,\"node\":2}\nx")) == 0);
+        CHECK(given < 22 ? room[0] == 'x'
+                         : memcmp(room, TEXT("{\"change\":1,\"node\":2}\nx")) == 0);
     }
     OK(lq_answer(&it, TEXT("{\"do\":\"create\",\"name\":\"b\"}\r"), &size));
     CHECK(size == 22 && lq_changes(&it) == 2);
@@ -73,7 +99,9 @@ static void texts_that_are_copied(void) {
     memset(longest, ' ', 65537);
     memcpy(longest, TEXT("{\"do\":\"create\",\"name\":\"c\"}"));
     OK(lq_answer(&it, longest, 65537, &size));
-    CHECK(lq_text(&it, room, sizeof room) == 31 && memcmp(room, TEXT("{\"code\":30,\"error\":\"LongLine\"}\n")) == 0 && lq_changes(&it) == 2);
+    CHECK(lq_text(&it, room, sizeof room) == 31 &&
+          memcmp(room, TEXT("{\"code\":30,\"error\":\"LongLine\"}\n")) == 0 &&
+          lq_changes(&it) == 2);
     OK(lq_answer(&it, longest, 65536, &size));
     CHECK(size == 22 && lq_changes(&it) == 3);
     free(longest);
@@ -95,7 +123,8 @@ static void changes_and_their_refusals(void) {
     REFUSED(lq_create(&it, 3, TEXT("a"), LQ_FILE, 0, 0, &out), LQ_NOT_FOLDER, out);
     REFUSED(lq_create(&it, 2, TEXT("file"), LQ_FILE, 0, 0, &out), LQ_EXISTS, out);
     REFUSED(lq_create(&it, 1, TEXT("a"), LQ_FOLDER, 1, 0, &out), LQ_IS_FOLDER, out);
-    REFUSED(lq_create(&it, 1, TEXT("a"), LQ_FILE, (uint64_t)INT64_MAX + 1, 0, &out), LQ_TOO_LONG, out);
+    REFUSED(lq_create(&it, 1, TEXT("a"), LQ_FILE, (uint64_t)INT64_MAX + 1, 0, &out), LQ_TOO_LONG,
+            out);
     REFUSED(lq_create(&it, 1, TEXT("a"), 2, 0, 0, &out), LQ_BAD_LINE, out);
     REFUSED(lq_create(&it, 1, TEXT("a"), UINT32_MAX, 0, 0, &out), LQ_BAD_LINE, out);
     REFUSED(lq_create(&it, 1, "", 0, LQ_FILE, 0, 0, &out), LQ_BAD_NAME, out);

@@ -20,11 +20,13 @@ static inline void check(int holds, const char *file, int line, const char *what
 #define CHECK(what) check((what) ? 1 : 0, __FILE__, __LINE__, #what)
 
 /* A status that a call has to answer. */
-static inline void check_status(uint32_t seen, uint32_t status, const char *file, int line, const char *what) {
+static inline void check_status(uint32_t seen, uint32_t status, const char *file, int line,
+                                const char *what) {
     checks++;
     if (seen == status) return;
     failures++;
-    fprintf(stderr, "%s:%d: %s answered %u, wanted %u\n", file, line, what, (unsigned)seen, (unsigned)status);
+    fprintf(stderr, "%s:%d: %s answered %u, wanted %u\n", file, line, what, (unsigned)seen,
+            (unsigned)status);
 }
 
 #define WANT(call, status) check_status((call), (status), __FILE__, __LINE__, #call)
@@ -48,13 +50,15 @@ static inline bool is_poison(const void *out, size_t size) {
     } while (0)
 
 /* Whether a struct has this name. */
-#define NAMED(it, text) ((it).name_size == sizeof(text) - 1 && memcmp((it).name, (text), sizeof(text) - 1) == 0)
+#define NAMED(it, text) \
+    ((it).name_size == sizeof(text) - 1 && memcmp((it).name, (text), sizeof(text) - 1) == 0)
 
 /* A literal as a pointer and its length. */
 #define TEXT(text) (text), sizeof(text) - 1
 
 /* The node of an entry that is created. */
-static inline uint64_t created(lq *handle, uint64_t dir, const char *name, uint32_t kind, uint64_t size) {
+static inline uint64_t created(lq *handle, uint64_t dir, const char *name, uint32_t kind,
+                               uint64_t size) {
     lq_applied out = {0, 0};
     OK(lq_create(handle, dir, name, strlen(name), kind, size, 941000000, &out));
     return out.node;
@@ -77,7 +81,8 @@ static inline void add(text *to, const char *from, size_t size) {
 }
 
 static inline int is_same(const text *one, const text *other) {
-    return one->size == other->size && (one->size == 0 || memcmp(one->at, other->at, one->size) == 0);
+    return one->size == other->size &&
+           (one->size == 0 || memcmp(one->at, other->at, one->size) == 0);
 }
 
 /* Adds the reply to a line. Where there is none, or a refusal of the line itself, nothing is added. */

@@ -28,7 +28,8 @@ static void scenario(const char *name) {
     lq_close(&handle);
     CHECK(is_same(&replies, &wanted));
     if (!is_same(&replies, &wanted))
-        fprintf(stderr, "%s: the replies differ:\n%.*s", name, (int)replies.size, replies.at ? replies.at : "");
+        fprintf(stderr, "%s: the replies differ:\n%.*s", name, (int)replies.size,
+                replies.at ? replies.at : "");
     free(script.at);
     free(wanted.at);
     free(replies.at);

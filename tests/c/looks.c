@@ -16,25 +16,38 @@ static void attributes(void) {
     OK(lq_set_uint32(&it, 3, TEXT("uint32"), UINT32_MAX, &out));
     OK(lq_set_uint64(&it, 3, TEXT("uint64"), UINT64_MAX, &out));
     OK(lq_set_text(&it, 3, long_name, 255, TEXT("long"), &out));
-    static const struct { const char *name; uint32_t type; int64_t whole; uint64_t natural; size_t text_size; } wanted[] = {
-        {"text", LQ_TEXT, 0, 0, 4096}, {"int32", LQ_INT32, INT32_MIN, 0, 0}, {"int64", LQ_INT64, INT64_MIN, 0, 0},
-        {"uint32", LQ_UINT32, 0, UINT32_MAX, 0}, {"uint64", LQ_UINT64, 0, UINT64_MAX, 0}};
+    static const struct {
+        const char *name;
+        uint32_t type;
+        int64_t whole;
+        uint64_t natural;
+        size_t text_size;
+    } wanted[] = {{"text", LQ_TEXT, 0, 0, 4096},
+                  {"int32", LQ_INT32, INT32_MIN, 0, 0},
+                  {"int64", LQ_INT64, INT64_MIN, 0, 0},
+                  {"uint32", LQ_UINT32, 0, UINT32_MAX, 0},
+                  {"uint64", LQ_UINT64, 0, UINT64_MAX, 0}};
     lq_info info;
     lq_attr attr, named;
     OK(lq_entry_of(&it, 3, &info));
-    CHECK(info.dir == 2 && info.node == 3 && info.size == 7 && info.time == 941000000 && info.kind == LQ_FILE && info.attr_count == 6 && NAMED(info, "file"));
+    CHECK(info.dir == 2 && info.node == 3 && info.size == 7 && info.time == 941000000 &&
+          info.kind == LQ_FILE && info.attr_count == 6 && NAMED(info, "file"));
     for (size_t at = 0; at < 5; at++) {
         OK(lq_attr_at(&it, 3, at, &attr));
         OK(lq_attr_named(&it, 3, wanted[at].name, strlen(wanted[at].name), &named));
         for (int by_name = 0; by_name < 2; by_name++) {
             const lq_attr *seen = by_name ? &named : &attr;
-            CHECK(seen->type == wanted[at].type && seen->whole == wanted[at].whole && seen->natural == wanted[at].natural);
-            CHECK(seen->text_size == wanted[at].text_size && memcmp(seen->text, long_text, seen->text_size) == 0);
-            CHECK(seen->name_size == strlen(wanted[at].name) && memcmp(seen->name, wanted[at].name, seen->name_size) == 0);
+            CHECK(seen->type == wanted[at].type && seen->whole == wanted[at].whole &&
+                  seen->natural == wanted[at].natural);
+            CHECK(seen->text_size == wanted[at].text_size &&
+                  memcmp(seen->text, long_text, seen->text_size) == 0);
+            CHECK(seen->name_size == strlen(wanted[at].name) &&
+                  memcmp(seen->name, wanted[at].name, seen->name_size) == 0);
         }
     }
     OK(lq_attr_at(&it, 3, 5, &attr));
-    CHECK(attr.name_size == 255 && memcmp(attr.name, long_name, 255) == 0 && attr.text_size == 4 && memcmp(attr.text, "long", 4) == 0);
+    CHECK(attr.name_size == 255 && memcmp(attr.name, long_name, 255) == 0 && attr.text_size == 4 &&
+          memcmp(attr.text, "long", 4) == 0);
     REFUSED(lq_attr_at(&it, 3, 6, &attr), LQ_NO_ATTR, attr);
     REFUSED(lq_attr_at(&it, 3, SIZE_MAX, &attr), LQ_NO_ATTR, attr);
     REFUSED(lq_attr_at(&it, 1, 0, &attr), LQ_NO_ENTRY, attr);
@@ -50,11 +63,62 @@ static void attributes(void) {
     lq_close(&it);
 }
 
-/* What a call that asks alone finds; a result stands until another is made. */
-static void looks(void) {
-    static const char *const sorted[] = {"10", "9", "B", "a", "a b", "ab", "b", "\xc3\xb6"};
+/* What is found by a name and by a formula; a result stands until another is made. */
+static void finds(void) {
     lq it = LQ_INIT;
     lq_fetched fetched;
+    lq_entry entry;
+    lq_applied applied;
+    uint64_t node;
+    size_t size;
+    OK(lq_open(&it));
+    uint64_t folder = created(&it, 1, "f", LQ_FOLDER, 0),
+             file = created(&it, 1, "file", LQ_FILE, 1);
+    created(&it, folder, "a", LQ_FILE, 0);
+    created(&it, folder, "ab", LQ_FILE, 0);
+    OK(lq_create(&it, folder, long_name, 255, LQ_FILE, 0, 0, &applied));
+    created(&it, 1, "a", LQ_FILE, 0);
+    OK(lq_find(&it, folder, TEXT("a"), &node));
+    CHECK(node == 4);
+    OK(lq_find(&it, folder, "abc", 2, &node));
+    CHECK(node == 5);
+    OK(lq_find(&it, folder, long_name, 255, &node));
+    CHECK(node == 6);
+    REFUSED(lq_find(&it, folder, TEXT("none"), &node), LQ_NO_ENTRY, node);
+    REFUSED(lq_find(&it, 99, TEXT("none"), &node), LQ_NO_NODE, node);
+    REFUSED(lq_find(&it, file, TEXT("a"), &node), LQ_NOT_FOLDER, node);
+    REFUSED(lq_find(&it, folder, "", 0, &node), LQ_BAD_NAME, node);
+    REFUSED(lq_find(&it, folder, long_text, 256, &node), LQ_BAD_NAME, node);
+    REFUSED(lq_find(&it, folder, TEXT("\xff"), &node), LQ_NOT_UTF8, node);
+
+    REFUSED(lq_fetch(&it, TEXT("((name==a)"), &fetched), LQ_BAD_QUERY, fetched);
+    CHECK(lq_fault_place(&it) == 10);
+    REFUSED(lq_fetch(&it, "", 0, &fetched), LQ_BAD_QUERY, fetched);
+    CHECK(lq_fault_place(&it) == 0);
+    REFUSED(lq_fetch(&it, long_text, 4097, &fetched), LQ_BAD_QUERY, fetched);
+    CHECK(lq_fault_place(&it) == 4096);
+    REFUSED(lq_fetch(&it, TEXT("\xff"), &fetched), LQ_NOT_UTF8, fetched);
+    OK(lq_fetch(&it, TEXT("size<0"), &fetched));
+    CHECK(fetched.count == 0 && lq_result_left(&it) == 0 && !lq_result_next(&it, &entry));
+    OK(lq_fetch(&it, TEXT("name=a*"), &fetched));
+    CHECK(fetched.count == 3 && fetched.at == 6 && lq_result_left(&it) == 3);
+    CHECK(lq_result_next(&it, &entry) && entry.node == 4 && entry.dir == folder &&
+          NAMED(entry, "a"));
+    /* neither a change, nor a line, nor a refused call takes the result away */
+    OK(lq_remove(&it, 5, &applied));
+    OK(lq_answer(&it, TEXT("{\"do\":\"fetch\",\"query\":\"name==*\"}"), &size));
+    REFUSED(lq_fetch(&it, TEXT("("), &fetched), LQ_BAD_QUERY, fetched);
+    CHECK(lq_result_next(&it, &entry) && entry.node == 5 && NAMED(entry, "ab") &&
+          lq_result_left(&it) == 1);
+    CHECK(lq_result_next(&it, &entry) && entry.node == 7 && entry.dir == 1 &&
+          !lq_result_next(&it, &entry));
+    lq_close(&it);
+}
+
+/* The children of a folder by name, and paths. */
+static void folders(void) {
+    static const char *const sorted[] = {"10", "9", "B", "a", "a b", "ab", "b", "\xc3\xb6"};
+    lq it = LQ_INIT;
     lq_entry entry;
     lq_applied applied;
     uint64_t node;
@@ -66,11 +130,13 @@ static void looks(void) {
     OK(lq_path(&it, 1, &size));
     CHECK(size == 1 && lq_text(&it, path, sizeof path) == 1 && path[0] == '/');
     uint64_t folder = created(&it, 1, "f", LQ_FOLDER, 0);
-    for (size_t at = 0; at < 8; at++) created(&it, folder, sorted[(at * 5 + 3) % 8], at % 3 ? LQ_FILE : LQ_FOLDER, 0);
+    for (size_t at = 0; at < 8; at++)
+        created(&it, folder, sorted[(at * 5 + 3) % 8], at % 3 ? LQ_FILE : LQ_FOLDER, 0);
     OK(lq_children(&it, folder, &count));
     CHECK(count == 8 && lq_result_left(&it) == 8);
     for (size_t at = 0; at < 8; at++) {
-        CHECK(lq_result_next(&it, &entry) && entry.dir == folder && entry.name_size == strlen(sorted[at]));
+        CHECK(lq_result_next(&it, &entry) && entry.dir == folder &&
+              entry.name_size == strlen(sorted[at]));
         CHECK(memcmp(entry.name, sorted[at], entry.name_size) == 0);
         OK(lq_find(&it, folder, sorted[at], strlen(sorted[at]), &node));
         CHECK(node == entry.node);
@@ -81,39 +147,21 @@ static void looks(void) {
     }
     CHECK(!lq_result_next(&it, &entry));
     REFUSED(lq_children(&it, 99, &count), LQ_NO_NODE, count);
-    OK(lq_find(&it, folder, TEXT("9"), &node));
-    REFUSED(lq_path(&it, 99, &size), LQ_NO_NODE, size);
-    REFUSED(lq_find(&it, folder, TEXT("none"), &node), LQ_NO_ENTRY, node);
-    REFUSED(lq_find(&it, 99, TEXT("none"), &node), LQ_NO_NODE, node);
-    REFUSED(lq_find(&it, folder, "", 0, &node), LQ_BAD_NAME, node);
-    REFUSED(lq_find(&it, folder, TEXT("\xff"), &node), LQ_NOT_UTF8, node);
-    created(&it, 1, "file", LQ_FILE, 1);
-    OK(lq_find(&it, 1, TEXT("file"), &node));
-    uint64_t file = node;
+    REFUSED(lq_children(&it, 0, &count), LQ_NO_NODE, count);
+    uint64_t file = created(&it, 1, "file", LQ_FILE, 1);
     REFUSED(lq_children(&it, file, &count), LQ_NOT_FOLDER, count);
-    REFUSED(lq_find(&it, file, TEXT("a"), &node), LQ_NOT_FOLDER, node);
+    REFUSED(lq_path(&it, 99, &size), LQ_NO_NODE, size);
+    REFUSED(lq_path(&it, UINT64_MAX, &size), LQ_NO_NODE, size);
 
-    REFUSED(lq_fetch(&it, TEXT("((name==a)"), &fetched), LQ_BAD_QUERY, fetched);
-    CHECK(lq_fault_place(&it) == 10);
-    REFUSED(lq_fetch(&it, TEXT("\xff"), &fetched), LQ_NOT_UTF8, fetched);
-    OK(lq_fetch(&it, TEXT("name=a*"), &fetched));
-    CHECK(fetched.count == 3 && fetched.at == lq_changes(&it));
-    CHECK(lq_result_next(&it, &entry));
-    /* neither a change, nor a line, nor a refused call takes the result away */
-    OK(lq_remove(&it, file, &applied));
-    OK(lq_answer(&it, TEXT("{\"do\":\"fetch\",\"query\":\"name==*\"}"), &size));
-    REFUSED(lq_fetch(&it, TEXT("("), &fetched), LQ_BAD_QUERY, fetched);
-    REFUSED(lq_children(&it, 99, &count), LQ_NO_NODE, count);
-    CHECK(lq_result_left(&it) == 2 && lq_result_next(&it, &entry) && lq_result_next(&it, &entry) && !lq_result_next(&it, &entry));
-
-    /* a path as deep as may be here */
+    /* 200 folders, one in another */
     uint64_t at = 1;
     for (int depth = 0; depth < 200; depth++) {
         OK(lq_create(&it, at, TEXT("deep"), LQ_FOLDER, 0, 0, &applied));
         at = applied.node;
     }
     OK(lq_path(&it, at, &size));
-    CHECK(size == 1000 && lq_text(&it, path, sizeof path) == 1000 && memcmp(path + 990, "/deep/deep", 10) == 0);
+    CHECK(size == 1000 && lq_text(&it, path, sizeof path) == 1000 &&
+          memcmp(path + 990, "/deep/deep", 10) == 0);
     lq_close(&it);
 }
 
@@ -121,6 +169,7 @@ int main(void) {
     memset(long_name, 'n', sizeof long_name);
     memset(long_text, 't', sizeof long_text);
     attributes();
-    looks();
+    finds();
+    folders();
     return done("looks");
 }

@@ -62,65 +62,25 @@ static uint32_t attr_named(lq *handle, text *to) {
     return status;
 }
 
-static uint32_t push_attr(lq *handle, text *to) {
-    (void)to;
-    return lq_push_attr(handle, TEXT("an attribute of many bytes"));
-}
+/* A push, which gives nothing. */
+#define PUSH(name, call) \
+    static uint32_t name(lq *handle, text *to) { \
+        (void)to; \
+        return call; \
+    }
 
-static uint32_t push_text(lq *handle, text *to) {
-    (void)to;
-    return lq_push_text(handle, TEXT("[a-z]*b?c, a text of many bytes"));
-}
-
-static uint32_t push_int32(lq *handle, text *to) {
-    (void)to;
-    return lq_push_int32(handle, INT32_MIN);
-}
-
-static uint32_t push_int64(lq *handle, text *to) {
-    (void)to;
-    return lq_push_int64(handle, INT64_MIN);
-}
-
-static uint32_t push_uint32(lq *handle, text *to) {
-    (void)to;
-    return lq_push_uint32(handle, UINT32_MAX);
-}
-
-static uint32_t push_uint64(lq *handle, text *to) {
-    (void)to;
-    return lq_push_uint64(handle, UINT64_MAX);
-}
-
-static uint32_t push_ne(lq *handle, text *to) {
-    (void)to;
-    return lq_push_op(handle, LQ_NE);
-}
-
-static uint32_t push_contains(lq *handle, text *to) {
-    (void)to;
-    return lq_push_op(handle, LQ_CONTAINS);
-}
-
-static uint32_t push_gt(lq *handle, text *to) {
-    (void)to;
-    return lq_push_op(handle, LQ_GT);
-}
-
-static uint32_t push_and(lq *handle, text *to) {
-    (void)to;
-    return lq_push_op(handle, LQ_AND);
-}
-
-static uint32_t push_or(lq *handle, text *to) {
-    (void)to;
-    return lq_push_op(handle, LQ_OR);
-}
-
-static uint32_t push_not(lq *handle, text *to) {
-    (void)to;
-    return lq_push_op(handle, LQ_NOT);
-}
+PUSH(push_attr, lq_push_attr(handle, TEXT("an attribute of many bytes")))
+PUSH(push_text, lq_push_text(handle, TEXT("[a-z]*b?c, a text of many bytes")))
+PUSH(push_int32, lq_push_int32(handle, INT32_MIN))
+PUSH(push_int64, lq_push_int64(handle, INT64_MIN))
+PUSH(push_uint32, lq_push_uint32(handle, UINT32_MAX))
+PUSH(push_uint64, lq_push_uint64(handle, UINT64_MAX))
+PUSH(push_ne, lq_push_op(handle, LQ_NE))
+PUSH(push_contains, lq_push_op(handle, LQ_CONTAINS))
+PUSH(push_gt, lq_push_op(handle, LQ_GT))
+PUSH(push_and, lq_push_op(handle, LQ_AND))
+PUSH(push_or, lq_push_op(handle, LQ_OR))
+PUSH(push_not, lq_push_op(handle, LQ_NOT))
 
 static uint32_t fetch_pushed(lq *handle, text *to) {
     lq_fetched fetched;
@@ -137,35 +97,99 @@ static uint32_t subscribe_pushed(lq *handle, text *to) {
 }
 
 #define LONG_NAME "a name that has more bytes than stand in their place"
-#define FILE_AT(dir, name) {CREATE, 0, dir, 200, 1, 0, name, NULL, sizeof(name) - 1, 0, LQ_FILE, 0, 0, 0, false}
-#define FOLDER_AT(dir, name) {CREATE, 0, dir, 0, 1, 0, name, NULL, sizeof(name) - 1, 0, LQ_FOLDER, 0, 0, 0, false}
-#define QUERY(word, formula, port, backlog, moved) {word, 0, 0, 0, 0, 0, NULL, formula, 0, sizeof(formula) - 1, 0, 0, port, backlog, moved}
-#define MOVE_TO(node, dir, name, clobber) {MOVE, node, dir, 0, 0, 0, name, NULL, sizeof(name) - 1, 0, 0, 0, 0, 0, clobber}
-#define VALUE(type, number) {SET, 3, 0, 0, 0, number, "n", NULL, 1, 0, 0, type, 0, 0, false}
-#define TEXT_VALUE(name, value) {SET, 3, 0, 0, 0, 0, name, value, sizeof(name) - 1, sizeof(value) - 1, 0, LQ_TEXT, 0, 0, false}
-#define OF(word, node) {word, node, 0, 777, 7, 0, NULL, NULL, 0, 0, 0, 0, 0, 0, false}
-#define BY_NAME(word, node, dir, name) {word, node, dir, 0, 0, 0, name, NULL, sizeof(name) - 1, 0, 0, 0, 0, 0, false}
+#define LONG_TEXT "a text of more bytes than stand in their place"
+#define NAME(text) .name = text, .name_size = sizeof(text) - 1
+#define FILE_AT(folder, text) \
+    { .word = CREATE, .dir = folder, .size = 200, .time = 1, .kind = LQ_FILE, NAME(text) }
+#define FOLDER_AT(folder, text) \
+    { .word = CREATE, .dir = folder, .time = 1, .kind = LQ_FOLDER, NAME(text) }
+#define QUERY(what, formula, places, most, moved) \
+    { \
+        .word = what, .text = formula, .text_size = sizeof(formula) - 1, .port = places, \
+        .backlog = most, .flag = moved \
+    }
+#define MOVE_TO(number, folder, text, clobber) \
+    { .word = MOVE, .node = number, .dir = folder, .flag = clobber, NAME(text) }
+#define VALUE(kind, value) \
+    { .word = SET, .node = 3, .type = kind, .number = value, NAME("n") }
+#define TEXT_VALUE(attr, value) \
+    { \
+        .word = SET, .node = 3, .type = LQ_TEXT, .text = value, .text_size = sizeof(value) - 1, \
+        NAME(attr) \
+    }
+#define OF(what, number) \
+    { .word = what, .node = number, .size = 777, .time = 7 }
+#define BY_NAME(what, number, folder, text) \
+    { .word = what, .node = number, .dir = folder, NAME(text) }
 
-static const act acts[] = {
-    FOLDER_AT(1, "folder"), FILE_AT(2, "a.txt"), FILE_AT(1, LONG_NAME), QUERY(OPEN, "name==*&&!(size<100||TAG==\"[a-c]x*\")", 2, 64, false),
-    QUERY(OPEN, "size>100", 1, 64, true), QUERY(OPEN, "(", 1, 64, true), FILE_AT(1, "b.txt"), MOVE_TO(3, 1, "another name of many bytes", false),
-    MOVE_TO(5, 1, "another name of many bytes", true), OF(WRITE, 4), TEXT_VALUE("a name of many bytes", "a text of more bytes than stand in their place"),
-    MOVE_TO(4, 2, "c", false), OF(READ, 1), OF(READ, 1), OF(READ, 1), OF(READ, 1), OF(READ, 1), OF(READ, 1), OF(RESULT, 1), OF(READ, 2), OF(READ, 2),
-    OF(READ, 2), OF(RESULT, 2), FILE_AT(2, "a.txt"), FILE_AT(1, "again"), OF(READ, 2), OF(READ, 1), BY_NAME(FIND, 0, 1, LONG_NAME),
-    BY_NAME(FIND, 0, 2, "a.txt"), OF(ENTRY, 5), QUERY(FETCH, "size>=0||name==\"*x*\"", 0, 0, false), QUERY(FETCH, "name==[", 0, 0, false),
-    OF(HANG_UP, 2), OF(REMOVE, 4), OF(READ, 2), OF(CLOSE, 1), OF(READ, 1), OF(READ, 1), OF(READ, 1), OF(READ, 1), OF(FINISH, 1),
-    QUERY(OPEN, "name==*", 1, 0, false), OF(REMOVE, 6), OF(READ, 1)};
+static const act acts[] = {FOLDER_AT(1, "folder"),
+                           FILE_AT(2, "a.txt"),
+                           FILE_AT(1, LONG_NAME),
+                           QUERY(OPEN, "name==*&&!(size<100||TAG==\"[a-c]x*\")", 2, 64, false),
+                           QUERY(OPEN, "size>100", 1, 64, true),
+                           QUERY(OPEN, "(", 1, 64, true),
+                           FILE_AT(1, "b.txt"),
+                           MOVE_TO(3, 1, "another name of many bytes", false),
+                           MOVE_TO(5, 1, "another name of many bytes", true),
+                           OF(WRITE, 4),
+                           TEXT_VALUE("a name of many bytes", LONG_TEXT),
+                           MOVE_TO(4, 2, "c", false),
+                           OF(READ, 1),
+                           OF(READ, 1),
+                           OF(READ, 1),
+                           OF(READ, 1),
+                           OF(READ, 1),
+                           OF(READ, 1),
+                           OF(RESULT, 1),
+                           OF(READ, 2),
+                           OF(READ, 2),
+                           OF(READ, 2),
+                           OF(RESULT, 2),
+                           FILE_AT(2, "a.txt"),
+                           FILE_AT(1, "again"),
+                           OF(READ, 2),
+                           OF(READ, 1),
+                           BY_NAME(FIND, 0, 1, LONG_NAME),
+                           BY_NAME(FIND, 0, 2, "a.txt"),
+                           OF(ENTRY, 5),
+                           QUERY(FETCH, "size>=0||name==\"*x*\"", 0, 0, false),
+                           QUERY(FETCH, "name==[", 0, 0, false),
+                           OF(HANG_UP, 2),
+                           OF(REMOVE, 4),
+                           OF(READ, 2),
+                           OF(CLOSE, 1),
+                           OF(READ, 1),
+                           OF(READ, 1),
+                           OF(READ, 1),
+                           OF(READ, 1),
+                           OF(FINISH, 1),
+                           QUERY(OPEN, "name==*", 1, 0, false),
+                           OF(REMOVE, 6),
+                           OF(READ, 1)};
 
 /* The second list begins anew with the entries of two acts. */
-static const act values[] = {FOLDER_AT(1, "folder"), FILE_AT(2, "a.txt"), VALUE(LQ_INT32, -1), VALUE(LQ_INT64, INT64_MIN), VALUE(LQ_UINT32, 7),
-                             VALUE(LQ_UINT64, -1), TEXT_VALUE("a name of many bytes", "a text of more bytes than stand in their place"),
-                             BY_NAME(UNSET, 3, 0, "n"), BY_NAME(UNSET, 3, 0, "n"), OF(ENTRY, 3)};
+static const act values[] = {FOLDER_AT(1, "folder"),
+                             FILE_AT(2, "a.txt"),
+                             VALUE(LQ_INT32, -1),
+                             VALUE(LQ_INT64, INT64_MIN),
+                             VALUE(LQ_UINT32, 7),
+                             VALUE(LQ_UINT64, -1),
+                             TEXT_VALUE("a name of many bytes", LONG_TEXT),
+                             BY_NAME(UNSET, 3, 0, "n"),
+                             BY_NAME(UNSET, 3, 0, "n"),
+                             OF(ENTRY, 3)};
 
-static step *const steps[] = {children, path, attr_named, push_attr, push_text, push_ne, push_attr, push_text, push_contains, push_and, push_attr, push_int32,
-                              push_gt, push_or, push_not, fetch_pushed, fetch_pushed, push_attr, push_int64, push_gt, push_not, subscribe_pushed,
-                              push_attr, push_uint32, push_uint64, push_and};
+static step *const steps[] = {
+    children,         path,          attr_named,   push_attr,   push_text,  push_ne, push_attr,
+    push_text,        push_contains, push_and,     push_attr,   push_int32, push_gt, push_or,
+    push_not,         fetch_pushed,  fetch_pushed, push_attr,   push_int64, push_gt, push_not,
+    subscribe_pushed, push_attr,     push_uint32,  push_uint64, push_and};
 
-enum { ACTS = sizeof acts / sizeof *acts, VALUES = sizeof values / sizeof *values, STEPS = sizeof steps / sizeof *steps };
+enum {
+    ACTS = sizeof acts / sizeof *acts,
+    VALUES = sizeof values / sizeof *values,
+    STEPS = sizeof steps / sizeof *steps
+};
 
 /* A call of one of the two scripts: the acts, or the values and then the steps. It is none at the script's end. */
 static bool call(lq *handle, int script, size_t number, text *to, uint32_t *status) {
@@ -178,7 +202,8 @@ static bool call(lq *handle, int script, size_t number, text *to, uint32_t *stat
 
 /* Whether a call takes the pushes off, whatever it answers. */
 static bool takes_pushes(int script, size_t number) {
-    return script == 1 && number >= VALUES && (steps[number - VALUES] == fetch_pushed || steps[number - VALUES] == subscribe_pushed);
+    return script == 1 && number >= VALUES &&
+           (steps[number - VALUES] == fetch_pushed || steps[number - VALUES] == subscribe_pushed);
 }
 
 /* Where a call is made again: at itself, or at the first of the pushes that it took off. */
@@ -195,7 +220,8 @@ static uint64_t lacking(size_t number) {
 
 /* Whether a call may go without memory: it does so without the rebuilt result of its slot. */
 static bool is_frugal(int script, size_t number) {
-    return script == 0 ? acts[number].word == READ || acts[number].word == OPEN : number >= VALUES && steps[number - VALUES] == subscribe_pushed;
+    return script == 0 ? acts[number].word == READ || acts[number].word == OPEN
+                       : number >= VALUES && steps[number - VALUES] == subscribe_pushed;
 }
 
 /* A script on a handle of its own, in which growth `which` of call `refused` is refused; that call is made again where
@@ -209,7 +235,9 @@ static bool run(int script, size_t refused, long which, text *wanted, uint32_t *
     long before = live;
     if (!reply.at) abort();
     OK(lq_open(&handle));
-    for (size_t number = 0; reply.size = 0, left = number == refused ? which : 0, call(&handle, script, number, &reply, &status); number++) {
+    for (size_t number = 0; reply.size = 0, left = number == refused ? which : 0,
+                call(&handle, script, number, &reply, &status);
+         number++) {
         bool is_met = number == refused && which != 0 && left == 0;
         left = 0;
         if (is_met) {
@@ -218,10 +246,12 @@ static bool run(int script, size_t refused, long which, text *wanted, uint32_t *
             lacks = status == LQ_OK;
             if (status == LQ_NO_MEMORY) {
                 CHECK(reply.size == 0);
-                for (size_t again = from_where(script, number); again <= number; again++) call(&handle, script, again, &reply, &status);
+                for (size_t again = from_where(script, number); again <= number; again++)
+                    call(&handle, script, again, &reply, &status);
             }
         }
-        bool is_gone = lacks && script == 0 && acts[number].word == RESULT && acts[number].node == lacking(refused);
+        bool is_gone = lacks && script == 0 && acts[number].word == RESULT &&
+                       acts[number].node == lacking(refused);
         if (which == 0) {
             statuses[number] = status;
             add(&wanted[number], reply.at, reply.size);
@@ -291,7 +321,8 @@ int main(void) {
         size_t count = script == 0 ? ACTS : VALUES + STEPS;
         run(script, 0, 0, wanted, statuses);
         for (size_t number = 0; number < count; number++)
-            for (long which = 1; !failures && run(script, number, which, wanted, statuses); which++) continue;
+            for (long which = 1; !failures && run(script, number, which, wanted, statuses); which++)
+                continue;
         for (size_t number = 0; number < count; number++) {
             free(wanted[number].at);
             wanted[number] = (text){NULL, 0, 0};

@@ -26,31 +26,40 @@ static void subscriptions(void) {
     REFUSED(lq_subscribe(&it, TEXT("name==\xff"), 1, 1, false, &opening), LQ_NOT_UTF8, opening);
     REFUSED(lq_subscribe(&it, TEXT("size>1"), 0, 65537, false, &opening), LQ_BAD_PORT, opening);
     REFUSED(lq_subscribe(&it, TEXT("size>1"), 1025, 1, false, &opening), LQ_BAD_PORT, opening);
-    REFUSED(lq_subscribe(&it, TEXT("size>1"), UINT64_MAX, 1, false, &opening), LQ_BAD_PORT, opening);
-    REFUSED(lq_subscribe(&it, TEXT("size>1"), 1024, 65537, false, &opening), LQ_BAD_BACKLOG, opening);
-    REFUSED(lq_subscribe(&it, TEXT("size>1"), 1, UINT64_MAX, false, &opening), LQ_BAD_BACKLOG, opening);
+    REFUSED(lq_subscribe(&it, TEXT("size>1"), UINT64_MAX, 1, false, &opening), LQ_BAD_PORT,
+            opening);
+    REFUSED(lq_subscribe(&it, TEXT("size>1"), 1024, 65537, false, &opening), LQ_BAD_BACKLOG,
+            opening);
+    REFUSED(lq_subscribe(&it, TEXT("size>1"), 1, UINT64_MAX, false, &opening), LQ_BAD_BACKLOG,
+            opening);
     OK(lq_subscribe(&it, TEXT("size>100"), 2, 16, true, &opening));
     CHECK(opening.slot == 1 && opening.at == 3 && opening.count == 1 && lq_result_left(&it) == 1);
-    CHECK(lq_result_next(&it, &entry) && entry.dir == 2 && entry.node == 3 && NAMED(entry, "a.txt") && lq_result_left(&it) == 0);
+    CHECK(lq_result_next(&it, &entry) && entry.dir == 2 && entry.node == 3 &&
+          NAMED(entry, "a.txt") && lq_result_left(&it) == 0);
     POISON(entry);
     CHECK(!lq_result_next(&it, &entry) && is_poison(&entry, sizeof entry));
 
     OK(lq_read(&it, 1, &message));
-    CHECK(message.what == LQ_EMPTY && message.seq == 0 && message.change == 0 && message.name_size == 0 && message.from_name_size == 0);
+    CHECK(message.what == LQ_EMPTY && message.seq == 0 && message.change == 0 &&
+          message.name_size == 0 && message.from_name_size == 0);
     OK(lq_write(&it, 4, 300, 1, &applied));
     OK(lq_move(&it, 3, 1, TEXT("c.txt"), false, &applied));
     OK(lq_remove(&it, 3, &applied));
     OK(lq_read(&it, 1, &message));
-    CHECK(message.what == LQ_UPDATE && message.op == LQ_ENTRY_CREATED && message.seq == 1 && message.change == 4 && message.last);
+    CHECK(message.what == LQ_UPDATE && message.op == LQ_ENTRY_CREATED && message.seq == 1 &&
+          message.change == 4 && message.last);
     CHECK(message.dir == 2 && message.node == 4 && NAMED(message, "b.txt"));
     CHECK(message.cause == 0 && message.from_dir == 0 && message.from_name_size == 0);
     OK(lq_read(&it, 1, &message));
-    CHECK(message.what == LQ_UPDATE && message.op == LQ_ENTRY_MOVED && message.seq == 2 && message.change == 5 && message.last);
-    CHECK(message.dir == 1 && message.node == 3 && NAMED(message, "c.txt") && message.from_dir == 2);
+    CHECK(message.what == LQ_UPDATE && message.op == LQ_ENTRY_MOVED && message.seq == 2 &&
+          message.change == 5 && message.last);
+    CHECK(message.dir == 1 && message.node == 3 && NAMED(message, "c.txt") &&
+          message.from_dir == 2);
     CHECK(message.from_name_size == 5 && memcmp(message.from_name, "a.txt", 5) == 0);
     OK(lq_result(&it, 1, &rebuilt));
     CHECK(rebuilt.change == 5 && rebuilt.settled && rebuilt.count == 2 && lq_result_left(&it) == 2);
-    CHECK(lq_result_next(&it, &entry) && entry.node == 3 && entry.dir == 1 && lq_result_next(&it, &entry) && entry.node == 4);
+    CHECK(lq_result_next(&it, &entry) && entry.node == 3 && entry.dir == 1 &&
+          lq_result_next(&it, &entry) && entry.node == 4);
 
     for (size_t at = 0; at < sizeof free_slots / sizeof *free_slots; at++) {
         uint64_t slot = free_slots[at];
@@ -67,9 +76,11 @@ static void subscriptions(void) {
     WANT(lq_finish(&it, 1), LQ_STILL_OPEN);
     OK(lq_hang_up(&it, 1));
     OK(lq_read(&it, 1, &message));
-    CHECK(message.op == LQ_ENTRY_REMOVED && message.seq == 3 && message.change == 6 && message.node == 3 && message.dir == 1);
+    CHECK(message.op == LQ_ENTRY_REMOVED && message.seq == 3 && message.change == 6 &&
+          message.node == 3 && message.dir == 1);
     OK(lq_read(&it, 1, &message));
-    CHECK(message.what == LQ_END && message.cause == LQ_CLOSED && message.seq == 4 && message.change == 6 && message.op == 0 && message.name_size == 0);
+    CHECK(message.what == LQ_END && message.cause == LQ_CLOSED && message.seq == 4 &&
+          message.change == 6 && message.op == 0 && message.name_size == 0);
     OK(lq_read(&it, 1, &message));
     CHECK(message.what == LQ_ENDED && message.seq == 0);
     OK(lq_result(&it, 1, &rebuilt));
@@ -94,7 +105,8 @@ static void subscriptions(void) {
     OK(lq_read(&it, 1, &message));
     CHECK(message.what == LQ_END && message.cause == LQ_HUNG_UP && message.change == 7);
     OK(lq_read(&it, 2, &message));
-    CHECK(message.what == LQ_END && message.cause == LQ_OVERRUN && message.change == 6 && message.seq == 1);
+    CHECK(message.what == LQ_END && message.cause == LQ_OVERRUN && message.change == 6 &&
+          message.seq == 1);
     OK(lq_finish(&it, 2));
 
     /* all slots, and one more */
@@ -134,10 +146,23 @@ static void pushes(void) {
     CHECK(fetched.count == 1 && fetched.at == 6 && lq_result_next(&it, &entry) && entry.node == 2);
 
     /* each operator, over one attribute and one value: which of the three entries it finds */
-    static const struct { const char *attr, *text; int64_t whole; uint32_t op; size_t count; } rows[] = {
-        {"name", "a.txt", 0, LQ_EQ, 1}, {"name", "*", 0, LQ_NE, 0}, {"name", "b", 0, LQ_GT, 2}, {"name", "b.txt", 0, LQ_GE, 2},
-        {"name", "b.txt", 0, LQ_LT, 1}, {"name", "b.txt", 0, LQ_LE, 2}, {"name", "*", 0, LQ_CONTAINS, 1}, {"name", "c", 0, LQ_BEGINS_WITH, 1},
-        {"name", ".txt", 0, LQ_ENDS_WITH, 2}, {"n", NULL, -3, LQ_EQ, 1}, {"n", NULL, -3, LQ_LT, 1}, {"n", NULL, -3, LQ_GE, 2}};
+    static const struct {
+        const char *attr, *text;
+        int64_t whole;
+        uint32_t op;
+        size_t count;
+    } rows[] = {{"name", "a.txt", 0, LQ_EQ, 1},
+                {"name", "*", 0, LQ_NE, 0},
+                {"name", "b", 0, LQ_GT, 2},
+                {"name", "b.txt", 0, LQ_GE, 2},
+                {"name", "b.txt", 0, LQ_LT, 1},
+                {"name", "b.txt", 0, LQ_LE, 2},
+                {"name", "*", 0, LQ_CONTAINS, 1},
+                {"name", "c", 0, LQ_BEGINS_WITH, 1},
+                {"name", ".txt", 0, LQ_ENDS_WITH, 2},
+                {"n", NULL, -3, LQ_EQ, 1},
+                {"n", NULL, -3, LQ_LT, 1},
+                {"n", NULL, -3, LQ_GE, 2}};
     for (size_t at = 0; at < sizeof rows / sizeof *rows; at++)
         for (int negated = 0; negated < 2; negated++) {
             OK(lq_push_attr(&it, rows[at].attr, strlen(rows[at].attr)));
@@ -152,7 +177,9 @@ static void pushes(void) {
     /* each kind of number, at the ends of its range */
     for (int kind = 0; kind < 8; kind++) {
         const bool is_least = kind % 2;
-        const int64_t whole = kind < 2 ? is_least ? INT32_MIN : INT32_MAX : is_least ? INT64_MIN : INT64_MAX;
+        const int64_t whole = kind < 2   ? is_least ? INT32_MIN : INT32_MAX
+                              : is_least ? INT64_MIN
+                                         : INT64_MAX;
         const uint64_t natural = is_least ? 0 : kind < 6 ? UINT32_MAX : UINT64_MAX;
         if (kind < 4) OK(lq_set_int64(&it, 4, TEXT("n"), whole, &applied));
         else OK(lq_set_uint64(&it, 4, TEXT("n"), natural, &applied));
@@ -185,7 +212,8 @@ static void pushes(void) {
         OK(lq_push_int32(&it, 100));
         OK(lq_push_op(&it, LQ_LT));
         OK(lq_push_op(&it, LQ_OR));
-        if (round == 0) REFUSED(lq_subscribe_pushed(&it, 0, 1, false, &opening), LQ_BAD_PORT, opening);
+        if (round == 0)
+            REFUSED(lq_subscribe_pushed(&it, 0, 1, false, &opening), LQ_BAD_PORT, opening);
         else OK(lq_subscribe_pushed(&it, 1, 9, round == 1, &opening));
         REFUSED(lq_subscribe_pushed(&it, 1, 1, false, &opening), LQ_BAD_QUERY, opening);
         CHECK(lq_fault_place(&it) == 0);

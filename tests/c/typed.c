@@ -21,25 +21,48 @@ typedef struct piece {
 static char long_name[300], long_text[5000];
 
 static piece name(void) {
-    static const piece few[] = {{TEXT("a")}, {TEXT("b.txt")}, {TEXT("c.txt")}, {TEXT("d")}, {TEXT("e.txt")}, {TEXT("f")}, {TEXT("g")}};
-    const piece odd[] = {
-        {TEXT("")}, {TEXT(".")}, {TEXT("..")}, {TEXT("a/b")}, {TEXT("a\0b")}, {TEXT("quote\"back\\slash")}, {TEXT("tab\tline\n\x01\x1f\x7f")},
-        {TEXT("sch\xc3\xb6n")}, {TEXT("\xff")}, {TEXT("\xc3")}, {long_name, 255}, {long_name, 256}, {long_name, 254}};
+    static const piece few[] = {{TEXT("a")},     {TEXT("b.txt")}, {TEXT("c.txt")}, {TEXT("d")},
+                                {TEXT("e.txt")}, {TEXT("f")},     {TEXT("g")}};
+    const piece odd[] = {{TEXT("")},
+                         {TEXT(".")},
+                         {TEXT("..")},
+                         {TEXT("a/b")},
+                         {TEXT("a\0b")},
+                         {TEXT("quote\"back\\slash")},
+                         {TEXT("tab\tline\n\x01\x1f\x7f")},
+                         {TEXT("sch\xc3\xb6n")},
+                         {TEXT("\xff")},
+                         {TEXT("\xc3")},
+                         {long_name, 255},
+                         {long_name, 256},
+                         {long_name, 254}};
     return draw(20) ? *ONE_OF(few) : *ONE_OF(odd);
 }
 
 static piece formula(void) {
-    static const piece good[] = {
-        {TEXT("name==*.txt")}, {TEXT("size>100")}, {TEXT("size>100&&size<=5000")}, {TEXT("PRIO==3")}, {TEXT("!(name==a||name==\"b*\")")},
-        {TEXT("last_modified>=0")}, {TEXT("TAG==\"[a-c]?*\"")}, {TEXT("name=*")}, {TEXT("PRIO<0||NUM>18446744073709551614")}};
-    static const piece bad[] = {{TEXT("")}, {TEXT("size>")}, {TEXT("name==[b-a]")}, {TEXT("(name==a")}, {TEXT("name==\xff")},
-                                {TEXT("a\0b==c")}, {long_text, 4096}, {long_text, 4097}};
+    static const piece good[] = {{TEXT("name==*.txt")},
+                                 {TEXT("size>100")},
+                                 {TEXT("size>100&&size<=5000")},
+                                 {TEXT("PRIO==3")},
+                                 {TEXT("!(name==a||name==\"b*\")")},
+                                 {TEXT("last_modified>=0")},
+                                 {TEXT("TAG==\"[a-c]?*\"")},
+                                 {TEXT("name=*")},
+                                 {TEXT("PRIO<0||NUM>18446744073709551614")}};
+    static const piece bad[] = {{TEXT("")},         {TEXT("size>")},      {TEXT("name==[b-a]")},
+                                {TEXT("(name==a")}, {TEXT("name==\xff")}, {TEXT("a\0b==c")},
+                                {long_text, 4096},  {long_text, 4097}};
     return draw(8) ? *ONE_OF(good) : *ONE_OF(bad);
 }
 
 /* What each script begins with: folders, files, and queries that are told of much. */
 static act first(int number) {
-    static const piece names[] = {{TEXT("a")}, {TEXT("d")}, {TEXT("b.txt")}, {TEXT("c.txt")}, {TEXT("e.txt")}}, query = {TEXT("name=*")};
+    static const piece names[] = {{TEXT("a")},
+                                  {TEXT("d")},
+                                  {TEXT("b.txt")},
+                                  {TEXT("c.txt")},
+                                  {TEXT("e.txt")}},
+                       query = {TEXT("name=*")};
     act it = {0};
     it.word = number < 5 ? CREATE : OPEN;
     it.dir = number == 4 ? 2 : 1;
@@ -55,21 +78,32 @@ static act first(int number) {
 }
 
 static act drawn(void) {
-    static const word often[] = {CREATE, CREATE, MOVE, MOVE, MOVE, WRITE, WRITE, WRITE, SET, SET, SET, READ, READ, READ, READ, READ, READ,
-                                 REMOVE, UNSET, OPEN, HANG_UP, CLOSE, FINISH, RESULT, FIND, ENTRY, FETCH};
-    static const uint64_t sizes[] = {0, 1, 100, 101, 200, 5000, 5001, INT64_MAX}, wide[] = {(uint64_t)INT64_MAX + 1, UINT64_MAX};
+    static const word often[] = {CREATE, CREATE, MOVE,   MOVE,   MOVE,  WRITE, WRITE,
+                                 WRITE,  SET,    SET,    SET,    READ,  READ,  READ,
+                                 READ,   READ,   READ,   REMOVE, UNSET, OPEN,  HANG_UP,
+                                 CLOSE,  FINISH, RESULT, FIND,   ENTRY, FETCH};
+    static const uint64_t sizes[] = {0, 1, 100, 101, 200, 5000, 5001, INT64_MAX},
+                          wide[] = {(uint64_t)INT64_MAX + 1, UINT64_MAX};
     static const int64_t times[] = {0, 1, -1, 941000000, INT64_MAX, INT64_MIN};
-    static const uint64_t ports[] = {1, 1, 2, 4, 16, 1024}, backlogs[] = {64, 64, 8, 3, 1, 0, 65536};
+    static const uint64_t ports[] = {1, 1, 2, 4, 16, 1024},
+                          backlogs[] = {64, 64, 8, 3, 1, 0, 65536};
     static const uint64_t bad_ports[] = {0, 1025, UINT64_MAX}, bad_backlogs[] = {65537, UINT64_MAX};
     static const uint32_t types[] = {LQ_TEXT, LQ_INT32, LQ_INT64, LQ_UINT32, LQ_UINT64};
-    static const piece attrs[] = {{TEXT("PRIO")}, {TEXT("TAG")}, {TEXT("NUM")}, {TEXT("a b\"c")}}, bad_attrs[] = {{TEXT("name")}, {TEXT("")}, {TEXT("x\0")}};
-    static const piece texts[] = {{TEXT("")}, {TEXT("abc")}, {TEXT("b\x01")}, {TEXT("3")}, {TEXT("a\0b")}, {TEXT("\xc3\xb6")}};
+    static const piece attrs[] = {{TEXT("PRIO")}, {TEXT("TAG")}, {TEXT("NUM")}, {TEXT("a b\"c")}},
+                       bad_attrs[] = {{TEXT("name")}, {TEXT("")}, {TEXT("x\0")}};
+    static const piece texts[] = {{TEXT("")},  {TEXT("abc")},  {TEXT("b\x01")},
+                                  {TEXT("3")}, {TEXT("a\0b")}, {TEXT("\xc3\xb6")}};
     act it = {0};
     it.word = *ONE_OF(often);
-    const bool is_attr = it.word == SET || it.word == UNSET, is_slot = it.word >= READ && it.word <= RESULT;
+    const bool is_attr = it.word == SET || it.word == UNSET,
+               is_slot = it.word >= READ && it.word <= RESULT;
     piece named = !is_attr ? name() : draw(9) ? *ONE_OF(attrs) : *ONE_OF(bad_attrs);
-    piece given = it.word != SET ? formula() : draw(20) ? *ONE_OF(texts) : (piece){long_text, 4095 + (size_t)draw(3)};
-    it.node = is_slot ? draw(20) ? 1 + draw(3) : draw(66) : draw(50) ? 1 + draw(12) : UINT64_MAX - draw(2);
+    piece given = it.word != SET ? formula()
+                  : draw(20)     ? *ONE_OF(texts)
+                                 : (piece){long_text, 4095 + (size_t)draw(3)};
+    it.node = is_slot    ? draw(20) ? 1 + draw(3) : draw(66)
+                 : draw(50) ? 1 + draw(12)
+                         : UINT64_MAX - draw(2);
     it.dir = draw(3) ? 1 : 2 + draw(8);
     it.name = named.at;
     it.name_size = named.size;
@@ -111,7 +145,8 @@ static void tree(lq *handle) {
         for (size_t number = 0; number < count; number++) {
             CHECK(lq_result_next(handle, &child) && child.dir == folder);
             OK(lq_entry_of(handle, child.node, &info));
-            CHECK(info.dir == folder && info.name_size == child.name_size && memcmp(info.name, child.name, child.name_size) == 0);
+            CHECK(info.dir == folder && info.name_size == child.name_size &&
+                  memcmp(info.name, child.name, child.name_size) == 0);
             size_t least = child.name_size < before.name_size ? child.name_size : before.name_size;
             int order = number ? memcmp(before.name, child.name, least) : -1;
             CHECK(order < 0 || (order == 0 && before.name_size < child.name_size));
@@ -128,7 +163,8 @@ static void tree(lq *handle) {
             walked[--from] = '/';
         }
         OK(lq_path(handle, all[at].node, &size));
-        CHECK(size == sizeof walked - from && lq_text(handle, path, sizeof path) == size && memcmp(path, walked + from, size) == 0);
+        CHECK(size == sizeof walked - from && lq_text(handle, path, sizeof path) == size &&
+              memcmp(path, walked + from, size) == 0);
     }
 }
 
@@ -147,7 +183,8 @@ int main(int count, char **words) {
         OK(lq_open(&both));
         for (int number = 0; number < ACTS; number++) {
             act it = number < 7 ? first(number) : drawn();
-            text line = {NULL, 0, 0}, by_line = {NULL, 0, 0}, called = {NULL, 0, 0}, mixed = {NULL, 0, 0};
+            text line = {NULL, 0, 0}, by_line = {NULL, 0, 0}, called = {NULL, 0, 0},
+                 mixed = {NULL, 0, 0};
             say_line(&line, &it);
             OK(answer(&lines, line.at, line.size, &by_line));
             reply_by_call(&typed, &it, &called);
@@ -155,8 +192,9 @@ int main(int count, char **words) {
             else reply_by_call(&both, &it, &mixed);
             CHECK(is_same(&by_line, &called) && is_same(&by_line, &mixed));
             if (!is_same(&by_line, &called) || !is_same(&by_line, &mixed))
-                fprintf(stderr, "script %d, act %d: %.*s\n%.*s%.*s%.*s", script, number, (int)line.size, line.at, (int)by_line.size, by_line.at,
-                        (int)called.size, called.at, (int)mixed.size, mixed.at);
+                fprintf(stderr, "script %d, act %d: %.*s\n%.*s%.*s%.*s", script, number,
+                        (int)line.size, line.at, (int)by_line.size, by_line.at, (int)called.size,
+                        called.at, (int)mixed.size, mixed.at);
             replies++;
             refused += by_line.size > 8 && memcmp(by_line.at, "{\"code\":", 8) == 0;
             messages += it.word == READ && by_line.size > 40;
@@ -171,7 +209,8 @@ int main(int count, char **words) {
         lq_close(&lines);
         lq_close(&both);
     }
-    printf("typed: %lu replies the same, %lu of them refusals, %lu messages\n", replies, refused, messages);
+    printf("typed: %lu replies the same, %lu of them refusals, %lu messages\n", replies, refused,
+           messages);
     CHECK(refused > replies / 10 && refused < replies * 9 / 10 && messages > replies / 50);
     return done("typed");
 }

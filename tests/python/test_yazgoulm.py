@@ -159,7 +159,8 @@ class Volumes(unittest.TestCase):
 
     def test_attributes(self):
         volume, node = self.volume, self.volume.create("a").node
-        values = [("t", "CSTR", "a\0b"), ("e", "CSTR", ""), ("l", "LONG", -(2**31)), ("ll", "LLNG", -(2**63)), ("ul", "ULNG", 2**32 - 1), ("ull", "ULLG", 2**64 - 1)]
+        values = [("t", "CSTR", "a\0b"), ("e", "CSTR", ""), ("l", "LONG", -(2**31)), ("ll", "LLNG", -(2**63))]
+        values += [("ul", "ULNG", 2**32 - 1), ("ull", "ULLG", 2**64 - 1)]
         for name, type, value in values:
             volume.set(node, name, value, type)
         self.assertEqual(volume.entry(node).attributes, values)
@@ -172,7 +173,8 @@ class Volumes(unittest.TestCase):
         volume.unset(node, "t")
         self.assertEqual([it.name for it in volume.entry(node).attributes], ["e", "l", "ll", "ul", "ull"])
         self.refused(10, "NoAttr", volume.attribute, node, "t")
-        for type, value in (("LONG", 2**31), ("LLNG", 2**63), ("ULNG", -1), ("ULLG", 2**64), ("CSTR", 1), ("LONG", "1"), ("what", 1)):
+        bad = [("LONG", 2**31), ("LLNG", 2**63), ("ULNG", -1), ("ULLG", 2**64), ("CSTR", 1), ("LONG", "1"), ("what", 1)]
+        for type, value in bad:
             with self.assertRaises(ValueError):
                 volume.set(node, "x", value, type)
         self.assertEqual(len(volume.entry(node).attributes), 5)
@@ -188,8 +190,8 @@ class Volumes(unittest.TestCase):
         for numbers in (-1, 2**64):
             with self.assertRaises(ValueError):
                 volume.remove(numbers)
-        for call in (lambda: volume.create("\ud800"), lambda: volume.create("a", kind="link"), lambda: volume.create("a", time=2**63)):
-            self.assertRaises(ValueError, call)
+        for name, more in (("\ud800", {}), ("a", {"kind": "link"}), ("a", {"time": 2**63})):
+            self.assertRaises(ValueError, volume.create, name, **more)
         self.assertEqual(volume.changes, 0)
 
     def test_a_closed_volume_and_another_thread(self):
@@ -246,7 +248,8 @@ class Queries(unittest.TestCase):
         self.assertEqual(ended.end(), 1)
         hung_up.hang_up()
         volume.create("b", size=2)
-        for query, mark in ((ended, Mark(2, 1, "closed")), (hung_up, Mark(2, 1, "hung_up")), (overrun, Mark(1, 0, "overrun"))):
+        marks = Mark(2, 1, "closed"), Mark(2, 1, "hung_up"), Mark(1, 0, "overrun")
+        for query, mark in zip((ended, hung_up, overrun), marks):
             messages = list(query)
             self.assertEqual((len(messages), query.mark), (mark.seq - 1, mark))
             self.assertIsNone(query.read())
@@ -273,16 +276,18 @@ class Queries(unittest.TestCase):
     def test_pushes(self):
         for name, size in (("a.txt", 200), ("b.txt", 50), ("c", 300)):
             self.volume.create(name, size=size)
-        number = {1: -(2**31), 2: 2**32 - 1, 3: -(2**63), 4: 2**64 - 1}
+        numbers = -(2**31), 2**32 - 1, -(2**63), 2**64 - 1
         for pushes, formula in (
             ([Attr("name"), "*.txt", Op.EQ, Attr("size"), 100, Op.GT, Op.AND], "name==*.txt&&size>100"),
-            ([Attr("name"), ".txt", Op.ENDS_WITH, Attr("name"), "c", Op.BEGINS_WITH, Op.OR, Op.NOT], "!(name==*.txt||name==c*)"),
-            *(([Attr("size"), each, Op.GT], f"size>'{each}'") for each in number.values()),
+            ([Attr("name"), ".txt", Op.ENDS_WITH, Attr("name"), "c", Op.BEGINS_WITH, Op.OR, Op.NOT],
+             "!(name==*.txt||name==c*)"),
+            *(([Attr("size"), each, Op.GT], f"size>'{each}'") for each in numbers),
         ):
             self.assertEqual(self.volume.fetch(pushes), self.volume.fetch(formula))
         with self.volume.query([Attr("size"), 100, Op.GT]) as query:
             self.assertEqual([it.name for it in query.entries], ["a.txt", "c"])
-        for pushes, place in (([Attr("")], 0), ([Attr("a"), Op.NOT], 1), ([Attr("a"), "b"], 2), ([], 0), ([Attr("a"), "[", Op.EQ], 2)):
+        bad = [([Attr("")], 0), ([Attr("a"), Op.NOT], 1), ([Attr("a"), "b"], 2), ([], 0), ([Attr("a"), "[", Op.EQ], 2)]
+        for pushes, place in bad:
             with self.assertRaises(BadQuery) as caught:
                 self.volume.fetch(pushes)
             self.assertEqual(caught.exception.place, place)
