@@ -11,3 +11,5 @@ pub mod Seen
 pub mod Result
 pub mod Book
 pub mod Laws
+pub mod Folder
+pub mod NodeHash
