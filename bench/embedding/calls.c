@@ -14,52 +14,50 @@ static void must(uint32_t status) {
     exit(1);
 }
 
-/* Answers a line, and wants a reply that begins in this way. */
-static void answer(const char *line, int size, const char *begins) {
+/* A line of each task, made before the clock runs, as those of a script are. */
+static char (*lines)[96];
+
+static void make_lines(bool is_create) {
+    if (!by_lines) return;
+    if (!lines) lines = malloc(COUNT * sizeof *lines);
+    if (!lines) exit(1);
+    for (int number = 0; number < COUNT; number++) {
+        if (is_create)
+            sprintf(lines[number], "{\"do\":\"create\",\"name\":\"f%d\",\"size\":%d,\"time\":%d}",
+                    number, number % BORDER, TIME);
+        else
+            sprintf(lines[number], "{\"do\":\"write\",\"node\":%d,\"size\":%d,\"time\":%d}",
+                    2 + number % FILES, size_of(number), TIME);
+    }
+}
+
+/* Answers a line, and wants the reply of a change or of a message. */
+static void answer(const char *line) {
     char reply[512];
-    size_t replied;
-    must(lq_answer(&volume, line, (size_t)size, &replied));
+    size_t size;
+    must(lq_answer(&volume, line, strlen(line), &size));
     if (lq_text(&volume, reply, sizeof reply) > sizeof reply ||
-        memcmp(reply, begins, strlen(begins)) != 0) {
+        memcmp(reply, "{\"change\":", 10) != 0) {
         fprintf(stderr, "%s: %.80s\n", line, reply);
         exit(1);
     }
 }
 
 static void create(int number) {
-    char name[16], line[128];
-    int size = name_of(number, name);
-    if (by_lines) {
-        size = sprintf(line, "{\"do\":\"create\",\"name\":\"%s\",\"size\":%d,\"time\":%d}", name,
-                       number % BORDER, TIME);
-        answer(line, size, "{\"change\":");
-        return;
-    }
+    char name[16];
     lq_applied made;
+    int size = name_of(number, name);
     must(lq_create(&volume, 1, name, (size_t)size, LQ_FILE, (uint64_t)(number % BORDER), TIME,
                    &made));
     if (made.node != (uint64_t)number + 2) exit(1);
 }
 
 static void write_size(int number) {
-    char line[128];
-    if (by_lines) {
-        int size = sprintf(line, "{\"do\":\"write\",\"node\":%d,\"size\":%d,\"time\":%d}",
-                           2 + number % FILES, size_of(number), TIME);
-        answer(line, size, "{\"change\":");
-        return;
-    }
     lq_applied made;
     must(lq_write(&volume, 2 + (uint64_t)(number % FILES), (uint64_t)size_of(number), TIME, &made));
 }
 
 static void read_one(int slot) {
-    char line[32];
-    if (by_lines) {
-        int size = sprintf(line, "{\"do\":\"read\",\"slot\":%d}", slot);
-        answer(line, size, "{\"change\":");
-        return;
-    }
     lq_message message;
     must(lq_read(&volume, (uint64_t)slot, &message));
     if (message.what != LQ_UPDATE) exit(1);
@@ -68,8 +66,12 @@ static void read_one(int slot) {
 /* Creates COUNT files. */
 static double creates(void) {
     must(lq_open(&volume));
+    make_lines(true);
     double since = now();
-    for (int number = 0; number < COUNT; number++) create(number);
+    for (int number = 0; number < COUNT; number++) {
+        if (by_lines) answer(lines[number]);
+        else create(number);
+    }
     double spent = now() - since;
     lq_close(&volume);
     return spent;
@@ -77,6 +79,11 @@ static double creates(void) {
 
 /* Writes COUNT times, each time with a message for each window, which is read. */
 static double writes(int windows) {
+    static const char *const reads[] = {
+        "{\"do\":\"read\",\"slot\":1}", "{\"do\":\"read\",\"slot\":2}",
+        "{\"do\":\"read\",\"slot\":3}", "{\"do\":\"read\",\"slot\":4}",
+        "{\"do\":\"read\",\"slot\":5}", "{\"do\":\"read\",\"slot\":6}",
+        "{\"do\":\"read\",\"slot\":7}", "{\"do\":\"read\",\"slot\":8}"};
     char formula[32];
     lq_opening opening;
     int size = sprintf(formula, "size>%d", BORDER);
@@ -84,10 +91,15 @@ static double writes(int windows) {
     for (int window = 0; window < windows; window++)
         must(lq_subscribe(&volume, formula, (size_t)size, 4, 16, false, &opening));
     for (int number = 0; number < FILES; number++) create(number);
+    make_lines(false);
     double since = now();
     for (int number = 0; number < COUNT; number++) {
-        write_size(number);
-        for (int window = 1; window <= windows; window++) read_one(window);
+        if (by_lines) answer(lines[number]);
+        else write_size(number);
+        for (int window = 1; window <= windows; window++) {
+            if (by_lines) answer(reads[window - 1]);
+            else read_one(window);
+        }
     }
     double spent = now() - since;
     lq_close(&volume);
