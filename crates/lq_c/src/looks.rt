@@ -1,0 +1,36 @@
+//! Looks at the volume.
+ghost use Rattle.std.specs.Prelude.{Ok};
+ghost use Rattle.lq_script_request.specs.declared.question.Question.TheVariants.{Entry};
+ghost use Rattle.lq_embed.specs.Calls.{Fetches, Finds, Shows};
+ghost use Rattle.lq_embed.specs.Questions.{fetch_question, find_question};
+ghost use Rattle.lq_c.specs.Held.{held};
+
+use crate::handle::Lq;
+use lq_embed::{FetchedOut, InfoOut};
+
+/// As `Embedded::fetch`, whose status it answers.
+#[unsafe(no_mangle)]
+pub extern "C" fn lq_fetch(handle: &mut Lq, formula: &[u8], out: &mut FetchedOut) -> u32
+    ensures { Fetches (held handle.old) (held handle.new) (held handle.old).pushed
+        (fetch_question formula.now) result out.old out.new }
+{
+    handle.served_mut().embedded.fetch(formula, out)
+}
+
+/// As `Embedded::find`, whose status it answers.
+#[unsafe(no_mangle)]
+pub extern "C" fn lq_find(handle: &mut Lq, dir: u64, name: &[u8], node: &mut u64) -> u32
+    ensures { Finds (held handle.old) (held handle.new) (find_question dir name.now)
+        result node.old node.new }
+{
+    handle.served_mut().embedded.find(dir, name, node)
+}
+
+/// As `Embedded::entry`, whose status it answers.
+#[unsafe(no_mangle)]
+pub extern "C" fn lq_entry_of(handle: &mut Lq, node: u64, out: &mut InfoOut) -> u32
+    ensures { Shows (held handle.old) (held handle.new) (Ok (Entry node))
+        result out.old out.new }
+{
+    handle.served_mut().embedded.entry(node, out)
+}
