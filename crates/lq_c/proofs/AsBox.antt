@@ -11,8 +11,17 @@ use Rattle.lq_c.proofs.served.Served.TheLaws as served
 use Rattle.lq_c.specs.contracts.handle.Lq as Lq
 
 abbrev pub E : Bx
-E = record { row = Served.the_row; laws = served.the_row_laws; al = record { row = Heap.the_row;
-    laws = heap.the_row_laws; g = ghosts; d = dict; drops = impl [] tnil dnil } }
+E = record {
+  row = Served.the_row;
+  laws = served.the_row_laws;
+  al = record {
+    row = Heap.the_row;
+    laws = heap.the_row_laws;
+    g = ghosts;
+    d = dict;
+    drops = impl [] tnil dnil;
+  };
+}
 
 abbrev pub FromLq : Slot 0
 FromLq = plain (λ _. Lq.the_row)

@@ -1,6 +1,7 @@
-//! A session behind a pointer that C holds, with the two `unsafe` blocks of the crate. A handle owns
-//! the block behind its pointer as a box does, so the session there can be lent, and the box can be
-//! made again.
+//! A session behind a pointer that C holds, with the two `unsafe` blocks of the crate.
+//!
+//! A handle owns the block behind its pointer as a box does. So the session there can be lent, and
+//! the box can be made again.
 ghost use Rattle.lq_c.specs.declared.served.Served.{Served};
 ghost use Rattle.lq_c.specs.Handle.{lq_owns, served_coded};
 

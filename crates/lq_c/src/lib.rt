@@ -5,7 +5,9 @@
 //! Begin with `handles`.
 #![tactic(auto)]
 
+mod attrs;
 mod changes;
+mod folders;
 mod handle;
 mod handles;
 mod live;

@@ -1,13 +1,12 @@
 //! Live queries, and the entries of results.
-ghost use Rattle.std.specs.Prelude.{◌≡◌, Ok, length};
+ghost use Rattle.std.specs.Prelude.{◌≡◌, length};
 ghost use Rattle.lq_desk_world.specs.declared.event.Event.TheVariants.{Close, Finish, HangUp, Take};
-ghost use Rattle.lq_script_request.specs.declared.question.Question.TheVariants.{Rebuilt};
-ghost use Rattle.lq_embed.specs.Calls.{Acts, Ends, Gives, IsRead, Opens, Rebuilds};
+ghost use Rattle.lq_embed.specs.Calls.{Acts, Ends, Gives, IsRead, Opens};
 ghost use Rattle.lq_embed.specs.Questions.{open_question};
 ghost use Rattle.lq_c.specs.Held.{held};
 
 use crate::handle::Lq;
-use lq_embed::{EntryOut, MessageOut, OpeningOut, RebuiltOut};
+use lq_embed::{EntryOut, MessageOut, OpeningOut};
 
 /// As `Embedded::subscribe`, whose status it answers.
 #[unsafe(no_mangle)]
@@ -58,15 +57,6 @@ pub extern "C" fn lq_finish(handle: &mut Lq, slot: u64) -> u32
     ensures { Acts (held handle.old) (held handle.new) (Finish slot) result }
 {
     handle.served_mut().embedded.finish(slot)
-}
-
-/// As `Embedded::rebuilt`, whose status it answers.
-#[unsafe(no_mangle)]
-pub extern "C" fn lq_result(handle: &mut Lq, slot: u64, out: &mut RebuiltOut) -> u32
-    ensures { Rebuilds (held handle.old) (held handle.new) (Ok (Rebuilt slot))
-        result out.old out.new }
-{
-    handle.served_mut().embedded.rebuilt(slot, out)
 }
 
 /// As `Embedded::next_entry`.

@@ -1,12 +1,12 @@
 //! Looks at the volume.
 ghost use Rattle.std.specs.Prelude.{Ok};
-ghost use Rattle.lq_script_request.specs.declared.question.Question.TheVariants.{Entry};
-ghost use Rattle.lq_embed.specs.Calls.{Fetches, Finds, Shows};
+ghost use Rattle.lq_script_request.specs.declared.question.Question.TheVariants.{Entry, Rebuilt};
+ghost use Rattle.lq_embed.specs.Calls.{Fetches, Finds, Rebuilds, Shows};
 ghost use Rattle.lq_embed.specs.Questions.{fetch_question, find_question};
 ghost use Rattle.lq_c.specs.Held.{held};
 
 use crate::handle::Lq;
-use lq_embed::{FetchedOut, InfoOut};
+use lq_embed::{FetchedOut, InfoOut, RebuiltOut};
 
 /// As `Embedded::fetch`, whose status it answers.
 #[unsafe(no_mangle)]
@@ -24,6 +24,15 @@ pub extern "C" fn lq_find(handle: &mut Lq, dir: u64, name: &[u8], node: &mut u64
         result node.old node.new }
 {
     handle.served_mut().embedded.find(dir, name, node)
+}
+
+/// As `Embedded::rebuilt`, whose status it answers.
+#[unsafe(no_mangle)]
+pub extern "C" fn lq_result(handle: &mut Lq, slot: u64, out: &mut RebuiltOut) -> u32
+    ensures { Rebuilds (held handle.old) (held handle.new) (Ok (Rebuilt slot))
+        result out.old out.new }
+{
+    handle.served_mut().embedded.rebuilt(slot, out)
 }
 
 /// As `Embedded::entry`, whose status it answers.

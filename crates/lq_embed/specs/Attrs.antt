@@ -32,13 +32,15 @@ attr_by_place s node index = unless_refused (first_refusal (entry_refusals s nod
     (option_and_then (λ r. slice_get r.attrs index) (record_at s node))
 
 -- the attribute with a name
-abbrev pub attr_by_name : volume.State → ℕ → List ℕ → Result (List ℕ × Value) Refusal
-attr_by_name s node name =
-    if is_utf8 name
-    then (if is_attr_name name
-    then unless_refused (first_refusal (entry_refusals s node))
+abbrev pub attr_with_name : volume.State → ℕ → List ℕ → Result (List ℕ × Value) Refusal
+attr_with_name s node name = unless_refused (first_refusal (entry_refusals s node))
     (option_and_then (λ r. option_map (λ v. (name, v)) (value_of r.attrs name)) (record_at s node))
-    else Err BadName)
+
+-- the same of bytes that may be no name
+abbrev pub attr_by_name : volume.State → ℕ → List ℕ → Result (List ℕ × Value) Refusal
+attr_by_name s node bytes =
+    if is_utf8 bytes
+    then (if is_attr_name bytes then attr_with_name s node bytes else Err BadName)
     else Err NotUtf8
 
 -- the status of a look at an attribute, and what it writes

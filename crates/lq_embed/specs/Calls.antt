@@ -23,7 +23,7 @@ use Rattle.lq_embed.specs.declared.outs.RebuiltOut.{RebuiltOut}
 use Rattle.lq_embed.specs.declared.outs.EntryOut.{EntryOut}
 use Rattle.lq_embed.specs.declared.outs.MessageOut.{MessageOut}
 use Rattle.lq_embed.specs.declared.outs.InfoOut.{InfoOut}
-use Rattle.lq_embed.specs.Outs.{applied_after, opening_after, entries_after, change_after, fault_after, read_after, node_after, fetched_after, rebuilt_after, looked_at, looked_fault, info_after, entry_after}
+use Rattle.lq_embed.specs.Outs.{applied_after, opening_after, entries_after, change_after, fault_after, read_after, node_after, fetched_after, rebuilt_after, fetched_entries, rebuilt_entries, looked_fault, info_after, entry_after}
 use Rattle.lq_embed.specs.State.{State, with_session, with_entries, with_fault, with_pushed}
 use Rattle.lq_embed.specs.Status.{status_of, response_status}
 
@@ -110,7 +110,7 @@ pub record Fetches (old new : State) (stack : Stacked) (q : Result Question Refu
   pub responds : Responds old.session q response
   pub code : status ≡ response_status response
   pub out : after ≡ fetched_after response before
-  pub entries : new.entries ≡ looked_at response old.entries
+  pub entries : new.entries ≡ fetched_entries response old.entries
   pub fault : new.fault ≡ looked_fault response old.fault
   pub session : new.session ≡ old.session
   pub text : new.text ≡ old.text
@@ -123,7 +123,7 @@ pub record Rebuilds (old new : State) (q : Result Question Refusal) (status : �
   pub responds : Responds old.session q response
   pub code : status ≡ response_status response
   pub out : after ≡ rebuilt_after response before
-  pub entries : new ≡ with_entries old (looked_at response old.entries)
+  pub entries : new ≡ with_entries old (rebuilt_entries response old.entries)
 
 -- the entry of a node
 pub record Shows (old new : State) (q : Result Question Refusal) (status : ℕ)

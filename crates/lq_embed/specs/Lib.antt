@@ -5,3 +5,4 @@ pub mod Numbers
 pub mod Questions
 pub mod Calls
 pub mod Attrs
+pub mod Folders

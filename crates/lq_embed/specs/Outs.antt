@@ -140,11 +140,14 @@ rebuilt_after (Rebuilt change result settled) out =
     record { change = change; count = length result; settled = settled }
 rebuilt_after response out = out
 
--- the entries that are to be given after a look
-abbrev pub looked_at : Response → List Entry → List Entry
-looked_at (Fetched at result) entries = result
-looked_at (Rebuilt change result settled) entries = result
-looked_at response entries = entries
+-- the entries that are to be given after a fetch, and after a slot's result was asked for
+abbrev pub fetched_entries : Response → List Entry → List Entry
+fetched_entries (Fetched at result) entries = result
+fetched_entries response entries = entries
+
+abbrev pub rebuilt_entries : Response → List Entry → List Entry
+rebuilt_entries (Rebuilt change result settled) entries = result
+rebuilt_entries response entries = entries
 
 abbrev pub looked_fault : Response → ℕ → ℕ
 looked_fault (Refuses refusal) fault = fault_by refusal fault

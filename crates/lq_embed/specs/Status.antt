@@ -4,17 +4,16 @@ use Rattle.lq_value.specs.declared.refusal.Refusal.{Refusal}
 use Rattle.lq_value.specs.declared.refusal.Refusal.TheVariants.{BadName, NoNode, NotFolder, NoEntry, Exists, WouldLoop, NotEmpty, KindClash, IsFolder, NoAttr, Reserved, TooLong, Exhausted, NoMemory, BadQuery, BadPort, BadBacklog, NoSlot, NoSeat, NotOpen, StillOpen, LongLine, NotUtf8, NotJson, BadLine, OutOfStep, Mismatch}
 use Rattle.lq_value.specs.Refusal.{code_of, name_of}
 use Rattle.lq_desk_world.specs.Events.{Answer, Refused}
-use Rattle.lq_script_reply.specs.Response.{Response, Answers, Refuses}
+use Rattle.lq_script_reply.specs.Response.{Response, Refuses}
 
 -- the number of a refusal, or 0
 abbrev pub status_of : Answer → ℕ
 status_of (Refused refusal) = code_of refusal
 status_of answer = 0
 
--- the same of a response
+-- the same of the response to a look
 abbrev pub response_status : Response → ℕ
 response_status (Refuses refusal) = code_of refusal
-response_status (Answers slot answer) = status_of answer
 response_status response = 0
 
 -- the refusal with this number

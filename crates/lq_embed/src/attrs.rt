@@ -1,7 +1,7 @@
 //! The attributes of an entry.
 ghost use Rattle.std.specs.Prelude.{◌≡◌};
 ghost use Rattle.lq_value.specs.Value.{shown_by};
-ghost use Rattle.lq_embed.specs.Attrs.{ShowsAttr, ShowsNamed, attr_by_name, attr_by_place};
+ghost use Rattle.lq_embed.specs.Attrs.{ShowsAttr, ShowsNamed, attr_by_name, attr_by_place, attr_out, attr_status, attr_with_name};
 ghost use Rattle.lq_embed.specs.Outs.{attr_after};
 ghost use Rattle.lq_embed.specs.State.{holds, volume_in};
 
@@ -48,12 +48,22 @@ impl Embedded {
             Ok(name) => name,
             Err(refusal) => return status(refusal),
         };
+        self.put_named(node, &name, out)
+    }
+
+    // Writes the attribute of an entry with this name.
+    fn put_named(&self, node: u64, attr: &AttrName, out: &mut AttrOut) -> u32
+        ensures status { result ≡ attr_status
+            (attr_with_name (volume_in (holds self.now)) node attr.now) }
+        ensures out { out.new ≡ attr_out
+            (attr_with_name (volume_in (holds self.now)) node attr.now) out.old }
+    {
         match self.session.volume().entry(node) {
             Err(refusal) => status(refusal),
-            Ok(entry) => match entry.attr(&name) {
+            Ok(entry) => match entry.attr(attr) {
                 None => status(Refusal::NoAttr),
                 Some(view) => {
-                    put_attr(attr, view, out);
+                    put_attr(attr.as_str().as_bytes(), view, out);
                     0
                 }
             },

@@ -36,10 +36,10 @@ impl Embedded {
             (create_question dir name.now kind size time) result out.old out.new }
     {
         let Ok(name) = str::from_utf8(name) else {
-            return applied(Reply::Refused(Refusal::NotUtf8), out);
+            return status(Refusal::NotUtf8);
         };
         let Some(kind) = kind_numbered(kind) else {
-            return applied(Reply::Refused(Refusal::BadLine), out);
+            return status(Refusal::BadLine);
         };
         let reply = self.carry_out(&Request::Create {
             dir,
@@ -75,7 +75,7 @@ impl Embedded {
             (move_question node dir name.now clobber) result out.old out.new }
     {
         let Ok(name) = str::from_utf8(name) else {
-            return applied(Reply::Refused(Refusal::NotUtf8), out);
+            return status(Refusal::NotUtf8);
         };
         let reply = self.carry_out(&Request::Move {
             node,
@@ -104,10 +104,10 @@ impl Embedded {
             (set_text_question node attr.now text.now) result out.old out.new }
     {
         let Ok(attr) = str::from_utf8(attr) else {
-            return applied(Reply::Refused(Refusal::NotUtf8), out);
+            return status(Refusal::NotUtf8);
         };
         let Ok(text) = str::from_utf8(text) else {
-            return applied(Reply::Refused(Refusal::NotUtf8), out);
+            return status(Refusal::NotUtf8);
         };
         let value = View::Text(text);
         applied(self.carry_out(&Request::Set { node, attr, value }), out)
@@ -120,7 +120,7 @@ impl Embedded {
             (set_question node attr.now (Int32 value)) result out.old out.new }
     {
         let Ok(attr) = str::from_utf8(attr) else {
-            return applied(Reply::Refused(Refusal::NotUtf8), out);
+            return status(Refusal::NotUtf8);
         };
         let value = View::Int32(value);
         applied(self.carry_out(&Request::Set { node, attr, value }), out)
@@ -132,7 +132,7 @@ impl Embedded {
             (set_question node attr.now (Int64 value)) result out.old out.new }
     {
         let Ok(attr) = str::from_utf8(attr) else {
-            return applied(Reply::Refused(Refusal::NotUtf8), out);
+            return status(Refusal::NotUtf8);
         };
         let value = View::Int64(value);
         applied(self.carry_out(&Request::Set { node, attr, value }), out)
@@ -144,7 +144,7 @@ impl Embedded {
             (set_question node attr.now (UInt32 value)) result out.old out.new }
     {
         let Ok(attr) = str::from_utf8(attr) else {
-            return applied(Reply::Refused(Refusal::NotUtf8), out);
+            return status(Refusal::NotUtf8);
         };
         let value = View::UInt32(value);
         applied(self.carry_out(&Request::Set { node, attr, value }), out)
@@ -156,7 +156,7 @@ impl Embedded {
             (set_question node attr.now (UInt64 value)) result out.old out.new }
     {
         let Ok(attr) = str::from_utf8(attr) else {
-            return applied(Reply::Refused(Refusal::NotUtf8), out);
+            return status(Refusal::NotUtf8);
         };
         let value = View::UInt64(value);
         applied(self.carry_out(&Request::Set { node, attr, value }), out)
@@ -171,7 +171,7 @@ impl Embedded {
             result out.old out.new }
     {
         let Ok(attr) = str::from_utf8(attr) else {
-            return applied(Reply::Refused(Refusal::NotUtf8), out);
+            return status(Refusal::NotUtf8);
         };
         applied(self.carry_out(&Request::Unset { node, attr }), out)
     }

@@ -23,7 +23,7 @@ pub struct Embedded {
     pub(crate) alloc: Global,
     pub(crate) session: Session,
     // The scratch for reading requests, reused from call to call.
-    scratch: Scratch,
+    pub(crate) scratch: Scratch,
     // The entries of the last result that weren't given yet.
     pub(crate) entries: IntoIter<Entry>,
     // The text of the last line's reply, or of a path.

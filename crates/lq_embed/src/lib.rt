@@ -10,6 +10,7 @@
 mod attrs;
 mod changes;
 mod embedded;
+mod folders;
 mod lines;
 mod live;
 mod looks;

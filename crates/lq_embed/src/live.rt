@@ -1,17 +1,16 @@
 //! Live queries.
-ghost use Rattle.std.specs.Prelude.{◌≡◌, Ok, length};
+ghost use Rattle.std.specs.Prelude.{◌≡◌, length};
 ghost use Rattle.lq_value.specs.Refusal.{code_of};
 ghost use Rattle.lq_desk.specs.Reply.{answer_of};
 ghost use Rattle.lq_desk_world.specs.declared.event.Event.TheVariants.{Close, Finish, HangUp, Take};
-ghost use Rattle.lq_script_request.specs.declared.question.Question.TheVariants.{Rebuilt};
-ghost use Rattle.lq_embed.specs.Calls.{Acts, Ends, Gives, IsRead, Opens, Rebuilds};
+ghost use Rattle.lq_embed.specs.Calls.{Acts, Ends, Gives, IsRead, Opens};
 ghost use Rattle.lq_embed.specs.Outs.{bare_after, change_after, entries_after, entry_after, fault_after, fault_by, from_dir_of, from_name_of, message_after, number_of_cause, number_of_op, opening_after, read_after, written};
 ghost use Rattle.lq_embed.specs.Questions.{open_question};
 ghost use Rattle.lq_embed.specs.State.{holds};
 ghost use Rattle.lq_embed.specs.Status.{status_of};
 
 use crate::embedded::Embedded;
-use crate::outs::{EntryOut, MessageOut, OpeningOut, RebuiltOut};
+use crate::outs::{EntryOut, MessageOut, OpeningOut};
 use crate::put::put_text;
 use crate::statuses::status;
 use lq_desk::{Event, Read, Reply};
@@ -36,7 +35,7 @@ impl Embedded {
             (open_question formula.now port backlog moved) result out.old out.new }
     {
         let Ok(query) = str::from_utf8(formula) else {
-            return self.opened(Reply::Refused(Refusal::NotUtf8), out);
+            return status(Refusal::NotUtf8);
         };
         let reply = self.carry_out(&Request::Open {
             query,
@@ -124,28 +123,6 @@ impl Embedded {
         ensures { Acts (holds self.old) (holds self.new) (Finish slot) result }
     {
         acted(&self.session.turn(&Event::Finish(slot)))
-    }
-
-    /// The rebuilt result of a slot, which is then to be given.
-    ///
-    /// Refused: `NotOpen` where the slot is free or was left without one, `NoMemory`.
-    pub fn rebuilt(&mut self, slot: u64, out: &mut RebuiltOut) -> u32
-        ensures { Rebuilds (holds self.old) (holds self.new) (Ok (Rebuilt slot))
-            result out.old out.new }
-    {
-        let Some(rebuild) = self.session.rebuild(slot) else {
-            return status(Refusal::NotOpen);
-        };
-        let Ok(entries) = rebuild.entries() else {
-            return status(Refusal::NoMemory);
-        };
-        *out = RebuiltOut {
-            change: rebuild.last_change(),
-            count: entries.len(),
-            settled: rebuild.is_settled(),
-        };
-        self.entries = entries.into_iter();
-        0
     }
 
     /// Writes the next entry of the last result; false, and nothing is written, where there is

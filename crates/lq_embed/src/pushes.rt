@@ -1,8 +1,10 @@
 //! Queries by pushes in postfix order.
 ghost use Rattle.std.specs.Prelude.{◌≡◌, Ok};
 ghost use Rattle.std.specs.Fmt.{decimal, signed_decimal};
-ghost use Rattle.lq_predicate.specs.Stack.{only_part, text_pushed};
+ghost use Rattle.lq_predicate.specs.Stack.{attr_pushed, only_part, op_pushed, text_pushed};
 ghost use Rattle.lq_predicate.specs.Stacked.{new_stack};
+ghost use Rattle.lq_desk_world.specs.declared.event.Event.TheVariants.{Open};
+ghost use Rattle.lq_script_request.specs.declared.question.Question.TheVariants as question;
 ghost use Rattle.lq_embed.specs.Calls.{Fetches, Opens, Pushes};
 ghost use Rattle.lq_embed.specs.Numbers.{op_numbered};
 ghost use Rattle.lq_embed.specs.Outs.{outcome_fault};
@@ -14,8 +16,9 @@ use crate::embedded::Embedded;
 use crate::numbers::op_numbered;
 use crate::outs::{FetchedOut, OpeningOut};
 use crate::statuses::status;
-use lq_desk::{Event, Reply};
-use lq_predicate::Stack;
+use lq_desk::Event;
+use lq_predicate::{Predicate, Stack, StackOp};
+use lq_script_request::Question;
 use lq_value::Refusal;
 
 impl Embedded {
@@ -30,6 +33,14 @@ impl Embedded {
         let Ok(name) = str::from_utf8(name) else {
             return status(Refusal::NotUtf8);
         };
+        self.push_attr_str(name)
+    }
+
+    // Pushes the attribute with this name.
+    fn push_attr_str(&mut self, name: &str) -> u32
+        ensures { Pushes (holds self.old) (holds self.new)
+            (Ok (attr_pushed name.now (holds self.old).pushed)) result }
+    {
         let pushed = self.stack.push_attr(name);
         self.after_push(pushed)
     }
@@ -42,6 +53,14 @@ impl Embedded {
         let Ok(text) = str::from_utf8(text) else {
             return status(Refusal::NotUtf8);
         };
+        self.push_text_str(text)
+    }
+
+    // Pushes the value with this text.
+    fn push_text_str(&mut self, text: &str) -> u32
+        ensures { Pushes (holds self.old) (holds self.new)
+            (Ok (text_pushed text.now (holds self.old).pushed)) result }
+    {
         let pushed = self.stack.push_text(text);
         self.after_push(pushed)
     }
@@ -94,6 +113,14 @@ impl Embedded {
         let Some(op) = op_numbered(op) else {
             return status(Refusal::BadLine);
         };
+        self.push_stack_op(op)
+    }
+
+    // Replaces the items on top by what an operator makes of them.
+    fn push_stack_op(&mut self, op: StackOp) -> u32
+        ensures { Pushes (holds self.old) (holds self.new)
+            (Ok (op_pushed op (holds self.old).pushed)) result }
+    {
         let pushed = self.stack.push_op(op);
         self.after_push(pushed)
     }
@@ -122,15 +149,30 @@ impl Embedded {
             (open_pushed (holds self.old).pushed.pushes port backlog moved
             (only_part (holds self.old).pushed.items)) result out.old out.new }
     {
-        let reply = match self.stack.finish() {
-            Err(refusal) => Reply::Refused(refusal),
-            Ok(predicate) => self.session.turn(&Event::Open {
-                predicate,
-                port,
-                backlog,
-                moved,
-            }),
-        };
+        match self.stack.finish() {
+            Err(refusal) => self.refused(refusal),
+            Ok(predicate) => self.open_predicate(predicate, port, backlog, moved, out),
+        }
+    }
+
+    // Opens a live query of a predicate.
+    fn open_predicate(
+        &mut self,
+        predicate: Predicate,
+        port: u64,
+        backlog: u64,
+        moved: bool,
+        out: &mut OpeningOut,
+    ) -> u32
+        ensures { Opens (holds self.old) (holds self.new) (holds self.old).pushed
+            (Ok (question.Event (Open predicate port backlog moved))) result out.old out.new }
+    {
+        let reply = self.session.turn(&Event::Open {
+            predicate,
+            port,
+            backlog,
+            moved,
+        });
         self.opened(reply, out)
     }
 
@@ -146,7 +188,10 @@ impl Embedded {
     {
         match self.stack.finish() {
             Err(refusal) => self.refused(refusal),
-            Ok(predicate) => self.fetched(&predicate, out),
+            Ok(predicate) => {
+                let response = self.respond(&Question::Fetch { predicate });
+                self.fetched(response, out)
+            }
         }
     }
 
