@@ -27,7 +27,7 @@ returns c =
     ∙ ap (λ (name : List ℕ). question_for (asks_create c.args.dir name c.in-Some.kind c.args.size
     c.args.time)) (sym text.0)
     ∙ ap (λ (time : ℤ). question_for (asks_create c.args.dir c.in-Ok.name.now c.in-Some.kind
-    c.args.size time)) (sym (to_z-of_z c.ranges.time.fits))) (record {
+    c.args.size time)) (sym (to_z-of_z c.ranges.time))) (record {
       answer = _;
       asks = c.carry_out-reply.ensures.asks;
       code = c.applied.ensures.status;

@@ -1,9 +1,9 @@
-use Rattle.std.proofs.Common.{◌≡◌, List, ℕ, refl, ap, rules}
+use Rattle.std.proofs.Common.{◌≡◌, ◌∙◌, refl, ap, rules}
 use Rattle.std.specs.Prelude.{Ok, Err, unwrap_or}
 use Rattle.lq_value.specs.declared.refusal.Refusal.TheVariants.{NoMemory}
 use Rattle.lq_value.specs.Refusal.{first_refusal}
 use Rattle.lq_volume.specs.Lookup.{path_refusals}
-use Rattle.lq_embed.specs.State.{holds, with_text}
+use Rattle.lq_embed.specs.Folders.{path_text}
 use Rattle.lq_embed.proofs.FolderLemmas.{paths-made}
 use Rattle.lq_embed.proofs.embedded.Embedded.path.Goals as goal
 
@@ -19,7 +19,9 @@ returns-in_default c =
     c.status-in_default.ensures refl refl
 
 pub returns : goal.returns
-returns c = paths-made c.volume.result.now (Ok c.in-Ok-text_of.text.items) c.volume.ensures
+returns c =
+    let same : c.deref.result.now ≡ c.in-Ok.names.items = search rules in
+    paths-made c.volume.result.now (Ok c.in-Ok-text_of.text.items) c.volume.ensures
     c.in-Ok.ensures.refused
-    (c.in-Ok.names.items, (c.in-Ok.ensures.path, c.in-Ok-text_of.ensures.value)) refl
-    (search rules) refl
+    (c.in-Ok.names.items, (c.in-Ok.ensures.path,
+    c.in-Ok-text_of.ensures.value ∙ ap path_text same)) refl (search rules) refl

@@ -16,7 +16,7 @@ returns c =
     ∙ ap (λ (attr : List ℕ). question_for (asks_set c.args.node attr
     (given_number (Int32 c.args.value)))) (sym text.0)
     ∙ ap (λ (n : ℤ). question_for (asks_set c.args.node c.in-Ok.attr.now (given_number (Int32 n))))
-    (sym (to_z-of_z c.ranges.value.fits))) (record {
+    (sym (to_z-of_z c.ranges.value))) (record {
       answer = _;
       asks = c.carry_out.ensures.asks;
       code = c.applied.ensures.status;
