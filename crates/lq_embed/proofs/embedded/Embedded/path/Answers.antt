@@ -22,6 +22,10 @@ pub returns : goal.returns
 returns c =
     let same : c.deref.result.now ≡ c.in-Ok.names.items = search rules in
     paths-made c.volume.result.now (Ok c.in-Ok-text_of.text.items) c.volume.ensures
-    c.in-Ok.ensures.refused
-    (c.in-Ok.names.items, (c.in-Ok.ensures.path,
-    c.in-Ok-text_of.ensures.value ∙ ap path_text same)) refl (search rules) refl
+    c.in-Ok.ensures.refused (
+      c.in-Ok.names.items,
+      (
+        c.in-Ok.ensures.path,
+        c.in-Ok-text_of.ensures.value ∙ ap path_text same,
+      ),
+    ) refl (search rules) refl
