@@ -15,6 +15,7 @@ mod matches;
 mod message;
 mod parcel;
 mod rebuild;
+mod single;
 mod stepping;
 
 pub use indexed_rebuild::IndexedRebuild;
@@ -28,4 +29,5 @@ pub use matches::{Matches, matches_of};
 pub use message::{Message, Opcode};
 pub use parcel::Parcel;
 pub use rebuild::Rebuild;
+pub use single::only_message;
 pub use stepping::{may_tell, step, step_matched, step_planned, writes_beside};

@@ -277,7 +277,7 @@ fn tell_by_node(
 }
 
 // A change keeps the tree, and alters at most its own node and the one that it removes.
-fn changes_touch_few()
+pub(crate) fn changes_touch_few()
     ensures trees { ChangesKeepTrees }
     ensures stay { UntouchedStay }
     ensures go { ClobberedGo }
@@ -289,7 +289,7 @@ fn changes_touch_few()
 
 // What left the result at the change's own node, and what came into it there.
 #[inline(always)]
-fn difference<'s, 'a>(
+pub(crate) fn difference<'s, 'a>(
     predicate: &Predicate,
     planned: &'s Planned<'a>,
     matches: Matches,
