@@ -4,8 +4,8 @@ ghost use Rattle.lq_volume.specs.Change.{IsLawful};
 use crate::act::{Act, Draws};
 use crate::plain;
 use lq_predicate::{Predicate, read};
-use lq_update::{Message, Opcode, may_tell, step, step_planned};
-use lq_volume::{Change, Volume};
+use lq_update::{Message, Opcode, matches_of, may_tell, only_message, step, step_planned};
+use lq_volume::{Change, Planned, Volume};
 use std::alloc::Global;
 use std::test::Fail;
 
@@ -71,8 +71,34 @@ fn are_same(one: &[Message], other: &[Message]) -> bool {
     one.len() == other.len() && one.iter().zip(other).all(|(a, b)| is_same(a, b))
 }
 
-/// How many messages a change tells a predicate, by both bodies the same; `may_tell` says no just
-/// where there is none and nothing is clobbered.
+/// Whether what is known before the messages are made is right: `may_tell` says no just where there
+/// is none and nothing is clobbered, and `only_message` gives the only one, unless it is moved.
+fn is_foreseen(
+    alloc: Global,
+    predicate: &Predicate,
+    planned: &Planned<'_>,
+    plain: &[Message],
+) -> Result<bool, Fail> {
+    let matches = matches_of(predicate, planned);
+    let is_quiet = plain.is_empty() && planned.clobbered().is_none();
+    if may_tell(predicate, planned, matches) == is_quiet {
+        return Ok(false);
+    }
+    let only = only_message(alloc, predicate, planned, matches, 7)?;
+    match (plain, only) {
+        ([one], Some(only)) => Ok(is_same(one, &only)),
+        ([one], None) => {
+            let is_moved = match one.op {
+                Opcode::Moved { .. } => true,
+                Opcode::Created | Opcode::Removed => false,
+            };
+            Ok(is_moved || planned.clobbered().is_some())
+        }
+        (_, only) => Ok(only.is_none()),
+    }
+}
+
+/// How many messages a change tells a predicate, by both bodies the same.
 fn compare(
     alloc: Global,
     predicate: &Predicate,
@@ -85,8 +111,7 @@ fn compare(
     let planned = volume.plan(change)?;
     let fast = step_planned(alloc, predicate, &planned, 7, moved)?;
     let plain = plain::step(alloc, predicate, volume, change, 7, moved)?;
-    let is_quiet = plain.is_empty() && planned.clobbered().is_none();
-    if !are_same(&fast, &plain) || may_tell(predicate, &planned) == is_quiet {
+    if !are_same(&fast, &plain) || !is_foreseen(alloc, predicate, &planned, &plain)? {
         return Err(Fail::from("the bodies differ"));
     }
     Ok(step(alloc, predicate, volume, change, 7, moved)?.len() as u64)

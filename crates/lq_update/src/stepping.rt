@@ -294,8 +294,7 @@ pub(crate) fn difference<'s, 'a>(
     planned: &'s Planned<'a>,
     matches: Matches,
 ) -> (Option<&'s Seen<'a>>, Option<&'s Seen<'a>>)
-    requires matches { matches ≡
-        matches_of predicate.now planned.entry.now.before planned.entry.now.change }
+    requires matches { matches ≡ matches_of predicate.now planned.now.before planned.now.change }
     ensures removed { entry_at (node_of planned.entry.now.before planned.entry.now.change)
         (option_copied result.0) ≡ left_at predicate.now planned.entry.now.before
         (after planned.entry.now.before planned.entry.now.change)
@@ -317,11 +316,20 @@ fn if_matched<'s, 'a>(
     seen: Option<&'s Seen<'a>>,
     matches: bool,
 ) -> Option<&'s Seen<'a>>
-    requires { matches ≡ is_match predicate.now (option_copied seen.entry) }
+    requires { matches ≡ is_match predicate.now (option_copied seen) }
     ensures { (node : ℕ) → entry_at node (option_copied result)
         ≡ option_and_then (λ r. entry_if predicate.now (node, r)) (option_copied seen.entry) }
 {
-    if matches { seen } else { None }
+    match seen {
+        None => None,
+        Some(seen) => {
+            if matches {
+                Some(seen)
+            } else {
+                None
+            }
+        }
+    }
 }
 
 // What is seen of an entry, if it matches the predicate.
