@@ -1,5 +1,5 @@
 //! One subscription.
-ghost use Rattle.std.specs.Prelude.{◌≡◌, ◌+◌, ◌<◌, ◌≤◌, ◌^◌, [], ◌++◌, length, vec_len, nat_lt, is_some, true, false, None, Some, IfOk, OnOk, OnErr, IsTrue, IfNone, IfSome};
+ghost use Rattle.std.specs.Prelude.{◌≡◌, ℕ, ◌+◌, ◌<◌, ◌≤◌, ◌^◌, [], ◌++◌, length, vec_len, nat_lt, is_some, true, false, None, Some, IfOk, OnOk, OnErr, IsTrue, IfNone, IfSome};
 ghost use Rattle.std.specs.VecDeque.{deque_len, deque_capacity};
 ghost use Rattle.lq_value.specs.Refusal.{IsRefusedBy};
 ghost use Rattle.lq_predicate.specs.Names.{names_of};
@@ -10,8 +10,8 @@ ghost use Rattle.lq_desk_sub.specs.Passing.{are_written, is_among, passes_over};
 
 use lq_predicate::{Predicate, Spans, names, truth_goes_by_names};
 use lq_update::{
-    Cause, Mark, Matches, Message, Parcel, changes_pass_over, matches_of, may_tell,
-    only_message, step_matched, writes_beside,
+    Cause, Mark, Matches, Message, Parcel, changes_pass_over, matches_of, may_tell, step_matched,
+    writes_beside,
 };
 use lq_value::{AttrName, Refusal, same_text};
 use lq_volume::{Change, Planned, Volume};
@@ -256,17 +256,10 @@ impl Sub {
         ensures err { OnErr result (self.new ≡ self.old) }
     {
         let first = self.sent + 1;
-        let (alloc, query) = (self.alloc, &self.predicate);
-        if let Some(message) = only_message(alloc, query, planned, matches, first)? {
-            self.messages.reserve(2)?;
-            self.ready.reserve(1)?;
-            self.ready.clear();
-            self.ready.push_reserved(message);
-        } else {
-            let step = step_matched(alloc, query, planned, matches, first, self.moved)?;
-            self.messages.reserve(step.len() + 1)?;
-            self.ready = step;
-        }
+        let (alloc, query, moved) = (self.alloc, &self.predicate, self.moved);
+        let step = step_matched(alloc, query, planned, matches, first, moved)?;
+        self.messages.reserve(step.len() + 1)?;
+        self.ready = step;
         self.before = before;
         Ok(())
     }
@@ -311,24 +304,17 @@ impl Sub {
         requires live { IsTrue (is_live self.old.held) }
         ensures { self.new ≡ committed self.old }
     {
-        let room = self.messages.len() + self.ready.len();
-        if !self.ready.is_empty() && room as u64 > self.backlog {
+        let ready = replace(&mut self.ready, Vec::new(self.alloc));
+        let room = self.messages.len() + ready.len();
+        if !ready.is_empty() && room as u64 > self.backlog {
             self.mark = Some(Mark {
                 seq: self.sent + 1,
                 change: self.before,
                 cause: Cause::Overrun,
             });
-            self.ready.clear();
             return;
         }
-        self.sent += self.ready.len() as u64;
-        if self.ready.len() == 1
-            && let Some(message) = self.ready.pop()
-        {
-            self.messages.push_back_reserved(message);
-            return;
-        }
-        let ready = replace(&mut self.ready, Vec::new(self.alloc));
+        self.sent += ready.len() as u64;
         append(&mut self.messages, ready);
     }
 

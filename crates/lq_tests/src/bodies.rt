@@ -84,18 +84,7 @@ fn is_foreseen(
     if may_tell(predicate, planned, matches) == is_quiet {
         return Ok(false);
     }
-    let only = only_message(alloc, predicate, planned, matches, 7)?;
-    match (plain, only) {
-        ([one], Some(only)) => Ok(is_same(one, &only)),
-        ([one], None) => {
-            let is_moved = match one.op {
-                Opcode::Moved { .. } => true,
-                Opcode::Created | Opcode::Removed => false,
-            };
-            Ok(is_moved || planned.clobbered().is_some())
-        }
-        (_, only) => Ok(only.is_none()),
-    }
+    Ok(true)
 }
 
 /// How many messages a change tells a predicate, by both bodies the same.

@@ -17,7 +17,7 @@ use Rattle.lq_volume.specs.State.{State, Record, Rises, record_at, IsVolume}
 use Rattle.lq_volume.specs.Change.{after, clobbered, node_of, touched_by}
 use Rattle.lq_volume.specs.Result.{entry_of, shown, result_of, match_at, entry_if}
 use Rattle.lq_update.specs.declared.message.Opcode.{Opcode}
-use Rattle.lq_update.specs.declared.message.Opcode.TheVariants.{Created, Removed}
+use Rattle.lq_update.specs.declared.message.Opcode.TheVariants.{Removed}
 use Rattle.lq_update.specs.Diff.{same_entry, missing, diff}
 use Rattle.lq_update.specs.Touched.{left, left_at, told_first, told_last}
 use Rattle.lq_update.proofs.ToldLemmas.{Has, Lacks, told-among}
@@ -465,19 +465,3 @@ told-nothing true None None h k = (refl, refl)
 told-nothing false None None h k = (refl, refl)
 told-nothing moved None (Some f) h k = cc
 told-nothing moved (Some e) new h k = cc
-
--- where a node left and nothing came, it alone is told
-pub told-left : (moved : Bool) (e : Entry) (old new : Option Entry) → old ≡ Some e → new ≡ None
-    → (Some e ≡ told_first moved old new) × (None ≡ told_last moved old new)
-told-left true e (Some d) None h k = (sym h, refl)
-told-left false e (Some d) None h k = (sym h, refl)
-told-left moved e None new h k = cc
-told-left moved e (Some d) (Some f) h k = cc
-
--- where a node came and nothing left, it alone is told
-pub told-came : (moved : Bool) (e : Entry) (old new : Option Entry) → old ≡ None → new ≡ Some e
-    → (None ≡ told_first moved old new) × (Some (Created, e) ≡ told_last moved old new)
-told-came true e None (Some d) h k = (refl, ap (λ o. option_map (λ x. (Created, x)) o) (sym k))
-told-came false e None (Some d) h k = (refl, ap (λ o. option_map (λ x. (Created, x)) o) (sym k))
-told-came moved e None None h k = cc
-told-came moved e (Some d) new h k = cc

@@ -15,7 +15,6 @@ mod matches;
 mod message;
 mod parcel;
 mod rebuild;
-mod single;
 mod stepping;
 
 pub use indexed_rebuild::IndexedRebuild;
@@ -29,5 +28,4 @@ pub use matches::{Matches, matches_of};
 pub use message::{Message, Opcode};
 pub use parcel::Parcel;
 pub use rebuild::Rebuild;
-pub use single::only_message;
 pub use stepping::{may_tell, step, step_matched, step_planned, writes_beside};
