@@ -10,7 +10,7 @@
 #   make fmt                lays out the sources: of one crate with C=, else of all
 #   make bench              what five scripts cost
 #   make docs               draws the tables and pictures that scripts draw
-#   make install            copies the proved program to PREFIX/bin: PREFIX=/usr/local
+#   make install            copies the proved program and its manual page to PREFIX: /usr/local
 PREFIX ?= /usr/local
 S ?= examples/first-message.jsonl
 W ?= run
@@ -42,3 +42,4 @@ docs:
 	tools/crate-table --write && bench/plots
 install: all
 	install -D -m 755 crates/lq/out/lq $(DESTDIR)$(PREFIX)/bin/lq
+	install -D -m 644 docs/lq.1 $(DESTDIR)$(PREFIX)/share/man/man1/lq.1

@@ -4,7 +4,8 @@
 -- Touches; that the numbers fit: Fits; why a move is refused: Rows. The places of the records:
 -- PlaceLemmas. The index of places, with a record more, less or altered: IndexLemmas; after a move:
 -- IndexMoves; the steps of a put: Puts; and the folders that have names: IndexFolders. Attributes
--- in a list and in a map: AttributeLemmas.
+-- in a list and in a map: AttributeLemmas. The entries in a folder: Folders; the walk up that makes
+-- a path: Paths.
 pub mod Options
 pub mod OrderLemmas
 pub mod RecordLemmas
@@ -23,3 +24,5 @@ pub mod Puts
 pub mod Finds
 pub mod AttributeLemmas
 pub mod Touches
+pub mod Folders
+pub mod Paths

@@ -17,14 +17,14 @@ all_weaker P Q [] f h = tt
 all_weaker P Q (x ∷ xs) f h = (f x h.0, all_weaker P Q xs f h.1)
 
 -- what two facts of each item give is so of each
-all_both : {X : Type 0} (P Q R : X → Type 0) (xs : List X) → ((x : X) → P x → Q x → R x)
+pub all_both : {X : Type 0} (P Q R : X → Type 0) (xs : List X) → ((x : X) → P x → Q x → R x)
     → AllByRecursion P xs → AllByRecursion Q xs → AllByRecursion R xs
 all_both P Q R [] f h k = tt
 all_both P Q R (x ∷ xs) f h k = (f x h.0 k.0, all_both P Q R xs f h.1 k.1)
 
 -- what is so of what a function gives of each item
-all_map : {X Y : Type 0} (f : X → Y) (P : Y → Type 0) (xs : List X) → AllByRecursion P (map f xs)
-    → AllByRecursion (λ x. P (f x)) xs
+pub all_map : {X Y : Type 0} (f : X → Y) (P : Y → Type 0) (xs : List X)
+    → AllByRecursion P (map f xs) → AllByRecursion (λ x. P (f x)) xs
 all_map f P [] h = tt
 all_map f P (x ∷ xs) h = (h.0, all_map f P xs h.1)
 
@@ -135,7 +135,7 @@ module _ {X : Type 0} (number : X → ℕ) where
       inserted (y ∷ ys) = grind (arith, nat_tests, inserted ys)
 
   -- lists whose numbers rise are one where what is so of each item of either is so of the other's
-  same_items : (xs ys : List X) → RisesBy number xs → RisesBy number ys
+  pub same_items : (xs ys : List X) → RisesBy number xs → RisesBy number ys
       → ((P : X → Type 0) → AllByRecursion P xs → AllByRecursion P ys)
       → ((P : X → Type 0) → AllByRecursion P ys → AllByRecursion P xs) → xs ≡ ys
   same_items [] [] h k f g = refl

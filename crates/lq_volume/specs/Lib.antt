@@ -11,3 +11,4 @@ pub mod Seen
 pub mod Result
 pub mod Book
 pub mod Laws
+pub mod Folder

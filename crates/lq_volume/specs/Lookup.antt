@@ -21,6 +21,17 @@ entry_refusals s node =
     ∷ (node == root, NoEntry)
     ∷ []
 
+-- the tests of a look-up of the entries in a folder
+abbrev pub children_refusals : State → ℕ → List (Bool × Refusal)
+children_refusals s dir =
+    (is_none (kind_at s dir), NoNode)
+    ∷ (is_file_at s dir, NotFolder)
+    ∷ []
+
+-- the test of a look-up of a node's path; the root has one
+abbrev pub path_refusals : State → ℕ → List (Bool × Refusal)
+path_refusals s node = (is_none (kind_at s node), NoNode) ∷ []
+
 -- the record that a listing shows
 abbrev pub listed : Listing → Record
 listed l = record {

@@ -8,6 +8,7 @@ ghost use Rattle.lq_volume.specs.Attributes.{is_reserved};
 ghost use Rattle.lq_volume.specs.Kind.{is_folder};
 ghost use Rattle.lq_volume.specs.State.{root, record_at, kind_at, is_folder_at, has_entries, reaches, IsVolume};
 ghost use Rattle.lq_volume.specs.Change.{create_refusals, refused, is_file_at, other_at};
+ghost use Rattle.lq_volume.specs.Lookup.{children_refusals};
 ghost use Rattle.lq_volume.specs.Plan.{IsPlanned};
 
 use crate::planned::{Touched, touched_at};
@@ -220,14 +221,11 @@ fn other_in<'a>(volume: &'a Volume, moved: u64, dir: u64, name: &Name) -> Option
     }
 }
 
-// Refuses a node that isn't there or isn't a folder.
-fn check_folder(volume: &Volume, dir: u64) -> Result<(), Refusal>
-    ensures ok { OnOk result (first_refusal
-        ((is_none (kind_at volume.now dir), NoNode)
-        ∷ (is_file_at volume.now dir, NotFolder) ∷ []) ≡ None) }
-    ensures err { IfErr result (λ e. first_refusal
-        ((is_none (kind_at volume.now dir), NoNode)
-        ∷ (is_file_at volume.now dir, NotFolder) ∷ []) ≡ Some e) }
+/// Refuses a node that isn't there or isn't a folder.
+pub fn check_folder(volume: &Volume, dir: u64) -> Result<(), Refusal>
+    ensures ok { OnOk result (first_refusal (children_refusals volume.now dir) ≡ None) }
+    ensures err { IfErr result (λ e.
+        first_refusal (children_refusals volume.now dir) ≡ Some e) }
     ensures folder { OnOk result (is_folder_at volume.now dir ≡ true) }
 {
     match volume.kind(dir) {

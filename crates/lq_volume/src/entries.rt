@@ -50,7 +50,8 @@ impl Model for Entries {
 }
 
 impl Entries {
-    ghost use Rattle.lq_volume.specs.State.{climbs, dir_of, node_in};
+    ghost use Rattle.lq_volume.specs.State.{climbs, dir_of, node_in, root, Rises};
+    ghost use Rattle.lq_volume.specs.Folder.{AreChildren, CanClimb, Leads};
     ghost use Rattle.lq_volume.specs.Change.{without, altered, at_place, written, set_attr, remove_attr};
     ghost use Rattle.lq_volume.specs.Places.{IsApart, CanMove};
     ghost use Rattle.lq_volume.specs.Result.{shown, entry_of};
@@ -95,6 +96,31 @@ impl Entries {
         ensures { result ≡ climbs (length self.now) (dir_of self.now) to from }
     {
         self.records.climbs(from, to)
+    }
+
+    /// The entries in a folder, by rising name. Refused: `NoMemory`.
+    pub fn children(&self, dir: u64) -> Result<Vec<Entry>, Refusal>
+        requires rise { Rises self.now }
+        requires apart { IsApart self.now }
+        ensures refused { IsRefusedBy result None }
+        ensures children { IfOk result (λ entries. AreChildren self.now dir entries.items) }
+    {
+        let mut nodes = self.places.nodes(dir)?;
+        // Rising nodes read the records in the order in which most of them lie.
+        nodes.sort_unstable();
+        nodes.dedup();
+        let mut entries = self.records.entries_in(self.alloc, dir, &nodes)?;
+        entries.sort_unstable_by(|a, b| a.name.cmp(&b.name));
+        Ok(entries)
+    }
+
+    /// The names that lead from the root down to a node. Refused: `NoMemory`.
+    pub fn path(&self, node: u64) -> Result<Vec<Name>, Refusal>
+        requires { CanClimb self.now node }
+        ensures refused { IsRefusedBy result None }
+        ensures path { IfOk result (λ path. Leads self.now root path.items node) }
+    {
+        self.records.path(self.alloc, node)
     }
 
     /// Adds a record under a node above all others, at a free place. Refused: `NoMemory`.

@@ -1,6 +1,8 @@
 //! The node at each place of a volume.
-ghost use Rattle.std.specs.Prelude.{◌≡◌, ℕ, List, ◌==◌, ◌||◌, not, length, false, OnOk, OnErr, IfOk, IsSome, None};
+ghost use Rattle.std.specs.Prelude.{◌≡◌, ℕ, List, ◌==◌, ◌||◌, ◌++◌, not, length, false, OnOk, OnErr, IfOk, IsSome, Some, None};
 ghost use Rattle.std.specs.BTreeMap.{get};
+ghost use Rattle.std.specs.List.{Contains};
+ghost use Rattle.std.specs.Map.{values_of};
 ghost use Rattle.std.specs.Ordering.{nat_cmp};
 ghost use Rattle.lq_value.specs.Refusal.{IsRefusedBy};
 
@@ -25,6 +27,22 @@ impl Names {
             || not (length self.now.others.entries == 0)) }
     {
         !self.first.is_empty() || !self.others.is_empty()
+    }
+
+    // The nodes, in no order that matters. Refused: `NoMemory`.
+    fn nodes(&self, alloc: Global) -> Result<Vec<u64>, Refusal>
+        ensures refused { IsRefusedBy result None }
+        ensures nodes { IfOk result (λ nodes. nodes.items
+            ≡ values_of self.now.first.entries ++ values_of self.now.others.entries) }
+    {
+        let mut nodes = Vec::new(alloc);
+        for node in self.first.values() {
+            nodes.push(*node)?;
+        }
+        for node in self.others.values() {
+            nodes.push(*node)?;
+        }
+        Ok(nodes)
     }
 }
 
@@ -80,6 +98,22 @@ impl Places {
         match self.folders.get(&dir) {
             None => false,
             Some(names) => names.has_any(),
+        }
+    }
+
+    /// All nodes under a hash or a name of a folder. A node may be there twice.
+    ///
+    /// Refused: `NoMemory`.
+    pub fn nodes(&self, dir: u64) -> Result<Vec<u64>, Refusal>
+        ensures refused { IsRefusedBy result None }
+        ensures first { IfOk result (λ nodes. (h x : ℕ)
+            → first_in self.now.folders dir h ≡ Some x → Contains nodes.items x) }
+        ensures others { IfOk result (λ nodes. (n : List ℕ) (x : ℕ)
+            → other_in self.now.folders dir n ≡ Some x → Contains nodes.items x) }
+    {
+        match self.folders.get(&dir) {
+            None => Ok(Vec::new(self.alloc)),
+            Some(names) => names.nodes(self.alloc),
         }
     }
 

@@ -1,6 +1,7 @@
 //! The records of a volume.
-ghost use Rattle.std.specs.Prelude.{◌≡◌, ◌==◌, ◌<◌, ◌^◌, [], ◌∷◌, ◌++◌, length, filter, map, nat_eq, not, None, IfErr, IfOk, OnErr, OnOk};
+ghost use Rattle.std.specs.Prelude.{◌≡◌, ◌==◌, ◌<◌, ◌^◌, [], ◌∷◌, ◌++◌, length, filter, map, nat_eq, not, reverse, None, IfErr, IfOk, OnErr, OnOk};
 ghost use Rattle.std.specs.List.{AllByRecursion, IsDistinct};
+ghost use Rattle.std.specs.List.Sorted.{IsStrictlyIncreasing};
 ghost use Rattle.std.specs.Map.{keys_of, lookup};
 ghost use Rattle.std.specs.Option.{option_copied};
 ghost use Rattle.lq_predicate.specs.Truth.{truth};
@@ -38,7 +39,8 @@ impl Model for Records {
 }
 
 impl Records {
-    ghost use Rattle.lq_volume.specs.State.{Rises, climbs, dir_of};
+    ghost use Rattle.lq_volume.specs.State.{Rises, climbs, dir_of, root};
+    ghost use Rattle.lq_volume.specs.Folder.{Leads, CanClimb, HasNodesIn, entries_in, entry_in, with_entry};
     ghost use Rattle.lq_volume.specs.Places.{is_named};
     ghost use Rattle.lq_volume.specs.Change.{without, altered, at_place, written, set_attr, remove_attr};
 
@@ -90,6 +92,78 @@ impl Records {
         ensures { result ≡ length self.now }
     {
         self.stored.len()
+    }
+
+    /// The names that lead from the root down to a node. Refused: `NoMemory`.
+    pub fn path(&self, alloc: Global, node: u64) -> Result<Vec<Name>, Refusal>
+        requires { CanClimb self.now node }
+        ensures refused { IsRefusedBy result None }
+        ensures path { IfOk result (λ path. Leads self.now root path.items node) }
+    {
+        let mut path = self.names_up(alloc, node)?;
+        path.reverse();
+        Ok(path)
+    }
+
+    // The names on the walk from a node up to the root, which has no record.
+    fn names_up(&self, alloc: Global, from: u64) -> Result<Vec<Name>, Refusal>
+        requires { CanClimb self.now from }
+        ensures refused { IsRefusedBy result None }
+        ensures names { IfOk result (λ names.
+            Leads self.now root (reverse names.items) from) }
+    {
+        let mut names = Vec::new(alloc);
+        let mut at = from;
+        for _ in 0..self.len() {
+            match self.get(at) {
+                None => return Ok(names),
+                Some(record) => {
+                    names.push(record.name().copy(alloc)?)?;
+                    at = record.dir();
+                }
+            }
+        }
+        Ok(names)
+    }
+
+    /// The entries in a folder by rising node, where its nodes rise and each of them is given.
+    ///
+    /// Refused: `NoMemory`.
+    pub fn entries_in(&self, alloc: Global, dir: u64, nodes: &[u64]) -> Result<Vec<Entry>, Refusal>
+        requires rise { Rises self.now }
+        requires nodes { IsStrictlyIncreasing nodes.now }
+        requires all { HasNodesIn self.now dir nodes.now }
+        ensures refused { IsRefusedBy result None }
+        ensures entries { IfOk result (λ entries. entries.items ≡ entries_in self.now dir) }
+    {
+        let mut entries = Vec::with_capacity(alloc, nodes.len())?;
+        for node in nodes {
+            self.push_entry_in(alloc, dir, *node, &mut entries)?;
+        }
+        Ok(entries)
+    }
+
+    // Pushes the entry of a node, if it is in the folder. Refused: `NoMemory`.
+    fn push_entry_in(
+        &self,
+        alloc: Global,
+        dir: u64,
+        node: u64,
+        entries: &mut Vec<Entry>,
+    ) -> Result<(), Refusal>
+        ensures refused { IsRefusedBy result None }
+        ensures ok { OnOk result (entries.new.items
+            ≡ with_entry entries.old.items (entry_in self.now dir node)) }
+    {
+        match self.get(node) {
+            None => Ok(()),
+            Some(record) => {
+                if record.dir() == dir {
+                    entries.push(record.seen(Difference::None).entry(alloc, node)?)?;
+                }
+                Ok(())
+            }
+        }
     }
 
     /// The records with their nodes, by rising node. Refused: `NoMemory`.

@@ -3,6 +3,7 @@ ghost use Rattle.std.specs.Option.{option_copied};
 ghost use Rattle.std.specs.Prelude.{◌≡◌, ◌≤◌, ◌+◌, Some, None, IfOk, IfErr, OnErr, OnOk};
 
 use crate::change::{Applied, Change};
+use crate::checks::check_folder;
 use crate::entries::Entries;
 use crate::entry_ref::{EntryRef, Listing};
 use crate::planned::Planned;
@@ -66,9 +67,10 @@ impl Model for Volume {
 
 impl Volume {
     ghost use Rattle.lq_value.specs.Refusal.{IsRefusedBy, first_refusal};
-    ghost use Rattle.lq_volume.specs.State.{empty_state, record_at, kind_at, has_entries, is_taken, node_in, reaches, IsVolume};
+    ghost use Rattle.lq_volume.specs.State.{empty_state, root, record_at, kind_at, has_entries, is_taken, node_in, reaches, IsVolume};
     ghost use Rattle.lq_volume.specs.Change.{refused, after, node_of, other_at, is_full, IsLawful};
-    ghost use Rattle.lq_volume.specs.Lookup.{find_refusals, entry_refusals, listed};
+    ghost use Rattle.lq_volume.specs.Lookup.{find_refusals, entry_refusals, children_refusals, path_refusals, listed};
+    ghost use Rattle.lq_volume.specs.Folder.{AreChildren, Leads};
     ghost use Rattle.lq_volume.specs.Result.{result_of};
 
     /// A volume with the root alone. It accepts at most `limit` changes, 1 to 1,000,000,000,000.
@@ -154,6 +156,35 @@ impl Volume {
     {
         let entry = self.entry(node)?;
         Ok(entry.listing(self.alloc)?)
+    }
+
+    /// The entries in a folder, also in the root, by rising name: a directory's listing.
+    ///
+    /// The time is that of sorting them, and doesn't depend on the entries in other folders.
+    /// Refused, the first that fits: `NoNode` where there is no node `dir`, `NotFolder` where `dir`
+    /// is a file, `NoMemory`.
+    pub fn children(&self, dir: u64) -> Result<Vec<Entry>, Refusal>
+        ensures refused { IsRefusedBy result (first_refusal (children_refusals self.now dir)) }
+        ensures children { IfOk result (λ entries.
+            AreChildren self.now.records dir entries.items) }
+    {
+        check_folder(self, dir)?;
+        Ok(self.entries.children(dir)?)
+    }
+
+    /// The path of a node: the names that lead from the root down to it. The root's is empty.
+    ///
+    /// Looked up one after another by `find`, the names lead to the node. The time is linear in
+    /// their number. Refused, the first that fits: `NoNode` where there is no such node,
+    /// `NoMemory`.
+    pub fn path(&self, node: u64) -> Result<Vec<Name>, Refusal>
+        ensures refused { IsRefusedBy result (first_refusal (path_refusals self.now node)) }
+        ensures path { IfOk result (λ names. Leads self.now.records root names.items node) }
+    {
+        match self.kind(node) {
+            None => Err(Refusal::NoNode),
+            Some(_) => Ok(self.entries.path(node)?),
+        }
     }
 
     /// What `apply` would answer. It takes no memory and changes nothing.
