@@ -322,13 +322,7 @@ fn if_matched<'s, 'a>(
 {
     match seen {
         None => None,
-        Some(seen) => {
-            if matches {
-                Some(seen)
-            } else {
-                None
-            }
-        }
+        Some(seen) => { if matches { Some(seen) } else { None } }
     }
 }
 

@@ -1,4 +1,4 @@
-use Rattle.std.proofs.Common.{◌≡◌, ◌+◌, [], ap, sym, ◌∙◌, true}
+use Rattle.std.proofs.Common.{◌≡◌, [], ap, sym, ◌∙◌, true}
 use Rattle.lq_predicate.specs.Names.{names_of}
 use Rattle.lq_predicate.specs.Span.{spans_of}
 use Rattle.lq_update.specs.Updates.{step_of}
@@ -25,3 +25,11 @@ returns-then-passes_over-clause-none c seq =
           ∙ ap (λ (x : Prepared). spans_of x.held.query) c.self.view_is in
           w.writes_beside.ensures h.query h.moved seq w.if-writes_beside.true spans
     ]
+
+pub returns-else-may_tell-clause-none : goal.returns-else-may_tell-clause-none
+returns-else-may_tell-clause-none c seq =
+    let h = c.args.self.now.held in
+    let s = c.args.planned.now.before in
+    let change = c.args.planned.now.change in
+    ap (λ (x : Prepared). step_of x.held.query h.moved s change seq) (sym c.self.view_is)
+    ∙ c.may_tell.ensures h.moved seq c.if-may_tell.false
