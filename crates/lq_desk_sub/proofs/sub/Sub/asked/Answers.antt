@@ -1,4 +1,4 @@
-use Rattle.std.proofs.Common.{◌≡◌, [], ap, sym, ◌∙◌, true}
+use Rattle.std.proofs.Common.{◌≡◌, ap, sym, ◌∙◌, true}
 use Rattle.lq_predicate.specs.Names.{names_of}
 use Rattle.lq_predicate.specs.Span.{spans_of}
 use Rattle.lq_update.specs.Updates.{step_of}
