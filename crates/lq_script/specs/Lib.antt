@@ -1,3 +1,4 @@
 pub mod Check
 pub mod Words
 pub mod CommandLine
+pub mod Outcome

@@ -1,13 +1,12 @@
 -- What a byte, an LF, a write and the end of an input do to a run.
 use Rattle.std.proofs.Common.{◌≡◌, ◌==◌, ℕ, zero, suc, ◌+◌, ◌≤◌, ◌<◌, ◌≢◌, ◌++◌, List, [], ◌∷◌, length, take, drop, get_or, true, false, None, Some, Option, refl, sym, ap, ◌∙◌, subst, arith, append_assoc, append-nil, length-append, take-append-drop}
-use Rattle.std.proofs.lemmas.Bool.Decides.{nat_tests}
-use Rattle.std.proofs.lemmas.List.{drop_more, nil_from_length}
+use Rattle.std.proofs.lemmas.List.{drop_more, take_more}
 use Rattle.std.proofs.KnownBytes.{Appends-trans}
 use Rattle.std.specs.Io.KnownBytes.{Appends, Keeps}
 use Rattle.lq_script_lines.specs.declared.intake.Intake.{Intake}
 use Rattle.lq_script_lines.specs.Lines.{IsUnbroken, Rules, ended_lines, line_of, lines_of, replies_to, reply_to, state_after}
 use Rattle.lq_script_lines.specs.Output.{IsWithin, output_of}
-use Rattle.lq_script_lines.specs.Progress.{Began, Fronts, IsKept, Meets, Stands, state_after_all}
+use Rattle.lq_script_lines.specs.Progress.{Began, Fronts, IsCut, IsKept, Meets, Stands, state_after_all}
 use Rattle.lq_script_lines.proofs.LineLemmas.{cut_ended, cut_line, cut_lines, cut_run, lines_one, output_cut, replies_append, replies_one, state_one}
 
 -- replies that wait are written
@@ -57,34 +56,46 @@ stands_run rules began given w state intake intake' out more s u keeps lines byt
       full = λ h. absurd (let no : ⊥ = omega (arith, lines, below_lines, h) in no);
     }
 
--- an LF came, and the line is answered
+-- more bytes and an LF came, and the line is answered
 pub stands_line : {State : Type 0} (rules : Rules State) (began : Began State) (given : List ℕ)
-    (w : Option (List ℕ)) (state state' : State) (intake intake' : Intake) (out out' : List ℕ)
-    (b : ℕ) → Stands rules began given w state intake out → (b == 10) ≡ true
+    (w : Option (List ℕ)) (state state' : State) (intake intake' : Intake)
+    (out out' run : List ℕ) (b : ℕ)
+    → Stands rules began given w state intake out → IsUnbroken run → (b == 10) ≡ true
     → ((bytes : List ℕ) → IsKept bytes intake.long intake.line.items
-    → out' ≡ out ++ reply_to rules state (line_of bytes))
+    → out' ≡ out ++ reply_to rules state (line_of (bytes ++ run)))
     → ((bytes : List ℕ) → IsKept bytes intake.long intake.line.items
-    → state' ≡ state_after rules state (line_of bytes))
+    → state' ≡ state_after rules state (line_of (bytes ++ run)))
     → intake'.long ≡ false → intake'.line.items ≡ [] → intake'.lines ≡ intake.lines + 1
-    → intake'.bytes ≡ intake.bytes + 1 → intake.lines < 10000000 → intake.bytes < 1073741824
-    → Stands rules began (given ++ b ∷ []) w state' intake' out'
-stands_line rules began given w state state' intake intake' out out' b s e replies after long line
-    lines bytes below_lines below_bytes = record {
-      lines = s.lines ++ s.bytes ∷ [];
+    → intake'.bytes ≡ intake.bytes + length run + 1 → intake.lines < 10000000
+    → intake.bytes + length run < 1073741824
+    → Stands rules began (given ++ (run ++ b ∷ [])) w state' intake' out'
+stands_line rules began given w state state' intake intake' out out' run b s u e replies after long
+    line lines bytes below_lines below_bytes =
+    let ended = s.bytes ++ run in
+    let ends : given ++ run ++ b ∷ [] ≡ given ++ (run ++ b ∷ []) =
+    append_assoc given run (b ∷ []) in record {
+      lines = s.lines ++ ended ∷ [];
       bytes = [];
       text = s.text;
-      cut = cut_line given s.lines s.bytes b s.cut e;
+      cut = subst (λ l. IsCut l (s.lines ++ ended ∷ []) []) ends
+          (cut_line (given ++ run) s.lines ended b (cut_run given s.lines s.bytes run s.cut u) e);
       kept = rw (long, line) (refl, omega arith);
-      answered = after s.bytes s.kept ∙ ap (λ x. state_after rules x (line_of s.bytes)) s.answered
-          ∙ sym (state_one rules began.state s.lines s.bytes);
+      answered = after s.bytes s.kept ∙ ap (λ x. state_after rules x (line_of ended)) s.answered
+          ∙ sym (state_one rules began.state s.lines ended);
       appended = s.appended;
       due = ap (λ l. s.text ++ l) (replies s.bytes s.kept) ∙ sym (append_assoc s.text out _)
-          ∙ ap (λ l. l ++ reply_to rules state (line_of s.bytes)) s.due ∙ ap
-          (λ x. replies_to rules began.state s.lines ++ reply_to rules x (line_of s.bytes))
+          ∙ ap (λ l. l ++ reply_to rules state (line_of ended)) s.due ∙ ap
+          (λ x. replies_to rules began.state s.lines ++ reply_to rules x (line_of ended))
           s.answered
-          ∙ sym (replies_one rules began.state s.lines s.bytes);
-      lines_counted = omega (arith, lines, s.lines_counted, length-append s.lines (s.bytes ∷ []));
-      bytes_counted = omega (arith, bytes, s.bytes_counted, length-append given (b ∷ []));
+          ∙ sym (replies_one rules began.state s.lines ended);
+      lines_counted = omega (arith, lines, s.lines_counted, length-append s.lines (ended ∷ []));
+      bytes_counted = omega (
+        arith,
+        bytes,
+        s.bytes_counted,
+        length-append given (run ++ b ∷ []),
+        length-append run (b ∷ []),
+      );
       lines_within = omega (arith, lines, below_lines);
       bytes_within = omega (arith, bytes, below_bytes);
       full = λ _. refl;
@@ -203,27 +214,6 @@ appends_kept (Some x) None c bs p q = absurd p
 appends_kept (Some x) (Some y) None bs p q = absurd q
 appends_kept (Some x) (Some y) (Some z) bs p q = q ∙ p
 
--- what has come of a piece, and its rest
-given_rest : (given xs : List ℕ) (i : ℕ) → given ++ take i xs ++ drop i xs ≡ given ++ xs
-given_rest given xs i =
-    append_assoc given (take i xs) (drop i xs) ∙ ap (λ l. given ++ l) (take-append-drop i xs)
-
--- what has come of a piece, its next byte, and the rest
-pub given_next : (given xs : List ℕ) (i b : ℕ) → i < length xs → get_or xs i 0 ≡ b
-    → given ++ take i xs ++ b ∷ drop (i + 1) xs ≡ given ++ xs
-given_next given xs i b h e =
-    ap (λ x. given ++ take i xs ++ x ∷ drop (i + 1) xs) (sym e)
-    ∙ ap (λ l. given ++ take i xs ++ l) (sym (drop_more xs i 0 h)) ∙ given_rest given xs i
-
--- a list whose length is 0
-pub no_bytes : (xs : List ℕ) → (length xs == 0) ≡ true → xs ≡ []
-no_bytes xs h = nil_from_length xs (grind (arith, nat_tests))
-
--- a list whose length isn't 0
-pub some_bytes : (xs : List ℕ) → (length xs == 0) ≡ false → 0 < length xs
-some_bytes [] h = cc
-some_bytes (x ∷ xs) h = omega arith
-
 -- a front of the empty list is empty
 take_none : (n : ℕ) → take {A = ℕ} n [] ≡ []
 take_none zero = refl
@@ -237,6 +227,35 @@ take_further (x ∷ xs) zero n = ap (λ k. take k (x ∷ xs)) (let e : n ≡ 0 +
 take_further (x ∷ xs) (suc i) n = ap (λ l. x ∷ l) (take_further xs i n)
     ∙ ap (λ k. take k (x ∷ xs)) (let e : suc (i + n) ≡ suc i + n = omega arith in e)
 
+-- what has come of a piece, and its rest
+given_rest : (given xs : List ℕ) (i : ℕ) → given ++ take i xs ++ drop i xs ≡ given ++ xs
+given_rest given xs i =
+    append_assoc given (take i xs) (drop i xs) ∙ ap (λ l. given ++ l) (take-append-drop i xs)
+
+-- what has come of a piece, its next byte, and the rest
+pub given_next : (given xs : List ℕ) (i b : ℕ) → i < length xs → get_or xs i 0 ≡ b
+    → given ++ take i xs ++ b ∷ drop (i + 1) xs ≡ given ++ xs
+given_next given xs i b h e =
+    ap (λ x. given ++ take i xs ++ x ∷ drop (i + 1) xs) (sym e)
+    ∙ ap (λ l. given ++ take i xs ++ l) (sym (drop_more xs i 0 h)) ∙ given_rest given xs i
+
+-- what has come of a piece and the run of bytes after it
+pub ahead : (given xs run : List ℕ) (i : ℕ) → run ≡ take (length run) (drop i xs)
+    → given ++ take i xs ++ run ≡ given ++ take (i + length run) xs
+ahead given xs run i is =
+    append_assoc given (take i xs) run ∙ ap (λ l. given ++ (take i xs ++ l)) is
+    ∙ ap (λ l. given ++ l) (take_further xs i (length run))
+
+-- what has come of a piece, a run of bytes, the byte after it, and the rest
+given_line : (given xs run : List ℕ) (i b : ℕ) → run ≡ take (length run) (drop i xs)
+    → i + length run < length xs → get_or xs (i + length run) 0 ≡ b
+    → given ++ take i xs ++ (run ++ b ∷ drop (i + length run + 1) xs) ≡ given ++ xs
+given_line given xs run i b is h e =
+    let n = length run in
+    sym (append_assoc (given ++ take i xs) run (b ∷ drop (i + n + 1) xs))
+    ∙ ap (λ l. l ++ b ∷ drop (i + n + 1) xs) (ahead given xs run i is)
+    ∙ given_next given xs (i + n) b h e
+
 -- a run over a piece, some bytes further
 pub stands_ahead : {State : Type 0} (rules : Rules State) (began : Began State) (given xs : List ℕ)
     (i n : ℕ) (w : Option (List ℕ)) (state : State) (intake : Intake) (out : List ℕ)
@@ -245,6 +264,27 @@ pub stands_ahead : {State : Type 0} (rules : Rules State) (began : Began State) 
 stands_ahead rules began given xs i n w state intake out s =
     subst (λ l. Stands rules began l w state intake out) (append_assoc given (take i xs)
     (take n (drop i xs)) ∙ ap (λ l. given ++ l) (take_further xs i n)) s
+
+-- the next byte of a piece is one more that has come
+take_next : (xs : List ℕ) (i b : ℕ) → i < length xs → get_or xs i 0 ≡ b
+    → take i xs ++ b ∷ [] ≡ take (i + 1) xs
+take_next xs i b h e =
+    ap (λ x. take i xs ++ x ∷ []) (sym e) ∙ sym (take_more xs i 0 h)
+
+-- a run over a piece, a line further
+pub stands_after : {State : Type 0} (rules : Rules State) (began : Began State)
+    (given xs run : List ℕ) (i b : ℕ) (w : Option (List ℕ)) (state : State) (intake : Intake)
+    (out : List ℕ) → run ≡ take (length run) (drop i xs)
+    → i + length run < length xs → get_or xs (i + length run) 0 ≡ b
+    → Stands rules began (given ++ take i xs ++ (run ++ b ∷ [])) w state intake out
+    → Stands rules began (given ++ take (i + length run + 1) xs) w state intake out
+stands_after rules began given xs run i b w state intake out is h e s =
+    let n = length run in
+    subst (λ l. Stands rules began l w state intake out)
+    (sym (append_assoc (given ++ take i xs) run (b ∷ []))
+    ∙ ap (λ l. l ++ b ∷ []) (ahead given xs run i is)
+    ∙ append_assoc given (take (i + n) xs) (b ∷ [])
+    ∙ ap (λ l. given ++ l) (take_next xs (i + n) b h e)) s
 
 -- what stands at a place of a piece is a front of the output up to its end
 pub stopped_at : {State : Type 0} (rules : Rules State) (began : Began State) (given xs : List ℕ)
@@ -255,13 +295,15 @@ stopped_at rules began given xs i w state intake out s =
     subst (λ l. Fronts rules began l w out) (given_rest given xs i)
     (stands_fronts rules began (given ++ take i xs) w state intake out (drop i xs) s)
 
--- and so is what a write fault left at the next byte
-pub stopped_in : {State : Type 0} (rules : Rules State) (began : Began State) (given xs : List ℕ)
-    (i b : ℕ) (w : Option (List ℕ)) (out : List ℕ) → i < length xs → get_or xs i 0 ≡ b
-    → Fronts rules began (given ++ take i xs ++ b ∷ drop (i + 1) xs) w out
+-- and so is what a write fault left after the next bytes and the one after them
+pub stopped_in : {State : Type 0} (rules : Rules State) (began : Began State)
+    (given xs run : List ℕ) (i b : ℕ) (w : Option (List ℕ)) (out : List ℕ)
+    → run ≡ take (length run) (drop i xs)
+    → i + length run < length xs → get_or xs (i + length run) 0 ≡ b
+    → Fronts rules began (given ++ take i xs ++ (run ++ b ∷ drop (i + length run + 1) xs)) w out
     → Fronts rules began (given ++ xs) w out
-stopped_in rules began given xs i b w out h e f =
-    subst (λ l. Fronts rules began l w out) (given_next given xs i b h e) f
+stopped_in rules began given xs run i b w out is h e f =
+    subst (λ l. Fronts rules began l w out) (given_line given xs run i b is h e) f
 
 -- and what stands at the end of an input
 pub stands_stops : {State : Type 0} (rules : Rules State) (began : Began State) (given : List ℕ)

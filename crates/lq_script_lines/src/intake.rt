@@ -78,6 +78,39 @@ impl Intake {
         Ok(())
     }
 
+    /// Appends the reply to the line in progress to `out`, after these last bytes of it.
+    ///
+    /// A line of which nothing came before is answered where it stands, without a copy. Refused:
+    /// `Memory`; `out` is then unchanged.
+    pub(crate) fn answer_with<S: Responder>(
+        &mut self,
+        bytes: &[u8],
+        responder: &mut S,
+        out: &mut Vec<u8>,
+    ) -> Result<(), RunFault>
+        requires { self.old.bytes + length bytes.now ≤ MAX_BYTES }
+        ensures ok { OnOk result ((before : List ℕ)
+            → IsKept before self.old.long self.old.line.items
+            → out.new.items ≡ out.old.items
+            ++ reply_to S.rules (S.state responder.old) (line_of (before ++ bytes.now))) }
+        ensures after { OnOk result ((before : List ℕ)
+            → IsKept before self.old.long self.old.line.items
+            → S.state responder.new
+            ≡ state_after S.rules (S.state responder.old) (line_of (before ++ bytes.now))) }
+        ensures err { OnErr result (out.new.items ≡ out.old.items) }
+        ensures memory { IfErr result (λ e. e ≡ RunFault.Memory) }
+        ensures lines { self.new.lines ≡ self.old.lines }
+        ensures bytes { OnOk result (self.new.bytes ≡ self.old.bytes + length bytes.now) }
+    {
+        if self.long || !self.line.is_empty() || bytes.len() > MAX_LINE {
+            self.keep(bytes)?;
+            return self.answer(responder, out);
+        }
+        answer_whole(bytes, responder, out)?;
+        self.bytes += bytes.len() as u64;
+        Ok(())
+    }
+
     /// Adds bytes without LF to the line in progress.
     pub fn keep(&mut self, bytes: &[u8]) -> Result<(), RunFault>
         requires { self.old.bytes + length bytes.now ≤ MAX_BYTES }
@@ -99,6 +132,29 @@ impl Intake {
         self.bytes += bytes.len() as u64;
         Ok(())
     }
+}
+
+/// Appends the reply to a line that isn't too long to `out`.
+fn answer_whole<S: Responder>(
+    line: &[u8],
+    responder: &mut S,
+    out: &mut Vec<u8>,
+) -> Result<(), RunFault>
+    requires { length line.now ≤ MAX_LINE }
+    ensures ok { OnOk result (out.new.items ≡ out.old.items
+        ++ reply_to S.rules (S.state responder.old) (line_of line.now)) }
+    ensures after { OnOk result
+        (S.state responder.new ≡ state_after S.rules (S.state responder.old) (line_of line.now)) }
+    ensures err { OnErr result (out.new.items ≡ out.old.items) }
+    ensures memory { IfErr result (λ e. e ≡ RunFault.Memory) }
+    ensures empty { line.now ≡ [] → IsOk result }
+{
+    let before = out.len();
+    if answer_given(cut_cr(line), responder, out).is_err() {
+        out.truncate(before);
+        return Err(RunFault::Memory);
+    }
+    Ok(())
 }
 
 /// The line without a single CR at its end.

@@ -17,29 +17,31 @@ const GATHERED: usize = 65536;
 
 const LF: u8 = 10;
 
-/// Answers the line that LF ended, and writes the replies if many wait.
+/// Answers the line that these bytes and an LF end, and writes the replies if many wait.
 fn end_line<S: Responder, W: Sink>(
     intake: &mut Intake,
+    run: &[u8],
     responder: &mut S,
     out: &mut Vec<u8>,
     writer: &mut W,
 ) -> Result<(), RunFault>
     requires lines { intake.old.lines < MAX_LINES }
-    requires bytes { intake.old.bytes < MAX_BYTES }
-    ensures ok { OnOk result (Goes S.rules (LF ∷ [])
+    requires bytes { intake.old.bytes + length run.now < MAX_BYTES }
+    requires unbroken { IsUnbroken run.now }
+    ensures ok { OnOk result (Goes S.rules (run.now ++ LF ∷ [])
         (W.written writer.old) (S.state responder.old) intake.old out.old.items
         (W.written writer.new) (S.state responder.new) intake.new out.new.items) }
-    ensures bytes { OnOk result (intake.new.bytes ≡ intake.old.bytes + 1) }
+    ensures bytes { OnOk result (intake.new.bytes ≡ intake.old.bytes + length run.now + 1) }
     ensures works { OnOk result ((W.failed writer.new ≡ W.failed writer.old)
         × (W.stalled writer.new ≡ W.stalled writer.old)) }
-    ensures err { OnErr result ((rest : List ℕ) → Leaves S.rules (LF ∷ rest)
+    ensures err { OnErr result ((rest : List ℕ) → Leaves S.rules (run.now ++ LF ∷ rest)
         (W.written writer.old) (S.state responder.old) intake.old out.old.items
         (W.written writer.new) out.new.items) }
     ensures fault { IfErr result (λ e. (e ≡ RunFault.Write) ⊎ (e ≡ RunFault.Memory)) }
     ensures cause { IsErrOf result RunFault.Write →
         (W.failed writer.new ≡ true) ⊎ (W.stalled writer.new ≡ true) }
 {
-    intake.answer(responder, out)?;
+    intake.answer_with(run, responder, out)?;
     intake.line.clear();
     intake.long = false;
     intake.lines += 1;
@@ -80,13 +82,14 @@ pub fn take_piece<S: Responder, W: Sink>(
         if intake.lines >= MAX_LINES || intake.bytes >= MAX_BYTES {
             return Err(RunFault::Limit);
         }
-        let run = run_at(piece, at, (MAX_BYTES - intake.bytes) as usize);
-        if run.is_empty() {
-            end_line(intake, responder, out, writer)?;
+        let most = (MAX_BYTES - intake.bytes) as usize;
+        let run = run_at(piece, at, most);
+        at += run.len();
+        if at < piece.len() && run.len() < most {
+            end_line(intake, run, responder, out, writer)?;
             at += 1;
         } else {
             intake.keep(run)?;
-            at += run.len();
         }
     }
     Ok(())
@@ -100,7 +103,8 @@ fn run_at(piece: &[u8], at: usize, most: usize) -> &[u8]
     ensures bound { at + length result.now ≤ length piece.now }
     ensures most { length result.now ≤ most }
     ensures unbroken { IsUnbroken result.now }
-    ensures stops { result.now ≡ [] → slice_index piece.now at ≡ 10 }
+    ensures stops { at + length result.now < length piece.now → length result.now < most
+        → slice_index piece.now (at + length result.now) ≡ 10 }
 {
     let (_, rest) = piece.split_at(at);
     let count = memchr(LF, rest).unwrap_or(rest.len());

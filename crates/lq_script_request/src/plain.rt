@@ -7,6 +7,12 @@ const FRONT: &str = "{\"do\":\"read\",\"slot\":";
 
 const CLOSING: u8 = b'}';
 
+/// The fewest bytes of such a line, with a slot of one digit.
+const FEWEST: usize = 22;
+
+/// The most bytes, with a slot of two.
+const MOST: usize = 23;
+
 /// The slot of a line that asks for a read and is written exactly as `{"do":"read","slot":7}`:
 /// without spaces, and with a slot of 1 to 99 in one or two digits. `None` for any other line, even
 /// one that asks the same in another way.
@@ -17,6 +23,9 @@ pub fn plain_read(line: &[u8]) -> Option<u64>
     ensures line { IfSome result (λ slot. line.now ≡ read_line slot) }
     ensures small { IfSome result (λ slot. slot < 100) }
 {
+    if line.len() < FEWEST || line.len() > MOST {
+        return None;
+    }
     let rest = line.strip_prefix(FRONT.as_bytes())?;
     if rest.len() == 2 && rest[1] == CLOSING {
         return Some(leading_digit(rest[0])?);

@@ -12,3 +12,4 @@ pub mod Result
 pub mod Book
 pub mod Laws
 pub mod Folder
+pub mod NodeHash

@@ -13,6 +13,7 @@ mod checks;
 mod entries;
 mod entry_ref;
 mod laws;
+mod node_hash;
 mod places;
 mod planned;
 mod records;

@@ -9,6 +9,7 @@ ghost use Rattle.lq_value.specs.Refusal.{IsRefusedBy};
 ghost use Rattle.lq_volume.specs.Order.{shown_pair};
 ghost use Rattle.lq_volume.specs.Result.{shown, entry_of};
 
+use crate::node_hash::NodeHashes;
 use crate::seen::Difference;
 use crate::stored::Stored;
 use indexmap::IndexMap;
@@ -23,7 +24,7 @@ use std::marker::Model;
 /// except when the map grows. Contracts see a list by rising node.
 #[derive(Debug, Drop)]
 pub struct Records {
-    stored: IndexMap<u64, Stored>,
+    stored: IndexMap<u64, Stored, NodeHashes>,
 }
 
 impl Model for Records {
@@ -49,7 +50,7 @@ impl Records {
         ensures { result ≡ [] }
     {
         Records {
-            stored: IndexMap::new(alloc),
+            stored: IndexMap::with_hasher(alloc, NodeHashes::new()),
         }
     }
 
@@ -262,7 +263,10 @@ impl Records {
 }
 
 // The nodes and records of a map, in its order. Refused: `NoMemory`.
-fn pairs_of(stored: &IndexMap<u64, Stored>, alloc: Global) -> Result<Vec<(u64, &Stored)>, Refusal>
+fn pairs_of(
+    stored: &IndexMap<u64, Stored, NodeHashes>,
+    alloc: Global,
+) -> Result<Vec<(u64, &Stored)>, Refusal>
     ensures refused { IsRefusedBy result None }
     ensures pairs { IfOk result (λ pairs. map shown_pair pairs.items ≡ stored.now.entries) }
     ensures own { IsDistinct nat_eq (keys_of stored.now.entries) }
@@ -276,7 +280,7 @@ fn pairs_of(stored: &IndexMap<u64, Stored>, alloc: Global) -> Result<Vec<(u64, &
 
 // The entries of a map that match the predicate, in its order. Refused: `NoMemory`.
 fn finds_in(
-    stored: &IndexMap<u64, Stored>,
+    stored: &IndexMap<u64, Stored, NodeHashes>,
     alloc: Global,
     predicate: &Predicate,
 ) -> Result<Vec<Entry>, Refusal>

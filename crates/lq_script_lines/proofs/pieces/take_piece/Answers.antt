@@ -1,29 +1,11 @@
-use Rattle.std.proofs.Common.{◌≡◌, ◌∙◌, ◌<◌, ◌+◌, ◌++◌, ◌∷◌, [], ℕ, List, Option, Err, length, get_or, append-nil, arith, rules, take, drop, drop-cons, refl, sym, subst, inl, inr}
+use Rattle.std.proofs.Common.{◌≡◌, ◌∙◌, ◌+◌, Err, length, append-nil, arith, rules, drop, refl, sym, inl, inr}
 use Rattle.std.proofs.lemmas.List.{take_all}
-use Rattle.lq_script_lines.specs.declared.intake.Intake.{Intake}
 use Rattle.lq_script_lines.specs.declared.run_fault.RunFault.TheVariants.{Limit, Memory, Read, Thread, Write}
-use Rattle.lq_script_lines.specs.Lines.{Rules}
-use Rattle.lq_script_lines.specs.Progress.{Began, Stands}
 use Rattle.lq_script_lines.proofs.ResultLemmas.{neither, no_ok, no_other, on_err_any}
-use Rattle.lq_script_lines.proofs.ProgressLemmas.{no_bytes, some_bytes, stands_ahead, stands_run, stopped_at, stopped_in}
+use Rattle.lq_script_lines.proofs.ProgressLemmas.{stands_after, stands_ahead, stands_run, stopped_at, stopped_in}
 use Rattle.lq_script_lines.proofs.pieces.take_piece.Goals as goal
+use Rattle.lq_script_lines.proofs.pieces.take_piece.Goals.{else-at-piece-via-else-at-piece, else-at-piece-via-then-at-piece+else-run-most}
 use Rattle.lq_script_lines.proofs.pieces.take_piece.Goals.{then-intake-ge-MAX_LINES-via-then-intake-ge-MAX_LINES, then-intake-ge-MAX_LINES-via-else-intake-ge-MAX_LINES+then-intake-ge-MAX_BYTES}
-
--- the byte at a place is the next one
-next_byte : (xs : List ℕ) (i b : ℕ) → i < length xs → get_or xs i 0 ≡ b
-    → b ∷ [] ≡ take 1 (drop i xs)
-next_byte xs i b h e = rw (drop-cons xs i 0 h, e) refl
-
--- a run over a piece, one byte further
-stands_next : {State : Type 0} (rules : Rules State) (began : Began State) (given xs : List ℕ)
-    (i b : ℕ) (w : Option (List ℕ)) (state : State) (intake : Intake) (out : List ℕ)
-    → i < length xs → get_or xs i 0 ≡ b
-    → Stands rules began (given ++ take i xs ++ b ∷ []) w state intake out
-    → Stands rules began (given ++ take (i + 1) xs) w state intake out
-stands_next rules began given xs i b w state intake out h e s =
-    stands_ahead rules began given xs i 1 w state intake out
-    (subst (λ l. Stands rules began (given ++ take i xs ++ l) w state intake out)
-    (next_byte xs i b h e) s)
 
 pub returns-then-intake-ge-MAX_LINES-clause-err : goal.returns-then-intake-ge-MAX_LINES-clause-err
 returns-then-intake-ge-MAX_LINES-clause-err g c = λ began given s.
@@ -76,11 +58,11 @@ returns-in_err-end_line g c =
       bytes = no_ok _ c.from_residual.result _ is;
       works = no_ok _ c.from_residual.result _ is;
       err = on_err_any c.from_residual.result (λ began given s.
-          stopped_in g.S.Responder.rules began given c.args.piece.now c.loop-at.at
-          10 _ _ c.loop-at-test.true
-          (c.run_at-run.ensures.stops
-          (no_bytes c.run_at-run.result.now (sym c.if-is_empty.ensures)))
-          (c.in_err-end_line.ensures.err (drop (c.loop-at.at + 1) c.args.piece.now) began _
+          stopped_in g.S.Responder.rules began given c.args.piece.now c.run_at-run.result.now
+          c.loop-at.at 10 _ _ c.run_at-run.ensures.run c.if-at-piece.true
+          (c.run_at-run.ensures.stops c.if-at-piece.true c.if-run-most.true)
+          (c.in_err-end_line.ensures.err
+          (drop (c.loop-at.at + length c.run_at-run.result.now + 1) c.args.piece.now) began _
           (c.loop-at.invariant.stands began given s)));
       limit = λ h.
           elim (neither (Err c.in_err-end_line.field-0.0) Limit two refl refl (sym is ∙ h)) [ ];
@@ -91,11 +73,22 @@ returns-in_err-end_line g c =
 
 pub loop-at-smaller : goal.loop-at-smaller
 loop-at-smaller g c =
-    let some = some_bytes c.run_at-run.result.now (sym c.if-is_empty.ensures) in
-    omega (arith, some, c.run_at-run.ensures.bound)
+    let run = c.run_at-run.ensures in
+    elim c.else-at-piece.branch [
+      | else-at-piece-via-else-at-piece w ↦
+          omega (arith, c.loop-at-test.true, run.bound, w.if-at-piece.false)
+      | else-at-piece-via-then-at-piece+else-run-most w ↦
+          omega (
+            arith,
+            c.loop-at-test.true,
+            run.bound,
+            w.if-run-most.false,
+            c.if-intake-ge-MAX_BYTES.false,
+          )
+    ]
 
-pub loop-at-smaller-then-is_empty : goal.loop-at-smaller-then-is_empty
-loop-at-smaller-then-is_empty g c = omega (arith, c.loop-at-test.true)
+pub loop-at-smaller-then-run-most : goal.loop-at-smaller-then-run-most
+loop-at-smaller-then-run-most g c = omega (arith, c.loop-at-test.true, c.if-at-piece.true)
 
 pub returns-clause-ok : goal.returns-clause-ok
 returns-clause-ok g c = λ began given s.
@@ -118,13 +111,13 @@ loop-at-preserved g c = record {
   bytes = omega (arith, c.in_ok-keep.ensures.bytes, c.loop-at.invariant.bytes);
 }
 
-pub loop-at-preserved-then-is_empty : goal.loop-at-preserved-then-is_empty
-loop-at-preserved-then-is_empty g c = record {
-  within = omega (arith, c.loop-at-test.true);
+pub loop-at-preserved-then-run-most : goal.loop-at-preserved-then-run-most
+loop-at-preserved-then-run-most g c = record {
+  within = omega (arith, c.if-at-piece.true);
   stands = λ began given s.
-      stands_next g.S.Responder.rules began given c.args.piece.now c.loop-at.at 10 _ _ _ _
-      c.loop-at-test.true
-      (c.run_at-run.ensures.stops (no_bytes c.run_at-run.result.now (sym c.if-is_empty.ensures)))
+      stands_after g.S.Responder.rules began given c.args.piece.now c.run_at-run.result.now
+      c.loop-at.at 10 _ _ _ _ c.run_at-run.ensures.run c.if-at-piece.true
+      (c.run_at-run.ensures.stops c.if-at-piece.true c.if-run-most.true)
       (c.in_ok-end_line.ensures.ok began _ (c.loop-at.invariant.stands began given s));
   works = (
     c.in_ok-end_line.ensures.works.0 ∙ c.loop-at.invariant.works.0,

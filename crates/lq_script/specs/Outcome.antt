@@ -1,0 +1,80 @@
+-- What the program does with its three streams, for what its arguments ask.
+use Rattle.std.specs.Prelude.{◌≡◌, ◌⊎◌, ◌≤◌, ℕ, List, Option, Bool, true, Err}
+use Rattle.lq_predicate_formula.specs.Reading.{reading_of}
+use Rattle.lq_script_lines.specs.Output.{Answered, Stopped}
+use Rattle.lq_script_lines.specs.declared.run_fault.RunFault.{RunFault}
+use Rattle.lq_script_desk.specs.Script.{script_session, world_rules}
+use Rattle.lq_script.specs.Words.{IsCheckOf, IsFaultOf, IsOther, IsRun, IsThreads, IsUsage}
+use Rattle.lq_script.specs.Words.{Prints, PrintsFront, Tells}
+use Rattle.lq_script.specs.Words.{fault_line, refusal_line, usage_line}
+
+-- the three streams before and after, and what they say of their bytes
+pub record Transcript (R W F : Type 0) : Type 0 where
+  pub reader : R
+  pub reader' : R
+  pub left : Option (List ℕ)
+  pub left' : Option (List ℕ)
+  pub reader_failed : Bool
+  pub writer : W
+  pub writer' : W
+  pub written : Option (List ℕ)
+  pub written' : Option (List ℕ)
+  pub writer_failed : Bool
+  pub writer_stalled : Bool
+  pub flushed : Bool
+  pub faults : F
+  pub faults' : F
+  pub told : Option (List ℕ)
+  pub told' : Option (List ℕ)
+  pub faults_failed : Bool
+  pub faults_stalled : Bool
+
+-- a line went to standard error
+abbrev pub TellsLine : {R W F : Type 0} → Transcript R W F → List ℕ → Type 0
+TellsLine t line = Tells line t.told t.told' t.faults_failed t.faults_stalled
+
+-- a fault went there, and the streams are as this fault says
+pub record TellsFault {R W F : Type 0} (t : Transcript R W F) : Type 0 where
+  pub fault : RunFault
+  pub line : TellsLine t (fault_line fault)
+  pub is : IsFaultOf fault t.left t.left' t.reader_failed
+      t.written t.written' t.writer_failed t.writer_stalled
+
+-- the formula's leftmost fault went there
+pub record TellsRefusal {R W F : Type 0} (t : Transcript R W F) (formula : List ℕ) : Type 0 where
+  pub place : ℕ
+  pub is : reading_of formula ≡ Err place
+  pub line : TellsLine t (refusal_line place)
+
+-- Of `run`: status 0 where the whole script was carried out, or 1, with a prefix of its output.
+pub record HasRun {R W F : Type 0} (status : ℕ) (t : Transcript R W F) : Type 0 where
+  pub done : status ≡ 0 →
+      Answered world_rules script_session t.left t.left' t.written t.written'
+  pub stopped : status ≡ 1 →
+      Stopped world_rules script_session t.left t.left' t.written t.written'
+  pub never_refused : status ≤ 1
+
+-- Of `check`: status 0 where the formula was printed, 1 with a prefix of that, or nothing, and 2
+-- where the formula is refused.
+pub record HasChecked {R W F : Type 0} (formula : List ℕ) (status : ℕ)
+    (t : Transcript R W F) : Type 0 where
+  pub done : status ≡ 0 → Prints formula t.written t.written'
+  pub stopped : status ≡ 1 → (t.writer' ≡ t.writer) ⊎ PrintsFront formula t.written t.written'
+  pub refused : status ≡ 2 → TellsRefusal t formula
+
+-- What each status says, by the arguments. `threads` carries out a script too, and no more is said
+-- of its output. Status 0 says nothing on standard error, 1 says a fault there, and 2 writes
+-- nothing. Only a script is read, and other arguments never succeed.
+pub record IsOutcome {R W F : Type 0} (words : List (List ℕ)) (status : ℕ)
+    (t : Transcript R W F) : Type 0 where
+  pub at_most : status ≤ 2
+  pub run : IsRun words → HasRun status t
+  pub threads : IsThreads words → status ≤ 1
+  pub check : (formula : List ℕ) → IsCheckOf words formula → HasChecked formula status t
+  pub usage : IsUsage words → status ≡ 2 → TellsLine t usage_line
+  pub other : IsOther words → (1 ≤ status) × (t.writer' ≡ t.writer)
+  pub quiet : status ≡ 0 → t.faults' ≡ t.faults
+  pub flushed : ¬ IsThreads words → status ≡ 0 → t.flushed ≡ true
+  pub fault : ¬ IsThreads words → status ≡ 1 → TellsFault t
+  pub writes_nothing : status ≡ 2 → t.writer' ≡ t.writer
+  pub reads_nothing : ¬ IsRun words → ¬ IsThreads words → t.reader' ≡ t.reader

@@ -1,0 +1,27 @@
+//! Changes by plain values.
+ghost use Rattle.std.specs.Prelude.{IfOk};
+ghost use Rattle.lq_volume.specs.Change.{IsLawful};
+
+use lq_value::{Kind, Name, Refusal};
+use lq_volume::{Change, Volume};
+use std::alloc::Global;
+
+/// A file of size 7 and time 5 comes into the root.
+pub fn create(alloc: Global, name: &str) -> Result<Change, Refusal> {
+    Ok(Change::Create {
+        dir: 1,
+        name: Name::read(alloc, name)?,
+        kind: Kind::File,
+        size: 7,
+        time: 5,
+    })
+}
+
+/// The same, of a file that the volume takes.
+pub fn lawful(alloc: Global, volume: &Volume, name: &str) -> Result<Change, Refusal>
+    ensures { IfOk result (λ change. IsLawful volume.now change) }
+{
+    let change = create(alloc, name)?;
+    volume.check(&change)?;
+    Ok(change)
+}

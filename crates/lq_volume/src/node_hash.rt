@@ -1,0 +1,65 @@
+//! The hash of a node, by which the map of records finds it.
+ghost use Rattle.std.specs.Prelude.{◌≡◌, ℕ, List};
+ghost use Rattle.lq_volume.specs.NodeHash.{hashed, node_hash, number_of};
+
+use std::hash::{BuildHasherDefault, Hasher};
+
+/// An odd number, 2^64 over the golden ratio: its multiples spread over all numbers.
+const FACTOR: u64 = 0x9e37_79b9_7f4a_7c15;
+
+/// Tells apart the hashes of four nodes in a row, by their two highest bits.
+const APART: u64 = 1 << 62;
+
+/// The hasher of nodes.
+///
+/// The nodes 4 k to 4 k + 3 have hashes that differ in the two highest bits alone. So a map has
+/// them in one place, as long as there is room, and a new entry mostly comes where the last one
+/// did.
+#[derive(Clone, Copy)]
+pub struct NodeHasher {
+    hash: u64,
+}
+
+/// What a map makes its hashers of nodes by.
+pub type NodeHashes = BuildHasherDefault<NodeHasher>;
+
+impl Default for NodeHasher {
+    ghost is_default = { λ hasher. hasher.hash ≡ 0 };
+
+    fn default() -> NodeHasher {
+        NodeHasher { hash: 0 }
+    }
+}
+
+impl Hasher for NodeHasher {
+    ghost write = { hashed };
+
+    ghost finish = { λ hasher. hasher.hash };
+
+    fn finish(&self) -> u64 {
+        self.hash
+    }
+
+    fn write(&mut self, bytes: &[u8]) {
+        self.hash = hash_of(number_of(bytes));
+    }
+}
+
+// The hash of a node.
+fn hash_of(node: u64) -> u64
+    ensures { result ≡ node_hash node }
+{
+    (node / 4).wrapping_mul(FACTOR) ^ (node % 4 * APART)
+}
+
+// The number whose eight bytes these are, the lowest first.
+fn number_of(bytes: &[u8]) -> u64
+    ensures { result ≡ number_of bytes.now }
+{
+    if bytes.len() != 8 {
+        return 0;
+    }
+    u64::from_le_bytes([
+        bytes[0], bytes[1], bytes[2], bytes[3], bytes[4], bytes[5], bytes[6], bytes[7],
+    ])
+}
