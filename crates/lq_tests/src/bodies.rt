@@ -4,7 +4,7 @@ ghost use Rattle.lq_volume.specs.Change.{IsLawful};
 use crate::act::{Act, Draws};
 use crate::plain;
 use lq_predicate::{Predicate, read};
-use lq_update::{Message, Opcode, matches_of, may_tell, only_message, step, step_planned};
+use lq_update::{Message, Opcode, matches_of, may_tell, step, step_planned};
 use lq_volume::{Change, Planned, Volume};
 use std::alloc::Global;
 use std::test::Fail;
@@ -71,20 +71,10 @@ fn are_same(one: &[Message], other: &[Message]) -> bool {
     one.len() == other.len() && one.iter().zip(other).all(|(a, b)| is_same(a, b))
 }
 
-/// Whether what is known before the messages are made is right: `may_tell` says no just where there
-/// is none and nothing is clobbered, and `only_message` gives the only one, unless it is moved.
-fn is_foreseen(
-    alloc: Global,
-    predicate: &Predicate,
-    planned: &Planned<'_>,
-    plain: &[Message],
-) -> Result<bool, Fail> {
-    let matches = matches_of(predicate, planned);
+/// Whether `may_tell` says no just where there is no message and nothing is clobbered.
+fn is_foreseen(predicate: &Predicate, planned: &Planned<'_>, plain: &[Message]) -> bool {
     let is_quiet = plain.is_empty() && planned.clobbered().is_none();
-    if may_tell(predicate, planned, matches) == is_quiet {
-        return Ok(false);
-    }
-    Ok(true)
+    may_tell(predicate, planned, matches_of(predicate, planned)) != is_quiet
 }
 
 /// How many messages a change tells a predicate, by both bodies the same.
@@ -100,7 +90,7 @@ fn compare(
     let planned = volume.plan(change)?;
     let fast = step_planned(alloc, predicate, &planned, 7, moved)?;
     let plain = plain::step(alloc, predicate, volume, change, 7, moved)?;
-    if !are_same(&fast, &plain) || !is_foreseen(alloc, predicate, &planned, &plain)? {
+    if !are_same(&fast, &plain) || !is_foreseen(predicate, &planned, &plain) {
         return Err(Fail::from("the bodies differ"));
     }
     Ok(step(alloc, predicate, volume, change, 7, moved)?.len() as u64)
