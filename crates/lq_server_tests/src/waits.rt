@@ -12,20 +12,25 @@ use lq_volume::Change;
 use std::alloc::Global;
 use std::marker::Brand;
 use std::sync::Wait;
+use std::sync::atomic::{AtomicBool, Ordering};
 use std::test::Fail;
 use std::thread::Threads;
 
-/// How many fetches stand before the first change, so that a reader comes to wait.
+/// How many fetches stand before the first change once a reader has come, so that it waits by then.
 const FETCHES: u64 = 400;
 
-/// A reader that waits for this many messages.
+/// The most fetches until a reader has come. Where no thread can be made it comes last.
+const MOST_FETCHES: u64 = 1_000_000;
+
+/// A reader that says that it comes, and then waits for this many messages.
 #[derive(Drop)]
-struct Waits {
+struct Waits<'a> {
     reader: Reader,
     messages: u64,
+    has_come: &'a AtomicBool,
 }
 
-impl Work for Waits {
+impl<'a> Work for Waits<'a> {
     type Given = Result<u64, Refusal>;
 
     ghost can = { λ waits board. (waits.reader.seat.board ≡ board) × IsOwn waits.reader };
@@ -33,17 +38,23 @@ impl Work for Waits {
     ghost gives = { λ _ _ _. Unit {0} };
 
     fn work<N: Named, R: Wait>(self, rt: &R, server: &Server<N>) -> Result<u64, Refusal> {
-        let Waits { reader, messages } = self;
+        let Waits {
+            reader,
+            messages,
+            has_come,
+        } = self;
+        has_come.store(true, Ordering::SeqCst);
         count_waiting(rt, server, reader, messages)
     }
 }
 
-/// A writer that fetches before it makes its changes.
+/// A writer that fetches until a reader has come and once more, before it makes its changes.
 #[derive(Drop)]
 struct Writes<'a> {
     seat: Seat,
     predicate: &'a Predicate,
     changes: &'a [Change],
+    has_come: &'a AtomicBool,
 }
 
 impl<'a> Work for Writes<'a> {
@@ -58,7 +69,9 @@ impl<'a> Work for Writes<'a> {
             mut seat,
             predicate,
             changes,
+            has_come,
         } = self;
+        fetch_until(rt, server, &mut seat, predicate, has_come)?;
         fetch_often(rt, server, &mut seat, predicate)?;
         apply_all(rt, server, &mut seat, changes)?;
         Ok(server.latest(&mut seat))
@@ -81,6 +94,25 @@ fn count_waiting<N: Named, R: Wait>(
         }
     }
     Ok(messages)
+}
+
+fn fetch_until<N: Named, R: Wait>(
+    rt: &R,
+    server: &Server<N>,
+    seat: &mut Seat,
+    predicate: &Predicate,
+    has_come: &AtomicBool,
+) -> Result<(), Refusal>
+    requires { (seat.old.board ≡ N.board) × (seat.old.slot ≡ 0) }
+    ensures { (seat.new.board ≡ N.board) × (seat.new.slot ≡ 0) }
+{
+    for _ in 0..MOST_FETCHES {
+        if has_come.load(Ordering::SeqCst) {
+            return Ok(());
+        }
+        server.fetch(rt, seat, predicate)?;
+    }
+    Ok(())
 }
 
 fn fetch_often<N: Named, R: Wait>(
@@ -125,14 +157,17 @@ fn wait_beside<N: Named + Send + Sync, R: Threads + Wait + Sync>(
     let server: Server<N> = Server::new(base);
     let mut seat = server.seat(rt)?;
     let reader = server.open(rt, &mut seat, predicate, 1, 8, false)?;
+    let has_come = AtomicBool::new(false);
     let waits = Waits {
         reader,
         messages: changes.len() as u64,
+        has_come: &has_come,
     };
     let writes = Writes {
         seat,
         predicate,
         changes,
+        has_come: &has_come,
     };
     let (waited, written) = join_over(rt, &server, waits, writes);
     written?;
