@@ -2,3 +2,5 @@ pub mod Folds
 pub mod Session
 pub mod Answered
 pub mod Script
+pub mod Keeps
+pub mod Turned

@@ -10,3 +10,4 @@ mod script;
 mod session;
 
 pub use script::run;
+pub use session::Session;

@@ -1,10 +1,11 @@
 //! The result of each slot, rebuilt from what was read from it.
-ghost use Rattle.std.specs.Prelude.{◌≡◌, IfOk, IfErr, OnOk};
+ghost use Rattle.std.specs.Prelude.{◌≡◌, IfOk, IfErr, OnOk, OnErr};
 ghost use Rattle.std.specs.Option.{option_map};
 ghost use Rattle.lq_value.specs.declared.refusal.Refusal.TheVariants.{NoMemory};
 ghost use Rattle.lq_value.specs.Refusal.{IsRefusedBy};
 ghost use Rattle.lq_desk.specs.Reply.{answer_of};
 ghost use Rattle.lq_script_desk.specs.Folds.{Rises, fed, fold_at, folds_after, no_folds, with_fold};
+ghost use Rattle.lq_script_desk.specs.Turned.{Follow};
 
 use lq_desk::{Read, Reply, SLOTS};
 use lq_update::{IndexedRebuild, Message};
@@ -63,6 +64,37 @@ pub fn note(
     }
 }
 
+/// Updates the results by the reply to an event of a slot, as `note` does. Where memory runs out,
+/// the slot whose result is to be updated has none afterwards.
+pub fn follow(alloc: Global, rebuilds: &mut Vec<Option<IndexedRebuild>>, slot: u64, reply: &Reply)
+    requires rises { Rises (answer_of reply.now) }
+    ensures { Follow slot (answer_of reply.now) rebuilds.old.items rebuilds.new.items }
+{
+    match reply {
+        Reply::Opened {
+            slot: opened,
+            at,
+            result: entries,
+        } => {
+            let rebuild = IndexedRebuild::new(alloc, *at, entries).ok();
+            put(rebuilds, *opened, rebuild);
+        }
+        Reply::Took(Read::Update(message)) => {
+            if feed_at(rebuilds, slot, message).is_err() {
+                put(rebuilds, slot, None);
+            }
+        }
+        Reply::Finished => put(rebuilds, slot, None),
+        Reply::Changed(_)
+        | Reply::Moved(_)
+        | Reply::Took(Read::Fin(_) | Read::Empty | Read::Ended)
+        | Reply::Asked
+        | Reply::Noticed(_)
+        | Reply::Shut(_)
+        | Reply::Refused(_) => {}
+    }
+}
+
 // Puts a slot's result at its index, or removes it.
 fn put(rebuilds: &mut Vec<Option<IndexedRebuild>>, slot: u64, rebuild: Option<IndexedRebuild>)
     ensures { rebuilds.new.items ≡ with_fold rebuilds.old.items slot rebuild }
@@ -81,6 +113,7 @@ fn feed_at(
 ) -> Result<(), Refusal>
     ensures ok { OnOk result (rebuilds.new.items ≡ with_fold rebuilds.old.items slot
         (option_map (fed message.now) (fold_at rebuilds.old.items slot))) }
+    ensures err { OnErr result (rebuilds.new.items ≡ rebuilds.old.items) }
     ensures memory { IfErr result (λ e. e ≡ NoMemory) }
 {
     if slot == 0 || slot > rebuilds.len() as u64 {
@@ -92,6 +125,7 @@ fn feed_at(
 // Ignores a message that isn't the next one or doesn't fit.
 fn feed(rebuild: &mut Option<IndexedRebuild>, message: &Message) -> Result<(), Refusal>
     ensures ok { OnOk result (rebuild.new ≡ option_map (fed message.now) rebuild.old) }
+    ensures err { OnErr result (rebuild.new ≡ rebuild.old) }
     ensures memory { IfErr result (λ e. e ≡ NoMemory) }
 {
     let Some(there) = rebuild else {

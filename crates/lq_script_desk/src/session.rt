@@ -12,6 +12,8 @@ ghost use Rattle.lq_script_desk.specs.Folds.{fold_at};
 ghost use Rattle.lq_script_desk.specs.Session.{session_with};
 ghost use Rattle.lq_script_desk.specs.Script.{kept_volume};
 
+mod typed;
+
 use crate::rebuilds::{note, rebuild_at};
 use lq_desk::{Desk, Event, Reply};
 use lq_predicate::Predicate;

@@ -65,6 +65,22 @@ fn question_of(
     }
 }
 
+/// The question of a request, with its values read.
+///
+/// A scratch reused from request to request saves memory and changes no answer. Refused:
+/// `NoMemory`; else, the first that fits, `BadName`, `TooLong` for a text value, `BadQuery`.
+pub fn read_request(
+    alloc: Global,
+    scratch: &mut Scratch,
+    request: &Request<'_>,
+) -> Result<Question, Refusal>
+    ensures value { IfOk result (λ question. question_for (asked request.now) ≡ Ok question) }
+    ensures refused { IfErr result (λ e. (e ≡ NoMemory)
+        ⊎ (question_for (asked request.now) ≡ Err e)) }
+{
+    question_for(alloc, &mut scratch.attrs, request)
+}
+
 // The question of a request, with its values read.
 fn question_for(
     alloc: Global,

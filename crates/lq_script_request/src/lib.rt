@@ -10,6 +10,7 @@ mod question;
 mod request;
 mod scratch;
 
-pub use asking::question_in;
+pub use asking::{question_in, read_request};
 pub use question::Question;
+pub use request::Request;
 pub use scratch::Scratch;

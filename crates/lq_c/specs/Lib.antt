@@ -1,0 +1,3 @@
+pub mod Handle
+pub mod Lent
+pub mod Held

@@ -1,0 +1,168 @@
+//! Changes of the volume.
+ghost use Rattle.lq_value.specs.declared.value.Value.TheVariants.{Int32, Int64, UInt32, UInt64};
+ghost use Rattle.lq_script_request.specs.Request.{asks_remove, asks_write, question_for};
+ghost use Rattle.lq_embed.specs.Calls.{Changes};
+ghost use Rattle.lq_embed.specs.Questions.{create_question, move_question, set_question, set_text_question, unset_question};
+ghost use Rattle.lq_c.specs.Held.{held};
+
+use crate::handle::Lq;
+use lq_embed::AppliedOut;
+
+/// As `Embedded::create`, whose status it answers.
+#[unsafe(no_mangle)]
+pub extern "C" fn lq_create(
+    handle: &mut Lq,
+    dir: u64,
+    name: &[u8],
+    kind: u32,
+    size: u64,
+    time: i64,
+    out: &mut AppliedOut,
+) -> u32
+    ensures { Changes (held handle.old) (held handle.new)
+        (create_question dir name.now kind size time) result out.old out.new }
+{
+    handle
+        .served_mut()
+        .embedded
+        .create(dir, name, kind, size, time, out)
+}
+
+/// As `Embedded::remove`, whose status it answers.
+#[unsafe(no_mangle)]
+pub extern "C" fn lq_remove(handle: &mut Lq, node: u64, out: &mut AppliedOut) -> u32
+    ensures { Changes (held handle.old) (held handle.new) (question_for (asks_remove node))
+        result out.old out.new }
+{
+    handle.served_mut().embedded.remove(node, out)
+}
+
+/// As `Embedded::move_entry`, whose status it answers.
+#[unsafe(no_mangle)]
+pub extern "C" fn lq_move(
+    handle: &mut Lq,
+    node: u64,
+    dir: u64,
+    name: &[u8],
+    clobber: bool,
+    out: &mut AppliedOut,
+) -> u32
+    ensures { Changes (held handle.old) (held handle.new)
+        (move_question node dir name.now clobber) result out.old out.new }
+{
+    handle
+        .served_mut()
+        .embedded
+        .move_entry(node, dir, name, clobber, out)
+}
+
+/// As `Embedded::write`, whose status it answers.
+#[unsafe(no_mangle)]
+pub extern "C" fn lq_write(
+    handle: &mut Lq,
+    node: u64,
+    size: u64,
+    time: i64,
+    out: &mut AppliedOut,
+) -> u32
+    ensures { Changes (held handle.old) (held handle.new)
+        (question_for (asks_write node size time)) result out.old out.new }
+{
+    handle.served_mut().embedded.write(node, size, time, out)
+}
+
+/// As `Embedded::set_text`, whose status it answers.
+#[unsafe(no_mangle)]
+pub extern "C" fn lq_set_text(
+    handle: &mut Lq,
+    node: u64,
+    attr: &[u8],
+    text: &[u8],
+    out: &mut AppliedOut,
+) -> u32
+    ensures { Changes (held handle.old) (held handle.new)
+        (set_text_question node attr.now text.now) result out.old out.new }
+{
+    handle.served_mut().embedded.set_text(node, attr, text, out)
+}
+
+/// As `Embedded::set_int32`, whose status it answers.
+#[unsafe(no_mangle)]
+pub extern "C" fn lq_set_int32(
+    handle: &mut Lq,
+    node: u64,
+    attr: &[u8],
+    value: i32,
+    out: &mut AppliedOut,
+) -> u32
+    ensures { Changes (held handle.old) (held handle.new)
+        (set_question node attr.now (Int32 value)) result out.old out.new }
+{
+    handle
+        .served_mut()
+        .embedded
+        .set_int32(node, attr, value, out)
+}
+
+/// As `Embedded::set_int64`, whose status it answers.
+#[unsafe(no_mangle)]
+pub extern "C" fn lq_set_int64(
+    handle: &mut Lq,
+    node: u64,
+    attr: &[u8],
+    value: i64,
+    out: &mut AppliedOut,
+) -> u32
+    ensures { Changes (held handle.old) (held handle.new)
+        (set_question node attr.now (Int64 value)) result out.old out.new }
+{
+    handle
+        .served_mut()
+        .embedded
+        .set_int64(node, attr, value, out)
+}
+
+/// As `Embedded::set_uint32`, whose status it answers.
+#[unsafe(no_mangle)]
+pub extern "C" fn lq_set_uint32(
+    handle: &mut Lq,
+    node: u64,
+    attr: &[u8],
+    value: u32,
+    out: &mut AppliedOut,
+) -> u32
+    ensures { Changes (held handle.old) (held handle.new)
+        (set_question node attr.now (UInt32 value)) result out.old out.new }
+{
+    handle
+        .served_mut()
+        .embedded
+        .set_uint32(node, attr, value, out)
+}
+
+/// As `Embedded::set_uint64`, whose status it answers.
+#[unsafe(no_mangle)]
+pub extern "C" fn lq_set_uint64(
+    handle: &mut Lq,
+    node: u64,
+    attr: &[u8],
+    value: u64,
+    out: &mut AppliedOut,
+) -> u32
+    ensures { Changes (held handle.old) (held handle.new)
+        (set_question node attr.now (UInt64 value)) result out.old out.new }
+{
+    handle
+        .served_mut()
+        .embedded
+        .set_uint64(node, attr, value, out)
+}
+
+/// As `Embedded::unset`, whose status it answers.
+#[unsafe(no_mangle)]
+pub extern "C" fn lq_unset(handle: &mut Lq, node: u64, attr: &[u8], out: &mut AppliedOut) -> u32
+    ensures { Changes (held handle.old) (held handle.new) (unset_question node attr.now)
+        result out.old out.new }
+{
+    handle.served_mut().embedded.unset(node, attr, out)
+}

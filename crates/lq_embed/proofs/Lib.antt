@@ -1,0 +1,4 @@
+pub mod CallLemmas
+pub mod PushedLemmas
+pub mod AttrLemmas
+pub mod FolderLemmas

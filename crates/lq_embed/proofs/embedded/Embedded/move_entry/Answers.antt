@@ -1,0 +1,22 @@
+use Rattle.std.proofs.Common.{◌∙◌, ℕ, List, sym, ap}
+use Rattle.lq_value.specs.declared.refusal.Refusal.TheVariants.{NotUtf8}
+use Rattle.lq_script_request.specs.Request.{asks_move, question_for}
+use Rattle.lq_embed.proofs.CallLemmas.{changes-as, changes-barred, if-not_utf8, if-utf8}
+use Rattle.lq_embed.proofs.embedded.Embedded.move_entry.Goals as goal
+
+pub returns-in_default : goal.returns-in_default
+returns-in_default c = changes-barred NotUtf8
+    (if-not_utf8 c.args.name.now _ _ c.in_default.ensures.cases.0) c.status.ensures
+
+pub returns : goal.returns
+returns c =
+    let text = c.in-Ok.ensures.cases in
+    changes-as (if-utf8 c.args.name.now _ _ text.1
+    ∙ ap (λ (name : List ℕ). question_for (asks_move c.args.node c.args.dir name
+    c.args.clobber)) (sym text.0)) (record {
+      answer = _;
+      asks = c.carry_out-reply.ensures.asks;
+      code = c.applied.ensures.status;
+      out = c.applied.ensures.out;
+      beside = c.carry_out-reply.ensures.beside;
+    })

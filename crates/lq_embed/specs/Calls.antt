@@ -1,0 +1,150 @@
+-- What a call did: its answer, and by this its status, what it wrote, and the state after it.
+use Rattle.std.specs.Prelude.{◌≡◌, ◌⊎◌, ℕ, List, [], ◌∷◌, Bool, true, false, Option, Some, None, Result, Ok, Err}
+use Rattle.lq_value.specs.declared.entry.Entry.{Entry}
+use Rattle.lq_value.specs.declared.refusal.Refusal.{Refusal}
+use Rattle.lq_value.specs.declared.refusal.Refusal.TheVariants.{NoMemory, BadLine}
+use Rattle.lq_value.specs.Refusal.{code_of}
+use Rattle.lq_predicate.specs.Stacked.{Stacked}
+use Rattle.lq_desk_world.specs.declared.event.Event.{Event as Event_}
+use Rattle.lq_desk_world.specs.Events.{Answer, Refused}
+use Rattle.lq_desk.specs.Kept.{Kept}
+use Rattle.lq_desk.specs.Turn.{kept_turn_outcome}
+use Rattle.lq_script_request.specs.declared.question.Question.{Question}
+use Rattle.lq_script_request.specs.declared.question.Question.TheVariants.{Event}
+use Rattle.lq_script_reply.specs.Response.{Response, Refuses}
+use Rattle.lq_script_desk.specs.Session.{Session}
+use Rattle.lq_script_desk.specs.Answered.{answered}
+use Rattle.lq_script_desk.specs.Script.{kept_volume}
+use Rattle.lq_script_desk.specs.Turned.{Turned}
+use Rattle.lq_embed.specs.declared.outs.AppliedOut.{AppliedOut}
+use Rattle.lq_embed.specs.declared.outs.OpeningOut.{OpeningOut}
+use Rattle.lq_embed.specs.declared.outs.FetchedOut.{FetchedOut}
+use Rattle.lq_embed.specs.declared.outs.RebuiltOut.{RebuiltOut}
+use Rattle.lq_embed.specs.declared.outs.EntryOut.{EntryOut}
+use Rattle.lq_embed.specs.declared.outs.MessageOut.{MessageOut}
+use Rattle.lq_embed.specs.declared.outs.InfoOut.{InfoOut}
+use Rattle.lq_embed.specs.Outs.{applied_after, opening_after, entries_after, change_after, fault_after, read_after, node_after, fetched_after, rebuilt_after, fetched_entries, rebuilt_entries, looked_fault, info_after, entry_after}
+use Rattle.lq_embed.specs.State.{State, with_session, with_entries, with_fault, with_pushed}
+use Rattle.lq_embed.specs.Status.{status_of, response_status}
+
+-- ---- events
+
+-- the call is refused with this, or for want of memory, and the session stays
+abbrev pub IsBarred : Session Kept → Session Kept → Refusal → Answer → Type 0
+IsBarred old new refusal answer =
+    ((answer ≡ Refused refusal) ⊎ (answer ≡ Refused NoMemory)) × (new ≡ old)
+
+-- A question's answer, and the session after it. A question that is refused as its values are read
+-- changes nothing; an event has its turn, unless memory runs out before it.
+abbrev pub Asks : Session Kept → Session Kept → Result Question Refusal → Answer → Type 0
+Asks old new (Err refusal) answer = IsBarred old new refusal answer
+Asks old new (Ok (Event event)) answer =
+    IsBarred old new NoMemory answer ⊎ Turned old new event answer
+Asks old new (Ok look) answer = IsBarred old new BadLine answer
+
+-- a change
+pub record Changes (old new : State) (q : Result Question Refusal) (status : ℕ)
+    (before after : AppliedOut) : Type 0 where
+  pub answer : Answer
+  pub asks : Asks old.session new.session q answer
+  pub code : status ≡ status_of answer
+  pub out : after ≡ applied_after answer before
+  pub beside : new ≡ with_session old new.session
+
+-- an opening, whose result is to be given; the stack of pushes afterwards
+pub record Opens (old new : State) (stack : Stacked) (q : Result Question Refusal) (status : ℕ)
+    (before after : OpeningOut) : Type 0 where
+  pub answer : Answer
+  pub asks : Asks old.session new.session q answer
+  pub code : status ≡ status_of answer
+  pub out : after ≡ opening_after answer before
+  pub entries : new.entries ≡ entries_after answer old.entries
+  pub fault : new.fault ≡ fault_after answer old.fault
+  pub text : new.text ≡ old.text
+  pub pushed : new.pushed ≡ stack
+
+-- a read of a slot
+pub record IsRead (old new : State) (event : Event_) (status : ℕ)
+    (before after : MessageOut) : Type 0 where
+  pub answer : Answer
+  pub turned : Turned old.session new.session event answer
+  pub code : status ≡ status_of answer
+  pub out : after ≡ read_after answer before
+  pub beside : new ≡ with_session old new.session
+
+-- the end of a subscription, which gives the last change that it covers
+pub record Ends (old new : State) (event : Event_) (status : ℕ) (before after : ℕ) : Type 0 where
+  pub answer : Answer
+  pub turned : Turned old.session new.session event answer
+  pub code : status ≡ status_of answer
+  pub out : after ≡ change_after answer before
+  pub beside : new ≡ with_session old new.session
+
+-- another act at a slot, which gives nothing
+pub record Acts (old new : State) (event : Event_) (status : ℕ) : Type 0 where
+  pub answer : Answer
+  pub turned : Turned old.session new.session event answer
+  pub code : status ≡ status_of answer
+  pub beside : new ≡ with_session old new.session
+
+-- ---- looks
+
+-- the response to a question as to a line that asks it, or memory ran out
+abbrev pub Responds : Session Kept → Result Question Refusal → Response → Type 0
+Responds session q response = (response ≡ Refuses NoMemory)
+    ⊎ (response ≡ (answered kept_turn_outcome kept_volume session q).0)
+
+-- the node at a place
+pub record Finds (old new : State) (q : Result Question Refusal) (status : ℕ) (before after : ℕ)
+    : Type 0 where
+  pub response : Response
+  pub responds : Responds old.session q response
+  pub code : status ≡ response_status response
+  pub out : after ≡ node_after response before
+  pub stays : new ≡ old
+
+-- a fetch, whose result is to be given; the stack of pushes afterwards
+pub record Fetches (old new : State) (stack : Stacked) (q : Result Question Refusal) (status : ℕ)
+    (before after : FetchedOut) : Type 0 where
+  pub response : Response
+  pub responds : Responds old.session q response
+  pub code : status ≡ response_status response
+  pub out : after ≡ fetched_after response before
+  pub entries : new.entries ≡ fetched_entries response old.entries
+  pub fault : new.fault ≡ looked_fault response old.fault
+  pub session : new.session ≡ old.session
+  pub text : new.text ≡ old.text
+  pub pushed : new.pushed ≡ stack
+
+-- a slot's rebuilt result, which is to be given
+pub record Rebuilds (old new : State) (q : Result Question Refusal) (status : ℕ)
+    (before after : RebuiltOut) : Type 0 where
+  pub response : Response
+  pub responds : Responds old.session q response
+  pub code : status ≡ response_status response
+  pub out : after ≡ rebuilt_after response before
+  pub entries : new ≡ with_entries old (rebuilt_entries response old.entries)
+
+-- the entry of a node
+pub record Shows (old new : State) (q : Result Question Refusal) (status : ℕ)
+    (before after : InfoOut) : Type 0 where
+  pub code : status ≡ response_status (answered kept_turn_outcome kept_volume old.session q).0
+  pub out : after ≡ info_after (answered kept_turn_outcome kept_volume old.session q).0 before
+  pub stays : new ≡ old
+
+-- ---- pushes
+
+-- A push. One that is read and fits gives the stack after it, or memory runs out. One that doesn't
+-- fit is refused, and the number of pushes before it is kept as its place. A refused push leaves
+-- the stack.
+abbrev pub Pushes : State → State → Result (Option Stacked) Refusal → ℕ → Type 0
+Pushes old new (Err refusal) status = (status ≡ code_of refusal) × (new ≡ old)
+Pushes old new (Ok None) status = (status ≡ 20) × (new ≡ with_fault old old.pushed.pushes)
+Pushes old new (Ok (Some stack)) status =
+    ((status ≡ 0) × (new ≡ with_pushed old stack)) ⊎ ((status ≡ 15) × (new ≡ old))
+
+-- the next entry of a result, if there is one
+abbrev pub Gives : State → State → Bool → EntryOut → EntryOut → List Entry → Type 0
+Gives old new there before after [] = (there ≡ false) × (new ≡ old) × (after ≡ before)
+Gives old new there before after (entry ∷ entries) = (there ≡ true)
+    × (new ≡ with_entries old entries) × (after ≡ entry_after entry before)

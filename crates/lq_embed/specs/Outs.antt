@@ -1,0 +1,216 @@
+-- What a call writes for its caller, by the answer.
+use Rattle.std.specs.Prelude.{ℕ, ℤ, pos, List, [], ◌++◌, length, drop, false, nat_le, Result, Ok, Err, if◌then◌else◌}
+use Rattle.lq_value.specs.declared.entry.Entry.{Entry}
+use Rattle.lq_value.specs.declared.refusal.Refusal.{Refusal}
+use Rattle.lq_value.specs.declared.refusal.Refusal.TheVariants.{BadQuery}
+use Rattle.lq_value.specs.declared.value.Value.{Value}
+use Rattle.lq_value.specs.declared.value.Value.TheVariants as value
+use Rattle.lq_volume.specs.State.{Record}
+use Rattle.lq_update.specs.declared.message.Message.{Message}
+use Rattle.lq_update.specs.declared.message.Opcode.{Opcode}
+use Rattle.lq_update.specs.declared.message.Opcode.TheVariants as op
+use Rattle.lq_update.specs.declared.mark.Mark.{Mark}
+use Rattle.lq_update.specs.declared.mark.Cause.{Cause}
+use Rattle.lq_update.specs.declared.mark.Cause.TheVariants as cause
+use Rattle.lq_update.specs.declared.parcel.Parcel.TheVariants.{Update, Fin}
+use Rattle.lq_desk_world.specs.Events.{Answer, Changed, Opened, Took, Empty, Ended, Shut, Refused}
+use Rattle.lq_script_reply.specs.Response.{Response, Found, Listed, Fetched, Rebuilt, Refuses}
+use Rattle.lq_embed.specs.Numbers.{number_of_kind}
+use Rattle.lq_embed.specs.declared.outs.AppliedOut.{AppliedOut}
+use Rattle.lq_embed.specs.declared.outs.OpeningOut.{OpeningOut}
+use Rattle.lq_embed.specs.declared.outs.FetchedOut.{FetchedOut}
+use Rattle.lq_embed.specs.declared.outs.RebuiltOut.{RebuiltOut}
+use Rattle.lq_embed.specs.declared.outs.EntryOut.{EntryOut}
+use Rattle.lq_embed.specs.declared.outs.MessageOut.{MessageOut}
+use Rattle.lq_embed.specs.declared.outs.InfoOut.{InfoOut}
+use Rattle.lq_embed.specs.declared.outs.AttrOut.{AttrOut}
+
+-- ---- texts
+
+-- a text at the front of room, if it fits; else the room stays
+abbrev pub written : List ℕ → List ℕ → List ℕ
+written text room =
+    if nat_le (length text) (length room) then text ++ drop (length text) room else room
+
+-- ---- changes and openings
+
+abbrev pub applied_after : Answer → AppliedOut → AppliedOut
+applied_after (Changed applied) out =
+    record { change = applied.change; node = applied.node }
+applied_after answer out = out
+
+abbrev pub opening_after : Answer → OpeningOut → OpeningOut
+opening_after (Opened slot at result) out =
+    record { slot = slot; at = at; count = length result }
+opening_after answer out = out
+
+abbrev pub entries_after : Answer → List Entry → List Entry
+entries_after (Opened slot at result) entries = result
+entries_after answer entries = entries
+
+-- the last change that a closed subscription covers
+abbrev pub change_after : Answer → ℕ → ℕ
+change_after (Shut change) out = change
+change_after answer out = out
+
+-- the place of the last fault of a formula
+abbrev pub fault_by : Refusal → ℕ → ℕ
+fault_by (BadQuery place) fault = place
+fault_by refusal fault = fault
+
+abbrev pub fault_after : Answer → ℕ → ℕ
+fault_after (Refused refusal) fault = fault_by refusal fault
+fault_after answer fault = fault
+
+-- ---- reads
+
+abbrev pub number_of_op : Opcode → ℕ
+number_of_op op.Created = 1
+number_of_op op.Removed = 2
+number_of_op (op.Moved from_dir from_name) = 3
+
+abbrev pub from_dir_of : Opcode → ℕ
+from_dir_of (op.Moved from_dir from_name) = from_dir
+from_dir_of other = 0
+
+abbrev pub from_name_of : Opcode → List ℕ
+from_name_of (op.Moved from_dir from_name) = from_name
+from_name_of other = []
+
+abbrev pub number_of_cause : Cause → ℕ
+number_of_cause cause.Closed = 1
+number_of_cause cause.HungUp = 2
+number_of_cause cause.Overrun = 3
+
+abbrev pub message_after : Message → MessageOut → MessageOut
+message_after m out = record {
+  seq = m.seq;
+  change = m.change;
+  dir = m.dir;
+  node = m.node;
+  from_dir = from_dir_of m.op;
+  what = 1;
+  op = number_of_op m.op;
+  cause = 0;
+  last = m.last;
+  name_size = length m.name;
+  from_name_size = length (from_name_of m.op);
+  name = written m.name out.name;
+  from_name = written (from_name_of m.op) out.from_name;
+}
+
+-- nothing but a number of `what`, a `seq`, a change and a cause
+abbrev pub bare_after : ℕ → ℕ → ℕ → ℕ → MessageOut → MessageOut
+bare_after what seq change cause out = record {
+  seq = seq;
+  change = change;
+  dir = 0;
+  node = 0;
+  from_dir = 0;
+  what = what;
+  op = 0;
+  cause = cause;
+  last = false;
+  name_size = 0;
+  from_name_size = 0;
+  name = out.name;
+  from_name = out.from_name;
+}
+
+abbrev pub read_after : Answer → MessageOut → MessageOut
+read_after (Took (Update m)) out = message_after m out
+read_after (Took (Fin mark)) out =
+    bare_after 2 mark.seq mark.change (number_of_cause mark.cause) out
+read_after Empty out = bare_after 0 0 0 0 out
+read_after Ended out = bare_after 3 0 0 0 out
+read_after answer out = out
+
+-- ---- looks
+
+abbrev pub node_after : Response → ℕ → ℕ
+node_after (Found node) out = node
+node_after response out = out
+
+abbrev pub fetched_after : Response → FetchedOut → FetchedOut
+fetched_after (Fetched at result) out = record { at = at; count = length result }
+fetched_after response out = out
+
+abbrev pub rebuilt_after : Response → RebuiltOut → RebuiltOut
+rebuilt_after (Rebuilt change result settled) out =
+    record { change = change; count = length result; settled = settled }
+rebuilt_after response out = out
+
+-- the entries that are to be given after a fetch, and after a slot's result was asked for
+abbrev pub fetched_entries : Response → List Entry → List Entry
+fetched_entries (Fetched at result) entries = result
+fetched_entries response entries = entries
+
+abbrev pub rebuilt_entries : Response → List Entry → List Entry
+rebuilt_entries (Rebuilt change result settled) entries = result
+rebuilt_entries response entries = entries
+
+abbrev pub looked_fault : Response → ℕ → ℕ
+looked_fault (Refuses refusal) fault = fault_by refusal fault
+looked_fault response fault = fault
+
+abbrev pub info_after : Response → InfoOut → InfoOut
+info_after (Listed node r) out = record {
+  dir = r.dir;
+  node = node;
+  size = r.size;
+  time = r.time;
+  kind = number_of_kind r.kind;
+  attr_count = length r.attrs;
+  name_size = length r.name;
+  name = written r.name out.name;
+}
+info_after response out = out
+
+abbrev pub entry_after : Entry → EntryOut → EntryOut
+entry_after e out = record {
+  dir = e.dir;
+  node = e.node;
+  name_size = length e.name;
+  name = written e.name out.name;
+}
+
+-- ---- attributes
+
+-- the number of an attribute's type
+abbrev pub number_of_type : Value → ℕ
+number_of_type (value.Text text) = 1129534546
+number_of_type (value.Int32 n) = 1280265799
+number_of_type (value.Int64 n) = 1280069191
+number_of_type (value.UInt32 n) = 1431064135
+number_of_type (value.UInt64 n) = 1431063623
+
+abbrev pub whole_of : Value → ℤ
+whole_of (value.Int32 n) = n
+whole_of (value.Int64 n) = n
+whole_of other = pos 0
+
+abbrev pub natural_of : Value → ℕ
+natural_of (value.UInt32 n) = n
+natural_of (value.UInt64 n) = n
+natural_of other = 0
+
+abbrev pub text_of : Value → List ℕ
+text_of (value.Text text) = text
+text_of other = []
+
+abbrev pub attr_after : List ℕ → Value → AttrOut → AttrOut
+attr_after name v out = record {
+  kind = number_of_type v;
+  whole = whole_of v;
+  natural = natural_of v;
+  name_size = length name;
+  text_size = length (text_of v);
+  name = written name out.name;
+  text = written (text_of v) out.text;
+}
+
+-- ---- pushes
+
+abbrev pub outcome_fault : {T : Type 0} → Result T Refusal → ℕ → ℕ
+outcome_fault (Ok x) fault = fault
+outcome_fault (Err refusal) fault = fault_by refusal fault

@@ -1,0 +1,53 @@
+-- What an embedded session holds.
+use Rattle.std.specs.Prelude.{ℕ, List, []}
+use Rattle.std.specs.Vec.Iter.{into_iter_items}
+use Rattle.lq_value.specs.declared.entry.Entry.{Entry}
+use Rattle.lq_volume.specs.State as volume
+use Rattle.lq_desk.specs.Kept.{Kept}
+use Rattle.lq_predicate.specs.Stacked.{Stacked, new_stack}
+use Rattle.lq_script_desk.specs.Session.{Session}
+use Rattle.lq_script_desk.specs.Keeps.{keeps, first_kept}
+use Rattle.lq_embed.specs.declared.embedded.Embedded.{Embedded}
+
+-- the session, the entries of a result that weren't given yet, the text of the last line's reply or
+-- of a path, the stack of pushes, and the place of the last fault of a formula or a push
+pub record State : Type 0 where
+  pub session : Session Kept
+  pub entries : List Entry
+  pub text : List ℕ
+  pub pushed : Stacked
+  pub fault : ℕ
+
+abbrev pub holds : Embedded → State
+holds e = record {
+  session = keeps e.session;
+  entries = into_iter_items e.entries;
+  text = e.text.items;
+  pushed = e.stack;
+  fault = e.fault;
+}
+
+-- what the first state holds: a script's first session, and nothing else
+abbrev pub first_state : State
+first_state =
+    record { session = first_kept; entries = []; text = []; pushed = new_stack; fault = 0 }
+
+-- the volume now
+abbrev pub volume_in : State → volume.State
+volume_in s = s.session.core.volume
+
+-- the state with another part
+abbrev pub with_session : State → Session Kept → State
+with_session s session = record s { session = session }
+
+abbrev pub with_entries : State → List Entry → State
+with_entries s entries = record s { entries = entries }
+
+abbrev pub with_text : State → List ℕ → State
+with_text s text = record s { text = text }
+
+abbrev pub with_pushed : State → Stacked → State
+with_pushed s stack = record s { pushed = stack }
+
+abbrev pub with_fault : State → ℕ → State
+with_fault s place = record s { fault = place }

@@ -1,0 +1,196 @@
+//! Changes of the volume.
+ghost use Rattle.std.specs.Prelude.{◌≡◌, ℤ};
+ghost use Rattle.lq_value.specs.declared.value.Value.TheVariants.{Int32, Int64, UInt32, UInt64};
+ghost use Rattle.lq_desk.specs.Reply.{answer_of};
+ghost use Rattle.lq_script_request.specs.Request.{asks_remove, asks_write, question_for};
+ghost use Rattle.lq_embed.specs.Calls.{Changes};
+ghost use Rattle.lq_embed.specs.Outs.{applied_after};
+ghost use Rattle.lq_embed.specs.Questions.{create_question, move_question, set_question, set_text_question, unset_question};
+ghost use Rattle.lq_embed.specs.State.{holds};
+ghost use Rattle.lq_embed.specs.Status.{status_of};
+
+use crate::embedded::Embedded;
+use crate::numbers::kind_numbered;
+use crate::outs::AppliedOut;
+use crate::statuses::status;
+use lq_desk::Reply;
+use lq_script_request::Request;
+use lq_value::{Refusal, View};
+
+impl Embedded {
+    /// Creates an entry in the folder `dir`, under the next node. `kind` is 0 for a file and 1 for
+    /// a folder, `size` is in bytes, `time` in seconds since 1970.
+    ///
+    /// Refused, the first that fits: `NotUtf8` for the name, `BadLine` for the kind, `BadName`,
+    /// then as by `Volume::apply`; `NoMemory`.
+    pub fn create(
+        &mut self,
+        dir: u64,
+        name: &[u8],
+        kind: u32,
+        size: u64,
+        time: i64,
+        out: &mut AppliedOut,
+    ) -> u32
+        ensures { Changes (holds self.old) (holds self.new)
+            (create_question dir name.now kind size time) result out.old out.new }
+    {
+        let Ok(name) = str::from_utf8(name) else {
+            return status(Refusal::NotUtf8);
+        };
+        let Some(kind) = kind_numbered(kind) else {
+            return status(Refusal::BadLine);
+        };
+        let reply = self.carry_out(&Request::Create {
+            dir,
+            name,
+            kind,
+            size,
+            time,
+        });
+        applied(reply, out)
+    }
+
+    /// Removes the entry of a node. Refused as by `Volume::apply`; `NoMemory`.
+    pub fn remove(&mut self, node: u64, out: &mut AppliedOut) -> u32
+        ensures { Changes (holds self.old) (holds self.new) (question_for (asks_remove node))
+            result out.old out.new }
+    {
+        applied(self.carry_out(&Request::Remove { node }), out)
+    }
+
+    /// Moves the entry of a node to another place; with `clobber` another node there is removed.
+    ///
+    /// Refused, the first that fits: `NotUtf8` for the name, `BadName`, then as by `Volume::apply`;
+    /// `NoMemory`.
+    pub fn move_entry(
+        &mut self,
+        node: u64,
+        dir: u64,
+        name: &[u8],
+        clobber: bool,
+        out: &mut AppliedOut,
+    ) -> u32
+        ensures { Changes (holds self.old) (holds self.new)
+            (move_question node dir name.now clobber) result out.old out.new }
+    {
+        let Ok(name) = str::from_utf8(name) else {
+            return status(Refusal::NotUtf8);
+        };
+        let reply = self.carry_out(&Request::Move {
+            node,
+            dir,
+            name,
+            clobber,
+        });
+        applied(reply, out)
+    }
+
+    /// Sets a file's size in bytes and its `last_modified` in seconds since 1970. Refused as by
+    /// `Volume::apply`; `NoMemory`.
+    pub fn write(&mut self, node: u64, size: u64, time: i64, out: &mut AppliedOut) -> u32
+        ensures { Changes (holds self.old) (holds self.new)
+            (question_for (asks_write node size time)) result out.old out.new }
+    {
+        applied(self.carry_out(&Request::Write { node, size, time }), out)
+    }
+
+    /// Sets an attribute of an entry to a text.
+    ///
+    /// Refused, the first that fits: `NotUtf8` for a text, `BadName` for the attribute's name,
+    /// `TooLong` for the value, then as by `Volume::apply`; `NoMemory`.
+    pub fn set_text(&mut self, node: u64, attr: &[u8], text: &[u8], out: &mut AppliedOut) -> u32
+        ensures { Changes (holds self.old) (holds self.new)
+            (set_text_question node attr.now text.now) result out.old out.new }
+    {
+        let Ok(attr) = str::from_utf8(attr) else {
+            return status(Refusal::NotUtf8);
+        };
+        let Ok(text) = str::from_utf8(text) else {
+            return status(Refusal::NotUtf8);
+        };
+        let value = View::Text(text);
+        applied(self.carry_out(&Request::Set { node, attr, value }), out)
+    }
+
+    /// Sets an attribute of an entry to a number of 32 bits with a sign. Refused as `set_text`, but
+    /// not with `TooLong`.
+    pub fn set_int32(&mut self, node: u64, attr: &[u8], value: i32, out: &mut AppliedOut) -> u32
+        ensures { Changes (holds self.old) (holds self.new)
+            (set_question node attr.now (Int32 value)) result out.old out.new }
+    {
+        let Ok(attr) = str::from_utf8(attr) else {
+            return status(Refusal::NotUtf8);
+        };
+        let value = View::Int32(value);
+        applied(self.carry_out(&Request::Set { node, attr, value }), out)
+    }
+
+    /// Sets an attribute of an entry to a number of 64 bits with a sign. Refused as `set_int32`.
+    pub fn set_int64(&mut self, node: u64, attr: &[u8], value: i64, out: &mut AppliedOut) -> u32
+        ensures { Changes (holds self.old) (holds self.new)
+            (set_question node attr.now (Int64 value)) result out.old out.new }
+    {
+        let Ok(attr) = str::from_utf8(attr) else {
+            return status(Refusal::NotUtf8);
+        };
+        let value = View::Int64(value);
+        applied(self.carry_out(&Request::Set { node, attr, value }), out)
+    }
+
+    /// Sets an attribute of an entry to a number of 32 bits without a sign. Refused as `set_int32`.
+    pub fn set_uint32(&mut self, node: u64, attr: &[u8], value: u32, out: &mut AppliedOut) -> u32
+        ensures { Changes (holds self.old) (holds self.new)
+            (set_question node attr.now (UInt32 value)) result out.old out.new }
+    {
+        let Ok(attr) = str::from_utf8(attr) else {
+            return status(Refusal::NotUtf8);
+        };
+        let value = View::UInt32(value);
+        applied(self.carry_out(&Request::Set { node, attr, value }), out)
+    }
+
+    /// Sets an attribute of an entry to a number of 64 bits without a sign. Refused as `set_int32`.
+    pub fn set_uint64(&mut self, node: u64, attr: &[u8], value: u64, out: &mut AppliedOut) -> u32
+        ensures { Changes (holds self.old) (holds self.new)
+            (set_question node attr.now (UInt64 value)) result out.old out.new }
+    {
+        let Ok(attr) = str::from_utf8(attr) else {
+            return status(Refusal::NotUtf8);
+        };
+        let value = View::UInt64(value);
+        applied(self.carry_out(&Request::Set { node, attr, value }), out)
+    }
+
+    /// Removes an attribute of an entry.
+    ///
+    /// Refused, the first that fits: `NotUtf8`, `BadName` for the attribute's name, then as by
+    /// `Volume::apply`; `NoMemory`.
+    pub fn unset(&mut self, node: u64, attr: &[u8], out: &mut AppliedOut) -> u32
+        ensures { Changes (holds self.old) (holds self.new) (unset_question node attr.now)
+            result out.old out.new }
+    {
+        let Ok(attr) = str::from_utf8(attr) else {
+            return status(Refusal::NotUtf8);
+        };
+        applied(self.carry_out(&Request::Unset { node, attr }), out)
+    }
+}
+
+// Writes the effect of a change that was accepted, and answers the status.
+fn applied(reply: Reply, out: &mut AppliedOut) -> u32
+    ensures status { result ≡ status_of (answer_of reply) }
+    ensures out { out.new ≡ applied_after (answer_of reply) out.old }
+{
+    match reply {
+        Reply::Changed(applied) => {
+            *out = AppliedOut {
+                change: applied.change,
+                node: applied.node,
+            };
+            0
+        }
+        Reply::Refused(refusal) => status(refusal),
+        _ => 0,
+    }
+}

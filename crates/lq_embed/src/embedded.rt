@@ -1,0 +1,95 @@
+//! An embedded session.
+ghost use Rattle.std.specs.Prelude.{◌≡◌, None, IfOk};
+ghost use Rattle.lq_value.specs.Refusal.{IsRefusedBy};
+ghost use Rattle.lq_desk.specs.Reply.{answer_of};
+ghost use Rattle.lq_script_desk.specs.Keeps.{keeps};
+ghost use Rattle.lq_script_request.specs.Asked.{asked};
+ghost use Rattle.lq_script_request.specs.Request.{question_for};
+ghost use Rattle.lq_embed.specs.Calls.{Asks};
+ghost use Rattle.lq_embed.specs.State.{first_state, holds, volume_in, with_session};
+
+use lq_desk::Reply;
+use lq_predicate::Stack;
+use lq_script_desk::Session;
+use lq_script_request::{Question, Request, Scratch, read_request};
+use lq_value::{Entry, Refusal};
+use std::alloc::Global;
+use std::vec::IntoIter;
+
+/// A session, and what its calls gave that wasn't fetched yet.
+///
+/// Contracts see it as the `State` that it holds.
+pub struct Embedded {
+    pub(crate) alloc: Global,
+    pub(crate) session: Session,
+    // The scratch for reading requests, reused from call to call.
+    pub(crate) scratch: Scratch,
+    // The entries of the last result that weren't given yet.
+    pub(crate) entries: IntoIter<Entry>,
+    // The text of the last line's reply, or of a path.
+    pub(crate) text: Vec<u8>,
+    pub(crate) stack: Stack,
+    // The place of the last fault of a formula or a push.
+    pub(crate) fault: u64,
+}
+
+// Dropping one is a single call, instead of code at each place.
+impl Drop for Embedded {
+    fn drop(self) {
+        let Embedded {
+            alloc: _,
+            session: _,
+            scratch: _,
+            entries: _,
+            text: _,
+            stack: _,
+            fault: _,
+        } = self;
+    }
+}
+
+impl Embedded {
+    /// A session over a volume with the root alone. Refused: `NoMemory`.
+    pub fn start(alloc: Global) -> Result<Embedded, Refusal>
+        ensures refused { IsRefusedBy result None }
+        ensures value { IfOk result (λ embedded. holds embedded ≡ first_state) }
+    {
+        Ok(Embedded {
+            alloc,
+            session: Session::start(alloc)?,
+            scratch: Scratch::new(alloc),
+            entries: Vec::new(alloc).into_iter(),
+            text: Vec::new(alloc),
+            stack: Stack::new(alloc),
+            fault: 0,
+        })
+    }
+
+    // Carries out the event that a request asks for.
+    pub(crate) fn carry_out(&mut self, request: &Request<'_>) -> Reply
+        ensures asks { Asks (keeps self.old.session) (keeps self.new.session)
+            (question_for (asked request.now)) (answer_of result) }
+        ensures beside { holds self.new ≡ with_session (holds self.old) (keeps self.new.session) }
+    {
+        match read_request(self.alloc, &mut self.scratch, request) {
+            Ok(Question::Event(event)) => self.session.turn(&event),
+            Ok(_) => Reply::Refused(Refusal::BadLine),
+            Err(refusal) => Reply::Refused(refusal),
+        }
+    }
+
+    /// The place of the last fault: the byte of a formula, or the number of pushes accepted before.
+    /// It takes no memory.
+    pub fn fault_place(&self) -> u64
+        ensures { result ≡ (holds self.now).fault }
+    {
+        self.fault
+    }
+
+    /// How many changes the volume accepted. It takes no memory.
+    pub fn changes(&self) -> u64
+        ensures { result ≡ (volume_in (holds self.now)).number }
+    {
+        self.session.volume().changes()
+    }
+}

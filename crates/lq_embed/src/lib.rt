@@ -1,0 +1,28 @@
+//! A session for a caller without lines: typed calls with numbered statuses, and what they give
+//! kept until it is asked for.
+//!
+//! Contracts see what an embedded session holds as a `State` (`specs/State`). `specs/Questions`
+//! gives the question of each call, which is that of a line with the same fields; `specs/Calls`
+//! ties a call's status and what it writes to the answer. The structs have C's layout. Nothing
+//! here waits. Begin with `embedded`, then `changes`, then `live`.
+#![tactic(auto)]
+
+mod attrs;
+mod changes;
+mod embedded;
+mod folders;
+mod lines;
+mod live;
+mod looks;
+mod numbers;
+mod outs;
+mod pushes;
+mod put;
+mod statuses;
+
+pub use embedded::Embedded;
+pub use outs::{
+    AppliedOut, AttrOut, EntryOut, FetchedOut, InfoOut, MessageOut, OpeningOut, RebuiltOut,
+};
+pub use put::put_text;
+pub use statuses::put_status;

@@ -1,0 +1,61 @@
+//! A script's lines.
+ghost use Rattle.std.specs.Prelude.{◌≡◌, IfErr, OnOk};
+ghost use Rattle.lq_value.specs.declared.refusal.Refusal.TheVariants.{NoMemory};
+ghost use Rattle.lq_script_lines.specs.Lines.{line_of, reply_to, state_after, without_cr};
+ghost use Rattle.lq_script_desk.specs.Script.{kept_rules};
+ghost use Rattle.lq_embed.specs.State.{holds, with_session, with_text};
+
+use crate::embedded::Embedded;
+use lq_script_lines::Responder;
+use lq_value::Refusal;
+
+/// The most bytes of a line, without its LF.
+const MAX_LINE: usize = 65536;
+
+const CR: u8 = 13;
+
+impl Embedded {
+    /// Answers a line of a script, without its LF, as `run` answers it: the text of the reply is
+    /// kept. An empty line has none.
+    ///
+    /// Refused: `NoMemory`, and then nothing is said of the text and of what the line did.
+    pub fn answer(&mut self, line: &[u8]) -> Result<(), Refusal>
+        ensures text { OnOk result ((holds self.new).text
+            ≡ reply_to kept_rules (holds self.old).session (line_of line.now)) }
+        ensures after { OnOk result ((holds self.new).session
+            ≡ state_after kept_rules (holds self.old).session (line_of line.now)) }
+        ensures memory { IfErr result (λ e. e ≡ NoMemory) }
+        ensures beside { holds self.new
+            ≡ with_text (with_session (holds self.old) (holds self.new).session)
+            (holds self.new).text }
+    {
+        self.text.clear();
+        if line.len() > MAX_LINE {
+            return self.session.respond_long(&mut self.text);
+        }
+        let line = cut_cr(line);
+        if line.is_empty() {
+            return Ok(());
+        }
+        self.session.respond(line, &mut self.text)
+    }
+
+    /// The text of the last line's reply, or of a path. It takes no memory.
+    pub fn text(&self) -> &[u8]
+        ensures { result.now ≡ (holds self.now).text }
+    {
+        &self.text
+    }
+}
+
+// The line without a single CR at its end.
+fn cut_cr(line: &[u8]) -> &[u8]
+    ensures { result.now ≡ without_cr line.now }
+{
+    let count = line.len();
+    if count > 0 && line[count - 1] == CR {
+        &line[..count - 1]
+    } else {
+        line
+    }
+}

@@ -1,0 +1,94 @@
+//! What calls write for their caller, in C's layout.
+
+/// The effect of a change: its number, and the node that it created or named.
+#[repr(C)]
+#[derive(Drop)]
+pub struct AppliedOut {
+    pub change: u64,
+    pub node: u64,
+}
+
+/// An opened subscription: its slot, the number of changes so far, and the size of the result.
+#[repr(C)]
+#[derive(Drop)]
+pub struct OpeningOut {
+    pub slot: u64,
+    pub at: u64,
+    pub count: usize,
+}
+
+/// The number of changes so far, and the size of the result.
+#[repr(C)]
+#[derive(Drop)]
+pub struct FetchedOut {
+    pub at: u64,
+    pub count: usize,
+}
+
+/// A rebuilt result: the change of the latest message, the result's size, and whether that message
+/// was the last of its change.
+#[repr(C)]
+#[derive(Drop)]
+pub struct RebuiltOut {
+    pub change: u64,
+    pub count: usize,
+    pub settled: bool,
+}
+
+/// An entry of a result: its folder, its node and its name.
+#[repr(C)]
+#[derive(Drop)]
+pub struct EntryOut {
+    pub dir: u64,
+    pub node: u64,
+    pub name_size: usize,
+    pub name: [u8; 255],
+}
+
+/// What a read gave. `what`: 0 nothing, 1 a message, 2 the mark, 3 the mark was read before.
+/// `op`: 1 created, 2 removed, 3 moved. `cause`: 1 closed, 2 hung up, 3 overrun.
+#[repr(C)]
+#[derive(Drop)]
+pub struct MessageOut {
+    pub seq: u64,
+    pub change: u64,
+    pub dir: u64,
+    pub node: u64,
+    pub from_dir: u64,
+    pub what: u32,
+    pub op: u32,
+    pub cause: u32,
+    pub last: bool,
+    pub name_size: usize,
+    pub from_name_size: usize,
+    pub name: [u8; 255],
+    pub from_name: [u8; 255],
+}
+
+/// An entry: its place, its kind (0 a file, 1 a folder), its size and time, and how many attributes
+/// it has.
+#[repr(C)]
+#[derive(Drop)]
+pub struct InfoOut {
+    pub dir: u64,
+    pub node: u64,
+    pub size: u64,
+    pub time: i64,
+    pub kind: u32,
+    pub attr_count: usize,
+    pub name_size: usize,
+    pub name: [u8; 255],
+}
+
+/// An attribute: its type, its number as `whole` or `natural` or its text, and its name.
+#[repr(C)]
+#[derive(Drop)]
+pub struct AttrOut {
+    pub kind: u32,
+    pub whole: i64,
+    pub natural: u64,
+    pub name_size: usize,
+    pub text_size: usize,
+    pub name: [u8; 255],
+    pub text: [u8; 4096],
+}

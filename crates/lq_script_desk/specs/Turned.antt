@@ -1,0 +1,27 @@
+-- A turn that comes without a line: its answer, and the session after it.
+use Rattle.std.specs.Prelude.{◌≡◌, ◌⊎◌, ℕ, None}
+use Rattle.lq_value.specs.declared.refusal.Refusal.TheVariants.{NoMemory}
+use Rattle.lq_desk_world.specs.declared.event.Event.{Event}
+use Rattle.lq_desk_world.specs.Events.{Answer, Opened, Refused}
+use Rattle.lq_desk.specs.Kept.{Kept}
+use Rattle.lq_desk.specs.Turn.{TurnStep, kept_turn_outcome}
+use Rattle.lq_script_desk.specs.Folds.{Folds, folds_after, with_fold}
+use Rattle.lq_script_desk.specs.Session.{Session}
+use Rattle.lq_script_desk.specs.Answered.{slot_of}
+
+-- the slot whose fold an answer updates: the one that it opened, else the event's own
+abbrev pub folded_slot : ℕ → Answer → ℕ
+folded_slot slot (Opened opened at result) = opened
+folded_slot slot a = slot
+
+-- the folds are updated by the answer, or memory ran out for the slot's fold and it has none
+abbrev pub Follow : ℕ → Answer → Folds → Folds → Type 0
+Follow slot a old new =
+    (new ≡ folds_after slot a old) ⊎ (new ≡ with_fold old (folded_slot slot a) None)
+
+-- The answer and the core are those of the event's turn, as after a line that asks for it. Where
+-- memory ran out for the event, the rest of its turn stands.
+pub record Turned (old new : Session Kept) (e : Event) (a : Answer) : Type 0 where
+  pub step : TurnStep old.core e a new.core
+  pub outcome : (a ≡ Refused NoMemory) ⊎ ((a, new.core) ≡ kept_turn_outcome old.core e)
+  pub folds : Follow (slot_of e) a old.folds new.folds

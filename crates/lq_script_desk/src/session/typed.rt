@@ -1,0 +1,59 @@
+//! A session's calls for a caller without lines.
+ghost use Rattle.std.specs.Prelude.{◌≡◌, None, IfOk};
+ghost use Rattle.std.specs.Option.{option_map};
+ghost use Rattle.lq_value.specs.Refusal.{IsRefusedBy};
+ghost use Rattle.lq_desk.specs.Reply.{answer_of};
+ghost use Rattle.lq_script_desk.specs.Folds.{fold_at};
+ghost use Rattle.lq_script_desk.specs.Keeps.{first_kept, keeps};
+ghost use Rattle.lq_script_desk.specs.Turned.{Turned};
+
+use crate::rebuilds::{follow, no_rebuilds, rebuild_at};
+use crate::session::{Session, slot_of};
+use lq_desk::{Desk, Event, Reply};
+use lq_update::{IndexedRebuild, results_rise};
+use lq_value::Refusal;
+use lq_volume::{MAX_CHANGES, Volume};
+use std::alloc::Global;
+
+impl Session {
+    /// The session in which a script begins: a volume with the root alone, and 64 free slots.
+    ///
+    /// Refused: `NoMemory`.
+    pub fn start(alloc: Global) -> Result<Session, Refusal>
+        ensures refused { IsRefusedBy result None }
+        ensures value { IfOk result (λ session. keeps session ≡ first_kept) }
+    {
+        let desk = Desk::new(alloc, Volume::new(alloc, MAX_CHANGES))?;
+        Ok(Session::new(alloc, desk, no_rebuilds(alloc)?))
+    }
+
+    /// The volume as it is now. It takes no memory.
+    pub fn volume(&self) -> &Volume
+        ensures { result.now ≡ (keeps self.now).core.volume }
+    {
+        self.desk.volume()
+    }
+
+    /// The rebuilt result of a slot; `None` for a free slot, and for one that `turn` left without.
+    /// It takes no memory.
+    pub fn rebuild(&self, slot: u64) -> Option<&IndexedRebuild>
+        ensures { option_map (λ r. r.now) result ≡ fold_at (keeps self.now).folds slot }
+    {
+        rebuild_at(&self.rebuilds, slot)
+    }
+
+    /// Carries out an event with its whole turn, as a line that asks for it, and updates the
+    /// rebuilt result of its slot.
+    ///
+    /// Refused as by `Desk::turn`. Where memory runs out for the rebuilt result alone, the reply
+    /// stands, and the slot is left without one.
+    pub fn turn(&mut self, event: &Event) -> Reply
+        ensures { Turned (keeps self.old) (keeps self.new) event.now (answer_of result) }
+    {
+        results_rise();
+        let _ = self.desk.volume().changes();
+        let reply = self.desk.turn(event);
+        follow(self.alloc, &mut self.rebuilds, slot_of(event), &reply);
+        reply
+    }
+}
