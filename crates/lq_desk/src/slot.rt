@@ -77,6 +77,7 @@ impl Slot {
     }
 
     /// Makes the messages of a change, if the subscription is live.
+    #[inline(always)]
     pub fn ready(&mut self, planned: &Planned<'_>) -> Result<(), Refusal>
         requires few { self.old.sub.held.sent < 2 ^ 63 }
         ensures refused { IsRefusedBy result None }
@@ -301,6 +302,7 @@ pub fn can_move_at(slot: &Option<Slot>) -> bool
 
 /// Makes the messages of a change for a slot, if a live subscription is there; answers whether
 /// there are any.
+#[inline(always)]
 pub fn ready_at(slot: &mut Option<Slot>, planned: &Planned<'_>) -> Result<bool, Refusal>
     requires few { IsFew (2 ^ 63 - 1) (option_map slot_of slot.old) }
     ensures refused { IsRefusedBy result None }

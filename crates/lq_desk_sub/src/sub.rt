@@ -1,14 +1,17 @@
 //! One subscription.
-ghost use Rattle.std.specs.Prelude.{◌≡◌, ◌+◌, ◌<◌, ◌≤◌, ◌^◌, [], ◌++◌, length, vec_len, nat_lt, is_some, true, false, None, Some, IfOk, OnOk, OnErr, IsTrue, IfSome};
+ghost use Rattle.std.specs.Prelude.{◌≡◌, ℕ, ◌+◌, ◌<◌, ◌≤◌, ◌^◌, [], ◌++◌, length, vec_len, nat_lt, is_some, true, false, None, Some, IfOk, OnOk, OnErr, IsTrue, IfNone, IfSome};
 ghost use Rattle.std.specs.VecDeque.{deque_len, deque_capacity};
 ghost use Rattle.lq_value.specs.Refusal.{IsRefusedBy};
 ghost use Rattle.lq_predicate.specs.Names.{names_of};
 ghost use Rattle.lq_volume.specs.Change.{IsLawful};
+ghost use Rattle.lq_update.specs.Touched.{matches_of};
+ghost use Rattle.lq_update.specs.Updates.{step_of};
 ghost use Rattle.lq_desk_sub.specs.Passing.{are_written, is_among, passes_over};
 
 use lq_predicate::{Predicate, Spans, names, truth_goes_by_names};
 use lq_update::{
-    Cause, Mark, Message, Parcel, changes_pass_over, may_tell, step_planned, writes_beside,
+    Cause, Mark, Matches, Message, Parcel, changes_pass_over, matches_of, may_tell, step_matched,
+    writes_beside,
 };
 use lq_value::{AttrName, Refusal, same_text};
 use lq_volume::{Change, Planned, Volume};
@@ -191,6 +194,7 @@ impl Sub {
     ///
     /// It skips a change that alters only values that the predicate doesn't look at. Refused:
     /// `NoMemory`; then nothing changes, and the messages made ready before stay too.
+    #[inline(always)]
     pub fn ready_planned(&mut self, planned: &Planned<'_>) -> Result<(), Refusal>
         requires few { self.old.held.sent < 2 ^ 63 }
         requires live { IsTrue (is_live self.old.held) }
@@ -199,25 +203,52 @@ impl Sub {
             (self.new ≡ prepared planned.now.before planned.now.change self.old) }
         ensures err { OnErr result (self.new ≡ self.old) }
     {
+        let before = planned.applied().change - 1;
+        match self.asked(planned) {
+            None => {
+                self.forget_ready(before);
+                Ok(())
+            }
+            Some(matches) => self.make_ready(planned, matches, before),
+        }
+    }
+
+    // What the query matches, if the change may have messages for it.
+    #[inline(always)]
+    fn asked(&self, planned: &Planned<'_>) -> Option<Matches>
+        ensures none { (seq : ℕ) → IfNone result (step_of self.now.held.query self.now.held.moved
+            planned.now.before planned.now.change seq ≡ []) }
+        ensures matches { IfSome result (λ matches. matches ≡ matches_of self.now.held.query
+            planned.now.before planned.now.change) }
+    {
         changes_pass_over();
         truth_goes_by_names();
-        let before = planned.applied().change - 1;
-        if self.passes_over(planned.change())
-            || writes_beside(&self.spans, planned)
-            || !may_tell(&self.predicate, planned)
-        {
-            self.forget_ready(before);
-            return Ok(());
+        // For its clauses `lawful` and `volume`.
+        let _ = planned.applied();
+        if self.passes_over(planned.change()) || writes_beside(&self.spans, planned) {
+            return None;
         }
-        self.make_ready(planned, before)
+        let matches = matches_of(&self.predicate, planned);
+        if may_tell(&self.predicate, planned, matches) {
+            Some(matches)
+        } else {
+            None
+        }
     }
 
     // Makes the messages of a change that may have some, after `before` changes. This is a separate
     // function because most changes have no message for most queries.
     #[inline(never)]
-    fn make_ready(&mut self, planned: &Planned<'_>, before: u64) -> Result<(), Refusal>
+    fn make_ready(
+        &mut self,
+        planned: &Planned<'_>,
+        matches: Matches,
+        before: u64,
+    ) -> Result<(), Refusal>
         requires few { self.old.held.sent < 2 ^ 63 }
         requires live { IsTrue (is_live self.old.held) }
+        requires matches { matches ≡ matches_of self.old.held.query planned.now.before
+            planned.now.change }
         requires before { before ≡ planned.now.before.number }
         ensures refused { IsRefusedBy result None }
         ensures ok { OnOk result
@@ -225,7 +256,8 @@ impl Sub {
         ensures err { OnErr result (self.new ≡ self.old) }
     {
         let first = self.sent + 1;
-        let step = step_planned(self.alloc, &self.predicate, planned, first, self.moved)?;
+        let (alloc, query, moved) = (self.alloc, &self.predicate, self.moved);
+        let step = step_matched(alloc, query, planned, matches, first, moved)?;
         self.messages.reserve(step.len() + 1)?;
         self.ready = step;
         self.before = before;
@@ -233,6 +265,7 @@ impl Sub {
     }
 
     // Drops the messages made ready: the change after this many has none.
+    #[inline(always)]
     fn forget_ready(&mut self, before: u64)
         ensures { self.new ≡ record self.old { ready = []; before = before } }
     {
@@ -251,6 +284,7 @@ impl Sub {
     }
 
     // Whether a change has no message for the query, by the names that it alters.
+    #[inline(always)]
     fn passes_over(&self, change: &Change) -> bool
         ensures { result ≡ passes_over (names_of self.now.held.query) change.now }
     {
@@ -384,6 +418,7 @@ fn are_written(names: &[AttrName]) -> bool
 }
 
 // Whether a name is one of these.
+#[inline(never)]
 fn is_among(names: &[AttrName], name: &str) -> bool
     ensures { result ≡ is_among names.now name.now }
 {

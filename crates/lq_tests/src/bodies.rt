@@ -4,8 +4,8 @@ ghost use Rattle.lq_volume.specs.Change.{IsLawful};
 use crate::act::{Act, Draws};
 use crate::plain;
 use lq_predicate::{Predicate, read};
-use lq_update::{Message, Opcode, may_tell, step, step_planned};
-use lq_volume::{Change, Volume};
+use lq_update::{Message, Opcode, matches_of, may_tell, step, step_planned};
+use lq_volume::{Change, Planned, Volume};
 use std::alloc::Global;
 use std::test::Fail;
 
@@ -71,8 +71,13 @@ fn are_same(one: &[Message], other: &[Message]) -> bool {
     one.len() == other.len() && one.iter().zip(other).all(|(a, b)| is_same(a, b))
 }
 
-/// How many messages a change tells a predicate, by both bodies the same; `may_tell` says no just
-/// where there is none and nothing is clobbered.
+/// Whether `may_tell` says no just where there is no message and nothing is clobbered.
+fn is_foreseen(predicate: &Predicate, planned: &Planned<'_>, plain: &[Message]) -> bool {
+    let is_quiet = plain.is_empty() && planned.clobbered().is_none();
+    may_tell(predicate, planned, matches_of(predicate, planned)) != is_quiet
+}
+
+/// How many messages a change tells a predicate, by both bodies the same.
 fn compare(
     alloc: Global,
     predicate: &Predicate,
@@ -85,8 +90,7 @@ fn compare(
     let planned = volume.plan(change)?;
     let fast = step_planned(alloc, predicate, &planned, 7, moved)?;
     let plain = plain::step(alloc, predicate, volume, change, 7, moved)?;
-    let is_quiet = plain.is_empty() && planned.clobbered().is_none();
-    if !are_same(&fast, &plain) || may_tell(predicate, &planned) == is_quiet {
+    if !are_same(&fast, &plain) || !is_foreseen(predicate, &planned, &plain) {
         return Err(Fail::from("the bodies differ"));
     }
     Ok(step(alloc, predicate, volume, change, 7, moved)?.len() as u64)

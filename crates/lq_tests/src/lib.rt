@@ -1,7 +1,7 @@
 //! Tests that cross crates: worked examples as lists of events (`events`), each call that may give
-//! up with memory for each variant of its arguments (`variants`), calls that are given again where
-//! memory ran out (`again`), and the plain body of `step` beside the fast one (`plain`, `bodies`).
-//! Nothing here waits.
+//! up with memory for each variant of its arguments (`variants`), listings and paths (`folders`),
+//! calls that are given again where memory ran out (`again`), and the plain body of `step` beside
+//! the fast one (`plain`, `bodies`). Nothing here waits.
 #![tactic(auto)]
 
 #[cfg(test)]
@@ -18,6 +18,8 @@ mod bodies;
 mod events;
 #[cfg(test)]
 mod fits;
+#[cfg(test)]
+mod folders;
 #[cfg(test)]
 mod folds;
 #[cfg(test)]

@@ -1,13 +1,11 @@
 //! Threads that stay over batches, beside the run by one thread.
 ghost use Rattle.std.specs.Prelude.{◌≡◌, ◌<◌};
 
-use lq_script::{Gate, Host, OpenGate, run, run_threads};
+use crate::devices::{FREE, Pace, reader_of, writer_of};
+use lq_script::{Host, OpenGate, RunFault, run, run_threads};
 use std::alloc::{Alloc, AllocError, Global};
 use std::fs::Files;
-use std::sync::Wait;
-use std::sync::atomic::{AtomicBool, AtomicU64, Ordering};
 use std::test::Fail;
-use std::thread::Threads;
 use std::time::Duration;
 use std::{fs, thread};
 
@@ -37,12 +35,14 @@ fn batches(alloc: Global) -> Result<String, AllocError> {
     Ok(text)
 }
 
-fn open(text: &mut String) -> Result<(), AllocError> {
+/// Adds a line that opens a window.
+pub fn open(text: &mut String) -> Result<(), AllocError> {
     text.push_str("{\"do\":\"open\",\"query\":\"size>0\",\"port\":2,\"backlog\":4}\n")?;
     Ok(())
 }
 
-fn line(alloc: Global, text: &mut String, does: &str, slot: u64) -> Result<(), AllocError> {
+/// Adds a line about a slot.
+pub fn line(alloc: Global, text: &mut String, does: &str, slot: u64) -> Result<(), AllocError> {
     text.push_str(&format!(in alloc; "{{\"do\":\"{does}\",\"slot\":{slot}}}\n")?)?;
     Ok(())
 }
@@ -67,69 +67,6 @@ fn batches_of_two_to_all_slots_are_read_as_by_one_thread(rt: HostRuntime) -> Res
     Ok(())
 }
 
-const THREE_READERS: &str = r#"{"do":"open","query":"name=*","port":4,"backlog":16}
-{"do":"open","query":"size>0","port":4,"backlog":16}
-{"do":"open","query":"size>1","port":4,"backlog":16}
-"#;
-
-const THREE_READS: &str = r#"{"do":"read","slot":1}
-{"do":"read","slot":2}
-{"do":"read","slot":3}
-{"do":"find","name":"a"}
-"#;
-
-const ROUNDS: u64 = 5;
-
-// The tries to see the others.
-const TURNS: u32 = 1_000_000_000;
-
-/// A gate where the reads of a batch of three slots, each read once, wait for one another.
-#[derive(Drop)]
-struct Together {
-    came: AtomicU64,
-    was_alone: AtomicBool,
-}
-
-impl Gate for Together {
-    fn pass<R: Wait>(&self, rt: &R, slot: u64) {
-        let _ = rt;
-        let _ = slot;
-        let before = self.came.fetch_add(1, Ordering::SeqCst);
-        let all = (before / 3).saturating_add(1).saturating_mul(3);
-        for _ in 0..TURNS {
-            if self.came.load(Ordering::SeqCst) >= all {
-                return;
-            }
-        }
-        self.was_alone.store(true, Ordering::SeqCst);
-    }
-}
-
-#[test]
-fn the_slots_of_each_batch_are_read_side_by_side(rt: HostRuntime) -> Result<(), Fail> {
-    let alloc = rt.alloc();
-    let mut text = String::from_str(alloc, THREE_READERS)?;
-    for _ in 0..ROUNDS {
-        text.push_str(THREE_READS)?;
-    }
-    let gate = Together {
-        came: AtomicU64::new(0),
-        was_alone: AtomicBool::new(false),
-    };
-    let mut writer = Host::new(Vec::new(alloc));
-    let ran = run_threads(
-        &rt,
-        alloc,
-        &mut Host::new(text.as_bytes()),
-        &mut writer,
-        &gate,
-    );
-    assert!(rt; ran == Ok(()));
-    assert!(rt; gate.came.load(Ordering::SeqCst) == 3 * ROUNDS);
-    assert!(rt; !gate.was_alone.load(Ordering::SeqCst));
-    Ok(())
-}
-
 // How many threads this process has.
 fn thread_count<R: Files + Alloc + Clone + Drop>(rt: &R) -> Result<usize, Fail> {
     let mut count: usize = 0;
@@ -143,20 +80,39 @@ fn thread_count<R: Files + Alloc + Clone + Drop>(rt: &R) -> Result<usize, Fail> 
 // How often the threads are counted: one that has left its last function needs a while to be gone.
 const COUNTS: u32 = 5_000;
 
+// Devices that move all of it.
+const WHOLE: Pace = Pace {
+    step: FREE,
+    calls: FREE,
+    room: 10 * FREE * FREE,
+    stalls: false,
+};
+
+// paces, and what a run answers: a reader and a writer each fail while the threads of slots wait
+const RUNS: [(Pace, Result<(), RunFault>); 3] = [
+    (WHOLE, Ok(())),
+    (Pace { calls: 2, ..WHOLE }, Err(RunFault::Read)),
+    (
+        Pace {
+            room: 5 * FREE,
+            ..WHOLE
+        },
+        Err(RunFault::Write),
+    ),
+];
+
 #[test]
 fn no_thread_is_left_when_a_run_ends(rt: HostRuntime) -> Result<(), Fail> {
     let alloc = rt.alloc();
     let before = thread_count(&rt)?;
     let text = batches(alloc)?;
-    let mut writer = Host::new(Vec::new(alloc));
-    let ran = run_threads(
-        &rt,
-        alloc,
-        &mut Host::new(text.as_bytes()),
-        &mut writer,
-        &OpenGate,
-    );
-    assert!(rt; ran == Ok(()));
+    for (row, (pace, answer)) in RUNS.iter().enumerate() {
+        let mut reader = reader_of(text.as_str(), *pace);
+        let mut writer = writer_of(alloc, *pace);
+        if run_threads(&rt, alloc, &mut reader, &mut writer, &OpenGate) != *answer {
+            return Err(Fail::from(row));
+        }
+    }
     for _ in 0..COUNTS {
         if thread_count(&rt)? <= before {
             return Ok(());

@@ -8,6 +8,8 @@ mod devices;
 #[cfg(test)]
 mod faults;
 #[cfg(test)]
+mod gates;
+#[cfg(test)]
 mod runs;
 #[cfg(test)]
 mod words;

@@ -5,7 +5,9 @@ use std::alloc::Global;
 use std::sync::Wait;
 use std::sync::atomic::{AtomicBool, Ordering};
 use std::test::Fail;
+use std::thread;
 use std::thread::Threads;
+use std::time::{Clock, Duration};
 
 const TWO_READERS: &str = r#"{"do":"open","query":"name=*","port":4,"backlog":16}
 {"do":"open","query":"size>0","port":4,"backlog":16}
@@ -22,6 +24,25 @@ const TWO_READ: &str = r#"{"at":0,"result":[],"slot":1}
 {"change":1,"dir":1,"last":true,"name":"a","node":2,"op":"B_ENTRY_CREATED","seq":1,"what":"B_QUERY_UPDATE"}
 {"change":1,"dir":1,"last":true,"name":"a","node":2,"op":"B_ENTRY_CREATED","seq":1,"what":"B_QUERY_UPDATE"}
 {"what":"EMPTY"}
+{"what":"EMPTY"}
+"#;
+
+// The same reads, slot by slot: a batch goes on after two reads.
+const SLOT_BY_SLOT: &str = r#"{"do":"open","query":"name=*","port":4,"backlog":16}
+{"do":"open","query":"size>0","port":4,"backlog":16}
+{"do":"create","name":"a","size":1}
+{"do":"read","slot":1}
+{"do":"read","slot":1}
+{"do":"read","slot":2}
+{"do":"read","slot":2}
+"#;
+
+const SLOT_BY_SLOT_READ: &str = r#"{"at":0,"result":[],"slot":1}
+{"at":0,"result":[],"slot":2}
+{"change":1,"node":2}
+{"change":1,"dir":1,"last":true,"name":"a","node":2,"op":"B_ENTRY_CREATED","seq":1,"what":"B_QUERY_UPDATE"}
+{"what":"EMPTY"}
+{"change":1,"dir":1,"last":true,"name":"a","node":2,"op":"B_ENTRY_CREATED","seq":1,"what":"B_QUERY_UPDATE"}
 {"what":"EMPTY"}
 "#;
 
@@ -66,15 +87,16 @@ struct Place {
 
 /// A gate where the first reads of slots 1 and 2 look for each other.
 #[derive(Drop)]
-struct Meeting {
+struct Meeting<'c, C> {
+    clock: &'c C,
     one: Place,
     two: Place,
 }
 
-// The tries to see the other.
-const TURNS: u32 = 1_000_000_000;
+// The tries to see the other, a millisecond apart.
+const TRIES: u32 = 5_000;
 
-impl Gate for Meeting {
+impl<'c, C: Clock> Gate for Meeting<'c, C> {
     // Each slot sets its own flag, once, and looks for the other's.
     fn pass<R: Wait>(&self, rt: &R, slot: u64) {
         let _ = rt;
@@ -86,11 +108,12 @@ impl Gate for Meeting {
         if own.is_here.swap(true, Ordering::SeqCst) {
             return;
         }
-        for _ in 0..TURNS {
+        for _ in 0..TRIES {
             if other.is_here.load(Ordering::SeqCst) {
                 own.has_seen.store(true, Ordering::SeqCst);
                 return;
             }
+            thread::sleep(self.clock, Duration::from_millis(1));
         }
     }
 }
@@ -102,21 +125,35 @@ fn empty() -> Place {
     }
 }
 
-#[test]
-fn scenario_two_readers(rt: HostRuntime) -> Result<(), Fail> {
-    let alloc = rt.alloc();
+// Whether a script of two slots writes this, and each of them has seen the other at the gate.
+fn meets<R: Clock + Threads + Wait + Sync>(
+    rt: &R,
+    alloc: Global,
+    text: &str,
+    output: &str,
+) -> Result<bool, RunFault> {
     let meeting = Meeting {
+        clock: rt,
         one: empty(),
         two: empty(),
     };
-    let mut reader = Host::new(TWO_READERS.as_bytes());
     let mut writer = Host::new(Vec::new(alloc));
-    let ran = run_threads(&rt, alloc, &mut reader, &mut writer, &meeting);
+    let mut reader = Host::new(text.as_bytes());
+    run_threads(rt, alloc, &mut reader, &mut writer, &meeting)?;
     let have_met = meeting.one.has_seen.load(Ordering::SeqCst)
         && meeting.two.has_seen.load(Ordering::SeqCst);
-    assert!(rt; ran == Ok(()));
-    assert!(rt; writer.into_device().as_slice() == TWO_READ.as_bytes());
-    assert!(rt; have_met);
+    Ok(have_met && writer.into_device().as_slice() == output.as_bytes())
+}
+
+#[test]
+fn scenario_two_readers(rt: HostRuntime) -> Result<(), Fail> {
+    assert!(rt; meets(&rt, rt.alloc(), TWO_READERS, TWO_READ)?);
+    Ok(())
+}
+
+#[test]
+fn a_batch_goes_on_after_two_reads(rt: HostRuntime) -> Result<(), Fail> {
+    assert!(rt; meets(&rt, rt.alloc(), SLOT_BY_SLOT, SLOT_BY_SLOT_READ)?);
     Ok(())
 }
 

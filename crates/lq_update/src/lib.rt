@@ -11,6 +11,7 @@ mod latest;
 mod laws;
 mod locations;
 mod mark;
+mod matches;
 mod message;
 mod parcel;
 mod rebuild;
@@ -23,7 +24,8 @@ pub use laws::{
     updates_begin_empty, updates_grow, updates_join, updates_stay, whole_folds_give_results,
 };
 pub use mark::{Cause, Mark};
+pub use matches::{Matches, matches_of};
 pub use message::{Message, Opcode};
 pub use parcel::Parcel;
 pub use rebuild::Rebuild;
-pub use stepping::{may_tell, step, step_planned, writes_beside};
+pub use stepping::{may_tell, step, step_matched, step_planned, writes_beside};

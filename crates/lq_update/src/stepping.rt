@@ -10,8 +10,9 @@ ghost use Rattle.lq_volume.specs.Result.{entry_if};
 ghost use Rattle.lq_volume.specs.State.{IsVolume};
 ghost use Rattle.lq_update.specs.declared.message.Opcode.TheVariants.{Removed, Moved};
 ghost use Rattle.lq_update.specs.Updates.{numbered, step_of};
-ghost use Rattle.lq_update.specs.Touched.{entry_at, left, left_at, told_first, told_last};
+ghost use Rattle.lq_update.specs.Touched.{entry_at, is_match, left, left_at, matches_of, told_first, told_last};
 
+use crate::matches::{Matches, matches_of};
 use crate::message::{Message, Opcode};
 use lq_predicate::{Predicate, Spans, holds, truth_stays_beside_spans};
 use lq_value::{Entry, Refusal};
@@ -52,8 +53,8 @@ pub fn step(
 /// change.
 ///
 /// It reads only the entries in the plan, looks up no other, and takes memory only for its
-/// messages. Refused: `NoMemory`. It changes nothing. Asking `may_tell` first is faster where there
-/// is no message.
+/// messages. Refused: `NoMemory`. It changes nothing. Where `matches_of` was asked already, call
+/// `step_matched`.
 pub fn step_planned(
     alloc: Global,
     predicate: &Predicate,
@@ -67,21 +68,48 @@ pub fn step_planned(
         ≡ step_of predicate.now moved planned.now.before planned.now.change first_seq) }
     ensures few { IfOk result (λ messages. vec_len messages ≤ 3) }
 {
-    let (left, came) = difference(predicate, planned);
+    let matches = matches_of(predicate, planned);
+    step_matched(alloc, predicate, planned, matches, first_seq, moved)
+}
+
+/// The messages of a planned change for a query, as `step_planned` gives them, where `matches_of`
+/// was asked already.
+///
+/// Refused: `NoMemory`. It changes nothing. Asking `may_tell` first is faster where there is no
+/// message.
+pub fn step_matched(
+    alloc: Global,
+    predicate: &Predicate,
+    planned: &Planned<'_>,
+    matches: Matches,
+    first_seq: u64,
+    moved: bool,
+) -> Result<Vec<Message>, Refusal>
+    requires matches { matches ≡ matches_of predicate.now planned.now.before planned.now.change }
+    requires room { first_seq + 2 < 2 ^ 64 }
+    ensures refused { IsRefusedBy result None }
+    ensures messages { IfOk result (λ messages. messages.items
+        ≡ step_of predicate.now moved planned.now.before planned.now.change first_seq) }
+    ensures few { IfOk result (λ messages. vec_len messages ≤ 3) }
+{
+    let (left, came) = difference(predicate, planned, matches);
     tell_difference(alloc, predicate, planned, left, came, first_seq, moved)
 }
 
-/// Whether a planned change may make a message for a query: if false, `step_planned` gives none.
+/// Whether a planned change may make a message for a query, by what `matches_of` answers: if false,
+/// `step_matched` gives none.
 ///
 /// It reads only the entries in the plan. It takes no memory.
-pub fn may_tell(predicate: &Predicate, planned: &Planned<'_>) -> bool
+#[inline(always)]
+pub fn may_tell(predicate: &Predicate, planned: &Planned<'_>, matches: Matches) -> bool
+    requires { matches ≡ matches_of predicate.now planned.now.before planned.now.change }
     ensures { (moved : Bool) → (seq : ℕ) → result ≡ false
         → step_of predicate.now moved planned.now.before planned.now.change seq ≡ [] }
 {
     changes_touch_few();
     // For its clauses `lawful` and `volume`.
     let _ = planned.applied();
-    let (left, came) = difference(predicate, planned);
+    let (left, came) = difference(predicate, planned, matches);
     if left.is_none() && came.is_none() && planned.clobbered().is_none() {
         return false;
     }
@@ -93,6 +121,7 @@ pub fn may_tell(predicate: &Predicate, planned: &Planned<'_>) -> bool
 /// message.
 ///
 /// It reads the predicate's `Spans`, not the predicate. It takes no memory.
+#[inline(always)]
 pub fn writes_beside(spans: &Spans, planned: &Planned<'_>) -> bool
     ensures { (q : Query) → (moved : Bool) → (seq : ℕ) → result ≡ true → spans.now ≡ spans_of q
         → step_of q moved planned.now.before planned.now.change seq ≡ [] }
@@ -248,7 +277,7 @@ fn tell_by_node(
 }
 
 // A change keeps the tree, and alters at most its own node and the one that it removes.
-fn changes_touch_few()
+pub(crate) fn changes_touch_few()
     ensures trees { ChangesKeepTrees }
     ensures stay { UntouchedStay }
     ensures go { ClobberedGo }
@@ -259,10 +288,13 @@ fn changes_touch_few()
 }
 
 // What left the result at the change's own node, and what came into it there.
-fn difference<'s, 'a>(
+#[inline(always)]
+pub(crate) fn difference<'s, 'a>(
     predicate: &Predicate,
     planned: &'s Planned<'a>,
+    matches: Matches,
 ) -> (Option<&'s Seen<'a>>, Option<&'s Seen<'a>>)
+    requires matches { matches ≡ matches_of predicate.now planned.now.before planned.now.change }
     ensures removed { entry_at (node_of planned.entry.now.before planned.entry.now.change)
         (option_copied result.0) ≡ left_at predicate.now planned.entry.now.before
         (after planned.entry.now.before planned.entry.now.change)
@@ -272,9 +304,26 @@ fn difference<'s, 'a>(
         (after planned.entry.now.before planned.entry.now.change) planned.entry.now.before
         (node_of planned.entry.now.before planned.entry.now.change) }
 {
-    let old = matching(predicate, planned.seen_before());
-    let new = matching(predicate, planned.seen_after());
+    let old = if_matched(predicate, planned.seen_before(), matches.before);
+    let new = if_matched(predicate, planned.seen_after(), matches.after);
     split(old, new)
+}
+
+// What is seen of an entry, if it matches the predicate.
+#[inline(always)]
+fn if_matched<'s, 'a>(
+    predicate: &Predicate,
+    seen: Option<&'s Seen<'a>>,
+    matches: bool,
+) -> Option<&'s Seen<'a>>
+    requires { matches ≡ is_match predicate.now (option_copied seen) }
+    ensures { (node : ℕ) → entry_at node (option_copied result)
+        ≡ option_and_then (λ r. entry_if predicate.now (node, r)) (option_copied seen.entry) }
+{
+    match seen {
+        None => None,
+        Some(seen) => { if matches { Some(seen) } else { None } }
+    }
 }
 
 // What is seen of an entry, if it matches the predicate.
@@ -296,6 +345,7 @@ fn matching<'s, 'a>(predicate: &Predicate, seen: Option<&'s Seen<'a>>) -> Option
 
 // What left at a node and what came, by what matched there before and after: nothing where both
 // matched at one place.
+#[inline(always)]
 fn split<'s, 'a>(
     old: Option<&'s Seen<'a>>,
     new: Option<&'s Seen<'a>>,
