@@ -12,10 +12,9 @@ use Rattle.lq_board.specs.declared.views.View.{View}
 use Rattle.lq_board.specs.declared.views.View.TheVariants.{Keeper, Seat, Spent}
 use Rattle.lq_board.specs.Slot.{slot_at, come_back}
 use Rattle.lq_board.specs.View.{taken}
-use Rattle.lq_board.specs.Rule.{Fits, Kept, IsKept}
+use Rattle.lq_board.specs.Rule.{Fits, Signs, Kept, IsKept}
 use Rattle.lq_board.proofs.SlotLemmas.{agrees_slot}
-use Rattle.lq_board.proofs.ViewLemmas.{fits_set, sits_slot, fits_other}
-use Rattle.lq_board.proofs.PlayLemmas.{viewed}
+use Rattle.lq_board.proofs.ViewLemmas.{owner_set, owns_moved, owns_here, fits_set, sits_slot, fits_other, signs_other}
 
 module _ {M : Type 0} where
   -- the view of the seat that comes back, where the keeper's changed already
@@ -29,30 +28,108 @@ module _ {M : Type 0} where
       (λ (t : (other ≢ id) × (get_elem? views other ≡ some (Seat w))). k.fits other (Seat w) t.1)
       (at_set views id other x (Seat w) there)
 
+  -- its author
+  theirs_own : (words : List ℕ) (views : List (View M)) (k : Kept words views) (id other : ℕ)
+      (x : View M) (w : Sitting M)
+      → other ≢ id → get_elem? (slice_set views id x) other ≡ some (Seat w)
+      → Signs k.id k.register k.who other (Seat w)
+  theirs_own words views k id other x w apart there =
+      ⊎_elim
+      (λ (t : (other ≡ id) × (x ≡ Seat w)). absurd (apart t.0))
+      (λ (t : (other ≢ id) × (get_elem? views other ≡ some (Seat w))). k.signs other (Seat w) t.1)
+      (at_set views id other x (Seat w) there)
+
+  -- the keeper is now the author that the seat was
+  signs_back : (words : List ℕ) (views : List (View M)) (k : Kept words views) (id other : ℕ)
+      (v : Keeping M) (slots : List (Slot M)) (was : Slot M) (w : Sitting M)
+      → get_elem? views id ≡ some (Keeper v) → Signs k.id k.register k.who other (Seat w)
+      → (by : ℕ) (u : View M)
+      → get_elem? (slice_set (slice_set views id (Keeper (record {
+        book = v.book;
+        slots = slots;
+        register = v.register;
+        back = w;
+        was = was;
+      }))) other Spent) by ≡ some u
+      → Signs k.id k.register (owner_set k.who w.author.number id) by u
+  signs_back words views k id other v slots was w at seat =
+      let own = k.signs id (Keeper v) at in
+      let x : View M =
+      Keeper (record {
+        book = v.book;
+        slots = slots;
+        register = v.register;
+        back = w;
+        was = was;
+      }) in
+      let who : ℕ → ℕ = owner_set k.who w.author.number id in
+      let after = Signs k.id k.register who in
+      fits_set after (slice_set views id x) other Spent
+      (λ by u away e. fits_set (λ by' u'. by' ≢ other → after by' u') views id x
+      (λ by' u' apart' e' away'.
+      signs_other k.id k.register k.register k.who who by' u'
+      (λ a r.
+      owns_moved k.register k.who w.author.number id by' a
+      (λ i. away' (r.only ∙ ap k.who i ∙ sym seat.only)) r)
+      (λ is. apart' (is ∙ sym own.0)) (k.signs by' u' e'))
+      (λ _. (own.0, own.1, λ pos. owns_here k.register k.who other id w.author seat))
+      by u e away)
+      tt
+
   -- by cases on the slot
   backs_at : (id : ℕ) (v : Keeping M) (other : ℕ) (w : Sitting M) (slot : ℕ) → w.slot ≡ slot
       → Joins IsKept id (Keeper v) other (Seat w)
       (Keeper (record {
         book = v.book;
         slots = come_back v.slots slot w.asks w.name;
+        register = v.register;
         back = w;
         was = slot_at v.slots w.slot;
       }))
       Spent
   backs_at id v other w zero is s kept at apart there =
+      let p : Slot M = slot_at v.slots w.slot in
       let x : View M =
-      Keeper (record { book = v.book; slots = v.slots; back = w; was = slot_at v.slots w.slot }) in
+      Keeper (record {
+        book = v.book;
+        slots = v.slots;
+        register = v.register;
+        back = w;
+        was = p;
+      }) in
       let mine = kept.fits id (Keeper v) at in
       let seat = theirs s.words s.views kept id other x w apart there in
-      let mid : Kept s.words (slice_set s.views id x) =
-      viewed s.words s.views id x kept
-      (mine.0, mine.1, mine.2, (seat.0, λ (lt : 0 < w.slot). absurd (omega (arith, is)))) in
-      viewed s.words (slice_set s.views id x) other Spent mid tt
+      let fit = Fits kept.id kept.book kept.slots kept.owner s.words in
+      record {
+        id = kept.id;
+        book = kept.book;
+        slots = kept.slots;
+        owner = kept.owner;
+        number = kept.number;
+        full = kept.full;
+        agrees = kept.agrees;
+        fits = fits_set fit (slice_set s.views id x) other Spent
+            (λ by u away e. fits_set fit s.views id x (λ by' u' apart' e'. kept.fits by' u' e')
+            (mine.0, mine.1, mine.2, (seat.0, λ (lt : 0 < w.slot). absurd (omega (arith, is))))
+            by u e)
+            tt;
+        register = kept.register;
+        who = owner_set kept.who w.author.number id;
+        signed = kept.signed;
+        signs = signs_back s.words s.views kept id other v v.slots p w at
+            (theirs_own s.words s.views kept id other x w apart there);
+      }
   backs_at id v other w (suc k) is s kept at apart there =
       let q : Slot M = record { out = false; asks = w.asks; name = w.name } in
       let p : Slot M = slot_at v.slots w.slot in
       let x : View M =
-      Keeper (record { book = v.book; slots = slice_set v.slots (suc k) q; back = w; was = p }) in
+      Keeper (record {
+        book = v.book;
+        slots = slice_set v.slots (suc k) q;
+        register = v.register;
+        back = w;
+        was = p;
+      }) in
       let mine = kept.fits id (Keeper v) at in
       let seat = theirs s.words s.views kept id other x w apart there in
       let pos : 0 < w.slot = omega (arith, is) in
@@ -100,6 +177,11 @@ module _ {M : Type 0} where
             ))
             by u e away)
             tt;
+        register = kept.register;
+        who = owner_set kept.who w.author.number id;
+        signed = kept.signed;
+        signs = signs_back s.words s.views kept id other v (slice_set v.slots (suc k) q) p w at
+            (theirs_own s.words s.views kept id other x w apart there);
       }
 
   -- a seat comes back

@@ -1,9 +1,12 @@
--- Read in this order: BookLemmas (the book), SlotLemmas (the words), ViewLemmas (who sees what);
--- PlayLemmas, SplitLemmas and JoinLemmas (each step keeps the rule); TokenLemmas (what calls cite).
+-- Read in this order: BookLemmas (the book), AuthorLemmas (who made which change), SlotLemmas (the
+-- words), ViewLemmas (who sees what); PlayLemmas, SplitLemmas, JoinLemmas and PairLemmas (each step
+-- keeps the rule); TokenLemmas (what the calls cite).
 pub mod BookLemmas
+pub mod AuthorLemmas
 pub mod SlotLemmas
 pub mod ViewLemmas
 pub mod PlayLemmas
 pub mod SplitLemmas
 pub mod JoinLemmas
+pub mod PairLemmas
 pub mod TokenLemmas

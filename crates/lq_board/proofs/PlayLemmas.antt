@@ -1,5 +1,5 @@
 -- Each step on a word keeps the rule.
-use Rattle.std.proofs.Common.{◌≡◌, ◌≢◌, ℕ, zero, suc, ◌+◌, ◌<◌, ◌^◌, ◌%◌, List, [], ◌∷◌, length, refl, sym, ap, ◌∙◌, subst, arith, length-append, get_or-set_same, get_or-set_other, Option, Some, ◌≤◌, false}
+use Rattle.std.proofs.Common.{◌≡◌, ◌≢◌, ℕ, zero, suc, ◌+◌, ◌<◌, ◌^◌, ◌%◌, List, [], ◌∷◌, ◌++◌, length, refl, sym, ap, ◌∙◌, subst, arith, length-append, get_or-set_same, get_or-set_other, Option, Some, ◌≤◌, false}
 use Rattle.std.specs.Prelude.{slice_index, slice_set, replicate}
 use Rattle.std.proofs.lemmas.List.{set-get_or, get_or-replicate}
 use mathlib.Core.Logic.{dite}
@@ -11,20 +11,24 @@ use Rattle.lq_volume.specs.declared.change.Change.{Change}
 use Rattle.lq_volume.specs.State.{State}
 use Rattle.lq_volume.specs.Change.{IsLawful}
 use Rattle.lq_volume.specs.Laws.{ChangesKeepTrees}
-use Rattle.lq_volume.specs.Book.{Book, grown, state_of}
+use Rattle.lq_volume.specs.Book.{Book, grown, state_of, Extends}
+use Rattle.lq_board.specs.declared.views.Author.{Author}
+use Rattle.lq_board.specs.declared.views.Register.{Register}
 use Rattle.lq_board.specs.declared.views.Slot.{Slot}
 use Rattle.lq_board.specs.declared.views.Sitting.{Sitting}
 use Rattle.lq_board.specs.declared.views.Keeping.{Keeping}
 use Rattle.lq_board.specs.declared.views.View.{View}
-use Rattle.lq_board.specs.declared.views.View.TheVariants.{Keeper, Seat, Spent}
+use Rattle.lq_board.specs.declared.views.View.TheVariants.{Keeper, Seat, Pair, Spent}
 use Rattle.lq_board.specs.Book.{IsFullBook}
-use Rattle.lq_board.specs.Slot.{unused_slots, slot_at, counted}
+use Rattle.lq_board.specs.Author.{IsSigned, IsAuthor, no_register, with_author, with_change}
+use Rattle.lq_board.specs.Slot.{unused, unused_slots, slot_at, counted}
 use Rattle.lq_board.specs.View.{keeper, newborn}
-use Rattle.lq_board.specs.Rule.{CameBack, Sits, Fits, Kept, IsKept}
+use Rattle.lq_board.specs.Rule.{CameBack, Sits, Fits, Owns, Signs, Kept, IsKept}
 use Rattle.lq_board.specs.Step.{Adds, Sees, Checks, Counts, Asks}
+use Rattle.lq_board.proofs.AuthorLemmas.{signed_more, author_more}
 use Rattle.lq_board.proofs.BookLemmas.{extends_self, extends_more, full_more, room_of}
 use Rattle.lq_board.proofs.SlotLemmas.{slot_here, agrees_unused, agrees_slot, agrees_word}
-use Rattle.lq_board.proofs.ViewLemmas.{fits_set, came_self, sits_word, sits_slot, fits_other}
+use Rattle.lq_board.proofs.ViewLemmas.{fits_set, came_self, sits_word, sits_slot, fits_other, owns_added, signs_other}
 
 module _ {M : Type 0} where
   -- the words of a new board
@@ -40,6 +44,10 @@ module _ {M : Type 0} where
         full = full;
         agrees = agrees_unused;
         fits = one;
+        register = no_register;
+        who = λ _. 0;
+        signed = record { each = refl; seats = tt };
+        signs = first;
       }
     where
       book : Book
@@ -55,23 +63,57 @@ module _ {M : Type 0} where
           (refl, refl, refl, came_self book book refl)
       one (suc by) v e = absurd (some-ne-none v (sym e))
 
-  -- a change is added
+      first : (by : ℕ) (v : View M) → get_elem? (newborn start ∷ []) by ≡ some v
+          → Signs 0 no_register (λ _. 0) by v
+      first zero v e =
+          subst (Signs 0 no_register (λ _. 0) 0) (some-injective _ _ e)
+          (refl, refl, λ (lt : 0 < 0). absurd (omega arith))
+      first (suc by) v e = absurd (some-ne-none v (sym e))
+
+  -- a change by the latest seat that came back is added
   pub adds : (slots id : ℕ) (v : Keeping M) (x : Change) → ChangesKeepTrees
-      → IsLawful (state_of v.book) x
+      → 0 < v.back.author.number → IsLawful (state_of v.book) x
       → Allows IsKept slots id (Keeper v, []) 0 (λ n. (n + 1) % 2 ^ 64)
       (Adds (Some x) (step slots 0 1 0 none) (Keeper v, []))
-  adds slots id v x keeps_trees lawful s kept len at small =
+  adds slots id v x keeps_trees pos lawful s kept len at small =
       let mine = kept.fits id (Keeper v) at in
+      let own = kept.signs id (Keeper v) at in
+      let o = own.2 pos in
+      let me : Author = v.back.author in
       let n : ℕ = (slice_index s.words 0 + 1) % 2 ^ 64 in
       let book : Book = grown kept.book (x ∷ []) in
       let w_book : Book = grown v.book (x ∷ []) in
-      let w : View M = keeper w_book v.slots in
+      let register : Register = with_author kept.register me.number in
+      let w_register : Register = with_author v.register me.number in
+      let made : Author = with_change me (length v.book.changes + 1) in
+      let w : View M =
+      Keeper (record {
+        book = w_book;
+        slots = v.slots;
+        register = w_register;
+        back =
+            record {
+              slot = v.back.slot;
+              book = w_book;
+              asks = v.back.asks;
+              name = v.back.name;
+              author = made;
+            };
+        was = v.was;
+      }) in
       let same : w_book ≡ book = ap (λ (b : Book). grown b (x ∷ [])) mine.1 in
+      let same_register : w_register ≡ register =
+      ap (λ (r : Register). with_author r me.number) own.1 in
       let lawful_here = subst (λ (b : Book). IsLawful (state_of b) x) mine.1 lawful in
       let room = room_of keeps_trees kept.book x kept.full lawful_here in
       let full = full_more keeps_trees kept.book x kept.full lawful_here in
       let next : n ≡ length book.changes =
-      omega (arith, length-append kept.book.changes (x ∷ []), room, kept.number) in (
+      omega (arith, length-append kept.book.changes (x ∷ []), room, kept.number) in
+      let signed : IsSigned book register =
+      signed_more kept.book kept.register me x kept.signed o.author in
+      let author : IsAuthor made register =
+      subst (λ (b : Book). IsAuthor (with_change me (length b.changes + 1)) register)
+      (sym mine.1) (author_more kept.book kept.register me kept.signed o.author) in (
         w,
         keeps,
         tt,
@@ -92,26 +134,46 @@ module _ {M : Type 0} where
               (λ b. extends_more kept.book b x)
               (λ slot asks name pos.
               sits_word kept.slots kept.owner s.words 0 n by slot asks name (λ e. omega arith))
-              (λ is. apart (is ∙ sym mine.0)) (kept.fits by u e))
-              (mine.0, same, mine.2, came_self book w_book same);
+              (λ is. apart (is ∙ sym mine.0)) (kept.fits by u e)) (
+                mine.0,
+                same,
+                mine.2,
+                (subst (Extends book) (sym same) (extends_self book), mine.3.1),
+              );
+          register = register;
+          who = kept.who;
+          signed = signed;
+          signs = fits_set (Signs kept.id register kept.who) s.views id w
+              (λ by u apart e.
+              signs_other kept.id kept.register register kept.who kept.who by u
+              (λ a r.
+              owns_added kept.register kept.who by me.number a
+              (λ e'. apart (r.only ∙ ap kept.who e' ∙ sym o.only)) r)
+              (λ is. apart (is ∙ sym own.0)) (kept.signs by u e))
+              (own.0, same_register, λ _. record { author = author; only = o.only });
         },
         (
           refl,
           kept.number ∙ ap (λ (b : Book). length b.changes) (sym mine.1),
           subst (λ (b : Book). IsFullBook (grown b (x ∷ []))) (sym mine.1) full,
+          subst (λ (b : Book). CameBack b v.back v.was) (sym mine.1) mine.3,
+          subst (λ (b : Book). IsSigned b w_register) (sym same)
+              (subst (IsSigned book) (sym same_register) signed),
+          subst (IsAuthor made) (sym same_register) author,
         ),
       )
 
   -- a step that leaves its word
-  loaded : (words : List ℕ) (i : ℕ) (views : List (View M)) → Kept words views
+  pub loaded : (words : List ℕ) (i : ℕ) (views : List (View M)) → Kept words views
       → Kept (slice_set words i (slice_index words i)) views
   loaded words i views k =
       subst (λ (l : List ℕ). Kept l views) (sym (set-get_or words i 0)) k
 
   -- one view changes, and no word, book or slot
   pub viewed : (words : List ℕ) (views : List (View M)) (id : ℕ) (w : View M) (k : Kept words views)
-      → Fits k.id k.book k.slots k.owner words id w → Kept words (slice_set views id w)
-  viewed words views id w k fits =
+      → Fits k.id k.book k.slots k.owner words id w
+      → Signs k.id k.register k.who id w → Kept words (slice_set views id w)
+  viewed words views id w k fits signs =
       record {
         id = k.id;
         book = k.book;
@@ -122,6 +184,11 @@ module _ {M : Type 0} where
         agrees = k.agrees;
         fits = fits_set (Fits k.id k.book k.slots k.owner words) views id w
             (λ by u apart e. k.fits by u e) fits;
+        register = k.register;
+        who = k.who;
+        signed = k.signed;
+        signs = fits_set (Signs k.id k.register k.who) views id w
+            (λ by u apart e. k.signs by u e) signs;
       }
 
   -- a seat looks at the number
@@ -129,14 +196,28 @@ module _ {M : Type 0} where
       → Allows IsKept slots id (Seat w, []) 0 (λ n. n) (Sees (step slots 0 0 0 none) (Seat w, []))
   sees slots id w s kept len at small =
       let mine = kept.fits id (Seat w) at in
+      let own = kept.signs id (Seat w) at in
       let now : Sitting M =
-      record { slot = w.slot; book = kept.book; asks = w.asks; name = w.name } in (
+      record {
+        slot = w.slot;
+        book = kept.book;
+        asks = w.asks;
+        name = w.name;
+        author = w.author;
+      } in (
         Seat now,
         keeps,
         tt,
         loaded s.words 0 (slice_set s.views id (Seat now))
-            (viewed s.words s.views id (Seat now) kept (extends_self kept.book, mine.1)),
-        (refl, mine.0, kept.number, kept.full),
+            (viewed s.words s.views id (Seat now) kept (extends_self kept.book, mine.1)
+            own),
+        (
+          refl,
+          mine.0,
+          kept.number,
+          kept.full,
+          record { register = kept.register; signed = kept.signed; author = own.author },
+        ),
       )
 
   -- the keeper looks at the number
@@ -145,17 +226,17 @@ module _ {M : Type 0} where
       (Checks (step slots 0 0 0 none) (Keeper v, []))
   checks slots id v s kept len at small =
       let mine = kept.fits id (Keeper v) at in
-      let w : View M = keeper v.book v.slots in (
-        w,
+      let own = kept.signs id (Keeper v) at in (
+        Keeper v,
         keeps,
         tt,
-        loaded s.words 0 (slice_set s.views id w)
-            (viewed s.words s.views id w kept
-            (mine.0, mine.1, mine.2, came_self kept.book v.book mine.1)),
+        loaded s.words 0 (slice_set s.views id (Keeper v))
+            (viewed s.words s.views id (Keeper v) kept mine own),
         (
           refl,
           subst (λ (b : Book). CameBack b v.back v.was) (sym mine.1) mine.3,
           kept.number ∙ ap (λ (b : Book). length b.changes) (sym mine.1),
+          λ pos. subst (IsAuthor v.back.author) (sym own.1) (own.2 pos).author,
         ),
       )
 
@@ -187,12 +268,13 @@ module _ {M : Type 0} where
       (Counts (step slots k 0 0 none) (Keeper v, []))
   counts slots id k v pos within s kept len at small =
       let mine = kept.fits id (Keeper v) at in
+      let own = kept.signs id (Keeper v) at in
       let n : ℕ = slice_index s.words k in
       let p : Slot M = slot_at v.slots k in
       let q : Slot M = record { out = p.out; asks = n; name = p.name } in
       let same : p ≡ slot_at kept.slots k = ap (λ (l : List (Slot M)). slot_at l k) mine.2 in
       let lt : k < length kept.slots = omega (arith, kept.agrees.places, within) in
-      let w : View M = keeper v.book (counted v.slots k n) in (
+      let w : View M = keeper v.book (counted v.slots k n) v.register in (
         w,
         keeps,
         tt,
@@ -219,6 +301,12 @@ module _ {M : Type 0} where
                     ap (λ (l : List (Slot M)). slice_set l k q) mine.2,
                     came_self kept.book v.book mine.1,
                   );
+              register = kept.register;
+              who = kept.who;
+              signed = kept.signed;
+              signs = fits_set (Signs kept.id kept.register kept.who) s.views id w
+                  (λ by u apart e. kept.signs by u e)
+                  (own.0, own.1, λ (lt : 0 < 0). absurd (omega arith));
             },
         (
           refl,
@@ -240,6 +328,7 @@ module _ {M : Type 0} where
         sits_word slots owner words k n by w.slot w.asks w.name
         (λ e. apart (t.only ∙ ap owner e ∙ sym mine)) t,
   )
+  fits_asked id book slots owner words k n me by (Pair a b) mine apart f = f
   fits_asked id book slots owner words k n me by Spent mine apart f = tt
 
   -- a slot's seat asks
@@ -255,7 +344,13 @@ module _ {M : Type 0} where
       let here : slice_index (slice_set s.words k n) k ≡ n =
       get_or-set_same s.words k n 0 (omega (arith, kept.agrees.wide, t.within)) in
       let now : Sitting M =
-      record { slot = w.slot; book = w.book; asks = w.asks + 1; name = w.name } in (
+      record {
+        slot = w.slot;
+        book = w.book;
+        asks = w.asks + 1;
+        name = w.name;
+        author = w.author;
+      } in (
         Seat now,
         keeps,
         tt,
@@ -282,6 +377,11 @@ module _ {M : Type 0} where
                   only = t.only;
                 },
               );
+          register = kept.register;
+          who = kept.who;
+          signed = kept.signed;
+          signs = fits_set (Signs kept.id kept.register kept.who) s.views id (Seat now)
+              (λ by u apart e. kept.signs by u e) (kept.signs id (Seat w) at);
         },
         (refl, t.word),
       )

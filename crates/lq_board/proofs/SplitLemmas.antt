@@ -1,55 +1,69 @@
 -- Each split of the keeper keeps the rule.
-use Rattle.std.proofs.Common.{◌≡◌, ◌≢◌, ℕ, ◌<◌, ◌≤◌, true, false, true≢false, List, length, refl, sym, ap, ◌∙◌, subst, ⊎_elim, arith, Option}
+use Rattle.std.proofs.Common.{◌≡◌, ◌≢◌, ℕ, zero, suc, ◌+◌, ◌<◌, ◌≤◌, true, false, true≢false, List, [], ◌∷◌, ◌++◌, length, refl, sym, ap, ◌∙◌, subst, ⊎_elim, arith, Option}
 use Rattle.std.specs.Prelude.{slice_index, slice_set}
 use mathlib.Core.Option.{some}
 use lib.ListN.{get_elem?}
-use Rattle.atomic_table.specs.Table.{Splits}
-use Rattle.atomic_table.proofs.Lists.{set_again}
+use Rattle.atomic_table.specs.Table.{State, Splits}
 use Rattle.lq_volume.specs.Book.{Book, Extends}
+use Rattle.lq_board.specs.declared.views.Author.{Author}
+use Rattle.lq_board.specs.declared.views.Register.{Register}
 use Rattle.lq_board.specs.declared.views.Slot.{Slot}
 use Rattle.lq_board.specs.declared.views.Sitting.{Sitting}
 use Rattle.lq_board.specs.declared.views.Keeping.{Keeping}
 use Rattle.lq_board.specs.declared.views.View.{View}
 use Rattle.lq_board.specs.declared.views.View.TheVariants.{Keeper, Seat}
-use Rattle.lq_board.specs.Slot.{slot_at}
-use Rattle.lq_board.specs.View.{plain, keeper, opened, seated}
-use Rattle.lq_board.specs.Rule.{Fits, IsKept}
+use Rattle.lq_board.specs.Author.{with_seat, new_author}
+use Rattle.lq_board.specs.Slot.{slot_at, go_out}
+use Rattle.lq_board.specs.View.{plain, keeper, numbered, copy_of, opened, seated, parted, again_of}
+use Rattle.lq_board.specs.Rule.{Fits, Owns, Signs, IsKept}
+use Rattle.lq_board.proofs.AuthorLemmas.{signed_seat, author_new}
 use Rattle.lq_board.proofs.BookLemmas.{extends_self}
 use Rattle.lq_board.proofs.SlotLemmas.{slot_here, agrees_slot}
-use Rattle.lq_board.proofs.ViewLemmas.{at_end, owner_set, owner_here, owner_else, fits_set, came_self, sits_slot, fits_other}
+use Rattle.lq_board.proofs.ViewLemmas.{at_end, owner_set, owner_here, owner_else, owns_moved, owns_later, owns_here, fits_set, came_self, sits_slot, fits_other, signs_other}
 
 module _ {M : Type 0} where
-  -- a seat of no slot
-  pub copies : (id : ℕ) (v : Keeping M)
-      → Splits IsKept id (Keeper v) (Keeper v) (Seat (plain v.book))
-  copies id v s kept at =
+  -- a seat of no slot is split off: the books and the slots
+  fits_plain : (id : ℕ) (v : Keeping M) (s : State ℕ (View M)) (kept : IsKept s)
+      → get_elem? s.views id ≡ some (Keeper v) → (r : Register) (asks : ℕ) (name : Option M)
+      (author : Author) (by : ℕ) (u : View M)
+      → get_elem? (slice_set s.views id (keeper v.book v.slots r)
+      ++ Seat (record {
+        slot = 0;
+        book = v.book;
+        asks = asks;
+        name = name;
+        author = author;
+      }) ∷ []) by ≡ some u
+      → Fits kept.id kept.book kept.slots kept.owner s.words by u
+  fits_plain id v s kept at r asks name author by u e =
       let mine = kept.fits id (Keeper v) at in
-      let new : View M = Seat (plain v.book) in
-      record {
-        id = kept.id;
-        book = kept.book;
-        slots = kept.slots;
-        owner = kept.owner;
-        number = kept.number;
-        full = kept.full;
-        agrees = kept.agrees;
-        fits = λ by u e. ⊎_elim
-            (λ was. kept.fits by u
-            (subst (λ (l : List (View M)). get_elem? l by ≡ some u)
-            (set_again s.views id (Keeper v) at) was))
-            (λ (t : (new ≡ u) × (by ≡ length (slice_set s.views id (Keeper v)))).
-            subst (Fits kept.id kept.book kept.slots kept.owner s.words by) t.0 (
-              subst (λ (b : Book). Extends b v.book) mine.1 (extends_self v.book),
-              λ (lt : 0 < 0). absurd (omega arith),
-            ))
-            (at_end (slice_set s.views id (Keeper v)) new u by e);
-      }
+      let w : View M = keeper v.book v.slots r in
+      let new : View M =
+      Seat (record { slot = 0; book = v.book; asks = asks; name = name; author = author }) in
+      ⊎_elim
+      (λ was. fits_set (Fits kept.id kept.book kept.slots kept.owner s.words) s.views id w
+      (λ by' u' apart e'. kept.fits by' u' e')
+      (mine.0, mine.1, mine.2, came_self kept.book v.book mine.1) by u was)
+      (λ (t : (new ≡ u) × (by ≡ length (slice_set s.views id w))).
+      subst (Fits kept.id kept.book kept.slots kept.owner s.words by) t.0 (
+        subst (λ (b : Book). Extends b v.book) mine.1 (extends_self v.book),
+        λ (lt : 0 < 0). absurd (omega arith),
+      ))
+      (at_end (slice_set s.views id w) new u by e)
 
-  -- a slot's seat
-  pub sits_down : (id k : ℕ) (name : Option M) (v : Keeping M)
-      → 0 < k → k < 65 → (slot_at v.slots k).out ≡ false
-      → Splits IsKept id (Keeper v) (opened k name (Keeper v)) (seated k name (Keeper v))
-  sits_down id k name v pos within free s kept at =
+  -- a slot's seat is split off: the books and the slots
+  fits_slot : (id k : ℕ) (name : Option M) (v : Keeping M) (s : State ℕ (View M))
+      (kept : IsKept s) → get_elem? s.views id ≡ some (Keeper v) → 0 < k → k < 65
+      → (slot_at v.slots k).out ≡ false → (r : Register) (asks : ℕ)
+      → asks ≡ (slot_at v.slots k).asks → (author : Author) (by : ℕ) (u : View M)
+      → (let q : Slot M = record { out = true; asks = (slot_at v.slots k).asks; name = name } in
+      let w : View M = keeper v.book (slice_set v.slots k q) r in
+      let new : Sitting M =
+      record { slot = k; book = v.book; asks = asks; name = name; author = author } in
+      get_elem? (slice_set s.views id w ++ Seat new ∷ []) by ≡ some u
+      → Fits kept.id kept.book (slice_set kept.slots k q)
+      (owner_set kept.owner k (length (slice_set s.views id w))) s.words by u)
+  fits_slot id k name v s kept at pos within free r asks just author by u e =
       let mine = kept.fits id (Keeper v) at in
       let p : Slot M = slot_at v.slots k in
       let q : Slot M = record { out = true; asks = p.asks; name = name } in
@@ -58,10 +72,154 @@ module _ {M : Type 0} where
       sym (ap (λ (r : Slot M). r.out) same) ∙ free in
       let here : slot_at (slice_set kept.slots k q) k ≡ q =
       slot_here kept.slots k q (omega (arith, kept.agrees.places, within)) in
-      let w : View M = keeper v.book (slice_set v.slots k q) in
-      let new : Sitting M = record { slot = k; book = v.book; asks = p.asks; name = name } in
+      let w : View M = keeper v.book (slice_set v.slots k q) r in
+      let new : Sitting M =
+      record { slot = k; book = v.book; asks = asks; name = name; author = author } in
       let n : ℕ = length (slice_set s.views id w) in
       let owner : ℕ → ℕ = owner_set kept.owner k n in
+      ⊎_elim
+      (λ was. fits_set
+      (Fits kept.id kept.book (slice_set kept.slots k q) owner s.words) s.views id w
+      (λ by' u' apart e'.
+      fits_other kept.id kept.book kept.book kept.slots (slice_set kept.slots k q)
+      kept.owner owner s.words s.words by' u' (λ b p. p)
+      (λ slot asks named _ t.
+      let ne : slot ≢ k =
+      λ i. true≢false
+      (sym t.out ∙ ap (λ (j : ℕ). (slot_at kept.slots j).out) i
+      ∙ was_free) in
+      sits_slot kept.slots kept.owner owner s.words k by' slot asks named q ne
+      (owner_else kept.owner k n slot ne) t)
+      (λ is. apart (is ∙ sym mine.0)) (kept.fits by' u' e')) (
+        mine.0,
+        mine.1,
+        ap (λ (l : List (Slot M)). slice_set l k q) mine.2,
+        came_self kept.book v.book mine.1,
+      )
+      by u was)
+      (λ (t : (Seat new ≡ u) × (by ≡ n)).
+      subst (Fits kept.id kept.book (slice_set kept.slots k q) owner s.words by) t.0 (
+        subst (λ (b : Book). Extends b v.book) mine.1 (extends_self v.book),
+        λ _. record {
+          within = within;
+          out = ap (λ (r : Slot M). r.out) here;
+          named = ap (λ (r : Slot M). r.name) here;
+          word =
+              kept.agrees.idle k pos within was_free
+              ∙ sym (ap (λ (r : Slot M). r.asks) same)
+              ∙ sym just;
+          only = t.1 ∙ sym (owner_here kept.owner k n k refl);
+        },
+      ))
+      (at_end (slice_set s.views id w) (Seat new) u by e)
+
+  -- a new seat is split off: the authors
+  signs_new : (id : ℕ) (v : Keeping M) (s : State ℕ (View M)) (kept : IsKept s)
+      → get_elem? s.views id ≡ some (Keeper v) → (slots : List (Slot M)) (new : Sitting M)
+      → new.author ≡ new_author v.register → (by : ℕ) (u : View M)
+      → (let w : View M = keeper v.book slots (with_seat v.register) in
+      get_elem? (slice_set s.views id w ++ Seat new ∷ []) by ≡ some u
+      → Signs kept.id (with_seat kept.register)
+      (owner_set kept.who (kept.register.seats + 1) (length (slice_set s.views id w))) by u)
+  signs_new id v s kept at slots new is by u e =
+      let own = kept.signs id (Keeper v) at in
+      let w : View M = keeper v.book slots (with_seat v.register) in
+      let n : ℕ = length (slice_set s.views id w) in
+      let k : ℕ = kept.register.seats + 1 in
+      let r : Register = with_seat kept.register in
+      let who : ℕ → ℕ = owner_set kept.who k n in
+      let mine : Owns r who n (new_author kept.register) =
+      record {
+        author = author_new kept.book kept.register kept.signed;
+        only = sym (owner_here kept.who k n k refl);
+      } in
+      ⊎_elim
+      (λ was. fits_set (Signs kept.id r who) s.views id w
+      (λ by' u' apart e'.
+      signs_other kept.id kept.register r kept.who who by' u'
+      (λ a o. owns_later kept.register kept.who n by' a o)
+      (λ is. apart (is ∙ sym own.0)) (kept.signs by' u' e'))
+      (own.0, ap with_seat own.1, λ (lt : 0 < 0). absurd (omega arith))
+      by u was)
+      (λ (t : (Seat new ≡ u) × (by ≡ n)).
+      subst (Signs kept.id r who by) t.0
+      (subst (λ (j : ℕ). Owns r who j new.author) (sym t.1)
+      (subst (Owns r who n) (sym (is ∙ ap new_author own.1)) mine)))
+      (at_end (slice_set s.views id w) (Seat new) u by e)
+
+  -- the latest seat that came back is split off: the authors
+  signs_again : (id : ℕ) (v : Keeping M) (s : State ℕ (View M)) (kept : IsKept s)
+      → get_elem? s.views id ≡ some (Keeper v) → 0 < v.back.author.number
+      → (slots : List (Slot M)) (new : Sitting M) → new.author ≡ v.back.author
+      → (by : ℕ) (u : View M)
+      → (let w : View M = keeper v.book slots v.register in
+      get_elem? (slice_set s.views id w ++ Seat new ∷ []) by ≡ some u
+      → Signs kept.id kept.register
+      (owner_set kept.who v.back.author.number (length (slice_set s.views id w))) by u)
+  signs_again id v s kept at pos slots new is by u e =
+      let own = kept.signs id (Keeper v) at in
+      let o = own.2 pos in
+      let w : View M = keeper v.book slots v.register in
+      let n : ℕ = length (slice_set s.views id w) in
+      let k : ℕ = v.back.author.number in
+      let r : Register = kept.register in
+      let who : ℕ → ℕ = owner_set kept.who k n in
+      let mine : Owns r who n v.back.author = owns_here r kept.who id n v.back.author o in
+      ⊎_elim
+      (λ was. fits_set (Signs kept.id r who) s.views id w
+      (λ by' u' apart e'.
+      signs_other kept.id r r kept.who who by' u'
+      (λ a t. owns_moved r kept.who k n by' a
+      (λ i. apart (t.only ∙ ap kept.who i ∙ sym o.only)) t)
+      (λ is. apart (is ∙ sym own.0)) (kept.signs by' u' e'))
+      (own.0, own.1, λ (lt : 0 < 0). absurd (omega arith))
+      by u was)
+      (λ (t : (Seat new ≡ u) × (by ≡ n)).
+      subst (Signs kept.id r who by) t.0
+      (subst (λ (j : ℕ). Owns r who j new.author) (sym t.1)
+      (subst (Owns r who n) (sym is) mine)))
+      (at_end (slice_set s.views id w) (Seat new) u by e)
+
+  -- a new seat of no slot
+  pub copies : (id : ℕ) (v : Keeping M)
+      → Splits IsKept id (Keeper v) (numbered (Keeper v)) (copy_of (Keeper v))
+  copies id v s kept at =
+      let new : Sitting M = plain v.book (new_author v.register) in
+      record {
+        id = kept.id;
+        book = kept.book;
+        slots = kept.slots;
+        owner = kept.owner;
+        number = kept.number;
+        full = kept.full;
+        agrees = kept.agrees;
+        fits = fits_plain id v s kept at (with_seat v.register) new.asks new.name new.author;
+        register = with_seat kept.register;
+        who =
+            owner_set kept.who (kept.register.seats + 1)
+            (length (slice_set s.views id (numbered (Keeper v))));
+        signed = signed_seat kept.book kept.register kept.signed;
+        signs = signs_new id v s kept at v.slots new refl;
+      }
+
+  -- a slot's new seat
+  pub sits_down : (id k : ℕ) (name : Option M) (v : Keeping M)
+      → 0 < k → k < 65 → (slot_at v.slots k).out ≡ false
+      → Splits IsKept id (Keeper v) (opened k name (Keeper v)) (seated k name (Keeper v))
+  sits_down id k name v pos within free s kept at =
+      let mine = kept.fits id (Keeper v) at in
+      let p : Slot M = slot_at v.slots k in
+      let q : Slot M = record { out = true; asks = p.asks; name = name } in
+      let same : p ≡ slot_at kept.slots k = ap (λ (l : List (Slot M)). slot_at l k) mine.2 in
+      let new : Sitting M =
+      record {
+        slot = k;
+        book = v.book;
+        asks = p.asks;
+        name = name;
+        author = new_author v.register;
+      } in
+      let n : ℕ = length (slice_set s.views id (opened k name (Keeper v))) in
       let most : q.asks ≤ slice_index s.words k =
       subst (λ (r : Slot M). r.asks ≤ slice_index s.words k) (sym same)
       (kept.agrees.known k pos within) in
@@ -69,43 +227,98 @@ module _ {M : Type 0} where
         id = kept.id;
         book = kept.book;
         slots = slice_set kept.slots k q;
-        owner = owner;
+        owner = owner_set kept.owner k n;
         number = kept.number;
         full = kept.full;
         agrees =
             agrees_slot s.words kept.slots k q most (λ out. absurd (true≢false out)) kept.agrees;
-        fits = λ by u e. ⊎_elim
-            (λ was. fits_set
-            (Fits kept.id kept.book (slice_set kept.slots k q) owner s.words) s.views id w
-            (λ by' u' apart e'.
-            fits_other kept.id kept.book kept.book kept.slots (slice_set kept.slots k q)
-            kept.owner owner s.words s.words by' u' (λ b p. p)
-            (λ slot asks named _ t.
-            let ne : slot ≢ k =
-            λ i. true≢false
-            (sym t.out ∙ ap (λ (j : ℕ). (slot_at kept.slots j).out) i
-            ∙ was_free) in
-            sits_slot kept.slots kept.owner owner s.words k by' slot asks named q ne
-            (owner_else kept.owner k n slot ne) t)
-            (λ is. apart (is ∙ sym mine.0)) (kept.fits by' u' e')) (
-              mine.0,
-              mine.1,
-              ap (λ (l : List (Slot M)). slice_set l k q) mine.2,
-              came_self kept.book v.book mine.1,
-            )
-            by u was)
-            (λ (t : (Seat new ≡ u) × (by ≡ n)).
-            subst (Fits kept.id kept.book (slice_set kept.slots k q) owner s.words by) t.0 (
-              subst (λ (b : Book). Extends b v.book) mine.1 (extends_self v.book),
-              λ _. record {
-                within = within;
-                out = ap (λ (r : Slot M). r.out) here;
-                named = ap (λ (r : Slot M). r.name) here;
-                word =
-                    kept.agrees.idle k pos within was_free
-                    ∙ sym (ap (λ (r : Slot M). r.asks) same);
-                only = t.1 ∙ sym (owner_here kept.owner k n k refl);
-              },
-            ))
-            (at_end (slice_set s.views id w) (Seat new) u by e);
+        fits = fits_slot id k name v s kept at pos within free (with_seat v.register) p.asks refl
+            new.author;
+        register = with_seat kept.register;
+        who = owner_set kept.who (kept.register.seats + 1) n;
+        signed = signed_seat kept.book kept.register kept.signed;
+        signs = signs_new id v s kept at (slice_set v.slots k q) new refl;
       }
+
+  -- the latest seat that came back, by cases on its slot
+  again_at : (id : ℕ) (name : Option M) (v : Keeping M) (k : ℕ) → 0 < v.back.author.number
+      → k < 65
+      → (0 < k → ((slot_at v.slots k).out ≡ false) × (v.back.asks ≡ (slot_at v.slots k).asks))
+      → Splits IsKept id (Keeper v) (keeper v.book (go_out v.slots k name) v.register)
+      (Seat (record {
+        slot = k;
+        book = v.book;
+        asks = v.back.asks;
+        name = name;
+        author = v.back.author;
+      }))
+  again_at id name v zero number within was s kept at =
+      let new : Sitting M =
+      record {
+        slot = 0;
+        book = v.book;
+        asks = v.back.asks;
+        name = name;
+        author = v.back.author;
+      } in
+      record {
+        id = kept.id;
+        book = kept.book;
+        slots = kept.slots;
+        owner = kept.owner;
+        number = kept.number;
+        full = kept.full;
+        agrees = kept.agrees;
+        fits = fits_plain id v s kept at v.register v.back.asks name v.back.author;
+        register = kept.register;
+        who =
+            owner_set kept.who v.back.author.number
+            (length (slice_set s.views id (keeper v.book v.slots v.register)));
+        signed = kept.signed;
+        signs = signs_again id v s kept at number v.slots new refl;
+      }
+  again_at id name v (suc k) number within was s kept at =
+      let mine = kept.fits id (Keeper v) at in
+      let p : Slot M = slot_at v.slots (suc k) in
+      let q : Slot M = record { out = true; asks = p.asks; name = name } in
+      let same : p ≡ slot_at kept.slots (suc k) =
+      ap (λ (l : List (Slot M)). slot_at l (suc k)) mine.2 in
+      let pos : 0 < suc k = omega arith in
+      let new : Sitting M =
+      record {
+        slot = suc k;
+        book = v.book;
+        asks = v.back.asks;
+        name = name;
+        author = v.back.author;
+      } in
+      let w : View M = keeper v.book (slice_set v.slots (suc k) q) v.register in
+      let n : ℕ = length (slice_set s.views id w) in
+      let most : q.asks ≤ slice_index s.words (suc k) =
+      subst (λ (r : Slot M). r.asks ≤ slice_index s.words (suc k)) (sym same)
+      (kept.agrees.known (suc k) pos within) in
+      record {
+        id = kept.id;
+        book = kept.book;
+        slots = slice_set kept.slots (suc k) q;
+        owner = owner_set kept.owner (suc k) n;
+        number = kept.number;
+        full = kept.full;
+        agrees =
+            agrees_slot s.words kept.slots (suc k) q most (λ out. absurd (true≢false out))
+            kept.agrees;
+        fits = fits_slot id (suc k) name v s kept at pos within (was pos).0 v.register v.back.asks
+            (was pos).1 v.back.author;
+        register = kept.register;
+        who = owner_set kept.who v.back.author.number n;
+        signed = kept.signed;
+        signs = signs_again id v s kept at number (slice_set v.slots (suc k) q) new refl;
+      }
+
+  -- the latest seat that came back
+  pub again : (id : ℕ) (name : Option M) (v : Keeping M) → 0 < v.back.author.number
+      → v.back.slot < 65
+      → (0 < v.back.slot → ((slot_at v.slots v.back.slot).out ≡ false)
+      × (v.back.asks ≡ (slot_at v.slots v.back.slot).asks))
+      → Splits IsKept id (Keeper v) (parted name (Keeper v)) (again_of name (Keeper v))
+  again id name v number within was = again_at id name v v.back.slot number within was

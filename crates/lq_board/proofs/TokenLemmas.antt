@@ -1,5 +1,5 @@
 -- The steps of a token that is known, as the calls need them.
-use Rattle.std.proofs.Common.{◌≡◌, ℕ, ◌+◌, ◌<◌, ◌^◌, ◌%◌, false, List, [], ◌∷◌, length, sym, ap, ◌∙◌, subst, Option, Some}
+use Rattle.std.proofs.Common.{◌≡◌, ℕ, zero, suc, ◌+◌, ◌<◌, ◌^◌, ◌%◌, true, false, List, [], ◌∷◌, length, refl, sym, ap, ◌∙◌, subst, arith, length-set, Option, Some}
 use Rattle.std.specs.Prelude.{slice_index}
 use mathlib.Core.Option.{none, some, some-injective, some-ne-none}
 use lib.ListN.{get_elem?}
@@ -9,20 +9,26 @@ use Rattle.lq_volume.specs.Change.{IsLawful}
 use Rattle.lq_volume.specs.Laws.{ChangesKeepTrees}
 use Rattle.lq_volume.specs.Book.{Book, state_of}
 use Rattle.lq_board.specs.declared.views.Keeping.{Keeping}
+use Rattle.lq_board.specs.declared.views.Slot.{Slot}
 use Rattle.lq_board.specs.declared.views.View.{View}
 use Rattle.lq_board.specs.declared.views.View.TheVariants.{Keeper, Seat, Spent}
-use Rattle.lq_board.specs.Slot.{slot_at}
-use Rattle.lq_board.specs.View.{keeper, keeping, keeping_of, sitting_of, copy_of, opened, seated, taken}
+use Rattle.lq_board.specs.Slot.{slot_at, come_back}
+use Rattle.lq_board.specs.Author.{IsAuthorIn}
+use Rattle.lq_board.specs.Book.{IsFullBook}
+use Rattle.lq_board.specs.declared.views.Sitting.{Sitting}
+use Rattle.lq_board.specs.View.{IsKeeping, IsSitting, keeping_of, sitting_of, numbered, copy_of, parted, again_of, opened, seated, taken}
 use Rattle.lq_board.specs.Rule.{Kept, IsKept}
 use Rattle.lq_board.specs.Step.{Adds, Sees, Checks, Counts, Asks}
+use Rattle.lq_board.proofs.AuthorLemmas.{signed_seat}
+use Rattle.lq_board.proofs.SlotLemmas.{slot_here}
 use Rattle.lq_board.proofs.PlayLemmas.{adds, sees, checks, counts, asks}
-use Rattle.lq_board.proofs.SplitLemmas.{copies, sits_down}
+use Rattle.lq_board.proofs.SplitLemmas.{copies, again, sits_down}
 use Rattle.lq_board.proofs.JoinLemmas.{backs}
 
 module _ {M : Type 0} where
   -- a keeper between its steps, and a seat
   abbrev Keeps : Me ℕ (View M) → Type 0
-  Keeps me = me ≡ (keeper (keeping_of me.0).book (keeping_of me.0).slots, [])
+  Keeps me = me ≡ (Keeper (keeping_of me.0), [])
 
   -- a seat between its steps
   abbrev SitsAt : Me ℕ (View M) → Type 0
@@ -30,22 +36,28 @@ module _ {M : Type 0} where
 
   -- what a keeper knows between its steps
   abbrev at_rest : Me ℕ (View M) → Keeping M
-  at_rest me = keeping (keeping_of me.0).book (keeping_of me.0).slots
+  at_rest me = keeping_of me.0
 
-  -- the keeper may add one to the word of the changes, as a lawful change is accepted
-  pub adds_as : (slots id : ℕ) (me : Me ℕ (View M)) (x : Change) (said : Option Change)
-      → ChangesKeepTrees → said ≡ Some x → Keeps me → IsLawful (state_of (keeping_of me.0).book) x
-      → Allows IsKept slots id me 0 (λ n. (n + 1) % 2 ^ 64) (Adds said (step slots 0 1 0 none) me)
-  adds_as slots id me x said keeps says is lawful =
+  -- the keeper may add one to the word of the changes, once the change's author came back
+  pub adds_after : (slots id : ℕ) (me you now : Me ℕ (View M)) (x : Change) (said : Option Change)
+      → ChangesKeepTrees → said ≡ Some x → Keeps me → now ≡ (taken me.0 you.0, me.1)
+      → 0 < (sitting_of you.0).author.number → IsLawful (state_of (keeping_of me.0).book) x
+      → Allows IsKept slots id now 0 (λ n. (n + 1) % 2 ^ 64)
+      (Adds said (step slots 0 1 0 none) now)
+  adds_after slots id me you now x said keeps says was is pos lawful =
+      let rest : me.1 ≡ [] = ap (λ m. m.1) was in
+      let back : Me ℕ (View M) = (taken me.0 you.0, []) in
+      let at : now ≡ back =
+      is ∙ ap (λ (l : List (ℕ × ℕ)). let x : Me ℕ (View M) = (taken me.0 you.0, l) in x) rest in
       subst
       (λ (o : Option Change).
-      Allows IsKept slots id me 0 (λ n. (n + 1) % 2 ^ 64) (Adds o (step slots 0 1 0 none) me))
+      Allows IsKept slots id now 0 (λ n. (n + 1) % 2 ^ 64) (Adds o (step slots 0 1 0 none) now))
       (sym says)
       (subst
       (λ (m : Me ℕ (View M)).
       Allows IsKept slots id m 0 (λ n. (n + 1) % 2 ^ 64)
       (Adds (Some x) (step slots 0 1 0 none) m))
-      (sym is) (adds slots id (at_rest me) x keeps lawful))
+      (sym at) (adds slots id (keeping_of (taken me.0 you.0)) x keeps pos lawful))
 
   -- a seat may read the word of the changes
   pub sees_as : (slots id : ℕ) (me : Me ℕ (View M)) → SitsAt me
@@ -94,12 +106,90 @@ module _ {M : Type 0} where
       (Asks (step slots (sitting_of me.0).slot 1 0 none) m))
       (sym is) (asks slots id (sitting_of me.0) pos room))
 
-  -- the keeper may give out a copy of the book
+  -- the keeper may give out a new seat of no slot
   pub copies_as : (id : ℕ) (me : Me ℕ (View M)) → Keeps me
-      → Splits IsKept id me.0 me.0 (copy_of me.0)
+      → Splits IsKept id me.0 (numbered me.0) (copy_of me.0)
   copies_as id me is =
-      subst (λ (v : View M). Splits IsKept id v v (copy_of v)) (sym (ap (λ m. m.0) is))
-      (copies id (at_rest me))
+      subst (λ (v : View M). Splits IsKept id v (numbered v) (copy_of v))
+      (sym (ap (λ m. m.0) is)) (copies id (at_rest me))
+
+  -- a keeper after a new seat of no slot went out
+  pub is_numbered : (me now : Me ℕ (View M)) → IsKeeping me → now ≡ (numbered me.0, me.1)
+      → IsKeeping now
+  is_numbered me now k is =
+      let rest : me.1 ≡ [] = ap (λ m. m.1) k.0 in
+      let after : Me ℕ (View M) = (numbered me.0, []) in
+      let at : now ≡ after =
+      is ∙ ap (λ (l : List (ℕ × ℕ)). let x : Me ℕ (View M) = (numbered me.0, l) in x) rest in
+      subst IsKeeping (sym at) (
+        refl,
+        k.1,
+        k.2,
+        signed_seat (keeping_of me.0).book (keeping_of me.0).register k.3,
+      )
+
+  -- and after a slot's new seat
+  pub is_opened : (k : ℕ) (name : Option M) (me now : Me ℕ (View M)) → IsKeeping me
+      → now ≡ (opened k name me.0, me.1) → IsKeeping now
+  is_opened k name me now kept is =
+      let rest : me.1 ≡ [] = ap (λ m. m.1) kept.0 in
+      let after : Me ℕ (View M) = (opened k name me.0, []) in
+      let at : now ≡ after =
+      is ∙ ap (λ (l : List (ℕ × ℕ)). let x : Me ℕ (View M) = (opened k name me.0, l) in x) rest in
+      let slots = (keeping_of me.0).slots in
+      let q : Slot M = record { out = true; asks = (slot_at slots k).asks; name = name } in
+      subst IsKeeping (sym at) (
+        refl,
+        length-set slots k q ∙ kept.1,
+        kept.2,
+        signed_seat (keeping_of me.0).book (keeping_of me.0).register kept.3,
+      )
+
+  -- a seat that went out
+  pub is_sitting : (me : Me ℕ (View M)) (w : Sitting M) → me ≡ (Seat w, []) → IsFullBook w.book
+      → IsAuthorIn w.author w.book → IsSitting me
+  is_sitting me w is full author =
+      subst IsSitting (sym is) (refl, full, author)
+
+  -- the latest seat that came back can go out again
+  abbrev pub IsBack : Keeping M → Type 0
+  IsBack v =
+      (0 < v.back.author.number)
+      × (v.back.slot < 65)
+      × (0 < v.back.slot
+      → ((slot_at v.slots v.back.slot).out ≡ false)
+      × (v.back.asks ≡ (slot_at v.slots v.back.slot).asks))
+
+  -- what is known of a slot whose seat came back
+  come_at : (slots : List (Slot M)) (k asks : ℕ) (name : Option M) → k < length slots → 0 < k
+      → ((slot_at (come_back slots k asks name) k).out ≡ false)
+      × (asks ≡ (slot_at (come_back slots k asks name) k).asks)
+  come_at slots zero asks name lt pos = absurd (omega (arith, pos))
+  come_at slots (suc k) asks name lt pos =
+      let q : Slot M = record { out = false; asks = asks; name = name } in
+      let here = slot_here slots (suc k) q lt in
+      (ap (λ (r : Slot M). r.out) here, sym (ap (λ (r : Slot M). r.asks) here))
+
+  -- once it came back
+  pub is_back : (me you now : Me ℕ (View M)) → now ≡ (taken me.0 you.0, me.1)
+      → length (keeping_of me.0).slots ≡ 65 → 0 < (sitting_of you.0).author.number
+      → (sitting_of you.0).slot < 65 → IsBack (keeping_of now.0)
+  is_back me you now is wide number within =
+      let back = sitting_of you.0 in
+      subst (λ (m : Me ℕ (View M)). IsBack (keeping_of m.0)) (sym is) (
+        number,
+        within,
+        come_at (keeping_of me.0).slots back.slot back.asks back.name
+            (omega (arith, wide, within)),
+      )
+
+  -- the keeper may give it out again
+  pub again_as : (id : ℕ) (name : Option M) (now : Me ℕ (View M)) (v : Keeping M)
+      (more : List (ℕ × ℕ)) → now ≡ (Keeper v, more) → IsBack v
+      → Splits IsKept id now.0 (parted name now.0) (again_of name now.0)
+  again_as id name now v more is back =
+      subst (λ (u : View M). Splits IsKept id u (parted name u) (again_of name u))
+      (sym (ap (λ m. m.0) is)) (again id name v back.0 back.1 back.2)
 
   -- the keeper may give out the seat of a slot whose seat is not out
   pub sits_down_as : (id k : ℕ) (name : Option M) (me : Me ℕ (View M)) → Keeps me

@@ -1,16 +1,20 @@
 -- The views of the tokens, where one of them changes.
-use Rattle.std.proofs.Common.{◌≡◌, ◌≢◌, ◌⊎◌, ℕ, zero, suc, ◌<◌, eqb, eq-eqb, ne_eqb, cond, List, [], ◌∷◌, ◌++◌, length, refl, sym, ap, ◌∙◌, subst, inl, inr, ⊎_elim, arith, get_or-set_other, Option}
+use Rattle.std.proofs.Common.{◌≡◌, ◌≢◌, ◌⊎◌, ℕ, zero, suc, ◌+◌, ◌<◌, eqb, eq-eqb, ne_eqb, cond, List, [], ◌∷◌, ◌++◌, length, refl, sym, ap, ◌∙◌, subst, inl, inr, ⊎_elim, arith, get_or-set_other, Option}
 use Rattle.std.specs.Prelude.{slice_set}
 use mathlib.Core.Option.{some, some-injective, some-ne-none}
 use lib.ListN.{get_elem?}
 use Rattle.atomic_table.proofs.Lists.{at_set}
 use Rattle.lq_volume.specs.Book.{Book, Extends}
+use Rattle.lq_board.specs.declared.views.Author.{Author}
+use Rattle.lq_board.specs.declared.views.Register.{Register}
 use Rattle.lq_board.specs.declared.views.Slot.{Slot}
 use Rattle.lq_board.specs.declared.views.View.{View}
-use Rattle.lq_board.specs.declared.views.View.TheVariants.{Keeper, Seat, Spent}
+use Rattle.lq_board.specs.declared.views.View.TheVariants.{Keeper, Seat, Pair, Spent}
+use Rattle.lq_board.specs.Author.{no_author, with_seat, with_author}
 use Rattle.lq_board.specs.Slot.{unused}
 use Rattle.lq_board.specs.View.{plain}
-use Rattle.lq_board.specs.Rule.{CameBack, Sits, Fits}
+use Rattle.lq_board.specs.Rule.{CameBack, Sits, Fits, Owns, Signs}
+use Rattle.lq_board.proofs.AuthorLemmas.{author_else, author_later}
 use Rattle.lq_board.proofs.BookLemmas.{extends_self}
 use Rattle.lq_board.proofs.SlotLemmas.{slot_else}
 
@@ -34,6 +38,36 @@ owner_here owner k n j e = ap (λ b. cond b n (owner j)) (eq-eqb j k e)
 pub owner_else : (owner : ℕ → ℕ) (k n j : ℕ) → j ≢ k → owner_set owner k n j ≡ owner j
 owner_else owner k n j e = ap (λ b. cond b n (owner j)) (ne_eqb j k e)
 
+-- an author, where another has one change more
+pub owns_added : (r : Register) (who : ℕ → ℕ) (by other : ℕ) (a : Author) → a.number ≢ other
+    → Owns r who by a → Owns (with_author r other) who by a
+owns_added r who by other a ne o =
+    record { author = author_else r a other (λ e. ne (sym e)) o.author; only = o.only }
+
+-- an author, where another token has another author
+pub owns_moved : (r : Register) (who : ℕ → ℕ) (j k by : ℕ) (a : Author) → a.number ≢ j
+    → Owns r who by a → Owns r (owner_set who j k) by a
+owns_moved r who j k by a ne o =
+    record { author = o.author; only = o.only ∙ sym (owner_else who j k a.number ne) }
+
+-- an author, where one seat more has a number
+pub owns_later : (r : Register) (who : ℕ → ℕ) (k by : ℕ) (a : Author) → Owns r who by a
+    → Owns (with_seat r) (owner_set who (r.seats + 1) k) by a
+owns_later r who k by a o =
+    let most = o.author.most in
+    record {
+      author = author_later r a o.author;
+      only =
+          o.only
+          ∙ sym (owner_else who (r.seats + 1) k a.number (λ e. omega (arith, e, most)));
+    }
+
+-- an author that another token takes over
+pub owns_here : (r : Register) (who : ℕ → ℕ) (by k : ℕ) (a : Author) → Owns r who by a
+    → Owns r (owner_set who a.number k) k a
+owns_here r who by k a o =
+    record { author = o.author; only = sym (owner_here who a.number k a.number refl) }
+
 module _ {M : Type 0} where
   -- one view changes
   pub fits_set : (P : ℕ → View M → Type 0) (views : List (View M)) (id : ℕ) (w : View M)
@@ -47,7 +81,8 @@ module _ {M : Type 0} where
       (at_set views id by w v e)
 
   -- a seat of no slot came back that knew all
-  pub came_self : (book b : Book) → b ≡ book → CameBack {M = M} book (plain b) unused
+  pub came_self : (book b : Book) → b ≡ book
+      → CameBack {M = M} book (plain b no_author) unused
   came_self book b e =
       (subst (Extends book) (sym e) (extends_self book), λ (lt : 0 < 0). absurd (omega arith))
 
@@ -92,4 +127,28 @@ module _ {M : Type 0} where
       absurd (apart f.0)
   fits_other id book book' slots slots' owner owner' words words' by (Seat w) longer sits apart f =
       (longer w.book f.0, λ pos. sits w.slot w.asks w.name pos (f.1 pos))
+  fits_other id book book' slots slots' owner owner' words words' by
+      (Pair a b) longer sits apart f =
+      (longer a.book f.0, longer b.book f.1)
   fits_other id book book' slots slots' owner owner' words words' by Spent longer sits apart f = tt
+
+  -- another token's author, where the authors are as they were but for one
+  pub signs_other : (id : ℕ) (r r' : Register) (who who' : ℕ → ℕ) (by : ℕ) (v : View M)
+      → ((a : Author) → Owns r who by a → Owns r' who' by a)
+      → by ≢ id → Signs id r who by v → Signs id r' who' by v
+  signs_other id r r' who who' by (Keeper v) owns apart f = absurd (apart f.0)
+  signs_other id r r' who who' by (Seat w) owns apart f = owns w.author f
+  signs_other id r r' who who' by (Pair a b) owns apart f =
+      (owns a.author f.0, owns b.author f.1, f.2)
+  signs_other id r r' who who' by Spent owns apart f = tt
+
+  -- any token's author, where only one author has another token
+  pub signs_moved : (id : ℕ) (r : Register) (who who' : ℕ → ℕ) (by : ℕ) (v : View M)
+      → ((a : Author) → Owns r who by a → Owns r who' by a)
+      → Signs id r who by v → Signs id r who' by v
+  signs_moved id r who who' by (Keeper v) owns f =
+      (f.0, f.1, λ pos. owns v.back.author (f.2 pos))
+  signs_moved id r who who' by (Seat w) owns f = owns w.author f
+  signs_moved id r who who' by (Pair a b) owns f =
+      (owns a.author f.0, owns b.author f.1, f.2)
+  signs_moved id r who who' by Spent owns f = tt

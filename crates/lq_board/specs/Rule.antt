@@ -1,15 +1,23 @@
 -- The rule of a board's words.
-use Rattle.std.specs.Prelude.{◌≡◌, ℕ, ◌<◌, ◌≤◌, true, false, List, length, slice_index, Option}
+use Rattle.std.specs.Prelude.{◌≡◌, ◌≢◌, ℕ, ◌<◌, ◌≤◌, true, false, List, length, slice_index, Option}
 use mathlib.Core.Option.{some}
 use lib.ListN.{get_elem?}
 use Rattle.atomic_table.specs.Table.{State}
 use Rattle.lq_volume.specs.Book.{Book, Extends}
 use Rattle.lq_board.specs.declared.views.Slot.{Slot}
+use Rattle.lq_board.specs.declared.views.Author.{Author}
+use Rattle.lq_board.specs.declared.views.Register.{Register}
 use Rattle.lq_board.specs.declared.views.Sitting.{Sitting}
 use Rattle.lq_board.specs.declared.views.View.{View}
-use Rattle.lq_board.specs.declared.views.View.TheVariants.{Keeper, Seat, Spent}
+use Rattle.lq_board.specs.declared.views.View.TheVariants.{Keeper, Seat, Pair, Spent}
 use Rattle.lq_board.specs.Book.{IsFullBook}
+use Rattle.lq_board.specs.Author.{IsSigned, IsAuthor}
 use Rattle.lq_board.specs.Slot.{slot_at}
+
+-- the author is the token `by`, and no other
+pub record Owns (r : Register) (who : ℕ → ℕ) (by : ℕ) (a : Author) : Type 0 where
+  pub author : IsAuthor a r
+  pub only : by ≡ who a.number
 
 module _ {M : Type 0} where
   -- what holds for a seat that came back: its book is a prefix of the keeper's; a slot's seat was
@@ -38,7 +46,19 @@ module _ {M : Type 0} where
       (by ≡ id) × (v.book ≡ book) × (v.slots ≡ slots) × CameBack book v.back v.was
   Fits id book slots owner words by (Seat w) =
       Extends book w.book × (0 < w.slot → Sits slots owner words by w.slot w.asks w.name)
+  Fits id book slots owner words by (Pair a b) = Extends book a.book × Extends book b.book
   Fits id book slots owner words by Spent = Unit {0}
+
+  -- each seat is an author of its own, and the keeper has that of the latest seat that came back
+  abbrev pub Signs : ℕ → Register → (ℕ → ℕ) → ℕ → View M → Type 0
+  Signs id r who by (Keeper v) =
+      (by ≡ id)
+      × (v.register ≡ r)
+      × (0 < v.back.author.number → Owns r who by v.back.author)
+  Signs id r who by (Seat w) = Owns r who by w.author
+  Signs id r who by (Pair a b) =
+      Owns r who by a.author × Owns r who by b.author × (a.author.number ≢ b.author.number)
+  Signs id r who by Spent = Unit {0}
 
   -- a slot's word is at least what the keeper knows, and equals it where no seat of the slot is out
   pub record Agrees (words : List ℕ) (slots : List (Slot M)) : Type 0 where
@@ -48,7 +68,7 @@ module _ {M : Type 0} where
     pub idle : (k : ℕ) → 0 < k → k < 65 → (slot_at slots k).out ≡ false
         → slice_index words k ≡ (slot_at slots k).asks
 
-  -- word 0 is the length of the keeper's book, which is lawful
+  -- word 0 is the length of the keeper's book, which is lawful, and each change has one author
   pub record Kept (words : List ℕ) (views : List (View M)) : Type 0 where
     pub id : ℕ
     pub book : Book
@@ -59,6 +79,10 @@ module _ {M : Type 0} where
     pub agrees : Agrees words slots
     pub fits : (by : ℕ) (v : View M) → get_elem? views by ≡ some v
         → Fits id book slots owner words by v
+    pub register : Register
+    pub who : ℕ → ℕ
+    pub signed : IsSigned book register
+    pub signs : (by : ℕ) (v : View M) → get_elem? views by ≡ some v → Signs id register who by v
 
   abbrev pub IsKept : State ℕ (View M) → Type 0
   IsKept s = Kept s.words s.views

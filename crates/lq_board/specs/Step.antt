@@ -1,48 +1,84 @@
 -- What a step on the words proves.
-use Rattle.std.specs.Prelude.{◌≡◌, ℕ, ◌+◌, ◌≤◌, false, length, Option, option_to_list}
+use Rattle.std.specs.Prelude.{◌≡◌, ◌≢◌, ℕ, ◌+◌, ◌<◌, ◌≤◌, false, length, Option, option_to_list}
 use Rattle.atomic_table.specs.Table.{Step, Me}
 use Rattle.lq_volume.specs.declared.change.Change.{Change}
 use Rattle.lq_volume.specs.Book.{grown, Extends}
 use Rattle.lq_board.specs.declared.views.View.{View}
-use Rattle.lq_board.specs.declared.views.View.TheVariants.{Seat}
+use Rattle.lq_board.specs.declared.views.View.TheVariants.{Keeper, Seat}
 use Rattle.lq_board.specs.Book.{IsFullBook}
+use Rattle.lq_board.specs.Author.{IsSigned, IsAuthor, IsAuthorIn, AreDisjoint, with_author, with_change}
 use Rattle.lq_board.specs.Slot.{slot_at, counted}
-use Rattle.lq_board.specs.View.{keeper, keeping_of, sitting_of}
+use Rattle.lq_board.specs.View.{keeper, keeping_of, sitting_of, first_of, second_of}
 use Rattle.lq_board.specs.Rule.{CameBack}
 
 module _ {M : Type 0} where
-  -- the change was added to the book
+  -- a change by the latest seat that came back was added to the book
   abbrev pub Adds :
       Option Change → Step ℕ → Me ℕ (View M) → ℕ → Me ℕ (View M) → Type 0
   Adds change s m found n =
-      let book = (keeping_of m.0).book in
-      (n ≡ (keeper (grown book (option_to_list change)) (keeping_of m.0).slots, m.1))
-      × (found ≡ length book.changes)
-      × IsFullBook (grown book (option_to_list change))
+      let was = keeping_of m.0 in
+      let book = grown was.book (option_to_list change) in
+      let author = with_change was.back.author (length was.book.changes + 1) in
+      let register = with_author was.register was.back.author.number in
+      (n
+      ≡ (
+        Keeper (record {
+          book = book;
+          slots = was.slots;
+          register = register;
+          back =
+              record {
+                slot = was.back.slot;
+                book = book;
+                asks = was.back.asks;
+                name = was.back.name;
+                author = author;
+              };
+          was = was.was;
+        }),
+        m.1,
+      ))
+      × (found ≡ length was.book.changes)
+      × IsFullBook book
+      × CameBack was.book was.back was.was
+      × IsSigned book register
+      × IsAuthor author register
 
   -- the number is the length of a book that extends the book known before
   abbrev pub Sees : Step ℕ → Me ℕ (View M) → ℕ → Me ℕ (View M) → Type 0
   Sees s m found n =
       let was = sitting_of m.0 in
       let book = (sitting_of n.0).book in
-      (n ≡ (Seat (record { slot = was.slot; book = book; asks = was.asks; name = was.name }), m.1))
+      (n
+      ≡ (
+        Seat (record {
+          slot = was.slot;
+          book = book;
+          asks = was.asks;
+          name = was.name;
+          author = was.author;
+        }),
+        m.1,
+      ))
       × Extends book was.book
       × (found ≡ length book.changes)
       × IsFullBook book
+      × IsAuthorIn was.author book
 
   -- what came back is as the rule says, and the number is the length of the book
   abbrev pub Checks : Step ℕ → Me ℕ (View M) → ℕ → Me ℕ (View M) → Type 0
   Checks s m found n =
       let was = keeping_of m.0 in
-      (n ≡ (keeper was.book was.slots, m.1))
+      (n ≡ m)
       × CameBack was.book was.back was.was
       × (found ≡ length was.book.changes)
+      × (0 < was.back.author.number → IsAuthor was.back.author was.register)
 
   -- a slot's seats asked at least as often as was known, and exactly as often where no seat is out
   abbrev pub Counts : Step ℕ → Me ℕ (View M) → ℕ → Me ℕ (View M) → Type 0
   Counts s m found n =
       let was = keeping_of m.0 in
-      (n ≡ (keeper was.book (counted was.slots s.word found), m.1))
+      (n ≡ (keeper was.book (counted was.slots s.word found) was.register, m.1))
       × ((slot_at was.slots s.word).asks ≤ found)
       × ((slot_at was.slots s.word).out ≡ false → found ≡ (slot_at was.slots s.word).asks)
 
@@ -52,7 +88,20 @@ module _ {M : Type 0} where
       let was = sitting_of m.0 in
       (n
       ≡ (
-        Seat (record { slot = was.slot; book = was.book; asks = was.asks + 1; name = was.name }),
+        Seat (record {
+          slot = was.slot;
+          book = was.book;
+          asks = was.asks + 1;
+          name = was.name;
+          author = was.author;
+        }),
         m.1,
       ))
       × (found ≡ was.asks)
+
+  -- two seats are two authors, who share no change
+  abbrev pub Compares : Step ℕ → Me ℕ (View M) → ℕ → Me ℕ (View M) → Type 0
+  Compares s m found n =
+      let one = (first_of m.0).author in
+      let two = (second_of m.0).author in
+      (n ≡ m) × (one.number ≢ two.number) × AreDisjoint one.changes two.changes

@@ -4,24 +4,30 @@ use Rattle.atomic_table.specs.Seated.{TableId}
 use Rattle.atomic_table.specs.Table.{Me}
 use Rattle.atomic_table.specs.declared.shared.Seat.{Seat}
 use Rattle.lq_volume.specs.Book.{Book}
+use Rattle.lq_board.specs.declared.views.Author.{Author}
+use Rattle.lq_board.specs.declared.views.Register.{Register}
 use Rattle.lq_board.specs.declared.views.Slot.{Slot}
 use Rattle.lq_board.specs.declared.views.View.{View}
 use Rattle.lq_board.specs.declared.views.View.TheVariants.{Spent}
 use Rattle.lq_board.specs.View.{keeping_of, sitting_of}
 
--- the keeper of a board: the book of all changes, and what it knows of each slot
+-- the keeper of a board: the book of all changes, what it knows of each slot, and who made each
+-- change
 pub record KeeperToken (M : Type 0) : Type 0 where
   pub board : TableId
   pub book : Book
   pub slots : List (Slot M)
+  pub register : Register
 
--- a seat: the book that it knows, its slot or 0, how often it has asked, and its name
+-- a seat: the book that it knows, its slot or 0, how often it has asked, its name, and what it is
+-- as an author
 pub record SeatToken (M : Type 0) : Type 0 where
   pub board : TableId
   pub slot : ℕ
   pub book : Book
   pub asks : ℕ
   pub name : Option M
+  pub author : Author
 
 -- the name of no board
 abbrev pub no_board : TableId
@@ -39,7 +45,12 @@ no_board =
 module _ {M : Type 0} where
   abbrev pub keeper_token : TableId → Me ℕ (View M) → KeeperToken M
   keeper_token board me =
-      record { board = board; book = (keeping_of me.0).book; slots = (keeping_of me.0).slots }
+      record {
+        board = board;
+        book = (keeping_of me.0).book;
+        slots = (keeping_of me.0).slots;
+        register = (keeping_of me.0).register;
+      }
 
   abbrev pub seat_token : TableId → Me ℕ (View M) → SeatToken M
   seat_token board me =
@@ -49,6 +60,7 @@ module _ {M : Type 0} where
         book = (sitting_of me.0).book;
         asks = (sitting_of me.0).asks;
         name = (sitting_of me.0).name;
+        author = (sitting_of me.0).author;
       }
 
   -- a seat's view of the words, which is absent only within a call

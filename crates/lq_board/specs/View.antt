@@ -1,50 +1,94 @@
 -- What a token knows, before and after a step.
-use Rattle.std.specs.Prelude.{◌≡◌, ℕ, List, [], length, Option, None}
+use Rattle.std.specs.Prelude.{◌≡◌, ℕ, ◌<◌, List, [], length, Option, None, IsSome}
 use Rattle.atomic_table.specs.Table.{Me}
 use Rattle.lq_volume.specs.State.{State}
 use Rattle.lq_volume.specs.Book.{Book}
+use Rattle.lq_board.specs.declared.views.Author.{Author}
+use Rattle.lq_board.specs.declared.views.Register.{Register}
 use Rattle.lq_board.specs.declared.views.Slot.{Slot}
 use Rattle.lq_board.specs.declared.views.Sitting.{Sitting}
 use Rattle.lq_board.specs.declared.views.Keeping.{Keeping}
 use Rattle.lq_board.specs.declared.views.View.{View}
-use Rattle.lq_board.specs.declared.views.View.TheVariants.{Keeper, Seat, Spent}
+use Rattle.lq_board.specs.declared.views.View.TheVariants.{Keeper, Seat, Pair, Spent}
 use Rattle.lq_board.specs.Book.{no_book, IsFullBook}
-use Rattle.lq_board.specs.Slot.{unused, unused_slots, slot_at, gone_out, come_back}
+use Rattle.lq_board.specs.Author.{IsSigned, IsAuthorIn, no_author, no_register, with_seat, new_author}
+use Rattle.lq_board.specs.Slot.{unused, unused_slots, slot_at, gone_out, go_out, come_back}
 
 module _ {M : Type 0} where
   -- a seat of no slot
-  abbrev pub plain : Book → Sitting M
-  plain book = record { slot = 0; book = book; asks = 0; name = None }
+  abbrev pub plain : Book → Author → Sitting M
+  plain book author =
+      record { slot = 0; book = book; asks = 0; name = None; author = author }
 
-  -- a keeper to which a seat of no slot came back last
-  abbrev pub keeping : Book → List (Slot M) → Keeping M
-  keeping book slots =
-      record { book = book; slots = slots; back = plain book; was = unused }
+  -- a keeper to which no seat came back since the latest one went out
+  abbrev pub keeping : Book → List (Slot M) → Register → Keeping M
+  keeping book slots register =
+      record {
+        book = book;
+        slots = slots;
+        register = register;
+        back = plain book no_author;
+        was = unused;
+      }
 
-  abbrev pub keeper : Book → List (Slot M) → View M
-  keeper book slots = Keeper (keeping book slots)
+  abbrev pub keeper : Book → List (Slot M) → Register → View M
+  keeper book slots register = Keeper (keeping book slots register)
 
   -- the keeper of a new board
   abbrev pub newborn : State → View M
-  newborn start = keeper (record { start = start; changes = [] }) unused_slots
+  newborn start = keeper (record { start = start; changes = [] }) unused_slots no_register
 
   abbrev pub keeping_of : View M → Keeping M
   keeping_of (Keeper v) = v
-  keeping_of (Seat w) = keeping no_book []
-  keeping_of Spent = keeping no_book []
+  keeping_of (Seat w) = keeping no_book [] no_register
+  keeping_of (Pair a b) = keeping no_book [] no_register
+  keeping_of Spent = keeping no_book [] no_register
 
   abbrev pub sitting_of : View M → Sitting M
-  sitting_of (Keeper v) = plain no_book
+  sitting_of (Keeper v) = plain no_book no_author
   sitting_of (Seat w) = w
-  sitting_of Spent = plain no_book
+  sitting_of (Pair a b) = plain no_book no_author
+  sitting_of Spent = plain no_book no_author
 
-  -- a seat of no slot, split off the keeper
+  -- two seats of no slot, while a call compares them
+  abbrev pub first_of : View M → Sitting M
+  first_of (Keeper v) = plain no_book no_author
+  first_of (Seat w) = plain no_book no_author
+  first_of (Pair a b) = a
+  first_of Spent = plain no_book no_author
+
+  abbrev pub second_of : View M → Sitting M
+  second_of (Keeper v) = plain no_book no_author
+  second_of (Seat w) = plain no_book no_author
+  second_of (Pair a b) = b
+  second_of Spent = plain no_book no_author
+
+  abbrev pub paired : View M → View M → View M
+  paired v w = Pair (sitting_of v) (sitting_of w)
+
+  abbrev pub of_no_slot : Sitting M → Sitting M
+  of_no_slot w =
+      record { slot = 0; book = w.book; asks = w.asks; name = w.name; author = w.author }
+
+  abbrev pub first_seat : View M → View M
+  first_seat v = Seat (of_no_slot (first_of v))
+
+  abbrev pub second_seat : View M → View M
+  second_seat v = Seat (of_no_slot (second_of v))
+
+  -- the keeper and the seat after a new seat of no slot is split off
+  abbrev pub numbered : View M → View M
+  numbered v =
+      keeper (keeping_of v).book (keeping_of v).slots (with_seat (keeping_of v).register)
+
   abbrev pub copy_of : View M → View M
-  copy_of v = Seat (plain (keeping_of v).book)
+  copy_of v = Seat (plain (keeping_of v).book (new_author (keeping_of v).register))
 
-  -- the keeper and the seat after a slot's seat is split off, under this name
+  -- the keeper and the seat after a slot's new seat is split off, under this name
   abbrev pub opened : ℕ → Option M → View M → View M
-  opened k name v = keeper (keeping_of v).book (gone_out (keeping_of v).slots k name)
+  opened k name v =
+      keeper (keeping_of v).book (gone_out (keeping_of v).slots k name)
+      (with_seat (keeping_of v).register)
 
   abbrev pub seated : ℕ → Option M → View M → View M
   seated k name v =
@@ -53,6 +97,25 @@ module _ {M : Type 0} where
         book = (keeping_of v).book;
         asks = (slot_at (keeping_of v).slots k).asks;
         name = name;
+        author = new_author (keeping_of v).register;
+      })
+
+  -- the keeper and the seat after the latest seat that came back is split off again, under this
+  -- name
+  abbrev pub parted : Option M → View M → View M
+  parted name v =
+      keeper (keeping_of v).book (go_out (keeping_of v).slots (keeping_of v).back.slot name)
+      (keeping_of v).register
+
+  abbrev pub again_of : Option M → View M → View M
+  again_of name v =
+      let back = (keeping_of v).back in
+      Seat (record {
+        slot = back.slot;
+        book = (keeping_of v).book;
+        asks = back.asks;
+        name = name;
+        author = back.author;
       })
 
   -- the keeper after a seat comes back
@@ -63,6 +126,7 @@ module _ {M : Type 0} where
       Keeper (record {
         book = (keeping_of v).book;
         slots = come_back slots back.slot back.asks back.name;
+        register = (keeping_of v).register;
         back = back;
         was = slot_at slots back.slot;
       })
@@ -70,10 +134,19 @@ module _ {M : Type 0} where
   -- a keeper between its steps
   abbrev pub IsKeeping : Me ℕ (View M) → Type 0
   IsKeeping me =
-      (me ≡ (keeper (keeping_of me.0).book (keeping_of me.0).slots, []))
+      (me ≡ (Keeper (keeping_of me.0), []))
       × (length (keeping_of me.0).slots ≡ 65)
       × IsFullBook (keeping_of me.0).book
+      × IsSigned (keeping_of me.0).book (keeping_of me.0).register
+
+  -- a slot's seat has a name; a seat of no slot has none, and hasn't asked
+  pub record IsNamed (slot asks : ℕ) (name : Option M) : Type 0 where
+    pub named : 0 < slot → IsSome name
+    pub plain : slot ≡ 0 → (asks ≡ 0) × (name ≡ None)
 
   -- a seat that isn't spent
   abbrev pub IsSitting : Me ℕ (View M) → Type 0
-  IsSitting me = (me ≡ (Seat (sitting_of me.0), [])) × IsFullBook (sitting_of me.0).book
+  IsSitting me =
+      (me ≡ (Seat (sitting_of me.0), []))
+      × IsFullBook (sitting_of me.0).book
+      × IsAuthorIn (sitting_of me.0).author (sitting_of me.0).book

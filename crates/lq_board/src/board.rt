@@ -1,10 +1,11 @@
 //! The board.
-ghost use Rattle.std.specs.Prelude.{◌≡◌, ◌+◌, ◌<◌, ◌≤◌, [], ◌∷◌, length, IfOk, true, false, Some, None};
+ghost use Rattle.std.specs.Prelude.{◌≡◌, ◌≢◌, ◌+◌, ◌<◌, ◌≤◌, [], ◌∷◌, length, IfOk, true, false, Some, None};
 ghost use Rattle.lq_value.specs.Refusal.{IsRefusedBy};
 ghost use Rattle.lq_volume.specs.Book.{grown, state_of, Extends};
 ghost use Rattle.lq_volume.specs.Change.{after, IsLawful};
+ghost use Rattle.lq_board.specs.Author.{IsSigned, IsAuthor, AreDisjoint, no_register, with_seat, new_author, with_author, with_change};
 ghost use Rattle.lq_board.specs.Book.{IsFullBook};
-ghost use Rattle.lq_board.specs.Slot.{unused_slots, slot_at, gone_out, come_back, counted};
+ghost use Rattle.lq_board.specs.Slot.{unused_slots, slot_at, gone_out, go_out, come_back, counted};
 
 use crate::steps::{Ask, Count, See};
 use crate::tokens::{Keeper, Seat};
@@ -50,6 +51,7 @@ impl<M> Board<M> {
         ensures book { IfOk result (λ made.
             made.1.book ≡ record { start = volume.now; changes = [] }) }
         ensures slots { IfOk result (λ made. made.1.slots ≡ unused_slots) }
+        ensures register { IfOk result (λ made. made.1.register ≡ no_register) }
         ensures full { IfOk result (λ made. IsFullBook made.1.book) }
 
         // `NoMemory` is the only refusal.
@@ -61,7 +63,7 @@ impl<M> Board<M> {
         Ok((Board { table }, Keeper { token }))
     }
 
-    /// A seat of no slot, which knows the keeper's book. It takes no memory.
+    /// A seat of no slot, with a new number, which knows the keeper's book. It takes no memory.
     pub fn seat(&self, keeper: &mut Keeper<M>) -> Seat<M>
         requires board { keeper.old.board ≡ self.now }
         ensures seat { result ≡ record {
@@ -70,9 +72,12 @@ impl<M> Board<M> {
           book = keeper.old.book;
           asks = 0;
           name = None;
+          author = new_author keeper.old.register;
         } }
         ensures full { IsFullBook result.book }
-        ensures keeper { keeper.new ≡ keeper.old }
+        ensures keeper { keeper.new ≡ record keeper.old {
+          register = with_seat keeper.old.register;
+        } }
     {
         Seat {
             token: Some(self.plain_token(keeper)),
@@ -82,8 +87,8 @@ impl<M> Board<M> {
 
     /// The seat of a slot, 1 to 64, under the name that the caller gives for contracts alone.
     ///
-    /// It knows the keeper's book, and how often the slot's seats have asked. No other seat of the
-    /// slot may be out. It takes no memory.
+    /// It has a new number, and knows the keeper's book and how often the slot's seats have asked.
+    /// No other seat of the slot may be out. It takes no memory.
     pub fn slot_seat(&self, keeper: &mut Keeper<M>, slot: u64) -> Seat<M>
         ghost name: { M }
         requires board { keeper.old.board ≡ self.now }
@@ -95,12 +100,14 @@ impl<M> Board<M> {
           book = keeper.old.book;
           asks = (slot_at keeper.old.slots slot).asks;
           name = Some name;
+          author = new_author keeper.old.register;
         } }
         ensures full { IsFullBook result.book }
         ensures keeper { keeper.new ≡ record {
           board = keeper.old.board;
           book = keeper.old.book;
           slots = gone_out keeper.old.slots slot (Some name);
+          register = with_seat keeper.old.register;
         } }
     {
         Seat {
@@ -112,14 +119,18 @@ impl<M> Board<M> {
     /// Takes a seat back. The keeper then knows how often it has asked. It takes no memory.
     ///
     /// The keeper's book extends the seat's. A slot's seat was out under the name that the keeper
-    /// knew, and had asked at least as often as the keeper knew.
+    /// knew, and had asked at least as often as the keeper knew. From then on the seat's number is
+    /// nobody's.
     pub fn join(&self, keeper: &mut Keeper<M>, seat: Seat<M>)
         requires board { (keeper.old.board ≡ self.now) × (seat.board ≡ self.now) }
         ensures keeper { keeper.new ≡ record {
           board = keeper.old.board;
           book = keeper.old.book;
           slots = come_back keeper.old.slots seat.slot seat.asks seat.name;
+          register = keeper.old.register;
         } }
+        ensures signed { IsSigned keeper.old.book keeper.old.register }
+        ensures author { IsAuthor seat.author keeper.old.register }
         ensures later { Extends keeper.old.book seat.book }
         ensures name { 0 < seat.slot → (slot_at keeper.old.slots seat.slot).name ≡ seat.name }
         ensures asks { 0 < seat.slot → (slot_at keeper.old.slots seat.slot).asks ≤ seat.asks }
@@ -132,8 +143,9 @@ impl<M> Board<M> {
 
     /// Adds a lawful change to the book, and answers the number of changes that it then has.
     ///
-    /// The state after the new book is the state after the change. A lawful change has room: a
-    /// volume takes at most 1,000,000,000,000 changes. It takes no memory.
+    /// Its author is a new seat, which then makes no other. The state after the new book is the
+    /// state after the change. A lawful change has room: a volume takes at most 1,000,000,000,000
+    /// changes. It takes no memory.
     pub fn add(&self, keeper: &mut Keeper<M>, change: &Change) -> u64
         requires board { keeper.old.board ≡ self.now }
         requires lawful { IsLawful (state_of keeper.old.book) change.now }
@@ -144,9 +156,57 @@ impl<M> Board<M> {
           board = keeper.old.board;
           book = grown keeper.old.book (change.now ∷ []);
           slots = keeper.old.slots;
+          register = with_author (with_seat keeper.old.register) (keeper.old.register.seats + 1);
         } }
     {
-        self.add_as::<Brand>(keeper, change)
+        let mut seat = self.seat(keeper);
+        let number = self.add_by(keeper, &mut seat, change);
+        self.join(keeper, seat);
+        number
+    }
+
+    /// As `add`, for a change whose author is this seat, which then knows the keeper's book.
+    ///
+    /// The number that it answers is then among the seat's own changes. The rest is as in `meet` or
+    /// `meet_slot`, and the seat keeps its name. It takes no memory.
+    pub fn add_by(&self, keeper: &mut Keeper<M>, seat: &mut Seat<M>, change: &Change) -> u64
+        requires board { (keeper.old.board ≡ self.now) × (seat.old.board ≡ self.now) }
+        requires lawful { IsLawful (state_of keeper.old.book) change.now }
+        ensures number { result ≡ length keeper.new.book.changes }
+        ensures later { Extends keeper.old.book seat.old.book }
+        ensures full { IsFullBook keeper.new.book }
+        ensures state { state_of keeper.new.book ≡ after (state_of keeper.old.book) change.now }
+        ensures seat { seat.new ≡ record {
+          board = keeper.old.board;
+          slot = seat.old.slot;
+          book = keeper.new.book;
+          asks = seat.old.asks;
+          name = seat.old.name;
+          author = with_change seat.old.author result;
+        } }
+        ensures keeper { keeper.new ≡ record {
+          board = keeper.old.board;
+          book = grown keeper.old.book (change.now ∷ []);
+          slots = go_out
+              (come_back keeper.old.slots seat.old.slot seat.old.asks seat.old.name)
+              seat.old.slot
+              seat.old.name;
+          register = with_author keeper.old.register seat.old.author.number;
+        } }
+        ensures signed { IsSigned keeper.new.book keeper.new.register }
+        ensures author { IsAuthor seat.new.author keeper.new.register }
+        ensures name { 0 < seat.old.slot
+            → (slot_at keeper.old.slots seat.old.slot).name ≡ seat.old.name }
+        ensures asks { 0 < seat.old.slot
+            → (slot_at keeper.old.slots seat.old.slot).asks ≤ seat.old.asks }
+        ensures out { 0 < seat.old.slot → (slot_at keeper.old.slots seat.old.slot).out ≡ true }
+    {
+        let Some(token) = seat.token.take() else {
+            unreachable!()
+        };
+        let (number, again) = self.added::<Brand>(keeper, token, change);
+        seat.token = Some(again);
+        number
     }
 
     /// How often a slot's seats have asked. The keeper then knows it. It takes no memory.
@@ -162,6 +222,7 @@ impl<M> Board<M> {
           board = keeper.old.board;
           book = keeper.old.book;
           slots = counted keeper.old.slots slot result;
+          register = keeper.old.register;
         } }
     {
         self.table
@@ -183,6 +244,7 @@ impl<M> Board<M> {
           book = seat.new.book;
           asks = seat.old.asks;
           name = seat.old.name;
+          author = seat.old.author;
         } }
     {
         let Some(mut token) = seat.token.take() else {
@@ -207,6 +269,7 @@ impl<M> Board<M> {
           book = seat.old.book;
           asks = seat.old.asks + 1;
           name = seat.old.name;
+          author = seat.old.author;
         } }
     {
         let slot = seat.slot as usize;
@@ -226,20 +289,16 @@ impl<M> Board<M> {
         ensures number { result ≡ length seat.new.book.changes }
         ensures later { Extends seat.new.book seat.old.book }
         ensures full { IsFullBook seat.new.book }
-        ensures seat { seat.new ≡ record {
-          board = keeper.old.board;
-          slot = 0;
-          book = keeper.old.book;
-          asks = 0;
-          name = None;
-        } }
+        ensures seat { seat.new ≡ record seat.old { book = keeper.old.book } }
         ensures keeper { keeper.new ≡ keeper.old }
+        ensures signed { IsSigned keeper.old.book keeper.old.register }
+        ensures author { IsAuthor seat.old.author keeper.old.register }
     {
         let Some(token) = seat.token.take() else {
             unreachable!()
         };
-        let number = self.back(keeper, token);
-        seat.token = Some(self.plain_token(keeper));
+        let (number, again) = self.met::<Brand>(keeper, token);
+        seat.token = Some(again);
         number
     }
 
@@ -261,6 +320,7 @@ impl<M> Board<M> {
           book = keeper.old.book;
           asks = seat.old.asks;
           name = Some name;
+          author = seat.old.author;
         } }
         ensures keeper { keeper.new ≡ record {
           board = keeper.old.board;
@@ -269,26 +329,55 @@ impl<M> Board<M> {
               (come_back keeper.old.slots seat.old.slot seat.old.asks seat.old.name)
               seat.old.slot
               (Some name);
+          register = keeper.old.register;
         } }
+        ensures signed { IsSigned keeper.old.book keeper.old.register }
+        ensures author { IsAuthor seat.old.author keeper.old.register }
         ensures name { (slot_at keeper.old.slots seat.old.slot).name ≡ seat.old.name }
         ensures asks { (slot_at keeper.old.slots seat.old.slot).asks ≤ seat.old.asks }
         ensures out { (slot_at keeper.old.slots seat.old.slot).out ≡ true }
     {
-        let slot = seat.slot;
         let Some(token) = seat.token.take() else {
             unreachable!()
         };
-        let number = self.back(keeper, token);
-        seat.token = Some(self.slot_token::<Brand>(keeper, slot));
+        let (number, again) = self.met::<Brand>(keeper, token);
+        seat.token = Some(again);
         number
     }
 
+    /// Compares two seats of no slot, for contracts alone: they are two authors.
+    ///
+    /// It needs no keeper, neither waits nor takes memory, and leaves both seats as they were.
+    pub fn compare(&self, one: &mut Seat<M>, two: &mut Seat<M>)
+        requires board { (one.old.board ≡ self.now) × (two.old.board ≡ self.now) }
+        requires slot { (one.old.slot ≡ 0) × (two.old.slot ≡ 0) }
+        ensures numbers { one.new.author.number ≢ two.new.author.number }
+        ensures changes { AreDisjoint one.new.author.changes two.new.author.changes }
+        ensures one { one.new ≡ one.old }
+        ensures two { two.new ≡ two.old }
+    {
+        let Some(first) = one.token.take() else {
+            unreachable!()
+        };
+        let Some(second) = two.token.take() else {
+            unreachable!()
+        };
+        let (first, second) = self.compared(first, second);
+        one.token = Some(first);
+        two.token = Some(second);
+    }
+
     /// The number of all changes, at the end of the board. It takes no memory.
+    ///
+    /// Each change has one author, which is one of the seats that went out, and the seat knows
+    /// exactly its own.
     pub fn close_with(self, mut keeper: Keeper<M>, seat: Seat<M>) -> u64
         requires board { (keeper.board ≡ self) × (seat.board ≡ self) }
         ensures number { result ≡ length keeper.book.changes }
         ensures later { Extends keeper.book seat.book }
         ensures full { IsFullBook keeper.book }
+        ensures signed { IsSigned keeper.book keeper.register }
+        ensures author { IsAuthor seat.author keeper.register }
     {
         self.join(&mut keeper, seat);
         let Keeper { token } = keeper;

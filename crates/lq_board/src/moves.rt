@@ -1,35 +1,40 @@
 //! Steps on a board's words that several calls share, or that a call chooses.
-ghost use Rattle.std.specs.Prelude.{◌≡◌, ◌<◌, [], ◌∷◌, length, false, Some};
+ghost use Rattle.std.specs.Prelude.{◌≡◌, ◌≢◌, ◌+◌, ◌<◌, [], ◌∷◌, length, false, Some};
 ghost use Rattle.lq_volume.specs.Book.{grown, state_of};
 ghost use Rattle.lq_volume.specs.Change.{after, IsLawful};
+ghost use Rattle.lq_board.specs.Author.{IsSigned, IsAuthor, AreDisjoint, with_seat, new_author, with_author, with_change};
 ghost use Rattle.lq_board.specs.Book.{IsFullBook};
-ghost use Rattle.lq_board.specs.Slot.{slot_at, gone_out, come_back};
-ghost use Rattle.lq_board.specs.View.{sitting_of, plain};
+ghost use Rattle.lq_board.specs.Slot.{slot_at, gone_out, go_out, come_back};
+ghost use Rattle.lq_board.specs.View.{sitting_of, plain, of_no_slot};
 ghost use Rattle.lq_board.specs.Rule.{CameBack};
 
 use crate::board::Board;
-use crate::steps::{Add, Added, Back, Check, Given, Open, Plain};
+use crate::steps::{Add, Again, Back, Check, Chosen, Compare, Open, Part, Plain, Together};
 use crate::tokens::{Keeper, Token};
 use crate::views::View;
 use lq_volume::{Change, accepted_changes_keep_trees};
 
 impl<M> Board<M> {
-    // Splits a seat of no slot off the keeper.
+    // Splits a new seat of no slot off the keeper.
     pub(crate) fn plain_token(&self, keeper: &mut Keeper<M>) -> Token<M>
         requires board { keeper.old.board ≡ self.now }
         ensures board { result.table_id ≡ keeper.old.board }
-        ensures view { result.me ≡ (View.Seat (plain keeper.old.book), []) }
+        ensures view { result.me
+            ≡ (View.Seat (plain keeper.old.book (new_author keeper.old.register)), []) }
         ensures full { IsFullBook keeper.old.book }
-        ensures keeper { keeper.new ≡ keeper.old }
+        ensures signed { IsSigned keeper.old.book keeper.old.register }
+        ensures keeper { keeper.new ≡ record keeper.old {
+          register = with_seat keeper.old.register;
+        } }
     {
         self.table.shared.split_seat::<Plain>(&mut keeper.token)
     }
 
-    // Splits a slot's seat off the keeper. `slot` is for the proof: the call takes W's slot from
-    // it.
-    pub(crate) fn slot_token<W: Given<M>>(&self, keeper: &mut Keeper<M>, slot: u64) -> Token<M>
+    // Splits a slot's new seat off the keeper. `slot` is for the proof: the call takes W's slot
+    // from it.
+    pub(crate) fn slot_token<W: Chosen<M>>(&self, keeper: &mut Keeper<M>, slot: u64) -> Token<M>
         requires board { keeper.old.board ≡ self.now }
-        requires given { W.slot ≡ slot }
+        requires chosen { W.slot ≡ slot }
         requires slot { (0 < slot) × (slot < 65) }
         requires free { (slot_at keeper.old.slots slot).out ≡ false }
         ensures board { result.table_id ≡ keeper.old.board }
@@ -39,14 +44,17 @@ impl<M> Board<M> {
             book = keeper.old.book;
             asks = (slot_at keeper.old.slots slot).asks;
             name = W.name;
+            author = new_author keeper.old.register;
           }),
           [],
         ) }
         ensures full { IsFullBook keeper.old.book }
+        ensures signed { IsSigned keeper.old.book keeper.old.register }
         ensures keeper { keeper.new ≡ record {
           board = keeper.old.board;
           book = keeper.old.book;
           slots = gone_out keeper.old.slots slot W.name;
+          register = with_seat keeper.old.register;
         } }
     {
         let _ = slot;
@@ -57,14 +65,18 @@ impl<M> Board<M> {
     pub(crate) fn back(&self, keeper: &mut Keeper<M>, token: Token<M>) -> u64
         requires board { (keeper.old.board ≡ self.now) × (token.table_id ≡ self.now) }
         requires view { token.me ≡ (View.Seat (sitting_of token.me.0), []) }
+        requires number { 0 < (sitting_of token.me.0).author.number }
         ensures number { result ≡ length keeper.old.book.changes }
         ensures back { CameBack keeper.old.book (sitting_of token.me.0)
             (slot_at keeper.old.slots (sitting_of token.me.0).slot) }
+        ensures author { IsAuthor (sitting_of token.me.0).author keeper.old.register }
+        ensures signed { IsSigned keeper.old.book keeper.old.register }
         ensures keeper { keeper.new ≡ record {
           board = keeper.old.board;
           book = keeper.old.book;
           slots = come_back keeper.old.slots (sitting_of token.me.0).slot
               (sitting_of token.me.0).asks (sitting_of token.me.0).name;
+          register = keeper.old.register;
         } }
     {
         self.table
@@ -73,19 +85,95 @@ impl<M> Board<M> {
         self.table.shared.load::<Check>(&mut keeper.token, 0)
     }
 
-    // Adds a change. `change` is for the proof: the call takes W's change from it.
+    // As `back`, and the seat goes out again, under the name that the call chooses.
+    pub(crate) fn met<W: Chosen<M>>(
+        &self,
+        keeper: &mut Keeper<M>,
+        token: Token<M>,
+    ) -> (u64, Token<M>)
+        requires board { (keeper.old.board ≡ self.now) × (token.table_id ≡ self.now) }
+        requires view { token.me ≡ (View.Seat (sitting_of token.me.0), []) }
+        requires number { 0 < (sitting_of token.me.0).author.number }
+        requires slot { (sitting_of token.me.0).slot < 65 }
+        ensures number { result.0 ≡ length keeper.old.book.changes }
+        ensures back { CameBack keeper.old.book (sitting_of token.me.0)
+            (slot_at keeper.old.slots (sitting_of token.me.0).slot) }
+        ensures board { result.1.table_id ≡ keeper.old.board }
+        ensures view { result.1.me ≡ (
+          View.Seat (record {
+            slot = (sitting_of token.me.0).slot;
+            book = keeper.old.book;
+            asks = (sitting_of token.me.0).asks;
+            name = W.name;
+            author = (sitting_of token.me.0).author;
+          }),
+          [],
+        ) }
+        ensures full { IsFullBook keeper.old.book }
+        ensures author { IsAuthor (sitting_of token.me.0).author keeper.old.register }
+        ensures signed { IsSigned keeper.old.book keeper.old.register }
+        ensures keeper { keeper.new ≡ record {
+          board = keeper.old.board;
+          book = keeper.old.book;
+          slots = go_out
+              (come_back keeper.old.slots (sitting_of token.me.0).slot
+              (sitting_of token.me.0).asks (sitting_of token.me.0).name)
+              (sitting_of token.me.0).slot
+              W.name;
+          register = keeper.old.register;
+        } }
+    {
+        self.table
+            .shared
+            .join_seat::<Back>(&mut keeper.token, token);
+        let number = self.table.shared.load::<Check>(&mut keeper.token, 0);
+        let again = self.table.shared.split_seat::<Again<W>>(&mut keeper.token);
+        (number, again)
+    }
+
+    // As `met`, with a change by the seat in between. `change` is for the proof: the call takes W's
+    // change from it.
     #[tactic(auto, using(crate::proofs::BookLemmas::state_of_grown))]
-    pub(crate) fn add_as<W: Added>(&self, keeper: &mut Keeper<M>, change: &Change) -> u64
-        requires board { keeper.old.board ≡ self.now }
-        requires added { W.change ≡ Some change.now }
+    pub(crate) fn added<W: Chosen<M>>(
+        &self,
+        keeper: &mut Keeper<M>,
+        token: Token<M>,
+        change: &Change,
+    ) -> (u64, Token<M>)
+        requires board { (keeper.old.board ≡ self.now) × (token.table_id ≡ self.now) }
+        requires view { token.me ≡ (View.Seat (sitting_of token.me.0), []) }
+        requires number { 0 < (sitting_of token.me.0).author.number }
+        requires slot { (sitting_of token.me.0).slot < 65 }
+        requires chosen { W.change ≡ Some change.now }
         requires lawful { IsLawful (state_of keeper.old.book) change.now }
-        ensures number { result ≡ length keeper.new.book.changes }
+        ensures number { result.0 ≡ length keeper.new.book.changes }
+        ensures back { CameBack keeper.old.book (sitting_of token.me.0)
+            (slot_at keeper.old.slots (sitting_of token.me.0).slot) }
+        ensures board { result.1.table_id ≡ keeper.old.board }
+        ensures view { result.1.me ≡ (
+          View.Seat (record {
+            slot = (sitting_of token.me.0).slot;
+            book = keeper.new.book;
+            asks = (sitting_of token.me.0).asks;
+            name = W.name;
+            author = with_change (sitting_of token.me.0).author result.0;
+          }),
+          [],
+        ) }
         ensures full { IsFullBook keeper.new.book }
         ensures state { state_of keeper.new.book ≡ after (state_of keeper.old.book) change.now }
+        ensures author { IsAuthor (with_change (sitting_of token.me.0).author result.0)
+            keeper.new.register }
+        ensures signed { IsSigned keeper.new.book keeper.new.register }
         ensures keeper { keeper.new ≡ record {
           board = keeper.old.board;
           book = grown keeper.old.book (change.now ∷ []);
-          slots = keeper.old.slots;
+          slots = go_out
+              (come_back keeper.old.slots (sitting_of token.me.0).slot
+              (sitting_of token.me.0).asks (sitting_of token.me.0).name)
+              (sitting_of token.me.0).slot
+              W.name;
+          register = with_author keeper.old.register (sitting_of token.me.0).author.number;
         } }
     {
         let _ = change;
@@ -93,7 +181,33 @@ impl<M> Board<M> {
         accepted_changes_keep_trees();
         self.table
             .shared
+            .join_seat::<Back>(&mut keeper.token, token);
+        let number = self
+            .table
+            .shared
             .fetch_add::<Add<W>>(&mut keeper.token, 0, 1)
-            + 1
+            + 1;
+        let again = self.table.shared.split_seat::<Again<W>>(&mut keeper.token);
+        (number, again)
+    }
+
+    // Joins two seats of no slot, compares them and parts them.
+    pub(crate) fn compared(&self, one: Token<M>, two: Token<M>) -> (Token<M>, Token<M>)
+        requires board { (one.table_id ≡ self.now) × (two.table_id ≡ self.now) }
+        requires one { one.me ≡ (View.Seat (sitting_of one.me.0), []) }
+        requires two { two.me ≡ (View.Seat (sitting_of two.me.0), []) }
+        ensures board { (result.0.table_id ≡ one.table_id) × (result.1.table_id ≡ one.table_id) }
+        ensures one { result.0.me ≡ (View.Seat (of_no_slot (sitting_of one.me.0)), []) }
+        ensures two { result.1.me ≡ (View.Seat (of_no_slot (sitting_of two.me.0)), []) }
+        ensures numbers { (sitting_of one.me.0).author.number
+            ≢ (sitting_of two.me.0).author.number }
+        ensures changes { AreDisjoint (sitting_of one.me.0).author.changes
+            (sitting_of two.me.0).author.changes }
+    {
+        let mut pair = one;
+        self.table.shared.join_seat::<Together>(&mut pair, two);
+        self.table.shared.load::<Compare>(&mut pair, 0);
+        let other = self.table.shared.split_seat::<Part>(&mut pair);
+        (pair, other)
     }
 }

@@ -4,43 +4,34 @@ use atomic_table::{Join, Play, Split};
 use lq_volume::Change;
 use std::marker::{Brand, PhantomData};
 
-/// Which change a step adds. A call chooses it.
-pub trait Added {
-    ghost use Rattle.std.specs.Prelude.{Option};
-    ghost use Rattle.lq_volume.specs.declared.change.Change.{Change};
-
-    ghost change: { Option Change };
-}
-
-impl Added for Brand {
-    ghost use Rattle.std.specs.Prelude.{None};
-
-    ghost change = { None };
-}
-
-/// Which slot's seat a step gives out, and under which name. A call chooses both.
-pub trait Given<M> {
+/// What a call chooses for its step: a slot, a name and a change.
+pub trait Chosen<M> {
     ghost use Rattle.std.specs.Prelude.{ℕ, Option};
+    ghost use Rattle.lq_volume.specs.declared.change.Change.{Change};
 
     ghost slot: { ℕ };
 
     ghost name: { Option M };
+
+    ghost change: { Option Change };
 }
 
-impl<M> Given<M> for Brand {
+impl<M> Chosen<M> for Brand {
     ghost use Rattle.std.specs.Prelude.{None};
 
     ghost slot = { 0 };
 
     ghost name = { None };
+
+    ghost change = { None };
 }
 
-// Adds a change.
+// Adds a change by the latest seat that came back.
 pub(crate) struct Add<W> {
     said: PhantomData<W>,
 }
 
-impl<M, W: Added> Play<u8, View<M>> for Add<W> {
+impl<M, W: Chosen<M>> Play<u8, View<M>> for Add<W> {
     ghost use Rattle.lq_board.specs.Step.{Adds};
 
     ghost then = { Adds W.change };
@@ -86,9 +77,9 @@ impl<M> Play<u8, View<M>> for Ask {
 pub(crate) struct Plain;
 
 impl<M> Split<View<M>> for Plain {
-    ghost use Rattle.lq_board.specs.View.{copy_of};
+    ghost use Rattle.lq_board.specs.View.{numbered, copy_of};
 
-    ghost left = { λ v. v };
+    ghost left = { numbered };
 
     ghost right = { copy_of };
 }
@@ -98,12 +89,25 @@ pub(crate) struct Open<W> {
     said: PhantomData<W>,
 }
 
-impl<M, W: Given<M>> Split<View<M>> for Open<W> {
+impl<M, W: Chosen<M>> Split<View<M>> for Open<W> {
     ghost use Rattle.lq_board.specs.View.{opened, seated};
 
     ghost left = { opened W.slot W.name };
 
     ghost right = { seated W.slot W.name };
+}
+
+// Gives the latest seat that came back out again.
+pub(crate) struct Again<W> {
+    said: PhantomData<W>,
+}
+
+impl<M, W: Chosen<M>> Split<View<M>> for Again<W> {
+    ghost use Rattle.lq_board.specs.View.{parted, again_of};
+
+    ghost left = { parted W.name };
+
+    ghost right = { again_of W.name };
 }
 
 // Joins a seat to the keeper.
@@ -116,4 +120,36 @@ impl<M> Join<View<M>> for Back {
     ghost both = { taken };
 
     ghost spent = { Spent };
+}
+
+// Joins two seats of no slot.
+pub(crate) struct Together;
+
+impl<M> Join<View<M>> for Together {
+    ghost use Rattle.lq_board.specs.declared.views.View.TheVariants.{Spent};
+    ghost use Rattle.lq_board.specs.View.{paired};
+
+    ghost both = { paired };
+
+    ghost spent = { Spent };
+}
+
+// Compares the two.
+pub(crate) struct Compare;
+
+impl<M> Play<u8, View<M>> for Compare {
+    ghost use Rattle.lq_board.specs.Step.{Compares};
+
+    ghost then = { Compares };
+}
+
+// Parts the two.
+pub(crate) struct Part;
+
+impl<M> Split<View<M>> for Part {
+    ghost use Rattle.lq_board.specs.View.{first_seat, second_seat};
+
+    ghost left = { first_seat };
+
+    ghost right = { second_seat };
 }

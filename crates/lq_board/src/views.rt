@@ -28,26 +28,44 @@ pub struct Slot<M> {
     pub name: Option<M>,
 }
 
+/// A seat as an author: its number, from 1, and the numbers of the changes that it made.
+pub struct Author {
+    pub number: u64,
+    pub changes: LinkedList<u64>,
+}
+
+/// Who made a book: the number of each change's author, and how many seats have a number.
+pub struct Register {
+    pub authors: LinkedList<u64>,
+    pub seats: u64,
+}
+
 /// What a seat knows. A seat of no slot has slot 0.
 pub struct Sitting<M> {
     pub slot: u64,
     pub book: Pages,
     pub asks: u64,
     pub name: Option<M>,
+    pub author: Author,
 }
 
 /// What the keeper knows. `back` is the latest seat that came back, `was` its slot before that.
+///
+/// Before a seat came back, and once one went out again, `back` has the number 0.
 pub struct Keeping<M> {
     pub book: Pages,
     pub slots: LinkedList<Slot<M>>,
+    pub register: Register,
     pub back: Sitting<M>,
     pub was: Slot<M>,
 }
 
-/// What a token knows. A seat that came back is spent.
+/// What a token knows. A seat that came back is spent. A pair is two seats of no slot, while a call
+/// compares them.
 pub enum View<M> {
     Keeper(Keeping<M>),
     Seat(Sitting<M>),
+    Pair(Sitting<M>, Sitting<M>),
     Spent,
 }
 

@@ -48,21 +48,20 @@ same_query : (o : Option Identity) (old new : ReaderHold) → IsSomeAnd o (Fits 
 same_query (Some t) old new x y = (sym y.0.query ∙ x.0.query, sym y.0.moved ∙ x.0.moved)
 same_query None old new x y = absurd x
 
--- a slot's seat met another, and knows a book that goes on from its own
+-- a seat met another, and knows a book that extends its own
 pub record Meets (was now : SeatToken Identity) : Type 0 where
-  pub slot : now.slot ≡ was.slot
-  pub rest : 0 < was.slot → (now.asks ≡ was.asks) × (now.name ≡ was.name)
+  pub seat : now ≡ record was { book = now.book }
   pub later : Extends now.book was.book
 
 -- from the opening over the reads to the last sync, a meeting of the seats and the end of the
 -- server
 pub followed : UpdatesStay → BooksExtendOn → StatesStay
-    → (q : Query) (board : TableId) (begun : Book) (port backlog : ℕ)
+    → (start : State) (q : Query) (board : TableId) (begun : Book) (port backlog : ℕ)
     (first old new : ReaderHold) (x : Synced) (one two : SeatToken Identity) (z : Retired)
     → IsNewReader first board begun q false port backlog → GoesOut first old → IsSynced old new x
     → ReaderIsTold new
-    → Meets new.seat one → one.book ≡ two.book → IsRetired two.book z.volume z.changes
-    → IsFollowed q (record {
+    → Meets new.seat one → one.book ≡ two.book → IsRetired start two.book z.volume z.changes
+    → IsFollowed start q (record {
       reader = record {
         reading = new.reading;
         seat = one;
@@ -72,8 +71,8 @@ pub followed : UpdatesStay → BooksExtendOn → StatesStay
       synced = x;
       retired = z;
     })
-followed stay on states q board begun port backlog first old new x one two z o out s told met same
-    r =
+followed stay on states start q board begun port backlog first old new x one two z o out s told met
+    same r =
     let name : new.seat.name ≡ first.seat.name =
     ap (λ (t : SeatToken Identity). t.name) s.seat ∙ out.goes.name in
     let query = same_query first.seat.name first new o.own.name
@@ -92,20 +91,18 @@ followed stay on states q board begun port backlog first old new x one two z o o
     let long = extends_length b book knows in
     let here = whole.within in
     let after = whole.opened in
-    let low : 0 < new.seat.slot = subst (λ (n : ℕ). 0 < n) (sym s.own.slot) s.own.low in
-    let rest = met.rest low in
     let is : query_of f ≡ q = query.0 ∙ o.opened.query in
     let moves : f.moved ≡ false = query.1 ∙ o.opened.moved in
     record {
       own = record {
         low = s.own.low;
         high = s.own.high;
-        slot = met.slot ∙ s.own.slot;
+        slot = ap (λ (t : SeatToken Identity). t.slot) met.seat ∙ s.own.slot;
         name = subst
             (λ (t : Option Identity × ℕ). IsSomeAnd t.0 (λ n.
             IdentityFits n new.reading.port × (t.1 ≡ asks_after n.asks new.hang_up_asked)
             × (n.asks < 1000000000000)))
-            (λ i. (sym rest.1 i, sym rest.0 i)) s.own.name;
+            (λ i. ((sym met.seat i).name, (sym met.seat i).asks)) s.own.name;
       };
       query = is;
       moved = moves;
@@ -131,9 +128,11 @@ followed stay on states q board begun port backlog first old new x one two z o o
       retired = record {
         book = r.book;
         full = r.full;
+        begins = r.begins;
         later = on book one.book r.book met.later
             (subst (λ (b : Book). Extends r.book b) (sym same) r.later);
         state = r.state;
         number = r.number;
+        limit = r.limit;
       };
     }

@@ -1,6 +1,7 @@
 -- What is left after a query was followed.
 use Rattle.std.specs.Prelude.{◌≡◌, ◌+◌, ◌≤◌, true, false, length, Some, IsSome}
 use Rattle.lq_predicate_formula.specs.Query.{Query}
+use Rattle.lq_volume.specs.State.{State}
 use Rattle.lq_volume.specs.Book.{Book, Extends, state_at}
 use Rattle.lq_volume.specs.Result.{result_of}
 use Rattle.lq_board.specs.Book.{IsFullBook}
@@ -25,8 +26,8 @@ pub record GoesOut (old new : ReaderHold) : Type 0 where
   pub asked : new.hang_up_asked ≡ true
   pub marked : IsSome (mark_read new.reading)
 
--- The headline for the reader that is left, and the volume after the changes.
-pub record IsFollowed (q : Query) (f : Followed) : Type 0 where
+-- The headline for the reader that is left, and the volume after the changes, from a first volume.
+pub record IsFollowed (start : State) (q : Query) (f : Followed) : Type 0 where
   -- its seat is its own, it reads this query, and it asked for its end
   pub own : IsOwn f.reader
   pub query : query_of f.reader.reading.port.floor ≡ q
@@ -49,5 +50,5 @@ pub record IsFollowed (q : Query) (f : Followed) : Type 0 where
   pub seq : mark.seq ≡ length (received f.reader.reading) + 1
   -- its entries are the query's result after the mark's change
   pub entries : f.reader.reading.result.entries ≡ result_of q (state_at book mark.change)
-  -- the volume is the state after the book and the changes added later
-  pub retired : IsRetired book f.retired.volume f.retired.changes
+  -- the volume is the state after the book and the changes added later, from the first volume on
+  pub retired : IsRetired start book f.retired.volume f.retired.changes

@@ -27,7 +27,8 @@ pub struct Followed {
 /// The reader makes `reads` reads, hangs up, and reads on to its mark. Then there is one book of
 /// changes. The reader has received the query's whole update list over it up to the mark. Its
 /// entries are the query's result after the mark's change. The volume is the state after the book
-/// or after one that extends it. Refused as `Server::seat`, `open` and `apply` are, or `NoMemory`.
+/// or after one that extends it, from the base's volume on. Refused as `Server::seat`, `open` and
+/// `apply` are, or `NoMemory`.
 pub fn follow<N: Named + Send + Sync, R: Threads + Wait + Sync>(
     rt: &R,
     base: Base,
@@ -35,8 +36,8 @@ pub fn follow<N: Named + Send + Sync, R: Threads + Wait + Sync>(
     changes: &[Change],
     reads: u64,
 ) -> Result<Followed, Refusal>
-    requires { base ≡ N.board }
-    ensures { IfOk result (IsFollowed predicate.now) }
+    requires { (base.board ≡ N.board) × (base.volume ≡ N.start) }
+    ensures { IfOk result (IsFollowed N.start predicate.now) }
 {
     let server: Server<N> = Server::new(base);
     let mut seat = server.seat(rt)?;

@@ -41,7 +41,7 @@ fn serve<N: Named + Send + Sync, T: Threads + Wait + Sync, R: Source, W: Sink, G
     writer: &mut W,
     gate: &G,
 ) -> Result<(), RunFault>
-    requires board { base ≡ N.board }
+    requires base { (base.board ≡ N.board) × (base.volume ≡ N.start) }
 {
     let server: Server<N> = Server::new(base);
     serve_over(rt, alloc, &server, reader, writer, gate)

@@ -1,11 +1,14 @@
 -- Readers whose seat is their own, and what a read leaves of them.
-use Rattle.std.proofs.Common.{◌≡◌, ℕ, ◌+◌, ◌<◌, Bool, true, false, arith, ◌++◌, Option, Some, None, inr, refl, sym, ap, ◌∙◌, subst, append_assoc}
+use Rattle.std.proofs.Common.{◌≡◌, ℕ, ◌+◌, ◌<◌, ◌≤◌, Bool, true, false, arith, ◌++◌, Option, Some, None, inr, refl, sym, ap, ◌∙◌, subst, append_assoc}
 use Rattle.std.specs.Prelude.{IsSome, IsSomeAnd, IfOk, OnErr, Result, Ok, Err, option_to_list}
 use mathlib.Core.List.{List, IsPrefix}
 use Rattle.atomic_table.specs.Seated.{TableId}
 use Rattle.lq_value.specs.declared.refusal.Refusal.{Refusal}
+use Rattle.lq_value.specs.Refusal.{IsRefusedBy, first_refusal}
 use Rattle.lq_predicate_formula.specs.Query.{Query}
+use Rattle.lq_volume.specs.State.{State}
 use Rattle.lq_volume.specs.Book.{Book}
+use Rattle.lq_desk_world.specs.Events.{opening_refusals}
 use Rattle.lq_board.specs.Token.{SeatToken}
 use Rattle.lq_update.specs.declared.message.Message.{Message}
 use Rattle.lq_port.specs.End.{End, IsSamePort}
@@ -17,11 +20,14 @@ use Rattle.lq_server_subscription.specs.declared.identity.Shut.{Shut}
 use Rattle.lq_server_subscription.specs.Identity.{port_id}
 use Rattle.lq_server_subscription.specs.Rule.{query_of, whole}
 use Rattle.lq_server_subscription.specs.Reading.{ReadingHold, Gives, Fails, IsTold, known, received, is_marked}
+use Rattle.lq_server_subscription.specs.declared.subscription.Subscription.{Subscription}
 use Rattle.lq_server_slots.specs.declared.open.Opened.{Opened}
-use Rattle.lq_server_slots.specs.Opening.{IdentityFits, IsNamed, IsOpened, asks_after, name_or}
+use Rattle.lq_server_slots.specs.declared.slots.Slots.{Slots}
+use Rattle.lq_server_slots.specs.Slots.{SameButKnown, SlotsStand, is_full, slot_in}
+use Rattle.lq_server_slots.specs.Opening.{IdentityFits, IsNamed, IsOpened, IsOpeningTabled, asks_after, name_or}
 use Rattle.lq_server.specs.Hold.{ReaderHold}
 use Rattle.lq_server.specs.Own.{IsOwn}
-use Rattle.lq_server.specs.Opened.{IsNewReader}
+use Rattle.lq_server.specs.Opened.{IsAnsweredOver, IsNewReader}
 use Rattle.lq_server.specs.Syncing.{IsSynced, IsRead, IsUnread}
 use Rattle.lq_server.specs.declared.server.Synced.{Synced}
 
@@ -150,6 +156,36 @@ new_reader o board book q mv port backlog s = record {
   hang_up_asked = refl;
   opened = s;
 }
+
+-- what slots answered before a seat met the keeper, those after it answer as well
+pub answered_over : (old under : Slots) (start : State) (was now : SeatToken Identity)
+    (port backlog : ℕ) (result : Result ReaderHold Refusal) → SameButKnown old under
+    → SlotsStand under under.keeper.book → now ≡ record was { book = old.keeper.book }
+    → old.openings ≤ start.limit → IsOpeningTabled old start.limit port backlog result
+    → IfOk result (λ (r : ReaderHold).
+    (j : ℕ) → 0 < j → j < r.slot → IsSome (slot_in old.subscriptions.items j))
+    → IsAnsweredOver under start now.book port backlog result
+answered_over old under start was now port backlog result same stands seat within table lowest =
+    let keeps : under.keeper.book ≡ now.book =
+    same.book ∙ sym (ap (λ (s : SeatToken Identity). s.book) seat) in
+    let items : old.subscriptions.items ≡ under.subscriptions.items =
+    λ i. (sym same.subscriptions i).items in
+    let tests : first_refusal (opening_refusals (is_full old.subscriptions.items) old.openings
+    start.limit port backlog)
+    ≡ first_refusal (opening_refusals (is_full under.subscriptions.items) under.openings
+    start.limit port backlog) =
+    λ i. first_refusal (opening_refusals (is_full (items i)) (sym same.openings i) start.limit port
+    backlog) in
+    record {
+      keeps = keeps;
+      stands = subst (SlotsStand under) keeps stands;
+      openings = subst (λ (n : ℕ). n ≤ start.limit) (sym same.openings) within;
+      table = subst (IsRefusedBy result) tests table;
+      lowest = subst
+          (λ (l : List (Option Subscription)). IfOk result (λ (r : ReaderHold).
+          (j : ℕ) → 0 < j → j < r.slot → IsSome (slot_in l j)))
+          items lowest;
+    }
 
 -- what was received is a front of the updates over the known book
 pub received_front : (r : ReadingHold) → IsTold r

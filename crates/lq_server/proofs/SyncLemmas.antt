@@ -16,7 +16,7 @@ use Rattle.lq_server_subscription.specs.declared.delivery.Opening.{Opening}
 use Rattle.lq_server_subscription.specs.declared.identity.Identity.{Identity}
 use Rattle.lq_server_subscription.specs.declared.subscription.Subscription.{Subscription}
 use Rattle.lq_server_subscription.specs.Updates.{updates}
-use Rattle.lq_server_subscription.specs.Rule.{floor_of, query_of, message_of, mark_or, messages_in, mark_in, MayFollow}
+use Rattle.lq_server_subscription.specs.Rule.{floor_of, query_of, message_of, mark_or, messages_in, mark_in, MayFollow, IsMark}
 use Rattle.lq_server_subscription.specs.LegalList.{known_by}
 use Rattle.lq_server_subscription.specs.Marking.{hung_mark}
 use Rattle.lq_server_subscription.specs.Identity.{identity_of, port_id}
@@ -389,9 +389,8 @@ module _ (s : Subscription) (old new : ReaderHold) (l : Progress)
               ap fin_list (closing none (sym h ∙ empty) (omega (arith, wait)) ∙ sym mk);
           last = rest_is (mark_in e.taken) refl (mark_in e.ahead) refl mk;
           mark = subst
-              (λ o. IfSome o (λ k.
-              (k.seq ≡ length (received new.reading ++ w ++ s.sub.held.messages) + 1)
-              × (e.floor.opened ≤ k.change) × (k.change ≤ x.change)))
+              (λ o. IfSome o (IsMark e.floor (received new.reading ++ w ++ s.sub.held.messages)
+              new.seat.book))
               (sym mk) (mark_of s.sub.held.mark refl);
         };
         full = λ some. full_at (omega (arith, h)) wait;
@@ -441,9 +440,8 @@ module _ (s : Subscription) (old new : ReaderHold) (l : Progress)
 
       -- what the lock knows of a mark, in the words of the answer
       mark_of : (o : Option Mark) → s.sub.held.mark ≡ o
-          → IfSome o (λ k.
-          (k.seq ≡ length (received new.reading ++ w ++ s.sub.held.messages) + 1)
-          × (e.floor.opened ≤ k.change) × (k.change ≤ x.change))
+          → IfSome o (IsMark e.floor (received new.reading ++ w ++ s.sub.held.messages)
+          new.seat.book)
       mark_of None is = tt
       mark_of (Some k) is =
           let fits =
@@ -454,16 +452,24 @@ module _ (s : Subscription) (old new : ReaderHold) (l : Progress)
           let begun : s.sub.held.opened ≤ k.change =
           subst (λ o. s.sub.held.opened ≤ upto o (length new.seat.book.changes)) is
           lv.stands.opened in
+          let query : s.sub.held.query ≡ query_of e.floor =
+          mine.0.query ∙ ap query_of (sym lv.port.2) in
+          let moved : s.sub.held.moved ≡ e.floor.moved =
+          mine.0.moved ∙ ap (λ (f : Opening). f.moved) (sym lv.port.2) in
           let at : s.sub.held.opened ≡ e.floor.opened =
           mine.0.opened ∙ ap (λ (f : Opening). f.opened) (sym lv.port.2) in
-          let count : x.change ≡ length new.seat.book.changes = change ∙ lv.number in
           let sent : s.sub.held.sent
           ≡ length (received new.reading ++ w ++ s.sub.held.messages) =
-          lv.stands.sent ∙ ap (length {A = Message}) (sym given_is) in (
-            fits.0 ∙ ap (λ (n : ℕ). n + 1) sent,
-            omega arith,
-            omega arith,
-          )
+          lv.stands.sent ∙ ap (length {A = Message}) (sym given_is) in
+          record {
+            all = given_is ∙ lv.stands.list
+                ∙ (λ i.
+                updates (query i) (moved i) new.seat.book (at i)
+                (upto (is i) (length new.seat.book.changes)));
+            seq = fits.0 ∙ ap (λ (n : ℕ). n + 1) sent;
+            opened = omega arith;
+            within = fits.1;
+          }
 
       full_at : 0 < length s.sub.held.messages → length w ≡ x.waiting → e.places ≤ x.waiting
       full_at some wait =

@@ -1,3 +1,4 @@
+pub mod Base
 pub mod Hold
 pub mod Own
 pub mod Opened

@@ -1,10 +1,14 @@
 -- A reader that was just opened.
-use Rattle.std.specs.Prelude.{◌≡◌, ℕ, Bool, false}
+use Rattle.std.specs.Prelude.{◌≡◌, ◌≤◌, ◌<◌, ℕ, Bool, false, IfOk, IsSome, Result}
 use Rattle.atomic_table.specs.Seated.{TableId}
+use Rattle.lq_value.specs.declared.refusal.Refusal.{Refusal}
 use Rattle.lq_predicate_formula.specs.Query.{Query}
+use Rattle.lq_volume.specs.State.{State}
 use Rattle.lq_volume.specs.Book.{Book}
 use Rattle.lq_server_slots.specs.declared.open.Opened.{Opened}
-use Rattle.lq_server_slots.specs.Opening.{IsOpened}
+use Rattle.lq_server_slots.specs.declared.slots.Slots.{Slots}
+use Rattle.lq_server_slots.specs.Opening.{IsOpened, IsOpeningTabled}
+use Rattle.lq_server_slots.specs.Slots.{SlotsStand, slot_in}
 use Rattle.lq_server.specs.Hold.{ReaderHold}
 use Rattle.lq_server.specs.Own.{IsOwn}
 
@@ -18,3 +22,14 @@ pub record IsNewReader (r : ReaderHold) (board : TableId) (book : Book) (q : Que
   pub own : IsOwn r
   pub hang_up_asked : r.hang_up_asked ≡ false
   pub opened : IsOpened (opened_of r) board book q mv port backlog
+
+-- Over these slots an opening is answered so. They stand over this book, no more were opened than
+-- the limit, and a slot that is given is the lowest that is free.
+pub record IsAnsweredOver (under : Slots) (start : State) (book : Book) (port backlog : ℕ)
+    (result : Result ReaderHold Refusal) : Type 0 where
+  pub keeps : under.keeper.book ≡ book
+  pub stands : SlotsStand under book
+  pub openings : under.openings ≤ start.limit
+  pub table : IsOpeningTabled under start.limit port backlog result
+  pub lowest : IfOk result (λ r.
+      (j : ℕ) → 0 < j → j < r.slot → IsSome (slot_in under.subscriptions.items j))

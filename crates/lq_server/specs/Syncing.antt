@@ -9,7 +9,7 @@ use Rattle.lq_update.specs.declared.parcel.Parcel.{Parcel}
 use Rattle.lq_update.specs.declared.parcel.Parcel.TheVariants.{Update, Fin}
 use Rattle.lq_port.specs.End.{IsSamePort}
 use Rattle.lq_server_subscription.specs.Updates.{updates}
-use Rattle.lq_server_subscription.specs.Rule.{query_of}
+use Rattle.lq_server_subscription.specs.Rule.{query_of, IsMark}
 use Rattle.lq_server_subscription.specs.Marking.{hung_mark}
 use Rattle.lq_desk_sub.specs.declared.read.Read.{Read}
 use Rattle.lq_desk_sub.specs.declared.read.Read.TheVariants.{Ended}
@@ -37,10 +37,9 @@ pub record IsListed (r : ReaderHold) (x : Synced) (w h : List Message) : Type 0 
       → rest ≡ fin_list x.mark
   -- nothing follows them but the mark
   pub last : (rest ≡ []) ⊎ (rest ≡ fin_list x.mark)
-  -- a mark, read or not, comes after all of them, and its change is within the book
-  pub mark : IfSome x.mark (λ k.
-      (k.seq ≡ length (received r.reading ++ w ++ h) + 1)
-      × (r.reading.port.floor.opened ≤ k.change) × (k.change ≤ x.change))
+  -- a mark, read or not, comes after all of them, as the rule says
+  pub mark : IfSome x.mark
+      (IsMark r.reading.port.floor (received r.reading ++ w ++ h) r.seat.book)
 
 -- old and new are the reader before and after a sync that answers x
 pub record IsSynced (old new : ReaderHold) (x : Synced) : Type 0 where

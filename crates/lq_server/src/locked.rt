@@ -1,5 +1,5 @@
 //! The state under the lock.
-ghost use Rattle.std.specs.Prelude.{◌≡◌, ◌<◌, [], ◌∷◌, length, IfOk, IfErr, OnOk, OnErr, IfSome, IfNone, IsSome, IsSomeAnd, is_some, Some, None, Err, unwrap_or};
+ghost use Rattle.std.specs.Prelude.{◌≡◌, ◌≢◌, ℕ, ◌+◌, ◌<◌, ◌≤◌, [], ◌∷◌, length, IfOk, IfErr, OnOk, OnErr, IfSome, IfNone, IsSome, IsSomeAnd, is_some, Some, None, Err, unwrap_or};
 ghost use Rattle.lq_value.specs.declared.refusal.Refusal.TheVariants.{NoMemory, NoSeat};
 ghost use Rattle.lq_value.specs.Refusal.{IsRefusedBy, first_refusal};
 ghost use Rattle.lq_volume.specs.Book.{Extends, grown, state_of};
@@ -7,12 +7,15 @@ ghost use Rattle.lq_volume.specs.Change.{refused};
 ghost use Rattle.lq_volume.specs.Result.{result_of};
 ghost use Rattle.lq_volume.specs.State.{record_at, node_in};
 ghost use Rattle.lq_volume.specs.Lookup.{find_refusals, entry_refusals, listed};
+ghost use Rattle.lq_board.specs.Author.{with_change};
 ghost use Rattle.lq_board.specs.Book.{IsFullBook};
+ghost use Rattle.lq_board.specs.Slot.{slot_at};
 ghost use Rattle.lq_server_subscription.specs.declared.identity.Shut.TheVariants.{Never};
 ghost use Rattle.lq_server_subscription.specs.declared.subscription.Subscription.{Subscription as SubscriptionOf};
 ghost use Rattle.lq_server_subscription.specs.Marking.{first_close};
-ghost use Rattle.lq_server_slots.specs.Slots.{IsPut, SlotsStand};
-ghost use Rattle.lq_server_slots.specs.Opening.{IsOpened, IsOpeningRefused, IdentityFits, asks_after, name_or, opening_refusal};
+ghost use Rattle.lq_server_slots.specs.declared.slots.Slots.{Slots as SlotsOf};
+ghost use Rattle.lq_server_slots.specs.Slots.{IsPut, IsServed, SameButKnown, SlotsAre, SlotsStand, slot_in};
+ghost use Rattle.lq_server_slots.specs.Opening.{IsOpened, IsOpeningRefused, IsOpeningTabled, IdentityFits, asks_after, name_or, opening_refusal};
 ghost use Rattle.lq_server_slots.specs.Progress.{ShowsProgress};
 ghost use Rattle.lq_server.specs.Applied.{IsAdded};
 
@@ -39,7 +42,10 @@ pub struct Found {
     pub entries: Vec<Entry>,
 }
 
-/// The volume, the subscriptions and the keeper of N's board. A contract sees the keeper's book.
+/// The volume, the subscriptions and the keeper of N's board.
+///
+/// A contract sees the slots: the keeper with its book, the subscriptions, and the number of
+/// openings.
 pub struct Locked<N: Named> {
     slots: Slots,
     volume: Volume,
@@ -63,17 +69,24 @@ impl<N: Named> Drop for Locked<N> {
 
 impl<N: Named> Model for Locked<N> {
     ghost use Rattle.std.specs.Prelude.{◌≡◌, ◌≤◌};
-    ghost use Rattle.lq_volume.specs.Book.{Book, state_of};
+    ghost use Rattle.std.specs.Coded.{codes};
+    ghost use Rattle.lq_volume.specs.Book.{state_of};
     ghost use Rattle.lq_board.specs.Book.{IsFullBook};
+    ghost use Rattle.lq_server_slots.specs.declared.slots.Slots.{Slots as SlotsOf};
+    ghost use Rattle.lq_server_slots.specs.contracts.slots.Slots as some_slots;
     ghost use Rattle.lq_server_slots.specs.Slots.{SlotsStand};
 
-    ghost Value = { Book };
+    ghost Value = { SlotsOf };
 
-    ghost view = { λ l. l.slots.keeper.book };
+    ghost coded = { Prim.hlevel (codes, some_slots.the_row.coded) };
+
+    ghost view = { λ l. l.slots };
 
     ghost invariant = { λ l. (l.slots.keeper.board ≡ N.board)
         × (l.volume ≡ state_of l.slots.keeper.book)
         × IsFullBook l.slots.keeper.book
+        × (l.slots.keeper.book.start ≡ N.start)
+        × (l.volume.limit ≡ N.start.limit)
         × (l.slots.openings ≤ l.volume.limit)
         × SlotsStand l.slots l.slots.keeper.book };
 }
@@ -84,9 +97,10 @@ impl<N: Named> Locked<N> {
         requires board { slots.keeper.board ≡ N.board }
         requires volume { volume ≡ state_of slots.keeper.book }
         requires full { IsFullBook slots.keeper.book }
+        requires start { (slots.keeper.book.start ≡ N.start) × (volume.limit ≡ N.start.limit) }
         requires openings { slots.openings ≡ 0 }
         requires holding { SlotsStand slots slots.keeper.book }
-        ensures { result ≡ slots.keeper.book }
+        ensures { result ≡ slots }
     {
         Locked {
             slots,
@@ -101,9 +115,9 @@ impl<N: Named> Locked<N> {
     /// takes no memory.
     pub fn seat(&mut self, board: &Board<Identity>) -> Result<Seat<Identity>, Refusal>
         requires { board.now ≡ N.board }
-        ensures same { self.new ≡ self.old }
+        ensures same { SameButKnown self.old self.new }
         ensures seat { IfOk result (λ seat.
-            (seat.board ≡ N.board) × (seat.slot ≡ 0) × (seat.book ≡ self.old)) }
+            (seat.board ≡ N.board) × (seat.slot ≡ 0) × (seat.book ≡ self.old.keeper.book)) }
         ensures refused { IfErr result (λ e. e ≡ NoSeat) }
     {
         if self.seats >= MAX_SEATS {
@@ -116,40 +130,29 @@ impl<N: Named> Locked<N> {
     /// Takes a seat back, so that another can be given out. It takes no memory.
     pub fn give_back(&mut self, board: &Board<Identity>, seat: Seat<Identity>)
         requires { (board.now ≡ N.board) × (seat.board ≡ N.board) × (seat.slot ≡ 0) }
-        ensures same { self.new ≡ self.old }
-        ensures later { Extends self.old seat.book }
+        ensures same { SameButKnown self.old self.new }
+        ensures later { Extends self.old.keeper.book seat.book }
     {
         board.join(&mut self.slots.keeper, seat);
         self.seats = self.seats.saturating_sub(1);
     }
 
     /// The number of changes in the book, which the seat then knows. It takes no memory.
+    ///
+    /// It may be the seat of a slot. Nothing else of the seat changes.
     pub fn meet(&mut self, board: &Board<Identity>, seat: &mut Seat<Identity>) -> u64
-        requires { (board.now ≡ N.board) × (seat.old.board ≡ N.board) × (seat.old.slot ≡ 0) }
-        ensures same { self.new ≡ self.old }
-        ensures seat { (seat.new.board ≡ N.board) × (seat.new.slot ≡ 0) }
-        ensures book { seat.new.book ≡ self.old }
+        requires { (board.now ≡ N.board) × (seat.old.board ≡ N.board) }
+        ensures same { SameButKnown self.old self.new }
+        ensures plain { seat.old.slot ≡ 0 → self.new ≡ self.old }
+        ensures seat { seat.new ≡ record seat.old { book = self.old.keeper.book } }
+        ensures known { 0 < seat.old.slot
+            → seat.old.asks ≤ (slot_at self.new.keeper.slots seat.old.slot).asks }
         ensures later { Extends seat.new.book seat.old.book }
-        ensures number { result ≡ length self.old.changes }
-    {
-        board.meet(&mut self.slots.keeper, seat)
-    }
-
-    /// As `meet`, for a seat of any slot. Only the seat's book changes. It takes no memory.
-    pub fn meet_any(&mut self, board: &Board<Identity>, seat: &mut Seat<Identity>) -> u64
-        requires board { (board.now ≡ N.board) × (seat.old.board ≡ N.board) }
-        requires named { 0 < seat.old.slot → IsSome seat.old.name }
-        ensures same { self.new ≡ self.old }
-        ensures seat { (seat.new.board ≡ N.board) × (seat.new.slot ≡ seat.old.slot) }
-        ensures named { 0 < seat.old.slot
-            → (seat.new.asks ≡ seat.old.asks) × (seat.new.name ≡ seat.old.name) }
-        ensures book { seat.new.book ≡ self.old }
-        ensures later { Extends seat.new.book seat.old.book }
-        ensures number { result ≡ length self.old.changes }
+        ensures number { result ≡ length self.old.keeper.book.changes }
     {
         let place = seat.slot();
         if place == 0 {
-            return self.meet(board, seat);
+            return board.meet(&mut self.slots.keeper, seat);
         }
         meet_in(board, &mut self.slots, place as usize, seat)
     }
@@ -162,9 +165,9 @@ impl<N: Named> Locked<N> {
         seat: &mut Seat<Identity>,
         predicate: &Predicate,
     ) -> Result<Found, Refusal>
-        requires { (board.now ≡ N.board) × (seat.old.board ≡ N.board) × (seat.old.slot ≡ 0) }
-        ensures same { self.new ≡ self.old }
-        ensures seat { (seat.new.board ≡ N.board) × (seat.new.slot ≡ 0) }
+        requires { (board.now ≡ N.board) × (seat.old.board ≡ N.board) }
+        ensures same { SameButKnown self.old self.new }
+        ensures seat { seat.new ≡ record seat.old { book = self.old.keeper.book } }
         ensures later { Extends seat.new.book seat.old.book }
         ensures at { IfOk result (λ found. found.at ≡ length seat.new.book.changes) }
         ensures entries { IfOk result (λ found.
@@ -188,9 +191,9 @@ impl<N: Named> Locked<N> {
         dir: u64,
         name: &Name,
     ) -> Result<u64, Refusal>
-        requires { (board.now ≡ N.board) × (seat.old.board ≡ N.board) × (seat.old.slot ≡ 0) }
-        ensures same { self.new ≡ self.old }
-        ensures seat { (seat.new.board ≡ N.board) × (seat.new.slot ≡ 0) }
+        requires { (board.now ≡ N.board) × (seat.old.board ≡ N.board) }
+        ensures same { SameButKnown self.old self.new }
+        ensures seat { seat.new ≡ record seat.old { book = self.old.keeper.book } }
         ensures later { Extends seat.new.book seat.old.book }
         ensures value { IfOk result (λ node.
             node_in (state_of seat.new.book).records dir name.now ≡ Some node) }
@@ -212,9 +215,9 @@ impl<N: Named> Locked<N> {
         seat: &mut Seat<Identity>,
         node: u64,
     ) -> Result<Listing, Refusal>
-        requires { (board.now ≡ N.board) × (seat.old.board ≡ N.board) × (seat.old.slot ≡ 0) }
-        ensures same { self.new ≡ self.old }
-        ensures seat { (seat.new.board ≡ N.board) × (seat.new.slot ≡ 0) }
+        requires { (board.now ≡ N.board) × (seat.old.board ≡ N.board) }
+        ensures same { SameButKnown self.old self.new }
+        ensures seat { seat.new ≡ record seat.old { book = self.old.keeper.book } }
         ensures later { Extends seat.new.book seat.old.book }
         ensures value { IfOk result (λ listing.
             record_at (state_of seat.new.book) node ≡ Some (listed listing)) }
@@ -225,10 +228,11 @@ impl<N: Named> Locked<N> {
         self.volume.listing(node)
     }
 
-    /// Makes a change and notifies the subscriptions. The seat then knows the book.
+    /// Makes a change and notifies the subscriptions. The seat is its author, and then knows the
+    /// book.
     ///
     /// First the subscriptions whose readers hung up end. Refused as the volume refuses the change,
-    /// or `NoMemory`; the book is then as it was, but `change_in` still fills the ports.
+    /// or `NoMemory`; the book is then as it was, but the ports are filled.
     pub fn apply<R: Wait>(
         &mut self,
         rt: &R,
@@ -236,29 +240,39 @@ impl<N: Named> Locked<N> {
         seat: &mut Seat<Identity>,
         change: &Change,
     ) -> Result<Applied, Refusal>
-        requires { (board.now ≡ N.board) × (seat.old.board ≡ N.board) × (seat.old.slot ≡ 0) }
-        ensures seat { (seat.new.board ≡ N.board) × (seat.new.slot ≡ 0) }
-        ensures book { seat.new.book ≡ self.new }
-        ensures grown { OnOk result (self.new ≡ grown self.old (change.now ∷ [])) }
-        ensures same { OnErr result (self.new ≡ self.old) }
+        requires { (board.now ≡ N.board) × (seat.old.board ≡ N.board) }
+        ensures seat { seat.new ≡ record seat.old {
+          book = self.new.keeper.book;
+          author = seat.new.author;
+        } }
+        ensures author { IfOk result (λ a.
+            seat.new.author ≡ with_change seat.old.author a.change) }
+        ensures others { OnErr result (seat.new.author ≡ seat.old.author) }
+        ensures grown { OnOk result
+            (self.new.keeper.book ≡ grown self.old.keeper.book (change.now ∷ [])) }
+        ensures same { OnErr result (self.new.keeper.book ≡ self.old.keeper.book) }
+        ensures openings { self.new.openings ≡ self.old.openings }
+        ensures served { seat.old.slot ≡ 0
+            → SlotsAre IsServed self.new.subscriptions.items self.new.keeper.slots }
+        ensures number { IfOk result (λ a.
+            a.change ≡ length self.old.keeper.book.changes + 1) }
         ensures later { Extends seat.new.book seat.old.book }
         ensures ok { IfOk result (λ a. IsAdded seat.old.book seat.new.book a change.now) }
         ensures err { IfErr result (λ e.
             e ≡ unwrap_or (refused (state_of seat.new.book) change.now) NoMemory) }
     {
         self.meet(board, seat);
-        let outcome = change_in(rt, board, &mut self.slots, &mut self.volume, change);
+        let outcome = change_in(rt, board, &mut self.slots, &mut self.volume, seat, change);
         self.meet(board, seat);
         outcome
     }
 
-    /// Opens a live query over the book that the seat then knows.
+    /// Opens a live query in the lowest free slot, over the book that the seat then knows.
     ///
     /// The port has `port` places, 1 to 1,024. At most `backlog` messages are held before it, up to
     /// 65,536. `moved` asks for moved entries too. Refused, the first that fits: `BadPort`,
     /// `BadBacklog`, `NoSlot` where 64 are open, `Exhausted` where the openings have reached the
-    /// volume's limit on changes, `NoMemory`. Clauses of `open_in` say which of the last three it
-    /// is, and that a refused opening isn't counted.
+    /// volume's limit on changes, `NoMemory`. A refused opening changes no slot and isn't counted.
     pub fn open(
         &mut self,
         board: &Board<Identity>,
@@ -268,13 +282,22 @@ impl<N: Named> Locked<N> {
         backlog: u64,
         moved: bool,
     ) -> Result<Opened, Refusal>
-        requires { (board.now ≡ N.board) × (seat.old.board ≡ N.board) × (seat.old.slot ≡ 0) }
-        ensures same { self.new ≡ self.old }
-        ensures seat { (seat.new.board ≡ N.board) × (seat.new.slot ≡ 0) }
+        requires { (board.now ≡ N.board) × (seat.old.board ≡ N.board) }
+        ensures book { self.new.keeper.book ≡ self.old.keeper.book }
+        ensures seat { seat.new ≡ record seat.old { book = self.old.keeper.book } }
         ensures later { Extends seat.new.book seat.old.book }
-        ensures book { seat.new.book ≡ self.new }
         ensures opened { IfOk result (λ o.
             IsOpened o N.board seat.new.book predicate.now moved port backlog) }
+        ensures counted { OnOk result (self.new.openings ≡ self.old.openings + 1) }
+        ensures err { OnErr result (SameButKnown self.old self.new) }
+
+        // The first that fits, and no other. The slot is the lowest that is free.
+        ensures over { (under : SlotsOf) × SameButKnown self.old under
+            × SlotsStand under under.keeper.book }
+        ensures within { self.old.openings ≤ N.start.limit }
+        ensures table { IsOpeningTabled self.old N.start.limit port backlog result }
+        ensures lowest { IfOk result (λ o. (j : ℕ) → 0 < j → j < o.slot
+            → IsSome (slot_in self.old.subscriptions.items j)) }
 
         // The numbers are checked first, by their bounds alone.
         ensures refused { IfSome (opening_refusal port backlog) (λ e. result ≡ Err e) }
@@ -305,8 +328,9 @@ impl<N: Named> Locked<N> {
         requires place { (0 < place) × (place < 65) }
         requires seat { (seat.old.slot ≡ place)
             × IsSomeAnd seat.old.name (λ t. IdentityFits t reading.old.port) }
-        ensures same { self.new ≡ self.old }
-        ensures book { seat.new.book ≡ self.old }
+        ensures same { self.new.keeper.book ≡ self.old.keeper.book }
+        ensures openings { self.new.openings ≡ self.old.openings }
+        ensures book { seat.new.book ≡ self.old.keeper.book }
         ensures progress { (s : SubscriptionOf)
             × ShowsProgress s seat.old seat.new reading.old reading.new result }
     {
@@ -328,12 +352,16 @@ impl<N: Named> Locked<N> {
         requires board { (board.now ≡ N.board) × (seat.old.board ≡ N.board) }
         requires place { (0 < place) × (place < 65) }
         requires seat { (seat.old.slot ≡ place) × IsSome seat.old.name }
-        ensures same { self.new ≡ self.old }
+        ensures same { self.new.keeper.book ≡ self.old.keeper.book }
+        ensures openings { self.new.openings ≡ self.old.openings }
         ensures number { IfSome result (λ n. n ≡ length seat.new.book.changes) }
         ensures closes { IfSome result (λ _. (name_or seat.old.name).shut ≡ Never) }
         ensures late { (name_or seat.old.name).asks < seat.old.asks → result ≡ None }
         ensures put { (s : SubscriptionOf) × IsPut s seat.new.name seat.new.book }
-        ensures seat { seat.new ≡ record seat.old { book = self.old; name = seat.new.name } }
+        ensures seat { seat.new ≡ record seat.old {
+          book = self.old.keeper.book;
+          name = seat.new.name;
+        } }
         ensures later { Extends seat.new.book seat.old.book }
         ensures name { seat.new.name ≡ Some (record (name_or seat.old.name) {
           shut = first_close (name_or seat.old.name).shut (is_some result)
@@ -343,16 +371,22 @@ impl<N: Named> Locked<N> {
         close_in(rt, board, &mut self.slots, place as usize, seat)
     }
 
-    /// Takes the seat of a slot back and frees the slot.
+    /// Takes the seat of a slot back and frees the slot, so that an opening may take it.
     ///
-    /// `asked` says whether its reader asked for the end. It takes no memory.
+    /// `asked` says whether its reader asked for the end. The other slots keep their subscriptions.
+    /// It takes no memory.
     pub fn free(&mut self, board: &Board<Identity>, place: u64, seat: Seat<Identity>, asked: bool)
         requires board { (board.now ≡ N.board) × (seat.board ≡ N.board) }
         requires place { (0 < place) × (place < 65) }
         requires seat { (seat.slot ≡ place)
             × IsSomeAnd seat.name (λ t. seat.asks ≡ asks_after t.asks asked) }
-        ensures same { self.new ≡ self.old }
-        ensures later { Extends self.old seat.book }
+        ensures same { self.new.keeper.book ≡ self.old.keeper.book }
+        ensures openings { self.new.openings ≡ self.old.openings }
+        ensures taken { IsSome (slot_in self.old.subscriptions.items place) }
+        ensures freed { slot_in self.new.subscriptions.items place ≡ None }
+        ensures others { (k : ℕ) → k ≢ place → slot_in self.new.subscriptions.items k
+            ≡ slot_in self.old.subscriptions.items k }
+        ensures later { Extends self.old.keeper.book seat.book }
     {
         free_in(board, &mut self.slots, place as usize, seat, asked);
     }
@@ -360,8 +394,10 @@ impl<N: Named> Locked<N> {
     /// The keeper and the volume.
     pub fn into_parts(self) -> (Keeper<Identity>, Volume)
         ensures board { result.0.board ≡ N.board }
-        ensures book { result.0.book ≡ self }
-        ensures state { result.1 ≡ state_of self }
+        ensures book { result.0.book ≡ self.keeper.book }
+        ensures start { self.keeper.book.start ≡ N.start }
+        ensures state { result.1 ≡ state_of self.keeper.book }
+        ensures limit { result.1.limit ≡ N.start.limit }
     {
         let Locked {
             slots,

@@ -1,5 +1,5 @@
 //! The names of boards, and what a server begins with.
-ghost use Rattle.std.specs.Prelude.{◌≡◌, None};
+ghost use Rattle.std.specs.Prelude.{◌≡◌, None, IfOk};
 ghost use Rattle.lq_value.specs.Refusal.{IsRefusedBy};
 
 use crate::locked::Locked;
@@ -14,22 +14,28 @@ use std::marker::{Brand, Model};
 /// A seat at a server: what one caller knows of the changes. 16 may be out at the same time.
 pub type Seat = lq_board::Seat<Identity>;
 
-/// Names one board, for contracts alone.
+/// Names one board, and the volume that a server over it began with, for contracts alone.
 pub trait Named {
     ghost use Rattle.atomic_table.specs.Seated.{TableId};
+    ghost use Rattle.lq_volume.specs.State.{State};
 
     ghost board: { TableId };
+
+    ghost start: { State };
 }
 
 impl Named for Brand {
     ghost use Rattle.lq_board.specs.Token.{no_board};
+    ghost use Rattle.lq_volume.specs.State.{empty_state};
 
     ghost board = { no_board };
+
+    ghost start = { empty_state 0 };
 }
 
 /// A volume with a new board and its keeper, and no subscriptions.
 ///
-/// A contract sees which board it is.
+/// A contract sees which board it is, and the volume.
 pub struct Base {
     board: Board<Identity>,
     slots: Slots,
@@ -51,28 +57,30 @@ impl Drop for Base {
 
 impl Model for Base {
     ghost use Rattle.std.specs.Prelude.{◌≡◌};
-    ghost use Rattle.atomic_table.specs.Seated.{TableId, table_id_coded};
     ghost use Rattle.lq_volume.specs.Book.{state_of};
     ghost use Rattle.lq_board.specs.Book.{IsFullBook};
     ghost use Rattle.lq_server_slots.specs.Slots.{SlotsStand};
+    ghost use Rattle.lq_server.specs.Base.{BaseHold};
 
-    ghost Value = { TableId };
+    ghost Value = { BaseHold };
 
-    ghost coded = { table_id_coded };
-
-    ghost view = { λ b. b.board };
+    ghost view = { λ b. record { board = b.board; volume = b.volume } };
 
     ghost invariant = { λ b. (b.slots.keeper.board ≡ b.board)
         × (b.volume ≡ state_of b.slots.keeper.book)
         × IsFullBook b.slots.keeper.book
+        × (b.slots.keeper.book.start ≡ b.volume)
         × (b.slots.openings ≡ 0)
         × SlotsStand b.slots b.slots.keeper.book };
 }
 
 impl Base {
-    /// A board for a volume that has no changes, and 64 free slots. Refused: `NoMemory`.
+    /// A new board beside this volume, which has no changes, and 64 free slots.
+    ///
+    /// Refused: `NoMemory`.
     pub fn new(alloc: Global, volume: Volume) -> Result<Base, Refusal>
         requires first { volume.number ≡ 0 }
+        ensures volume { IfOk result (λ base. base.volume ≡ volume) }
         ensures refused { IsRefusedBy result None }
     {
         let (board, keeper) = Board::new(alloc, &volume)?;
@@ -85,9 +93,9 @@ impl Base {
         })
     }
 
-    /// The board and the state under the lock. N names the board.
+    /// The board and the state under the lock. N names the board and the volume.
     pub fn into_parts<N: Named>(self) -> (Board<Identity>, Locked<N>)
-        requires { self ≡ N.board }
+        requires { (self.board ≡ N.board) × (self.volume ≡ N.start) }
         ensures { result.0 ≡ N.board }
     {
         let Base {

@@ -1,8 +1,9 @@
 //! The server.
-ghost use Rattle.std.specs.Prelude.{◌≡◌, ◌<◌, length, IfOk, IfErr, IsSome};
+ghost use Rattle.std.specs.Prelude.{◌≡◌, ◌≢◌, length, IfOk, IfErr};
 ghost use Rattle.lq_value.specs.declared.refusal.Refusal.TheVariants.{NoSeat};
 ghost use Rattle.lq_volume.specs.Book.{Extends};
-ghost use Rattle.lq_server.specs.Retired.{IsRetired};
+ghost use Rattle.lq_board.specs.Author.{AreDisjoint};
+ghost use Rattle.lq_server.specs.Retired.{IsRetiredBy};
 
 use crate::locked::Locked;
 use crate::named::{Base, Named, Seat};
@@ -69,9 +70,9 @@ impl<N: Named> Model for Server<N> {
 }
 
 impl<N: Named> Server<N> {
-    /// A server over a base. N names the board of the base.
+    /// A server over a base. N names the board of the base and its volume.
     pub fn new(base: Base) -> Server<N>
-        requires { base ≡ N.board }
+        requires { (base.board ≡ N.board) × (base.volume ≡ N.start) }
     {
         let (board, locked) = base.into_parts();
         Server {
@@ -113,30 +114,40 @@ impl<N: Named> Server<N> {
     /// seat.
     pub fn meet<R: Wait>(&self, rt: &R, one: &mut Seat, two: &mut Seat) -> u64
         requires boards { (one.old.board ≡ N.board) × (two.old.board ≡ N.board) }
-        requires one { 0 < one.old.slot → IsSome one.old.name }
-        requires two { 0 < two.old.slot → IsSome two.old.name }
-        ensures boards { (one.new.board ≡ N.board) × (two.new.board ≡ N.board) }
-        ensures slots { (one.new.slot ≡ one.old.slot) × (two.new.slot ≡ two.old.slot) }
-        ensures one { 0 < one.old.slot
-            → (one.new.asks ≡ one.old.asks) × (one.new.name ≡ one.old.name) }
-        ensures two { 0 < two.old.slot
-            → (two.new.asks ≡ two.old.asks) × (two.new.name ≡ two.old.name) }
+        ensures one { one.new ≡ record one.old { book = one.new.book } }
+        ensures two { two.new ≡ record two.old { book = two.new.book } }
         ensures same { one.new.book ≡ two.new.book }
         ensures first { Extends one.new.book one.old.book }
         ensures second { Extends two.new.book two.old.book }
         ensures number { result ≡ length one.new.book.changes }
     {
         let mut locked = self.state.lock(rt);
-        locked.meet_any(&self.board, one);
-        locked.meet_any(&self.board, two)
+        locked.meet(&self.board, one);
+        locked.meet(&self.board, two)
+    }
+
+    /// Compares two seats of no slot, for contracts alone: they share no change.
+    ///
+    /// It leaves both as they were, and neither waits nor takes memory.
+    pub fn compare(&self, one: &mut Seat, two: &mut Seat)
+        requires boards { (one.old.board ≡ N.board) × (two.old.board ≡ N.board) }
+        requires slots { (one.old.slot ≡ 0) × (two.old.slot ≡ 0) }
+        ensures numbers { one.new.author.number ≢ two.new.author.number }
+        ensures changes { AreDisjoint one.new.author.changes two.new.author.changes }
+        ensures one { one.new ≡ one.old }
+        ensures two { two.new ≡ two.old }
+    {
+        self.board.compare(one, two);
     }
 
     /// The volume and the number of its changes, at the end of the server.
     ///
+    /// They are those of one book, which begins with the volume of the server's base. Each change
+    /// of that book was made by one of the seats that went out, and the seat knows exactly its own.
     /// The messages that are still held aren't delivered. It takes no memory.
     pub fn retire<R: Wait>(self, rt: &R, seat: Seat) -> Retired
         requires board { seat.board ≡ N.board }
-        ensures { IsRetired seat.book result.volume result.changes }
+        ensures { IsRetiredBy seat.author N.start seat.book result.volume result.changes }
     {
         let _ = rt;
         let Server { state, board } = self;

@@ -9,7 +9,8 @@ ghost use Rattle.lq_server_subscription.specs.declared.subscription.Subscription
 ghost use Rattle.lq_server_slots.specs.Slots.{IsPut};
 ghost use Rattle.lq_server_slots.specs.Opening.{IsOpeningRefused, name_or, opening_refusal};
 ghost use Rattle.lq_server.specs.declared.server.Synced.{Synced as SyncedOf};
-ghost use Rattle.lq_server.specs.Opened.{IsNewReader};
+ghost use Rattle.lq_server_slots.specs.declared.slots.Slots.{Slots as SlotsOf};
+ghost use Rattle.lq_server.specs.Opened.{IsAnsweredOver, IsNewReader};
 ghost use Rattle.lq_server.specs.Own.{IsOwn};
 ghost use Rattle.lq_server.specs.Syncing.{IsSynced, bit, in_port};
 
@@ -27,8 +28,7 @@ impl<N: Named> Server<N> {
     /// 65,536. With `moved`, one message reports a move of an entry that matches before and after
     /// it. The seat then knows the book that the reader begins with. Refused, the first that fits:
     /// `BadPort`, `BadBacklog`, `NoSlot` where 64 are taken, `Exhausted` where the openings have
-    /// reached the volume's limit on changes, `NoMemory`. Clauses of `open_in` in lq_server_slots
-    /// distinguish the last three.
+    /// reached the volume's limit on changes, `NoMemory`.
     pub fn open<R: Wait>(
         &self,
         rt: &R,
@@ -38,8 +38,8 @@ impl<N: Named> Server<N> {
         backlog: u64,
         moved: bool,
     ) -> Result<Reader, Refusal>
-        requires { (seat.old.board ≡ N.board) × (seat.old.slot ≡ 0) }
-        ensures seat { (seat.new.board ≡ N.board) × (seat.new.slot ≡ 0) }
+        requires { seat.old.board ≡ N.board }
+        ensures seat { seat.new ≡ record seat.old { book = seat.new.book } }
         ensures later { Extends seat.new.book seat.old.book }
         ensures opened { IfOk result (λ r.
             IsNewReader r N.board seat.new.book predicate.now moved port backlog) }
@@ -47,6 +47,10 @@ impl<N: Named> Server<N> {
         // The numbers are checked first, by their bounds alone.
         ensures refused { IfSome (opening_refusal port backlog) (λ e. result ≡ Err e) }
         ensures others { IfNone (opening_refusal port backlog) (IfErr result IsOpeningRefused) }
+
+        // The first that fits, by the slots that stood under the lock then, and no other.
+        ensures table { (under : SlotsOf)
+            × IsAnsweredOver under N.start seat.new.book port backlog result }
     {
         let opened = self
             .state

@@ -1,5 +1,5 @@
 //! Calls of a server on its volume.
-ghost use Rattle.std.specs.Prelude.{◌≡◌, length, IfOk, IfErr, OnOk, None, Some, unwrap_or};
+ghost use Rattle.std.specs.Prelude.{◌≡◌, length, IfOk, IfErr, OnOk, OnErr, None, Some, unwrap_or};
 ghost use Rattle.lq_value.specs.declared.refusal.Refusal.TheVariants.{NoMemory};
 ghost use Rattle.lq_value.specs.Refusal.{IsRefusedBy, first_refusal};
 ghost use Rattle.lq_volume.specs.Book.{Extends, state_of};
@@ -7,6 +7,7 @@ ghost use Rattle.lq_volume.specs.Change.{refused};
 ghost use Rattle.lq_volume.specs.Result.{result_of};
 ghost use Rattle.lq_volume.specs.State.{record_at, node_in};
 ghost use Rattle.lq_volume.specs.Lookup.{find_refusals, entry_refusals, listed};
+ghost use Rattle.lq_board.specs.Author.{with_change};
 ghost use Rattle.lq_server.specs.Applied.{IsAdded};
 
 use crate::locked::Found;
@@ -21,19 +22,25 @@ impl<N: Named> Server<N> {
     /// Makes a change, notifies the subscriptions that it concerns, and fills their ports.
     ///
     /// The seat then knows a book that ends with this change, under the number that the call
-    /// answers. Refused as `Volume::apply` is after the book that the seat then knows, or
-    /// `NoMemory`; the volume is then as it was. A subscription whose reader hung up before ends,
-    /// even where the change is refused. No clause of this call says what becomes of the
-    /// subscriptions; clauses of `change_in` in lq_server_slots do, for the requests that its
-    /// keeper knows of.
+    /// answers, and has this number among those of its own changes. Refused as `Volume::apply` is
+    /// after the book that the seat then knows, or `NoMemory`; the volume is then as it was. A
+    /// subscription whose reader hung up before ends, even where the change is refused. No clause
+    /// of this call says what becomes of the subscriptions; clauses of `change_in` in
+    /// lq_server_slots do, for the requests that its keeper knows of.
     pub fn apply<R: Wait>(
         &self,
         rt: &R,
         seat: &mut Seat,
         change: &Change,
     ) -> Result<Accepted, Refusal>
-        requires { (seat.old.board ≡ N.board) × (seat.old.slot ≡ 0) }
-        ensures seat { (seat.new.board ≡ N.board) × (seat.new.slot ≡ 0) }
+        requires { seat.old.board ≡ N.board }
+        ensures seat { seat.new ≡ record seat.old {
+          book = seat.new.book;
+          author = seat.new.author;
+        } }
+        ensures author { IfOk result (λ a.
+            seat.new.author ≡ with_change seat.old.author a.change) }
+        ensures others { OnErr result (seat.new.author ≡ seat.old.author) }
         ensures later { Extends seat.new.book seat.old.book }
         ensures ok { IfOk result (λ a. IsAdded seat.old.book seat.new.book
             (record { change = a.change; node = a.node }) change.now) }
@@ -58,8 +65,8 @@ impl<N: Named> Server<N> {
         seat: &mut Seat,
         predicate: &Predicate,
     ) -> Result<Found, Refusal>
-        requires { (seat.old.board ≡ N.board) × (seat.old.slot ≡ 0) }
-        ensures seat { (seat.new.board ≡ N.board) × (seat.new.slot ≡ 0) }
+        requires { seat.old.board ≡ N.board }
+        ensures seat { seat.new ≡ record seat.old { book = seat.new.book } }
         ensures later { Extends seat.new.book seat.old.book }
         ensures at { IfOk result (λ found. found.at ≡ length seat.new.book.changes) }
         ensures entries { IfOk result (λ found.
@@ -82,8 +89,8 @@ impl<N: Named> Server<N> {
         dir: u64,
         name: &Name,
     ) -> Result<u64, Refusal>
-        requires { (seat.old.board ≡ N.board) × (seat.old.slot ≡ 0) }
-        ensures seat { (seat.new.board ≡ N.board) × (seat.new.slot ≡ 0) }
+        requires { seat.old.board ≡ N.board }
+        ensures seat { seat.new ≡ record seat.old { book = seat.new.book } }
         ensures later { Extends seat.new.book seat.old.book }
         ensures value { IfOk result (λ node.
             node_in (state_of seat.new.book).records dir name.now ≡ Some node) }
@@ -100,8 +107,8 @@ impl<N: Named> Server<N> {
     /// Refused, the first that fits: `NoNode` where there is no such node, `NoEntry` for the root,
     /// `NoMemory`.
     pub fn listing<R: Wait>(&self, rt: &R, seat: &mut Seat, node: u64) -> Result<Listing, Refusal>
-        requires { (seat.old.board ≡ N.board) × (seat.old.slot ≡ 0) }
-        ensures seat { (seat.new.board ≡ N.board) × (seat.new.slot ≡ 0) }
+        requires { seat.old.board ≡ N.board }
+        ensures seat { seat.new ≡ record seat.old { book = seat.new.book } }
         ensures later { Extends seat.new.book seat.old.book }
         ensures value { IfOk result (λ listing.
             record_at (state_of seat.new.book) node ≡ Some (listed listing)) }

@@ -1,10 +1,11 @@
 -- What a reader does under the lock.
-use Rattle.std.proofs.Common.{◌≡◌, ℕ, zero, suc, ◌+◌, ◌<◌, ◌≤◌, Bool, true, false, true≢false, List, ◌++◌, length, Option, Some, None, refl, sym, ap, ◌∙◌, subst, arith, length-set, get_or-set_same, get_or-set_other, slice_set, append_assoc}
+use Rattle.std.proofs.Common.{◌≡◌, ℕ, zero, suc, ◌+◌, ◌<◌, ◌≤◌, Bool, true, false, true≢false, List, [], ◌∷◌, ◌++◌, append-nil, length, Option, Some, None, refl, sym, ap, ◌∙◌, subst, arith, length-set, get_or-set_same, get_or-set_other, slice_set, set-set, append_assoc}
 use Rattle.std.specs.Prelude.{IsSome, IsSomeAnd}
+use Rattle.std.proofs.lemmas.List.{set-get_or}
 use Rattle.lq_volume.specs.declared.change.Change.{Change}
 use Rattle.lq_volume.specs.Book.{Book, Extends, grown}
 use Rattle.lq_board.specs.declared.views.Slot.{Slot as Known}
-use Rattle.lq_board.specs.Slot.{slot_at, unused, gone_out, come_back}
+use Rattle.lq_board.specs.Slot.{slot_at, unused, gone_out, go_out, come_back}
 use Rattle.lq_board.specs.Token.{SeatToken}
 use Rattle.lq_update.specs.declared.message.Message.{Message}
 use Rattle.lq_update.specs.declared.mark.Mark.{Mark}
@@ -34,6 +35,20 @@ extends_twice b c d e f =
       f.1 ∙ ap (λ (x : Book). grown x f.0) e.1
           ∙ ap with (append_assoc b.changes e.0 f.0),
     )
+
+-- a book that grew by a change extends what is known of it
+pub later_grown : (was now mid : Book) (change : Change) → was ≡ mid
+    → now ≡ grown mid (change ∷ []) → Extends now was
+later_grown was now mid change met is = (
+  change ∷ [],
+  subst (λ (b : Book). now ≡ grown b (change ∷ [])) (sym met) is,
+)
+
+-- a book that stayed extends what is known of it
+pub later_same : (was now mid : Book) → was ≡ mid → now ≡ mid → Extends now was
+later_same was now mid met is =
+    let with : List Change → Book = λ cs. record { start = was.start; changes = cs } in
+    ([], is ∙ sym met ∙ ap with (sym (append-nil was.changes)))
 
 -- the name that is there
 pub some_name : (o : Option Identity) → IsSome o → Some (name_or o) ≡ o
@@ -267,3 +282,35 @@ pub asks_met : (o : Option Subscription) (p q : Known Identity) (book : Book)
     → SlotStands o p book → p.out ≡ true → asks_of o q ≤ asks_of o p
 asks_met None p q book free out = absurd (true≢false (sym out ∙ free))
 asks_met (Some s) p q book taken out = omega arith
+
+-- a seat that comes back and goes out again leaves its slot, where nothing is known anew
+pub back_out : (slots : List (Known Identity)) (k asks : ℕ) (name : Option Identity)
+    → k < length slots
+    → (0 < k → (slot_at slots k).name ≡ name) → (0 < k → (slot_at slots k).asks ≤ asks)
+    → (0 < k → (slot_at slots k).out ≡ true) → (0 < k → asks ≤ (slot_at slots k).asks)
+    → go_out (come_back slots k asks name) k name ≡ slots
+back_out slots zero asks name lt named most out least = refl
+back_out slots (suc k) asks name lt named most out least =
+    let pos : 0 < suc k = omega arith in
+    let p : Known Identity = slot_at slots (suc k) in
+    let b : Known Identity = record { out = false; asks = asks; name = name } in
+    let here : slot_at (slice_set slots (suc k) b) (suc k) ≡ b =
+    get_or-set_same slots (suc k) b unused lt in
+    let just : asks ≡ p.asks = omega (arith, most pos, least pos) in
+    let q : Known Identity =
+    record {
+      out = true;
+      asks = (slot_at (slice_set slots (suc k) b) (suc k)).asks;
+      name = name;
+    } in
+    let asked : q.asks ≡ p.asks = ap (λ (r : Known Identity). r.asks) here ∙ just in
+    let same : q ≡ p =
+    λ i. record { out = sym (out pos) i; asks = asked i; name = sym (named pos) i } in
+    set-set slots (suc k) b q
+    ∙ ap (slice_set slots (suc k)) same
+    ∙ set-get_or slots (suc k) unused
+
+-- a seat that knows the book stays as it is
+pub seat_stays : (s : SeatToken Identity) (b : Book) → s.book ≡ b
+    → s ≡ record s { book = b; author = s.author }
+seat_stays s b e = λ i. record s { book = e i; author = s.author }

@@ -303,3 +303,17 @@ pub full-each : (slots : List (Option Subscription)) (n : ℕ) → length slots 
 full-each [] n wide most h = absurd (omega arith)
 full-each (o ∷ slots) n wide most h =
     sym (all_taken-each slots (λ k lt. h (suc k) (omega arith) (omega arith)))
+
+-- how often the slots' seats have asked, as the keeper knows, where one slot's count rises
+pub asks_rise : (first old new : List (Known Identity)) (place : ℕ) → OnlyAt old new place
+    → (slot_at old place).asks ≤ (slot_at new place).asks
+    → ((k : ℕ) → (slot_at first k).asks ≤ (slot_at old k).asks)
+    → (k : ℕ) → (slot_at first k).asks ≤ (slot_at new k).asks
+asks_rise first old new place only more before k =
+    dite (ℕ_discrete k place)
+    (λ e.
+    let was = before place in
+    subst (λ (j : ℕ). (slot_at first j).asks ≤ (slot_at new j).asks) (sym e)
+    (omega (arith, was, more)))
+    (λ ne. subst (λ (q : Known Identity). (slot_at first k).asks ≤ q.asks)
+    (sym (only.others k ne)) (before k))

@@ -196,3 +196,15 @@ noticed_then s t ps qs k n wide within is asks ended = λ lt.
     } = ap (λ (l : List (Known Identity)). slot_at l k) is
     ∙ counted_here ps k n (omega arith) in
     ended (subst (λ (z : ℕ × ℕ). z.0 < z.1) (λ i. (asks i, (at i).asks)) lt)
+
+-- how often the slot's seats have asked, as the keeper knows, once it has read the count
+pub counted_more : (ps qs : List (Known Identity)) (k n : ℕ) → length ps ≡ 65 → k < 65
+    → qs ≡ counted ps k n → (slot_at ps k).asks ≤ n → (slot_at ps k).asks ≤ (slot_at qs k).asks
+counted_more ps qs k n wide within is most =
+    let at : slot_at qs k ≡ record {
+      out = (slot_at ps k).out;
+      asks = n;
+      name = (slot_at ps k).name;
+    } = ap (λ (l : List (Known Identity)). slot_at l k) is
+    ∙ counted_here ps k n (omega arith) in
+    subst (λ (q : Known Identity). (slot_at ps k).asks ≤ q.asks) (sym at) most

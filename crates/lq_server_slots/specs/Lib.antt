@@ -1,3 +1,4 @@
 pub mod Slots
 pub mod Opening
 pub mod Progress
+pub mod Shown

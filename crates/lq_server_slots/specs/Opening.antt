@@ -1,15 +1,15 @@
 -- What an opening makes, and the name that goes with a slot's seat.
-use Rattle.std.specs.Prelude.{◌≡◌, ◌⊎◌, ℕ, ◌<◌, ◌+◌, Bool, true, false, [], length, Option, Some, None, IsSomeAnd}
+use Rattle.std.specs.Prelude.{◌≡◌, ◌⊎◌, ℕ, ◌<◌, ◌+◌, Bool, true, false, [], length, Option, Some, None, IsSomeAnd, Result}
 use base.Stored.{gnil}
 use Rattle.atomic_table.specs.Seated.{TableId}
 use Rattle.lq_value.specs.declared.refusal.Refusal.{Refusal}
 use Rattle.lq_value.specs.declared.refusal.Refusal.TheVariants.{NoSlot, Exhausted, NoMemory}
-use Rattle.lq_value.specs.Refusal.{first_refusal}
+use Rattle.lq_value.specs.Refusal.{IsRefusedBy, first_refusal}
 use Rattle.lq_predicate_formula.specs.Query.{Query, And, no_more}
 use Rattle.lq_volume.specs.Book.{Book, state_of}
 use Rattle.lq_volume.specs.Result.{result_of}
 use Rattle.lq_update.specs.Fold.{opened_at}
-use Rattle.lq_desk_world.specs.Events.{size_refusals}
+use Rattle.lq_desk_world.specs.Events.{opening_refusals, size_refusals}
 use Rattle.lq_port.specs.End.{End}
 use Rattle.lq_server_subscription.specs.declared.identity.Identity.{Identity}
 use Rattle.lq_server_subscription.specs.declared.identity.Shut.TheVariants.{Never}
@@ -21,6 +21,8 @@ use Rattle.lq_server_subscription.specs.Identity.{port_id}
 use Rattle.lq_server_subscription.specs.Reading.{ReadingHold}
 use Rattle.lq_server_subscription.specs.Standing.{StandsAt}
 use Rattle.lq_server_slots.specs.declared.open.Opened.{Opened}
+use Rattle.lq_server_slots.specs.declared.slots.Slots.{Slots}
+use Rattle.lq_server_slots.specs.Slots.{is_full}
 
 -- the name belongs to the port
 pub record IdentityFits (t : Identity) (e : End Delivery Opening) : Type 0 where
@@ -85,6 +87,14 @@ pub record IsOpened (o : Opened) (board : TableId) (book : Book) (q : Query) (mv
 -- why an opening is refused by its numbers alone: the first that fits
 abbrev pub opening_refusal : ℕ → ℕ → Option Refusal
 opening_refusal port backlog = first_refusal (size_refusals port backlog)
+
+-- an opening over these slots and with this limit on the openings is refused by the first test that
+-- fits, and by no other
+abbrev pub IsOpeningTabled : {T : Type 0} → Slots → ℕ → ℕ → ℕ → Result T Refusal → Type 0
+IsOpeningTabled slots limit port backlog result =
+    IsRefusedBy result
+    (first_refusal
+    (opening_refusals (is_full slots.subscriptions.items) slots.openings limit port backlog))
 
 -- the other reasons to refuse an opening: no slot is free, the openings have reached the volume's
 -- limit on changes, or memory ran out

@@ -112,6 +112,14 @@ pub record AreUnchanged (old new : Slots) : Type 0 where
   pub taken : new.taken.items ≡ old.taken.items
   pub openings : new.openings ≡ old.openings
 
+-- only what the keeper knows of the slots may differ
+pub record SameButKnown (old new : Slots) : Type 0 where
+  pub board : new.keeper.board ≡ old.keeper.board
+  pub book : new.keeper.book ≡ old.keeper.book
+  pub subscriptions : new.subscriptions ≡ old.subscriptions
+  pub taken : new.taken.items ≡ old.taken.items
+  pub openings : new.openings ≡ old.openings
+
 -- what is known of the other slots stays
 pub record OnlyAt (old new : List (Known Identity)) (place : ℕ) : Type 0 where
   pub wide : length new ≡ length old

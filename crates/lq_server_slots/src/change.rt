@@ -1,13 +1,15 @@
 //! A change under the lock.
-ghost use Rattle.std.specs.Prelude.{◌≡◌, [], ◌∷◌, length, None, IfOk, OnOk, OnErr};
+ghost use Rattle.std.specs.Prelude.{◌≡◌, ◌<◌, ◌≤◌, [], ◌∷◌, length, None, IfOk, OnOk, OnErr};
 ghost use Rattle.lq_value.specs.Refusal.{IsRefusedBy};
-ghost use Rattle.lq_volume.specs.Book.{grown, state_of};
+ghost use Rattle.lq_volume.specs.Book.{Extends, grown, state_of};
 ghost use Rattle.lq_volume.specs.Change.{refused, node_of};
+ghost use Rattle.lq_board.specs.Author.{with_change};
 ghost use Rattle.lq_board.specs.Book.{IsFullBook};
+ghost use Rattle.lq_board.specs.Slot.{slot_at};
 ghost use Rattle.lq_server_slots.specs.Slots.{SlotsStand, AllReady, IsNoticed, IsServed, SlotsAre};
 
 use crate::slots::{Slots, fill_all, ready_all, tell_all};
-use lq_board::Board;
+use lq_board::{Board, Seat};
 use lq_server_subscription::Identity;
 use lq_value::Refusal;
 use lq_volume::{Applied, Change, Volume};
@@ -19,6 +21,9 @@ use std::sync::Wait;
 /// messages and mark were put until none was left or its port was full. Both hold even where the
 /// change was refused.
 ///
+/// The seat is the change's author, and then knows the book. Before, it has to know the book, and
+/// the keeper how often the seat of a slot has asked, as they do after `meet_in`.
+///
 /// A refused change walks over the taken slots once, or twice where memory ran out. An accepted one
 /// walks over them twice.
 pub fn change_in<R: Wait>(
@@ -26,9 +31,13 @@ pub fn change_in<R: Wait>(
     board: &Board<Identity>,
     slots: &mut Slots,
     volume: &mut Volume,
+    seat: &mut Seat<Identity>,
     change: &Change,
 ) -> Result<Applied, Refusal>
-    requires board { slots.old.keeper.board ≡ board.now }
+    requires board { (slots.old.keeper.board ≡ board.now) × (seat.old.board ≡ board.now) }
+    requires met { seat.old.book ≡ slots.old.keeper.book }
+    requires known { 0 < seat.old.slot
+        → seat.old.asks ≤ (slot_at slots.old.keeper.slots seat.old.slot).asks }
     requires volume { volume.old ≡ state_of slots.old.keeper.book }
     requires full { IsFullBook slots.old.keeper.book }
     requires holding { SlotsStand slots.old slots.old.keeper.book }
@@ -39,15 +48,24 @@ pub fn change_in<R: Wait>(
     ensures ok { OnOk result
         (slots.new.keeper.book ≡ grown slots.old.keeper.book (change.now ∷ [])) }
     ensures err { OnErr result (slots.new.keeper.book ≡ slots.old.keeper.book) }
+    ensures seat { seat.new ≡ record seat.old {
+      book = slots.new.keeper.book;
+      author = seat.new.author;
+    } }
+    ensures author { IfOk result (λ applied.
+        seat.new.author ≡ with_change seat.old.author applied.change) }
+    ensures others { OnErr result (seat.new.author ≡ seat.old.author) }
+    ensures later { Extends seat.new.book seat.old.book }
     ensures board { slots.new.keeper.board ≡ slots.old.keeper.board }
     ensures openings { slots.new.openings ≡ slots.old.openings }
+    ensures start { slots.new.keeper.book.start ≡ slots.old.keeper.book.start }
     ensures volume { volume.new ≡ state_of slots.new.keeper.book }
     ensures limit { volume.new.limit ≡ volume.old.limit }
     ensures full { IsFullBook slots.new.keeper.book }
     ensures holding { SlotsStand slots.new slots.new.keeper.book }
     ensures served { SlotsAre IsServed slots.new.subscriptions.items slots.new.keeper.slots }
 {
-    match add(board, slots, volume, change) {
+    match add(board, slots, volume, seat, change) {
         Ok(applied) => {
             tell_all(rt, slots, change);
             Ok(applied)
@@ -61,13 +79,18 @@ pub fn change_in<R: Wait>(
 
 // Makes a change: first everything that takes memory, then the point of the change. No message is
 // held yet.
+#[tactic(auto, using(crate::proofs::SyncLemmas::seat_stays))]
 fn add(
     board: &Board<Identity>,
     slots: &mut Slots,
     volume: &mut Volume,
+    seat: &mut Seat<Identity>,
     change: &Change,
 ) -> Result<Applied, Refusal>
-    requires board { slots.old.keeper.board ≡ board.now }
+    requires board { (slots.old.keeper.board ≡ board.now) × (seat.old.board ≡ board.now) }
+    requires met { seat.old.book ≡ slots.old.keeper.book }
+    requires known { 0 < seat.old.slot
+        → seat.old.asks ≤ (slot_at slots.old.keeper.slots seat.old.slot).asks }
     requires volume { volume.old ≡ state_of slots.old.keeper.book }
     requires full { IsFullBook slots.old.keeper.book }
     requires holding { SlotsStand slots.old slots.old.keeper.book }
@@ -83,6 +106,13 @@ fn add(
     ensures noticed { OnOk result
         (SlotsAre IsNoticed slots.new.subscriptions.items slots.new.keeper.slots) }
     ensures err { OnErr result (slots.new.keeper.book ≡ slots.old.keeper.book) }
+    ensures seat { seat.new ≡ record seat.old {
+      book = slots.new.keeper.book;
+      author = seat.new.author;
+    } }
+    ensures author { IfOk result (λ applied.
+        seat.new.author ≡ with_change seat.old.author applied.change) }
+    ensures others { OnErr result (seat.new.author ≡ seat.old.author) }
     ensures board { slots.new.keeper.board ≡ slots.old.keeper.board }
     ensures openings { slots.new.openings ≡ slots.old.openings }
     ensures volume { volume.new ≡ state_of slots.new.keeper.book }
@@ -93,6 +123,8 @@ fn add(
     let planned = volume.plan(change)?;
     ready_all(board, slots, &planned)?;
     let applied = volume.make(change)?;
-    board.add(&mut slots.keeper, change);
+    // For the proof: this call says that the seat's slot is one of 64, or 0.
+    let _ = seat.slot();
+    board.add_by(&mut slots.keeper, seat, change);
     Ok(applied)
 }

@@ -179,7 +179,7 @@ fn take_out(taken: &mut Vec<usize>, place: usize)
     taken.remove(index);
 }
 
-/// Takes a slot's seat back and frees the slot.
+/// Takes a slot's seat back and frees the slot. The other slots keep their subscriptions.
 pub fn free_in(
     board: &Board<Identity>,
     slots: &mut Slots,
@@ -196,7 +196,10 @@ pub fn free_in(
     ensures book { slots.new.keeper.book ≡ slots.old.keeper.book }
     ensures openings { slots.new.openings ≡ slots.old.openings }
     ensures holding { SlotsStand slots.new slots.new.keeper.book }
+    ensures taken { IsSome (slot_in slots.old.subscriptions.items place) }
     ensures freed { slot_in slots.new.subscriptions.items place ≡ None }
+    ensures others { (k : ℕ) → k ≢ place → slot_in slots.new.subscriptions.items k
+        ≡ slot_in slots.old.subscriptions.items k }
     ensures later { Extends slots.old.keeper.book seat.book }
 {
     let keeper = &mut slots.keeper;

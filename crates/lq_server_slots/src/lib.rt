@@ -7,12 +7,14 @@
 
 mod change;
 mod close;
+mod laws;
 mod open;
 mod slots;
 mod sync;
 
 pub use change::change_in;
 pub use close::{close_in, free_in};
+pub use laws::{acts_show_worlds, slots_show_worlds};
 pub use open::{Asked, Opened, open_in};
 pub use slots::Slots;
 pub use sync::{Progress, meet_in, sync_in};

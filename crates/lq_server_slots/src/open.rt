@@ -1,14 +1,14 @@
 //! An opening under the lock.
 ghost use Rattle.std.specs.Prelude.{◌≡◌, ◌+◌, ◌<◌, ◌≤◌, length, ℕ, IfOk, IfErr, OnOk, OnErr, IfSome, IfNone, IsSome, is_none, Some, None, Err, false};
-ghost use Rattle.lq_value.specs.Refusal.{IsRefusedBy, first_refusal};
+ghost use Rattle.lq_value.specs.Refusal.{IsRefusedBy};
 ghost use Rattle.lq_volume.specs.Book.{state_of};
-ghost use Rattle.lq_desk_world.specs.Events.{opening_refusals};
+ghost use Rattle.lq_board.specs.Author.{new_author};
 ghost use Rattle.lq_board.specs.Book.{IsFullBook};
 ghost use Rattle.lq_board.specs.Slot.{slot_at, gone_out};
 ghost use Rattle.lq_server_subscription.specs.Identity.{identity_of};
 ghost use Rattle.lq_server_subscription.specs.declared.identity.Identity.{Identity as IdentityOf};
 ghost use Rattle.lq_server_slots.specs.Slots.{AreUnchanged, SlotsStand, is_full, slot_in};
-ghost use Rattle.lq_server_slots.specs.Opening.{IsBegun, IsOpened, IsOpeningRefused, opening_refusal};
+ghost use Rattle.lq_server_slots.specs.Opening.{IsBegun, IsOpened, IsOpeningRefused, IsOpeningTabled, opening_refusal};
 
 use crate::slots::{PLACES, Slots};
 use lq_board::{Board, Keeper, Seat};
@@ -117,6 +117,7 @@ fn sit_named(
       book = keeper.old.book;
       asks = (slot_at keeper.old.slots place).asks;
       name = Some (identity_of slot.now);
+      author = new_author keeper.old.register;
     } }
 {
     let _ = slot;
@@ -143,6 +144,7 @@ fn sit(
       book = keeper.old.book;
       asks = (slot_at keeper.old.slots place).asks;
       name = Some (identity_of slot.now);
+      author = new_author keeper.old.register;
     } }
 {
     sit_named(board, keeper, slot, place)
@@ -216,9 +218,8 @@ pub fn open_in(
         asked.now.predicate.now asked.now.moved asked.now.port asked.now.backlog) }
 
     // The first that fits, and no other.
-    ensures table { IsRefusedBy result (first_refusal (opening_refusals
-        (is_full slots.old.subscriptions.items) slots.old.openings volume.now.limit
-        asked.now.port asked.now.backlog)) }
+    ensures table { IsOpeningTabled slots.old volume.now.limit asked.now.port asked.now.backlog
+        result }
     ensures lowest { IfOk result (λ o. (j : ℕ) → 0 < j → j < o.slot
         → IsSome (slot_in slots.old.subscriptions.items j)) }
 

@@ -173,6 +173,7 @@ fn ready_slot(
     ensures only { OnlyAt keeper.old.slots keeper.new.slots place }
     ensures taken { IsTaken slot.new (slot_at keeper.new.slots place) keeper.new.book }
     ensures asks { slot.new.asks ≡ slot.old.asks }
+    ensures rises { (slot_at keeper.old.slots place).asks ≤ (slot_at keeper.new.slots place).asks }
     ensures ready { OnOk result
         (IsReadyAt (Some slot.new) planned.now.before planned.now.change) }
     ensures noticed { IsNoticed slot.new (slot_at keeper.new.slots place) }
@@ -201,6 +202,7 @@ fn ready_at(
     ensures fits { SlotStands slot.new (slot_at keeper.new.slots place) keeper.new.book }
     ensures asks { asks_of slot.new (slot_at keeper.new.slots place)
         ≤ asks_of slot.old (slot_at keeper.old.slots place) }
+    ensures rises { (slot_at keeper.old.slots place).asks ≤ (slot_at keeper.new.slots place).asks }
     ensures kept { is_some slot.new ≡ is_some slot.old }
     ensures ready { OnOk result
         (IsReadyAt slot.new planned.now.before planned.now.change) }
@@ -227,6 +229,8 @@ pub(crate) fn ready_all(
     ensures book { slots.new.keeper.book ≡ slots.old.keeper.book }
     ensures openings { slots.new.openings ≡ slots.old.openings }
     ensures holding { SlotsStand slots.new slots.new.keeper.book }
+    ensures rises { (k : ℕ) → (slot_at slots.old.keeper.slots k).asks
+        ≤ (slot_at slots.new.keeper.slots k).asks }
     ensures ready { OnOk result (AllReady slots.new.subscriptions.items
         planned.now.before planned.now.change) }
     ensures noticed { OnOk result

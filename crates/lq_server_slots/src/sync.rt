@@ -6,7 +6,7 @@ ghost use Rattle.lq_server_subscription.specs.Identity.{identity_of};
 ghost use Rattle.lq_server_subscription.specs.Standing.{SameButHeld};
 ghost use Rattle.lq_server_subscription.specs.declared.subscription.Subscription.{Subscription as SubscriptionOf};
 ghost use Rattle.lq_server_subscription.specs.declared.identity.Identity.{Identity as IdentityOf};
-ghost use Rattle.lq_server_slots.specs.Slots.{IsTaken, SlotStands, SlotsStand, OnlyAt, asks_of};
+ghost use Rattle.lq_server_slots.specs.Slots.{IsTaken, SlotStands, SlotsStand, OnlyAt, SameButKnown, asks_of};
 ghost use Rattle.lq_server_slots.specs.Opening.{IdentityFits};
 ghost use Rattle.lq_server_slots.specs.Progress.{ShowsProgress};
 
@@ -214,6 +214,7 @@ fn meet_slot_at(
     ensures fits { SlotStands slot.now (slot_at keeper.new.slots seat.old.slot) keeper.new.book }
     ensures asks { asks_of slot.now (slot_at keeper.new.slots seat.old.slot)
         ≤ asks_of slot.now (slot_at keeper.old.slots seat.old.slot) }
+    ensures known { (slot_at keeper.new.slots seat.old.slot).asks ≡ seat.old.asks }
     ensures seat { seat.new ≡ record seat.old { book = keeper.old.book } }
     ensures later { Extends keeper.old.book seat.old.book }
 {
@@ -233,11 +234,10 @@ pub fn meet_in(
     requires seat { (seat.old.slot ≡ place) × IsSome seat.old.name }
     requires holding { SlotsStand slots.old slots.old.keeper.book }
     ensures number { result ≡ length slots.old.keeper.book.changes }
-    ensures board { slots.new.keeper.board ≡ slots.old.keeper.board }
-    ensures book { slots.new.keeper.book ≡ slots.old.keeper.book }
-    ensures openings { slots.new.openings ≡ slots.old.openings }
+    ensures same { SameButKnown slots.old slots.new }
     ensures holding { SlotsStand slots.new slots.new.keeper.book }
     ensures seat { seat.new ≡ record seat.old { book = slots.old.keeper.book } }
+    ensures known { (slot_at slots.new.keeper.slots place).asks ≡ seat.old.asks }
     ensures later { Extends slots.old.keeper.book seat.old.book }
 {
     meet_slot_at(board, &mut slots.keeper, &slots.subscriptions[place], seat)

@@ -1,5 +1,6 @@
 -- What a notice and a close do to the mark.
-use Rattle.std.specs.Prelude.{ℕ, Bool, true, false, Option, IsSomeAnd}
+use Rattle.std.specs.Prelude.{ℕ, Bool, true, false, ◌&&◌, Option, IsSomeAnd, if◌then◌else◌}
+use Rattle.lq_desk_sub.specs.Held.{Held, Prepared, is_live, after_messages, ended_by}
 use Rattle.lq_server_subscription.specs.declared.identity.Shut.{Shut}
 use Rattle.lq_server_subscription.specs.declared.identity.Shut.TheVariants.{Never, At, Late}
 use Rattle.lq_update.specs.declared.mark.Mark.{Mark}
@@ -22,3 +23,16 @@ first_close Never true n = At n
 first_close Never false n = Late
 first_close (At m) b n = At m
 first_close Late b n = Late
+
+-- what is held after a commit: the messages made ready too, or the mark of an overrun; a
+-- subscription that has ended stays
+abbrev pub held_committed : Prepared → Held
+held_committed p = if is_live p.held then after_messages p.held p.ready p.before else p.held
+
+-- after a notice at this number of changes
+abbrev pub held_noticed : Bool → ℕ → Held → Held
+held_noticed asked number h = if is_live h && asked then ended_by h HungUp number else h
+
+-- and after a close
+abbrev pub held_closed : ℕ → Held → Held
+held_closed number h = if is_live h then ended_by h Closed number else h

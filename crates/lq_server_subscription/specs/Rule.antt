@@ -3,6 +3,7 @@ use Rattle.std.specs.Prelude.{◌≡◌, ℕ, ◌+◌, ◌≤◌, false, List, [
 use mathlib.Core.List.{IsPrefix}
 use Rattle.lq_predicate_formula.specs.Query.{Query, And, no_more}
 use Rattle.lq_volume.specs.Book.{Book, Extends}
+use Rattle.lq_board.specs.Author.{no_register}
 use Rattle.lq_board.specs.Book.{IsFullBook, no_book}
 use Rattle.lq_board.specs.Token.{no_board}
 use Rattle.lq_update.specs.declared.message.Message.{Message}
@@ -23,7 +24,8 @@ no_opening =
       book =
           record {
             marker = record {};
-            value = record { board = no_board; book = no_book; slots = [] };
+            value =
+                record { board = no_board; book = no_book; slots = []; register = no_register };
           };
     }
 

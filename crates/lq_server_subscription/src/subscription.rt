@@ -5,7 +5,7 @@ ghost use Rattle.lq_volume.specs.Book.{Book, grown, state_of};
 ghost use Rattle.lq_volume.specs.Change.{IsLawful};
 ghost use Rattle.lq_board.specs.Book.{IsFullBook};
 ghost use Rattle.lq_server_subscription.specs.Standing.{StandsAt, IsFilled, IsReady, SameButHeld, ShutFits};
-ghost use Rattle.lq_server_subscription.specs.Marking.{hung_mark, first_close};
+ghost use Rattle.lq_server_subscription.specs.Marking.{hung_mark, first_close, held_committed, held_noticed, held_closed};
 
 use crate::delivery::Delivery;
 use crate::identity::Shut;
@@ -72,6 +72,7 @@ pub fn commit(slot: &mut Subscription, change: &Change)
         → IsLawful (state_of book) change.now
         → IsFullBook (grown book (change.now ∷ []))
         → StandsAt slot.new (grown book (change.now ∷ [])) }
+    ensures held { slot.new.sub.held ≡ held_committed slot.old.sub }
     ensures others { SameButHeld slot.old slot.new }
     ensures shut { slot.new.shut ≡ slot.old.shut }
     ensures hung { hung_mark slot.new.sub.held.mark → hung_mark slot.old.sub.held.mark }
@@ -94,6 +95,7 @@ pub fn notice(slot: &mut Subscription, hang_up_asked: bool, number: u64)
     requires few { slot.old.sub.held.sent < 2 ^ 63 }
     ensures stands { (book : Book) → StandsAt slot.old book → number ≡ length book.changes
         → StandsAt slot.new book }
+    ensures held { slot.new.sub.held ≡ held_noticed hang_up_asked number slot.old.sub.held }
     ensures others { SameButHeld slot.old slot.new }
     ensures shut { slot.new.shut ≡ slot.old.shut }
     ensures messages { slot.new.sub.held.messages ≡ slot.old.sub.held.messages }
@@ -121,6 +123,7 @@ pub fn close(slot: &mut Subscription, number: u64) -> bool
     requires few { slot.old.sub.held.sent < 2 ^ 63 }
     ensures stands { (book : Book) → StandsAt slot.old book → number ≡ length book.changes
         → StandsAt slot.new book }
+    ensures held { slot.new.sub.held ≡ held_closed number slot.old.sub.held }
     ensures others { SameButHeld slot.old slot.new }
     ensures messages { slot.new.sub.held.messages ≡ slot.old.sub.held.messages }
     ensures hung { hung_mark slot.new.sub.held.mark → hung_mark slot.old.sub.held.mark }

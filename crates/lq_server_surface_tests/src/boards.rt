@@ -35,3 +35,23 @@ fn the_words_of_a_board_are_counted(rt: HostRuntime) -> Result<(), Fail> {
     assert!(rt; words(rt.alloc())? == [1, 1, 1, 1, 1, 1]);
     Ok(())
 }
+
+// The number of a change by a seat, and what another seat then sees. The two share no change.
+fn authors(alloc: Global) -> Result<[u64; 3], Refusal> {
+    let volume = Volume::new(alloc, 9);
+    let change = lawful(alloc, &volume, "a")?;
+    let (board, mut keeper): (Board<u64>, Keeper<u64>) = Board::new(alloc, &volume)?;
+    let mut one: Seat<u64> = board.seat(&mut keeper);
+    let mut two: Seat<u64> = board.seat(&mut keeper);
+    let added = board.add_by(&mut keeper, &mut one, &change);
+    board.compare(&mut one, &mut two);
+    let latest = board.latest(&mut two);
+    board.join(&mut keeper, two);
+    Ok([added, latest, board.close_with(keeper, one)])
+}
+
+#[test]
+fn a_change_is_by_a_seat(rt: HostRuntime) -> Result<(), Fail> {
+    assert!(rt; authors(rt.alloc())? == [1, 1, 1]);
+    Ok(())
+}

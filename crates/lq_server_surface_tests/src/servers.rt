@@ -19,7 +19,7 @@ fn base(alloc: Global) -> Result<Base, Refusal> {
 
 // A change, looks at what it made, and the end.
 fn looks<N: Named, R: Wait>(rt: &R, alloc: Global, base: Base) -> Result<bool, Refusal>
-    requires { base ≡ N.board }
+    requires { (base.board ≡ N.board) × (base.volume ≡ N.start) }
 {
     let server: Server<N> = Server::new(base);
     let mut seat: Seat = server.seat(rt)?;
@@ -42,7 +42,7 @@ fn a_server_is_changed_and_looked_at(rt: HostRuntime) -> Result<(), Fail> {
 
 // Refusals of the volume.
 fn refusals<N: Named, R: Wait>(rt: &R, alloc: Global, base: Base) -> Result<bool, Refusal>
-    requires { base ≡ N.board }
+    requires { (base.board ≡ N.board) × (base.volume ≡ N.start) }
 {
     let server: Server<N> = Server::new(base);
     let mut seat = server.seat(rt)?;
@@ -68,7 +68,7 @@ fn a_server_refuses_as_its_volume(rt: HostRuntime) -> Result<(), Fail> {
 
 // What two seats see.
 fn seats<N: Named, R: Wait>(rt: &R, alloc: Global, base: Base) -> Result<[u64; 3], Refusal>
-    requires { base ≡ N.board }
+    requires { (base.board ≡ N.board) × (base.volume ≡ N.start) }
 {
     let server: Server<N> = Server::new(base);
     let mut one = server.seat(rt)?;
@@ -89,7 +89,7 @@ fn seats_meet(rt: HostRuntime) -> Result<(), Fail> {
 
 // Takes seats and drops them; why no more is given after 16.
 fn all_seats<N: Named, R: Wait>(rt: &R, base: Base) -> Result<Option<Refusal>, Refusal>
-    requires { base ≡ N.board }
+    requires { (base.board ≡ N.board) × (base.volume ≡ N.start) }
 {
     let server: Server<N> = Server::new(base);
     for _ in 0..16 {
@@ -118,7 +118,7 @@ fn number(read: &Read, cause: Cause) -> u64 {
 
 // What is read of three changes through one place: two reads, one after a pump, one that waits.
 fn reads<N: Named, R: Wait>(rt: &R, alloc: Global, base: Base) -> Result<[u64; 4], Refusal>
-    requires { base ≡ N.board }
+    requires { (base.board ≡ N.board) × (base.volume ≡ N.start) }
 {
     let server: Server<N> = Server::new(base);
     let mut seat = server.seat(rt)?;
@@ -143,7 +143,7 @@ fn a_reader_reads(rt: HostRuntime) -> Result<(), Fail> {
 
 // What a reader answers without `rt`, after one change and before any read.
 fn shows<N: Named, R: Wait>(rt: &R, alloc: Global, base: Base) -> Result<bool, Refusal>
-    requires { base ≡ N.board }
+    requires { (base.board ≡ N.board) × (base.volume ≡ N.start) }
 {
     let server: Server<N> = Server::new(base);
     let mut seat = server.seat(rt)?;
@@ -170,7 +170,7 @@ fn a_reader_shows_how_far_it_is(rt: HostRuntime) -> Result<(), Fail> {
 
 // A reader is closed, twice, reads its mark and is finished.
 fn closes<N: Named, R: Wait>(rt: &R, alloc: Global, base: Base) -> Result<bool, Refusal>
-    requires { base ≡ N.board }
+    requires { (base.board ≡ N.board) × (base.volume ≡ N.start) }
 {
     let server: Server<N> = Server::new(base);
     let mut seat = server.seat(rt)?;
@@ -193,7 +193,7 @@ fn a_reader_is_closed_and_finished(rt: HostRuntime) -> Result<(), Fail> {
 
 // A reader isn't finished, hangs up, twice, and reads its mark.
 fn hangs_up<N: Named, R: Wait>(rt: &R, alloc: Global, base: Base) -> Result<bool, Refusal>
-    requires { base ≡ N.board }
+    requires { (base.board ≡ N.board) × (base.volume ≡ N.start) }
 {
     let server: Server<N> = Server::new(base);
     let mut seat = server.seat(rt)?;
@@ -222,7 +222,7 @@ fn refused<N: Named, R: Wait>(
     port: u64,
     backlog: u64,
 ) -> Result<Option<Refusal>, Refusal>
-    requires { base ≡ N.board }
+    requires { (base.board ≡ N.board) × (base.volume ≡ N.start) }
 {
     let server: Server<N> = Server::new(base);
     let mut seat = server.seat(rt)?;

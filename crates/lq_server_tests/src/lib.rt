@@ -20,6 +20,8 @@ mod reference;
 #[cfg(test)]
 mod scenarios;
 #[cfg(test)]
+mod seats;
+#[cfg(test)]
 mod stage;
 #[cfg(test)]
 mod tables;

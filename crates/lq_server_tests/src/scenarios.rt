@@ -74,7 +74,7 @@ fn scenario_hang_up_races_changes(rt: HostRuntime) -> Result<(), Fail> {
 
 // Whether 16 seats are given, no 17th, and one more after one is given back.
 fn seats_run_out<N: Named, R: Wait>(rt: &R, base: Base) -> Result<bool, Refusal>
-    requires { base ≡ N.board }
+    requires { (base.board ≡ N.board) × (base.volume ≡ N.start) }
 {
     let server: Server<N> = Server::new(base);
     let seat = server.seat(rt)?;
@@ -93,7 +93,7 @@ fn third_opening<N: Named, R: Wait>(
     alloc: Global,
     base: Base,
 ) -> Result<Option<Refusal>, Refusal>
-    requires { base ≡ N.board }
+    requires { (base.board ≡ N.board) × (base.volume ≡ N.start) }
 {
     let server: Server<N> = Server::new(base);
     let mut seat = server.seat(rt)?;

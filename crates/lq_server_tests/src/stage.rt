@@ -80,7 +80,7 @@ pub fn stage<N: Named + Send + Sync, R: Threads + Wait + Sync>(
     seed: usize,
     scenario: &Scenario,
 ) -> Result<Done, Refusal>
-    requires { base ≡ N.board }
+    requires { (base.board ≡ N.board) × (base.volume ≡ N.start) }
 {
     let server: Server<N> = Server::new(base);
     let seat = server.seat(rt)?;

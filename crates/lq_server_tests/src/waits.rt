@@ -152,7 +152,7 @@ fn wait_beside<N: Named + Send + Sync, R: Threads + Wait + Sync>(
     predicate: &Predicate,
     changes: &[Change],
 ) -> Result<u64, Refusal>
-    requires { base ≡ N.board }
+    requires { (base.board ≡ N.board) × (base.volume ≡ N.start) }
 {
     let server: Server<N> = Server::new(base);
     let mut seat = server.seat(rt)?;
@@ -182,7 +182,7 @@ fn sync_twice<N: Named, R: Wait>(
     predicate: &Predicate,
     changes: &[Change],
 ) -> Result<(Synced, Synced), Refusal>
-    requires { base ≡ N.board }
+    requires { (base.board ≡ N.board) × (base.volume ≡ N.start) }
 {
     let server: Server<N> = Server::new(base);
     let mut seat = server.seat(rt)?;

@@ -13,7 +13,8 @@ returns g c =
     (λ o. IfOk o (GoesOut begun)) c.in_ok-reader-2.was c.join_over-reader.ensures.first in
     let m = c.meet.ensures in
     let met = subst (λ (s : SeatToken Identity). Meets s c.meet.new.one) c.seat-3.ensures.now
-    (record { slot = m.slots.0; rest = m.one; later = m.first }) in
-    followed c.updates_stay.ensures c.books_extend_on.ensures c.states_stay.ensures _ _ _ _ _ begun
-    _ c.sync-synced.new.reader _ c.meet.new.one c.meet.new.two _ c.in_ok-reader.ensures.opened out
-    c.sync-synced.ensures c.headline.ensures met m.same c.retire-retired.ensures
+    (record { seat = m.one; later = m.first }) in
+    followed c.updates_stay.ensures c.books_extend_on.ensures c.states_stay.ensures _ _ _ _ _ _
+    begun _ c.sync-synced.new.reader _ c.meet.new.one c.meet.new.two _
+    c.in_ok-reader.ensures.opened out
+    c.sync-synced.ensures c.headline.ensures met m.same c.retire-retired.ensures.retired

@@ -3,10 +3,11 @@ use Rattle.lq_volume.specs.State.{State}
 use Rattle.lq_volume.specs.Change.{IsLawful}
 use Rattle.lq_volume.specs.Book.{Book, state_of}
 use Rattle.lq_board.specs.Book.{IsFullBook}
-use Rattle.lq_board.specs.Token.{KeeperToken}
+use Rattle.lq_board.specs.Token.{KeeperToken, SeatToken}
 use Rattle.lq_server_subscription.specs.declared.identity.Identity.{Identity}
 use Rattle.lq_server_slots.specs.Slots.{SlotsStand, AllReady}
 use Rattle.lq_server_slots.proofs.SlotLemmas.{before_is, grown_is}
+use Rattle.lq_server_slots.proofs.SyncLemmas.{later_grown, later_same}
 use Rattle.lq_server_slots.proofs.change.change_in.Goals as goal
 
 pub tell_all-requires-clause-grown : goal.tell_all-requires-clause-grown
@@ -46,3 +47,15 @@ fill_all-requires-clause-holding g c =
 pub returns-in-Err-clause-full : goal.returns-in-Err-clause-full
 returns-in-Err-clause-full g c =
     subst IsFullBook (sym c.fill_all.ensures.book) c.in-Err.ensures.full
+
+pub returns-in-Ok-clause-later : goal.returns-in-Ok-clause-later
+returns-in-Ok-clause-later g c =
+    let a = c.in-Ok.ensures in
+    later_grown c.args.seat.now.book c.add.new.seat.book c.args.slots.now.keeper.book
+    c.args.change.now c.requires.met (ap (λ (s : SeatToken Identity). s.book) a.seat ∙ a.ok)
+
+pub returns-in-Err-clause-later : goal.returns-in-Err-clause-later
+returns-in-Err-clause-later g c =
+    let a = c.in-Err.ensures in
+    later_same c.args.seat.now.book c.add.new.seat.book c.args.slots.now.keeper.book
+    c.requires.met (ap (λ (s : SeatToken Identity). s.book) a.seat ∙ a.err)

@@ -1,9 +1,10 @@
 use Rattle.std.proofs.Common.{◌≤◌, ◌∙◌, Option, None, sym, subst, slice_set, arith}
+use Rattle.std.specs.Prelude.{IsSome}
 use Rattle.std.proofs.lemmas.List.{get_or_read}
 use Rattle.lq_board.specs.Slot.{slot_at}
 use Rattle.lq_server_subscription.specs.declared.subscription.Subscription.{Subscription}
 use Rattle.lq_server_slots.specs.Slots.{SlotStands, IsListed, asks_of, slot_in}
-use Rattle.lq_server_slots.proofs.SlotLemmas.{all_stand-step, in_here}
+use Rattle.lq_server_slots.proofs.SlotLemmas.{all_stand-step, in_here, in_else}
 use Rattle.lq_server_slots.proofs.TakenLemmas.{listed-drop}
 use Rattle.lq_server_slots.proofs.close.free_in.Goals as goal
 
@@ -39,3 +40,15 @@ returns-clause-freed c =
     let within = c.requires.place.1 in
     in_here c.args.slots.now.subscriptions.items c.args.place c.free_at.new.slot (omega arith)
     ∙ c.free_at.ensures.free
+
+pub returns-clause-taken : goal.returns-clause-taken
+returns-clause-taken c =
+    let items = c.args.slots.now.subscriptions.items in
+    let wide = c.requires.holding.0.wide in
+    let within = c.requires.place.1 in
+    let read = get_or_read items c.args.place _ (omega arith) c.index_mut.ensures.value None in
+    subst (λ (z : Option Subscription). IsSome z) read c.free_at.ensures.taken
+
+pub returns-clause-others : goal.returns-clause-others
+returns-clause-others c = λ k ne.
+    in_else c.args.slots.now.subscriptions.items c.args.place k c.free_at.new.slot ne

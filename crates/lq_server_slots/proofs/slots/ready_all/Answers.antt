@@ -1,6 +1,6 @@
 use Rattle.std.proofs.Common.{◌∙◌, refl, arith}
 use Rattle.lq_server_slots.specs.Slots.{IsNoticed}
-use Rattle.lq_server_slots.proofs.TakenLemmas.{slots_stand-step, ready_more}
+use Rattle.lq_server_slots.proofs.TakenLemmas.{slots_stand-step, ready_more, asks_rise}
 use Rattle.lq_server_slots.proofs.TellLemmas.{slots_are-more, slots_are-all}
 use Rattle.lq_server_slots.proofs.slots.ready_all.Goals as goal
 
@@ -37,6 +37,8 @@ loop-index-preserved c =
       slots_are-more IsNoticed was.taken.items items was.keeper.slots c.ready_at.new.keeper.slots
           c.loop-index.index place c.ready_at.new.slot i.4.1 i.4.0.wide
           (omega (arith, i.3, c.loop-index-test.true)) p.value f.only f.noticed i.6,
+      asks_rise c.args.slots.now.keeper.slots was.keeper.slots c.ready_at.new.keeper.slots
+          place f.only f.rises i.7,
     )
 
 pub returns-clause-noticed : goal.returns-clause-noticed
@@ -45,3 +47,10 @@ returns-clause-noticed c =
     let was = c.loop-index.slots in
     slots_are-all IsNoticed was.taken.items was.subscriptions.items was.keeper.slots
     c.loop-index.index i.4.1 (omega (arith, i.3, c.loop-index-test.false)) i.6
+
+pub returns-in_err-ready_at-clause-rises : goal.returns-in_err-ready_at-clause-rises
+returns-in_err-ready_at-clause-rises c =
+    let was = c.loop-index.slots in
+    let f = c.ready_at.ensures in
+    asks_rise c.args.slots.now.keeper.slots was.keeper.slots c.ready_at.new.keeper.slots
+    c.place_of-place.result f.only f.rises c.loop-index.invariant.7

@@ -1,4 +1,4 @@
-use Rattle.std.proofs.Common.{◌≡◌, ℕ, ◌<◌, length}
+use Rattle.std.proofs.Common.{◌≡◌, ℕ, ◌<◌, ◌≤◌, length}
 use Rattle.lq_board.specs.Slot.{slot_at}
 use Rattle.lq_server_slots.specs.Slots.{SlotsStand, IsReadyAt, SlotIs, IsNoticed, slot_in, place_at}
 use Rattle.lq_server_slots.proofs.slots.ready_all.Given as goal
@@ -16,3 +16,5 @@ invariant-loop-index l =
     × ((j : ℕ) → j < l.index → j < length l.slots.taken.items
     → SlotIs IsNoticed (slot_in l.slots.subscriptions.items (place_at l.slots.taken.items j))
     (slot_at l.slots.keeper.slots (place_at l.slots.taken.items j)))
+    × ((k : ℕ) → (slot_at l.fn.slots.keeper.slots k).asks
+    ≤ (slot_at l.slots.keeper.slots k).asks)

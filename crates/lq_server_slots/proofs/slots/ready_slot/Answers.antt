@@ -2,7 +2,7 @@ use Rattle.std.proofs.Common.{sym, subst, ◌∙◌}
 use Rattle.std.specs.Prelude.{IsSome}
 use Rattle.lq_desk_sub.specs.Held.{Held}
 use Rattle.lq_server_slots.proofs.SlotLemmas.{taken_alike}
-use Rattle.lq_server_slots.proofs.TellLemmas.{noticed_then}
+use Rattle.lq_server_slots.proofs.TellLemmas.{noticed_then, counted_more}
 use Rattle.lq_server_slots.proofs.slots.ready_slot.Goals as goal
 
 pub returns-clause-taken : goal.returns-clause-taken
@@ -19,3 +19,9 @@ returns-clause-noticed c =
     c.notice_slot.new.keeper.slots c.args.place c.notice_slot.result c.requires.place.2
     c.requires.place.1 n.slots (r.others.asks ∙ n.others.0.asks)
     (λ lt. subst (λ (h : Held). IsSome h.mark) (sym r.held) (n.ended lt))
+
+pub returns-clause-rises : goal.returns-clause-rises
+returns-clause-rises c =
+    let n = c.notice_slot.ensures in
+    counted_more c.args.keeper.now.slots c.notice_slot.new.keeper.slots c.args.place
+    c.notice_slot.result c.requires.place.2 c.requires.place.1 n.slots n.asks

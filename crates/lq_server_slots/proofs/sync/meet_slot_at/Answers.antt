@@ -1,5 +1,7 @@
-use Rattle.std.proofs.Common.{sym, subst}
+use Rattle.std.proofs.Common.{sym, ap, subst}
+use Rattle.lq_board.specs.declared.views.Slot.{Slot as Known}
 use Rattle.lq_board.specs.Slot.{slot_at}
+use Rattle.lq_server_subscription.specs.declared.identity.Identity.{Identity}
 use Rattle.lq_server_slots.specs.Slots.{SlotStands}
 use Rattle.lq_server_slots.proofs.SyncLemmas.{fits_met, asks_met}
 use Rattle.lq_server_slots.proofs.sync.meet_slot_at.Goals as goal
@@ -16,3 +18,6 @@ returns-clause-fits c =
 pub returns-clause-asks : goal.returns-clause-asks
 returns-clause-asks c = asks_met c.args.slot.now _ _ c.args.keeper.now.book c.requires.fits
     c.meet_same.ensures.out
+
+pub returns-clause-known : goal.returns-clause-known
+returns-clause-known c = ap (λ (k : Known Identity). k.asks) c.meet_same.ensures.place

@@ -1,4 +1,4 @@
 use Rattle.lq_server_tests.proofs.followed.a_query_is_followed.Given as goal
 
 abbrev pub ghosts-follow : goal.ghosts-follow
-ghosts-follow g a = record { board = a.base }
+ghosts-follow g a = record { board = a.base.board; start = a.base.volume }

@@ -1,7 +1,7 @@
-use Rattle.std.proofs.Common.{Option, Some, None}
+use Rattle.std.proofs.Common.{Option, Some, None, Ok, false, rules}
 use Rattle.std.specs.Prelude.{IfNone}
 use Rattle.lq_server_slots.specs.Opening.{opening_refusal}
-use Rattle.lq_server.proofs.OwnLemmas.{new_reader}
+use Rattle.lq_server.proofs.OwnLemmas.{hold, new_reader, answered_over}
 use Rattle.lq_server.proofs.server.Server.open.Goals as goal
 
 -- what is so anyway is so where nothing is there
@@ -18,3 +18,23 @@ returns-clause-opened g c =
 pub returns-clause-others : goal.returns-clause-others
 returns-clause-others g c =
     where_none (opening_refusal c.args.port c.args.backlog) _ tt
+
+pub returns-in_err-opened-clause-table : goal.returns-in_err-opened-clause-table
+returns-in_err-opened-clause-table g c =
+    let f = c.open.ensures in (
+      f.over.0,
+      answered_over _ f.over.0 g.N.Named.start c.args.seat.now c.open.new.seat c.args.port
+          c.args.backlog
+          c.from_residual.result f.over.1 f.over.2 f.seat f.within (search rules) (search rules),
+    )
+
+pub returns-clause-table : goal.returns-clause-table
+returns-clause-table g c =
+    let f = c.open.ensures in
+    let o = c.in_ok-opened.opened in (
+      f.over.0,
+      answered_over _ f.over.0 g.N.Named.start c.args.seat.now c.open.new.seat c.args.port
+          c.args.backlog
+          (Ok (hold o.reading o.seat o.slot false)) f.over.1 f.over.2 f.seat f.within
+          c.in_ok-opened.ensures.table c.in_ok-opened.ensures.lowest,
+    )

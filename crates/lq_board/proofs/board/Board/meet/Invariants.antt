@@ -1,0 +1,7 @@
+-- The seat keeps its name.
+use Rattle.std.proofs.Common.{None}
+use Rattle.lq_board.specs.View.{sitting_of}
+use Rattle.lq_board.proofs.board.Board.meet.Given as goal
+
+abbrev pub ghosts-met : goal.ghosts-met
+ghosts-met g a = record { slot = 0; name = (sitting_of a.token.me.0).name; change = None }
