@@ -1,13 +1,10 @@
--- The tokens that are refused for want of room alone are `(` and `!`.
-use Rattle.std.proofs.Common.{◌≡◌, ◌⊎◌, ℕ, zero, suc, ◌+◌, List, [], ◌∷◌, ◌++◌, Option, Some, None, refl, sym, ap, ◌∙◌, arith, inl, inr, option_and_then}
+-- More room changes no step that less room takes.
+use Rattle.std.proofs.Common.{◌≡◌, ℕ, zero, suc, ◌+◌, List, [], ◌∷◌, ◌++◌, Option, Some, None, refl, sym, ap, ◌∙◌, arith, option_and_then}
 use Rattle.std.specs.Prelude.{option_map}
 use Rattle.lq_predicate_formula.specs.Tokens.{Token, opens, closes, bang, ands, ors, op, word, lone, cut}
 use Rattle.lq_predicate_formula.specs.Literals.{name_of, literal_of}
 use Rattle.lq_predicate_formula.specs.Query.{Query, Compare}
-use Rattle.lq_predicate_formula.specs.Grammar.{IsFormula, nesting, IsBegun}
-use Rattle.lq_predicate_formula.specs.Machine.{Frame, Expected, operand, after_attr, after_op, after_operand, State, start, deeper, empty_frame, said_by, completed, step, run, steps}
-use Rattle.lq_predicate_formula.proofs.CompleteLemmas.{formula_runs}
-use Rattle.lq_predicate_formula.proofs.StopLemmas.{begun, steps_push}
+use Rattle.lq_predicate_formula.specs.Machine.{Frame, Expected, operand, after_attr, after_op, after_operand, State, deeper, empty_frame, said_by, completed, step, run, steps}
 
 -- a state by its parts
 abbrev pub at : Expected → List Frame → Frame → ℕ → State
@@ -20,60 +17,6 @@ wider k s = at s.expected s.below s.top (s.room + k)
 -- nothing is both None and Some
 fails : {A : Type 0} {X : Type 0} (x : A) → None ≡ Some x → X
 fails x e = cc
-
--- nothing is both Some and None
-taken_fails : {A : Type 0} {X : Type 0} (x : A) → Some x ≡ None → X
-taken_fails x e = cc
-
--- where the one map of an option is None, the other is no state
-neither : {A : Type 0} {X : Type 0} (o : Option A) (f g : A → State) (s : State)
-    → option_map f o ≡ None → option_map g o ≡ Some s → X
-neither None f g s e h = fails s h
-neither (Some x) f g s e h = taken_fails (f x) e
-
--- a token that is refused, and taken with more room, is `(` or `!`
-refused : (p : Expected) (below : List Frame) (f : Frame) (n m : ℕ) (t : Token) (s : State)
-    → step (at p below f n) t ≡ None → step (at p below f m) t ≡ Some s → (t ≡ opens) ⊎ (t ≡ bang)
-refused operand below f n m opens s e h = inl refl
-refused (after_attr a) below f n m opens s e h = inl refl
-refused (after_op a o) below f n m opens s e h = inl refl
-refused after_operand below f n m opens s e h = inl refl
-refused operand below f n m bang s e h = inr refl
-refused (after_attr a) below f n m bang s e h = inr refl
-refused (after_op a o) below f n m bang s e h = inr refl
-refused after_operand below f n m bang s e h = inr refl
-refused operand below f n m closes s e h = fails s h
-refused (after_attr a) below f n m closes s e h = fails s h
-refused (after_op a o) below f n m closes s e h = fails s h
-refused after_operand [] f n m closes s e h = fails s h
-refused after_operand (g ∷ gs) f n m closes s e h = taken_fails _ e
-refused operand below f n m ands s e h = fails s h
-refused (after_attr a) below f n m ands s e h = fails s h
-refused (after_op a o) below f n m ands s e h = fails s h
-refused after_operand below f n m ands s e h = taken_fails _ e
-refused operand below f n m ors s e h = fails s h
-refused (after_attr a) below f n m ors s e h = fails s h
-refused (after_op a o) below f n m ors s e h = fails s h
-refused after_operand below f n m ors s e h = taken_fails _ e
-refused operand below f n m (op u) s e h = fails s h
-refused (after_attr a) below f n m (op u) s e h = taken_fails _ e
-refused (after_op a o) below f n m (op u) s e h = fails s h
-refused after_operand below f n m (op u) s e h = fails s h
-refused operand below f n m (word w) s e h = neither (name_of w)
-    (λ name. at (after_attr name) below f n) (λ name. at (after_attr name) below f m) s e h
-refused (after_attr a) below f n m (word w) s e h = fails s h
-refused (after_op a o) below f n m (word w) s e h =
-    neither (literal_of o w) (λ literal. completed (Compare a o literal) below f n)
-    (λ literal. completed (Compare a o literal) below f m) s e h
-refused after_operand below f n m (word w) s e h = fails s h
-refused operand below f n m lone s e h = fails s h
-refused (after_attr a) below f n m lone s e h = fails s h
-refused (after_op a o) below f n m lone s e h = fails s h
-refused after_operand below f n m lone s e h = fails s h
-refused operand below f n m cut s e h = fails s h
-refused (after_attr a) below f n m cut s e h = fails s h
-refused (after_op a o) below f n m cut s e h = fails s h
-refused after_operand below f n m cut s e h = fails s h
 
 -- a state that is the other has the same wider state
 some_wider : (k : ℕ) (x s : State) (r : Option State) → Some x ≡ Some s → r ≡ Some (wider k x)
@@ -192,25 +135,3 @@ comes [] rest x q e = record { state = x; there = refl }
 comes (t ∷ ts) rest x q e =
     let c = comes_then (step x t) ts rest q (λ y h. comes ts rest y q h) e in
     record { state = c.0; there = c.1 }
-
--- a token at which a formula within the limit stops, and with more room goes on, is `(` or `!`
-by_step : (r : Option State) (s : State) (k : ℕ) (ts : List Token) (t : Token) (y : State)
-    → r ≡ step s t → steps (start nesting) ts ≡ Some s → (IsBegun (ts ++ t ∷ []) → ⊥)
-    → step (wider k s) t ≡ Some y → (t ≡ opens) ⊎ (t ≡ bang)
-by_step None s k ts t y e there stops h =
-    refused s.expected s.below s.top s.room (s.room + k) t y (sym e) h
-by_step (Some z) s k ts t y e there stops h =
-    absurd (stops (begun (ts ++ t ∷ []) z (steps_push ts t (start nesting) s there ∙ sym e)))
-
--- A token with which no formula within the nesting limit
--- goes on, and one beyond it does, is `(` or `!`.
-pub too_deep : (k : ℕ) (ts : List Token) (t : Token) → IsBegun ts → (IsBegun (ts ++ t ∷ []) → ⊥)
-    → (rest : List Token) (q : Query) → IsFormula (nesting + k) ((ts ++ t ∷ []) ++ rest) q
-    → (t ≡ opens) ⊎ (t ≡ bang)
-too_deep k ts t b stops rest q h =
-    let c = comes ts b.0 (start nesting) b.1 (formula_runs nesting (ts ++ b.0) b.1 b.2) in
-    let wide = steps_wider k ts (start nesting) c.state c.there in
-    let d = comes (ts ++ t ∷ []) rest (start (nesting + k)) q
-    (formula_runs (nesting + k) ((ts ++ t ∷ []) ++ rest) q h) in
-    by_step (step c.state t) c.state k ts t d.state refl c.there stops
-    (sym (steps_push ts t (start (nesting + k)) (wider k c.state) wide) ∙ d.there)

@@ -17,7 +17,10 @@ use Rattle.lq_predicate_formula.proofs.CompleteLemmas.{formula_runs}
 use Rattle.lq_predicate_formula.proofs.StopLemmas.{empty_literal, reads_at_end, steps_push, steps_run}
 use Rattle.lq_predicate_formula.proofs.DepthLemmas.{at}
 use Rattle.lq_predicate_formula.proofs.OutlineLemmas.{outline_of, outline_steps, stands_outline}
-use Rattle.lq_predicate_formula.proofs.FaultLemmas.{begun_at, fine as fine_of, full, never_bad, never_cut, no_outline, refused_fault, split_steps}
+use Rattle.lq_predicate_formula.proofs.StepsLemmas.{begun_at, split_steps}
+use Rattle.lq_predicate_formula.proofs.RefusedLemmas.{refused_fault}
+use Rattle.lq_predicate_formula.proofs.BalanceLemmas.{full}
+use Rattle.lq_predicate_formula.proofs.TakenLemmas.{fine as fine_of, never_bad, never_cut, no_outline}
 use Rattle.lq_predicate_formula.proofs.ReadingLemmas.{test_true}
 use Rattle.lq_predicate_formula.proofs.StoppedLemmas.{Seen, count_at, is_word, not_le, seen_more}
 

@@ -1,21 +1,23 @@
 -- Read in this order. The tokens of a text: CountLemmas, CutLemmas, TokenLemmas. Grammar and
--- machine read the same: CompleteLemmas, SoundLemmas, RoomLemmas, WordLemmas, ReadingLemmas,
--- ProperLemmas. Faults: StopLemmas, DepthLemmas, OutlineLemmas, FaultLemmas, StoppedLemmas,
--- ExactLemmas. What is written reads back: QuotingLemmas, EncodedLemmas, PatternTextLemmas,
--- CanonicalLemmas, RoundLemmas, GoodLemmas. What the writers and counters do, a piece at a time:
--- RawLemmas, WritingLemmas, SizeLemmas, SourceSizeLemmas.
+-- machine read the same: CompleteLemmas, SoundLemmas, WordLemmas, ReadingLemmas, ProperLemmas.
+-- Faults: StopLemmas, DepthLemmas, OutlineLemmas, StepsLemmas, RefusedLemmas, BalanceLemmas,
+-- TakenLemmas, StoppedLemmas, ExactLemmas. What is written reads back: QuotingLemmas,
+-- EncodedLemmas, PatternTextLemmas, CanonicalLemmas, RoundLemmas, GoodLemmas. What the writers and
+-- counters do, a piece at a time: RawLemmas, WritingLemmas, SizeLemmas, SourceSizeLemmas.
 pub mod CountLemmas
 pub mod CutLemmas
 pub mod TokenLemmas
 pub mod CompleteLemmas
 pub mod SoundLemmas
 pub mod StopLemmas
-pub mod RoomLemmas
 pub mod DepthLemmas
 pub mod WordLemmas
 pub mod ReadingLemmas
 pub mod OutlineLemmas
-pub mod FaultLemmas
+pub mod StepsLemmas
+pub mod RefusedLemmas
+pub mod BalanceLemmas
+pub mod TakenLemmas
 pub mod StoppedLemmas
 pub mod QuotingLemmas
 pub mod EncodedLemmas

@@ -10,12 +10,12 @@ use Rattle.lq_value.specs.declared.op.Op.TheVariants.{Eq, Ne, Lt, Le, Gt, Ge}
 use Rattle.lq_value.specs.Compare.{suits}
 use Rattle.lq_value.specs.Name.{is_attr_name}
 use Rattle.lq_value.specs.Source.{pattern_of}
-use Rattle.lq_predicate_formula.specs.Tokens.{Token, opens, closes, bang, ands, ors, op, word, lone, cut}
+use Rattle.lq_predicate_formula.specs.Tokens.{Token, closes, ands, ors}
 use Rattle.lq_predicate_formula.specs.Query.{Query, queries, both_of, either_of}
 use Rattle.lq_predicate_formula.specs.Literals.{literal_of, name_of, pattern_literal, unescaped}
 use Rattle.lq_predicate_formula.specs.Grammar.{Reading, Follows, IsAnd, IsOr, IsComparison, IsNot, IsFormula}
-use Rattle.lq_predicate_formula.specs.Limits.{AreProperBy, IsProperBy, IsReadBehind}
-use Rattle.lq_predicate_formula.specs.Words.{WordIs, WordsAre}
+use Rattle.lq_predicate_formula.specs.Limits.{AreProperBy, IsProperBy}
+use Rattle.lq_predicate_formula.specs.Words.{WordsAre}
 
 -- a word that is read as a name is one
 name_by : (u name : List ℕ) (t : Bool)
@@ -137,26 +137,3 @@ not_proper T W f (suc n) a q w h = elim h [
 pub formula_proper_by : (T : List ℕ → Type 0) (W : Op → Literal → Type 0) → Readers T W
     → (n : ℕ) (ts : List Token) (q : Query) → WordsAre T ts → IsFormula n ts q → IsProperBy W q
 formula_proper_by T W f n ts q w h = or_proper T W (IsNot n) (not_proper T W f n) ts q w h
-
--- nothing is asked of a token's word
-any_word : (t : Token) → WordIs (λ _. Unit {0}) t
-any_word opens = tt
-any_word closes = tt
-any_word bang = tt
-any_word ands = tt
-any_word ors = tt
-any_word (op o) = tt
-any_word (word raw) = tt
-any_word lone = tt
-any_word cut = tt
-
--- nothing is asked of the words of a list
-any_words : (ts : List Token) → WordsAre (λ _. Unit {0}) ts
-any_words [] = tt
-any_words (t ∷ ts) = (any_word t, any_words ts)
-
--- what a formula is read as is proper, each literal as its operator reads it
-pub formula_proper : (n : ℕ) (ts : List Token) (q : Query) → IsFormula n ts q
-    → IsProperBy IsReadBehind q
-formula_proper n ts q h = formula_proper_by (λ _. Unit {0}) IsReadBehind
-    (λ o raw literal u e. (read_suits o raw literal e, (raw, e))) n ts q (any_words ts) h

@@ -12,7 +12,9 @@ use Rattle.lq_predicate_formula.specs.Faults.{AreFine, IsFaultOf, IsFaulty, too_
 use Rattle.lq_predicate_formula.specs.Reading.{after_token, fault_place, finished, read_tokens, reading_of, word_count}
 use Rattle.lq_predicate_formula.proofs.TokenLemmas.{has_tokens}
 use Rattle.lq_predicate_formula.proofs.StopLemmas.{ends_none, reads_at_end, steps_push}
-use Rattle.lq_predicate_formula.proofs.FaultLemmas.{fine, full, refused_fault}
+use Rattle.lq_predicate_formula.proofs.RefusedLemmas.{refused_fault}
+use Rattle.lq_predicate_formula.proofs.BalanceLemmas.{full}
+use Rattle.lq_predicate_formula.proofs.TakenLemmas.{fine}
 use Rattle.lq_predicate_formula.proofs.WordLemmas.{words_append, words}
 
 -- where the reading of these tokens stops

@@ -3,7 +3,7 @@ use Rattle.std.specs.Prelude.{◌≡◌, ◌↔◌, ℕ, List, Ok, Err}
 use Rattle.lq_predicate_formula.specs.Query.{Query}
 use Rattle.lq_predicate_formula.specs.Faults.{IsFaulty, Reads}
 use Rattle.lq_predicate_formula.specs.Canonical.{canonical}
-use Rattle.lq_predicate_formula.specs.Limits.{IsGoodPattern, IsProper, IsProperBy, IsReadBehind, IsWithinLimits}
+use Rattle.lq_predicate_formula.specs.Limits.{IsGoodPattern, IsProper, IsWithinLimits}
 use Rattle.lq_predicate_formula.specs.Words.{WordsAre}
 use Rattle.lq_predicate_formula.specs.Tokens.{bare, tokens_of}
 use Rattle.lq_value.specs.declared.element.Element.{Element}
@@ -22,11 +22,6 @@ FaultsAreFound = (text : List ℕ) (place : ℕ) → (reading_of text ≡ Err pl
 -- the canonical text of a query within the limits reads as that query
 abbrev pub CanonicalIsRead : Type 0
 CanonicalIsRead = (q : Query) → IsWithinLimits q → Reads (canonical q) q
-
--- a query that was read has names as attributes, literals that suit and are read, and lists of at
--- least two parts
-abbrev pub ReadIsProper : Type 0
-ReadIsProper = (text : List ℕ) (q : Query) → Reads text q → IsProperBy IsReadBehind q
 
 -- the canonical text of a query that was read from UTF-8 words can be read
 abbrev pub ReadIsGood : Type 0

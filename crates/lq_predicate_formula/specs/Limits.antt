@@ -1,5 +1,5 @@
 -- Which queries a formula can have: those that are read from one.
-use Rattle.std.specs.Prelude.{ℕ, ◌≡◌, ◌≤◌, List, [], ◌∷◌, length, true, Some}
+use Rattle.std.specs.Prelude.{◌≡◌, ◌≤◌, List, [], ◌∷◌, length, true}
 use Rattle.std.specs.Char.{IsScalar}
 use Rattle.lq_value.specs.declared.element.Item.{Item}
 use Rattle.lq_value.specs.declared.element.Item.TheVariants.{One, Range}
@@ -11,7 +11,6 @@ use Rattle.lq_value.specs.declared.literal.Literal.TheVariants.{Pattern, Plain}
 use Rattle.lq_value.specs.Compare.{suits}
 use Rattle.lq_value.specs.Name.{is_attr_name}
 use Rattle.lq_value.specs.declared.op.Op.{Op}
-use Rattle.lq_predicate_formula.specs.Literals.{literal_of}
 use Rattle.lq_predicate_formula.specs.Query.{Query, Compare, Not, And, Or, Queries, no_more, and_then}
 use Rattle.lq_predicate_formula.specs.Canonical.{canonical, comparisons, depth}
 use Rattle.lq_predicate_formula.specs.Faults.{most_bytes, most_comparisons, most_depth}
@@ -58,11 +57,6 @@ abbrev mutual
   pub AreProperBy : (Op → Literal → Type 0) → Queries → Type 0
   AreProperBy P no_more = Unit {0}
   AreProperBy P (and_then q qs) = IsProperBy P q × AreProperBy P qs
-
--- the literal suits the operator, and some raw text after the operator is read as it
-abbrev pub IsReadBehind : Op → Literal → Type 0
-IsReadBehind op literal =
-    (suits literal op ≡ true) × ((raw : List ℕ) × (literal_of op raw ≡ Some literal))
 
 -- the literal suits the operator, and has a source
 abbrev pub IsGoodBehind : Op → Literal → Type 0

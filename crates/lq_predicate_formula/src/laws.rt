@@ -1,10 +1,9 @@
 //! Laws on tokens and the grammar: functions that do nothing, each with a law as its contract.
-ghost use Rattle.std.specs.Prelude.{◌≡◌, ◌+◌, ◌↔◌, ◌++◌, ◌∷◌, ◌⊎◌, [], ℕ, List, Some};
-ghost use Rattle.lq_predicate_formula.specs.Tokens.{HasTokens, Placed, Token, bang, opens, tokens_of};
+ghost use Rattle.std.specs.Prelude.{◌≡◌, ℕ, List};
+ghost use Rattle.lq_predicate_formula.specs.Tokens.{HasTokens, Placed, Token, tokens_of};
 ghost use Rattle.lq_predicate_formula.specs.Query.{Query};
-ghost use Rattle.lq_predicate_formula.specs.Grammar.{IsBegun, IsFormula, nesting};
-ghost use Rattle.lq_predicate_formula.specs.Machine.{run, start};
-ghost use Rattle.lq_predicate_formula.specs.Laws.{CanonicalIsRead, FaultsAreFound, FormulasAreRead, PatternsAreGood, ReadIsGood, ReadIsProper};
+ghost use Rattle.lq_predicate_formula.specs.Grammar.{IsFormula};
+ghost use Rattle.lq_predicate_formula.specs.Laws.{CanonicalIsRead, FaultsAreFound, FormulasAreRead, PatternsAreGood, ReadIsGood};
 
 use lq_value::sources_are_read;
 
@@ -25,25 +24,6 @@ pub fn reads_one()
         → IsFormula n ts q → IsFormula n ts r → q ≡ r }
 {}
 
-/// The machine reads what the grammar reads.
-pub fn reads_alike()
-    ensures { (n : ℕ) (ts : List Token) (q : Query)
-        → (run (start n) ts ≡ Some q) ↔ IsFormula n ts q }
-{}
-
-/// More room for nesting refuses nothing that less room accepts.
-pub fn any_room()
-    ensures { (k n : ℕ) (ts : List Token) (q : Query) → IsFormula n ts q → IsFormula (k + n) ts q }
-{}
-
-/// If no formula within the nesting limit continues with a token, but a deeper one does, the token
-/// is `(` or `!`.
-pub fn too_deep()
-    ensures { (k : ℕ) (ts : List Token) (t : Token) → IsBegun ts → (IsBegun (ts ++ t ∷ []) → ⊥)
-        → (rest : List Token) (q : Query) → IsFormula (nesting + k) ((ts ++ t ∷ []) ++ rest) q
-        → (t ≡ opens) ⊎ (t ≡ bang) }
-{}
-
 /// The reading of a text is the query that it reads as by the grammar and the limits.
 pub fn formulas_are_read()
     ensures { FormulasAreRead }
@@ -61,12 +41,6 @@ pub fn canonical_is_read()
 {
     sources_are_read();
 }
-
-/// A query that was read has names as attributes, literals that suit their operators and are read
-/// from some raw text, and lists of at least two parts.
-pub fn read_is_proper()
-    ensures { ReadIsProper }
-{}
 
 /// The canonical text of a query that was read from UTF-8 words reads as that query, if the query
 /// is within the limits.

@@ -14,7 +14,6 @@ use crate::token::{Cursor, Placed};
 ///
 /// `None` where only white space remains. It takes no memory, and the token borrows the text. The
 /// tokens are this project's own.
-#[tactic(auto, using(crate::proofs::TokenLemmas::tokens_from_yields, crate::proofs::TokenLemmas::tokens_from_none))]
 pub fn next_token<'a>(cursor: Cursor<'a>) -> Option<(Placed<'a>, Cursor<'a>)>
     requires { cursor.place + length cursor.rest.now < 2 ^ 64 }
     ensures none { IfNone result (trimmed cursor.entry.rest.now ≡ []) }

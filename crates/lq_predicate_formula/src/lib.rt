@@ -19,8 +19,8 @@ mod token;
 mod writing;
 
 pub use laws::{
-    any_room, canonical_is_read, faults_are_found, formulas_are_read, patterns_are_good,
-    read_is_good, read_is_proper, reads_alike, reads_one, tokens_exist, tokens_same, too_deep,
+    canonical_is_read, faults_are_found, formulas_are_read, patterns_are_good, read_is_good,
+    reads_one, tokens_exist, tokens_same,
 };
 pub use lexer::next_token;
 pub use raw::{is_name, read_literal, read_name};

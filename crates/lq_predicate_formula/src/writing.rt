@@ -86,7 +86,7 @@ fn put_quoted(text: &str, out: &mut String) -> Result<(), Refusal>
     Ok(())
 }
 
-#[tactic(auto, using(crate::proofs::WritingLemmas::quoted_backslash, crate::proofs::WritingLemmas::quoted_mark, crate::proofs::WritingLemmas::quoted_clear))]
+#[tactic(auto, using(crate::proofs::WritingLemmas::quoted_clear))]
 fn put_quoted_char(c: char, out: &mut String) -> Result<(), Refusal>
     ensures refused { IsRefusedBy result None }
     ensures value { IfOk result
@@ -94,10 +94,12 @@ fn put_quoted_char(c: char, out: &mut String) -> Result<(), Refusal>
 {
     if c == '\\' {
         out.push_str("\\\\")?;
+        #[tactic(auto, using(crate::proofs::WritingLemmas::quoted_backslash))]
         return Ok(());
     }
     if c == '"' {
         out.push_str("\\\"")?;
+        #[tactic(auto, using(crate::proofs::WritingLemmas::quoted_mark))]
         return Ok(());
     }
     out.push(c)?;
