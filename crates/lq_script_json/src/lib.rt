@@ -2,12 +2,17 @@
 //!
 //! Contracts see a value as the data that serde_json reads from the same text (`specs/Data`): the
 //! last one of equal keys counts, and a text with a number beyond the doubles is no value.
-//! Contracts don't see the scratch. Nothing waits. Begin with `reading`, then `fields`.
+//! Contracts don't see the scratch. The fields of a line are found in one walk (`specs/Fields`).
+//! Nothing waits. Begin with `reading`, then `fields`.
 #![tactic(auto)]
 
 mod fields;
+mod key;
 mod number;
+mod plain;
 mod reading;
 
-pub use fields::{bool_of, field, i64_of, text_in, text_of, u64_in, u64_of};
-pub use reading::read;
+pub use fields::{Field, Fields, bool_of, i64_of, text_of, u64_of};
+pub use key::Key;
+pub use plain::field;
+pub use reading::{parse, read};

@@ -28,7 +28,7 @@ pub(crate) fn number_in(text: &str) -> Option<Number>
 }
 
 // The number of these bytes if they are 1 to 18 digits and nothing else, as in most numbers.
-fn digits_in(bytes: &[u8]) -> Option<u64>
+pub(crate) fn digits_in(bytes: &[u8]) -> Option<u64>
     ensures some { IfSome result (λ n. 0 < length bytes.now) }
     ensures few { IfSome result (λ n. length bytes.now ≤ 18) }
     ensures digits { IfSome result (λ n. IsTrue (list_all is_ascii_digit bytes.now)) }

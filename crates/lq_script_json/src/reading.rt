@@ -27,15 +27,17 @@ pub fn read<'a>(
     ensures refused { IfErr result (λ e. (e ≡ NoMemory)
         ⊎ ((e ≡ NotJson) × (read_text text.now ≡ None))) }
 {
-    let value = value_in(alloc, scratch, text)?;
+    let value = parse(alloc, scratch, text)?;
     if !is_in_range(&value) {
         return Err(Refusal::NotJson);
     }
     Ok(value)
 }
 
-// The value; its numbers may have any size.
-fn value_in<'a>(
+/// The JSON value of a text; its numbers may have any size.
+///
+/// As `read`, but a number may round to an infinite double. Refused: `NoMemory`, else `NotJson`.
+pub fn parse<'a>(
     alloc: Global,
     scratch: &'a mut Scratch,
     text: &'a str,
@@ -59,7 +61,7 @@ fn value_in<'a>(
 }
 
 // Whether no number rounds to an infinite double.
-fn is_in_range(value: &Value<'_>) -> bool
+pub(crate) fn is_in_range(value: &Value<'_>) -> bool
     ensures { result ≡ in_range (value_view value.now) }
 {
     match value {

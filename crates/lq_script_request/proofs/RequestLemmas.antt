@@ -1,12 +1,17 @@
--- What a line's bytes ask for, by whether they are UTF-8.
-use Rattle.std.proofs.Common.{◌≡◌, ◌∙◌, ℕ, List, refl, sym, ap, true, false, None, inl, inr}
-use Rattle.std.specs.Prelude.{Bool, Result, Ok, Err, IfOk, IfErr, ◌⊎◌}
+-- What a line asks for, by whether it is UTF-8, and by its word.
+use Rattle.std.proofs.Common.{◌≡◌, ◌∙◌, ℕ, List, refl, sym, ap, true, false, Option, Some, None, bytes_eq, codes, inl, inr}
+use Rattle.std.proofs.lemmas.Bool.{false_from_ne_true}
+use Rattle.std.proofs.lemmas.Slice.Eq.{bytes_eq-Decides}
+use Rattle.std.specs.Prelude.{option_and_then, Bool, Result, Ok, Err, IfOk, IfErr, ◌⊎◌}
 use Rattle.std.specs.Str.{IsUtf8, is_utf8}
 use Rattle.std.proofs.lemmas.Str.{IsUtf8-from_is_utf8, is_utf8-from_IsUtf8}
-use Rattle.serde_json.specs.Read.{read}
+use Rattle.serde_json.specs.Data.{Data}
+use Rattle.json.specs.Json.{Json}
+use Rattle.serde_json.specs.Read.{of_json, read}
 use Rattle.lq_value.specs.declared.refusal.Refusal.{Refusal}
 use Rattle.lq_value.specs.declared.refusal.Refusal.TheVariants.{NoMemory, NotUtf8, NotJson}
-use Rattle.lq_script_request.specs.Request.{asked_in, asked_from}
+use Rattle.lq_script_request.specs.declared.question.Question.{Question}
+use Rattle.lq_script_request.specs.Request.{Asked, asked_by, asked_in, asked_from, asked_of, asked_or, needed_text, question_from, question_in}
 
 -- a line that isn't UTF-8 is refused as such
 pub asked-not_utf8 : (line : List ℕ) → ¬ IsUtf8 line → asked_in line ≡ Err NotUtf8
@@ -39,3 +44,74 @@ pub error-then : {T E : Type 0} {P Q : E → Type 0} (r : Result T E)
     → ((e : E) → P e → Q e) → IfErr r P → IfErr r Q
 error-then (Ok x) go known = tt
 error-then (Err e) go known = go e known
+
+-- what is asked for by a word
+pub asks-as : (d : Data) (act word : List ℕ) (asks : Option Asked)
+    → Some act ≡ needed_text (codes "do") d → act ≡ word → asks ≡ asked_by word d
+    → asks ≡ asked_of d
+asks-as d act word asks found is same =
+    same ∙ sym (ap (λ w. asked_by w d) is) ∙ ap (option_and_then (λ w. asked_by w d)) found
+
+-- another word
+differs : (act word : List ℕ) → (act ≡ word → ⊥) → bytes_eq act word ≡ false
+differs act word not =
+    false_from_ne_true (bytes_eq act word) (λ is. not ((bytes_eq-Decides act word).0 is))
+
+-- a word that asks for nothing
+pub asks-nothing : (d : Data) (act : List ℕ) → Some act ≡ needed_text (codes "do") d
+    → (act ≡ codes "create" → ⊥)
+    → (act ≡ codes "remove" → ⊥)
+    → (act ≡ codes "move" → ⊥)
+    → (act ≡ codes "write" → ⊥)
+    → (act ≡ codes "set" → ⊥)
+    → (act ≡ codes "unset" → ⊥)
+    → (act ≡ codes "open" → ⊥)
+    → (act ≡ codes "read" → ⊥)
+    → (act ≡ codes "hang_up" → ⊥)
+    → (act ≡ codes "close" → ⊥)
+    → (act ≡ codes "finish" → ⊥)
+    → (act ≡ codes "find" → ⊥)
+    → (act ≡ codes "entry" → ⊥)
+    → (act ≡ codes "fetch" → ⊥)
+    → (act ≡ codes "result" → ⊥)
+    → None ≡ asked_of d
+asks-nothing d act found n0 n1 n2 n3 n4 n5 n6 n7 n8 n9 n10 n11 n12 n13 n14 =
+    let b0 : bytes_eq act (codes "create") ≡ false = differs act (codes "create") n0 in
+    let b1 : bytes_eq act (codes "remove") ≡ false = differs act (codes "remove") n1 in
+    let b2 : bytes_eq act (codes "move") ≡ false = differs act (codes "move") n2 in
+    let b3 : bytes_eq act (codes "write") ≡ false = differs act (codes "write") n3 in
+    let b4 : bytes_eq act (codes "set") ≡ false = differs act (codes "set") n4 in
+    let b5 : bytes_eq act (codes "unset") ≡ false = differs act (codes "unset") n5 in
+    let b6 : bytes_eq act (codes "open") ≡ false = differs act (codes "open") n6 in
+    let b7 : bytes_eq act (codes "read") ≡ false = differs act (codes "read") n7 in
+    let b8 : bytes_eq act (codes "hang_up") ≡ false = differs act (codes "hang_up") n8 in
+    let b9 : bytes_eq act (codes "close") ≡ false = differs act (codes "close") n9 in
+    let b10 : bytes_eq act (codes "finish") ≡ false = differs act (codes "finish") n10 in
+    let b11 : bytes_eq act (codes "find") ≡ false = differs act (codes "find") n11 in
+    let b12 : bytes_eq act (codes "entry") ≡ false = differs act (codes "entry") n12 in
+    let b13 : bytes_eq act (codes "fetch") ≡ false = differs act (codes "fetch") n13 in
+    let b14 : bytes_eq act (codes "result") ≡ false = differs act (codes "result") n14 in
+    let none : None ≡ asked_by act d =
+    rw (b0, b1, b2, b3, b4, b5, b6, b7, b8, b9, b10, b11, b12, b13, b14) refl in
+    none ∙ ap (option_and_then (λ w. asked_by w d)) found
+
+-- a line asks for what its fields ask for
+pub line-asks-found : (line : List ℕ) (v j : Json) (d e : Data)
+    → asked_in line ≡ asked_from (of_json v) → j ≡ v → of_json j ≡ Some d → e ≡ d
+    → question_in line ≡ question_from (asked_or (asked_of e))
+line-asks-found line v j d e asks is read same =
+    ap question_from (asks ∙ ap (λ i. asked_from (of_json i)) (sym is) ∙ ap asked_from read)
+    ∙ ap (λ x. question_from (asked_or (asked_of x))) (sym same)
+
+-- a line with a number out of range is no JSON
+pub line-not_json : (line : List ℕ) (v j : Json) → asked_in line ≡ asked_from (of_json v) → j ≡ v
+    → of_json j ≡ None → question_in line ≡ Err NotJson
+line-not_json line v j asks is read =
+    ap question_from (asks ∙ ap (λ i. asked_from (of_json i)) (sym is) ∙ ap asked_from read)
+
+-- the refusal of a line is that of what it asks for
+pub refused-along : (line : List ℕ) (e : Refusal) (r : Result Question Refusal)
+    → question_in line ≡ r → (e ≡ NoMemory) ⊎ (r ≡ Err e)
+    → (e ≡ NoMemory) ⊎ (question_in line ≡ Err e)
+refused-along line e r asks (inl was) = inl was
+refused-along line e r asks (inr was) = inr (asks ∙ was)

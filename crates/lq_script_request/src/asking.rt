@@ -1,9 +1,12 @@
 //! From the bytes of a line to its question.
-ghost use Rattle.std.specs.Prelude.{◌≡◌, ◌⊎◌, IfOk, IfErr, Ok, Err};
-ghost use Rattle.lq_script_json.specs.Data.{view};
+ghost use Rattle.std.specs.Prelude.{◌≡◌, ◌⊎◌, IfOk, IfErr, IfSome, IfNone, Ok, Err};
+ghost use Rattle.std.specs.Str.{IsUtf8};
+ghost use Rattle.json.specs.Value.{value_view};
+ghost use Rattle.serde_json.specs.Read.{of_json};
+ghost use Rattle.lq_script_json.specs.Fields.{AreFound, whole};
 ghost use Rattle.lq_value.specs.declared.refusal.Refusal.TheVariants.{NoMemory};
 ghost use Rattle.lq_script_request.specs.Asked.{asked, given};
-ghost use Rattle.lq_script_request.specs.Request.{asks_create, asks_fetch, asks_find, asks_move, asks_open, asks_set, asks_unset, value_for, asked_in, asked_of, asked_or, question_for, question_from, question_in};
+ghost use Rattle.lq_script_request.specs.Request.{asks_create, asks_fetch, asks_find, asks_move, asks_open, asks_set, asks_unset, value_for, asked_from, asked_in, asked_of, asked_or, question_for, question_from, question_in};
 
 use crate::plain::plain_read;
 use crate::question::Question;
@@ -12,8 +15,10 @@ use crate::scratch::{RecentAttrs, Scratch};
 use json::Value;
 use lq_desk_world::Event;
 use lq_predicate::read;
+use lq_script_json::Fields;
 use lq_value::{Kind, Name, Refusal, View};
 use lq_volume::Change;
+use simdutf8::is_utf8;
 use std::alloc::Global;
 
 /// The question of a line without its LF and CR.
@@ -30,36 +35,53 @@ pub fn question_in(alloc: Global, scratch: &mut Scratch, line: &[u8]) -> Result<
         return Ok(Question::Event(Event::Take(slot)));
     }
     let value = value_in(alloc, &mut scratch.json, line)?;
-    question_of(alloc, &mut scratch.attrs, &value)
+    let mut fields = Fields::new(&value);
+    if !fields.find() {
+        return Err(Refusal::NotJson);
+    }
+    question_of(alloc, &mut scratch.attrs, &fields)
 }
 
-// The JSON value that a line writes.
+// The JSON value that a line writes; its numbers may have any size.
 fn value_in<'a>(
     alloc: Global,
     scratch: &'a mut json::Scratch,
     line: &'a [u8],
 ) -> Result<Value<'a>, Refusal>
-    ensures value { IfOk result (λ value. asked_in line.now ≡ asked_or (asked_of (view value))) }
+    ensures value { IfOk result (λ value.
+        asked_in line.now ≡ asked_from (of_json (value_view value))) }
     ensures refused { IfErr result (λ e. (e ≡ NoMemory) ⊎ (asked_in line.now ≡ Err e)) }
 {
-    let Ok(text) = str::from_utf8(line) else {
+    let Some(text) = text_of(line) else {
         return Err(Refusal::NotUtf8);
     };
-    lq_script_json::read(alloc, scratch, text)
+    lq_script_json::parse(alloc, scratch, text)
 }
 
-// The question of a line's JSON value.
+// The text that a line is; `None` where its bytes aren't UTF-8.
+fn text_of(line: &[u8]) -> Option<&str>
+    ensures text { IfSome result (λ text. (text.now ≡ line.now) × IsUtf8 line.now) }
+    ensures other { IfNone result (¬ IsUtf8 line.now) }
+{
+    if !is_utf8(line) {
+        return None;
+    }
+    Some(unsafe { str::from_utf8_unchecked(line) })
+}
+
+// The question of a line whose fields are found.
 fn question_of(
     alloc: Global,
     attrs: &mut RecentAttrs,
-    value: &Value<'_>,
+    fields: &Fields<'_, '_>,
 ) -> Result<Question, Refusal>
+    requires { AreFound fields.now }
     ensures value { IfOk result (λ question.
-        question_from (asked_or (asked_of (view value.now))) ≡ Ok question) }
+        question_from (asked_or (asked_of (whole fields.now))) ≡ Ok question) }
     ensures refused { IfErr result (λ e. (e ≡ NoMemory)
-        ⊎ (question_from (asked_or (asked_of (view value.now))) ≡ Err e)) }
+        ⊎ (question_from (asked_or (asked_of (whole fields.now))) ≡ Err e)) }
 {
-    match request_in(value) {
+    match request_in(fields) {
         None => Err(Refusal::BadLine),
         Some(request) => question_for(alloc, attrs, &request),
     }

@@ -4,13 +4,12 @@ ghost use Rattle.std.specs.Option.{option_map};
 ghost use Rattle.lq_value.specs.declared.value.Value.TheVariants.{Int32, UInt32};
 ghost use Rattle.lq_value.specs.declared.kind.Kind.TheVariants.{File};
 ghost use Rattle.serde_json.specs.Find.{as_i64, as_number, as_u64, get};
-ghost use Rattle.lq_script_json.specs.Data.{view};
+ghost use Rattle.lq_script_json.specs.Fields.{AreFound, known, name_of, whole};
 ghost use Rattle.lq_script_request.specs.Request.{asked_by, asked_of, create_of, remove_of, move_of, write_of, set_of, unset_of, open_of, act_of, rebuilt_of, find_of, entry_of, fetch_of, given_by, given_number, within_i32, within_u32, flag_or, needed_text, needed_u64, u64_or, i64_or, kind_named, kind_or};
 ghost use Rattle.lq_script_request.specs.Asked.{asked, given};
 
-use json::Value;
 use lq_desk_world::Act;
-use lq_script_json::{bool_of, field, i64_of, text_in, text_of, u64_in, u64_of};
+use lq_script_json::{Field, Fields, Key, bool_of, i64_of, text_of, u64_of};
 use lq_value::{Kind, View};
 
 /// The request of a line, with its texts borrowed from the line's JSON value.
@@ -71,49 +70,66 @@ pub enum Request<'a> {
     },
 }
 
-/// The request of a line's JSON value; `None` where a field is missing or wrong.
-pub fn request_in<'a>(value: &Value<'a>) -> Option<Request<'a>>
-    ensures { option_map asked result ≡ asked_of (view value.now) }
+/// The request of a line whose fields are found; `None` where a field is missing or wrong.
+pub fn request_in<'a>(fields: &Fields<'_, 'a>) -> Option<Request<'a>>
+    requires { AreFound fields.now }
+    ensures { option_map asked result ≡ asked_of (whole fields.now) }
 {
-    let Some(act) = text_in(value, "do") else {
+    let Some(act) = fields.text(Key::Do) else {
         return None;
     };
-    match act {
-        "read" => act_in(value, Act::Take),
-        "create" => create_in(value),
-        "remove" => remove_in(value),
-        "move" => move_in(value),
-        "write" => write_in(value),
-        "set" => set_in(value),
-        "unset" => unset_in(value),
-        "open" => open_in(value),
-        "hang_up" => act_in(value, Act::HangUp),
-        "close" => act_in(value, Act::Close),
-        "finish" => act_in(value, Act::Finish),
-        "find" => find_in(value),
-        "entry" => entry_in(value),
-        "fetch" => fetch_in(value),
-        "result" => rebuilt_in(value),
+    match act.len() {
+        3 => match act {
+            "set" => set_in(fields),
+            _ => None,
+        },
+        4 => match act {
+            "read" => act_in(fields, Act::Take),
+            "move" => move_in(fields),
+            "open" => open_in(fields),
+            "find" => find_in(fields),
+            _ => None,
+        },
+        5 => match act {
+            "write" => write_in(fields),
+            "unset" => unset_in(fields),
+            "close" => act_in(fields, Act::Close),
+            "entry" => entry_in(fields),
+            "fetch" => fetch_in(fields),
+            _ => None,
+        },
+        6 => match act {
+            "create" => create_in(fields),
+            "remove" => remove_in(fields),
+            "finish" => act_in(fields, Act::Finish),
+            "result" => rebuilt_in(fields),
+            _ => None,
+        },
+        7 => match act {
+            "hang_up" => act_in(fields, Act::HangUp),
+            _ => None,
+        },
         _ => None,
     }
 }
 
-fn create_in<'a>(value: &Value<'a>) -> Option<Request<'a>>
-    ensures { option_map asked result ≡ create_of (view value.now) }
+fn create_in<'a>(fields: &Fields<'_, 'a>) -> Option<Request<'a>>
+    requires { AreFound fields.now }
+    ensures { option_map asked result ≡ create_of (whole fields.now) }
 {
-    let Some(name) = text_in(value, "name") else {
+    let Some(name) = fields.text(Key::Name) else {
         return None;
     };
-    let Some(dir) = u64_or(value, "dir", 1) else {
+    let Some(dir) = u64_or(fields, Key::Dir, 1) else {
         return None;
     };
-    let Some(kind) = kind_or_file(value) else {
+    let Some(kind) = kind_or_file(fields) else {
         return None;
     };
-    let Some(size) = u64_or(value, "size", 0) else {
+    let Some(size) = u64_or(fields, Key::Size, 0) else {
         return None;
     };
-    let Some(time) = i64_or_zero(value, "time") else {
+    let Some(time) = i64_or_zero(fields, Key::Time) else {
         return None;
     };
     Some(Request::Create {
@@ -125,26 +141,28 @@ fn create_in<'a>(value: &Value<'a>) -> Option<Request<'a>>
     })
 }
 
-fn remove_in<'a>(value: &Value<'a>) -> Option<Request<'a>>
-    ensures { option_map asked result ≡ remove_of (view value.now) }
+fn remove_in<'a>(fields: &Fields<'_, 'a>) -> Option<Request<'a>>
+    requires { AreFound fields.now }
+    ensures { option_map asked result ≡ remove_of (whole fields.now) }
 {
-    let node = u64_in(value, "node")?;
+    let node = fields.number(Key::Node)?;
     Some(Request::Remove { node })
 }
 
-fn move_in<'a>(value: &Value<'a>) -> Option<Request<'a>>
-    ensures { option_map asked result ≡ move_of (view value.now) }
+fn move_in<'a>(fields: &Fields<'_, 'a>) -> Option<Request<'a>>
+    requires { AreFound fields.now }
+    ensures { option_map asked result ≡ move_of (whole fields.now) }
 {
-    let Some(node) = u64_in(value, "node") else {
+    let Some(node) = fields.number(Key::Node) else {
         return None;
     };
-    let Some(name) = text_in(value, "name") else {
+    let Some(name) = fields.text(Key::Name) else {
         return None;
     };
-    let Some(dir) = u64_or(value, "dir", 1) else {
+    let Some(dir) = u64_or(fields, Key::Dir, 1) else {
         return None;
     };
-    let Some(clobber) = bool_or_false(value, "clobber") else {
+    let Some(clobber) = bool_or_false(fields, Key::Clobber) else {
         return None;
     };
     Some(Request::Move {
@@ -155,34 +173,36 @@ fn move_in<'a>(value: &Value<'a>) -> Option<Request<'a>>
     })
 }
 
-fn write_in<'a>(value: &Value<'a>) -> Option<Request<'a>>
-    ensures { option_map asked result ≡ write_of (view value.now) }
+fn write_in<'a>(fields: &Fields<'_, 'a>) -> Option<Request<'a>>
+    requires { AreFound fields.now }
+    ensures { option_map asked result ≡ write_of (whole fields.now) }
 {
-    let Some(node) = u64_in(value, "node") else {
+    let Some(node) = fields.number(Key::Node) else {
         return None;
     };
-    let Some(size) = u64_in(value, "size") else {
+    let Some(size) = fields.number(Key::Size) else {
         return None;
     };
-    let Some(time) = i64_or_zero(value, "time") else {
+    let Some(time) = i64_or_zero(fields, Key::Time) else {
         return None;
     };
     Some(Request::Write { node, size, time })
 }
 
-fn set_in<'a>(value: &Value<'a>) -> Option<Request<'a>>
-    ensures { option_map asked result ≡ set_of (view value.now) }
+fn set_in<'a>(fields: &Fields<'_, 'a>) -> Option<Request<'a>>
+    requires { AreFound fields.now }
+    ensures { option_map asked result ≡ set_of (whole fields.now) }
 {
-    let Some(node) = u64_in(value, "node") else {
+    let Some(node) = fields.number(Key::Node) else {
         return None;
     };
-    let Some(attr) = text_in(value, "attr") else {
+    let Some(attr) = fields.text(Key::Attr) else {
         return None;
     };
-    let Some(kind) = text_in(value, "type") else {
+    let Some(kind) = fields.text(Key::Type) else {
         return None;
     };
-    let Some(given) = field(value, "value") else {
+    let Some(given) = fields.field(Key::Value) else {
         return None;
     };
     let Some(value) = typed_in(kind, given) else {
@@ -191,21 +211,22 @@ fn set_in<'a>(value: &Value<'a>) -> Option<Request<'a>>
     Some(Request::Set { node, attr, value })
 }
 
-fn unset_in<'a>(value: &Value<'a>) -> Option<Request<'a>>
-    ensures { option_map asked result ≡ unset_of (view value.now) }
+fn unset_in<'a>(fields: &Fields<'_, 'a>) -> Option<Request<'a>>
+    requires { AreFound fields.now }
+    ensures { option_map asked result ≡ unset_of (whole fields.now) }
 {
-    let Some(node) = u64_in(value, "node") else {
+    let Some(node) = fields.number(Key::Node) else {
         return None;
     };
-    let Some(attr) = text_in(value, "attr") else {
+    let Some(attr) = fields.text(Key::Attr) else {
         return None;
     };
     Some(Request::Unset { node, attr })
 }
 
 // A value of one of the five attribute types, given the type's text.
-fn typed_in<'a>(kind: &str, value: &Value<'a>) -> Option<View<'a>>
-    ensures { option_map given result ≡ given_by kind.now (view value.now) }
+fn typed_in<'a>(kind: &str, value: Field<'_, 'a>) -> Option<View<'a>>
+    ensures { option_map given result ≡ given_by kind.now (known value.entry) }
 {
     match kind {
         "CSTR" => {
@@ -243,9 +264,9 @@ fn typed_in<'a>(kind: &str, value: &Value<'a>) -> Option<View<'a>>
 }
 
 // The whole number in a value, if it fits into 32 bits with a sign.
-fn i32_of(value: &Value<'_>) -> Option<i32>
+fn i32_of(value: Field<'_, '_>) -> Option<i32>
     ensures { option_map (λ n. given_number (Int32 n)) result
-        ≡ option_and_then within_i32 (option_and_then as_i64 (as_number (view value.now))) }
+        ≡ option_and_then within_i32 (option_and_then as_i64 (as_number (known value.entry))) }
 {
     let Some(number) = i64_of(value) else {
         return None;
@@ -257,9 +278,9 @@ fn i32_of(value: &Value<'_>) -> Option<i32>
 }
 
 // The whole number in a value, if it fits into 32 bits without a sign.
-fn u32_of(value: &Value<'_>) -> Option<u32>
+fn u32_of(value: Field<'_, '_>) -> Option<u32>
     ensures { option_map (λ n. given_number (UInt32 n)) result
-        ≡ option_and_then within_u32 (option_and_then as_u64 (as_number (view value.now))) }
+        ≡ option_and_then within_u32 (option_and_then as_u64 (as_number (known value.entry))) }
 {
     let Some(number) = u64_of(value) else {
         return None;
@@ -270,19 +291,20 @@ fn u32_of(value: &Value<'_>) -> Option<u32>
     Some(number as u32)
 }
 
-fn open_in<'a>(value: &Value<'a>) -> Option<Request<'a>>
-    ensures { option_map asked result ≡ open_of (view value.now) }
+fn open_in<'a>(fields: &Fields<'_, 'a>) -> Option<Request<'a>>
+    requires { AreFound fields.now }
+    ensures { option_map asked result ≡ open_of (whole fields.now) }
 {
-    let Some(query) = text_in(value, "query") else {
+    let Some(query) = fields.text(Key::Query) else {
         return None;
     };
-    let Some(port) = u64_in(value, "port") else {
+    let Some(port) = fields.number(Key::Port) else {
         return None;
     };
-    let Some(backlog) = u64_in(value, "backlog") else {
+    let Some(backlog) = fields.number(Key::Backlog) else {
         return None;
     };
-    let Some(moved) = bool_or_false(value, "moved") else {
+    let Some(moved) = bool_or_false(fields, Key::Moved) else {
         return None;
     };
     Some(Request::Open {
@@ -293,81 +315,90 @@ fn open_in<'a>(value: &Value<'a>) -> Option<Request<'a>>
     })
 }
 
-fn act_in<'a>(value: &Value<'a>, act: Act) -> Option<Request<'a>>
-    ensures { option_map asked result ≡ act_of act (view value.now) }
+fn act_in<'a>(fields: &Fields<'_, 'a>, act: Act) -> Option<Request<'a>>
+    requires { AreFound fields.now }
+    ensures { option_map asked result ≡ act_of act (whole fields.now) }
 {
-    let slot = u64_in(value, "slot")?;
+    let slot = fields.number(Key::Slot)?;
     Some(Request::At { slot, act })
 }
 
-fn find_in<'a>(value: &Value<'a>) -> Option<Request<'a>>
-    ensures { option_map asked result ≡ find_of (view value.now) }
+fn find_in<'a>(fields: &Fields<'_, 'a>) -> Option<Request<'a>>
+    requires { AreFound fields.now }
+    ensures { option_map asked result ≡ find_of (whole fields.now) }
 {
-    let Some(name) = text_in(value, "name") else {
+    let Some(name) = fields.text(Key::Name) else {
         return None;
     };
-    let Some(dir) = u64_or(value, "dir", 1) else {
+    let Some(dir) = u64_or(fields, Key::Dir, 1) else {
         return None;
     };
     Some(Request::Find { dir, name })
 }
 
-fn entry_in<'a>(value: &Value<'a>) -> Option<Request<'a>>
-    ensures { option_map asked result ≡ entry_of (view value.now) }
+fn entry_in<'a>(fields: &Fields<'_, 'a>) -> Option<Request<'a>>
+    requires { AreFound fields.now }
+    ensures { option_map asked result ≡ entry_of (whole fields.now) }
 {
-    let node = u64_in(value, "node")?;
+    let node = fields.number(Key::Node)?;
     Some(Request::Entry { node })
 }
 
-fn fetch_in<'a>(value: &Value<'a>) -> Option<Request<'a>>
-    ensures { option_map asked result ≡ fetch_of (view value.now) }
+fn fetch_in<'a>(fields: &Fields<'_, 'a>) -> Option<Request<'a>>
+    requires { AreFound fields.now }
+    ensures { option_map asked result ≡ fetch_of (whole fields.now) }
 {
-    let query = text_in(value, "query")?;
+    let query = fields.text(Key::Query)?;
     Some(Request::Fetch { query })
 }
 
-fn rebuilt_in<'a>(value: &Value<'a>) -> Option<Request<'a>>
-    ensures { option_map asked result ≡ rebuilt_of (view value.now) }
+fn rebuilt_in<'a>(fields: &Fields<'_, 'a>) -> Option<Request<'a>>
+    requires { AreFound fields.now }
+    ensures { option_map asked result ≡ rebuilt_of (whole fields.now) }
 {
-    let slot = u64_in(value, "slot")?;
+    let slot = fields.number(Key::Slot)?;
     Some(Request::Rebuilt { slot })
 }
 
 // A whole number from 0 up, or the default if the field is absent.
-fn u64_or(value: &Value<'_>, key: &str, default: u64) -> Option<u64>
-    ensures { result ≡ u64_or default (get key.now (view value.now)) }
+fn u64_or(fields: &Fields<'_, '_>, key: Key, default: u64) -> Option<u64>
+    requires { AreFound fields.now }
+    ensures { result ≡ u64_or default (get (name_of key) (whole fields.now)) }
 {
-    match field(value, key) {
+    match fields.field(key) {
         None => Some(default),
         Some(found) => u64_of(found),
     }
 }
 
 // A whole number of 64 bits with a sign, or 0 if the field is absent.
-fn i64_or_zero(value: &Value<'_>, key: &str) -> Option<i64>
-    ensures { result ≡ i64_or (pos 0) (get key.now (view value.now)) }
+fn i64_or_zero(fields: &Fields<'_, '_>, key: Key) -> Option<i64>
+    requires { AreFound fields.now }
+    ensures { result ≡ i64_or (pos 0) (get (name_of key) (whole fields.now)) }
 {
-    match field(value, key) {
+    match fields.field(key) {
         None => Some(0),
         Some(found) => i64_of(found),
     }
 }
 
 // A truth value, or false if the field is absent.
-fn bool_or_false(value: &Value<'_>, key: &str) -> Option<bool>
-    ensures { result ≡ flag_or false (get key.now (view value.now)) }
+fn bool_or_false(fields: &Fields<'_, '_>, key: Key) -> Option<bool>
+    requires { AreFound fields.now }
+    ensures { result ≡ flag_or false (get (name_of key) (whole fields.now)) }
 {
-    match field(value, key) {
+    match fields.field(key) {
         None => Some(false),
         Some(found) => bool_of(found),
     }
 }
 
 // The kind, or a file if the field is absent.
-fn kind_or_file(value: &Value<'_>) -> Option<Kind>
-    ensures { result ≡ kind_or File (get (codes "kind") (view value.now)) }
+fn kind_or_file(fields: &Fields<'_, '_>) -> Option<Kind>
+    requires { AreFound fields.now }
+    ensures { result ≡ kind_or File (get (codes "kind") (whole fields.now)) }
 {
-    let Some(found) = field(value, "kind") else {
+    let Some(found) = fields.field(Key::Kind) else {
         return Some(Kind::File);
     };
     let Some(text) = text_of(found) else {

@@ -1,6 +1,6 @@
 //! Texts at the borders of what serde_json takes, read by it and by lq_script_json.
 use json::{Scratch, Value};
-use lq_script_json::{bool_of, field, i64_of, read, text_of, u64_of};
+use lq_script_json::{Field, bool_of, field, i64_of, read, text_of, u64_of};
 use lq_value::Refusal;
 use std::alloc::{AllocError, Global};
 use std::test::Fail;
@@ -75,10 +75,11 @@ const ENDS: [&str; 12] = [
 
 // Whether both have the same number, text or truth value, or none.
 fn is_same(plain: &serde_json::Value, value: &Value<'_>) -> bool {
-    plain.as_u64() == u64_of(value)
-        && plain.as_i64() == i64_of(value)
-        && plain.as_str() == text_of(value)
-        && plain.as_bool() == bool_of(value)
+    let field = Field::Given(value);
+    plain.as_u64() == u64_of(field)
+        && plain.as_i64() == i64_of(field)
+        && plain.as_str() == text_of(field)
+        && plain.as_bool() == bool_of(field)
 }
 
 // Whether both have the same field of that key, as far as its kind goes.

@@ -6,16 +6,16 @@ use Rattle.lq_script_request.proofs.asking.value_in.Goals as goal
 
 pub returns-in_default-clause-refused : goal.returns-in_default-clause-refused
 returns-in_default-clause-refused c =
-    inr (asked-not_utf8 c.args.line.now c.in_default.ensures.cases.0)
+    inr (asked-not_utf8 c.args.line.now c.in_default.ensures.other)
 
 pub returns-clause-value : goal.returns-clause-value
 returns-clause-value c =
-    let text = c.in-Ok.ensures.cases in
+    let text = c.in-Some.ensures.text in
     let asks = asked-utf8 c.args.line.now text.1 ∙ ap asked_from (ap read (sym text.0)) in
-    value-then c.read.result (λ value is. asks ∙ ap asked_from is) c.read.ensures.value
+    value-then c.parse.result (λ value is. asks ∙ ap asked_from is) c.parse.ensures.value
 
 pub returns-clause-refused : goal.returns-clause-refused
 returns-clause-refused c =
-    let text = c.in-Ok.ensures.cases in
+    let text = c.in-Some.ensures.text in
     let asks = asked-utf8 c.args.line.now text.1 ∙ ap asked_from (ap read (sym text.0)) in
-    error-then c.read.result (λ e. line-refused c.args.line.now _ e asks) c.read.ensures.refused
+    error-then c.parse.result (λ e. line-refused c.args.line.now _ e asks) c.parse.ensures.refused

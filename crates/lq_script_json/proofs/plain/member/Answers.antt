@@ -4,7 +4,7 @@ use Rattle.std.specs.Str.{bytes_eq}
 use Rattle.json.specs.Find.{get_member}
 use Rattle.json.specs.Value.{value_view, members_view}
 use Rattle.json.proofs.Trees.{get_member-push}
-use Rattle.lq_script_json.proofs.fields.member.Goals as goal
+use Rattle.lq_script_json.proofs.plain.member.Goals as goal
 
 pub returns-then-same_text : goal.returns-then-same_text
 returns-then-same_text c =

@@ -4,7 +4,7 @@ use Rattle.lq_script_json.proofs.DataLemmas.{get-data_of, viewed}
 use Rattle.json.specs.Find.{get, get_member}
 use Rattle.json.specs.Value.{members_view, value_view}
 use Rattle.json.proofs.Trees.{view-Object}
-use Rattle.lq_script_json.proofs.fields.field.Goals as goal
+use Rattle.lq_script_json.proofs.plain.field.Goals as goal
 
 pub returns-in-Object : goal.returns-in-Object
 returns-in-Object c =

@@ -1,7 +1,7 @@
 use Rattle.std.proofs.Common.{◌≡◌, ◌≤◌, length, take}
 use Rattle.json.specs.Find.{get_member}
 use Rattle.json.specs.Value.{members_view}
-use Rattle.lq_script_json.proofs.fields.member.Given as goal
+use Rattle.lq_script_json.proofs.plain.member.Given as goal
 
 -- what is sought is among those that are left
 abbrev pub invariant-loop-left : goal.invariant-loop-left
