@@ -1,3 +1,4 @@
 pub mod Held
+pub mod Messages
 pub mod Passing
 pub mod Laws

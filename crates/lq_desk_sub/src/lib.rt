@@ -7,6 +7,8 @@
 #![tactic(auto)]
 
 mod laws;
+mod live_query;
+mod messages;
 mod read;
 mod sub;
 

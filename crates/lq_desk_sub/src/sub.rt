@@ -1,48 +1,34 @@
 //! One subscription.
-ghost use Rattle.std.specs.Prelude.{◌≡◌, ℕ, ◌+◌, ◌<◌, ◌≤◌, ◌^◌, [], ◌++◌, length, vec_len, nat_lt, is_some, true, false, None, Some, IfOk, OnOk, OnErr, IsTrue, IfNone, IfSome};
-ghost use Rattle.std.specs.VecDeque.{deque_len, deque_capacity};
+ghost use Rattle.std.specs.Prelude.{◌≡◌, ◌+◌, ◌<◌, ◌^◌, [], length, nat_lt, is_some, true, false, None, Some, IfOk, OnOk, OnErr, IsTrue, IfSome};
 ghost use Rattle.lq_value.specs.Refusal.{IsRefusedBy};
-ghost use Rattle.lq_predicate.specs.Names.{names_of};
-ghost use Rattle.lq_volume.specs.Change.{IsLawful};
-ghost use Rattle.lq_update.specs.Touched.{matches_of};
-ghost use Rattle.lq_update.specs.Updates.{step_of};
-ghost use Rattle.lq_desk_sub.specs.Passing.{are_written, is_among, passes_over};
+ghost use Rattle.lq_volume.specs.State.{record_at};
+ghost use Rattle.lq_volume.specs.Change.{after, node_of, IsLawful};
+ghost use Rattle.lq_update.specs.Touched.{is_match};
 
-use lq_predicate::{Predicate, Spans, names, truth_goes_by_names};
-use lq_update::{
-    Cause, Mark, Matches, Message, Parcel, changes_pass_over, matches_of, may_tell, step_matched,
-    writes_beside,
-};
-use lq_value::{AttrName, Refusal, same_text};
+use crate::live_query::LiveQuery;
+use crate::messages::Messages;
+use lq_predicate::Predicate;
+use lq_update::{Cause, Mark, Matches, Parcel};
+use lq_value::Refusal;
 use lq_volume::{Change, Planned, Volume};
 use std::alloc::Global;
-use std::collections::VecDeque;
 use std::marker::Model;
-use std::mem::replace;
 
 /// The largest backlog, in messages.
 pub const MAX_BACKLOG: u64 = 65_536;
 
-/// One subscription: its query and the names in it, the messages that it holds, and the messages of
-/// a change that isn't made yet, for which there is always room.
+/// One subscription: its query, the messages that it holds and those of a change that isn't made
+/// yet, and its mark.
 pub struct Sub {
     alloc: Global,
-    predicate: Predicate,
-    names: Vec<AttrName>,
-    // Whether a write alters what one of the query's names shows.
-    sees_writes: bool,
-    // The spans of the numbers that the query compares sizes and times with.
-    spans: Spans,
+    query: LiveQuery,
     moved: bool,
     opened: u64,
     backlog: u64,
     sent: u64,
-    messages: VecDeque<Message>,
+    messages: Messages,
     mark: Option<Mark>,
     mark_out: bool,
-    ready: Vec<Message>,
-    before: u64,
-    lent: bool,
 }
 
 // Dropping one is a single call, instead of code at each place.
@@ -50,10 +36,7 @@ impl Drop for Sub {
     fn drop(self) {
         let Sub {
             alloc: _,
-            predicate: _,
-            names: _,
-            sees_writes: _,
-            spans: _,
+            query: _,
             moved: _,
             opened: _,
             backlog: _,
@@ -61,20 +44,12 @@ impl Drop for Sub {
             messages: _,
             mark: _,
             mark_out: _,
-            ready: _,
-            before: _,
-            lent: _,
         } = self;
     }
 }
 
 impl Model for Sub {
-    ghost use Rattle.std.specs.Prelude.{◌≡◌, ◌+◌, ◌≤◌, vec_len, if◌then◌else◌};
-    ghost use Rattle.lq_predicate.specs.Names.{names_of};
-    ghost use Rattle.lq_predicate.specs.Span.{spans_of};
-    ghost use Rattle.std.specs.VecDeque.{deque_len, deque_capacity};
     ghost use Rattle.lq_desk_sub.specs.Held.{Prepared};
-    ghost use Rattle.lq_desk_sub.specs.Passing.{are_written};
     ghost use Rattle.std.specs.Coded.{codes};
     ghost use Rattle.lq_predicate.specs.QueryCode.{coded_query};
 
@@ -84,25 +59,19 @@ impl Model for Sub {
 
     ghost view = { λ s. record {
       held = record {
-        query = s.predicate;
+        query = s.query;
         moved = s.moved;
         opened = s.opened;
         backlog = s.backlog;
         sent = s.sent;
-        messages = s.messages.items;
+        messages = s.messages.held;
         mark = s.mark;
         mark_out = s.mark_out;
       };
-      ready = s.ready.items;
-      before = s.before;
-      lent = s.lent;
+      ready = s.messages.ready;
+      before = s.messages.before;
+      lent = s.messages.lent;
     } };
-
-    ghost invariant = { λ s. (deque_len s.messages + vec_len s.ready
-        + (if s.lent then 1 else 0) ≤ deque_capacity s.messages)
-        × (s.names.items ≡ names_of s.predicate)
-        × (s.sees_writes ≡ are_written (names_of s.predicate))
-        × (s.spans ≡ spans_of s.predicate) };
 }
 
 impl Sub {
@@ -124,24 +93,16 @@ impl Sub {
           lent = false;
         }) }
     {
-        let names = names(alloc, predicate)?;
-        let sees_writes = are_written(&names);
         Ok(Sub {
             alloc,
-            predicate: predicate.copy()?,
-            names,
-            sees_writes,
-            spans: Spans::new(predicate),
+            query: LiveQuery::new(alloc, predicate)?,
             moved,
             opened: at,
             backlog,
             sent: 0,
-            messages: VecDeque::new(alloc),
+            messages: Messages::new(alloc),
             mark: None,
             mark_out: false,
-            ready: Vec::new(alloc),
-            before: 0,
-            lent: false,
         })
     }
 
@@ -163,7 +124,7 @@ impl Sub {
     pub fn held(&self) -> u64
         ensures { result ≡ length self.now.held.messages }
     {
-        self.messages.len() as u64
+        self.messages.held() as u64
     }
 
     /// The mark, if the subscription has ended. It takes no memory.
@@ -204,97 +165,47 @@ impl Sub {
         ensures err { OnErr result (self.new ≡ self.old) }
     {
         let before = planned.applied().change - 1;
-        match self.asked(planned) {
+        match self.query.asked(planned) {
             None => {
-                self.forget_ready(before);
+                self.messages.forget_ready(before);
                 Ok(())
             }
-            Some(matches) => self.make_ready(planned, matches, before),
+            Some((matched_before, matches_after)) => {
+                self.make_ready(planned, matched_before, matches_after)
+            }
         }
     }
 
-    // What the query matches, if the change may have messages for it.
-    #[inline(always)]
-    fn asked(&self, planned: &Planned<'_>) -> Option<Matches>
-        ensures none { (seq : ℕ) → IfNone result (step_of self.now.held.query self.now.held.moved
-            planned.now.before planned.now.change seq ≡ []) }
-        ensures matches { IfSome result (λ matches. matches ≡ matches_of self.now.held.query
-            planned.now.before planned.now.change) }
-    {
-        changes_pass_over();
-        truth_goes_by_names();
-        // For its clauses `lawful` and `volume`.
-        let _ = planned.applied();
-        if self.passes_over(planned.change()) || writes_beside(&self.spans, planned) {
-            return None;
-        }
-        let matches = matches_of(&self.predicate, planned);
-        if may_tell(&self.predicate, planned, matches) {
-            Some(matches)
-        } else {
-            None
-        }
-    }
-
-    // Makes the messages of a change that may have some, after `before` changes. This is a separate
-    // function because most changes have no message for most queries.
+    // Makes the messages of a change that may have some, by whether the query matches the entry of
+    // its own node before the change, and after it. This is a separate function because most
+    // changes have no message for most queries.
     #[inline(never)]
     fn make_ready(
         &mut self,
         planned: &Planned<'_>,
-        matches: Matches,
-        before: u64,
+        matched_before: bool,
+        matches_after: bool,
     ) -> Result<(), Refusal>
         requires few { self.old.held.sent < 2 ^ 63 }
-        requires live { IsTrue (is_live self.old.held) }
-        requires matches { matches ≡ matches_of self.old.held.query planned.now.before
-            planned.now.change }
-        requires before { before ≡ planned.now.before.number }
+        requires asked_before { matched_before ≡ is_match self.old.held.query
+            (record_at planned.now.before (node_of planned.now.before planned.now.change)) }
+        requires asked_after { matches_after ≡ is_match self.old.held.query
+            (record_at (after planned.now.before planned.now.change)
+            (node_of planned.now.before planned.now.change)) }
         ensures refused { IsRefusedBy result None }
         ensures ok { OnOk result
             (self.new ≡ prepared planned.now.before planned.now.change self.old) }
         ensures err { OnErr result (self.new ≡ self.old) }
     {
+        let matches = Matches {
+            predicate: self.query.predicate(),
+            planned,
+            matched_before,
+            matches_after,
+        };
         let first = self.sent + 1;
-        let (alloc, query, moved) = (self.alloc, &self.predicate, self.moved);
-        let step = step_matched(alloc, query, planned, matches, first, moved)?;
-        self.messages.reserve(step.len() + 1)?;
-        self.ready = step;
-        self.before = before;
-        Ok(())
-    }
-
-    // Drops the messages made ready: the change after this many has none.
-    #[inline(always)]
-    fn forget_ready(&mut self, before: u64)
-        ensures { self.new ≡ record self.old { ready = []; before = before } }
-    {
-        if !self.ready.is_empty() {
-            self.drop_ready();
-        }
-        self.before = before;
-    }
-
-    // Drops the messages made ready.
-    #[inline(never)]
-    fn drop_ready(&mut self)
-        ensures { self.new ≡ record self.old { ready = [] } }
-    {
-        self.ready = Vec::new(self.alloc);
-    }
-
-    // Whether a change has no message for the query, by the names that it alters.
-    #[inline(always)]
-    fn passes_over(&self, change: &Change) -> bool
-        ensures { result ≡ passes_over (names_of self.now.held.query) change.now }
-    {
-        match change {
-            Change::Create { .. } | Change::Remove { .. } | Change::Move { .. } => false,
-            Change::Write { .. } => !self.sees_writes,
-            Change::SetAttr { attr, .. } | Change::RemoveAttr { attr, .. } => {
-                !is_among(&self.names, attr.as_str())
-            }
-        }
+        self.messages
+            .make_ready(self.alloc, &matches, first, self.moved)
     }
 
     /// Holds the messages made ready for a change. If they are more than the backlog has room for,
@@ -304,32 +215,32 @@ impl Sub {
         requires live { IsTrue (is_live self.old.held) }
         ensures { self.new ≡ committed self.old }
     {
-        let ready = replace(&mut self.ready, Vec::new(self.alloc));
-        let room = self.messages.len() + ready.len();
-        if !ready.is_empty() && room as u64 > self.backlog {
+        let ready = self.messages.ready() as u64;
+        if ready > 0 && self.messages.len() as u64 > self.backlog {
+            self.messages.drop_ready();
             self.mark = Some(Mark {
                 seq: self.sent + 1,
-                change: self.before,
+                change: self.messages.before(),
                 cause: Cause::Overrun,
             });
             return;
         }
-        self.sent += ready.len() as u64;
-        append(&mut self.messages, ready);
+        self.messages.hold_ready();
+        self.sent += ready;
     }
 
     /// Whether messages of a change are made and not committed yet. It takes no memory.
     pub fn has_ready(&self) -> bool
         ensures { result ≡ nat_lt 0 (length self.now.ready) }
     {
-        !self.ready.is_empty()
+        self.messages.ready() > 0
     }
 
     /// Whether `next` has a parcel to give. It takes no memory.
     pub fn has_next(&self) -> bool
         ensures { result ≡ is_some (next_parcel self.now.held) }
     {
-        if !self.messages.is_empty() {
+        if self.messages.held() > 0 {
             return true;
         }
         if self.mark_out {
@@ -364,8 +275,7 @@ impl Sub {
         ensures ready { self.new.ready ≡ self.old.ready }
         ensures before { self.new.before ≡ self.old.before }
     {
-        if let Some(message) = self.messages.pop_front() {
-            self.lent = true;
+        if let Some(message) = self.messages.take() {
             return Some(Parcel::Update(message));
         }
         if self.mark_out {
@@ -389,38 +299,8 @@ impl Sub {
         ensures before { self.new.before ≡ self.old.before }
     {
         match parcel {
-            Parcel::Update(message) => {
-                self.lent = false;
-                self.messages.push_front_reserved(message);
-            }
+            Parcel::Update(message) => self.messages.put_back(message),
             Parcel::Fin(_) => self.mark_out = false,
         }
     }
-}
-
-// Appends all messages; there is room for them.
-fn append(messages: &mut VecDeque<Message>, ready: Vec<Message>)
-    requires { deque_len messages.old + vec_len ready ≤ deque_capacity messages.old }
-    ensures items { messages.new.items ≡ messages.old.items ++ ready.items }
-    ensures len { deque_len messages.new ≡ deque_len messages.old + vec_len ready }
-    ensures capacity { deque_capacity messages.new ≡ deque_capacity messages.old }
-{
-    for message in ready {
-        messages.push_back_reserved(message);
-    }
-}
-
-// Whether a write alters what an entry shows under one of these names.
-fn are_written(names: &[AttrName]) -> bool
-    ensures { result ≡ are_written names.now }
-{
-    is_among(names, "size") || is_among(names, "last_modified")
-}
-
-// Whether a name is one of these.
-#[inline(never)]
-fn is_among(names: &[AttrName], name: &str) -> bool
-    ensures { result ≡ is_among names.now name.now }
-{
-    names.iter().any(|other| same_text(name, other.as_str()))
 }

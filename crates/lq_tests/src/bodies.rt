@@ -4,7 +4,7 @@ ghost use Rattle.lq_volume.specs.Change.{IsLawful};
 use crate::act::{Act, Draws};
 use crate::plain;
 use lq_predicate::{Predicate, read};
-use lq_update::{Message, Opcode, matches_of, may_tell, step, step_planned};
+use lq_update::{Message, Opcode, matches_of, step, step_planned};
 use lq_volume::{Change, Planned, Volume};
 use std::alloc::Global;
 use std::test::Fail;
@@ -74,7 +74,7 @@ fn are_same(one: &[Message], other: &[Message]) -> bool {
 /// Whether `may_tell` says no just where there is no message and nothing is clobbered.
 fn is_foreseen(predicate: &Predicate, planned: &Planned<'_>, plain: &[Message]) -> bool {
     let is_quiet = plain.is_empty() && planned.clobbered().is_none();
-    may_tell(predicate, planned, matches_of(predicate, planned)) != is_quiet
+    matches_of(predicate, planned).may_tell() != is_quiet
 }
 
 /// How many messages a change tells a predicate, by both bodies the same.

@@ -17,7 +17,7 @@ use Rattle.lq_volume.specs.State.{State, Record, Rises, record_at, IsVolume}
 use Rattle.lq_volume.specs.Change.{after, clobbered, node_of, touched_by}
 use Rattle.lq_volume.specs.Result.{entry_of, shown, result_of, match_at, entry_if}
 use Rattle.lq_update.specs.declared.message.Opcode.{Opcode}
-use Rattle.lq_update.specs.declared.message.Opcode.TheVariants.{Removed}
+use Rattle.lq_update.specs.declared.message.Opcode.TheVariants.{Created, Removed}
 use Rattle.lq_update.specs.Diff.{same_entry, missing, diff}
 use Rattle.lq_update.specs.Touched.{left, left_at, told_first, told_last}
 use Rattle.lq_update.proofs.ToldLemmas.{Has, Lacks, told-among}
@@ -452,6 +452,50 @@ module _ (q : Query) (moved : Bool) (s : State) (c : Change) (seq number : ℕ)
   told-taken now taken other low node is there other_is node_is low_is =
       told _ (rw (low_is, other_is, node_is, removed_is, ← is)
       (removed-taken now q s _ _ taken there))
+
+-- the same, where an entry left, none came, and nothing else is taken away
+pub told-left : (q : Query) (moved : Bool) (s : State) (c : Change) (seq number : ℕ) (e : Entry)
+    → IsVolume s → IsVolume (after s c)
+    → ((n : ℕ) → AllByRecursion (λ k. n ≢ k) (touched_by s c)
+    → record_at s n ≡ record_at (after s c) n)
+    → ((n : ℕ) → clobbered s c ≡ Some n → (n ≢ node_of s c) × (record_at (after s c) n ≡ None))
+    → number ≡ s.number + 1
+    → left_at q s (after s c) (node_of s c) ≡ Some e
+    → left_at q (after s c) s (node_of s c) ≡ None → clobbered s c ≡ None
+    → numbered seq number ((Removed, e) ∷ []) ≡ step_of q moved s c seq
+told-left q moved s c seq number e v w same gone number_is left_is came_is none =
+    told-alone q moved s c seq number (Some e) None v w same gone number_is
+    (rw (left_is, came_is) (first moved)) (rw (left_is, came_is) (last moved)) none
+  where
+    first : (b : Bool) → Some e ≡ told_first b (Some e) None
+    first true = refl
+    first false = refl
+
+    last : (b : Bool) → None ≡ told_last b (Some e) None
+    last true = refl
+    last false = refl
+
+-- and where an entry came, and none left
+pub told-came : (q : Query) (moved : Bool) (s : State) (c : Change) (seq number : ℕ) (e : Entry)
+    → IsVolume s → IsVolume (after s c)
+    → ((n : ℕ) → AllByRecursion (λ k. n ≢ k) (touched_by s c)
+    → record_at s n ≡ record_at (after s c) n)
+    → ((n : ℕ) → clobbered s c ≡ Some n → (n ≢ node_of s c) × (record_at (after s c) n ≡ None))
+    → number ≡ s.number + 1
+    → left_at q s (after s c) (node_of s c) ≡ None
+    → left_at q (after s c) s (node_of s c) ≡ Some e → clobbered s c ≡ None
+    → numbered seq number ((Created, e) ∷ []) ≡ step_of q moved s c seq
+told-came q moved s c seq number e v w same gone number_is left_is came_is none =
+    told-alone q moved s c seq number None (Some (Created, e)) v w same gone number_is
+    (rw (left_is, came_is) (first moved)) (rw (left_is, came_is) (last moved)) none
+  where
+    first : (b : Bool) → None ≡ told_first b None (Some e)
+    first true = refl
+    first false = refl
+
+    last : (b : Bool) → Some (Created, e) ≡ told_last b None (Some e)
+    last true = refl
+    last false = refl
 
 -- an option that has no value
 pub none-of : {A : Type 0} (o : Option A) → is_some o ≡ false → o ≡ None

@@ -8,7 +8,6 @@ use Rattle.lq_volume.specs.declared.change.Change.{Change}
 use Rattle.lq_volume.specs.State.{State, Record, record_at}
 use Rattle.lq_volume.specs.Change.{after, node_of}
 use Rattle.lq_volume.specs.Result.{entry_of, match_at, shown}
-use Rattle.lq_update.specs.declared.matches.Matches.{Matches}
 use Rattle.lq_update.specs.declared.message.Opcode.{Opcode}
 use Rattle.lq_update.specs.declared.message.Opcode.TheVariants.{Created, Moved}
 use Rattle.lq_update.specs.Diff.{same_entry}
@@ -16,13 +15,6 @@ use Rattle.lq_update.specs.Diff.{same_entry}
 -- whether there is a record, and it matches the query
 abbrev pub is_match : Query → Option Record → Bool
 is_match q seen = option_map_or (λ r. truth q (shown r)) seen false
-
--- whether the query matches at a change's own node, before the change and after it
-abbrev pub matches_of : Query → State → Change → Matches
-matches_of q s c = record {
-  before = is_match q (record_at s (node_of s c));
-  after = is_match q (record_at (after s c) (node_of s c));
-}
 
 -- the entry of a record at a node
 abbrev pub entry_at : ℕ → Option Record → Option Entry

@@ -5,6 +5,8 @@
 //! waits. Begin with `message`, then `step`.
 #![tactic(auto)]
 
+mod beside;
+mod difference;
 mod fold;
 mod indexed_rebuild;
 mod latest;
@@ -16,7 +18,9 @@ mod message;
 mod parcel;
 mod rebuild;
 mod stepping;
+mod telling;
 
+pub use beside::writes_beside;
 pub use indexed_rebuild::IndexedRebuild;
 pub use laws::{
     changes_add_steps, changes_pass_over, foldings_follow, folds_give_results, messages_fit_in,
@@ -28,4 +32,4 @@ pub use matches::{Matches, matches_of};
 pub use message::{Message, Opcode};
 pub use parcel::Parcel;
 pub use rebuild::Rebuild;
-pub use stepping::{may_tell, step, step_matched, step_planned, writes_beside};
+pub use stepping::{MAX_STEP, step, step_planned};

@@ -1,7 +1,7 @@
 use Rattle.std.proofs.Common.{◌≡◌, ◌+◌, ◌++◌, vec_len}
 use Rattle.std.specs.VecDeque.{deque_len, deque_capacity}
 use Rattle.std.specs.Vec.Iter.{into_iter_items, into_iter_len}
-use Rattle.lq_desk_sub.proofs.sub.append.Given as goal
+use Rattle.lq_desk_sub.proofs.messages.append.Given as goal
 
 -- the messages so far, with those that are left
 abbrev pub invariant-loop-message : goal.invariant-loop-message

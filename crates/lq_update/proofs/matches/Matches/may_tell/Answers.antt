@@ -3,13 +3,13 @@ use Rattle.std.specs.Option.{option_map, option_copied}
 use Rattle.lq_volume.specs.Change.{after, clobbered, node_of}
 use Rattle.lq_update.specs.Touched.{entry_at, left_at}
 use Rattle.lq_update.proofs.TouchedLemmas.{told-alone, told-nothing, none-of}
-use Rattle.lq_update.proofs.stepping.may_tell.Goals as goal
+use Rattle.lq_update.proofs.matches.Matches.may_tell.Goals as goal
 
 pub returns-then-is_none-3 : goal.returns-then-is_none-3
 returns-then-is_none-3 c moved seq is =
-    let s = c.args.planned.now.before in
-    let change = c.args.planned.now.change in
-    let q = c.args.predicate.now in
+    let s = c.args.self.now.planned.now.before in
+    let change = c.args.self.now.planned.now.change in
+    let q = c.args.self.now.predicate.now in
     let node = node_of s change in
     let volume = c.applied.ensures.volume in
     let lawful = c.applied.ensures.lawful in

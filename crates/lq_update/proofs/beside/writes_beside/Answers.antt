@@ -11,7 +11,7 @@ use Rattle.lq_volume.specs.Result.{match_at}
 use Rattle.lq_update.specs.Touched.{left, left_at}
 use Rattle.lq_update.proofs.PassingOver.{match-written}
 use Rattle.lq_update.proofs.TouchedLemmas.{left-same, told-alone, told-nothing}
-use Rattle.lq_update.proofs.stepping.writes_beside.Goals as goal
+use Rattle.lq_update.proofs.beside.writes_beside.Goals as goal
 
 pub returns-then-is_beside_sizes : goal.returns-then-is_beside_sizes
 returns-then-is_beside_sizes c q moved seq is spans_are =

@@ -1,0 +1,138 @@
+//! The query of a subscription, and what is found of it once.
+ghost use Rattle.std.specs.Prelude.{◌≡◌, ℕ, Bool, true, [], IfNone, IfOk, IfSome, None};
+ghost use Rattle.lq_value.specs.Refusal.{IsRefusedBy};
+ghost use Rattle.lq_predicate.specs.Names.{names_of};
+ghost use Rattle.lq_volume.specs.State.{record_at};
+ghost use Rattle.lq_volume.specs.Change.{after, node_of};
+ghost use Rattle.lq_update.specs.Touched.{is_match};
+ghost use Rattle.lq_update.specs.Updates.{step_of};
+ghost use Rattle.lq_desk_sub.specs.Passing.{are_written, is_among, passes_over};
+
+use lq_predicate::{Predicate, Spans, names, truth_goes_by_names};
+use lq_update::{changes_pass_over, matches_of, writes_beside};
+use lq_value::{AttrName, Refusal, same_text};
+use lq_volume::{Change, Planned};
+use std::alloc::Global;
+use std::marker::Model;
+
+/// The query of a subscription, with the names in it and the spans of its numbers, which say of
+/// many changes that they have no message.
+#[derive(Drop)]
+pub struct LiveQuery {
+    predicate: Predicate,
+    names: Vec<AttrName>,
+    // Whether a write alters what one of the query's names shows.
+    sees_writes: bool,
+    // The spans of the numbers that the query compares sizes and times with.
+    spans: Spans,
+}
+
+impl Model for LiveQuery {
+    ghost use Rattle.std.specs.Prelude.{◌≡◌};
+    ghost use Rattle.lq_predicate_formula.specs.Query.{Query};
+    ghost use Rattle.lq_predicate.specs.Names.{names_of};
+    ghost use Rattle.lq_predicate.specs.Span.{spans_of};
+    ghost use Rattle.lq_predicate.specs.QueryCode.{coded_query};
+    ghost use Rattle.lq_desk_sub.specs.Passing.{are_written};
+
+    ghost Value = { Query };
+
+    ghost coded = { coded_query };
+
+    ghost view = { λ q. q.predicate };
+
+    ghost invariant = { λ q. (q.names.items ≡ names_of q.predicate)
+        × (q.sees_writes ≡ are_written (names_of q.predicate))
+        × (q.spans ≡ spans_of q.predicate) };
+}
+
+impl LiveQuery {
+    /// A copy of a predicate, with what is found of it. Refused: `NoMemory`.
+    pub fn new(alloc: Global, predicate: &Predicate) -> Result<LiveQuery, Refusal>
+        ensures refused { IsRefusedBy result None }
+        ensures value { IfOk result (λ query. query ≡ predicate.now) }
+    {
+        let names = names(alloc, predicate)?;
+        let sees_writes = are_written(&names);
+        Ok(LiveQuery {
+            predicate: predicate.copy()?,
+            names,
+            sees_writes,
+            spans: Spans::new(predicate),
+        })
+    }
+
+    /// The predicate.
+    #[inline(always)]
+    pub fn predicate(&self) -> &Predicate
+        ensures { result.now ≡ self.now }
+    {
+        &self.predicate
+    }
+
+    /// Whether the query matches the entry of a change's own node before the change, and after it,
+    /// if the change may have messages for the query. It takes no memory.
+    #[inline(always)]
+    pub fn asked(&self, planned: &Planned<'_>) -> Option<(bool, bool)>
+        ensures none { (moved : Bool) → (seq : ℕ) → IfNone result (step_of self.now moved
+            planned.now.before planned.now.change seq ≡ []) }
+        ensures before { IfSome result (λ asked. asked.0 ≡ is_match self.now
+            (record_at planned.now.before (node_of planned.now.before planned.now.change))) }
+        ensures after { IfSome result (λ asked. asked.1 ≡ is_match self.now
+            (record_at (after planned.now.before planned.now.change)
+            (node_of planned.now.before planned.now.change))) }
+    {
+        if self.passes_over(planned) {
+            return None;
+        }
+        let matches = matches_of(&self.predicate, planned);
+        if matches.may_tell() {
+            Some((matches.matched_before, matches.matches_after))
+        } else {
+            None
+        }
+    }
+
+    // Whether a change has no message for the query, by what the change alters alone: if false, it
+    // may have some.
+    #[inline(always)]
+    fn passes_over(&self, planned: &Planned<'_>) -> bool
+        ensures { (moved : Bool) → (seq : ℕ) → result ≡ true
+            → step_of self.now moved planned.now.before planned.now.change seq ≡ [] }
+    {
+        changes_pass_over();
+        truth_goes_by_names();
+        // For its clauses `lawful` and `volume`.
+        let _ = planned.applied();
+        self.looks_elsewhere(planned.change()) || writes_beside(&self.spans, planned)
+    }
+
+    // Whether a change has no message for the query, by the names that it alters.
+    #[inline(always)]
+    fn looks_elsewhere(&self, change: &Change) -> bool
+        ensures { result ≡ passes_over (names_of self.now) change.now }
+    {
+        match change {
+            Change::Create { .. } | Change::Remove { .. } | Change::Move { .. } => false,
+            Change::Write { .. } => !self.sees_writes,
+            Change::SetAttr { attr, .. } | Change::RemoveAttr { attr, .. } => {
+                !is_among(&self.names, attr.as_str())
+            }
+        }
+    }
+}
+
+// Whether a write alters what an entry shows under one of these names.
+fn are_written(names: &[AttrName]) -> bool
+    ensures { result ≡ are_written names.now }
+{
+    is_among(names, "size") || is_among(names, "last_modified")
+}
+
+// Whether a name is one of these.
+#[inline(never)]
+fn is_among(names: &[AttrName], name: &str) -> bool
+    ensures { result ≡ is_among names.now name.now }
+{
+    names.iter().any(|other| same_text(name, other.as_str()))
+}
