@@ -1,7 +1,6 @@
 -- The slots under the lock show a world of the core.
-use Rattle.std.proofs.Common.{◌≡◌, ℕ, suc, ◌+◌, ◌-◌, ◌<◌, ◌≤◌, Bool, true, false, true≢false, List, [], ◌∷◌, ◌++◌, length, map, take, drop, Option, Some, None, refl, sym, ap, ◌∙◌, subst, arith, length-append, append-nil}
-use Rattle.std.specs.Prelude.{IsSome, IfSome, is_none, nat_lt, slice_index_or, ◌&&◌, if◌then◌else◌}
-use Rattle.std.specs.List.{range_with_len}
+use Rattle.std.proofs.Common.{◌≡◌, ℕ, suc, ◌+◌, ◌-◌, ◌≤◌, Bool, true, false, true≢false, List, [], ◌∷◌, ◌++◌, length, map, drop, Option, Some, None, refl, sym, ap, ◌∙◌, subst, arith, length-append}
+use Rattle.std.specs.Prelude.{IsSome, IfSome, is_none, nat_lt, ◌&&◌, if◌then◌else◌}
 use Rattle.std.proofs.Math.Seq.{drop-append_seam}
 use Rattle.std.proofs.Math.ListN.{drop_of_length-le}
 use Rattle.std.proofs.lemmas.List.FromFn.{get_or-map-range_with_len}
@@ -18,18 +17,17 @@ use Rattle.lq_update.specs.declared.mark.Cause.TheVariants.{Closed, HungUp, Over
 use Rattle.lq_update.specs.Updates.{updates_of, step_of}
 use Rattle.lq_desk_sub.specs.Held.{Held, after_messages, after_messages_by, ended_by, overruns as held_overruns}
 use Rattle.lq_port.specs.End.{all_put}
-use Rattle.lq_desk_world.specs.World.{World, Subscribed, End, covered_by, mark_behind, updates_due, waiting, to_come, overruns, overrun_if, after_change}
+use Rattle.lq_desk_world.specs.World.{Subscribed, End, covered_by, mark_behind, updates_due, waiting, overruns, overrun_if, after_change}
 use Rattle.lq_desk_world.specs.Events.{noticing_if, closing_if}
 use Rattle.lq_server_subscription.specs.declared.delivery.Delivery.{Delivery}
 use Rattle.lq_server_subscription.specs.declared.identity.Identity.{Identity}
 use Rattle.lq_server_subscription.specs.declared.subscription.Subscription.{Subscription}
 use Rattle.lq_server_subscription.specs.Updates.{updates}
 use Rattle.lq_server_subscription.specs.Rule.{message_of, mark_or, messages_in, mark_in}
-use Rattle.lq_server_subscription.specs.Standing.{StandsAt, IsReady, given, moved_mark, upto}
+use Rattle.lq_server_subscription.specs.Standing.{StandsAt, IsReady, moved_mark, upto}
 use Rattle.lq_server_subscription.specs.Marking.{held_committed}
-use Rattle.lq_server_slots.specs.declared.slots.Slots.{Slots}
-use Rattle.lq_server_slots.specs.Slots.{SlotStands, SlotsStand, slot_in}
-use Rattle.lq_server_slots.specs.Shown.{end_of, subscribed, shown_in, shown, mark_to_put, with_mark, IsPassedOn, SlotPassesOn, SlotsShowWorlds, ActsShowWorlds}
+use Rattle.lq_server_slots.specs.Slots.{SlotStands, slot_in}
+use Rattle.lq_server_slots.specs.Shown.{end_of, subscribed, shown_in, mark_to_put, with_mark, IsPassedOn, SlotPassesOn, SlotsShowWorlds, ActsShowWorlds}
 use Rattle.lq_server_slots.proofs.SlotLemmas.{told_length}
 
 -- the opaque list is the query's update list

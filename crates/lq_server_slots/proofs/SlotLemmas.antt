@@ -25,7 +25,7 @@ use Rattle.lq_server_subscription.specs.Rule.{message_of, mark_or, messages_in, 
 use Rattle.lq_server_subscription.specs.Marking.{hung_mark}
 use Rattle.lq_server_subscription.specs.Identity.{identity_of, port_id}
 use Rattle.lq_server_subscription.specs.Standing.{Stands, StandsAt, IsFilled, IsStuck, IsOut, SameButPuts, SameButHeld, moved_mark}
-use Rattle.lq_server_slots.specs.Slots.{IsTaken, SlotStands, asks_of, slot_in, AllStand, OnlyAt, before_of, IsGrown}
+use Rattle.lq_server_slots.specs.Slots.{IsTaken, IsToFill, SlotStands, asks_of, slot_in, AllStand, OnlyAt, before_of, IsGrown}
 
 -- ---- one slot
 
@@ -113,6 +113,32 @@ taken_then s t p book0 book taken stands stuck identity hung =
       out = taken.out;
       name = taken.name ∙ ap (λ (x : Identity). Some x) (sym identity);
       hung = λ h. subst (λ n. n < p.asks) (sym asks) (taken.hung (hung h));
+    }
+
+-- a taken slot whose subscription and book changed stands, but for what its port has room for
+pub to_fill_then : (s t : Subscription) (p : Known Identity) (book0 book : Book)
+    → IsTaken s p book0 → StandsAt t book → identity_of t ≡ identity_of s
+    → (hung_mark t.sub.held.mark → hung_mark s.sub.held.mark) → IsToFill t p book
+to_fill_then s t p book0 book taken stands identity hung =
+    let asks : t.asks ≡ s.asks = ap (λ (x : Identity). x.asks) identity in
+    record {
+      stands = stands;
+      out = taken.out;
+      name = taken.name ∙ ap (λ (x : Identity). Some x) (sym identity);
+      hung = λ h. subst (λ n. n < p.asks) (sym asks) (taken.hung (hung h));
+    }
+
+-- and it stands whole once its port is filled
+pub taken_filled : (s t : Subscription) (p : Known Identity) (book : Book) → IsToFill s p book
+    → StandsAt t book → IsStuck t → SameButPuts s t → IsTaken t p book
+taken_filled s t p book was stands stuck alike =
+    record {
+      stands = stands;
+      filled = stuck_filled t book stands stuck;
+      out = was.out;
+      name = was.name ∙ ap (λ (x : Identity). Some x) (sym (identity_alike s t alike));
+      hung = λ h. subst (λ n. n < p.asks) (sym alike.asks)
+          (was.hung (subst hung_mark alike.held.mark h));
     }
 
 -- the keeper knows more of a taken slot's asks, and the subscription may have ended

@@ -11,8 +11,7 @@ use Rattle.lq_board.specs.Token.{KeeperToken}
 use Rattle.lq_update.specs.declared.mark.Mark.{Mark}
 use Rattle.lq_server_subscription.specs.declared.identity.Identity.{Identity}
 use Rattle.lq_server_subscription.specs.declared.subscription.Subscription.{Subscription}
-use Rattle.lq_server_subscription.specs.Standing.{IsStuck}
-use Rattle.lq_server_slots.specs.Slots.{SlotStands, asks_of, slot_in, place_at, AllStand, IsListed, IsReadyAt, AllReady, before_of, PartlyTold, OnlyAt, SlotIs, SlotsAre, IsNoticed, IsServed}
+use Rattle.lq_server_slots.specs.Slots.{SlotStands, asks_of, slot_in, place_at, AllStand, IsListed, IsReadyAt, AllReady, before_of, PartlyTold, OnlyAt, SlotIs, SlotsAre, IsNoticed}
 use Rattle.lq_server_slots.proofs.SlotLemmas.{in_here, in_else, counted_here}
 use Rattle.lq_server_slots.proofs.TakenLemmas.{free_or_taken, some_ap, listed-set}
 
@@ -174,15 +173,12 @@ module _ (P : Subscription → Known Identity → Type 0) where
       (h i.0 (omega arith) lt))
       (free_or_taken (slot_in slots k))
 
--- one that has its mark where its reader asked has it after a commit or puts, and is served
-pub served_then : (s t : Subscription) (p : Known Identity) → IsNoticed s p → t.asks ≡ s.asks
-    → (IsSome s.sub.held.mark → t.sub.held.mark ≡ s.sub.held.mark) → IsStuck t → IsServed t p
-served_then s t p noticed asks still stuck = record {
-  noticed = λ lt.
-      let some = noticed (subst (λ (n : ℕ). n < p.asks) asks lt) in
-      subst (λ (o : Option Mark). IsSome o) (sym (still some)) some;
-  stuck = stuck;
-}
+-- one that has its mark where its reader asked has it after a commit or puts
+pub noticed_still : (s t : Subscription) (p : Known Identity) → IsNoticed s p → t.asks ≡ s.asks
+    → (IsSome s.sub.held.mark → t.sub.held.mark ≡ s.sub.held.mark) → IsNoticed t p
+noticed_still s t p noticed asks still = λ lt.
+    let some = noticed (subst (λ (n : ℕ). n < p.asks) asks lt) in
+    subst (λ (o : Option Mark). IsSome o) (sym (still some)) some
 
 -- after a notice the keeper knows just as many asks as were read
 pub noticed_then : (s t : Subscription) (ps qs : List (Known Identity)) (k n : ℕ)

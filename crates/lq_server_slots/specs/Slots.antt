@@ -24,6 +24,13 @@ pub record IsTaken (s : Subscription) (p : Known Identity) (book : Book) : Type 
   pub name : p.name ≡ Some (identity_of s)
   pub hung : hung_mark s.sub.held.mark → s.asks < p.asks
 
+-- the same, while its port is still to be filled
+pub record IsToFill (s : Subscription) (p : Known Identity) (book : Book) : Type 0 where
+  pub stands : StandsAt s book
+  pub out : p.out ≡ true
+  pub name : p.name ≡ Some (identity_of s)
+  pub hung : hung_mark s.sub.held.mark → s.asks < p.asks
+
 -- a slot that may be free
 abbrev pub SlotStands : Option Subscription → Known Identity → Book → Type 0
 SlotStands None p book = p.out ≡ false

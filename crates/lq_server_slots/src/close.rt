@@ -9,10 +9,10 @@ ghost use Rattle.lq_server_subscription.specs.declared.subscription.Subscription
 ghost use Rattle.lq_server_slots.specs.Slots.{IsTaken, SlotStands, SlotsStand, IsPlaceIn, IsDropped, IsPut, place_at, OnlyAt, asks_of, slot_in};
 ghost use Rattle.lq_server_slots.specs.Opening.{asks_after, name_or};
 
-use crate::slots::Slots;
+use crate::slots::{Slots, pump_slot};
 use crate::sync::{meet_same, meet_under, notice_by};
 use lq_board::{Board, Keeper, Seat};
-use lq_server_subscription::{Identity, Subscription, close, pump};
+use lq_server_subscription::{Identity, Subscription, close};
 use std::sync::Wait;
 
 // Closes a subscription, once the keeper and its seat have met.
@@ -45,10 +45,43 @@ fn close_slot<R: Wait>(
       shut = first_close (name_or seat.old.name).shut result number;
     }) }
 {
+    let place = seat.slot() as usize;
     notice_by(board, keeper, slot, seat, number);
+    let closed = end_slot(board, keeper, slot, seat, number);
+    pump_slot(rt, keeper, slot, place);
+    closed
+}
+
+// Closes a subscription, and gives its seat the name that says so. Its notice comes before, and its
+// port is filled after.
+fn end_slot(
+    board: &Board<Identity>,
+    keeper: &mut Keeper<Identity>,
+    slot: &mut Subscription,
+    seat: &mut Seat<Identity>,
+    number: u64,
+) -> bool
+    requires board { (keeper.old.board ≡ board.now) × (seat.old.board ≡ board.now) }
+    requires place { (0 < seat.old.slot) × (seat.old.slot < 65)
+        × (length keeper.old.slots ≡ 65) }
+    requires number { number ≡ length keeper.old.book.changes }
+    requires taken { IsTaken slot.old (slot_at keeper.old.slots seat.old.slot) keeper.old.book }
+    ensures closes { result ≡ true → (name_or seat.old.name).shut ≡ Never }
+    ensures late { IsSome slot.old.sub.held.mark → result ≡ false }
+    ensures board { keeper.new.board ≡ keeper.old.board }
+    ensures book { keeper.new.book ≡ keeper.old.book }
+    ensures only { OnlyAt keeper.old.slots keeper.new.slots seat.old.slot }
+    ensures taken { IsTaken slot.new (slot_at keeper.new.slots seat.old.slot) keeper.new.book }
+    ensures asks { slot.new.asks ≡ slot.old.asks }
+    ensures known { (slot_at keeper.new.slots seat.old.slot).asks ≡ seat.old.asks }
+    ensures named { seat.new.name ≡ Some (identity_of slot.new) }
+    ensures seat { seat.new ≡ record seat.old { book = keeper.old.book; name = seat.new.name } }
+    ensures name { seat.new.name ≡ Some (record (name_or seat.old.name) {
+      shut = first_close (name_or seat.old.name).shut result number;
+    }) }
+{
     let closed = close(slot, number);
     meet_under(board, keeper, seat, slot);
-    pump(rt, keeper, slot);
     closed
 }
 

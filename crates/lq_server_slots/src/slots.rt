@@ -3,8 +3,9 @@ ghost use Rattle.std.specs.Prelude.{◌≡◌, ◌+◌, ◌<◌, ◌≤◌, ◌^
 ghost use Rattle.lq_value.specs.Refusal.{IsRefusedBy};
 ghost use Rattle.lq_volume.specs.Book.{state_of};
 ghost use Rattle.lq_board.specs.Slot.{slot_at, counted};
+ghost use Rattle.lq_server_subscription.specs.Identity.{identity_of};
 ghost use Rattle.lq_server_subscription.specs.Standing.{SameButHeld, SameButPuts, IsStuck};
-ghost use Rattle.lq_server_slots.specs.Slots.{IsTaken, SlotStands, asks_of, SlotsStand, IsListed, place_at, OnlyAt, IsReadyAt, AllReady, before_of, IsGrown, slot_in, IsNoticed, IsServed, SlotIs, SlotsAre};
+ghost use Rattle.lq_server_slots.specs.Slots.{IsTaken, IsToFill, SlotStands, asks_of, SlotsStand, IsListed, place_at, OnlyAt, IsReadyAt, AllReady, before_of, IsGrown, slot_in, IsNoticed, IsServed, SlotIs, SlotsAre};
 
 use lq_board::{Board, Keeper};
 use lq_server_subscription::{Identity, Subscription, commit, notice, pump, ready};
@@ -81,6 +82,7 @@ pub(crate) fn notice_slot(
     ensures asks { (slot_at keeper.old.slots place).asks ≤ result }
     ensures taken { IsTaken slot.new (slot_at keeper.new.slots place) keeper.new.book }
     ensures ended { slot.old.asks < result → IsSome slot.new.sub.held.mark }
+    ensures noticed { IsNoticed slot.new (slot_at keeper.new.slots place) }
     ensures others { SameButHeld slot.old slot.new × (slot.new.shut ≡ slot.old.shut) }
     ensures still { IsSome slot.old.sub.held.mark
         → slot.new.sub.held.mark ≡ slot.old.sub.held.mark }
@@ -290,9 +292,24 @@ fn tell_slot<R: Wait>(
     ensures asks { slot.new.asks ≡ slot.old.asks }
     ensures served { IsServed slot.new (slot_at keeper.now.slots place) }
 {
+    commit_slot(keeper, slot, place, change);
+    pump_slot(rt, keeper, slot, place);
+}
+
+// Commits the change that was just added. The port is still to be filled.
+fn commit_slot(keeper: &Keeper<Identity>, slot: &mut Subscription, place: usize, change: &Change)
+    requires grown { IsGrown keeper.now.book change.now }
+    requires ready { IsReadyAt (Some slot.old) (state_of (before_of keeper.now.book)) change.now }
+    requires taken { IsTaken slot.old (slot_at keeper.now.slots place)
+        (before_of keeper.now.book) }
+    requires noticed { IsNoticed slot.old (slot_at keeper.now.slots place) }
+    ensures taken { IsToFill slot.new (slot_at keeper.now.slots place) keeper.now.book }
+    ensures asks { slot.new.asks ≡ slot.old.asks }
+    ensures noticed { IsNoticed slot.new (slot_at keeper.now.slots place) }
+{
+    let _ = keeper;
     let _ = place;
     commit(slot, change);
-    pump(rt, keeper, slot);
 }
 
 /// Commits the change that was just added in each subscription, and fills each port.
@@ -319,12 +336,20 @@ pub(crate) fn tell_all<R: Wait>(rt: &R, slots: &mut Slots, change: &Change)
     }
 }
 
-// Fills a port.
-fn pump_slot<R: Wait>(rt: &R, keeper: &Keeper<Identity>, taken: &mut Subscription, place: usize)
-    requires taken { IsTaken taken.old (slot_at keeper.now.slots place) keeper.now.book }
+/// Fills the port of a taken slot.
+pub(crate) fn pump_slot<R: Wait>(
+    rt: &R,
+    keeper: &Keeper<Identity>,
+    taken: &mut Subscription,
+    place: usize,
+)
+    requires taken { IsToFill taken.old (slot_at keeper.now.slots place) keeper.now.book }
     ensures taken { IsTaken taken.new (slot_at keeper.now.slots place) keeper.now.book }
     ensures alike { SameButPuts taken.old taken.new }
+    ensures named { identity_of taken.new ≡ identity_of taken.old }
     ensures stuck { IsStuck taken.new }
+    ensures served { IsNoticed taken.old (slot_at keeper.now.slots place)
+        → IsServed taken.new (slot_at keeper.now.slots place) }
 {
     let _ = place;
     pump(rt, keeper, taken);

@@ -1,10 +1,11 @@
 use Rattle.std.proofs.Common.{◌<◌, ◌∙◌, ℕ, sym, ap, subst}
-use borrow.Author.Tests.{ltb-true}
+use Rattle.std.proofs.lemmas.Bool.{lt-ltb, ltb-true}
 use Rattle.lq_board.specs.Slot.{slot_at}
 use Rattle.lq_board.specs.Token.{KeeperToken}
 use Rattle.lq_server_subscription.specs.declared.identity.Identity.{Identity}
 use Rattle.lq_server_slots.specs.Slots.{IsTaken}
 use Rattle.lq_server_slots.proofs.SlotLemmas.{taken_noticed, counted_here}
+use Rattle.lq_server_slots.proofs.TellLemmas.{noticed_then}
 use Rattle.lq_server_slots.proofs.slots.notice_slot.Goals as goal
 
 pub returns-clause-taken : goal.returns-clause-taken
@@ -23,3 +24,12 @@ returns-clause-taken c =
     (ltb-true c.args.slot.now.asks c.asks-asks.result) a.known
     (ap (λ (k : KeeperToken Identity). slot_at k.slots place) a.keeper
     ∙ counted_here was.slots place c.asks-asks.result within))
+
+pub returns-clause-noticed : goal.returns-clause-noticed
+returns-clause-noticed c =
+    let was = c.args.keeper.now in
+    let n = c.notice.ensures in
+    noticed_then c.args.slot.now c.notice.new.slot was.slots c.asks-asks.new.keeper.slots
+    c.args.place c.asks-asks.result c.requires.place.2 c.requires.place.1
+    (ap (λ (k : KeeperToken Identity). k.slots) c.asks-asks.ensures.keeper) n.others.asks
+    (λ lt. n.ended (lt-ltb c.args.slot.now.asks c.asks-asks.result lt))

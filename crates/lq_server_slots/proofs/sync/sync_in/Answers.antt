@@ -1,4 +1,3 @@
-use Rattle.std.proofs.Common.{◌≡◌}
 use Rattle.lq_server_slots.proofs.TakenLemmas.{slots_stand-step}
 use Rattle.lq_server_slots.proofs.sync.sync_in.Goals as goal
 

@@ -1,4 +1,3 @@
-use Rattle.std.proofs.Common.{◌≡◌}
 use Rattle.lq_server_slots.proofs.SlotLemmas.{all_stand-none}
 use Rattle.lq_server_slots.proofs.TakenLemmas.{listed-none}
 use Rattle.lq_server_slots.proofs.slots.Slots.new.Goals as goal
