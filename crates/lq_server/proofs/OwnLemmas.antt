@@ -9,6 +9,7 @@ use Rattle.lq_predicate_formula.specs.Query.{Query}
 use Rattle.lq_volume.specs.State.{State}
 use Rattle.lq_volume.specs.Book.{Book}
 use Rattle.lq_desk_world.specs.Events.{opening_refusals}
+use Rattle.lq_board.specs.declared.views.Author.{Author}
 use Rattle.lq_board.specs.Token.{SeatToken}
 use Rattle.lq_update.specs.declared.message.Message.{Message}
 use Rattle.lq_port.specs.End.{End, IsSamePort}
@@ -26,7 +27,7 @@ use Rattle.lq_server_slots.specs.declared.slots.Slots.{Slots}
 use Rattle.lq_server_slots.specs.Slots.{SameButKnown, SlotsStand, is_full, slot_in}
 use Rattle.lq_server_slots.specs.Opening.{IdentityFits, IsNamed, IsOpened, IsOpeningTabled, asks_after, name_or}
 use Rattle.lq_server.specs.Hold.{ReaderHold}
-use Rattle.lq_server.specs.Own.{IsOwn}
+use Rattle.lq_server.specs.Own.{IsOwn, StaysOwn}
 use Rattle.lq_server.specs.Opened.{IsAnsweredOver, IsNewReader}
 use Rattle.lq_server.specs.Syncing.{IsSynced, IsRead, IsUnread}
 use Rattle.lq_server.specs.declared.server.Synced.{Synced}
@@ -83,6 +84,14 @@ pub own_knows : (r : ReaderHold) (seat : SeatToken Identity) (book : Book)
     → seat ≡ record r.seat { book = book } → IsOwn r → IsOwn (record r { seat = seat })
 own_knows r seat book same own =
     subst (λ (s : SeatToken Identity). IsOwn (record r { seat = s })) (sym same)
+    (record { low = own.low; high = own.high; slot = own.slot; name = own.name })
+
+-- a reader stays own while its seat is lent to a call that changes no more than the seat's book and
+-- its changes
+pub stays_own : (old new : SeatToken Identity) (book : Book) (author : Author)
+    → new ≡ record old { book = book; author = author } → StaysOwn old new
+stays_own old new book author same reading slot asked own =
+    subst (λ (s : SeatToken Identity). IsOwn (hold reading s slot asked)) (sym same)
     (record { low = own.low; high = own.high; slot = own.slot; name = own.name })
 
 -- a name that fits a port fits it at each time

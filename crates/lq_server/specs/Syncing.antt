@@ -1,5 +1,5 @@
 -- What a sync answers.
-use Rattle.std.specs.Prelude.{◌⊎◌, ◌≡◌, ℕ, ◌+◌, ◌<◌, ◌≤◌, Bool, true, false, List, [], ◌∷◌, ◌++◌, length, map, Option, Some, None, IsSome, IfSome, IsSomeAnd}
+use Rattle.std.specs.Prelude.{◌⊎◌, ◌≡◌, ℕ, ◌<◌, ◌≤◌, Bool, true, false, List, [], ◌∷◌, ◌++◌, length, map, Option, Some, None, IsSome, IfSome, IsSomeAnd}
 use Rattle.lq_volume.specs.Book.{Extends}
 use Rattle.lq_board.specs.Book.{IsFullBook}
 use Rattle.lq_update.specs.declared.message.Message.{Message}

@@ -252,8 +252,7 @@ impl<N: Named> Locked<N> {
             (self.new.keeper.book ≡ grown self.old.keeper.book (change.now ∷ [])) }
         ensures same { OnErr result (self.new.keeper.book ≡ self.old.keeper.book) }
         ensures openings { self.new.openings ≡ self.old.openings }
-        ensures served { seat.old.slot ≡ 0
-            → SlotsAre IsServed self.new.subscriptions.items self.new.keeper.slots }
+        ensures served { SlotsAre IsServed self.new.subscriptions.items self.new.keeper.slots }
         ensures number { IfOk result (λ a.
             a.change ≡ length self.old.keeper.book.changes + 1) }
         ensures later { Extends seat.new.book seat.old.book }
@@ -262,9 +261,7 @@ impl<N: Named> Locked<N> {
             e ≡ unwrap_or (refused (state_of seat.new.book) change.now) NoMemory) }
     {
         self.meet(board, seat);
-        let outcome = change_in(rt, board, &mut self.slots, &mut self.volume, seat, change);
-        self.meet(board, seat);
-        outcome
+        change_in(rt, board, &mut self.slots, &mut self.volume, seat, change)
     }
 
     /// Opens a live query in the lowest free slot, over the book that the seat then knows.

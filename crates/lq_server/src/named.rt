@@ -35,7 +35,8 @@ impl Named for Brand {
 
 /// A volume with a new board and its keeper, and no subscriptions.
 ///
-/// A contract sees which board it is, and the volume.
+/// A contract sees which board it is, and the volume. `Base::new` alone makes one, and no call
+/// changes it: the board's book begins with the volume and has no changes.
 pub struct Base {
     board: Board<Identity>,
     slots: Slots,

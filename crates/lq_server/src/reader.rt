@@ -101,10 +101,12 @@ impl Reader {
 
     /// The seat of its slot, as the board gave it.
     ///
-    /// A caller who puts another seat in its place can make no further calls with this reader.
+    /// The server's calls take it, and the reader's own calls go on after them. A caller who puts
+    /// another seat in its place can make no further calls with this reader.
     pub fn seat(&mut self) -> &mut Seat
         ensures* lends { sem 𝓛 (LendsSeat self.entry result) }
         ensures now { result.now ≡ self.old.seat }
+        ensures own { IsOwn self.old → IsOwn (record self.old { seat = result.now }) }
     {
         &mut self.seat
     }

@@ -3,6 +3,7 @@ ghost use Rattle.std.specs.Prelude.{◌≡◌, ◌≢◌, length, IfOk, IfErr};
 ghost use Rattle.lq_value.specs.declared.refusal.Refusal.TheVariants.{NoSeat};
 ghost use Rattle.lq_volume.specs.Book.{Extends};
 ghost use Rattle.lq_board.specs.Author.{AreDisjoint};
+ghost use Rattle.lq_server.specs.Own.{StaysOwn};
 ghost use Rattle.lq_server.specs.Retired.{IsRetiredBy};
 
 use crate::locked::Locked;
@@ -71,6 +72,9 @@ impl<N: Named> Model for Server<N> {
 
 impl<N: Named> Server<N> {
     /// A server over a base. N names the board of the base and its volume.
+    ///
+    /// N is for contracts alone and is picked once the base is there, by what the base shows. So
+    /// each base has an N that names it, and this asks nothing of the base.
     pub fn new(base: Base) -> Server<N>
         requires { (base.board ≡ N.board) × (base.volume ≡ N.start) }
     {
@@ -104,6 +108,7 @@ impl<N: Named> Server<N> {
     pub fn latest(&self, seat: &mut Seat) -> u64
         requires { seat.old.board ≡ N.board }
         ensures same { seat.new ≡ record seat.old { book = seat.new.book } }
+        ensures own { StaysOwn seat.old seat.new }
         ensures later { Extends seat.new.book seat.old.book }
         ensures number { result ≡ length seat.new.book.changes }
     {
@@ -116,6 +121,7 @@ impl<N: Named> Server<N> {
         requires boards { (one.old.board ≡ N.board) × (two.old.board ≡ N.board) }
         ensures one { one.new ≡ record one.old { book = one.new.book } }
         ensures two { two.new ≡ record two.old { book = two.new.book } }
+        ensures own { StaysOwn one.old one.new × StaysOwn two.old two.new }
         ensures same { one.new.book ≡ two.new.book }
         ensures first { Extends one.new.book one.old.book }
         ensures second { Extends two.new.book two.old.book }

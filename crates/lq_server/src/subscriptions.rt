@@ -11,7 +11,7 @@ ghost use Rattle.lq_server_slots.specs.Opening.{IsOpeningRefused, name_or, openi
 ghost use Rattle.lq_server.specs.declared.server.Synced.{Synced as SyncedOf};
 ghost use Rattle.lq_server_slots.specs.declared.slots.Slots.{Slots as SlotsOf};
 ghost use Rattle.lq_server.specs.Opened.{IsAnsweredOver, IsNewReader};
-ghost use Rattle.lq_server.specs.Own.{IsOwn};
+ghost use Rattle.lq_server.specs.Own.{IsOwn, StaysOwn};
 ghost use Rattle.lq_server.specs.Syncing.{IsSynced, bit, in_port};
 
 use crate::named::{Named, Seat};
@@ -40,6 +40,7 @@ impl<N: Named> Server<N> {
     ) -> Result<Reader, Refusal>
         requires { seat.old.board ≡ N.board }
         ensures seat { seat.new ≡ record seat.old { book = seat.new.book } }
+        ensures own { StaysOwn seat.old seat.new }
         ensures later { Extends seat.new.book seat.old.book }
         ensures opened { IfOk result (λ r.
             IsNewReader r N.board seat.new.book predicate.now moved port backlog) }

@@ -9,6 +9,7 @@ ghost use Rattle.lq_volume.specs.State.{record_at, node_in};
 ghost use Rattle.lq_volume.specs.Lookup.{find_refusals, entry_refusals, listed};
 ghost use Rattle.lq_board.specs.Author.{with_change};
 ghost use Rattle.lq_server.specs.Applied.{IsAdded};
+ghost use Rattle.lq_server.specs.Own.{StaysOwn};
 
 use crate::locked::Found;
 use crate::named::{Named, Seat};
@@ -38,6 +39,7 @@ impl<N: Named> Server<N> {
           book = seat.new.book;
           author = seat.new.author;
         } }
+        ensures own { StaysOwn seat.old seat.new }
         ensures author { IfOk result (λ a.
             seat.new.author ≡ with_change seat.old.author a.change) }
         ensures others { OnErr result (seat.new.author ≡ seat.old.author) }
@@ -67,6 +69,7 @@ impl<N: Named> Server<N> {
     ) -> Result<Found, Refusal>
         requires { seat.old.board ≡ N.board }
         ensures seat { seat.new ≡ record seat.old { book = seat.new.book } }
+        ensures own { StaysOwn seat.old seat.new }
         ensures later { Extends seat.new.book seat.old.book }
         ensures at { IfOk result (λ found. found.at ≡ length seat.new.book.changes) }
         ensures entries { IfOk result (λ found.
@@ -91,6 +94,7 @@ impl<N: Named> Server<N> {
     ) -> Result<u64, Refusal>
         requires { seat.old.board ≡ N.board }
         ensures seat { seat.new ≡ record seat.old { book = seat.new.book } }
+        ensures own { StaysOwn seat.old seat.new }
         ensures later { Extends seat.new.book seat.old.book }
         ensures value { IfOk result (λ node.
             node_in (state_of seat.new.book).records dir name.now ≡ Some node) }
@@ -109,6 +113,7 @@ impl<N: Named> Server<N> {
     pub fn listing<R: Wait>(&self, rt: &R, seat: &mut Seat, node: u64) -> Result<Listing, Refusal>
         requires { seat.old.board ≡ N.board }
         ensures seat { seat.new ≡ record seat.old { book = seat.new.book } }
+        ensures own { StaysOwn seat.old seat.new }
         ensures later { Extends seat.new.book seat.old.book }
         ensures value { IfOk result (λ listing.
             record_at (state_of seat.new.book) node ≡ Some (listed listing)) }

@@ -1,7 +1,7 @@
 use Rattle.std.proofs.Common.{Option, Some, None, Ok, false, rules}
 use Rattle.std.specs.Prelude.{IfNone}
 use Rattle.lq_server_slots.specs.Opening.{opening_refusal}
-use Rattle.lq_server.proofs.OwnLemmas.{hold, new_reader, answered_over}
+use Rattle.lq_server.proofs.OwnLemmas.{hold, new_reader, answered_over, stays_own}
 use Rattle.lq_server.proofs.server.Server.open.Goals as goal
 
 -- what is so anyway is so where nothing is there
@@ -38,3 +38,11 @@ returns-clause-table g c =
           (Ok (hold o.reading o.seat o.slot false)) f.over.1 f.over.2 f.seat f.within
           c.in_ok-opened.ensures.table c.in_ok-opened.ensures.lowest,
     )
+
+pub returns-clause-own : goal.returns-clause-own
+returns-clause-own g c =
+    stays_own c.args.seat.now c.open.new.seat _ c.args.seat.now.author c.open.ensures.seat
+
+pub returns-in_err-opened-clause-own : goal.returns-in_err-opened-clause-own
+returns-in_err-opened-clause-own g c =
+    stays_own c.args.seat.now c.open.new.seat _ c.args.seat.now.author c.open.ensures.seat
