@@ -57,10 +57,10 @@ pub record Meets (was now : SeatToken Identity) : Type 0 where
 -- server
 pub followed : UpdatesStay → BooksExtendOn → StatesStay
     → (start : State) (q : Query) (board : TableId) (begun : Book) (port backlog : ℕ)
-    (first old new : ReaderHold) (x : Synced) (one two : SeatToken Identity) (z : Retired)
+    (first old new : ReaderHold) (x : Synced) (one : SeatToken Identity) (z : Retired)
     → IsNewReader first board begun q false port backlog → GoesOut first old → IsSynced old new x
     → ReaderIsTold new
-    → Meets new.seat one → one.book ≡ two.book → IsRetired start two.book z.volume z.changes
+    → Meets new.seat one → IsRetired start one.book z.volume z.changes
     → IsFollowed start q (record {
       reader = record {
         reading = new.reading;
@@ -71,8 +71,7 @@ pub followed : UpdatesStay → BooksExtendOn → StatesStay
       synced = x;
       retired = z;
     })
-followed stay on states start q board begun port backlog first old new x one two z o out s told met
-    same r =
+followed stay on states start q board begun port backlog first old new x one z o out s told met r =
     let name : new.seat.name ≡ first.seat.name =
     ap (λ (t : SeatToken Identity). t.name) s.seat ∙ out.goes.name in
     let query = same_query first.seat.name first new o.own.name
@@ -129,8 +128,7 @@ followed stay on states start q board begun port backlog first old new x one two
         book = r.book;
         full = r.full;
         begins = r.begins;
-        later = on book one.book r.book met.later
-            (subst (λ (b : Book). Extends r.book b) (sym same) r.later);
+        later = on book one.book r.book met.later r.later;
         state = r.state;
         number = r.number;
         limit = r.limit;

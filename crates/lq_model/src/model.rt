@@ -1,6 +1,7 @@
 //! A server from its beginning to its end: one thread makes changes, another reads the updates.
 ghost use Rattle.std.specs.Prelude.{◌≡◌, IfOk};
 ghost use Rattle.lq_server.specs.Own.{IsOwn};
+ghost use Rattle.lq_server.specs.Retired.{IsRetired};
 ghost use Rattle.lq_model.specs.Followed.{GoesOut, IsFollowed};
 
 use lq_board::Seat;
@@ -52,12 +53,30 @@ pub fn follow<N: Named + Send + Sync, R: Threads + Wait + Sync>(
     let synced = server.sync(rt, &mut reader);
     reader.headline();
     server.meet(rt, reader.seat(), &mut seat);
+    Ok(leave(rt, server, reader, seat, synced))
+}
+
+// Ends the server by a seat that has met the reader's, and answers what is left.
+fn leave<N: Named, R: Wait>(
+    rt: &R,
+    server: Server<N>,
+    reader: Reader,
+    seat: Seat<Identity>,
+    synced: Synced,
+) -> Followed
+    requires board { seat.board ≡ N.board }
+    requires met { seat.book ≡ reader.seat.book }
+    ensures left { result
+        ≡ record { reader = reader; synced = synced; retired = result.retired } }
+    ensures retired { IsRetired N.start reader.seat.book
+        result.retired.volume result.retired.changes }
+{
     let retired = server.retire(rt, seat);
-    Ok(Followed {
+    Followed {
         reader,
         synced,
         retired,
-    })
+    }
 }
 
 // The work of one thread: it makes changes.

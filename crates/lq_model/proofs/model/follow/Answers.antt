@@ -1,8 +1,9 @@
-use Rattle.std.proofs.Common.{subst}
+use Rattle.std.proofs.Common.{sym, subst}
 use Rattle.std.specs.Prelude.{IfOk}
 use Rattle.lq_board.specs.Token.{SeatToken}
 use Rattle.lq_server_subscription.specs.declared.identity.Identity.{Identity}
-use Rattle.lq_model.specs.Followed.{GoesOut}
+use Rattle.lq_model.specs.declared.model.Followed.{Followed}
+use Rattle.lq_model.specs.Followed.{GoesOut, IsFollowed}
 use Rattle.lq_model.proofs.FollowLemmas.{Meets, followed}
 use Rattle.lq_model.proofs.model.follow.Goals as goal
 
@@ -14,7 +15,9 @@ returns g c =
     let m = c.meet.ensures in
     let met = subst (λ (s : SeatToken Identity). Meets s c.meet.new.one) c.seat-3.ensures.now
     (record { seat = m.one; later = m.first }) in
-    followed c.updates_stay.ensures c.books_extend_on.ensures c.states_stay.ensures _ _ _ _ _ _
-    begun _ c.sync-synced.new.reader _ c.meet.new.one c.meet.new.two _
+    subst (λ (f : Followed). IsFollowed g.N.Named.start c.args.predicate.now f)
+    (sym c.leave.ensures.left)
+    (followed c.updates_stay.ensures c.books_extend_on.ensures c.states_stay.ensures _ _ _ _ _ _
+    begun _ c.sync-synced.new.reader _ c.meet.new.one c.leave.result.retired
     c.in_ok-reader.ensures.opened out
-    c.sync-synced.ensures c.headline.ensures met m.same c.retire-retired.ensures.retired
+    c.sync-synced.ensures c.headline.ensures met c.leave.ensures.retired)
