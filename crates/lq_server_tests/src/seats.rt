@@ -5,6 +5,7 @@ use crate::acts::file;
 use crate::stage::base;
 use lq_predicate::read;
 use lq_server::{Base, Named, Read, Server};
+use lq_update::Cause;
 use lq_value::{Name, Refusal};
 use std::alloc::Global;
 use std::marker::Brand;
@@ -39,8 +40,9 @@ fn numbers<N: Named, R: Wait>(rt: &R, alloc: Global, base: Base) -> Result<[u64;
     ])
 }
 
-/// Whether a reader reads the change that was made by its own seat.
-fn reads_its_change<N: Named, R: Wait>(rt: &R, alloc: Global, base: Base) -> Result<bool, Refusal>
+/// Whether a reader reads the change that was made by its own seat, and then its mark: it hangs up,
+/// its seat's next change is refused, and its close comes too late.
+fn goes_on<N: Named, R: Wait>(rt: &R, alloc: Global, base: Base) -> Result<bool, Refusal>
     requires { (base.board ≡ N.board) × (base.volume ≡ N.start) }
 {
     let server: Server<N> = Server::new(base);
@@ -48,10 +50,20 @@ fn reads_its_change<N: Named, R: Wait>(rt: &R, alloc: Global, base: Base) -> Res
     let change = file(Name::read(alloc, "a")?);
     let mut reader = server.open(rt, &mut seat, &read(alloc, "name=*")?, 1, 8, false)?;
     server.apply(rt, reader.seat(), &change)?;
-    match reader.read(rt)? {
-        Read::Update(message) => Ok(message.seq == 1 && message.change == 1),
-        _ => Ok(false),
-    }
+    let told = match reader.read(rt)? {
+        Read::Update(message) => message.seq == 1 && message.change == 1,
+        _ => false,
+    };
+    reader.hang_up(&server);
+    let refused = server.apply(rt, reader.seat(), &change).err();
+    let marked = match reader.read(rt)? {
+        Read::Fin(mark) => mark.seq == 2 && mark.change == 1 && mark.cause == Cause::HungUp,
+        _ => false,
+    };
+    let late = server.close(rt, &mut reader).err();
+    let finished = server.finish(rt, reader).is_ok();
+    let is_refused = refused == Some(Refusal::Exists) && late == Some(Refusal::NotOpen);
+    Ok(told && is_refused && marked && finished)
 }
 
 #[test]
@@ -65,6 +77,6 @@ fn a_readers_seat_serves_each_call(rt: HostRuntime) -> Result<(), Fail> {
 #[test]
 fn a_readers_seat_changes_what_it_reads(rt: HostRuntime) -> Result<(), Fail> {
     let base = base(rt.alloc())?;
-    assert!(rt; reads_its_change::<Brand, _>(&rt, rt.alloc(), base)?);
+    assert!(rt; goes_on::<Brand, _>(&rt, rt.alloc(), base)?);
     Ok(())
 }

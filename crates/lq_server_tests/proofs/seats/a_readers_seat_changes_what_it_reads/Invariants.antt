@@ -1,4 +1,4 @@
 use Rattle.lq_server_tests.proofs.seats.a_readers_seat_changes_what_it_reads.Given as goal
 
-abbrev pub ghosts-reads_its_change : goal.ghosts-reads_its_change
-ghosts-reads_its_change g a = record { board = a.base.board; start = a.base.volume }
+abbrev pub ghosts-goes_on : goal.ghosts-goes_on
+ghosts-goes_on g a = record { board = a.base.board; start = a.base.volume }
