@@ -150,13 +150,13 @@ fn shows<N: Named, R: Wait>(rt: &R, alloc: Global, base: Base) -> Result<bool, R
     server.apply(rt, &mut seat, &create(alloc, "a")?)?;
     let mut reader = server.open(rt, &mut seat, &read(alloc, "name=*")?, 1, 9, true)?;
     server.apply(rt, &mut seat, &create(alloc, "b")?)?;
+    let latest = reader.latest(&server);
+    let own: &mut Seat = reader.seat();
+    let met = server.meet(rt, own, &mut seat);
     let synced: Synced = server.sync(rt, &mut reader);
     let is_synced = synced.change == 2 && synced.waiting == 1 && synced.held == 0;
     let is_kept = reader.result().len() == 1 && reader.is_settled() && reader.last_change() == 1;
     let is_opened = reader.slot() == 1 && reader.opened() == 1;
-    let latest = reader.latest(&server);
-    let own: &mut Seat = reader.seat();
-    let met = server.meet(rt, own, &mut seat);
     let has_met = latest == 2 && met == 2;
     Ok(has_met && is_synced && synced.mark.is_none() && is_kept && is_opened)
 }
