@@ -17,7 +17,8 @@ use Rattle.clap.specs.Faults.{fault_of}
 use Rattle.clap.proofs.WalkLemmas.{first_value-rows}
 use Rattle.lq_script.specs.CommandLine.{lq_app}
 use Rattle.lq_script.specs.Words.{IsCheckOf, IsRun, IsUsage, has_stray}
-use Rattle.lq_script.proofs.CommandWalkLemmas.{behind_dashes_given, behind_dashes_passes, check_given, check_passes, given, run_given, run_passes, taken}
+use Rattle.lq_script.proofs.CommandWalkLemmas.{behind_dashes_given, behind_dashes_passes, check_given, check_passes, given, run_given, run_passes}
+use Rattle.lq_script.proofs.CommandFaultLemmas.{taken}
 
 -- words that ask for a check give `check` with its formula
 check_is : (words : List Text) (formula : Text) → IsCheckOf words formula

@@ -1,7 +1,8 @@
 -- What the program does with its three streams, for what its arguments ask.
-use Rattle.std.specs.Prelude.{◌≡◌, ◌⊎◌, ◌≤◌, ℕ, List, Option, Bool, true, Err}
+use Rattle.std.specs.Prelude.{◌≡◌, ◌⊎◌, ◌≤◌, ℕ, List, true, Err}
 use Rattle.lq_predicate_formula.specs.Reading.{reading_of}
 use Rattle.lq_script_lines.specs.Output.{Answered, Stopped}
+use Rattle.lq_script_lines.specs.Outcome.{ReaderLog, WriterLog}
 use Rattle.lq_script_lines.specs.declared.run_fault.RunFault.{RunFault}
 use Rattle.lq_script_desk.specs.Script.{script_session, world_rules}
 use Rattle.lq_script.specs.Words.{IsCheckOf, IsFaultOf, IsOther, IsRun, IsThreads, IsUsage}
@@ -12,33 +13,38 @@ use Rattle.lq_script.specs.Words.{fault_line, refusal_line, usage_line}
 pub record Transcript (R W F : Type 0) : Type 0 where
   pub reader : R
   pub reader' : R
-  pub left : Option (List ℕ)
-  pub left' : Option (List ℕ)
-  pub reader_failed : Bool
   pub writer : W
   pub writer' : W
-  pub written : Option (List ℕ)
-  pub written' : Option (List ℕ)
-  pub writer_failed : Bool
-  pub writer_stalled : Bool
-  pub flushed : Bool
   pub faults : F
   pub faults' : F
-  pub told : Option (List ℕ)
-  pub told' : Option (List ℕ)
-  pub faults_failed : Bool
-  pub faults_stalled : Bool
+  pub read : ReaderLog
+  pub wrote : WriterLog
+  pub told : WriterLog
+
+abbrev pub transcript : {R W F : Type 0} → R → R → W → W → F → F
+    → ReaderLog → WriterLog → WriterLog → Transcript R W F
+transcript reader reader' writer writer' faults faults' read wrote told = record {
+  reader = reader;
+  reader' = reader';
+  writer = writer;
+  writer' = writer';
+  faults = faults;
+  faults' = faults';
+  read = read;
+  wrote = wrote;
+  told = told;
+}
 
 -- a line went to standard error
 abbrev pub TellsLine : {R W F : Type 0} → Transcript R W F → List ℕ → Type 0
-TellsLine t line = Tells line t.told t.told' t.faults_failed t.faults_stalled
+TellsLine t line = Tells line t.told.written t.told.written' t.told.failed t.told.stalled
 
 -- a fault went there, and the streams are as this fault says
 pub record TellsFault {R W F : Type 0} (t : Transcript R W F) : Type 0 where
   pub fault : RunFault
   pub line : TellsLine t (fault_line fault)
-  pub is : IsFaultOf fault t.left t.left' t.reader_failed
-      t.written t.written' t.writer_failed t.writer_stalled
+  pub is : IsFaultOf fault t.read.left t.read.left' t.read.failed
+      t.wrote.written t.wrote.written' t.wrote.failed t.wrote.stalled
 
 -- the formula's leftmost fault went there
 pub record TellsRefusal {R W F : Type 0} (t : Transcript R W F) (formula : List ℕ) : Type 0 where
@@ -48,18 +54,19 @@ pub record TellsRefusal {R W F : Type 0} (t : Transcript R W F) (formula : List 
 
 -- Of `run`: status 0 where the whole script was carried out, or 1, with a prefix of its output.
 pub record HasRun {R W F : Type 0} (status : ℕ) (t : Transcript R W F) : Type 0 where
-  pub done : status ≡ 0 →
-      Answered world_rules script_session t.left t.left' t.written t.written'
-  pub stopped : status ≡ 1 →
-      Stopped world_rules script_session t.left t.left' t.written t.written'
+  pub done : status ≡ 0 → Answered world_rules script_session
+      t.read.left t.read.left' t.wrote.written t.wrote.written'
+  pub stopped : status ≡ 1 → Stopped world_rules script_session
+      t.read.left t.read.left' t.wrote.written t.wrote.written'
   pub never_refused : status ≤ 1
 
 -- Of `check`: status 0 where the formula was printed, 1 with a prefix of that, or nothing, and 2
 -- where the formula is refused.
 pub record HasChecked {R W F : Type 0} (formula : List ℕ) (status : ℕ)
     (t : Transcript R W F) : Type 0 where
-  pub done : status ≡ 0 → Prints formula t.written t.written'
-  pub stopped : status ≡ 1 → (t.writer' ≡ t.writer) ⊎ PrintsFront formula t.written t.written'
+  pub done : status ≡ 0 → Prints formula t.wrote.written t.wrote.written'
+  pub stopped : status ≡ 1 →
+      (t.writer' ≡ t.writer) ⊎ PrintsFront formula t.wrote.written t.wrote.written'
   pub refused : status ≡ 2 → TellsRefusal t formula
 
 -- What each status says, by the arguments. `threads` carries out a script too, and no more is said
@@ -74,7 +81,7 @@ pub record IsOutcome {R W F : Type 0} (words : List (List ℕ)) (status : ℕ)
   pub usage : IsUsage words → status ≡ 2 → TellsLine t usage_line
   pub other : IsOther words → (1 ≤ status) × (t.writer' ≡ t.writer)
   pub quiet : status ≡ 0 → t.faults' ≡ t.faults
-  pub flushed : ¬ IsThreads words → status ≡ 0 → t.flushed ≡ true
+  pub flushed : ¬ IsThreads words → status ≡ 0 → t.wrote.flushed ≡ true
   pub fault : ¬ IsThreads words → status ≡ 1 → TellsFault t
   pub writes_nothing : status ≡ 2 → t.writer' ≡ t.writer
   pub reads_nothing : ¬ IsRun words → ¬ IsThreads words → t.reader' ≡ t.reader

@@ -1,6 +1,7 @@
 //! The program's arguments, with `threads` among them.
 ghost use Rattle.std.specs.Prelude.{◌≡◌, ◌↔◌, false, true};
-ghost use Rattle.lq_script.specs.Outcome.{IsOutcome};
+ghost use Rattle.lq_script_lines.specs.Outcome.{reader_log, writer_log};
+ghost use Rattle.lq_script.specs.Outcome.{IsOutcome, transcript};
 ghost use Rattle.lq_script.specs.Words.{IsThreads, texts_of};
 
 use crate::plain_words::plain_program;
@@ -28,26 +29,13 @@ pub fn program<T: Threads + Wait + Sync, R: Source, W: Sink, F: Sink>(
     requires reader_works { R.failed reader.old ≡ false }
     requires writer_works { W.failed writer.old ≡ false }
     requires writer_moves { W.stalled writer.old ≡ false }
-    ensures outcome { IsOutcome (texts_of words.now) result (record {
-      reader = reader.old;
-      reader' = reader.new;
-      left = R.left reader.old;
-      left' = R.left reader.new;
-      reader_failed = R.failed reader.new;
-      writer = writer.old;
-      writer' = writer.new;
-      flushed = W.flushed writer.new;
-      written = W.written writer.old;
-      written' = W.written writer.new;
-      writer_failed = W.failed writer.new;
-      writer_stalled = W.stalled writer.new;
-      faults = faults.old;
-      faults' = faults.new;
-      told = F.written faults.old;
-      told' = F.written faults.new;
-      faults_failed = F.failed faults.new;
-      faults_stalled = F.stalled faults.new;
-    }) }
+    ensures outcome { IsOutcome (texts_of words.now) result (transcript
+        reader.old reader.new writer.old writer.new faults.old faults.new
+        (reader_log (R.left reader.old) (R.left reader.new) (R.failed reader.new))
+        (writer_log (W.written writer.old) (W.written writer.new)
+        (W.failed writer.new) (W.stalled writer.new) (W.flushed writer.new))
+        (writer_log (F.written faults.old) (F.written faults.new)
+        (F.failed faults.new) (F.stalled faults.new) (F.flushed faults.new))) }
 {
     if !asks_threads(words) {
         return plain_program(alloc, words, reader, writer, faults);

@@ -11,6 +11,9 @@ use Rattle.lq_desk.specs.Turn.{kept_turn_outcome}
 use Rattle.lq_desk.specs.Laws.{KeptTurnsShowWorlds}
 use Rattle.lq_script_lines.specs.Lines.{Begins, Line, long, empty, whole, line_of, lines_of, ended_lines, reply_to, state_after, replies_to}
 use Rattle.lq_script_lines.specs.Output.{Answered, Ended, Passed, Stopped}
+use Rattle.lq_script_lines.specs.Outcome.{IsRunOutcome, ReaderLog, WriterLog}
+use Rattle.lq_script_lines.specs.declared.run_fault.RunFault.{RunFault}
+use Rattle.std.proofs.lemmas.Result.{on_err_weaker, on_ok_weaker}
 use Rattle.lq_script_desk.specs.Folds.{fold_at, folds_after}
 use Rattle.lq_script_desk.specs.Session.{Session}
 use Rattle.lq_script_reply.specs.Reply.{reply_text}
@@ -135,3 +138,22 @@ module _ (law : KeptTurnsShowWorlds) where
       appended = subst (Appends written written')
           (replies-alike s t (ended_lines a.given) alike) a.appended;
     }
+
+  -- what a run over a desk answers, it answers over the world
+  pub outcome-world : (s : Session Kept) (t : Session World) → Alike s t
+      → (result : Result (Unit {0}) RunFault) (r : ReaderLog) (w : WriterLog)
+      → IsRunOutcome kept_rules s result r w → IsRunOutcome world_rules t result r w
+  outcome-world s t alike result r w o = record {
+    ok = on_ok_weaker result
+        (answered-world s t alike r.left r.left' w.written w.written') o.ok;
+    flushed = o.flushed;
+    works = o.works;
+    err = on_err_weaker result
+        (stopped-world s t alike r.left r.left' w.written w.written') o.err;
+    flush = o.flush;
+    read = λ is. ended-world s t alike r.left r.left' w.written w.written' (o.read is);
+    limit = λ is. passed-world s t alike r.left r.left' w.written w.written' (o.limit is);
+    read_fails = o.read_fails;
+    write_fails = o.write_fails;
+    no_thread = o.no_thread;
+  }

@@ -1,6 +1,6 @@
 //! A whole script over a volume with the root alone.
-ghost use Rattle.std.specs.Prelude.{◌≡◌, ◌⊎◌, OnOk, OnErr, IsErrOf, true, false};
-ghost use Rattle.lq_script_lines.specs.Output.{Answered, Ended, Passed, Stopped};
+ghost use Rattle.std.specs.Prelude.{◌≡◌, false};
+ghost use Rattle.lq_script_lines.specs.Outcome.{IsRunOutcome, reader_log, writer_log};
 ghost use Rattle.lq_script_desk.specs.Script.{script_session, world_rules};
 
 use crate::rebuilds::no_rebuilds;
@@ -25,30 +25,12 @@ pub fn run<R: Source, W: Sink>(
     requires reader_works { R.failed reader.old ≡ false }
     requires writer_works { W.failed writer.old ≡ false }
     requires writer_moves { W.stalled writer.old ≡ false }
-    ensures ok { OnOk result (Answered world_rules script_session
-        (R.left reader.old) (R.left reader.new) (W.written writer.old) (W.written writer.new)) }
-    ensures flushed { OnOk result (W.flushed writer.new ≡ true) }
-    ensures works { OnOk result ((R.failed reader.new ≡ false)
-        × (W.failed writer.new ≡ false) × (W.stalled writer.new ≡ false)) }
-
-    // After a fault, the bytes written are a prefix of the output for the bytes read.
-    ensures err { OnErr result (Stopped world_rules script_session
-        (R.left reader.old) (R.left reader.new) (W.written writer.old) (W.written writer.new)) }
-    ensures flush { OnErr result ((result ≡ Err RunFault.Write)
-        ⊎ ((W.flushed writer.new ≡ true) ⊎ (W.failed writer.new ≡ true))) }
-
-    // After a read fault and at a limit, they are the output for the lines that LF ended.
-    ensures read { IsErrOf result RunFault.Read → Ended world_rules script_session
-        (R.left reader.old) (R.left reader.new) (W.written writer.old) (W.written writer.new) }
-    ensures limit { IsErrOf result RunFault.Limit → Passed world_rules script_session
-        (R.left reader.old) (R.left reader.new) (W.written writer.old) (W.written writer.new) }
-
-    // Each fault has its cause in this call.
-    ensures read_fails { IsErrOf result RunFault.Read → R.failed reader.new ≡ true }
-    ensures write_fails { IsErrOf result RunFault.Write →
-        (W.failed writer.new ≡ true) ⊎ (W.stalled writer.new ≡ true) }
-    ensures no_thread { IsErrOf result RunFault.Thread → ⊥ }
+    ensures outcome { IsRunOutcome world_rules script_session result
+        (reader_log (R.left reader.old) (R.left reader.new) (R.failed reader.new))
+        (writer_log (W.written writer.old) (W.written writer.new)
+        (W.failed writer.new) (W.stalled writer.new) (W.flushed writer.new)) }
 {
+    // Called for what it proves: a desk answers each turn as the world that it shows.
     kept_turns_show_worlds();
     let Ok(desk) = Desk::new(alloc, Volume::new(alloc, MAX_CHANGES)) else {
         return Err(out_of_memory(writer));

@@ -91,6 +91,7 @@ impl Session {
         ensures err { OnErr result (Begins out.new.items out.old.items) }
         ensures memory { IfErr result (λ e. e ≡ NoMemory) }
     {
+        // Two calls for what they prove: a result rises by node, and the desk's volume is a tree.
         results_rise();
         let _ = self.desk.volume().changes();
         let reply = self.desk.turn(event);

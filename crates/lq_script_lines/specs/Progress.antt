@@ -1,8 +1,11 @@
 -- The progress of a run over a script.
-use Rattle.std.specs.Prelude.{◌≡◌, ◌<◌, ◌≤◌, ◌⊎◌, ℕ, List, [], ◌∷◌, ◌++◌, Bool, true, false, length, take, Option}
+use Rattle.std.specs.Prelude.{◌≡◌, ◌<◌, ◌≤◌, ◌⊎◌, ℕ, List, [], ◌∷◌, ◌++◌, Bool, true, false, length, take, Option, ◌+◌, Result, OnOk, OnErr, IsErrOf}
 use Rattle.std.specs.Io.KnownBytes.{Appends}
 use Rattle.lq_script_lines.specs.declared.intake.Intake.{Intake}
 use Rattle.lq_script_lines.specs.Lines.{Begins, IsUnbroken, Rules, ended_lines, line_of, lines_of, replies_to, state_after}
+use Rattle.lq_script_lines.specs.Output.{output_of}
+use Rattle.lq_script_lines.specs.declared.run_fault.RunFault.{RunFault}
+use Rattle.lq_script_lines.specs.declared.run_fault.RunFault.TheVariants.{Limit, Read, Thread, Write}
 
 -- what is kept of a line in progress: its bytes, or only that it is too long
 abbrev pub IsKept : List ℕ → Bool → List ℕ → Type 0
@@ -84,3 +87,55 @@ abbrev pub MeetsLimit : {State : Type 0} → Rules State → List ℕ
 MeetsLimit {State} rules piece written state intake out written' state' intake' out' =
     (began : Began State) → (given : List ℕ) → Stands rules began given written state intake out
     → Meets rules began given piece written' state' intake' out'
+
+-- the end of an input writes the whole output, wherever the run began
+abbrev pub Completes : {State : Type 0} → Rules State
+    → Option (List ℕ) → State → Intake → List ℕ → Option (List ℕ) → Type 0
+Completes {State} rules written state intake out written' =
+    (began : Began State) → (given : List ℕ) → Stands rules began given written state intake out
+    → Appends began.written written' (output_of rules began.state given)
+
+-- a fault at the end of an input leaves a prefix of the output
+abbrev pub LeavesAtEnd : {State : Type 0} → Rules State
+    → Option (List ℕ) → State → Intake → List ℕ → Option (List ℕ) → Type 0
+LeavesAtEnd {State} rules written state intake out written' =
+    (began : Began State) → (given : List ℕ) → Stands rules began given written state intake out
+    → Fronts rules began given written' []
+
+-- what a run is at between two pieces: the writer, the responder's state, the input so far and the
+-- replies that wait
+pub record Standing (State : Type 0) : Type 0 where
+  pub written : Option (List ℕ)
+  pub failed : Bool
+  pub stalled : Bool
+  pub state : State
+  pub intake : Intake
+  pub out : List ℕ
+
+abbrev pub standing : {State : Type 0} → Option (List ℕ) → Bool → Bool → State → Intake → List ℕ
+    → Standing State
+standing written failed stalled state intake out = record {
+  written = written;
+  failed = failed;
+  stalled = stalled;
+  state = state;
+  intake = intake;
+  out = out;
+}
+
+-- A piece that was taken keeps the invariant, and the writer works as before. A fault leaves a
+-- prefix of the output, and the limit the answers up to it. A fault of the writer has its cause in
+-- this piece.
+pub record TakesPiece {State : Type 0} (rules : Rules State) (piece : List ℕ)
+    (result : Result (Unit {0}) RunFault) (old new : Standing State) : Type 0 where
+  pub ok : OnOk result (Goes rules piece old.written old.state old.intake old.out
+      new.written new.state new.intake new.out)
+  pub bytes : OnOk result (new.intake.bytes ≡ old.intake.bytes + length piece)
+  pub works : OnOk result ((new.failed ≡ old.failed) × (new.stalled ≡ old.stalled))
+  pub err : OnErr result
+      (Leaves rules piece old.written old.state old.intake old.out new.written new.out)
+  pub limit : IsErrOf result Limit → MeetsLimit rules piece
+      old.written old.state old.intake old.out new.written new.state new.intake new.out
+  pub not_read : IsErrOf result Read → ⊥
+  pub not_thread : IsErrOf result Thread → ⊥
+  pub cause : IsErrOf result Write → (new.failed ≡ true) ⊎ (new.stalled ≡ true)

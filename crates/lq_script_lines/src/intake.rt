@@ -147,7 +147,6 @@ fn answer_whole<S: Responder>(
         (S.state responder.new ≡ state_after S.rules (S.state responder.old) (line_of line.now)) }
     ensures err { OnErr result (out.new.items ≡ out.old.items) }
     ensures memory { IfErr result (λ e. e ≡ RunFault.Memory) }
-    ensures empty { line.now ≡ [] → IsOk result }
 {
     let before = out.len();
     if answer_given(cut_cr(line), responder, out).is_err() {

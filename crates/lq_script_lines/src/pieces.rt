@@ -3,7 +3,7 @@ ghost use Rattle.std.specs.Prelude.{◌≡◌, ◌+◌, ◌++◌, ◌⊎◌, ◌
 ghost use Rattle.std.specs.Io.KnownBytes.{Appends};
 ghost use Rattle.lq_script_lines.specs.Lines.{IsUnbroken};
 ghost use Rattle.lq_script_lines.specs.Output.{output_of};
-ghost use Rattle.lq_script_lines.specs.Progress.{Began, Fronts, Goes, Leaves, MeetsLimit, Stands};
+ghost use Rattle.lq_script_lines.specs.Progress.{Completes, Goes, Leaves, LeavesAtEnd, TakesPiece, standing};
 
 use crate::devices::{Failed, Sink};
 use crate::intake::{Intake, MAX_BYTES, MAX_LINES};
@@ -60,22 +60,11 @@ pub fn take_piece<S: Responder, W: Sink>(
     out: &mut Vec<u8>,
     writer: &mut W,
 ) -> Result<(), RunFault>
-    ensures ok { OnOk result (Goes S.rules piece.now
-        (W.written writer.old) (S.state responder.old) intake.old out.old.items
-        (W.written writer.new) (S.state responder.new) intake.new out.new.items) }
-    ensures bytes { OnOk result (intake.new.bytes ≡ intake.old.bytes + length piece.now) }
-    ensures works { OnOk result ((W.failed writer.new ≡ W.failed writer.old)
-        × (W.stalled writer.new ≡ W.stalled writer.old)) }
-    ensures err { OnErr result (Leaves S.rules piece.now
-        (W.written writer.old) (S.state responder.old) intake.old out.old.items
-        (W.written writer.new) out.new.items) }
-    ensures limit { IsErrOf result RunFault.Limit → MeetsLimit S.rules piece.now
-        (W.written writer.old) (S.state responder.old) intake.old out.old.items
-        (W.written writer.new) (S.state responder.new) intake.new out.new.items }
-    ensures not_read { IsErrOf result RunFault.Read → ⊥ }
-    ensures not_thread { IsErrOf result RunFault.Thread → ⊥ }
-    ensures cause { IsErrOf result RunFault.Write →
-        (W.failed writer.new ≡ true) ⊎ (W.stalled writer.new ≡ true) }
+    ensures taken { TakesPiece S.rules piece.now result
+        (standing (W.written writer.old) (W.failed writer.old) (W.stalled writer.old)
+        (S.state responder.old) intake.old out.old.items)
+        (standing (W.written writer.new) (W.failed writer.new) (W.stalled writer.new)
+        (S.state responder.new) intake.new out.new.items) }
 {
     let mut at = 0;
     while at < piece.len() {
@@ -113,22 +102,18 @@ fn run_at(piece: &[u8], at: usize, most: usize) -> &[u8]
 }
 
 /// Answers the last line, if it has no LF, and flushes once.
-pub fn finish<S: Responder, W: Sink>(
+pub(crate) fn finish<S: Responder, W: Sink>(
     intake: &Intake,
     responder: &mut S,
     out: &mut Vec<u8>,
     writer: &mut W,
 ) -> Result<(), RunFault>
-    ensures ok { OnOk result ((began : Began S.State) → (given : List ℕ)
-        → Stands S.rules began given (W.written writer.old) (S.state responder.old)
-        intake.now out.old.items
-        → Appends began.written (W.written writer.new) (output_of S.rules began.state given)) }
+    ensures ok { OnOk result (Completes S.rules (W.written writer.old) (S.state responder.old)
+        intake.now out.old.items (W.written writer.new)) }
     ensures works { OnOk result ((W.failed writer.new ≡ W.failed writer.old)
         × (W.stalled writer.new ≡ W.stalled writer.old)) }
-    ensures err { OnErr result ((began : Began S.State) → (given : List ℕ)
-        → Stands S.rules began given (W.written writer.old) (S.state responder.old)
-        intake.now out.old.items
-        → Fronts S.rules began given (W.written writer.new) []) }
+    ensures err { OnErr result (LeavesAtEnd S.rules (W.written writer.old) (S.state responder.old)
+        intake.now out.old.items (W.written writer.new)) }
     ensures flushed { OnOk result (W.flushed writer.new ≡ true) }
     ensures fault { IfErr result (λ e. (e ≡ RunFault.Write) ⊎ (e ≡ RunFault.Memory)) }
     ensures cause { IsErrOf result RunFault.Write →

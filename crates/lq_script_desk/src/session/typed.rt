@@ -50,6 +50,7 @@ impl Session {
     pub fn turn(&mut self, event: &Event) -> Reply
         ensures { Turned (keeps self.old) (keeps self.new) event.now (answer_of result) }
     {
+        // Two calls for what they prove: a result rises by node, and the desk's volume is a tree.
         results_rise();
         let _ = self.desk.volume().changes();
         let reply = self.desk.turn(event);

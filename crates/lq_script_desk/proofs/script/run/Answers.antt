@@ -1,23 +1,19 @@
-use Rattle.std.proofs.Common.{ℕ, List, [], subst, refl, ◌∙◌}
+use Rattle.std.proofs.Common.{◌≡◌, List, ℕ, [], subst, refl, ap, ◌∙◌, ◌⊎◌, Err, inr}
 use Rattle.std.proofs.KnownBytes.{Appends-nil, Consumes-nil}
 use Rattle.std.specs.Io.KnownBytes.{Appends, Keeps}
-use Rattle.std.specs.Prelude.{Option, Some, None, Result, Ok, Err, OnOk, OnErr}
+use Rattle.std.specs.Prelude.{Bool, Option, Some, None, Result, true}
 use Rattle.lq_volume.specs.State.{State}
 use Rattle.lq_desk_world.specs.World.{first_world}
 use Rattle.lq_desk.specs.Kept.{Shows}
+use Rattle.lq_script_lines.specs.Lines.{Rules}
 use Rattle.lq_script_lines.specs.Output.{output_of}
+use Rattle.lq_script_lines.specs.Outcome.{IsRunOutcome, reader_log, writer_log}
+use Rattle.lq_script_lines.specs.declared.run_fault.RunFault.{RunFault}
+use Rattle.lq_script_lines.specs.declared.run_fault.RunFault.TheVariants.{Limit, Memory, Read, Thread, Write}
 use Rattle.lq_script_desk.specs.Session.{session_with}
 use Rattle.lq_script_desk.specs.Script.{script_session, script_world, world_rules}
-use Rattle.lq_script_desk.proofs.ScriptLemmas.{Alike, answered-world, stopped-world, ended-world, passed-world}
+use Rattle.lq_script_desk.proofs.ScriptLemmas.{Alike, outcome-world}
 use Rattle.lq_script_desk.proofs.script.run.Goals as goal
-
-on_ok : {T E P Q : Type 0} (r : Result T E) → (P → Q) → OnOk r P → OnOk r Q
-on_ok (Ok x) f h = f h
-on_ok (Err e) f h = tt
-
-on_err : {T E P Q : Type 0} (r : Result T E) → (P → Q) → OnErr r P → OnErr r Q
-on_err (Ok x) f h = tt
-on_err (Err e) f h = f h
 
 -- what keeps its bytes appends none
 keeps_appends : (b c : Option (List ℕ)) → Keeps b c → Appends b c []
@@ -25,73 +21,56 @@ keeps_appends None c k = tt
 keeps_appends (Some x) None k = absurd k
 keeps_appends (Some x) (Some y) k = k ∙ Appends-nil (Some x)
 
--- with nothing read and nothing written
-pub returns-in_default-clause-err : goal.returns-in_default-clause-err
-returns-in_default-clause-err g c = record {
-  given = [];
-  consumed = Consumes-nil _;
-  text = [];
-  appended = keeps_appends _ _ c.out_of_memory.ensures.bytes;
-  front = (output_of world_rules script_session [], refl);
+-- a run for which there is no memory reads nothing and writes nothing
+no_memory : {State : Type 0} (rules : Rules State) (state : State)
+    (left written written' : Option (List ℕ)) (fails failed stalled flushed : Bool)
+    (result : Result (Unit {0}) RunFault) → result ≡ Err Memory → Keeps written written'
+    → (flushed ≡ true) ⊎ (failed ≡ true) → IsRunOutcome rules state result
+    (reader_log left left fails) (writer_log written written' failed stalled flushed)
+no_memory rules state left written written' fails failed stalled flushed result is same flush =
+    rw is record {
+      ok = tt;
+      flushed = tt;
+      works = tt;
+      err = record {
+        given = [];
+        consumed = Consumes-nil _;
+        text = [];
+        appended = keeps_appends _ _ same;
+        front = (output_of rules state [], refl);
+      };
+      flush = inr flush;
+      read = λ h. absurd (let no : Err Memory ≡ Err Read = h in cc);
+      limit = λ h. absurd (let no : Err Memory ≡ Err Limit = h in cc);
+      read_fails = λ h. absurd (let no : Err Memory ≡ Err Read = h in cc);
+      write_fails = λ h. absurd (let no : Err Memory ≡ Err Write = h in cc);
+      no_thread = λ h. let no : Err Memory ≡ Err Thread = h in cc;
+    }
+
+pub returns-in_default : goal.returns-in_default
+returns-in_default g c = record {
+  outcome = no_memory world_rules script_session _ _ _ _ _ _ _ _
+      (ap Err c.out_of_memory.ensures.fault) c.out_of_memory.ensures.bytes
+      c.out_of_memory.ensures.flushed;
 }
 
-pub returns-in_default-no_rebuilds-clause-err : goal.returns-in_default-no_rebuilds-clause-err
-returns-in_default-no_rebuilds-clause-err g c = record {
-  given = [];
-  consumed = Consumes-nil _;
-  text = [];
-  appended = keeps_appends _ _ c.out_of_memory-in_default-no_rebuilds.ensures.bytes;
-  front = (output_of world_rules script_session [], refl);
-}
+pub returns-in_default-no_rebuilds : goal.returns-in_default-no_rebuilds
+returns-in_default-no_rebuilds g c =
+    let says = c.out_of_memory-in_default-no_rebuilds.ensures in record {
+      outcome = no_memory world_rules script_session _ _ _ _ _ _ _ _
+          (ap Err says.fault) says.bytes says.flushed;
+    }
 
-pub returns-clause-ok : goal.returns-clause-ok
-returns-clause-ok g c =
+pub returns : goal.returns
+returns g c =
     let desk : Shows c.in-Ok.desk script_world = subst (λ (s : State). Shows c.in-Ok.desk
     (first_world (record { start = s; changes = [] }))) c.new.ensures c.in-Ok.ensures.world in
-    let alike : Alike (session_with c.new-session.result.desk c.new-session.result.rebuilds.items)
-    script_session = record {
+    let session =
+    session_with c.new-session.result.desk c.new-session.result.rebuilds.items in
+    let alike : Alike session script_session = record {
       core = rw c.new-session.ensures.desk desk;
       folds = c.new-session.ensures.rebuilds ∙ c.in-Ok-no_rebuilds.ensures.none;
-    } in
-    on_ok c.run_lines.result (answered-world c.kept_turns_show_worlds.ensures
-    (session_with c.new-session.result.desk c.new-session.result.rebuilds.items) script_session
-    alike _ _ _ _) c.run_lines.ensures.ok
-
-pub returns-clause-err : goal.returns-clause-err
-returns-clause-err g c =
-    let desk : Shows c.in-Ok.desk script_world = subst (λ (s : State). Shows c.in-Ok.desk
-    (first_world (record { start = s; changes = [] }))) c.new.ensures c.in-Ok.ensures.world in
-    let alike : Alike (session_with c.new-session.result.desk c.new-session.result.rebuilds.items)
-    script_session = record {
-      core = rw c.new-session.ensures.desk desk;
-      folds = c.new-session.ensures.rebuilds ∙ c.in-Ok-no_rebuilds.ensures.none;
-    } in
-    on_err c.run_lines.result (stopped-world c.kept_turns_show_worlds.ensures
-    (session_with c.new-session.result.desk c.new-session.result.rebuilds.items) script_session
-    alike _ _ _ _) c.run_lines.ensures.err
-
-pub returns-clause-read : goal.returns-clause-read
-returns-clause-read g c = λ is.
-    let desk : Shows c.in-Ok.desk script_world = subst (λ (s : State). Shows c.in-Ok.desk
-    (first_world (record { start = s; changes = [] }))) c.new.ensures c.in-Ok.ensures.world in
-    let alike : Alike (session_with c.new-session.result.desk c.new-session.result.rebuilds.items)
-    script_session = record {
-      core = rw c.new-session.ensures.desk desk;
-      folds = c.new-session.ensures.rebuilds ∙ c.in-Ok-no_rebuilds.ensures.none;
-    } in
-    ended-world c.kept_turns_show_worlds.ensures
-    (session_with c.new-session.result.desk c.new-session.result.rebuilds.items) script_session
-    alike _ _ _ _ (c.run_lines.ensures.read is)
-
-pub returns-clause-limit : goal.returns-clause-limit
-returns-clause-limit g c = λ is.
-    let desk : Shows c.in-Ok.desk script_world = subst (λ (s : State). Shows c.in-Ok.desk
-    (first_world (record { start = s; changes = [] }))) c.new.ensures c.in-Ok.ensures.world in
-    let alike : Alike (session_with c.new-session.result.desk c.new-session.result.rebuilds.items)
-    script_session = record {
-      core = rw c.new-session.ensures.desk desk;
-      folds = c.new-session.ensures.rebuilds ∙ c.in-Ok-no_rebuilds.ensures.none;
-    } in
-    passed-world c.kept_turns_show_worlds.ensures
-    (session_with c.new-session.result.desk c.new-session.result.rebuilds.items) script_session
-    alike _ _ _ _ (c.run_lines.ensures.limit is)
+    } in record {
+      outcome = outcome-world c.kept_turns_show_worlds.ensures session script_session alike
+          _ _ _ c.run_lines.ensures.outcome;
+    }

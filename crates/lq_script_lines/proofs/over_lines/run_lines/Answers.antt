@@ -1,8 +1,8 @@
-use Rattle.std.proofs.Common.{refl, sym, ◌∙◌, rules, arith, Err, ◌≡◌, [], inl}
+use Rattle.std.proofs.Common.{refl, sym, ◌∙◌, rules, arith, Err, ◌≡◌, [], inl, inr}
 use Rattle.std.proofs.KnownBytes.{Consumes-kept, Consumes-nil}
 use Rattle.std.proofs.lemmas.Result.{on_err_weaker, on_ok_weaker}
 use Rattle.lq_script_lines.specs.declared.run_fault.RunFault.TheVariants.{Limit, Read, Thread, Write}
-use Rattle.lq_script_lines.proofs.ResultLemmas.{no_ok, no_other, on_err_any}
+use Rattle.lq_script_lines.proofs.ResultLemmas.{else_memory, neither, no_ok, no_other, on_err_any}
 use Rattle.lq_script_lines.proofs.ProgressLemmas.{fronts_all, fronts_handed, stands_empty, stands_handed, stands_stops}
 use Rattle.lq_script_lines.proofs.RunLemmas.{less_left, read_none, run_answered, run_ended, run_passed, run_reads, run_stopped, stands_none}
 use Rattle.lq_script_lines.proofs.over_lines.run_lines.Goals as goal
@@ -25,19 +25,21 @@ returns-in_err-write_replies g c =
     let is : c.from_residual.result ≡ Err Write = search rules in
     let i = c.loop-out.invariant in
     let part = c.in_err-write_replies.ensures.err in record {
-      ok = no_ok _ c.from_residual.result _ is;
-      flushed = no_ok _ c.from_residual.result _ is;
-      works = no_ok _ c.from_residual.result _ is;
-      err = on_err_any c.from_residual.result (
-          run_stopped g.S.Responder.rules _ _ _ _ i.given _ i.consumed
-          (fronts_handed g.S.Responder.rules _ i.given _ _ _ part.0
-          (stands_stops g.S.Responder.rules _ i.given _ _ _ _ i.stands) part.1));
-      flush = on_err_any c.from_residual.result (inl is);
-      read = λ h. elim (no_other Write Read is refl h) [ ];
-      limit = λ h. elim (no_other Write Limit is refl h) [ ];
-      read_fails = λ h. elim (no_other Write Read is refl h) [ ];
-      write_fails = λ _. c.in_err-write_replies.ensures.cause;
-      no_thread = λ h. no_other Write Thread is refl h;
+      outcome = record {
+        ok = no_ok _ c.from_residual.result _ is;
+        flushed = no_ok _ c.from_residual.result _ is;
+        works = no_ok _ c.from_residual.result _ is;
+        err = on_err_any c.from_residual.result (
+            run_stopped g.S.Responder.rules _ _ _ _ i.given _ i.consumed
+            (fronts_handed g.S.Responder.rules _ i.given _ _ _ part.0
+            (stands_stops g.S.Responder.rules _ i.given _ _ _ _ i.stands) part.1));
+        flush = on_err_any c.from_residual.result (inl is);
+        read = λ h. elim (no_other Write Read is refl h) [ ];
+        limit = λ h. elim (no_other Write Limit is refl h) [ ];
+        read_fails = λ h. elim (no_other Write Read is refl h) [ ];
+        write_fails = λ _. c.in_err-write_replies.ensures.cause;
+        no_thread = λ h. no_other Write Thread is refl h;
+      };
     }
 
 -- a fault of the writer after a read fault
@@ -49,58 +51,79 @@ returns-in_err-write_and_flush g c =
     let stood = stands_empty g.S.Responder.rules _ i.given _ _ _ _ _ _ i.stands
     c.in_ok-write_replies.ensures.ok c.write_replies.ensures.empty in
     let part = c.in_err-write_and_flush.ensures.err in record {
-      ok = no_ok _ r _ is;
-      flushed = no_ok _ r _ is;
-      works = no_ok _ r _ is;
-      err = on_err_any r (run_stopped g.S.Responder.rules _ _ _ _ i.given _
-          (Consumes-kept _ _ _ _ i.consumed c.in_default.ensures.bytes)
-          (fronts_handed g.S.Responder.rules _ i.given _ _ _ part.0
-          (stands_stops g.S.Responder.rules _ i.given _ _ _ _ stood) part.1));
-      flush = on_err_any r (inl is);
-      read = λ h. elim (no_other Write Read is refl h) [ ];
-      limit = λ h. elim (no_other Write Limit is refl h) [ ];
-      read_fails = λ h. elim (no_other Write Read is refl h) [ ];
-      write_fails = λ _. c.in_err-write_and_flush.ensures.cause;
-      no_thread = λ h. no_other Write Thread is refl h;
+      outcome = record {
+        ok = no_ok _ r _ is;
+        flushed = no_ok _ r _ is;
+        works = no_ok _ r _ is;
+        err = on_err_any r (run_stopped g.S.Responder.rules _ _ _ _ i.given _
+            (Consumes-kept _ _ _ _ i.consumed c.in_default.ensures.bytes)
+            (fronts_handed g.S.Responder.rules _ i.given _ _ _ part.0
+            (stands_stops g.S.Responder.rules _ i.given _ _ _ _ stood) part.1));
+        flush = on_err_any r (inl is);
+        read = λ h. elim (no_other Write Read is refl h) [ ];
+        limit = λ h. elim (no_other Write Limit is refl h) [ ];
+        read_fails = λ h. elim (no_other Write Read is refl h) [ ];
+        write_fails = λ _. c.in_err-write_and_flush.ensures.cause;
+        no_thread = λ h. no_other Write Thread is refl h;
+      };
     }
 
-pub returns-in_default-clause-err : goal.returns-in_default-clause-err
-returns-in_default-clause-err g c =
+-- a read fault
+pub returns-in_default : goal.returns-in_default
+returns-in_default g c =
     let i = c.loop-out.invariant in
     let stood = stands_empty g.S.Responder.rules _ i.given _ _ _ _ _ _ i.stands
     c.in_ok-write_replies.ensures.ok c.write_replies.ensures.empty in
-    run_stopped g.S.Responder.rules _ _ _ _ i.given _
-    (Consumes-kept _ _ _ _ i.consumed c.in_default.ensures.bytes)
-    (fronts_all g.S.Responder.rules _ i.given _ _ _
-    (stands_stops g.S.Responder.rules _ i.given _ _ _ _ stood) c.in_ok-write_and_flush.ensures.ok)
+    let read = Consumes-kept _ _ _ _ i.consumed c.in_default.ensures.bytes in record {
+      outcome = record {
+        ok = tt;
+        flushed = tt;
+        works = tt;
+        err = run_stopped g.S.Responder.rules _ _ _ _ i.given _ read
+            (fronts_all g.S.Responder.rules _ i.given _ _ _
+            (stands_stops g.S.Responder.rules _ i.given _ _ _ _ stood)
+            c.in_ok-write_and_flush.ensures.ok);
+        flush = inr c.in_ok-write_and_flush.ensures.flushed;
+        read = λ _. run_ended g.S.Responder.rules _ _ _ _ i.given _ _ read
+            (stands_handed g.S.Responder.rules _ i.given _ _ _ _ _ stood
+            c.in_ok-write_and_flush.ensures.ok);
+        limit = λ h. elim (no_other Read Limit refl refl h) [ ];
+        read_fails = λ _. c.in_default.ensures.fails;
+        write_fails = λ h. elim (no_other Read Write refl refl h) [ ];
+        no_thread = λ h. no_other Read Thread refl refl h;
+      };
+    }
 
-pub returns-in_default-clause-read : goal.returns-in_default-clause-read
-returns-in_default-clause-read g c = λ _.
+-- the end of the input
+pub returns-then-count-eq0 : goal.returns-then-count-eq0
+returns-then-count-eq0 g c =
     let i = c.loop-out.invariant in
     let stood = stands_empty g.S.Responder.rules _ i.given _ _ _ _ _ _ i.stands
     c.in_ok-write_replies.ensures.ok c.write_replies.ensures.empty in
-    run_ended g.S.Responder.rules _ _ _ _ i.given _ _
-    (Consumes-kept _ _ _ _ i.consumed c.in_default.ensures.bytes)
-    (stands_handed g.S.Responder.rules _ i.given _ _ _ _ _ stood c.in_ok-write_and_flush.ensures.ok)
-
-pub returns-then-count-eq0-clause-ok : goal.returns-then-count-eq0-clause-ok
-returns-then-count-eq0-clause-ok g c =
-    let i = c.loop-out.invariant in
-    let stood = stands_empty g.S.Responder.rules _ i.given _ _ _ _ _ _ i.stands
-    c.in_ok-write_replies.ensures.ok c.write_replies.ensures.empty in
-    let read = c.in-Ok.ensures.bytes in
-    on_ok_weaker c.finish.result (λ says. run_answered g.S.Responder.rules _ _ _ _ _ i.given _ _ _
-    (read_none _ _ _ i.given _ c.in-Ok.count c.if-count-eq0.true i.consumed read.0)
-    (read.1 c.if-count-eq0.true (omega arith)) stood (says _ i.given stood)) c.finish.ensures.ok
-
-pub returns-then-count-eq0-clause-err : goal.returns-then-count-eq0-clause-err
-returns-then-count-eq0-clause-err g c =
-    let i = c.loop-out.invariant in
-    let stood = stands_empty g.S.Responder.rules _ i.given _ _ _ _ _ _ i.stands
-    c.in_ok-write_replies.ensures.ok c.write_replies.ensures.empty in
-    on_err_weaker c.finish.result (λ says. run_stopped g.S.Responder.rules _ _ _ _ i.given _
-    (read_none _ _ _ i.given _ c.in-Ok.count c.if-count-eq0.true i.consumed c.in-Ok.ensures.bytes.0)
-    (says _ i.given stood)) c.finish.ensures.err
+    let bytes = c.in-Ok.ensures.bytes in
+    let read =
+    read_none _ _ _ i.given _ c.in-Ok.count c.if-count-eq0.true i.consumed bytes.0 in
+    let says = c.finish.ensures in
+    let r = c.finish.result in record {
+      outcome = record {
+        ok = on_ok_weaker r (λ all. run_answered g.S.Responder.rules _ _ _ _ _ i.given _ _ _ read
+            (bytes.1 c.if-count-eq0.true (omega arith)) stood (all _ i.given stood)) says.ok;
+        flushed = says.flushed;
+        works = on_ok_weaker r (λ same. (
+          c.in-Ok.ensures.works ∙ i.reader_works,
+          same.0 ∙ c.in_ok-write_replies.ensures.works.0 ∙ i.writer_works,
+          same.1 ∙ c.in_ok-write_replies.ensures.works.1 ∙ i.writer_moves,
+        )) says.works;
+        err = on_err_weaker r (λ part. run_stopped g.S.Responder.rules _ _ _ _ i.given _ read
+            (part _ i.given stood)) says.err;
+        flush = else_memory r says.fault says.memory_flushed;
+        read = λ h. elim (neither r Read says.fault refl refl h) [ ];
+        limit = λ h. elim (neither r Limit says.fault refl refl h) [ ];
+        read_fails = λ h. elim (neither r Read says.fault refl refl h) [ ];
+        write_fails = says.cause;
+        no_thread = λ h. neither r Thread says.fault refl refl h;
+      };
+    }
 
 pub loop-out-smaller : goal.loop-out-smaller
 loop-out-smaller g c =
@@ -137,16 +160,18 @@ returns-in_err-take_block g c =
     let i = c.loop-out.invariant in
     let stood = stands_empty g.S.Responder.rules _ i.given _ _ _ _ _ _ i.stands
     c.in_ok-write_replies.ensures.ok c.write_replies.ensures.empty in record {
-      ok = no_ok _ r _ is;
-      flushed = no_ok _ r _ is;
-      works = no_ok _ r _ is;
-      err = on_err_any r (run_stopped g.S.Responder.rules _ _ _ _ _ _ (run_reads _ _ _ i.given _ _
-          i.consumed c.in-Ok.ensures.bytes.0 refl) (says.err _ i.given stood));
-      flush = on_err_any r (rw is says.flushed);
-      read = λ h. elim (says.not_read (sym is ∙ h)) [ ];
-      limit = λ h. run_passed g.S.Responder.rules _ _ _ _ _ i.given _ _ _ _ i.consumed
-          c.in-Ok.ensures.bytes.0 refl (says.limit (sym is ∙ h) _ i.given stood);
-      read_fails = λ h. elim (says.not_read (sym is ∙ h)) [ ];
-      write_fails = λ h. says.cause (sym is ∙ h);
-      no_thread = λ h. says.not_thread (sym is ∙ h);
+      outcome = record {
+        ok = no_ok _ r _ is;
+        flushed = no_ok _ r _ is;
+        works = no_ok _ r _ is;
+        err = on_err_any r (run_stopped g.S.Responder.rules _ _ _ _ _ _ (run_reads _ _ _ i.given _ _
+            i.consumed c.in-Ok.ensures.bytes.0 refl) (says.err _ i.given stood));
+        flush = on_err_any r (rw is says.flushed);
+        read = λ h. elim (says.not_read (sym is ∙ h)) [ ];
+        limit = λ h. run_passed g.S.Responder.rules _ _ _ _ _ i.given _ _ _ _ i.consumed
+            c.in-Ok.ensures.bytes.0 refl (says.limit (sym is ∙ h) _ i.given stood);
+        read_fails = λ h. elim (says.not_read (sym is ∙ h)) [ ];
+        write_fails = λ h. says.cause (sym is ∙ h);
+        no_thread = λ h. says.not_thread (sym is ∙ h);
+      };
     }

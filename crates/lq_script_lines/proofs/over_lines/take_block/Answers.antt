@@ -6,9 +6,9 @@ use Rattle.lq_script_lines.proofs.over_lines.take_block.Goals as goal
 
 pub returns-in-Ok : goal.returns-in-Ok
 returns-in-Ok g c = record {
-  ok = c.in-Ok.ensures.ok;
-  bytes = c.in-Ok.ensures.bytes;
-  works = c.in-Ok.ensures.works;
+  ok = c.in-Ok.ensures.taken.ok;
+  bytes = c.in-Ok.ensures.taken.bytes;
+  works = c.in-Ok.ensures.taken.works;
   err = tt;
   limit = λ h. elim (no_fault _ Limit refl h) [ ];
   flushed = tt;
@@ -22,12 +22,12 @@ returns-in-Err-Write g c = record {
   ok = tt;
   bytes = tt;
   works = tt;
-  err = c.in-Err-Write.ensures.err;
+  err = c.in-Err-Write.ensures.taken.err;
   limit = λ h. elim (no_other Write Limit refl refl h) [ ];
   flushed = inl refl;
   not_read = λ h. no_other Write Read refl refl h;
   not_thread = λ h. no_other Write Thread refl refl h;
-  cause = λ _. c.in-Err-Write.ensures.cause (ap Err c.in-Err-Write.field-0-is);
+  cause = λ _. c.in-Err-Write.ensures.taken.cause (ap Err c.in-Err-Write.field-0-is);
 }
 
 pub returns-in_err-write_and_flush-in-Err : goal.returns-in_err-write_and_flush-in-Err
@@ -39,7 +39,8 @@ returns-in_err-write_and_flush-in-Err g c =
       err = on_err_any c.from_residual.result (λ began given s.
           let part = c.in_err-write_and_flush-in-Err.ensures.err in
           rw c.write_and_flush.ensures.empty (fronts_handed g.S.Responder.rules began
-          (given ++ c.args.piece.now) _ _ _ part.0 (c.in-Err.ensures.err began given s) part.1));
+          (given ++ c.args.piece.now) _ _ _ part.0 (c.in-Err.ensures.taken.err began given s)
+          part.1));
       limit = λ h. elim (no_other Write Limit is refl h) [ ];
       flushed = on_err_any c.from_residual.result (inl is);
       not_read = λ h. no_other Write Read is refl h;
@@ -55,12 +56,12 @@ returns-in_ok-write_and_flush-in-Err g c = record {
   err = λ began given s.
       rw c.write_and_flush.ensures.empty
       (fronts_all g.S.Responder.rules began (given ++ c.args.piece.now)
-      _ _ _ (c.in-Err.ensures.err began given s) c.in_ok-write_and_flush-in-Err.ensures.ok);
+      _ _ _ (c.in-Err.ensures.taken.err began given s) c.in_ok-write_and_flush-in-Err.ensures.ok);
   limit = λ is began given s.
       meets_handed g.S.Responder.rules began given c.args.piece.now _ _ _ _ _
-      (c.in-Err.ensures.limit is began given s) c.in_ok-write_and_flush-in-Err.ensures.ok;
+      (c.in-Err.ensures.taken.limit is began given s) c.in_ok-write_and_flush-in-Err.ensures.ok;
   flushed = inr c.in_ok-write_and_flush-in-Err.ensures.flushed;
-  not_read = c.in-Err.ensures.not_read;
-  not_thread = c.in-Err.ensures.not_thread;
-  cause = λ is. c.write_and_flush.ensures.stays (c.in-Err.ensures.cause is);
+  not_read = c.in-Err.ensures.taken.not_read;
+  not_thread = c.in-Err.ensures.taken.not_thread;
+  cause = λ is. c.write_and_flush.ensures.stays (c.in-Err.ensures.taken.cause is);
 }

@@ -1,21 +1,22 @@
 use Rattle.std.proofs.Common.{◌≡◌, ◌∙◌, ◌+◌, Err, length, append-nil, arith, rules, drop, refl, sym, inl, inr}
 use Rattle.std.proofs.lemmas.List.{take_all}
 use Rattle.lq_script_lines.specs.declared.run_fault.RunFault.TheVariants.{Limit, Memory, Read, Thread, Write}
-use Rattle.lq_script_lines.proofs.ResultLemmas.{neither, no_ok, no_other, on_err_any}
+use Rattle.lq_script_lines.proofs.ResultLemmas.{neither, no_fault, no_ok, no_other, on_err_any}
 use Rattle.lq_script_lines.proofs.ProgressLemmas.{stands_after, stands_ahead, stands_run, stopped_at, stopped_in}
 use Rattle.lq_script_lines.proofs.pieces.take_piece.Goals as goal
 use Rattle.lq_script_lines.proofs.pieces.take_piece.Goals.{else-at-piece-via-else-at-piece, else-at-piece-via-then-at-piece+else-run-most}
 use Rattle.lq_script_lines.proofs.pieces.take_piece.Goals.{then-intake-ge-MAX_LINES-via-then-intake-ge-MAX_LINES, then-intake-ge-MAX_LINES-via-else-intake-ge-MAX_LINES+then-intake-ge-MAX_BYTES}
 
-pub returns-then-intake-ge-MAX_LINES-clause-err : goal.returns-then-intake-ge-MAX_LINES-clause-err
-returns-then-intake-ge-MAX_LINES-clause-err g c = λ began given s.
-    stopped_at g.S.Responder.rules began given c.args.piece.now c.loop-at.at _ _ _ _
-    (c.loop-at.invariant.stands began given s)
-
-pub returns-then-intake-ge-MAX_LINES-clause-limit :
-    goal.returns-then-intake-ge-MAX_LINES-clause-limit
-returns-then-intake-ge-MAX_LINES-clause-limit g c = λ _ began given s.
-    let stood = c.loop-at.invariant.stands began given s in record {
+pub returns-then-intake-ge-MAX_LINES : goal.returns-then-intake-ge-MAX_LINES
+returns-then-intake-ge-MAX_LINES g c = record {
+  taken = record {
+    ok = tt;
+    bytes = tt;
+    works = tt;
+    err = λ began given s.
+        stopped_at g.S.Responder.rules began given c.args.piece.now c.loop-at.at _ _ _ _
+        (c.loop-at.invariant.stands began given s);
+    limit = λ _ began given s. let stood = c.loop-at.invariant.stands began given s in record {
       count = c.loop-at.at;
       follows = c.loop-at-test.true;
       stands = stood;
@@ -25,7 +26,12 @@ returns-then-intake-ge-MAX_LINES-clause-limit g c = λ _ began given s.
         | then-intake-ge-MAX_LINES-via-else-intake-ge-MAX_LINES+then-intake-ge-MAX_BYTES w ↦
             inr (omega (arith, stood.bytes_within, w.if-intake-ge-MAX_BYTES.true))
       ];
-    }
+    };
+    not_read = λ h. no_other Limit Read refl refl h;
+    not_thread = λ h. no_other Limit Thread refl refl h;
+    cause = λ h. elim (no_other Limit Write refl refl h) [ ];
+  };
+}
 
 pub loop-at-init : goal.loop-at-init
 loop-at-init g c = record {
@@ -38,37 +44,42 @@ loop-at-init g c = record {
 pub returns-in_err-keep : goal.returns-in_err-keep
 returns-in_err-keep g c =
     let is : c.from_residual-in_err-keep.result ≡ Err Memory = search rules in record {
-      ok = no_ok _ c.from_residual-in_err-keep.result _ is;
-      bytes = no_ok _ c.from_residual-in_err-keep.result _ is;
-      works = no_ok _ c.from_residual-in_err-keep.result _ is;
-      err = on_err_any c.from_residual-in_err-keep.result (λ began given s.
-          stopped_at g.S.Responder.rules began given c.args.piece.now c.loop-at.at _ _ _ _
-          (c.loop-at.invariant.stands began given s));
-      limit = λ h. elim (no_other Memory Limit is refl h) [ ];
-      not_read = λ h. no_other Memory Read is refl h;
-      not_thread = λ h. no_other Memory Thread is refl h;
-      cause = λ h. elim (no_other Memory Write is refl h) [ ];
+      taken = record {
+        ok = no_ok _ c.from_residual-in_err-keep.result _ is;
+        bytes = no_ok _ c.from_residual-in_err-keep.result _ is;
+        works = no_ok _ c.from_residual-in_err-keep.result _ is;
+        err = on_err_any c.from_residual-in_err-keep.result (λ began given s.
+            stopped_at g.S.Responder.rules began given c.args.piece.now c.loop-at.at _ _ _ _
+            (c.loop-at.invariant.stands began given s));
+        limit = λ h. elim (no_other Memory Limit is refl h) [ ];
+        not_read = λ h. no_other Memory Read is refl h;
+        not_thread = λ h. no_other Memory Thread is refl h;
+        cause = λ h. elim (no_other Memory Write is refl h) [ ];
+      };
     }
 
 pub returns-in_err-end_line : goal.returns-in_err-end_line
 returns-in_err-end_line g c =
     let is : c.from_residual.result ≡ Err c.in_err-end_line.field-0.0 = search rules in
     let two = c.in_err-end_line.ensures.fault in record {
-      ok = no_ok _ c.from_residual.result _ is;
-      bytes = no_ok _ c.from_residual.result _ is;
-      works = no_ok _ c.from_residual.result _ is;
-      err = on_err_any c.from_residual.result (λ began given s.
-          stopped_in g.S.Responder.rules began given c.args.piece.now c.run_at-run.result.now
-          c.loop-at.at 10 _ _ c.run_at-run.ensures.run c.if-at-piece.true
-          (c.run_at-run.ensures.stops c.if-at-piece.true c.if-run-most.true)
-          (c.in_err-end_line.ensures.err
-          (drop (c.loop-at.at + length c.run_at-run.result.now + 1) c.args.piece.now) began _
-          (c.loop-at.invariant.stands began given s)));
-      limit = λ h.
-          elim (neither (Err c.in_err-end_line.field-0.0) Limit two refl refl (sym is ∙ h)) [ ];
-      not_read = λ h. neither (Err c.in_err-end_line.field-0.0) Read two refl refl (sym is ∙ h);
-      not_thread = λ h. neither (Err c.in_err-end_line.field-0.0) Thread two refl refl (sym is ∙ h);
-      cause = λ h. c.in_err-end_line.ensures.cause (sym is ∙ h);
+      taken = record {
+        ok = no_ok _ c.from_residual.result _ is;
+        bytes = no_ok _ c.from_residual.result _ is;
+        works = no_ok _ c.from_residual.result _ is;
+        err = on_err_any c.from_residual.result (λ began given s.
+            stopped_in g.S.Responder.rules began given c.args.piece.now c.run_at-run.result.now
+            c.loop-at.at 10 _ _ c.run_at-run.ensures.run c.if-at-piece.true
+            (c.run_at-run.ensures.stops c.if-at-piece.true c.if-run-most.true)
+            (c.in_err-end_line.ensures.err
+            (drop (c.loop-at.at + length c.run_at-run.result.now + 1) c.args.piece.now) began _
+            (c.loop-at.invariant.stands began given s)));
+        limit = λ h.
+            elim (neither (Err c.in_err-end_line.field-0.0) Limit two refl refl (sym is ∙ h)) [ ];
+        not_read = λ h. neither (Err c.in_err-end_line.field-0.0) Read two refl refl (sym is ∙ h);
+        not_thread = λ h.
+            neither (Err c.in_err-end_line.field-0.0) Thread two refl refl (sym is ∙ h);
+        cause = λ h. c.in_err-end_line.ensures.cause (sym is ∙ h);
+      };
     }
 
 pub loop-at-smaller : goal.loop-at-smaller
@@ -90,10 +101,22 @@ loop-at-smaller g c =
 pub loop-at-smaller-then-run-most : goal.loop-at-smaller-then-run-most
 loop-at-smaller-then-run-most g c = omega (arith, c.loop-at-test.true, c.if-at-piece.true)
 
-pub returns-clause-ok : goal.returns-clause-ok
-returns-clause-ok g c = λ began given s.
-    rw (take_all c.loop-at.at c.args.piece.now (omega (arith, c.loop-at-test.false)))
-    at (c.loop-at.invariant.stands began given s)
+pub returns : goal.returns
+returns g c = record {
+  taken = record {
+    ok = λ began given s.
+        rw (take_all c.loop-at.at c.args.piece.now (omega (arith, c.loop-at-test.false)))
+        at (c.loop-at.invariant.stands began given s);
+    bytes = omega
+        (arith, c.loop-at.invariant.bytes, c.loop-at.invariant.within, c.loop-at-test.false);
+    works = c.loop-at.invariant.works;
+    err = tt;
+    limit = λ h. elim (no_fault _ Limit refl h) [ ];
+    not_read = λ h. no_fault _ Read refl h;
+    not_thread = λ h. no_fault _ Thread refl h;
+    cause = λ h. elim (no_fault _ Write refl h) [ ];
+  };
+}
 
 pub loop-at-preserved : goal.loop-at-preserved
 loop-at-preserved g c = record {

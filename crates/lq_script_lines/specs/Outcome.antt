@@ -1,0 +1,51 @@
+-- What a run over a script answers, and what its reader and its writer say before and after it.
+use Rattle.std.specs.Prelude.{◌≡◌, ◌⊎◌, List, ℕ, Option, Bool, true, false, Result, Err, OnOk, OnErr, IsErrOf}
+use Rattle.lq_script_lines.specs.Lines.{Rules}
+use Rattle.lq_script_lines.specs.Output.{Answered, Ended, Passed, Stopped}
+use Rattle.lq_script_lines.specs.declared.run_fault.RunFault.{RunFault}
+use Rattle.lq_script_lines.specs.declared.run_fault.RunFault.TheVariants.{Limit, Read, Thread, Write}
+
+-- the bytes that a reader has left, before and after, and whether it failed
+pub record ReaderLog : Type 0 where
+  pub left : Option (List ℕ)
+  pub left' : Option (List ℕ)
+  pub failed : Bool
+
+-- the bytes that a writer has taken, before and after, whether it failed or took none of some
+-- bytes, and whether no write came after its last flush
+pub record WriterLog : Type 0 where
+  pub written : Option (List ℕ)
+  pub written' : Option (List ℕ)
+  pub failed : Bool
+  pub stalled : Bool
+  pub flushed : Bool
+
+abbrev pub reader_log : Option (List ℕ) → Option (List ℕ) → Bool → ReaderLog
+reader_log left left' failed = record { left = left; left' = left'; failed = failed }
+
+abbrev pub writer_log : Option (List ℕ) → Option (List ℕ) → Bool → Bool → Bool → WriterLog
+writer_log written written' failed stalled flushed = record {
+  written = written;
+  written' = written';
+  failed = failed;
+  stalled = stalled;
+  flushed = flushed;
+}
+
+-- A run that succeeded wrote the whole output, and no device failed. After a fault, the bytes
+-- written are a prefix of the output for the bytes read; after a read fault and at a limit, they
+-- are the output for the lines that LF ended. Each fault has its cause in the run.
+pub record IsRunOutcome {State : Type 0} (rules : Rules State) (state : State)
+    (result : Result (Unit {0}) RunFault) (r : ReaderLog) (w : WriterLog) : Type 0 where
+  pub ok : OnOk result (Answered rules state r.left r.left' w.written w.written')
+  pub flushed : OnOk result (w.flushed ≡ true)
+  pub works : OnOk result
+      ((r.failed ≡ false) × (w.failed ≡ false) × (w.stalled ≡ false))
+  pub err : OnErr result (Stopped rules state r.left r.left' w.written w.written')
+  pub flush : OnErr result
+      ((result ≡ Err Write) ⊎ ((w.flushed ≡ true) ⊎ (w.failed ≡ true)))
+  pub read : IsErrOf result Read → Ended rules state r.left r.left' w.written w.written'
+  pub limit : IsErrOf result Limit → Passed rules state r.left r.left' w.written w.written'
+  pub read_fails : IsErrOf result Read → r.failed ≡ true
+  pub write_fails : IsErrOf result Write → (w.failed ≡ true) ⊎ (w.stalled ≡ true)
+  pub no_thread : IsErrOf result Thread → ⊥
