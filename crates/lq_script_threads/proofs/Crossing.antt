@@ -7,10 +7,10 @@ use Rattle.lq_server.specs.declared.named.Named.{Ghosts}
 use Rattle.lq_script_reply.proofs.response.Response.TheSendSync as found_response
 use Rattle.lq_server.proofs.Crossing.{server_sync}
 use Rattle.lq_script_threads.specs.contracts.batch.Turn as turn
-use Rattle.lq_script_threads.proofs.held.Held.TheSendSync as found_held
+use Rattle.lq_script_threads.proofs.tokens.OwnReader.TheSendSync as found_reader
 
 -- it is `Send`, where the gate is `Sync`
 pub turn_send : (ℓ : NamedLft) (N G : RattleType) (g : Ghosts N.Denot) → IsSync G
     → IsSend (turn.the_row ℓ N G g)
 turn_send ℓ N G g gate =
-    search (sendable, crosses, server_sync, found_held.the_send, found_response.the_send) depth 20
+    search (sendable, crosses, server_sync, found_reader.the_send, found_response.the_send) depth 20

@@ -1,8 +1,8 @@
 //! Reads of several slots, side by side.
 use crate::gate::Gate;
-use crate::held::Held;
 use crate::places::Places;
 use crate::tasks::Task;
+use crate::tokens::OwnReader;
 use crate::workers::Workers;
 use lq_script_reply::{Response, put_reply};
 use lq_server::{Named, Server};
@@ -16,7 +16,7 @@ use std::thread::Threads;
 pub struct Turn<'a, N: Named, G> {
     server: &'a Server<N>,
     gate: &'a G,
-    held: Held<N>,
+    reader: OwnReader<N>,
     slot: u64,
     reads: usize,
     replies: Vec<Response>,
@@ -32,7 +32,7 @@ impl<'a, N: Named, G: Gate> Task for Turn<'a, N, G> {
     fn run<R: Wait>(&mut self, rt: &R) {
         for _ in 0..self.reads {
             self.gate.pass(rt, self.slot);
-            let Ok(reply) = self.held.read(rt, self.server) else {
+            let Ok(reply) = self.reader.read(rt, self.server) else {
                 return;
             };
             if self.replies.push(reply).is_err() {
@@ -78,7 +78,7 @@ pub fn read_beside<
     let mut turns = workers.do_all(turns)?;
     let told = put_replies(&mut turns, slots, out);
     for turn in turns {
-        places.put(turn.held);
+        places.put(turn.reader);
     }
     told
 }
@@ -121,14 +121,14 @@ fn turns_of<'a, N: Named, G: Gate>(
 ) -> Result<Vec<Turn<'a, N, G>>, Refusal> {
     let mut turns = Vec::new(alloc);
     for slot in slots {
-        let Ok(held) = places.take(*slot) else {
+        let Ok(reader) = places.take(*slot) else {
             continue;
         };
         let reads = count_of(slots, *slot);
         turns.push(Turn {
             server,
             gate,
-            held,
+            reader,
             slot: *slot,
             reads,
             replies: Vec::with_capacity(alloc, reads)?,

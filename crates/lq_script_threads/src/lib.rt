@@ -3,18 +3,18 @@
 //! Each line is carried out by the public calls of a server, a run of `read` lines as a batch, with
 //! a thread for each slot, which stays until the slot is finished. The output is the output of one
 //! thread, as tests show; contracts say that each call is safe. Calls may wait. Begin with
-//! `threads`, then `carrier`, `session`, `batch` and `workers`.
+//! `threads`, then `runner`, `session`, `batch` and `workers`.
 #![tactic(auto)]
 
 mod batch;
-mod carrier;
 mod gate;
-mod held;
 mod lines;
 mod places;
+mod runner;
 mod session;
 mod tasks;
 mod threads;
+mod tokens;
 mod workers;
 
 pub use gate::{Gate, OpenGate};

@@ -1,5 +1,5 @@
 //! The readers of the slots.
-use crate::held::Held;
+use crate::tokens::OwnReader;
 use lq_desk::SLOTS;
 use lq_server::Named;
 use lq_value::Refusal;
@@ -8,7 +8,7 @@ use std::alloc::Global;
 /// The readers of the slots 1 to 64; none of a slot that is free.
 #[derive(Drop)]
 pub struct Places<N: Named> {
-    readers: Vec<Option<Held<N>>>,
+    readers: Vec<Option<OwnReader<N>>>,
 }
 
 impl<N: Named> Places<N> {
@@ -22,30 +22,30 @@ impl<N: Named> Places<N> {
     }
 
     /// The reader of a slot. Refused: `NotOpen` where it has none.
-    pub fn reader(&mut self, slot: u64) -> Result<&mut Held<N>, Refusal> {
+    pub fn reader(&mut self, slot: u64) -> Result<&mut OwnReader<N>, Refusal> {
         match self.place(slot)? {
-            Some(held) => Ok(held),
+            Some(reader) => Ok(reader),
             None => Err(Refusal::NotOpen),
         }
     }
 
     /// Takes the reader of a slot out. Refused: `NotOpen` where it has none.
-    pub fn take(&mut self, slot: u64) -> Result<Held<N>, Refusal> {
+    pub fn take(&mut self, slot: u64) -> Result<OwnReader<N>, Refusal> {
         match self.place(slot)?.take() {
-            Some(held) => Ok(held),
+            Some(reader) => Ok(reader),
             None => Err(Refusal::NotOpen),
         }
     }
 
     /// Puts a reader in the place of its slot.
-    pub fn put(&mut self, held: Held<N>) {
-        if let Ok(place) = self.place(held.slot()) {
-            *place = Some(held);
+    pub fn put(&mut self, reader: OwnReader<N>) {
+        if let Ok(place) = self.place(reader.slot()) {
+            *place = Some(reader);
         }
     }
 
     // The place of a slot. Refused: `NotOpen` where there is no such slot.
-    fn place(&mut self, slot: u64) -> Result<&mut Option<Held<N>>, Refusal> {
+    fn place(&mut self, slot: u64) -> Result<&mut Option<OwnReader<N>>, Refusal> {
         if slot == 0 || slot > SLOTS as u64 {
             return Err(Refusal::NotOpen);
         }

@@ -1,8 +1,8 @@
 //! What the lines of a script are answered, by the public calls of a server.
 use crate::batch::{Turn, read_beside};
 use crate::gate::Gate;
-use crate::held::Caller;
 use crate::places::Places;
+use crate::tokens::OwnSeat;
 use crate::workers::Workers;
 use lq_desk::{Event, Reply};
 use lq_predicate::Predicate;
@@ -21,7 +21,7 @@ pub struct Session<'s, E: 's, N: Named, R, G> {
     alloc: Global,
     server: &'s Server<N>,
     gate: &'s G,
-    caller: Caller<N>,
+    seat: OwnSeat<N>,
     places: Places<N>,
     workers: Workers<'s, E, R, Turn<'s, N, G>>,
 }
@@ -41,7 +41,7 @@ impl<'s, E: 's, N: Named + Send + Sync + 's, R: Threads + Wait + Sync, G: Gate +
         server: &'s Server<N>,
         gate: &'s G,
     ) -> Result<Session<'s, E, N, R, G>, Refusal> {
-        let caller = Caller::new(rt, server)?;
+        let seat = OwnSeat::new(rt, server)?;
         let places = Places::new(alloc)?;
         let workers = Workers::new(rt, alloc, scope)?;
         Ok(Session {
@@ -49,7 +49,7 @@ impl<'s, E: 's, N: Named + Send + Sync + 's, R: Threads + Wait + Sync, G: Gate +
             alloc,
             server,
             gate,
-            caller,
+            seat,
             places,
             workers,
         })
@@ -80,16 +80,16 @@ impl<'s, E: 's, N: Named + Send + Sync + 's, R: Threads + Wait + Sync, G: Gate +
     pub fn answer(&mut self, question: &Question) -> Result<Response, Refusal> {
         match question {
             Question::Event(event) => self.event(event),
-            Question::Find { dir, name } => self.caller.find(self.rt, self.server, *dir, name),
-            Question::Entry { node } => self.caller.listing(self.rt, self.server, *node),
-            Question::Fetch { predicate } => self.caller.fetch(self.rt, self.server, predicate),
+            Question::Find { dir, name } => self.seat.find(self.rt, self.server, *dir, name),
+            Question::Entry { node } => self.seat.listing(self.rt, self.server, *node),
+            Question::Fetch { predicate } => self.seat.fetch(self.rt, self.server, predicate),
             Question::Rebuilt { slot } => self.places.reader(*slot)?.rebuilt(self.alloc),
         }
     }
 
     fn event(&mut self, event: &Event) -> Result<Response, Refusal> {
         match event {
-            Event::Change(change) => self.caller.change(self.rt, self.server, change),
+            Event::Change(change) => self.seat.change(self.rt, self.server, change),
             Event::Open {
                 predicate,
                 port,
@@ -111,11 +111,11 @@ impl<'s, E: 's, N: Named + Send + Sync + 's, R: Threads + Wait + Sync, G: Gate +
         backlog: u64,
         moved: bool,
     ) -> Result<Response, Refusal> {
-        let held = self
-            .caller
+        let reader = self
+            .seat
             .open(self.rt, self.server, predicate, port, backlog, moved)?;
-        let opened = held.opened(self.alloc);
-        self.places.put(held);
+        let opened = reader.opened(self.alloc);
+        self.places.put(reader);
         opened
     }
 
@@ -128,8 +128,8 @@ impl<'s, E: 's, N: Named + Send + Sync + 's, R: Threads + Wait + Sync, G: Gate +
                     reply: Reply::Finished,
                 })
             }
-            Err((held, refusal)) => {
-                self.places.put(held);
+            Err((reader, refusal)) => {
+                self.places.put(reader);
                 Err(refusal)
             }
         }

@@ -1,9 +1,9 @@
 //! A whole script by threads, over the root alone.
 ghost use Rattle.std.specs.Prelude.{◌≡◌, false};
 
-use crate::carrier::Carrier;
 use crate::gate::Gate;
 use crate::lines::Lines;
+use crate::runner::Runner;
 use crate::session::Session;
 use lq_script_lines::{RunFault, Sink, Source, out_of_memory};
 use lq_server::{Base, Named, Server};
@@ -82,9 +82,9 @@ fn serve_in<
     let Ok(session) = Session::new(rt, alloc, scope, server, gate) else {
         return Err(out_of_memory(writer));
     };
-    let mut carrier = Carrier::new(alloc, session, writer);
-    let ran = carry_all(rt, alloc, reader, &mut carrier);
-    carrier.end_threads();
+    let mut runner = Runner::new(alloc, session, writer);
+    let ran = carry_all(rt, alloc, reader, &mut runner);
+    runner.end_threads();
     ran
 }
 
@@ -102,18 +102,18 @@ fn carry_all<
     rt: &T,
     alloc: Global,
     reader: &mut R,
-    carrier: &mut Carrier<'s, 'w, E, N, T, G, W>,
+    runner: &mut Runner<'s, 'w, E, N, T, G, W>,
 ) -> Result<(), RunFault> {
     let mut lines = Lines::new(alloc);
     for _ in rt.forever() {
         let read = lines.read(reader);
-        if let Err(fault) = carrier.carry_out(lines.given()) {
-            return Err(carrier.close(fault));
+        if let Err(fault) = runner.carry_out(lines.given()) {
+            return Err(runner.close(fault));
         }
         match read {
             Ok(true) => {}
-            Ok(false) => return carrier.flush(),
-            Err(fault) => return Err(carrier.close(fault)),
+            Ok(false) => return runner.flush(),
+            Err(fault) => return Err(runner.close(fault)),
         }
     }
     unreachable!()

@@ -12,19 +12,19 @@ use std::marker::{Model, PhantomData};
 use std::sync::Wait;
 
 /// A seat of no slot, of N's board.
-pub struct Caller<N: Named> {
+pub struct OwnSeat<N: Named> {
     seat: Seat<Identity>,
     of: PhantomData<N>,
 }
 
 // One call takes it apart, wherever one is dropped.
-impl<N: Named> Drop for Caller<N> {
+impl<N: Named> Drop for OwnSeat<N> {
     fn drop(self) {
-        let Caller { seat: _, of: _ } = self;
+        let OwnSeat { seat: _, of: _ } = self;
     }
 }
 
-impl<N: Named> Model for Caller<N> {
+impl<N: Named> Model for OwnSeat<N> {
     ghost use Rattle.std.specs.Prelude.{◌≡◌};
     ghost use Rattle.atomic_table.specs.Seated.{TableId, table_id_coded};
 
@@ -37,11 +37,11 @@ impl<N: Named> Model for Caller<N> {
     ghost invariant = { λ c. (c.seat.board ≡ N.board) × (c.seat.slot ≡ 0) };
 }
 
-impl<N: Named> Caller<N> {
+impl<N: Named> OwnSeat<N> {
     /// A seat of this server. Refused as `Server::seat` is.
-    pub fn new<R: Wait>(rt: &R, server: &Server<N>) -> Result<Caller<N>, Refusal> {
+    pub fn new<R: Wait>(rt: &R, server: &Server<N>) -> Result<OwnSeat<N>, Refusal> {
         let seat = server.seat(rt)?;
-        Ok(Caller {
+        Ok(OwnSeat {
             seat,
             of: PhantomData,
         })
@@ -72,9 +72,9 @@ impl<N: Named> Caller<N> {
         port: u64,
         backlog: u64,
         moved: bool,
-    ) -> Result<Held<N>, Refusal> {
+    ) -> Result<OwnReader<N>, Refusal> {
         let reader = server.open(rt, &mut self.seat, predicate, port, backlog, moved)?;
-        Ok(Held {
+        Ok(OwnReader {
             reader,
             of: PhantomData,
         })
@@ -119,19 +119,19 @@ impl<N: Named> Caller<N> {
 }
 
 /// A reader of N's board, whose seat is that of its slot.
-pub struct Held<N: Named> {
+pub struct OwnReader<N: Named> {
     reader: Reader,
     of: PhantomData<N>,
 }
 
 // One call takes it apart, wherever one is dropped.
-impl<N: Named> Drop for Held<N> {
+impl<N: Named> Drop for OwnReader<N> {
     fn drop(self) {
-        let Held { reader: _, of: _ } = self;
+        let OwnReader { reader: _, of: _ } = self;
     }
 }
 
-impl<N: Named> Model for Held<N> {
+impl<N: Named> Model for OwnReader<N> {
     ghost use Rattle.std.specs.Prelude.{◌≡◌};
     ghost use Rattle.atomic_table.specs.Seated.{TableId, table_id_coded};
     ghost use Rattle.lq_server.specs.Own.{IsOwn};
@@ -145,7 +145,7 @@ impl<N: Named> Model for Held<N> {
     ghost invariant = { λ h. (h.reader.seat.board ≡ N.board) × IsOwn h.reader };
 }
 
-impl<N: Named> Held<N> {
+impl<N: Named> OwnReader<N> {
     /// Its slot, 1 to 64.
     pub fn slot(&self) -> u64 {
         self.reader.slot()
@@ -191,11 +191,15 @@ impl<N: Named> Held<N> {
     }
 
     /// Frees its slot. Refused as `Server::finish` is; it then comes back.
-    pub fn finish<R: Wait>(self, rt: &R, server: &Server<N>) -> Result<(), (Held<N>, Refusal)> {
-        let Held { reader, of } = self;
+    pub fn finish<R: Wait>(
+        self,
+        rt: &R,
+        server: &Server<N>,
+    ) -> Result<(), (OwnReader<N>, Refusal)> {
+        let OwnReader { reader, of } = self;
         match server.finish(rt, reader) {
             Ok(()) => Ok(()),
-            Err((reader, refusal)) => Err((Held { reader, of }, refusal)),
+            Err((reader, refusal)) => Err((OwnReader { reader, of }, refusal)),
         }
     }
 

@@ -1,4 +1,4 @@
-//! What lines are given to, and carries them out.
+//! The runner of a script's lines: it carries out each and gathers the replies.
 use crate::gate::Gate;
 use crate::session::Session;
 use lq_desk::Event;
@@ -22,7 +22,7 @@ const LF: u8 = 10;
 
 /// Carries out the lines that `Lines` gives, and writes the reply to each.
 #[derive(Drop)]
-pub struct Carrier<'s, 'w, E: 's, N: Named, R, G, W> {
+pub struct Runner<'s, 'w, E: 's, N: Named, R, G, W> {
     alloc: Global,
     session: Session<'s, E, N, R, G>,
     writer: &'w mut W,
@@ -40,14 +40,14 @@ impl<
     R: Threads + Wait + Sync,
     G: Gate + Sync + 's,
     W: Sink,
-> Carrier<'s, 'w, E, N, R, G, W> {
-    /// A carrier of a session's lines, which was given none.
+> Runner<'s, 'w, E, N, R, G, W> {
+    /// A runner of a session's lines, which was given none.
     pub fn new(
         alloc: Global,
         session: Session<'s, E, N, R, G>,
         writer: &'w mut W,
-    ) -> Carrier<'s, 'w, E, N, R, G, W> {
-        Carrier {
+    ) -> Runner<'s, 'w, E, N, R, G, W> {
+        Runner {
             alloc,
             session,
             writer,
@@ -78,7 +78,7 @@ impl<
         }
     }
 
-    /// Ends the threads of all slots; the carrier is then of no more use.
+    /// Ends the threads of all slots; the runner is then of no more use.
     pub fn end_threads(&mut self) {
         self.session.end_threads();
     }
