@@ -17,10 +17,13 @@ const FIRST_MESSAGE: &str = r#"{"do":"open","query":"size>100","port":4,"backlog
 {"do":"read","slot":1}
 "#;
 
-const OUTPUT: &str = r#"{"at":0,"result":[],"slot":1}
+const OUTPUT: &str = concat!(
+    r#"{"at":0,"result":[],"slot":1}
 {"change":1,"node":2}
-{"change":1,"dir":1,"last":true,"name":"a","node":2,"op":"B_ENTRY_CREATED","seq":1,"what":"B_QUERY_UPDATE"}
-"#;
+{"change":1,"dir":1,"last":true,"name":"a","node":2,"op":"B_ENTRY_CREATED","#,
+    r#""seq":1,"what":"B_QUERY_UPDATE"}
+"#
+);
 
 // Devices that move all at once.
 const EASY: Pace = Pace {

@@ -117,7 +117,8 @@ impl<'c, C: Clock> Gate for Border<'c, C> {
     }
 }
 
-// 1,023 reads of slot 1 and one of slot 2, another line, and 1,024 reads of slot 1 and one of slot 2.
+// 1,023 reads of slot 1 and one of slot 2, another line, and 1,024 reads of slot 1 and one of
+// slot 2.
 fn reads_to_the_border(alloc: Global) -> Result<String, AllocError> {
     let mut text = String::new(alloc);
     open(&mut text)?;

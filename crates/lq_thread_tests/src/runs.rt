@@ -18,14 +18,18 @@ const TWO_READERS: &str = r#"{"do":"open","query":"name=*","port":4,"backlog":16
 {"do":"read","slot":2}
 "#;
 
-const TWO_READ: &str = r#"{"at":0,"result":[],"slot":1}
+const TWO_READ: &str = concat!(
+    r#"{"at":0,"result":[],"slot":1}
 {"at":0,"result":[],"slot":2}
 {"change":1,"node":2}
-{"change":1,"dir":1,"last":true,"name":"a","node":2,"op":"B_ENTRY_CREATED","seq":1,"what":"B_QUERY_UPDATE"}
-{"change":1,"dir":1,"last":true,"name":"a","node":2,"op":"B_ENTRY_CREATED","seq":1,"what":"B_QUERY_UPDATE"}
+{"change":1,"dir":1,"last":true,"name":"a","node":2,"op":"B_ENTRY_CREATED","#,
+    r#""seq":1,"what":"B_QUERY_UPDATE"}
+{"change":1,"dir":1,"last":true,"name":"a","node":2,"op":"B_ENTRY_CREATED","#,
+    r#""seq":1,"what":"B_QUERY_UPDATE"}
 {"what":"EMPTY"}
 {"what":"EMPTY"}
-"#;
+"#
+);
 
 // The same reads, slot by slot: a batch goes on after two reads.
 const SLOT_BY_SLOT: &str = r#"{"do":"open","query":"name=*","port":4,"backlog":16}
@@ -37,14 +41,18 @@ const SLOT_BY_SLOT: &str = r#"{"do":"open","query":"name=*","port":4,"backlog":1
 {"do":"read","slot":2}
 "#;
 
-const SLOT_BY_SLOT_READ: &str = r#"{"at":0,"result":[],"slot":1}
+const SLOT_BY_SLOT_READ: &str = concat!(
+    r#"{"at":0,"result":[],"slot":1}
 {"at":0,"result":[],"slot":2}
 {"change":1,"node":2}
-{"change":1,"dir":1,"last":true,"name":"a","node":2,"op":"B_ENTRY_CREATED","seq":1,"what":"B_QUERY_UPDATE"}
+{"change":1,"dir":1,"last":true,"name":"a","node":2,"op":"B_ENTRY_CREATED","#,
+    r#""seq":1,"what":"B_QUERY_UPDATE"}
 {"what":"EMPTY"}
-{"change":1,"dir":1,"last":true,"name":"a","node":2,"op":"B_ENTRY_CREATED","seq":1,"what":"B_QUERY_UPDATE"}
+{"change":1,"dir":1,"last":true,"name":"a","node":2,"op":"B_ENTRY_CREATED","#,
+    r#""seq":1,"what":"B_QUERY_UPDATE"}
 {"what":"EMPTY"}
-"#;
+"#
+);
 
 // Each kind of line, with reads of several slots, one that is free, and an empty line among them.
 const MIXED: &str = r#"{"do":"open","query":"name=*","port":1,"backlog":2,"moved":true}
