@@ -30,8 +30,8 @@ impl Embedded {
         }
     }
 
-    /// The path of a node, the names from the root down with `/` before each, which is then the
-    /// text; that of the root is `/`. Writes its size.
+    /// Makes a node's path the text, and writes its size in bytes. The path has the names from the
+    /// root down, each after a `/`; the path of the root is `/`.
     ///
     /// Refused: `NoNode` where there is no such node, `NoMemory`.
     pub fn path(&mut self, node: u64, size: &mut usize) -> u32

@@ -1,9 +1,9 @@
 //! A session for a caller without lines: typed calls with numbered statuses, and what they give
 //! kept until it is asked for.
 //!
-//! Contracts see what an embedded session holds as a `State` (`specs/State`). `specs/Questions`
-//! gives the question of each call, which is that of a line with the same fields; `specs/Calls`
-//! ties a call's status and what it writes to the answer. The structs have C's layout. Nothing
+//! Contracts see what an embedded session holds as a `State` (`specs/State`). Each call asks the
+//! question that a line with the same fields asks (`specs/Questions`), and `specs/Calls` ties a
+//! call's status and what it writes to the answer. The structs have C's layout. Nothing
 //! here waits. Begin with `embedded`, then `changes`, then `live`.
 #![tactic(auto)]
 
