@@ -1,11 +1,13 @@
--- Read in this order. Matching: PatternLemmas, MatchingLemmas, SeekLemmas, MarkLemmas,
--- StarredLemmas. Reading a source: PieceLemmas, ReadingLemmas, WrittenLemmas, SourceLemmas,
+-- Read in this order. Matching: PatternLemmas, MatchingLemmas, SeekLemmas, LongLemmas, FlagLemmas,
+-- MaskLemmas, StarredLemmas. Reading a source: PieceLemmas, ReadingLemmas, WrittenLemmas, SourceLemmas,
 -- SourceLaws.
 pub mod PatternLemmas
 pub mod MatchingLemmas
 pub mod StarredLemmas
 pub mod SeekLemmas
-pub mod MarkLemmas
+pub mod LongLemmas
+pub mod FlagLemmas
+pub mod MaskLemmas
 pub mod PieceLemmas
 pub mod ReadingLemmas
 pub mod WrittenLemmas

@@ -165,3 +165,9 @@ found_later es text cs es' cs' e f =
 pub some_later : (es : List Element) (c : ℕ) (cs : List ℕ) → fits es (c ∷ cs) ≡ false
     → some_rest (fits es) (c ∷ cs) ≡ some_rest (fits es) cs
 some_later es c cs e = rw e refl
+
+-- for the search at one place
+pub ruleset found_here = (found_at_star, found_at_end, not_found)
+
+-- for the search at the next place
+pub ruleset later = (found_later, some_later)

@@ -1,19 +1,17 @@
--- What flags of places say, and that the first place from which single elements take a character
--- each is where a star before them ends.
-use Rattle.std.proofs.Common.{◌≡◌, ◌≤◌, ◌<◌, ◌+◌, ◌-◌, ℕ, zero, suc, List, [], ◌∷◌, ◌++◌, length, take, drop, get_or, Bool, true, false, refl, sym, ap, ◌∙◌, subst, arith, inl, inr, add-one, length-append, length-drop}
-use Rattle.std.specs.Prelude.{◌&&◌, ◌==◌, slice_index, set, replicate}
-use Rattle.std.specs.List.{between}
+-- The first place from which single elements take a character each is where a star before them
+-- ends.
+use Rattle.std.proofs.Common.{◌≡◌, ◌≤◌, ◌<◌, ◌+◌, ◌-◌, ℕ, zero, suc, List, [], ◌∷◌, ◌++◌, length, take, drop, true, false, refl, sym, ap, ◌∙◌, subst, arith, inl, inr, length-append, length-drop}
+use Rattle.std.specs.Prelude.{◌==◌}
 use Rattle.std.proofs.lemmas.Bool.{and_parts, and_cases, and_left, and_right, both_ways, false≢true, cases_Bool, cases_lt}
-use Rattle.std.proofs.lemmas.List.{take-append-drop, drop-drop, drop_all, drop_at, drop_more, get_or-drop, length-take-le, take_all, take_more, take_more_set, take-replicate, get_or-replicate, length-replicate, append-nil, append_assoc}
-use Rattle.std.proofs.lemmas.List.Edits.{get_or-between}
+use Rattle.std.proofs.lemmas.List.{take-append-drop, drop-drop, drop_all, drop_at, length-take-le}
 use Rattle.lq_value.specs.declared.element.Element.{Element}
 use Rattle.lq_value.specs.declared.element.Element.TheVariants.{Star, Any, Plain, Set}
 use Rattle.lq_value.specs.Element.{takes}
 use Rattle.lq_value.specs.Pattern.{fits, is_end, some_rest}
-use Rattle.lq_value.specs.Matching.{IsSingle, AreSingle, IsAtStar, Passes, Finds}
-use Rattle.lq_value.specs.Seek.{take_front, kept, AreKept, AreOn, AreFlags, AreOff, IsNextOn, TakeNoneBefore, IsFirstPlace, IsFirstPlaceBefore, TakeNowhere, IsPiece}
+use Rattle.lq_value.specs.Matching.{AreSingle, IsAtStar, Passes, Finds}
+use Rattle.lq_value.specs.Seek.{take_front, TakeNoneBefore, IsFirstPlace, IsFirstPlaceBefore, TakeNowhere, IsPiece}
 use Rattle.lq_value.proofs.PatternLemmas.{some_found, some_here, some_behind}
-use Rattle.lq_value.proofs.MatchingLemmas.{AreSingle-push, fits_taken, found_at_star, found_later, piece_takes, some_later}
+use Rattle.lq_value.proofs.MatchingLemmas.{fits_taken, found_at_star, found_later, piece_takes, some_later}
 
 -- ---- what single elements take
 
@@ -261,189 +259,8 @@ first_more es cs rest start places place le none from at =
     first_behind es cs start places place le none
     (subst (λ l. IsFirstPlaceBefore es l places place) from at)
 
--- ---- flags
+-- for the search in windows
+pub ruleset places_more = (empty_first, none_more, first_more)
 
--- a test and true is the test
-and_true : (b : Bool) → (b && true) ≡ b
-and_true true = refl
-and_true false = refl
-
--- three tests in either order
-and_assoc : (a b c : Bool) → (a && (b && c)) ≡ ((a && b) && c)
-and_assoc true b c = refl
-and_assoc false b c = refl
-
--- one element more takes one character more
-front_more : (es : List Element) (cs : List ℕ) (k : ℕ) (e : Element) → k < length es
-    → k < length cs → take_front (take (suc k) es) cs
-    ≡ (take_front (take k es) cs && takes (get_or es k e) (get_or cs k 0))
-front_more [] cs k e h g = absurd (omega arith)
-front_more (x ∷ es) [] k e h g = absurd (omega arith)
-front_more (x ∷ es) (c ∷ cs) zero e h g = and_true (takes x c)
-front_more (x ∷ es) (c ∷ cs) (suc k) e h g =
-    ap (λ b. takes x c && b) (front_more es cs k e (omega arith) (omega arith))
-    ∙ and_assoc (takes x c) (take_front (take k es) cs) (takes (get_or es k e) (get_or cs k 0))
-
--- elements take nothing where fewer of them don't
-front_fewer : (es : List Element) (cs : List ℕ) (k : ℕ) → take_front (take k es) cs ≡ false
-    → take_front es cs ≡ false
-front_fewer es cs zero h = absurd (both_ways true h refl)
-front_fewer [] cs (suc k) h = absurd (both_ways true h refl)
-front_fewer (x ∷ es) [] (suc k) h = refl
-front_fewer (x ∷ es) (c ∷ cs) (suc k) h =
-    elim (and_cases (takes x c) (take_front (take k es) cs) h) [
-      | inl a ↦ and_left (takes x c) (take_front es cs) a
-      | inr b ↦ and_right (takes x c) (take_front es cs) (front_fewer es cs k b)
-    ]
-
--- a flag that two tests keep
-kept_both : (a b : Bool) → kept b (kept a 1) ≡ kept (a && b) 1
-kept_both true true = refl
-kept_both true false = refl
-kept_both false true = refl
-kept_both false false = refl
-
--- a flag that is out stays out
-kept_off : (b : Bool) → kept b 0 ≡ 0
-kept_off true = refl
-kept_off false = refl
-
--- a flag that is out says that the test failed
-off_false : (b : Bool) → kept b 1 ≡ 0 → b ≡ false
-off_false true h = absurd (omega (arith, h))
-off_false false h = refl
-
--- a flag that is on says that the test passed
-on_true : (b : Bool) → (kept b 1 ≡ 0 → ⊥) → b ≡ true
-on_true true h = refl
-on_true false h = absurd (h refl)
-
--- flags that are on are those of no elements
-pub flags_on : (es : List Element) (cs flags : List ℕ) → AreOn flags
-    → AreFlags (take 0 es) cs flags
-flags_on es cs flags on = λ k lt. on k lt
-
--- a number of flags that are on
-pub flags_made : (n places : ℕ) → places ≤ n → AreOn (take places (replicate n 1))
-flags_made n places le =
-    subst AreOn (sym (take-replicate places n 1 le))
-    (λ k lt. get_or-replicate places k 1 0 (omega (arith, length-replicate {A = ℕ} places 1)))
-
--- the flags of one element more
-pub flags_more : (es : List Element) (cs part old new : List ℕ) (k : ℕ) (e : Element)
-    → k < length es → e ≡ get_or es k e → length new ≡ length old → length part ≡ length old
-    → part ≡ between k (k + length old) cs → length es + length old ≤ length cs + 1
-    → AreFlags (take k es) cs old → AreKept (takes e) part old new
-    → AreFlags (take (k + 1) es) cs new
-flags_more es cs part old new k e h is same long at room flags keeps = λ j lt.
-    let inside : j < length old = omega (arith, same) in
-    let char : slice_index part j ≡ get_or (drop j cs) k 0 =
-    ap (λ l. get_or l j 0) at ∙ (get_or-between cs k (k + length old) j 0 (omega arith)
-    ∙ (ap (λ n. get_or cs n 0) (let flip : k + j ≡ j + k = omega arith in flip)
-    ∙ sym (get_or-drop j cs k 0))) in
-    let now : slice_index new j ≡ kept (takes e (slice_index part j)) (slice_index old j) =
-    keeps j (omega (arith, long, same)) in
-    let far : k < length (drop j cs) = omega (arith, length-drop j cs) in
-    let front : take_front (take (suc k) es) (drop j cs)
-    ≡ (take_front (take k es) (drop j cs) && takes e (get_or (drop j cs) k 0)) =
-    front_more es (drop j cs) k e h far
-    ∙ ap (λ x. take_front (take k es) (drop j cs) && takes x (get_or (drop j cs) k 0)) (sym is) in
-    let told : slice_index new j ≡ kept (take_front (take (suc k) es) (drop j cs)) 1 =
-    now ∙ (ap (λ c. kept (takes e c) (slice_index old j)) char
-    ∙ (ap (λ f. kept (takes e (get_or (drop j cs) k 0)) f) (flags j inside)
-    ∙ (kept_both (take_front (take k es) (drop j cs)) (takes e (get_or (drop j cs) k 0))
-    ∙ ap (λ b. kept b 1) (sym front)))) in
-    subst (λ n. slice_index new j ≡ kept (take_front (take n es) (drop j cs)) 1)
-    (sym (add-one k)) told
-
--- flags that are out stay out, up to the next that is on
-pub off_more : (test : ℕ → Bool) (cs old new : List ℕ) (first next : ℕ) → first ≤ length cs
-    → AreOff old 0 first → AreKept test cs old new → IsNextOn new first next → AreOff new 0 next
-off_more test cs old new first next le off keeps is = λ k from to. elim (cases_lt k first) [
-  | inl below ↦ keeps k (omega arith)
-      ∙ (ap (λ f. kept (test (slice_index cs k)) f) (off k from below)
-      ∙ kept_off (test (slice_index cs k)))
-  | inr above ↦ is.off k above to
-]
-
--- where all flags are out there is no place
-pub none_flagged : (es : List Element) (cs flags : List ℕ) (k places : ℕ)
-    → AreFlags (take k es) cs flags → AreOff flags 0 places → places ≤ length flags
-    → TakeNoneBefore es cs places
-none_flagged es cs flags k places are off le = λ q lt.
-    front_fewer es (drop q cs) k
-    (off_false (take_front (take k es) (drop q cs))
-    (sym (are q (omega arith)) ∙ off q (omega arith) lt))
-
--- the first flag that is on has the first place
-pub first_flagged : (es : List Element) (cs flags : List ℕ) (k first places : ℕ)
-    → length es ≤ k → AreFlags (take k es) cs flags → AreOff flags 0 first → first < places
-    → places ≤ length flags → (slice_index flags first ≡ 0 → ⊥)
-    → length es + places ≤ length cs + 1 → IsFirstPlaceBefore es cs places first
-first_flagged es cs flags k first places all are off lt le on room =
-    let whole : take k es ≡ es = take_all k es all in
-    let flag : slice_index flags first ≡ kept (take_front es (drop first cs)) 1 =
-    subst (λ l. slice_index flags first ≡ kept (take_front l (drop first cs)) 1) whole
-    (are first (omega arith)) in
-    record {
-      before = lt;
-      is = record {
-        within = omega arith;
-        taken = on_true (take_front es (drop first cs)) (λ z. on (flag ∙ z));
-        first = none_flagged es cs flags k first are off (omega arith);
-      };
-    }
-
--- ---- the next star
-
--- an element that is no star is single
-single_other : (e : Element) → (e ≡ Star → ⊥) → IsSingle e
-single_other Star h = absurd (h refl)
-single_other Any h = tt
-single_other (Plain d) h = tt
-single_other (Set n is) h = tt
-
--- one single element more
-pub single_more : (es : List Element) (k : ℕ) (e : Element) → k < length es → e ≡ get_or es k e
-    → (e ≡ Star → ⊥) → AreSingle (take k es) → AreSingle (take (k + 1) es)
-single_more es k e h is other s =
-    subst AreSingle (sym (take_more es k e h))
-    (AreSingle-push (take k es) (get_or es k e) s (subst IsSingle is (single_other e other)))
-
--- a star is next
-pub star_at : (es : List Element) (k : ℕ) (e : Element) → k < length es → e ≡ get_or es k e
-    → e ≡ Star → IsAtStar (drop k es)
-star_at es k e h is star =
-    let next : drop k es ≡ Star ∷ drop (k + 1) es =
-    drop_more es k e h ∙ ap (λ x. x ∷ drop (k + 1) es) (sym is ∙ star) in
-    subst IsAtStar (sym next) tt
-
--- no element is left
-pub star_end : (es : List Element) (k : ℕ) → length es ≤ k → IsAtStar (drop k es)
-star_end es k h = subst IsAtStar (sym (drop_all k es h)) tt
-
--- a pattern that is split at its first star
-pub piece_at : (es piece after : List Element) (k : ℕ) → piece ≡ take k es → after ≡ drop k es
-    → AreSingle (take k es) → IsAtStar (drop k es) → IsPiece es piece after
-piece_at es piece after k front back s star = record {
-  elements = sym (take-append-drop k es)
-      ∙ (ap (λ l. l ++ drop k es) (sym front) ∙ ap (λ l. piece ++ l) (sym back));
-  single = subst AreSingle (sym front) s;
-  star = subst IsAtStar (sym back) star;
-}
-
--- ---- the characters of a text
-
--- one character more is copied
-pub copied_char : (buffer : List ℕ) (count c : ℕ) (cs rest all : List ℕ) → count < length buffer
-    → take count buffer ++ cs ≡ all → cs ≡ c ∷ rest
-    → take (count + 1) (set buffer count c) ++ rest ≡ all
-copied_char buffer count c cs rest all h so_far next =
-    ap (λ l. l ++ rest) (take_more_set buffer count c h)
-    ∙ (append_assoc (take count buffer) (c ∷ []) rest
-    ∙ (ap (λ l. take count buffer ++ l) (sym next) ∙ so_far))
-
--- all are copied
-pub copied_all : (front cs all : List ℕ) → front ++ cs ≡ all → cs ≡ [] → front ≡ all
-copied_all front cs all so_far none =
-    sym (append-nil front) ∙ (ap (λ l. front ++ l) (sym none) ∙ so_far)
+-- for the search of a part
+pub ruleset pieces_found = (short_piece, nowhere_end, nowhere_piece, found_end, found_piece)

@@ -11,6 +11,7 @@ pub mod Pattern
 pub mod Elements
 pub mod Matching
 pub mod Seek
+pub mod Masks
 pub mod Compare
 pub mod Sign
 pub mod Source

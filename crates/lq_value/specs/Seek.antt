@@ -1,9 +1,11 @@
 -- How single elements are sought at many places of a text at once: a flag for each place says
 -- whether the elements so far have taken the characters from there on.
-use Rattle.std.specs.Prelude.{◌≡◌, ◌<◌, ◌≤◌, ◌+◌, ℕ, List, [], ◌∷◌, ◌++◌, Bool, true, false, ◌&&◌, not, if◌then◌else◌, length, drop, slice_index}
+use Rattle.std.specs.Prelude.{◌≡◌, ◌<◌, ◌≤◌, ◌+◌, ℕ, List, [], ◌∷◌, ◌++◌, Bool, true, false, ◌&&◌, ◌==◌, not, if◌then◌else◌, length, drop, slice_index}
 use Rattle.lq_value.specs.declared.element.Element.{Element}
 use Rattle.lq_value.specs.declared.element.Item.{Item}
-use Rattle.lq_value.specs.Element.{set_has, takes}
+use Rattle.lq_value.specs.declared.run.Light.{Light}
+use Rattle.lq_value.specs.declared.run.Light.TheVariants.{Any, Plain, OneItem}
+use Rattle.lq_value.specs.Element.{has, set_has, takes}
 use Rattle.lq_value.specs.Matching.{AreSingle, IsAtStar}
 
 -- the elements take the text's first characters, one each
@@ -17,34 +19,35 @@ abbrev pub kept : Bool → ℕ → ℕ
 kept true flag = flag
 kept false flag = 0
 
--- a mark that is set or stays as it was
-abbrev pub marked : Bool → ℕ → ℕ
-marked true mark = 1
-marked false mark = mark
-
--- the mark of a character that a set takes; the set may be negated
-abbrev pub wanted : Bool → ℕ
-wanted true = 0
-wanted false = 1
-
 -- whether a set with these items takes the character
 abbrev pub set_takes : Bool → List Item → ℕ → Bool
 set_takes negated items c = if negated then not (set_has items c) else set_has items c
 
--- marks are set where the test passes for the text's character
-abbrev pub AreMarked : (ℕ → Bool) → List ℕ → List ℕ → List ℕ → Type 0
-AreMarked test cs old new = (k : ℕ) → k < length cs
-    → slice_index new k ≡ marked (test (slice_index cs k)) (slice_index old k)
+-- whether a set with one item does
+abbrev pub item_takes : Bool → Item → ℕ → Bool
+item_takes negated item c = if negated then not (has item c) else has item c
 
--- exactly the characters that an item includes are marked
-abbrev pub AreMarksOf : List Item → List ℕ → List ℕ → Type 0
-AreMarksOf items cs marks = (k : ℕ) → k < length cs
-    → slice_index marks k ≡ kept (set_has items (slice_index cs k)) 1
+-- whether an element that is tried by itself does
+abbrev pub light_takes : Light → ℕ → Bool
+light_takes Any c = true
+light_takes (Plain d) c = d == c
+light_takes (OneItem negated item) c = item_takes negated item c
+
+-- the only element takes the same characters
+pub record IsLight (light : Light) (es : List Element) : Type 0 where
+  pub e : Element
+  pub only : es ≡ e ∷ []
+  pub same : (c : ℕ) → light_takes light c ≡ takes e c
 
 -- the flags stay where the test passes for the text's character, and are cleared elsewhere
 abbrev pub AreKept : (ℕ → Bool) → List ℕ → List ℕ → List ℕ → Type 0
-AreKept test cs old new = (k : ℕ) → k < length cs
+AreKept test cs old new = (k : ℕ) → k < length old
     → slice_index new k ≡ kept (test (slice_index cs k)) (slice_index old k)
+
+-- the flags stay where the elements take the characters from the flag's place on
+abbrev pub AreKeptBy : List Element → List ℕ → List ℕ → List ℕ → Type 0
+AreKeptBy es cs old new = (k : ℕ) → k < length old
+    → slice_index new k ≡ kept (take_front es (drop k cs)) (slice_index old k)
 
 -- every flag is set
 abbrev pub AreOn : List ℕ → Type 0

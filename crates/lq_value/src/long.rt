@@ -60,7 +60,7 @@ fn fits_copied(elements: &[Element], text: &str) -> Option<bool>
 }
 
 // Copies the characters into the buffer and answers their number; `None` if they have no room.
-#[tactic(auto, using(crate::proofs::SeekLemmas::copied_char, crate::proofs::SeekLemmas::copied_all))]
+#[tactic(auto, using(crate::proofs::LongLemmas::copied))]
 fn copy_chars(text: &str, buffer: &mut [char]) -> Option<usize>
     ensures room { IfSome result (λ count. count ≤ length buffer.new) }
     ensures value { IfSome result (λ count. take count buffer.new ≡ chars text.now) }
@@ -96,7 +96,7 @@ fn fits_chars(start: Rest<'_>) -> bool
 }
 
 // The rest after the first place of the text at which the elements up to the next star fit.
-#[tactic(auto, using(crate::proofs::SeekLemmas::short_piece, crate::proofs::SeekLemmas::nowhere_end, crate::proofs::SeekLemmas::nowhere_piece, crate::proofs::SeekLemmas::found_end, crate::proofs::SeekLemmas::found_piece))]
+#[tactic(auto, using(crate::proofs::SeekLemmas::pieces_found))]
 fn find<'a>(start: Rest<'a>) -> Option<Rest<'a>>
     ensures { MatchOption result
         (some_rest (fits start.entry.elements.now) start.entry.text.now ≡ false)
@@ -125,7 +125,7 @@ fn find<'a>(start: Rest<'a>) -> Option<Rest<'a>>
     })
 }
 
-#[tactic(auto, using(crate::proofs::SeekLemmas::piece_at))]
+#[tactic(auto, using(crate::proofs::LongLemmas::piece_at))]
 fn split_at_star<'a>(elements: &'a [Element]) -> Piece<'a>
     ensures { IsPiece elements.entry.now result.single.now result.after.now }
 {
@@ -134,7 +134,7 @@ fn split_at_star<'a>(elements: &'a [Element]) -> Piece<'a>
 }
 
 // The number of elements before the first star.
-#[tactic(auto, using(crate::proofs::SeekLemmas::single_more, crate::proofs::SeekLemmas::star_at, crate::proofs::SeekLemmas::star_end))]
+#[tactic(auto, using(crate::proofs::LongLemmas::next_star))]
 fn count_single(elements: &[Element]) -> usize
     ensures within { result ≤ length elements.now }
     ensures single { AreSingle (take result elements.now) }

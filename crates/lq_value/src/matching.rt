@@ -74,7 +74,7 @@ fn is_at_end(text: &str) -> bool
 }
 
 // The rest after the first place of the text at which the elements up to the next star fit.
-#[tactic(auto, using(crate::proofs::MatchingLemmas::found_later, crate::proofs::MatchingLemmas::some_later))]
+#[tactic(auto, using(crate::proofs::MatchingLemmas::later))]
 fn find<'a>(start: Left<'a>) -> Option<Left<'a>>
     ensures { MatchOption result
         (some_rest (fits start.entry.elements.now) (chars start.entry.text.now) ≡ false)
@@ -94,7 +94,7 @@ fn find<'a>(start: Left<'a>) -> Option<Left<'a>>
 }
 
 // The same at the start of the text only: the elements fit up to a star, or up to the text's end.
-#[tactic(auto, using(crate::proofs::MatchingLemmas::found_at_star, crate::proofs::MatchingLemmas::found_at_end, crate::proofs::MatchingLemmas::not_found))]
+#[tactic(auto, using(crate::proofs::MatchingLemmas::found_here))]
 fn find_here<'a>(here: Left<'a>) -> Option<Left<'a>>
     ensures { MatchOption result
         (fits here.entry.elements.now (chars here.entry.text.now) ≡ false)

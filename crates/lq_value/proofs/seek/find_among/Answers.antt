@@ -1,4 +1,4 @@
-use Rattle.lq_value.proofs.SeekLemmas.{flags_made}
+use Rattle.lq_value.proofs.FlagLemmas.{flags_made}
 use Rattle.lq_value.proofs.seek.find_among.Goals as goal
 
 pub find_flagged-requires-clause-on : goal.find_flagged-requires-clause-on

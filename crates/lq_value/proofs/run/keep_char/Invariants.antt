@@ -1,7 +1,7 @@
 use Rattle.std.proofs.Common.{◌≡◌, ◌≤◌, ◌<◌, ℕ}
 use Rattle.std.specs.Prelude.{◌==◌, slice_index}
 use Rattle.lq_value.specs.Seek.{kept}
-use Rattle.lq_value.proofs.seek.keep_char.Given as goal
+use Rattle.lq_value.proofs.run.keep_char.Given as goal
 
 -- the flags up to here are kept or out, and the others are as they were
 abbrev pub invariant-loop-i : goal.invariant-loop-i

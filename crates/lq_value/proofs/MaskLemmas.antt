@@ -1,0 +1,355 @@
+-- What the bits of masks say of elements and of the ends of elements.
+use Rattle.std.proofs.Common.{◌≡◌, ◌<◌, ◌≤◌, ◌+◌, ◌-◌, ◌*◌, ◌^◌, ◌%◌, ℕ, zero, suc, List, [], ◌∷◌, ◌++◌, length, take, drop, get_or, Bool, true, false, refl, sym, ap, ◌∙◌, subst, arith, inl, inr, length-drop}
+use Rattle.std.specs.Prelude.{◌&&◌, ◌||◌, ◌==◌, nat_le, not, min, set, slice_index}
+use Rattle.std.specs.Int.{bit_at, w32}
+use Rattle.std.proofs.lemmas.Nat.{shl_whole}
+use Rattle.std.proofs.lemmas.Nat.Bits.{bit_at_and, bit_at_xor, bit_at-pow_same, bit_at-pow_other, bit_at_set_same, bit_at_set_other, bit_at-lt, bit_at_cat_low, bit_at_cat_high}
+use Rattle.std.proofs.lemmas.List.{take_more, take_all, get_or_default, get_or-drop, get_or-set_same, get_or-set_other}
+use Rattle.std.proofs.lemmas.Bool.{cases_eq, cases_lt}
+use Rattle.std.proofs.lemmas.Bool.Decides.{nat_tests}
+use Rattle.lq_value.specs.declared.element.Item.{Item}
+use Rattle.lq_value.specs.declared.element.Element.{Element}
+use Rattle.lq_value.specs.declared.element.Element.TheVariants.{Star, Any}
+use Rattle.lq_value.specs.Element.{has, set_has, takes}
+use Rattle.lq_value.specs.Seek.{kept, take_front}
+use Rattle.lq_value.specs.Masks.{marked, put_bit, flip_bit, next_ends, takes_at, AreBitsOff, AreCodes, AreEnds, AreFlipped, AreMasks, AreMasksOfCodes, ArePut, IsAlphabet, IsBitMarked, IsBitTaken}
+use Rattle.lq_value.proofs.FlagLemmas.{or_false, and_true, and_assoc}
+
+-- ---- one bit
+
+-- a bit that is put is 1, and others stay
+put_same : (b : Bool) (j mask : ℕ) → j < 32 → bit_at (put_bit b j mask) j ≡ marked b (bit_at mask j)
+put_same true j mask h = bit_at_set_same w32 mask j h
+put_same false j mask h = refl
+
+put_other : (b : Bool) (j mask i : ℕ) → j < 32 → (i ≡ j → ⊥)
+    → bit_at (put_bit b j mask) i ≡ bit_at mask i
+put_other true j mask i h other = bit_at_set_other w32 mask j h i other
+put_other false j mask i h other = refl
+
+-- a bit alone
+one_bit : (j : ℕ) → j < 32 → 1 * 2 ^ j % 2 ^ 32 ≡ 2 ^ j
+one_bit j h = shl_whole 1 1 j 32 (omega arith) (omega arith) ∙ omega arith
+
+-- a bit that is flipped
+flipped : (b : Bool) (bit : ℕ) → bit ≡ kept b 1 → (bit + 1) % 2 ≡ kept (not b) 1
+flipped true bit h = rw h refl
+flipped false bit h = rw h refl
+
+flip_same : (b : Bool) (j mask : ℕ) → j < 32 → bit_at mask j ≡ kept b 1
+    → bit_at (flip_bit j mask) j ≡ kept (not b) 1
+flip_same b j mask h is =
+    bit_at_xor mask (1 * 2 ^ j % 2 ^ 32) j
+    ∙ (ap (λ n. (bit_at mask j + bit_at n j) % 2) (one_bit j h)
+    ∙ (ap (λ n. (bit_at mask j + n) % 2) (bit_at-pow_same j) ∙ flipped b (bit_at mask j) is))
+
+-- a number below 2 and 0
+small_bit : (bit : ℕ) → bit < 2 → (bit + 0) % 2 ≡ bit
+small_bit zero h = refl
+small_bit (suc zero) h = refl
+small_bit (suc (suc n)) h = absurd (omega (arith, h))
+
+flip_other : (j mask i : ℕ) → j < 32 → (i ≡ j → ⊥)
+    → bit_at (flip_bit j mask) i ≡ bit_at mask i
+flip_other j mask i h other =
+    bit_at_xor mask (1 * 2 ^ j % 2 ^ 32) i
+    ∙ (ap (λ n. (bit_at mask i + bit_at n i) % 2) (one_bit j h)
+    ∙ (ap (λ n. (bit_at mask i + n) % 2) (bit_at-pow_other j i other)
+    ∙ small_bit (bit_at mask i) (bit_at-lt mask i)))
+
+-- ---- the bits of an element
+
+-- masks in which a bit is put
+put_marked : (test : ℕ → Bool) (j : ℕ) (cs old new : List ℕ) → j < 32 → ArePut test j cs old new
+    → IsBitMarked test j cs old new
+put_marked test j cs old new h put = record {
+  at = λ x lt. ap (λ m. bit_at m j) (put x lt)
+      ∙ put_same (test (slice_index cs x)) j (slice_index old x) h;
+  others = λ x i lt other. ap (λ m. bit_at m i) (put x lt)
+      ∙ put_other (test (slice_index cs x)) j (slice_index old x) i h other;
+}
+
+-- the bits of no items
+pub marked_none : (items : List Item) (j : ℕ) (cs old : List ℕ)
+    → IsBitMarked (set_has (take 0 items)) j cs old old
+marked_none items j cs old = record { at = λ x lt. refl; others = λ x i lt other. refl }
+
+-- three tests in either order
+or_assoc : (a b c : Bool) → (a || (b || c)) ≡ ((a || b) || c)
+or_assoc true b c = refl
+or_assoc false b c = refl
+
+-- one item more
+has_more : (items : List Item) (item : Item) (c : ℕ)
+    → set_has (items ++ item ∷ []) c ≡ (set_has items c || has item c)
+has_more [] item c = or_false (has item c)
+has_more (x ∷ items) item c =
+    ap (λ b. has x c || b) (has_more items item c)
+    ∙ or_assoc (has x c) (set_has items c) (has item c)
+
+-- a bit that is put by either of two tests
+marked_both : (a b : Bool) (bit : ℕ) → marked b (marked a bit) ≡ marked (a || b) bit
+marked_both true true bit = refl
+marked_both true false bit = refl
+marked_both false true bit = refl
+marked_both false false bit = refl
+
+-- the bits of one item more
+pub marked_more : (items : List Item) (j : ℕ) (cs old now new : List ℕ) (i : ℕ) (item : Item)
+    → j < 32 → i < length items → item ≡ get_or items i item
+    → IsBitMarked (set_has (take i items)) j cs old now → ArePut (has item) j cs now new
+    → IsBitMarked (set_has (take (i + 1) items)) j cs old new
+marked_more items j cs old now new i item h lt is so_far put =
+    let step = put_marked (has item) j cs now new h put in
+    let more : take (i + 1) items ≡ take i items ++ item ∷ [] =
+    take_more items i item lt ∙ ap (λ x. take i items ++ x ∷ []) (sym is) in
+    record {
+      at = λ x inside.
+          let c = slice_index cs x in
+          let bit = bit_at (slice_index old x) j in
+          step.at x inside
+          ∙ (ap (marked (has item c)) (so_far.at x inside)
+          ∙ (marked_both (set_has (take i items) c) (has item c) bit
+          ∙ (ap (λ b. marked b bit) (sym (has_more (take i items) item c))
+          ∙ ap (λ l. marked (set_has l c) bit) (sym more))));
+      others = λ x n inside other. step.others x n inside other ∙ so_far.others x n inside other;
+    }
+
+-- the bits of all items
+pub marked_all : (items : List Item) (j : ℕ) (cs old new : List ℕ) (i : ℕ) → length items ≤ i
+    → IsBitMarked (set_has (take i items)) j cs old new → IsBitMarked (set_has items) j cs old new
+marked_all items j cs old new i le are =
+    subst (λ l. IsBitMarked (set_has l) j cs old new) (take_all i items le) are
+
+-- a bit that was not put before
+marked_off : (b : Bool) (bit : ℕ) → bit ≡ 0 → marked b bit ≡ kept b 1
+marked_off true bit h = refl
+marked_off false bit h = h
+
+-- then the bits say what the test says
+pub marked_taken : (test : ℕ → Bool) (j : ℕ) (cs old new : List ℕ) → length old ≡ length cs
+    → AreBitsOff j old → IsBitMarked test j cs old new → IsBitTaken test j cs old new
+marked_taken test j cs old new same off are = record {
+  at = λ x lt. are.at x lt
+      ∙ marked_off (test (slice_index cs x)) (bit_at (slice_index old x) j)
+      (off x (omega (arith, same)));
+  others = are.others;
+}
+
+-- the same at once
+pub put_taken : (test : ℕ → Bool) (j : ℕ) (cs old new : List ℕ) → j < 32
+    → length old ≡ length cs → AreBitsOff j old → ArePut test j cs old new
+    → IsBitTaken test j cs old new
+put_taken test j cs old new h same off put =
+    marked_taken test j cs old new same off (put_marked test j cs old new h put)
+
+-- no bits are those of a test that never passes
+pub none_taken : (j : ℕ) (cs old : List ℕ) → length old ≡ length cs → AreBitsOff j old
+    → IsBitTaken (takes Star) j cs old old
+none_taken j cs old same off =
+    record { at = λ x lt. off x (omega (arith, same)); others = λ x i lt other. refl }
+
+-- bits that are flipped say the contrary
+pub flipped_taken : (test : ℕ → Bool) (j : ℕ) (cs old now new : List ℕ) → j < 32
+    → length now ≡ length cs → IsBitTaken test j cs old now → AreFlipped j now new
+    → IsBitTaken (λ c. not (test c)) j cs old new
+flipped_taken test j cs old now new h same are flips = record {
+  at = λ x lt. ap (λ m. bit_at m j) (flips x (omega (arith, same)))
+      ∙ flip_same (test (slice_index cs x)) j (slice_index now x) h (are.at x lt);
+  others = λ x i lt other. ap (λ m. bit_at m i) (flips x (omega (arith, same)))
+      ∙ (flip_other j (slice_index now x) i h other ∙ are.others x i lt other);
+}
+
+-- so the bits of any one character are all put
+pub any_taken : (j : ℕ) (cs old new : List ℕ) → j < 32 → length old ≡ length cs
+    → AreBitsOff j old → AreFlipped j old new → IsBitTaken (takes Any) j cs old new
+any_taken j cs old new h same off flips =
+    flipped_taken (takes Star) j cs old old new h same (none_taken j cs old same off) flips
+
+-- ---- the bits of all elements
+
+-- the bits of one element more
+pub masks_more : (es : List Element) (cs old new : List ℕ) (j : ℕ) (e : Element)
+    → j < length es → e ≡ get_or es j e → IsBitTaken (takes e) j cs old new
+    → ((x i : ℕ) → x < length cs → i < j
+    → bit_at (slice_index old x) i ≡ kept (takes_at es i (slice_index cs x)) 1)
+    → (x i : ℕ) → x < length cs → i < j + 1
+    → bit_at (slice_index new x) i ≡ kept (takes_at es i (slice_index cs x)) 1
+masks_more es cs old new j e h is are so_far = λ x i lt below. elim (cases_eq i j) [
+  | inl same ↦
+      let c = slice_index cs x in
+      let there : e ≡ get_or es j Star = is ∙ get_or_default es j e Star h in
+      subst (λ n. bit_at (slice_index new x) n ≡ kept (takes_at es n c) 1) (sym same)
+      (are.at x lt ∙ ap (λ y. kept (takes y c) 1) there)
+  | inr other ↦ are.others x i lt other ∙ so_far x i lt (omega arith)
+]
+
+-- and the bits behind it are not put
+pub rest_off : (e : Element) (cs old new : List ℕ) (j : ℕ) → IsBitTaken (takes e) j cs old new
+    → ((x i : ℕ) → x < length cs → j ≤ i → bit_at (slice_index old x) i ≡ 0)
+    → (x i : ℕ) → x < length cs → j + 1 ≤ i → bit_at (slice_index new x) i ≡ 0
+rest_off e cs old new j are off = λ x i lt le.
+    are.others x i lt (λ same. absurd (omega (arith, same, le))) ∙ off x i lt (omega arith)
+
+-- the masks of the text's characters
+pub masks_of_codes : (es : List Element) (cs codes text masks : List ℕ)
+    → length masks ≡ length cs → AreMasks es cs masks → AreCodes cs codes text
+    → AreMasksOfCodes es text codes masks
+masks_of_codes es cs codes text masks same are coded = λ i lt.
+    let code = coded i lt in (
+      omega (arith, code.0, same),
+      λ j h. are (slice_index codes i) j code.0 h ∙ ap (λ c. kept (takes_at es j c) 1) code.1,
+    )
+
+-- ---- ends
+
+-- two bits and one
+kept_min : (a b : Bool) → min (kept a 1) (kept b 1) ≡ kept (a && b) 1
+kept_min true true = refl
+kept_min true false = refl
+kept_min false true = refl
+kept_min false false = refl
+
+-- one element more takes one character more
+front_more : (es : List Element) (cs : List ℕ) (k : ℕ) (e : Element) → k < length es
+    → k < length cs → take_front (take (suc k) es) cs
+    ≡ (take_front (take k es) cs && takes (get_or es k e) (get_or cs k 0))
+front_more [] cs k e h g = absurd (omega arith)
+front_more (x ∷ es) [] k e h g = absurd (omega arith)
+front_more (x ∷ es) (c ∷ cs) zero e h g = and_true (takes x c)
+front_more (x ∷ es) (c ∷ cs) (suc k) e h g =
+    ap (λ b. takes x c && b) (front_more es cs k e (omega arith) (omega arith))
+    ∙ and_assoc (takes x c) (take_front (take k es) cs) (takes (get_or es k e) (get_or cs k 0))
+
+-- the same at a place of the text
+front_at : (es : List Element) (cs : List ℕ) (j k i : ℕ) → j < length es → k + j ≡ i
+    → i < length cs → take_front (take (suc j) es) (drop k cs)
+    ≡ (take_front (take j es) (drop k cs) && takes_at es j (slice_index cs i))
+front_at es cs j k i h is lt =
+    front_more es (drop k cs) j Star h (omega (arith, is, length-drop k cs))
+    ∙ ap (λ c. take_front (take j es) (drop k cs) && takes_at es j c)
+    (get_or-drop k cs j 0 ∙ ap (λ n. get_or cs n 0) is)
+
+-- the bit before, which is put for no elements
+ends_before : (es : List Element) (cs : List ℕ) (ends i j k : ℕ) → AreEnds es cs i ends
+    → j < length es → k + j ≡ i
+    → bit_at (ends * 2 + 1) j ≡ kept (take_front (take j es) (drop k cs)) 1
+ends_before es cs ends i zero k are h is = bit_at_cat_low ends 1 1 zero (omega arith)
+ends_before es cs ends i (suc j) k are h is =
+    bit_at_cat_high ends 1 1 (suc j) (omega arith) (omega arith)
+    ∙ (ap (bit_at ends) (let less : suc j - 1 ≡ j = omega arith in less)
+    ∙ are j k (omega arith) (omega (arith, is)))
+
+-- the ends after one character more
+pub ends_more : (es : List Element) (cs : List ℕ) (ends mask i : ℕ) → i < length cs
+    → AreEnds es cs i ends
+    → ((j : ℕ) → j < length es → bit_at mask j ≡ kept (takes_at es j (slice_index cs i)) 1)
+    → AreEnds es cs (i + 1) (next_ends ends mask)
+ends_more es cs ends mask i lt are bits = λ j k h is.
+    let there : k + j ≡ i = omega (arith, is) in
+    let before = take_front (take j es) (drop k cs) in
+    let hit = takes_at es j (slice_index cs i) in
+    bit_at_and (ends * 2 + 1) mask j
+    ∙ (ap (λ n. min n (bit_at mask j)) (ends_before es cs ends i j k are h there)
+    ∙ (ap (λ n. min (kept before 1) n) (bits j h)
+    ∙ (kept_min before hit
+    ∙ ap (λ b. kept b 1) (sym (front_at es cs j k i h there lt)))))
+
+-- there are none before the text
+pub ends_none : (es : List Element) (cs : List ℕ) → AreEnds es cs 0 0
+ends_none es cs = λ j k h is. absurd (omega (arith, is))
+
+-- a bit as a test
+bit_test : (b : Bool) → (1 == kept b 1) ≡ b
+bit_test true = refl
+bit_test false = refl
+
+-- the last bit says whether all elements took the last characters
+pub ends_all : (es : List Element) (cs : List ℕ) (ends last i k : ℕ) → last + 1 ≡ length es
+    → k + last ≡ i → AreEnds es cs (i + 1) ends
+    → (1 == bit_at ends last) ≡ take_front es (drop k cs)
+ends_all es cs ends last i k all is are =
+    let whole : take (suc last) es ≡ es = take_all (suc last) es (omega (arith, all)) in
+    ap (λ n. 1 == n) (are last k (omega arith) (omega arith))
+    ∙ (bit_test (take_front (take (suc last) es) (drop k cs))
+    ∙ ap (λ l. take_front l (drop k cs)) whole)
+
+-- ---- ASCII
+
+-- a number and itself, and another
+same_test : (c : ℕ) → (c == c) ≡ true
+same_test c = grind (arith, nat_tests)
+
+other_test : (c d : ℕ) → (d ≡ c → ⊥) → (c == d) ≡ false
+other_test c d h = grind (arith, nat_tests)
+
+-- a code that isn't of this ASCII character has another
+other_char : (c x : ℕ) (cs : List ℕ) → c < 128 → IsAlphabet cs → x < length cs → (x ≡ c → ⊥)
+    → slice_index cs x ≡ c → ⊥
+other_char c x cs h are lt other = λ same. elim (cases_lt x 128) [
+  | inl low ↦ other (sym (are.ascii x low) ∙ same)
+  | inr high ↦ absurd (omega (arith, same, are.apart x high lt))
+]
+
+-- the mask of an ASCII character is the one of its code
+pub low_char : (c j : ℕ) (cs old new : List ℕ) → c < 128 → IsAlphabet cs
+    → length old ≡ length cs → new ≡ set old c (put_bit true j (slice_index old c))
+    → ArePut (λ d. c == d) j cs old new
+low_char c j cs old new h are same is = λ x lt. elim (cases_eq x c) [
+  | inl there ↦
+      ap (λ l. slice_index l x) is
+      ∙ subst (λ y. slice_index (set old c (put_bit true j (slice_index old c))) y
+      ≡ put_bit (c == slice_index cs y) j (slice_index old y)) (sym there)
+      (get_or-set_same old c (put_bit true j (slice_index old c)) 0 (omega (arith, there))
+      ∙ ap (λ b. put_bit b j (slice_index old c))
+      (sym (ap (λ d. c == d) (are.ascii c h) ∙ same_test c)))
+  | inr other ↦
+      ap (λ l. slice_index l x) is
+      ∙ (get_or-set_other old c x (put_bit true j (slice_index old c)) 0 other
+      ∙ ap (λ b. put_bit b j (slice_index old x))
+      (sym (other_test c (slice_index cs x) (other_char c x cs h are lt other))))
+]
+
+-- a number within a range, below it and above it
+within_test : (first last y : ℕ) → first ≤ y → y ≤ last → (nat_le first y && nat_le y last) ≡ true
+within_test first last y h g = grind (arith, nat_tests)
+
+below_test : (first last y : ℕ) → y < first → (nat_le first y && nat_le y last) ≡ false
+below_test first last y h = grind (arith, nat_tests)
+
+above_test : (first last y : ℕ) → last < y → (nat_le first y && nat_le y last) ≡ false
+above_test first last y h = grind (arith, nat_tests)
+
+-- whether a range of ASCII characters includes the character of a code
+code_within : (first last x : ℕ) (cs : List ℕ) → last < 128 → IsAlphabet cs → x < length cs
+    → (nat_le first (slice_index cs x) && nat_le (slice_index cs x) last)
+    ≡ (nat_le first x && nat_le x last)
+code_within first last x cs h are lt = elim (cases_lt x 128) [
+  | inl low ↦ ap (λ y. nat_le first y && nat_le y last) (are.ascii x low)
+  | inr high ↦ above_test first last (slice_index cs x) (omega (arith, are.apart x high lt))
+      ∙ sym (above_test first last x (omega arith))
+]
+
+-- the masks of a range of ASCII characters are those of its codes
+pub low_range : (first last j : ℕ) (cs old new : List ℕ) → last < 128 → IsAlphabet cs
+    → ((x : ℕ) → first ≤ x → x < last + 1
+    → slice_index new x ≡ put_bit true j (slice_index old x))
+    → ((x : ℕ) → x < first → slice_index new x ≡ slice_index old x)
+    → ((x : ℕ) → last + 1 ≤ x → slice_index new x ≡ slice_index old x)
+    → ArePut (λ d. nat_le first d && nat_le d last) j cs old new
+low_range first last j cs old new h are inside below above = λ x lt.
+    let test = code_within first last x cs h are lt in
+    let mask = slice_index old x in
+    elim (cases_lt x first) [
+      | inl low ↦ below x low
+          ∙ ap (λ b. put_bit b j mask) (sym (test ∙ below_test first last x low))
+      | inr high ↦ elim (cases_lt last x) [
+        | inl far ↦ above x (omega arith)
+            ∙ ap (λ b. put_bit b j mask) (sym (test ∙ above_test first last x far))
+        | inr near ↦ inside x high (omega arith)
+            ∙ ap (λ b. put_bit b j mask) (sym (test ∙ within_test first last x high near))
+      ]
+    ]
+
+-- for the items of a set
+pub ruleset items_marked = (marked_none, marked_more, marked_all)
