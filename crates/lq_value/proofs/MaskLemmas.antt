@@ -4,7 +4,8 @@ use Rattle.std.specs.Prelude.{◌&&◌, ◌||◌, ◌==◌, nat_le, not, min, se
 use Rattle.std.specs.Int.{bit_at, w32}
 use Rattle.std.proofs.lemmas.Nat.{shl_whole}
 use Rattle.std.proofs.lemmas.Nat.Bits.{bit_at_and, bit_at_xor, bit_at-pow_same, bit_at-pow_other, bit_at_set_same, bit_at_set_other, bit_at-lt, bit_at_cat_low, bit_at_cat_high}
-use Rattle.std.proofs.lemmas.List.{take_more, take_all, get_or_default, get_or-drop, get_or-set_same, get_or-set_other}
+use Rattle.std.proofs.Math.Seq.{take-add}
+use Rattle.std.proofs.lemmas.List.{take_all, get_or_default, get_or-drop, get_or-set_same, get_or-set_other}
 use Rattle.std.proofs.lemmas.Bool.{cases_eq, cases_lt}
 use Rattle.std.proofs.lemmas.Bool.Decides.{nat_tests}
 use Rattle.lq_value.specs.declared.element.Item.{Item}
@@ -12,7 +13,7 @@ use Rattle.lq_value.specs.declared.element.Element.{Element}
 use Rattle.lq_value.specs.declared.element.Element.TheVariants.{Star, Any}
 use Rattle.lq_value.specs.Element.{has, set_has, takes}
 use Rattle.lq_value.specs.Seek.{kept, take_front}
-use Rattle.lq_value.specs.Masks.{marked, put_bit, flip_bit, next_ends, takes_at, AreBitsOff, AreCodes, AreEnds, AreFlipped, AreMasks, AreMasksOfCodes, ArePut, IsAlphabet, IsBitMarked, IsBitTaken}
+use Rattle.lq_value.specs.Masks.{marked, put_bit, flip_bit, next_ends, takes_at, AreBitsOff, AreCodes, AreEnds, AreFlipped, AreMasks, AreMasksOfCodes, ArePut, IsAlphabet, IsBitMarked, IsBitTaken, IsPair}
 use Rattle.lq_value.proofs.FlagLemmas.{or_false, and_true, and_assoc}
 
 -- ---- one bit
@@ -74,18 +75,23 @@ pub marked_none : (items : List Item) (j : ℕ) (cs old : List ℕ)
     → IsBitMarked (set_has (take 0 items)) j cs old old
 marked_none items j cs old = record { at = λ x lt. refl; others = λ x i lt other. refl }
 
+-- a test or itself
+or_self : (b : Bool) → (b || b) ≡ b
+or_self true = refl
+or_self false = refl
+
 -- three tests in either order
 or_assoc : (a b c : Bool) → (a || (b || c)) ≡ ((a || b) || c)
 or_assoc true b c = refl
 or_assoc false b c = refl
 
--- one item more
-has_more : (items : List Item) (item : Item) (c : ℕ)
-    → set_has (items ++ item ∷ []) c ≡ (set_has items c || has item c)
-has_more [] item c = or_false (has item c)
-has_more (x ∷ items) item c =
-    ap (λ b. has x c || b) (has_more items item c)
-    ∙ or_assoc (has x c) (set_has items c) (has item c)
+-- more items
+has_join : (front back : List Item) (c : ℕ)
+    → set_has (front ++ back) c ≡ (set_has front c || set_has back c)
+has_join [] back c = refl
+has_join (x ∷ front) back c =
+    ap (λ b. has x c || b) (has_join front back c)
+    ∙ or_assoc (has x c) (set_has front c) (set_has back c)
 
 -- a bit that is put by either of two tests
 marked_both : (a b : Bool) (bit : ℕ) → marked b (marked a bit) ≡ marked (a || b) bit
@@ -94,26 +100,53 @@ marked_both true false bit = refl
 marked_both false true bit = refl
 marked_both false false bit = refl
 
--- the bits of one item more
-pub marked_more : (items : List Item) (j : ℕ) (cs old now new : List ℕ) (i : ℕ) (item : Item)
-    → j < 32 → i < length items → item ≡ get_or items i item
-    → IsBitMarked (set_has (take i items)) j cs old now → ArePut (has item) j cs now new
-    → IsBitMarked (set_has (take (i + 1) items)) j cs old new
-marked_more items j cs old now new i item h lt is so_far put =
-    let step = put_marked (has item) j cs now new h put in
-    let more : take (i + 1) items ≡ take i items ++ item ∷ [] =
-    take_more items i item lt ∙ ap (λ x. take i items ++ x ∷ []) (sym is) in
+-- the bits of more items
+pub marked_join : (items : List Item) (j : ℕ) (cs old now new : List ℕ) (i n : ℕ)
+    → IsBitMarked (set_has (take i items)) j cs old now
+    → IsBitMarked (set_has (take n (drop i items))) j cs now new
+    → IsBitMarked (set_has (take (i + n) items)) j cs old new
+marked_join items j cs old now new i n so_far step =
+    let front = take i items in
+    let back = take n (drop i items) in
     record {
-      at = λ x inside.
+      at = λ x lt.
           let c = slice_index cs x in
           let bit = bit_at (slice_index old x) j in
-          step.at x inside
-          ∙ (ap (marked (has item c)) (so_far.at x inside)
-          ∙ (marked_both (set_has (take i items) c) (has item c) bit
-          ∙ (ap (λ b. marked b bit) (sym (has_more (take i items) item c))
-          ∙ ap (λ l. marked (set_has l c) bit) (sym more))));
-      others = λ x n inside other. step.others x n inside other ∙ so_far.others x n inside other;
+          step.at x lt
+          ∙ (ap (marked (set_has back c)) (so_far.at x lt)
+          ∙ (marked_both (set_has front c) (set_has back c) bit
+          ∙ (ap (λ b. marked b bit) (sym (has_join front back c))
+          ∙ ap (λ l. marked (set_has l c) bit) (sym (take-add i n items)))));
+      others = λ x k lt other. step.others x k lt other ∙ so_far.others x k lt other;
     }
+
+-- the bits of tests that pass for the same characters
+same_marked : (test other : ℕ → Bool) (j : ℕ) (cs old new : List ℕ)
+    → ((c : ℕ) → test c ≡ other c) → IsBitMarked test j cs old new
+    → IsBitMarked other j cs old new
+same_marked test other j cs old new same are = record {
+  at = λ x lt. are.at x lt
+      ∙ ap (λ b. marked b (bit_at (slice_index old x) j)) (same (slice_index cs x));
+  others = are.others;
+}
+
+-- the bits of the first item
+pub one_marked : (items : List Item) (item : Item) (j : ℕ) (cs old new : List ℕ) → j < 32
+    → take 1 items ≡ item ∷ [] → ArePut (has item) j cs old new
+    → IsBitMarked (set_has (take 1 items)) j cs old new
+one_marked items item j cs old new h one put =
+    same_marked (has item) (set_has (take 1 items)) j cs old new
+    (λ c. sym (ap (λ l. set_has l c) one ∙ or_false (has item c)))
+    (put_marked (has item) j cs old new h put)
+
+-- the bits of the first two
+pub pair_marked : (items : List Item) (c d j : ℕ) (cs old new : List ℕ) → j < 32
+    → IsPair items c d → ArePut (λ e. c == e || d == e) j cs old new
+    → IsBitMarked (set_has (take 2 items)) j cs old new
+pair_marked items c d j cs old new h pair put =
+    same_marked (λ e. c == e || d == e) (set_has (take 2 items)) j cs old new
+    (λ e. sym (ap (λ l. set_has l e) pair.are ∙ ap (λ b. c == e || b) (or_false (d == e))))
+    (put_marked (λ e. c == e || d == e) j cs old new h put)
 
 -- the bits of all items
 pub marked_all : (items : List Item) (j : ℕ) (cs old new : List ℕ) (i : ℕ) → length items ≤ i
@@ -351,5 +384,28 @@ low_range first last j cs old new h are inside below above = λ x lt.
       ]
     ]
 
--- for the items of a set
-pub ruleset items_marked = (marked_none, marked_more, marked_all)
+-- ---- other characters
+
+-- two characters that are not ASCII have no code of one
+pub high_put : (c d j : ℕ) (cs old new : List ℕ) → 128 ≤ c → 128 ≤ d → IsAlphabet cs
+    → ((x : ℕ) → 128 ≤ x → x < length cs → slice_index new x
+    ≡ put_bit (c == slice_index cs x || d == slice_index cs x) j (slice_index old x))
+    → ((x : ℕ) → x < 128 → slice_index new x ≡ slice_index old x)
+    → ArePut (λ e. c == e || d == e) j cs old new
+high_put c d j cs old new h g are high low = λ x lt. elim (cases_lt x 128) [
+  | inl below ↦
+      let e = slice_index cs x in
+      let first : (c == e) ≡ false =
+      other_test c e (λ same. absurd (omega (arith, same, are.ascii x below))) in
+      let second : (d == e) ≡ false =
+      other_test d e (λ same. absurd (omega (arith, same, are.ascii x below))) in
+      low x below ∙ ap (λ b. put_bit b j (slice_index old x))
+      (sym (ap (λ b. b || d == e) first ∙ second))
+  | inr above ↦ high x above lt
+]
+
+-- the same for one character
+pub one_put : (c j : ℕ) (cs old new : List ℕ) → ArePut (λ e. c == e || c == e) j cs old new
+    → ArePut (λ e. c == e) j cs old new
+one_put c j cs old new put = λ x lt.
+    put x lt ∙ ap (λ b. put_bit b j (slice_index old x)) (or_self (c == slice_index cs x))

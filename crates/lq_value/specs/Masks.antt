@@ -1,9 +1,11 @@
 -- How up to 32 elements are tried together: a mask for each character, of which each bit says
 -- whether one of the elements takes the character.
-use Rattle.std.specs.Prelude.{◌≡◌, ◌<◌, ◌≤◌, ◌+◌, ◌*◌, ◌%◌, ◌^◌, ℕ, suc, take, drop, List, Bool, true, false, length, get_or, slice_index, bit_and, bit_or, bit_xor}
+use Rattle.std.specs.Prelude.{◌≡◌, ◌<◌, ◌≤◌, ◌+◌, ◌*◌, ◌%◌, ◌^◌, ℕ, suc, take, drop, List, [], ◌∷◌, Bool, true, false, length, get_or, slice_index, bit_and, bit_or, bit_xor}
 use Rattle.std.specs.Int.{bit_at}
 use Rattle.lq_value.specs.declared.element.Element.{Element}
 use Rattle.lq_value.specs.declared.element.Element.TheVariants.{Star}
+use Rattle.lq_value.specs.declared.element.Item.{Item}
+use Rattle.lq_value.specs.declared.element.Item.TheVariants.{One}
 use Rattle.lq_value.specs.declared.masks.Entered.{Entered}
 use Rattle.lq_value.specs.Element.{takes}
 use Rattle.lq_value.specs.Seek.{kept, take_front}
@@ -52,6 +54,13 @@ pub record IsBitTaken (test : ℕ → Bool) (j : ℕ) (cs old new : List ℕ) : 
   pub at : (x : ℕ) → x < length cs
       → bit_at (slice_index new x) j ≡ kept (test (slice_index cs x)) 1
   pub others : AreOthersSame j cs old new
+
+-- the first two items are these characters, which are not ASCII
+pub record IsPair (items : List Item) (c d : ℕ) : Type 0 where
+  pub long : 2 ≤ length items
+  pub are : take 2 items ≡ One c ∷ One d ∷ []
+  pub first : 128 ≤ c
+  pub second : 128 ≤ d
 
 -- whether the element of this index takes the character
 abbrev pub takes_at : List Element → ℕ → ℕ → Bool

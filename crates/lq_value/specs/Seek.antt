@@ -1,7 +1,8 @@
 -- How single elements are sought at many places of a text at once: a flag for each place says
 -- whether the elements so far have taken the characters from there on.
-use Rattle.std.specs.Prelude.{◌≡◌, ◌<◌, ◌≤◌, ◌+◌, ℕ, List, [], ◌∷◌, ◌++◌, Bool, true, false, ◌&&◌, ◌==◌, not, if◌then◌else◌, length, drop, slice_index}
+use Rattle.std.specs.Prelude.{◌≡◌, ◌<◌, ◌≤◌, ◌+◌, ℕ, List, [], ◌∷◌, ◌++◌, Bool, true, false, ◌&&◌, ◌==◌, nat_lt, not, if◌then◌else◌, length, drop, slice_index}
 use Rattle.lq_value.specs.declared.element.Element.{Element}
+use Rattle.lq_value.specs.declared.element.Element.TheVariants as element
 use Rattle.lq_value.specs.declared.element.Item.{Item}
 use Rattle.lq_value.specs.declared.run.Light.{Light}
 use Rattle.lq_value.specs.declared.run.Light.TheVariants.{Any, Plain, OneItem}
@@ -93,3 +94,10 @@ pub record IsPiece (es piece after : List Element) : Type 0 where
   pub elements : es ≡ piece ++ after
   pub single : AreSingle piece
   pub star : IsAtStar after
+
+-- a set of many items
+abbrev pub is_large : Element → Bool
+is_large element.Star = false
+is_large element.Any = false
+is_large (element.Plain c) = false
+is_large (element.Set negated items) = nat_lt 16 (length items)

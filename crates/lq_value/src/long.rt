@@ -3,7 +3,7 @@ ghost use Rattle.std.specs.Prelude.{◌≡◌, ◌≤◌, length, take, drop, If
 ghost use Rattle.std.specs.Str.{chars};
 ghost use Rattle.lq_value.specs.Matching.{AreSingle, Finds, IsAtStar};
 ghost use Rattle.lq_value.specs.Pattern.{fits, some_rest};
-ghost use Rattle.lq_value.specs.Seek.{IsPiece};
+ghost use Rattle.lq_value.specs.Seek.{is_large, IsPiece};
 
 use crate::element::Element;
 use crate::first::first_char;
@@ -11,6 +11,10 @@ use crate::seek::{find_place, from_place};
 
 // From how many bytes on a text is matched at many places at once.
 const LONG_TEXT: usize = 128;
+
+// The same where a set has many items, and how many these are.
+const LONG_FOR_SETS: usize = 32;
+const MANY_ITEMS: usize = 16;
 
 // How many characters it may have.
 const MAX_CHARS: usize = 4096;
@@ -36,15 +40,26 @@ struct Piece<'a> {
 }
 
 /// Whether the elements fit the whole text. There are none, or the first is a star. `None` for a
-/// text of less than 128 bytes or more than 4,096 characters. It takes no memory.
+/// text that is matched place by place: it has less than 128 bytes, or less than 32 where a set has
+/// many items, or more than 4,096 characters. It takes no memory.
 pub(crate) fn fits_long(elements: &[Element], text: &str) -> Option<bool>
     requires { IsAtStar elements.now }
     ensures { IfSome result (λ r. r ≡ fits elements.now (chars text.now)) }
 {
-    if text.len() < LONG_TEXT {
+    if text.len() < LONG_FOR_SETS || text.len() < LONG_TEXT && !elements.iter().any(is_large) {
         return None;
     }
     fits_copied(elements, text)
+}
+
+// Whether it is a set of many items.
+fn is_large(element: &Element) -> bool
+    ensures { result ≡ is_large element.now }
+{
+    match element {
+        Element::Set { items, .. } => MANY_ITEMS < items.as_slice().len(),
+        _ => false,
+    }
 }
 
 fn fits_copied(elements: &[Element], text: &str) -> Option<bool>

@@ -1,11 +1,11 @@
 //! Trying up to 32 elements together, by a mask for each character of a text.
 //!
 //! Each bit of a mask says whether one of the elements takes the character.
-ghost use Rattle.std.specs.Prelude.{◌≡◌, ◌≤◌, ◌<◌, ◌+◌, ◌==◌, ◌&&◌, nat_le, true, ℕ, length, take, slice_index};
+ghost use Rattle.std.specs.Prelude.{◌||◌, IfSome, ◌≡◌, ◌≤◌, ◌<◌, ◌+◌, ◌==◌, ◌&&◌, nat_le, true, ℕ, length, take, slice_index};
 ghost use Rattle.std.specs.Int.{bit_at};
 ghost use Rattle.lq_value.specs.Element.{has, set_has, takes};
 ghost use Rattle.lq_value.specs.Seek.{kept, set_takes, AreKeptBy, AreOff};
-ghost use Rattle.lq_value.specs.Masks.{flip_bit, put_bit, next_ends, AreBitsOff, AreCodes, AreFlipped, AreMasks, AreMasksOfCodes, ArePut, IsAlphabet, IsAscii, IsBitMarked, IsBitTaken, IsEntered};
+ghost use Rattle.lq_value.specs.Masks.{flip_bit, put_bit, next_ends, AreBitsOff, AreCodes, AreFlipped, AreMasks, AreMasksOfCodes, ArePut, IsAlphabet, IsAscii, IsBitMarked, IsBitTaken, IsEntered, IsPair};
 
 use crate::element::{Element, Item};
 use crate::run::kept;
@@ -247,15 +247,43 @@ fn put_set(masks: &mut [u32], j: usize, negated: bool, items: &[Item], chars: &[
     }
 }
 
-#[tactic(auto, using(crate::proofs::MaskLemmas::items_marked))]
 fn put_items(masks: &mut [u32], j: usize, items: &[Item], chars: &[char])
     requires bit { j < 32 }
     requires alphabet { IsAlphabet chars.now }
     requires same { length masks.old ≡ length chars.now }
     ensures { IsBitMarked (set_has items.now) j chars.now masks.old masks.new }
 {
-    for item in items {
-        put_item(masks, j, *item, chars);
+    let mut i = 0;
+    while i < items.len() {
+        i += put_next(masks, j, &items[i..], chars);
+    }
+}
+
+// Puts the bit for the first item, or for the first two, and answers how many.
+fn put_next(masks: &mut [u32], j: usize, items: &[Item], chars: &[char]) -> usize
+    requires bit { j < 32 }
+    requires alphabet { IsAlphabet chars.now }
+    requires same { length masks.old ≡ length chars.now }
+    requires some { 0 < length items.now }
+    ensures some { 0 < result }
+    ensures within { result ≤ length items.now }
+    ensures marked { IsBitMarked (set_has (take result items.now)) j chars.now masks.old masks.new }
+{
+    if let Some((c, d)) = first_pair(items) {
+        put_high(masks, j, c, d, chars);
+        return 2;
+    }
+    put_item(masks, j, items[0], chars);
+    1
+}
+
+// The first two items, if both are single characters that are not ASCII.
+fn first_pair(items: &[Item]) -> Option<(char, char)>
+    ensures { IfSome result (λ pair. IsPair items.now pair.0 pair.1) }
+{
+    match items {
+        [Item::One(c), Item::One(d), ..] if 128 <= *c as u32 && 128 <= *d as u32 => Some((*c, *d)),
+        _ => None,
     }
 }
 
@@ -281,17 +309,21 @@ fn put_char(masks: &mut [u32], j: usize, c: char, chars: &[char])
         let code = c as usize;
         masks[code] = put_bit(true, j, masks[code]);
     } else {
-        put_equal(masks, j, c, chars);
+        put_high(masks, j, c, c, chars);
     }
 }
 
-fn put_equal(masks: &mut [u32], j: usize, c: char, chars: &[char])
+// Puts the bit for two characters that are not ASCII.
+fn put_high(masks: &mut [u32], j: usize, c: char, d: char, chars: &[char])
     requires bit { j < 32 }
+    requires alphabet { IsAlphabet chars.now }
     requires same { length masks.old ≡ length chars.now }
-    ensures { ArePut (λ d. c == d) j chars.now masks.old masks.new }
+    requires first { 128 ≤ c }
+    requires second { 128 ≤ d }
+    ensures { ArePut (λ e. c == e || d == e) j chars.now masks.old masks.new }
 {
-    for i in 0..masks.len() {
-        masks[i] = put_bit(c == chars[i], j, masks[i]);
+    for i in ASCII..masks.len() {
+        masks[i] = put_bit(c == chars[i] || d == chars[i], j, masks[i]);
     }
 }
 

@@ -1,11 +1,21 @@
-use Rattle.std.proofs.lemmas.List.{get_or_default}
-use Rattle.lq_value.proofs.MaskLemmas.{marked_more}
+use Rattle.std.proofs.Common.{take, subst, arith}
+use Rattle.std.proofs.lemmas.List.{take_rest}
+use Rattle.lq_value.specs.Element.{set_has}
+use Rattle.lq_value.specs.Masks.{IsBitMarked}
+use Rattle.lq_value.proofs.MaskLemmas.{marked_join}
 use Rattle.lq_value.proofs.masks.put_items.Goals as goal
 
-pub loop-item-preserved : goal.loop-item-preserved
-loop-item-preserved c =
+pub loop-i-preserved : goal.loop-i-preserved
+loop-i-preserved c =
     let items = c.args.items.now in
-    let i = c.loop-item.item-index in
-    marked_more items c.args.j c.args.chars.now c.args.masks.now c.loop-item.masks
-    c.put_item.new.masks i _ c.requires.bit c.loop-item-test.true
-    (get_or_default items i _ _ c.loop-item-test.true) c.loop-item.invariant c.put_item.ensures
+    let i = c.loop-i.i in
+    let n = c.put_next-i.result in
+    let cs = c.args.chars.now in
+    let new = c.put_next-i.new.masks in
+    record {
+      within = omega arith;
+      marked = marked_join items c.args.j cs c.args.masks.now c.loop-i.masks new i n
+          c.loop-i.invariant.marked
+          (subst (λ l. IsBitMarked (set_has (take n l)) c.args.j cs c.loop-i.masks new)
+          (take_rest items i) c.put_next-i.ensures.marked);
+    }

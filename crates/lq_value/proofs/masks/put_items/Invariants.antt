@@ -1,9 +1,14 @@
-use Rattle.std.proofs.Common.{take}
+use Rattle.std.proofs.Common.{◌≤◌, ◌-◌, length, take}
 use Rattle.lq_value.specs.Element.{set_has}
 use Rattle.lq_value.specs.Masks.{IsBitMarked}
 use Rattle.lq_value.proofs.masks.put_items.Given as goal
 
 -- the bits of the items so far
-abbrev pub invariant-loop-item : goal.invariant-loop-item
-invariant-loop-item l =
-    IsBitMarked (set_has (take l.item-index l.items)) l.j l.chars l.fn.masks l.masks
+abbrev pub invariant-loop-i : goal.invariant-loop-i
+invariant-loop-i l = record {
+  within : l.i ≤ length l.items;
+  marked : IsBitMarked (set_has (take l.i l.items)) l.j l.chars l.fn.masks l.masks;
+}
+
+abbrev pub decreases-loop-i : goal.decreases-loop-i
+decreases-loop-i l = length l.items - l.i
