@@ -31,7 +31,38 @@ const PIECES: [&str; 16] = [
     "*", "*?",
 ];
 
-const TEXTS: [&str; 8] = ["a", "a", "aa", "b", "ab", "é", "c", "abababab"];
+const TEXTS: [&str; 16] = [
+    "a", "a", "a", "a", "aa", "aa", "b", "b", "ab", "ab", "é", "é", "c", "c", "abababab",
+    "abababab",
+];
+
+// the same where most elements are sets: of few items and of many, of ASCII and others
+const SETS: [&str; 16] = [
+    "[abc]",
+    "[^x]",
+    "[a-dé]",
+    "[^è]",
+    "[^€]",
+    "[abcdefghijklmnopqrstuvw€éü]",
+    "[^bdefghijklmnopqrstuvwx]",
+    "[üéèab]",
+    "[€éab]",
+    "[a-z]",
+    "[!-₿]",
+    "?",
+    "a?",
+    "[^😀]",
+    "[a-é€]",
+    "*",
+];
+
+const TEXTS_OF_SETS: [&str; 16] = [
+    "a", "a", "a", "é", "b", "ab", "aa", "a", "aé", "b", "a", "€", "aa", "a", "😀", "a",
+];
+
+const ASCII_TEXTS: [&str; 16] = [
+    "a", "a", "a", "a", "a", "ab", "aa", "a", "ac", "b", "a", "x", "aa", "a", "x", "ab",
+];
 
 // The next of a row of drawn numbers.
 fn next(drawn: u64) -> u64 {
@@ -40,23 +71,19 @@ fn next(drawn: u64) -> u64 {
         .wrapping_add(1_442_695_040_888_963_407)
 }
 
-// As many pieces as the number says.
-fn drawn_source(alloc: Global, seed: u64, count: u64) -> Result<String, AllocError> {
-    let mut source = String::from_str(alloc, "*")?;
+// As many pieces as the number says, after the first ones.
+fn drawn_text(
+    alloc: Global,
+    first: &str,
+    pieces: &[&str; 16],
+    seed: u64,
+    count: u64,
+) -> Result<String, AllocError> {
+    let mut text = String::from_str(alloc, first)?;
     let mut drawn = seed;
     for _ in 0..count {
         drawn = next(drawn);
-        source.push_str(PIECES[((drawn >> 33) % 16) as usize])?;
-    }
-    Ok(source)
-}
-
-fn drawn_text(alloc: Global, seed: u64, count: u64) -> Result<String, AllocError> {
-    let mut text = String::new(alloc);
-    let mut drawn = seed;
-    for _ in 0..count {
-        drawn = next(drawn);
-        text.push_str(TEXTS[((drawn >> 33) % 8) as usize])?;
+        text.push_str(pieces[((drawn >> 33) % 16) as usize])?;
     }
     Ok(text)
 }
@@ -117,27 +144,53 @@ fn fits_plainly(alloc: Global, elements: &[Element], text: &str) -> Result<bool,
     Ok(ends.last() == Some(&true))
 }
 
+// Whether the pattern fits the text, if the plain body tells the same.
+fn fits_as_plainly(alloc: Global, source: String, text: &str) -> Result<bool, Fail> {
+    let Ok(pattern) = Pattern::read(alloc, source.as_str()) else {
+        return Err(Fail::from(source));
+    };
+    let fits = match pattern.elements() {
+        Elements::Text(plain) => plain == text,
+        Elements::List(elements) => fits_plainly(alloc, elements, text)?,
+    };
+    if pattern.matches(text) != fits {
+        return Err(Fail::from(source));
+    }
+    Ok(fits)
+}
+
 #[test]
 fn a_long_text_is_matched_as_by_the_plain_body(rt: HostRuntime) -> Result<(), Fail> {
     let mut fitting: u32 = 0;
     for n in 0..600_u64 {
-        let source = drawn_source(rt.alloc(), n, n % 30)?;
-        let text = drawn_text(rt.alloc(), n, 60 + n % 240)?;
-        let Ok(pattern) = Pattern::read(rt.alloc(), source.as_str()) else {
-            return Err(Fail::from(source));
-        };
-        let fits = match pattern.elements() {
-            Elements::Text(plain) => plain == text.as_str(),
-            Elements::List(elements) => fits_plainly(rt.alloc(), elements, text.as_str())?,
-        };
-        if pattern.matches(text.as_str()) != fits {
-            return Err(Fail::from(source));
-        }
-        if fits {
+        let source = drawn_text(rt.alloc(), "*", &PIECES, n, n % 30)?;
+        let text = drawn_text(rt.alloc(), "", &TEXTS, n, 60 + n % 240)?;
+        if fits_as_plainly(rt.alloc(), source, text.as_str())? {
             fitting = fitting.saturating_add(1);
         }
     }
     if !(100..500).contains(&fitting) {
+        return Err(Fail::from("too few or too many patterns fit"));
+    }
+    Ok(())
+}
+
+#[test]
+fn sets_over_a_long_text_are_matched_as_by_the_plain_body(rt: HostRuntime) -> Result<(), Fail> {
+    let mut fitting: u32 = 0;
+    for n in 0..150_u64 {
+        let source = drawn_text(rt.alloc(), "*", &SETS, n, n % 90)?;
+        let pieces = if n % 2 == 0 {
+            &ASCII_TEXTS
+        } else {
+            &TEXTS_OF_SETS
+        };
+        let text = drawn_text(rt.alloc(), "", pieces, n, 30 + n * 7 % 870)?;
+        if fits_as_plainly(rt.alloc(), source, text.as_str())? {
+            fitting = fitting.saturating_add(1);
+        }
+    }
+    if !(30..120).contains(&fitting) {
         return Err(Fail::from("too few or too many patterns fit"));
     }
     Ok(())

@@ -1,15 +1,13 @@
 -- What flags of places say: which elements take the characters from the flag's place on.
 use Rattle.std.proofs.Common.{◌≡◌, ◌≤◌, ◌<◌, ◌+◌, ◌-◌, ℕ, zero, suc, List, [], ◌∷◌, ◌++◌, length, take, drop, Bool, true, false, refl, sym, ap, ◌∙◌, subst, arith, inl, inr}
-use Rattle.std.specs.Prelude.{◌&&◌, ◌||◌, not, if◌then◌else◌, slice_index, replicate}
+use Rattle.std.specs.Prelude.{◌&&◌, ◌||◌, slice_index, replicate}
 use Rattle.std.specs.List.{between}
 use Rattle.std.proofs.Math.Seq.{take-add}
 use Rattle.std.proofs.lemmas.Bool.{and_cases, and_left, and_right, both_ways, cases_lt}
-use Rattle.std.proofs.lemmas.List.{drop-drop, drop_more, length-take-le, take_all, take-replicate, get_or-replicate, length-replicate}
+use Rattle.std.proofs.lemmas.List.{drop-drop, length-take-le, take_all, take-replicate, get_or-replicate, length-replicate}
 use Rattle.lq_value.specs.declared.element.Element.{Element}
-use Rattle.lq_value.specs.declared.element.Item.{Item}
-use Rattle.lq_value.specs.declared.run.Light.{Light}
-use Rattle.lq_value.specs.Element.{has, takes}
-use Rattle.lq_value.specs.Seek.{take_front, kept, set_takes, item_takes, light_takes, AreKept, AreKeptBy, AreOn, AreFlags, AreOff, IsNextOn, TakeNoneBefore, IsFirstPlaceBefore, IsLight}
+use Rattle.lq_value.specs.Element.{takes}
+use Rattle.lq_value.specs.Seek.{take_front, kept, AreKeptBy, AreOn, AreFlags, AreOff, IsNextOn, TakeNoneBefore, IsFirstPlaceBefore}
 
 -- a test and true is the test
 pub and_true : (b : Bool) → (b && true) ≡ b
@@ -149,25 +147,6 @@ first_flagged es cs flags k first places all are off lt le on room =
 pub or_false : (b : Bool) → (b || false) ≡ b
 or_false true = refl
 or_false false = refl
-
--- a set with one item
-pub one_item : (negated : Bool) (items : List Item) (item : Item) (c : ℕ) → items ≡ item ∷ []
-    → item_takes negated item c ≡ set_takes negated items c
-one_item negated items item c is =
-    ap (λ b. if negated then not b else b) (sym (or_false (has item c)))
-    ∙ ap (λ l. set_takes negated l c) (sym is)
-
--- flags that stay where the only element takes the character
-pub light_kept : (light : Light) (es : List Element) (cs old new : List ℕ) → IsLight light es
-    → length old ≤ length cs → AreKept (light_takes light) cs old new → AreKeptBy es cs old new
-light_kept light es cs old new is le keeps = λ k lt.
-    let c = slice_index cs k in
-    let next : drop k cs ≡ c ∷ drop (k + 1) cs = drop_more cs k 0 (omega arith) in
-    let one : take_front es (drop k cs) ≡ light_takes light c =
-    ap (λ l. take_front l (drop k cs)) is.only
-    ∙ (ap (take_front (is.e ∷ [])) next
-    ∙ (and_true (takes is.e c) ∙ sym (is.same c))) in
-    keeps k lt ∙ ap (λ b. kept b (slice_index old k)) (sym one)
 
 -- for the search by flags
 pub ruleset flag_steps = (flags_on, off_more, none_flagged, first_flagged)

@@ -1,19 +1,17 @@
 -- What the bits of masks say of elements and of the ends of elements.
-use Rattle.std.proofs.Common.{◌≡◌, ◌<◌, ◌≤◌, ◌+◌, ◌-◌, ◌*◌, ◌^◌, ◌%◌, ℕ, zero, suc, List, [], ◌∷◌, ◌++◌, length, take, drop, get_or, Bool, true, false, refl, sym, ap, ◌∙◌, subst, arith, inl, inr, length-drop}
-use Rattle.std.specs.Prelude.{◌&&◌, ◌||◌, ◌==◌, nat_le, not, min, set, slice_index}
+use Rattle.std.proofs.Common.{◌≡◌, ◌<◌, ◌+◌, ◌-◌, ◌*◌, ◌^◌, ◌%◌, ℕ, zero, suc, List, [], ◌∷◌, ◌++◌, length, take, drop, get_or, Bool, true, false, refl, sym, ap, ◌∙◌, arith, length-drop}
+use Rattle.std.specs.Prelude.{◌&&◌, ◌||◌, ◌==◌, not, min, slice_index}
 use Rattle.std.specs.Int.{bit_at, w32}
 use Rattle.std.proofs.lemmas.Nat.{shl_whole}
 use Rattle.std.proofs.lemmas.Nat.Bits.{bit_at_and, bit_at_xor, bit_at-pow_same, bit_at-pow_other, bit_at_set_same, bit_at_set_other, bit_at-lt, bit_at_cat_low, bit_at_cat_high}
 use Rattle.std.proofs.Math.Seq.{take-add}
-use Rattle.std.proofs.lemmas.List.{take_all, get_or_default, get_or-drop, get_or-set_same, get_or-set_other}
-use Rattle.std.proofs.lemmas.Bool.{cases_eq, cases_lt}
-use Rattle.std.proofs.lemmas.Bool.Decides.{nat_tests}
+use Rattle.std.proofs.lemmas.List.{take_all, get_or-drop}
 use Rattle.lq_value.specs.declared.element.Item.{Item}
 use Rattle.lq_value.specs.declared.element.Element.{Element}
 use Rattle.lq_value.specs.declared.element.Element.TheVariants.{Star, Any}
 use Rattle.lq_value.specs.Element.{has, set_has, takes}
 use Rattle.lq_value.specs.Seek.{kept, take_front}
-use Rattle.lq_value.specs.Masks.{marked, put_bit, flip_bit, next_ends, takes_at, AreBitsOff, AreCodes, AreEnds, AreFlipped, AreMasks, AreMasksOfCodes, ArePut, IsAlphabet, IsBitMarked, IsBitTaken, IsPair}
+use Rattle.lq_value.specs.Masks.{marked, put_bit, flip_bit, next_ends, takes_at, AreBitsOff, AreEnds, AreFlipped, ArePut, IsBitMarked, IsBitTaken, IsPair}
 use Rattle.lq_value.proofs.FlagLemmas.{or_false, and_true, and_assoc}
 
 -- ---- one bit
@@ -69,16 +67,6 @@ put_marked test j cs old new h put = record {
   others = λ x i lt other. ap (λ m. bit_at m i) (put x lt)
       ∙ put_other (test (slice_index cs x)) j (slice_index old x) i h other;
 }
-
--- the bits of no items
-pub marked_none : (items : List Item) (j : ℕ) (cs old : List ℕ)
-    → IsBitMarked (set_has (take 0 items)) j cs old old
-marked_none items j cs old = record { at = λ x lt. refl; others = λ x i lt other. refl }
-
--- a test or itself
-or_self : (b : Bool) → (b || b) ≡ b
-or_self true = refl
-or_self false = refl
 
 -- three tests in either order
 or_assoc : (a b c : Bool) → (a || (b || c)) ≡ ((a || b) || c)
@@ -148,12 +136,6 @@ pair_marked items c d j cs old new h pair put =
     (λ e. sym (ap (λ l. set_has l e) pair.are ∙ ap (λ b. c == e || b) (or_false (d == e))))
     (put_marked (λ e. c == e || d == e) j cs old new h put)
 
--- the bits of all items
-pub marked_all : (items : List Item) (j : ℕ) (cs old new : List ℕ) (i : ℕ) → length items ≤ i
-    → IsBitMarked (set_has (take i items)) j cs old new → IsBitMarked (set_has items) j cs old new
-marked_all items j cs old new i le are =
-    subst (λ l. IsBitMarked (set_has l) j cs old new) (take_all i items le) are
-
 -- a bit that was not put before
 marked_off : (b : Bool) (bit : ℕ) → bit ≡ 0 → marked b bit ≡ kept b 1
 marked_off true bit h = refl
@@ -200,39 +182,6 @@ any_taken j cs old new h same off flips =
     flipped_taken (takes Star) j cs old old new h same (none_taken j cs old same off) flips
 
 -- ---- the bits of all elements
-
--- the bits of one element more
-pub masks_more : (es : List Element) (cs old new : List ℕ) (j : ℕ) (e : Element)
-    → j < length es → e ≡ get_or es j e → IsBitTaken (takes e) j cs old new
-    → ((x i : ℕ) → x < length cs → i < j
-    → bit_at (slice_index old x) i ≡ kept (takes_at es i (slice_index cs x)) 1)
-    → (x i : ℕ) → x < length cs → i < j + 1
-    → bit_at (slice_index new x) i ≡ kept (takes_at es i (slice_index cs x)) 1
-masks_more es cs old new j e h is are so_far = λ x i lt below. elim (cases_eq i j) [
-  | inl same ↦
-      let c = slice_index cs x in
-      let there : e ≡ get_or es j Star = is ∙ get_or_default es j e Star h in
-      subst (λ n. bit_at (slice_index new x) n ≡ kept (takes_at es n c) 1) (sym same)
-      (are.at x lt ∙ ap (λ y. kept (takes y c) 1) there)
-  | inr other ↦ are.others x i lt other ∙ so_far x i lt (omega arith)
-]
-
--- and the bits behind it are not put
-pub rest_off : (e : Element) (cs old new : List ℕ) (j : ℕ) → IsBitTaken (takes e) j cs old new
-    → ((x i : ℕ) → x < length cs → j ≤ i → bit_at (slice_index old x) i ≡ 0)
-    → (x i : ℕ) → x < length cs → j + 1 ≤ i → bit_at (slice_index new x) i ≡ 0
-rest_off e cs old new j are off = λ x i lt le.
-    are.others x i lt (λ same. absurd (omega (arith, same, le))) ∙ off x i lt (omega arith)
-
--- the masks of the text's characters
-pub masks_of_codes : (es : List Element) (cs codes text masks : List ℕ)
-    → length masks ≡ length cs → AreMasks es cs masks → AreCodes cs codes text
-    → AreMasksOfCodes es text codes masks
-masks_of_codes es cs codes text masks same are coded = λ i lt.
-    let code = coded i lt in (
-      omega (arith, code.0, same),
-      λ j h. are (slice_index codes i) j code.0 h ∙ ap (λ c. kept (takes_at es j c) 1) code.1,
-    )
 
 -- ---- ends
 
@@ -288,10 +237,6 @@ ends_more es cs ends mask i lt are bits = λ j k h is.
     ∙ (kept_min before hit
     ∙ ap (λ b. kept b 1) (sym (front_at es cs j k i h there lt)))))
 
--- there are none before the text
-pub ends_none : (es : List Element) (cs : List ℕ) → AreEnds es cs 0 0
-ends_none es cs = λ j k h is. absurd (omega (arith, is))
-
 -- a bit as a test
 bit_test : (b : Bool) → (1 == kept b 1) ≡ b
 bit_test true = refl
@@ -307,105 +252,4 @@ ends_all es cs ends last i k all is are =
     ∙ (bit_test (take_front (take (suc last) es) (drop k cs))
     ∙ ap (λ l. take_front l (drop k cs)) whole)
 
--- ---- ASCII
-
--- a number and itself, and another
-same_test : (c : ℕ) → (c == c) ≡ true
-same_test c = grind (arith, nat_tests)
-
-other_test : (c d : ℕ) → (d ≡ c → ⊥) → (c == d) ≡ false
-other_test c d h = grind (arith, nat_tests)
-
--- a code that isn't of this ASCII character has another
-other_char : (c x : ℕ) (cs : List ℕ) → c < 128 → IsAlphabet cs → x < length cs → (x ≡ c → ⊥)
-    → slice_index cs x ≡ c → ⊥
-other_char c x cs h are lt other = λ same. elim (cases_lt x 128) [
-  | inl low ↦ other (sym (are.ascii x low) ∙ same)
-  | inr high ↦ absurd (omega (arith, same, are.apart x high lt))
-]
-
--- the mask of an ASCII character is the one of its code
-pub low_char : (c j : ℕ) (cs old new : List ℕ) → c < 128 → IsAlphabet cs
-    → length old ≡ length cs → new ≡ set old c (put_bit true j (slice_index old c))
-    → ArePut (λ d. c == d) j cs old new
-low_char c j cs old new h are same is = λ x lt. elim (cases_eq x c) [
-  | inl there ↦
-      ap (λ l. slice_index l x) is
-      ∙ subst (λ y. slice_index (set old c (put_bit true j (slice_index old c))) y
-      ≡ put_bit (c == slice_index cs y) j (slice_index old y)) (sym there)
-      (get_or-set_same old c (put_bit true j (slice_index old c)) 0 (omega (arith, there))
-      ∙ ap (λ b. put_bit b j (slice_index old c))
-      (sym (ap (λ d. c == d) (are.ascii c h) ∙ same_test c)))
-  | inr other ↦
-      ap (λ l. slice_index l x) is
-      ∙ (get_or-set_other old c x (put_bit true j (slice_index old c)) 0 other
-      ∙ ap (λ b. put_bit b j (slice_index old x))
-      (sym (other_test c (slice_index cs x) (other_char c x cs h are lt other))))
-]
-
--- a number within a range, below it and above it
-within_test : (first last y : ℕ) → first ≤ y → y ≤ last → (nat_le first y && nat_le y last) ≡ true
-within_test first last y h g = grind (arith, nat_tests)
-
-below_test : (first last y : ℕ) → y < first → (nat_le first y && nat_le y last) ≡ false
-below_test first last y h = grind (arith, nat_tests)
-
-above_test : (first last y : ℕ) → last < y → (nat_le first y && nat_le y last) ≡ false
-above_test first last y h = grind (arith, nat_tests)
-
--- whether a range of ASCII characters includes the character of a code
-code_within : (first last x : ℕ) (cs : List ℕ) → last < 128 → IsAlphabet cs → x < length cs
-    → (nat_le first (slice_index cs x) && nat_le (slice_index cs x) last)
-    ≡ (nat_le first x && nat_le x last)
-code_within first last x cs h are lt = elim (cases_lt x 128) [
-  | inl low ↦ ap (λ y. nat_le first y && nat_le y last) (are.ascii x low)
-  | inr high ↦ above_test first last (slice_index cs x) (omega (arith, are.apart x high lt))
-      ∙ sym (above_test first last x (omega arith))
-]
-
--- the masks of a range of ASCII characters are those of its codes
-pub low_range : (first last j : ℕ) (cs old new : List ℕ) → last < 128 → IsAlphabet cs
-    → ((x : ℕ) → first ≤ x → x < last + 1
-    → slice_index new x ≡ put_bit true j (slice_index old x))
-    → ((x : ℕ) → x < first → slice_index new x ≡ slice_index old x)
-    → ((x : ℕ) → last + 1 ≤ x → slice_index new x ≡ slice_index old x)
-    → ArePut (λ d. nat_le first d && nat_le d last) j cs old new
-low_range first last j cs old new h are inside below above = λ x lt.
-    let test = code_within first last x cs h are lt in
-    let mask = slice_index old x in
-    elim (cases_lt x first) [
-      | inl low ↦ below x low
-          ∙ ap (λ b. put_bit b j mask) (sym (test ∙ below_test first last x low))
-      | inr high ↦ elim (cases_lt last x) [
-        | inl far ↦ above x (omega arith)
-            ∙ ap (λ b. put_bit b j mask) (sym (test ∙ above_test first last x far))
-        | inr near ↦ inside x high (omega arith)
-            ∙ ap (λ b. put_bit b j mask) (sym (test ∙ within_test first last x high near))
-      ]
-    ]
-
 -- ---- other characters
-
--- two characters that are not ASCII have no code of one
-pub high_put : (c d j : ℕ) (cs old new : List ℕ) → 128 ≤ c → 128 ≤ d → IsAlphabet cs
-    → ((x : ℕ) → 128 ≤ x → x < length cs → slice_index new x
-    ≡ put_bit (c == slice_index cs x || d == slice_index cs x) j (slice_index old x))
-    → ((x : ℕ) → x < 128 → slice_index new x ≡ slice_index old x)
-    → ArePut (λ e. c == e || d == e) j cs old new
-high_put c d j cs old new h g are high low = λ x lt. elim (cases_lt x 128) [
-  | inl below ↦
-      let e = slice_index cs x in
-      let first : (c == e) ≡ false =
-      other_test c e (λ same. absurd (omega (arith, same, are.ascii x below))) in
-      let second : (d == e) ≡ false =
-      other_test d e (λ same. absurd (omega (arith, same, are.ascii x below))) in
-      low x below ∙ ap (λ b. put_bit b j (slice_index old x))
-      (sym (ap (λ b. b || d == e) first ∙ second))
-  | inr above ↦ high x above lt
-]
-
--- the same for one character
-pub one_put : (c j : ℕ) (cs old new : List ℕ) → ArePut (λ e. c == e || c == e) j cs old new
-    → ArePut (λ e. c == e) j cs old new
-one_put c j cs old new put = λ x lt.
-    put x lt ∙ ap (λ b. put_bit b j (slice_index old x)) (or_self (c == slice_index cs x))

@@ -7,6 +7,7 @@
 #![tactic(auto)]
 
 mod attr_name;
+mod bits;
 mod digits;
 mod element;
 mod entry;

@@ -14,6 +14,7 @@ const LONG_TEXT: usize = 128;
 
 // The same where a set has many items, and how many these are.
 const LONG_FOR_SETS: usize = 32;
+
 const MANY_ITEMS: usize = 16;
 
 // How many characters it may have.

@@ -3,7 +3,7 @@ use Rattle.std.specs.Prelude.{slice_index}
 use Rattle.std.specs.Int.{bit_at}
 use Rattle.lq_value.specs.Seek.{kept}
 use Rattle.lq_value.specs.Masks.{takes_at}
-use Rattle.lq_value.proofs.masks.put_elements.Given as goal
+use Rattle.lq_value.proofs.bits.put_elements.Given as goal
 
 -- the bits of the elements so far are right, and no others are put
 abbrev pub invariant-loop-j : goal.invariant-loop-j

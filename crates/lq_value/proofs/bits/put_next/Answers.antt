@@ -1,6 +1,6 @@
 use Rattle.std.proofs.lemmas.List.{take_more}
 use Rattle.lq_value.proofs.MaskLemmas.{one_marked, pair_marked}
-use Rattle.lq_value.proofs.masks.put_next.Goals as goal
+use Rattle.lq_value.proofs.bits.put_next.Goals as goal
 
 pub returns-in-Some-clause-marked : goal.returns-in-Some-clause-marked
 returns-in-Some-clause-marked c =

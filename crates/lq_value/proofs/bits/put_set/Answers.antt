@@ -1,7 +1,7 @@
 use Rattle.std.proofs.Common.{arith}
 use Rattle.lq_value.specs.Element.{set_has}
 use Rattle.lq_value.proofs.MaskLemmas.{marked_taken, flipped_taken}
-use Rattle.lq_value.proofs.masks.put_set.Goals as goal
+use Rattle.lq_value.proofs.bits.put_set.Goals as goal
 
 pub returns-then-negated : goal.returns-then-negated
 returns-then-negated c =

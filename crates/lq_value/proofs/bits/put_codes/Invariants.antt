@@ -1,7 +1,7 @@
 use Rattle.std.proofs.Common.{◌≡◌, ◌≤◌, ◌<◌, ℕ, true}
 use Rattle.std.specs.Prelude.{slice_index}
 use Rattle.lq_value.specs.Masks.{put_bit}
-use Rattle.lq_value.proofs.masks.put_codes.Given as goal
+use Rattle.lq_value.proofs.bits.put_codes.Given as goal
 
 -- the bits from the first code up to here are put, and the other masks are as they were
 abbrev pub invariant-loop-code : goal.invariant-loop-code

@@ -1,6 +1,6 @@
 use Rattle.std.proofs.Common.{arith, inl, inr}
 use Rattle.std.proofs.lemmas.Bool.{cases_lt}
-use Rattle.lq_value.proofs.masks.put_codes.Goals as goal
+use Rattle.lq_value.proofs.bits.put_codes.Goals as goal
 
 pub returns-clause-above : goal.returns-clause-above
 returns-clause-above c = λ x le. elim (cases_lt x c.loop-code.code) [

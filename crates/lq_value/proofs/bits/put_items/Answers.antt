@@ -3,7 +3,7 @@ use Rattle.std.proofs.lemmas.List.{take_rest}
 use Rattle.lq_value.specs.Element.{set_has}
 use Rattle.lq_value.specs.Masks.{IsBitMarked}
 use Rattle.lq_value.proofs.MaskLemmas.{marked_join}
-use Rattle.lq_value.proofs.masks.put_items.Goals as goal
+use Rattle.lq_value.proofs.bits.put_items.Goals as goal
 
 pub loop-i-preserved : goal.loop-i-preserved
 loop-i-preserved c =

@@ -1,7 +1,7 @@
 use Rattle.std.proofs.Common.{◌≡◌, ◌≤◌, ◌<◌, ℕ}
 use Rattle.std.specs.Prelude.{◌==◌, ◌||◌, slice_index}
 use Rattle.lq_value.specs.Masks.{put_bit}
-use Rattle.lq_value.proofs.masks.put_high.Given as goal
+use Rattle.lq_value.proofs.bits.put_high.Given as goal
 
 -- the bits up to here are put or stay, and the other masks are as they were
 abbrev pub invariant-loop-i : goal.invariant-loop-i

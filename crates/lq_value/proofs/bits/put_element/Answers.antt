@@ -1,6 +1,6 @@
 use Rattle.std.specs.Prelude.{◌==◌}
 use Rattle.lq_value.proofs.MaskLemmas.{any_taken, put_taken}
-use Rattle.lq_value.proofs.masks.put_element.Goals as goal
+use Rattle.lq_value.proofs.bits.put_element.Goals as goal
 
 pub returns-in-Any : goal.returns-in-Any
 returns-in-Any c =

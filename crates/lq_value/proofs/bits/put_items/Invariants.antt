@@ -1,7 +1,7 @@
 use Rattle.std.proofs.Common.{◌≤◌, ◌-◌, length, take}
 use Rattle.lq_value.specs.Element.{set_has}
 use Rattle.lq_value.specs.Masks.{IsBitMarked}
-use Rattle.lq_value.proofs.masks.put_items.Given as goal
+use Rattle.lq_value.proofs.bits.put_items.Given as goal
 
 -- the bits of the items so far
 abbrev pub invariant-loop-i : goal.invariant-loop-i
