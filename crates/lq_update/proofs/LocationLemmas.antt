@@ -117,6 +117,25 @@ insert-replaced (k ∷ ls) e l h is = elim (cases_lt e.node k.0) [
   ]
 ]
 
+-- the location that a node had, put in again after another one, leaves all as it was
+pub insert-back : (ls : Located) (n : ℕ) (l before : Location) → EntriesRise (entries_of ls)
+    → lookup (is_at (nat_cmp n)) ls ≡ Some before
+    → insert_entry nat_cmp (insert_entry nat_cmp ls n l) n before ≡ ls
+insert-back [] n l before h is = cc
+insert-back (k ∷ ls) n l before h is = elim (cases_lt n k.0) [
+  | inl low ↦
+      let above = above-lower n k.0 (entries_of ls) low h.0 in
+      let none = at-above n (entries_of (k ∷ ls)) (low, above) in
+      let found = entry_at-lookup n (k ∷ ls) in
+      cc
+  | inr high ↦ elim (cases_eq k.0 n) [
+    | inl same ↦ grind (arith, nat_tests)
+    | inr differs ↦
+        let rest = insert-back ls n l before h.1 (grind (arith, nat_tests)) in
+        grind (arith, nat_tests)
+  ]
+]
+
 -- the nodes rise still with a location under a new node
 pub rises-put : (ls : Located) (n : ℕ) (l : Location) → EntriesRise (entries_of ls)
     → has_node n (entries_of ls) ≡ false → EntriesRise (entries_of (insert_entry nat_cmp ls n l))

@@ -1,5 +1,7 @@
 //! Folds one message into the locations of a result's nodes.
-ghost use Rattle.std.specs.Prelude.{◌≡◌, None, Some, IfOk, OnOk, OnErr, not, if◌then◌else◌};
+ghost use Rattle.std.specs.Prelude.{◌≡◌, None, Some, IfOk, IsSome, OnOk, OnErr, not, if◌then◌else◌};
+ghost use Rattle.std.specs.BTreeMap.{get, insert_entry};
+ghost use Rattle.std.specs.Ordering.{nat_cmp};
 ghost use Rattle.lq_value.specs.declared.refusal.Refusal.TheVariants.{Mismatch};
 ghost use Rattle.lq_value.specs.Refusal.{IsRefusedBy};
 ghost use Rattle.lq_update.specs.Diff.{has_node};
@@ -102,12 +104,29 @@ fn put(
     ensures err { OnErr result (locations.new.entries ≡ locations.old.entries) }
     ensures rise { EntriesRise (entries_of locations.new.entries) }
 {
-    if has(locations, message.node) {
-        return Err(Refusal::Mismatch);
+    let Ok(location) = Location::new(alloc, message.dir, &message.name) else {
+        return Err(if has(locations, message.node) {
+            Refusal::Mismatch
+        } else {
+            Refusal::NoMemory
+        });
+    };
+    match locations.insert(message.node, location) {
+        Ok(None) => Ok(()),
+        Ok(Some(before)) => {
+            put_back(locations, message.node, before);
+            Err(Refusal::Mismatch)
+        }
+        Err(_) => Err(Refusal::NoMemory),
     }
-    let location = Location::new(alloc, message.dir, &message.name)?;
-    locations.insert(message.node, location)?;
-    Ok(())
+}
+
+// Gives a node the location back that it had, which takes no memory.
+fn put_back(locations: &mut BTreeMap<u64, Location>, node: u64, before: Location)
+    requires { IsSome (get nat_cmp locations.old node) }
+    ensures { locations.new.entries ≡ insert_entry nat_cmp locations.old.entries node before }
+{
+    let _ = locations.insert(node, before);
 }
 
 fn take(locations: &mut BTreeMap<u64, Location>, message: &Message) -> Result<(), Refusal>
