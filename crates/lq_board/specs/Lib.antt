@@ -5,4 +5,5 @@ pub mod View
 pub mod Token
 pub mod Rule
 pub mod Step
+pub mod Meeting
 pub mod Laws

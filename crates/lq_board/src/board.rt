@@ -3,9 +3,10 @@ ghost use Rattle.std.specs.Prelude.{◌≡◌, ◌≢◌, ◌+◌, ◌<◌, ◌�
 ghost use Rattle.lq_value.specs.Refusal.{IsRefusedBy};
 ghost use Rattle.lq_volume.specs.Book.{grown, state_of, Extends};
 ghost use Rattle.lq_volume.specs.Change.{after, IsLawful};
-ghost use Rattle.lq_board.specs.Author.{IsSigned, IsAuthor, AreDisjoint, no_register, with_seat, new_author, with_author, with_change};
+ghost use Rattle.lq_board.specs.Author.{IsSigned, IsAuthor, AreDisjoint, no_register, with_seat, new_author, with_author};
 ghost use Rattle.lq_board.specs.Book.{IsFullBook};
-ghost use Rattle.lq_board.specs.Slot.{unused_slots, slot_at, gone_out, go_out, come_back, counted};
+ghost use Rattle.lq_board.specs.Meeting.{GoesOut, HasAdded, HasMet};
+ghost use Rattle.lq_board.specs.Slot.{unused_slots, slot_at, come_back, counted};
 
 use crate::steps::{Ask, Count, See};
 use crate::tokens::{Keeper, Seat};
@@ -94,21 +95,7 @@ impl<M> Board<M> {
         requires board { keeper.old.board ≡ self.now }
         requires slot { (0 < slot) × (slot < 65) }
         requires free { (slot_at keeper.old.slots slot).out ≡ false }
-        ensures seat { result ≡ record {
-          board = keeper.old.board;
-          slot = slot;
-          book = keeper.old.book;
-          asks = (slot_at keeper.old.slots slot).asks;
-          name = Some name;
-          author = new_author keeper.old.register;
-        } }
-        ensures full { IsFullBook result.book }
-        ensures keeper { keeper.new ≡ record {
-          board = keeper.old.board;
-          book = keeper.old.book;
-          slots = gone_out keeper.old.slots slot (Some name);
-          register = with_seat keeper.old.register;
-        } }
+        ensures out { GoesOut keeper.old keeper.new slot (Some name) result }
     {
         Seat {
             token: Some(self.slot_token::<Brand>(keeper, slot)),
@@ -173,33 +160,7 @@ impl<M> Board<M> {
         requires board { (keeper.old.board ≡ self.now) × (seat.old.board ≡ self.now) }
         requires lawful { IsLawful (state_of keeper.old.book) change.now }
         ensures number { result ≡ length keeper.new.book.changes }
-        ensures later { Extends keeper.old.book seat.old.book }
-        ensures full { IsFullBook keeper.new.book }
-        ensures state { state_of keeper.new.book ≡ after (state_of keeper.old.book) change.now }
-        ensures seat { seat.new ≡ record {
-          board = keeper.old.board;
-          slot = seat.old.slot;
-          book = keeper.new.book;
-          asks = seat.old.asks;
-          name = seat.old.name;
-          author = with_change seat.old.author result;
-        } }
-        ensures keeper { keeper.new ≡ record {
-          board = keeper.old.board;
-          book = grown keeper.old.book (change.now ∷ []);
-          slots = go_out
-              (come_back keeper.old.slots seat.old.slot seat.old.asks seat.old.name)
-              seat.old.slot
-              seat.old.name;
-          register = with_author keeper.old.register seat.old.author.number;
-        } }
-        ensures signed { IsSigned keeper.new.book keeper.new.register }
-        ensures author { IsAuthor seat.new.author keeper.new.register }
-        ensures name { 0 < seat.old.slot
-            → (slot_at keeper.old.slots seat.old.slot).name ≡ seat.old.name }
-        ensures asks { 0 < seat.old.slot
-            → (slot_at keeper.old.slots seat.old.slot).asks ≤ seat.old.asks }
-        ensures out { 0 < seat.old.slot → (slot_at keeper.old.slots seat.old.slot).out ≡ true }
+        ensures added { HasAdded change.now result keeper.old keeper.new seat.old seat.new }
     {
         let Some(token) = seat.token.take() else {
             unreachable!()
@@ -312,30 +273,7 @@ impl<M> Board<M> {
         requires board { (keeper.old.board ≡ self.now) × (seat.old.board ≡ self.now) }
         requires slot { 0 < seat.old.slot }
         ensures number { result ≡ length seat.new.book.changes }
-        ensures later { Extends seat.new.book seat.old.book }
-        ensures full { IsFullBook seat.new.book }
-        ensures seat { seat.new ≡ record {
-          board = keeper.old.board;
-          slot = seat.old.slot;
-          book = keeper.old.book;
-          asks = seat.old.asks;
-          name = Some name;
-          author = seat.old.author;
-        } }
-        ensures keeper { keeper.new ≡ record {
-          board = keeper.old.board;
-          book = keeper.old.book;
-          slots = gone_out
-              (come_back keeper.old.slots seat.old.slot seat.old.asks seat.old.name)
-              seat.old.slot
-              (Some name);
-          register = keeper.old.register;
-        } }
-        ensures signed { IsSigned keeper.old.book keeper.old.register }
-        ensures author { IsAuthor seat.old.author keeper.old.register }
-        ensures name { (slot_at keeper.old.slots seat.old.slot).name ≡ seat.old.name }
-        ensures asks { (slot_at keeper.old.slots seat.old.slot).asks ≤ seat.old.asks }
-        ensures out { (slot_at keeper.old.slots seat.old.slot).out ≡ true }
+        ensures met { HasMet keeper.old keeper.new seat.old seat.new (Some name) }
     {
         let Some(token) = seat.token.take() else {
             unreachable!()

@@ -12,14 +12,15 @@ returns-clause-holding c =
     let r = c.in_ok-ready_all.ensures in
     let slots = c.ready_all.new.slots in
     let seat = c.args.seat.now in
-    let a = c.add_by.ensures in
+    let a = c.add_by.ensures.added in
     let within = c.slot.ensures.within in
     let value = c.slot.ensures.value in
     let wide = r.holding.0.known in
     let same =
     ap (λ (k : KeeperToken Identity). k.slots) a.keeper
     ∙ back_out slots.keeper.slots seat.slot seat.asks seat.name
-    (omega (arith, within, value, wide)) a.name a.asks a.out
+    (omega (arith, within, value, wide)) (λ pos. (a.was_out pos).name)
+    (λ pos. (a.was_out pos).asks) (λ pos. (a.was_out pos).out)
     (λ pos. let first = c.requires.known pos in let then = r.rises seat.slot in
     omega (arith, first, then)) in (
       all_stand-alike slots.keeper _ slots.subscriptions.items slots.openings slots.keeper.book
@@ -32,14 +33,15 @@ returns-clause-noticed c =
     let r = c.in_ok-ready_all.ensures in
     let slots = c.ready_all.new.slots in
     let seat = c.args.seat.now in
-    let a = c.add_by.ensures in
+    let a = c.add_by.ensures.added in
     let within = c.slot.ensures.within in
     let value = c.slot.ensures.value in
     let wide = r.holding.0.known in
     let same =
     ap (λ (k : KeeperToken Identity). k.slots) a.keeper
     ∙ back_out slots.keeper.slots seat.slot seat.asks seat.name
-    (omega (arith, within, value, wide)) a.name a.asks a.out
+    (omega (arith, within, value, wide)) (λ pos. (a.was_out pos).name)
+    (λ pos. (a.was_out pos).asks) (λ pos. (a.was_out pos).out)
     (λ pos. let first = c.requires.known pos in let then = r.rises seat.slot in
     omega (arith, first, then)) in
     subst (λ (l : List (Known Identity)). SlotsAre IsNoticed slots.subscriptions.items l) (sym same)

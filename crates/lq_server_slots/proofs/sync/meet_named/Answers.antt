@@ -10,4 +10,5 @@ returns-clause-only g c =
     let slots = c.args.keeper.now.slots in
     let seat = c.args.seat.now in
     subst (λ (k : KeeperToken Identity). OnlyAt slots k.slots seat.slot)
-    (sym c.meet_slot.ensures.keeper) (met_only slots seat.slot seat.asks seat.name (Some g.name))
+    (sym c.meet_slot.ensures.met.keeper)
+    (met_only slots seat.slot seat.asks seat.name (Some g.name))

@@ -13,7 +13,7 @@ returns-clause-only c =
     let slots = c.args.keeper.now.slots in
     let seat = c.args.seat.now in
     subst (λ (k : KeeperToken Identity). OnlyAt slots k.slots seat.slot)
-    (sym c.meet_slot.ensures.keeper)
+    (sym c.meet_slot.ensures.met.keeper)
     (met_only slots seat.slot seat.asks seat.name (Some (name_or seat.name)))
 
 pub returns-clause-place : goal.returns-clause-place
@@ -21,7 +21,7 @@ returns-clause-place c =
     let slots = c.args.keeper.now.slots in
     let seat = c.args.seat.now in
     let within = subst (λ (n : ℕ). seat.slot < n) (sym c.requires.wide) c.requires.slot.1 in
-    ap (λ (k : KeeperToken Identity). slot_at k.slots seat.slot) c.meet_slot.ensures.keeper
+    ap (λ (k : KeeperToken Identity). slot_at k.slots seat.slot) c.meet_slot.ensures.met.keeper
     ∙ met_place slots seat.slot seat.asks seat.name (Some (name_or seat.name)) c.requires.slot.0
     within
     ∙ ap (λ (o : Option Identity). let p : Known Identity =

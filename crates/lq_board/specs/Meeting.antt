@@ -1,0 +1,93 @@
+-- What the keeper and a seat are after a call that takes both, by what they were before it.
+use Rattle.std.specs.Prelude.{◌≡◌, ◌<◌, ◌≤◌, ℕ, true, List, [], ◌∷◌, Option}
+use Rattle.lq_volume.specs.declared.change.Change.{Change}
+use Rattle.lq_volume.specs.Change.{after}
+use Rattle.lq_volume.specs.Book.{Extends, grown, state_of}
+use Rattle.lq_board.specs.declared.views.Slot.{Slot}
+use Rattle.lq_board.specs.Author.{IsAuthor, IsSigned, new_author, with_author, with_change, with_seat}
+use Rattle.lq_board.specs.Book.{IsFullBook}
+use Rattle.lq_board.specs.Slot.{slot_at, gone_out, go_out, come_back}
+use Rattle.lq_board.specs.Token.{KeeperToken, SeatToken}
+
+module _ {M : Type 0} where
+  -- the slot's seat is new, under this name: it has a new number, and knows the keeper's book and
+  -- how often the slot's seats have asked
+  pub record GoesOut (old new : KeeperToken M) (slot : ℕ) (name : Option M) (s : SeatToken M)
+      : Type 0 where
+    pub seat : s
+        ≡ record {
+          board = old.board;
+          slot = slot;
+          book = old.book;
+          asks = (slot_at old.slots slot).asks;
+          name = name;
+          author = new_author old.register;
+        }
+    pub full : IsFullBook s.book
+    pub keeper : new
+        ≡ record {
+          board = old.board;
+          book = old.book;
+          slots = gone_out old.slots slot name;
+          register = with_seat old.register;
+        }
+
+  -- the slot's seat was out under the name that the keeper knew, and had asked at least as often as
+  -- the keeper knew
+  pub record WasOut (slots : List (Slot M)) (s : SeatToken M) : Type 0 where
+    pub name : (slot_at slots s.slot).name ≡ s.name
+    pub asks : (slot_at slots s.slot).asks ≤ s.asks
+    pub out : (slot_at slots s.slot).out ≡ true
+
+  -- A slot's seat, s before and t after, met the keeper. It knows the keeper's book, the keeper
+  -- knows how often it has asked, and both have this name.
+  pub record HasMet (old new : KeeperToken M) (s t : SeatToken M) (name : Option M)
+      : Type 0 where
+    pub later : Extends t.book s.book
+    pub full : IsFullBook t.book
+    pub seat : t
+        ≡ record {
+          board = old.board;
+          slot = s.slot;
+          book = old.book;
+          asks = s.asks;
+          name = name;
+          author = s.author;
+        }
+    pub keeper : new
+        ≡ record {
+          board = old.board;
+          book = old.book;
+          slots = gone_out (come_back old.slots s.slot s.asks s.name) s.slot name;
+          register = old.register;
+        }
+    pub signed : IsSigned old.book old.register
+    pub author : IsAuthor s.author old.register
+    pub was_out : WasOut old.slots s
+
+  -- A seat, s before and t after, added a lawful change to the keeper's book, under this number. It
+  -- knows the new book, and the number is among its own changes. Nothing else of it changes.
+  pub record HasAdded (change : Change) (number : ℕ) (old new : KeeperToken M)
+      (s t : SeatToken M) : Type 0 where
+    pub later : Extends old.book s.book
+    pub full : IsFullBook new.book
+    pub state : state_of new.book ≡ after (state_of old.book) change
+    pub seat : t
+        ≡ record {
+          board = old.board;
+          slot = s.slot;
+          book = new.book;
+          asks = s.asks;
+          name = s.name;
+          author = with_change s.author number;
+        }
+    pub keeper : new
+        ≡ record {
+          board = old.board;
+          book = grown old.book (change ∷ []);
+          slots = go_out (come_back old.slots s.slot s.asks s.name) s.slot s.name;
+          register = with_author old.register s.author.number;
+        }
+    pub signed : IsSigned new.book new.register
+    pub author : IsAuthor t.author new.register
+    pub was_out : 0 < s.slot → WasOut old.slots s
