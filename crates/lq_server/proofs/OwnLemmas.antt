@@ -1,9 +1,10 @@
 -- Readers whose seat is their own, and what a read leaves of them.
 use Rattle.std.proofs.Common.{◌≡◌, ℕ, ◌+◌, ◌<◌, ◌≤◌, Bool, true, false, arith, ◌++◌, Option, Some, None, inr, refl, sym, ap, ◌∙◌, subst, append_assoc}
-use Rattle.std.specs.Prelude.{IsSome, IsSomeAnd, IfOk, OnErr, Result, Ok, Err, option_to_list}
+use Rattle.std.specs.Prelude.{IsSome, IsSomeAnd, IfOk, OnErr, Result, Ok, Err, ok_or, option_to_list}
 use mathlib.Core.List.{List, IsPrefix}
 use Rattle.atomic_table.specs.Seated.{TableId}
 use Rattle.lq_value.specs.declared.refusal.Refusal.{Refusal}
+use Rattle.lq_value.specs.declared.refusal.Refusal.TheVariants.{NotOpen}
 use Rattle.lq_value.specs.Refusal.{IsRefusedBy, first_refusal}
 use Rattle.lq_predicate_formula.specs.Query.{Query}
 use Rattle.lq_volume.specs.State.{State}
@@ -25,9 +26,11 @@ use Rattle.lq_server_subscription.specs.declared.subscription.Subscription.{Subs
 use Rattle.lq_server_slots.specs.declared.open.Opened.{Opened}
 use Rattle.lq_server_slots.specs.declared.slots.Slots.{Slots}
 use Rattle.lq_server_slots.specs.Slots.{SameButKnown, SlotsStand, is_full, slot_in}
+use Rattle.lq_server_slots.specs.Closing.{IsClosed}
 use Rattle.lq_server_slots.specs.Opening.{IdentityFits, IsNamed, IsOpened, IsOpeningTabled, asks_after, name_or}
 use Rattle.lq_server.specs.Hold.{ReaderHold}
 use Rattle.lq_server.specs.Own.{IsOwn, StaysOwn}
+use Rattle.lq_server.specs.Closed.{IsCloseAnswer}
 use Rattle.lq_server.specs.Opened.{IsAnsweredOver, IsNewReader}
 use Rattle.lq_server.specs.Syncing.{IsSynced, IsRead, IsUnread}
 use Rattle.lq_server.specs.declared.server.Synced.{Synced}
@@ -142,13 +145,34 @@ own_closed r seat book shut same name own =
       name = subst (λ (o : Option Identity). IsSomeAnd o (IsNameOf r)) (sym name) named;
     })
 
--- only its book and its name differ of a seat whose book is known
-pub seat_closed : (r : ReaderHold) (seat : SeatToken Identity) (book : Book)
-    → seat ≡ record r.seat { book = book; name = seat.name }
-    → seat ≡ record r.seat { book = seat.book; name = seat.name }
-seat_closed r seat book same =
-    let known : book ≡ seat.book = sym (ap (λ (s : SeatToken Identity). s.book) same) in
-    same ∙ (λ k. record r.seat { book = known k; name = seat.name })
+-- what a close of the seat answers is what it answers the reader
+pub closed_answer : (r : ReaderHold) (seat : SeatToken Identity) (o : Option ℕ) → IsOwn r
+    → IsClosed seat.book r.seat seat o
+    → IsCloseAnswer r (record r { seat = seat }) (ok_or o NotOpen)
+closed_answer r seat (Some n) own closed = record {
+  own = own_closed r seat seat.book _ closed.seat closed.name own;
+  number = closed.number;
+  first = closed.closes;
+  refused = tt;
+  late = λ asked. absurd (let bad : Some n ≡ None = closed.late (own_late r own asked) in cc);
+  later = closed.later;
+  put = closed.put;
+  seat = closed.seat;
+  shut = closed.name;
+  rest = refl;
+}
+closed_answer r seat None own closed = record {
+  own = own_closed r seat seat.book _ closed.seat closed.name own;
+  number = tt;
+  first = tt;
+  refused = refl;
+  late = λ asked. refl;
+  later = closed.later;
+  put = closed.put;
+  seat = closed.seat;
+  shut = closed.name;
+  rest = refl;
+}
 
 -- a reader of a subscription that was just opened is new
 pub new_reader : (o : Opened) (board : TableId) (book : Book) (q : Query) (mv : Bool)

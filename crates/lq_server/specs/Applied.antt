@@ -1,9 +1,14 @@
--- What a change leaves in a seat's book.
-use Rattle.std.specs.Prelude.{◌≡◌, ◌<◌, [], ◌∷◌, length}
+-- What a change leaves in a seat and its book.
+use Rattle.std.specs.Prelude.{◌≡◌, ◌<◌, [], ◌∷◌, length, Result, IfOk, IfErr, OnErr, unwrap_or}
+use Rattle.lq_value.specs.declared.refusal.Refusal.{Refusal}
+use Rattle.lq_value.specs.declared.refusal.Refusal.TheVariants.{NoMemory}
 use Rattle.lq_volume.specs.declared.change.Change.{Change}
 use Rattle.lq_volume.specs.declared.change.Applied.{Applied}
-use Rattle.lq_volume.specs.Change.{node_of}
+use Rattle.lq_volume.specs.Change.{node_of, refused}
 use Rattle.lq_volume.specs.Book.{Book, Extends, grown, state_of}
+use Rattle.lq_board.specs.Author.{with_change}
+use Rattle.lq_board.specs.Token.{SeatToken}
+use Rattle.lq_server_subscription.specs.declared.identity.Identity.{Identity}
 use Rattle.lq_server_slots.specs.Slots.{before_of}
 
 -- the change is the last of a book that extends the old one, and its number is above that of all
@@ -14,3 +19,14 @@ pub record IsAdded (old new : Book) (a : Applied) (c : Change) : Type 0 where
   pub number : a.change ≡ length new.changes
   pub place : new ≡ grown (before_of new) (c ∷ [])
   pub node : a.node ≡ node_of (state_of (before_of new)) c
+
+-- A seat, s before and t after, applied a change, and then knows this book. Only an accepted change
+-- is one of its own. One is refused as the volume refuses it after that book, or for memory.
+pub record IsApplied (c : Change) (book : Book) (s t : SeatToken Identity)
+    (result : Result Applied Refusal) : Type 0 where
+  pub seat : t ≡ record s { book = book; author = t.author }
+  pub author : IfOk result (λ a. t.author ≡ with_change s.author a.change)
+  pub others : OnErr result (t.author ≡ s.author)
+  pub later : Extends t.book s.book
+  pub ok : IfOk result (λ a. IsAdded s.book t.book a c)
+  pub err : IfErr result (λ e. e ≡ unwrap_or (refused (state_of t.book) c) NoMemory)

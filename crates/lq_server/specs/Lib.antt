@@ -2,6 +2,7 @@ pub mod Base
 pub mod Hold
 pub mod Own
 pub mod Opened
+pub mod Closed
 pub mod Syncing
 pub mod Retired
 pub mod Lending

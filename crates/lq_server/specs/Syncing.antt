@@ -1,5 +1,8 @@
 -- What a sync answers.
-use Rattle.std.specs.Prelude.{◌⊎◌, ◌≡◌, ℕ, ◌<◌, ◌≤◌, Bool, true, false, List, [], ◌∷◌, ◌++◌, length, map, Option, Some, None, IsSome, IfSome, IsSomeAnd}
+use Rattle.std.specs.Prelude.{◌⊎◌, ◌≡◌, ℕ, ◌<◌, ◌≤◌, Bool, true, false, List, [], ◌∷◌, ◌++◌, length, map, Option, Some, None, IsSome, IfSome, IsSomeAnd, Result, Ok, IfOk, OnErr}
+use mathlib.Core.List.{IsPrefix}
+use Rattle.lq_value.specs.declared.refusal.Refusal.{Refusal}
+use Rattle.lq_value.specs.Refusal.{IsRefusedBy}
 use Rattle.lq_volume.specs.Book.{Extends}
 use Rattle.lq_board.specs.Book.{IsFullBook}
 use Rattle.lq_update.specs.declared.message.Message.{Message}
@@ -9,7 +12,7 @@ use Rattle.lq_update.specs.declared.parcel.Parcel.{Parcel}
 use Rattle.lq_update.specs.declared.parcel.Parcel.TheVariants.{Update, Fin}
 use Rattle.lq_port.specs.End.{IsSamePort}
 use Rattle.lq_server_subscription.specs.Updates.{updates}
-use Rattle.lq_server_subscription.specs.Rule.{query_of, IsMark}
+use Rattle.lq_server_subscription.specs.Rule.{query_of, whole, IsMark}
 use Rattle.lq_server_subscription.specs.Marking.{hung_mark}
 use Rattle.lq_desk_sub.specs.declared.read.Read.{Read}
 use Rattle.lq_desk_sub.specs.declared.read.Read.TheVariants.{Ended}
@@ -94,3 +97,18 @@ IsUnread old new =
     (is_marked old.reading ≡ false)
     × ((mid : ReaderHold) × (x : Synced) × IsSynced old mid x × Fails mid.reading new.reading
     × (new ≡ record mid { reading = new.reading }))
+
+-- Old and new are the reader before and after a read that fills its port first and may wait.
+pub record IsWaitingRead (old new : ReaderHold) (result : Result Read Refusal) : Type 0 where
+  pub own : IsOwn new
+  pub seat : new.seat ≡ record old.seat { book = new.seat.book }
+  pub later : Extends new.seat.book old.seat.book
+  pub rest : new ≡ record old { reading = new.reading; seat = new.seat }
+  pub port : IsSamePort old.reading.port new.reading.port
+  pub received : IsPrefix (received new.reading)
+      (whole new.reading.port.floor (known new.reading))
+  pub known : Extends (known new.reading) (known old.reading)
+  pub refused : IsRefusedBy result None
+  pub gives : IfOk result (IsRead old new)
+  pub fails : OnErr result (IsUnread old new)
+  pub over : IsSome (mark_read old.reading) → result ≡ Ok Ended

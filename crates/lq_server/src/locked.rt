@@ -1,23 +1,20 @@
 //! The state under the lock.
-ghost use Rattle.std.specs.Prelude.{◌≡◌, ◌≢◌, ℕ, ◌+◌, ◌<◌, ◌≤◌, [], ◌∷◌, length, IfOk, IfErr, OnOk, OnErr, IfSome, IfNone, IsSome, IsSomeAnd, is_some, Some, None, Err, unwrap_or};
-ghost use Rattle.lq_value.specs.declared.refusal.Refusal.TheVariants.{NoMemory, NoSeat};
+ghost use Rattle.std.specs.Prelude.{◌≡◌, ◌≢◌, ℕ, ◌+◌, ◌<◌, ◌≤◌, [], ◌∷◌, length, IfOk, IfErr, OnOk, OnErr, IsSome, IsSomeAnd, Some, None};
+ghost use Rattle.lq_value.specs.declared.refusal.Refusal.TheVariants.{NoSeat};
 ghost use Rattle.lq_value.specs.Refusal.{IsRefusedBy, first_refusal};
 ghost use Rattle.lq_volume.specs.Book.{Extends, grown, state_of};
-ghost use Rattle.lq_volume.specs.Change.{refused};
 ghost use Rattle.lq_volume.specs.Result.{result_of};
 ghost use Rattle.lq_volume.specs.State.{record_at, node_in};
 ghost use Rattle.lq_volume.specs.Lookup.{find_refusals, entry_refusals, listed};
-ghost use Rattle.lq_board.specs.Author.{with_change};
 ghost use Rattle.lq_board.specs.Book.{IsFullBook};
 ghost use Rattle.lq_board.specs.Slot.{slot_at};
-ghost use Rattle.lq_server_subscription.specs.declared.identity.Shut.TheVariants.{Never};
 ghost use Rattle.lq_server_subscription.specs.declared.subscription.Subscription.{Subscription as SubscriptionOf};
-ghost use Rattle.lq_server_subscription.specs.Marking.{first_close};
 ghost use Rattle.lq_server_slots.specs.declared.slots.Slots.{Slots as SlotsOf};
-ghost use Rattle.lq_server_slots.specs.Slots.{IsPut, IsServed, SameButKnown, SlotsAre, SlotsStand, slot_in};
-ghost use Rattle.lq_server_slots.specs.Opening.{IsOpened, IsOpeningRefused, IsOpeningTabled, IdentityFits, asks_after, name_or, opening_refusal};
+ghost use Rattle.lq_server_slots.specs.Slots.{IsServed, SameButKnown, SlotsAre, SlotsStand, slot_in};
+ghost use Rattle.lq_server_slots.specs.Closing.{IsClosed};
+ghost use Rattle.lq_server_slots.specs.Opening.{IsOpened, IsOpeningAnswer, IdentityFits, asks_after};
 ghost use Rattle.lq_server_slots.specs.Progress.{ShowsProgress};
-ghost use Rattle.lq_server.specs.Applied.{IsAdded};
+ghost use Rattle.lq_server.specs.Applied.{IsApplied};
 
 use crate::named::Named;
 use lq_board::{Board, Keeper, Seat};
@@ -241,13 +238,7 @@ impl<N: Named> Locked<N> {
         change: &Change,
     ) -> Result<Applied, Refusal>
         requires { (board.now ≡ N.board) × (seat.old.board ≡ N.board) }
-        ensures seat { seat.new ≡ record seat.old {
-          book = self.new.keeper.book;
-          author = seat.new.author;
-        } }
-        ensures author { IfOk result (λ a.
-            seat.new.author ≡ with_change seat.old.author a.change) }
-        ensures others { OnErr result (seat.new.author ≡ seat.old.author) }
+        ensures applied { IsApplied change.now self.new.keeper.book seat.old seat.new result }
         ensures grown { OnOk result
             (self.new.keeper.book ≡ grown self.old.keeper.book (change.now ∷ [])) }
         ensures same { OnErr result (self.new.keeper.book ≡ self.old.keeper.book) }
@@ -255,10 +246,6 @@ impl<N: Named> Locked<N> {
         ensures served { SlotsAre IsServed self.new.subscriptions.items self.new.keeper.slots }
         ensures number { IfOk result (λ a.
             a.change ≡ length self.old.keeper.book.changes + 1) }
-        ensures later { Extends seat.new.book seat.old.book }
-        ensures ok { IfOk result (λ a. IsAdded seat.old.book seat.new.book a change.now) }
-        ensures err { IfErr result (λ e.
-            e ≡ unwrap_or (refused (state_of seat.new.book) change.now) NoMemory) }
     {
         self.meet(board, seat);
         change_in(rt, board, &mut self.slots, &mut self.volume, seat, change)
@@ -288,17 +275,11 @@ impl<N: Named> Locked<N> {
         ensures counted { OnOk result (self.new.openings ≡ self.old.openings + 1) }
         ensures err { OnErr result (SameButKnown self.old self.new) }
 
-        // The first that fits, and no other. The slot is the lowest that is free.
+        // The first refusal that fits and no other, or the lowest free slot.
         ensures over { (under : SlotsOf) × SameButKnown self.old under
             × SlotsStand under under.keeper.book }
         ensures within { self.old.openings ≤ N.start.limit }
-        ensures table { IsOpeningTabled self.old N.start.limit port backlog result }
-        ensures lowest { IfOk result (λ o. (j : ℕ) → 0 < j → j < o.slot
-            → IsSome (slot_in self.old.subscriptions.items j)) }
-
-        // The numbers are checked first, by their bounds alone.
-        ensures refused { IfSome (opening_refusal port backlog) (λ e. result ≡ Err e) }
-        ensures others { IfNone (opening_refusal port backlog) (IfErr result IsOpeningRefused) }
+        ensures answered { IsOpeningAnswer self.old N.start.limit port backlog result }
     {
         self.meet(board, seat);
         let asked = Asked {
@@ -351,19 +332,8 @@ impl<N: Named> Locked<N> {
         requires seat { (seat.old.slot ≡ place) × IsSome seat.old.name }
         ensures same { self.new.keeper.book ≡ self.old.keeper.book }
         ensures openings { self.new.openings ≡ self.old.openings }
-        ensures number { IfSome result (λ n. n ≡ length seat.new.book.changes) }
-        ensures closes { IfSome result (λ _. (name_or seat.old.name).shut ≡ Never) }
-        ensures late { (name_or seat.old.name).asks < seat.old.asks → result ≡ None }
-        ensures put { (s : SubscriptionOf) × IsPut s seat.new.name seat.new.book }
-        ensures seat { seat.new ≡ record seat.old {
-          book = self.old.keeper.book;
-          name = seat.new.name;
-        } }
-        ensures later { Extends seat.new.book seat.old.book }
-        ensures name { seat.new.name ≡ Some (record (name_or seat.old.name) {
-          shut = first_close (name_or seat.old.name).shut (is_some result)
-              (length seat.new.book.changes);
-        }) }
+        ensures book { seat.new.book ≡ self.old.keeper.book }
+        ensures closed { IsClosed seat.new.book seat.old seat.new result }
     {
         close_in(rt, board, &mut self.slots, place as usize, seat)
     }

@@ -12,7 +12,7 @@ ghost use Rattle.lq_server_subscription.specs.Rule.{query_of, whole};
 ghost use Rattle.lq_server_subscription.specs.Reading.{Gives, Fails, known, received, mark_read, opening_of};
 ghost use Rattle.lq_server.specs.Own.{IsOwn};
 ghost use Rattle.lq_server.specs.Lending.{LendsSeat};
-ghost use Rattle.lq_server.specs.Syncing.{IsRead, IsUnread};
+ghost use Rattle.lq_server.specs.Syncing.{IsWaitingRead};
 ghost use Rattle.lq_server.specs.Headline.{ReaderIsTold};
 
 use crate::named::{Named, Seat};
@@ -140,21 +140,7 @@ impl Reader {
     ) -> Result<Read, Refusal>
         requires board { self.old.seat.board ≡ N.board }
         requires own { IsOwn self.old }
-        ensures own { IsOwn self.new }
-        ensures seat { self.new.seat ≡ record self.old.seat { book = self.new.seat.book } }
-        ensures later { Extends self.new.seat.book self.old.seat.book }
-        ensures rest { self.new ≡ record self.old {
-          reading = self.new.reading;
-          seat = self.new.seat;
-        } }
-        ensures port { IsSamePort self.old.reading.port self.new.reading.port }
-        ensures known { Extends (known self.new.reading) (known self.old.reading) }
-        ensures refused { IsRefusedBy result None }
-        ensures received { IsPrefix (received self.new.reading)
-            (whole self.new.reading.port.floor (known self.new.reading)) }
-        ensures gives { IfOk result (IsRead self.old self.new) }
-        ensures fails { OnErr result (IsUnread self.old self.new) }
-        ensures over { IsSome (mark_read self.old.reading) → result ≡ Ok Read.Ended }
+        ensures { IsWaitingRead self.old self.new result }
     {
         books_extend_themselves();
         self.reading.told();

@@ -1,15 +1,12 @@
 //! Calls of a server on its subscriptions.
-ghost use Rattle.std.specs.Prelude.{◌≡◌, ◌+◌, ◌<◌, ◌≤◌, ◌^◌, length, IfOk, IfErr, IfSome, IfNone, OnOk, is_ok, Some, Err, true, false};
-ghost use Rattle.lq_value.specs.declared.refusal.Refusal.TheVariants.{NotOpen, StillOpen};
+ghost use Rattle.std.specs.Prelude.{◌≡◌, ◌+◌, ◌<◌, ◌≤◌, ◌^◌, IfOk, IfErr, IfSome, IfNone, OnOk, Err, true, false};
+ghost use Rattle.lq_value.specs.declared.refusal.Refusal.TheVariants.{StillOpen};
 ghost use Rattle.lq_volume.specs.Book.{Extends};
-ghost use Rattle.lq_server_subscription.specs.declared.identity.Shut.TheVariants.{Never};
-ghost use Rattle.lq_server_subscription.specs.Marking.{first_close};
 ghost use Rattle.lq_server_subscription.specs.Reading.{is_marked};
-ghost use Rattle.lq_server_subscription.specs.declared.subscription.Subscription.{Subscription as SubscriptionOf};
-ghost use Rattle.lq_server_slots.specs.Slots.{IsPut};
-ghost use Rattle.lq_server_slots.specs.Opening.{IsOpeningRefused, name_or, opening_refusal};
+ghost use Rattle.lq_server_slots.specs.Opening.{IsOpeningRefused, opening_refusal};
 ghost use Rattle.lq_server.specs.declared.server.Synced.{Synced as SyncedOf};
 ghost use Rattle.lq_server_slots.specs.declared.slots.Slots.{Slots as SlotsOf};
+ghost use Rattle.lq_server.specs.Closed.{IsCloseAnswer};
 ghost use Rattle.lq_server.specs.Opened.{IsAnsweredOver, IsNewReader};
 ghost use Rattle.lq_server.specs.Own.{IsOwn, StaysOwn};
 ghost use Rattle.lq_server.specs.Syncing.{IsSynced, bit, in_port};
@@ -112,25 +109,7 @@ impl<N: Named> Server<N> {
     pub fn close<R: Wait>(&self, rt: &R, reader: &mut Reader) -> Result<u64, Refusal>
         requires board { reader.old.seat.board ≡ N.board }
         requires own { IsOwn reader.old }
-        ensures own { IsOwn reader.new }
-        ensures number { IfOk result (λ n. n ≡ length reader.new.seat.book.changes) }
-        ensures first { IfOk result (λ _. (name_or reader.old.seat.name).shut ≡ Never) }
-        ensures refused { IfErr result (λ e. e ≡ NotOpen) }
-        ensures late { reader.old.hang_up_asked ≡ true → result ≡ Err NotOpen }
-        ensures later { Extends reader.new.seat.book reader.old.seat.book }
-
-        // Messages and the mark were put until none was left or the port was full.
-        ensures put { (s : SubscriptionOf)
-            × IsPut s reader.new.seat.name reader.new.seat.book }
-        ensures seat { reader.new.seat ≡ record reader.old.seat {
-          book = reader.new.seat.book;
-          name = reader.new.seat.name;
-        } }
-        ensures shut { reader.new.seat.name ≡ Some (record (name_or reader.old.seat.name) {
-          shut = first_close (name_or reader.old.seat.name).shut (is_ok result)
-              (length reader.new.seat.book.changes);
-        }) }
-        ensures rest { reader.new ≡ record reader.old { seat = reader.new.seat } }
+        ensures { IsCloseAnswer reader.old reader.new result }
     {
         let closed = self
             .state

@@ -1,5 +1,5 @@
 -- What an opening makes, and the name that goes with a slot's seat.
-use Rattle.std.specs.Prelude.{◌≡◌, ◌⊎◌, ℕ, ◌<◌, ◌+◌, Bool, true, false, [], length, Option, Some, None, IsSomeAnd, Result}
+use Rattle.std.specs.Prelude.{◌≡◌, ◌⊎◌, ℕ, ◌<◌, ◌+◌, Bool, true, false, [], length, Option, Some, None, IsSome, IsSomeAnd, IfSome, IfNone, Result, Err, IfOk, IfErr}
 use base.Stored.{gnil}
 use Rattle.atomic_table.specs.Seated.{TableId}
 use Rattle.lq_value.specs.declared.refusal.Refusal.{Refusal}
@@ -22,7 +22,7 @@ use Rattle.lq_server_subscription.specs.Reading.{ReadingHold}
 use Rattle.lq_server_subscription.specs.Standing.{StandsAt}
 use Rattle.lq_server_slots.specs.declared.open.Opened.{Opened}
 use Rattle.lq_server_slots.specs.declared.slots.Slots.{Slots}
-use Rattle.lq_server_slots.specs.Slots.{is_full}
+use Rattle.lq_server_slots.specs.Slots.{is_full, slot_in}
 
 -- the name belongs to the port
 pub record IdentityFits (t : Identity) (e : End Delivery Opening) : Type 0 where
@@ -100,6 +100,18 @@ IsOpeningTabled slots limit port backlog result =
 -- limit on changes, or memory ran out
 abbrev pub IsOpeningRefused : Refusal → Type 0
 IsOpeningRefused e = (e ≡ NoSlot) ⊎ (e ≡ Exhausted) ⊎ (e ≡ NoMemory)
+
+-- Over these slots and with this limit on the openings, an opening is answered so.
+pub record IsOpeningAnswer (slots : Slots) (limit port backlog : ℕ)
+    (result : Result Opened Refusal) : Type 0 where
+  -- the first refusal that fits, and no other
+  pub table : IsOpeningTabled slots limit port backlog result
+  -- the slot is the lowest that is free
+  pub lowest : IfOk result (λ o.
+      (j : ℕ) → 0 < j → j < o.slot → IsSome (slot_in slots.subscriptions.items j))
+  -- the numbers are checked first, by their bounds alone
+  pub refused : IfSome (opening_refusal port backlog) (λ e. result ≡ Err e)
+  pub others : IfNone (opening_refusal port backlog) (IfErr result IsOpeningRefused)
 
 -- the name of no subscription
 abbrev pub no_identity : Identity

@@ -84,6 +84,12 @@ SlotsStand s book =
     AllStand s.keeper s.subscriptions.items s.openings book
     × IsListed s.taken.items s.subscriptions.items
 
+-- the keeper's book is lawful, the volume is the state after it, and all slots stand over it
+pub record StandsBeside (slots : Slots) (volume : State) : Type 0 where
+  pub state : volume ≡ state_of slots.keeper.book
+  pub full : IsFullBook slots.keeper.book
+  pub holding : SlotsStand slots slots.keeper.book
+
 -- a subscription has its mark if the keeper knows that its reader asked for its end
 abbrev pub IsNoticed : Subscription → Known Identity → Type 0
 IsNoticed s p = s.asks < p.asks → IsSome s.sub.held.mark

@@ -1,12 +1,13 @@
 //! A change under the lock.
 ghost use Rattle.std.specs.Prelude.{◌≡◌, ◌<◌, ◌≤◌, [], ◌∷◌, length, None, IfOk, OnOk, OnErr};
 ghost use Rattle.lq_value.specs.Refusal.{IsRefusedBy};
-ghost use Rattle.lq_volume.specs.Book.{Extends, grown, state_of};
+ghost use Rattle.lq_volume.specs.Book.{grown, state_of};
 ghost use Rattle.lq_volume.specs.Change.{refused, node_of};
 ghost use Rattle.lq_board.specs.Author.{with_change};
 ghost use Rattle.lq_board.specs.Book.{IsFullBook};
 ghost use Rattle.lq_board.specs.Slot.{slot_at};
-ghost use Rattle.lq_server_slots.specs.Slots.{SlotsStand, AllReady, IsNoticed, IsServed, SlotsAre};
+ghost use Rattle.lq_server_slots.specs.Changing.{IsChangeMade};
+ghost use Rattle.lq_server_slots.specs.Slots.{SlotsStand, StandsBeside, AllReady, IsNoticed, IsServed, SlotsAre};
 
 use crate::slots::{Slots, fill_all, ready_all, tell_all};
 use lq_board::{Board, Seat};
@@ -38,31 +39,12 @@ pub fn change_in<R: Wait>(
     requires met { seat.old.book ≡ slots.old.keeper.book }
     requires known { 0 < seat.old.slot
         → seat.old.asks ≤ (slot_at slots.old.keeper.slots seat.old.slot).asks }
-    requires volume { volume.old ≡ state_of slots.old.keeper.book }
-    requires full { IsFullBook slots.old.keeper.book }
-    requires holding { SlotsStand slots.old slots.old.keeper.book }
-    ensures refused { IsRefusedBy result (refused volume.old change.now) }
-    ensures node { IfOk result (λ applied. applied.node ≡ node_of volume.old change.now) }
-    ensures number { IfOk result (λ applied.
-        applied.change ≡ length slots.new.keeper.book.changes) }
-    ensures ok { OnOk result
-        (slots.new.keeper.book ≡ grown slots.old.keeper.book (change.now ∷ [])) }
-    ensures err { OnErr result (slots.new.keeper.book ≡ slots.old.keeper.book) }
-    ensures seat { seat.new ≡ record seat.old {
-      book = slots.new.keeper.book;
-      author = seat.new.author;
-    } }
-    ensures author { IfOk result (λ applied.
-        seat.new.author ≡ with_change seat.old.author applied.change) }
-    ensures others { OnErr result (seat.new.author ≡ seat.old.author) }
-    ensures later { Extends seat.new.book seat.old.book }
+    requires stands { StandsBeside slots.old volume.old }
+    ensures made { IsChangeMade change.now result volume.old volume.new
+        slots.old.keeper.book slots.new.keeper.book seat.old seat.new }
     ensures board { slots.new.keeper.board ≡ slots.old.keeper.board }
     ensures openings { slots.new.openings ≡ slots.old.openings }
-    ensures start { slots.new.keeper.book.start ≡ slots.old.keeper.book.start }
-    ensures volume { volume.new ≡ state_of slots.new.keeper.book }
-    ensures limit { volume.new.limit ≡ volume.old.limit }
-    ensures full { IsFullBook slots.new.keeper.book }
-    ensures holding { SlotsStand slots.new slots.new.keeper.book }
+    ensures stands { StandsBeside slots.new volume.new }
     ensures served { SlotsAre IsServed slots.new.subscriptions.items slots.new.keeper.slots }
 {
     match add(board, slots, volume, seat, change) {

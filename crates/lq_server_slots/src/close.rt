@@ -6,6 +6,7 @@ ghost use Rattle.lq_server_subscription.specs.declared.identity.Shut.TheVariants
 ghost use Rattle.lq_server_subscription.specs.Marking.{first_close};
 ghost use Rattle.lq_server_subscription.specs.Identity.{identity_of};
 ghost use Rattle.lq_server_subscription.specs.declared.subscription.Subscription.{Subscription as SubscriptionOf};
+ghost use Rattle.lq_server_slots.specs.Closing.{IsClosed};
 ghost use Rattle.lq_server_slots.specs.Slots.{IsTaken, SlotStands, SlotsStand, IsPlaceIn, IsDropped, IsPut, place_at, OnlyAt, asks_of, slot_in};
 ghost use Rattle.lq_server_slots.specs.Opening.{asks_after, name_or};
 
@@ -139,23 +140,11 @@ pub fn close_in<R: Wait>(
     requires place { (0 < place) × (place < 65) }
     requires seat { (seat.old.slot ≡ place) × IsSome seat.old.name }
     requires holding { SlotsStand slots.old slots.old.keeper.book }
-    ensures number { IfSome result (λ n. n ≡ length slots.old.keeper.book.changes) }
-    ensures closes { IfSome result (λ _. (name_or seat.old.name).shut ≡ Never) }
-    ensures late { (name_or seat.old.name).asks < seat.old.asks → result ≡ None }
-    ensures put { (s : SubscriptionOf) × IsPut s seat.new.name slots.new.keeper.book }
+    ensures closed { IsClosed slots.old.keeper.book seat.old seat.new result }
     ensures board { slots.new.keeper.board ≡ slots.old.keeper.board }
     ensures book { slots.new.keeper.book ≡ slots.old.keeper.book }
     ensures openings { slots.new.openings ≡ slots.old.openings }
     ensures holding { SlotsStand slots.new slots.new.keeper.book }
-    ensures seat { seat.new ≡ record seat.old {
-      book = slots.old.keeper.book;
-      name = seat.new.name;
-    } }
-    ensures later { Extends slots.old.keeper.book seat.old.book }
-    ensures name { seat.new.name ≡ Some (record (name_or seat.old.name) {
-      shut = first_close (name_or seat.old.name).shut (is_some result)
-          (length slots.old.keeper.book.changes);
-    }) }
 {
     let keeper = &mut slots.keeper;
     close_at(rt, board, keeper, &mut slots.subscriptions[place], seat)

@@ -7,8 +7,8 @@ ghost use Rattle.lq_board.specs.Book.{IsFullBook};
 ghost use Rattle.lq_board.specs.Slot.{slot_at, gone_out};
 ghost use Rattle.lq_server_subscription.specs.Identity.{identity_of};
 ghost use Rattle.lq_server_subscription.specs.declared.identity.Identity.{Identity as IdentityOf};
-ghost use Rattle.lq_server_slots.specs.Slots.{AreUnchanged, SlotsStand, is_full, slot_in};
-ghost use Rattle.lq_server_slots.specs.Opening.{IsBegun, IsOpened, IsOpeningRefused, IsOpeningTabled, opening_refusal};
+ghost use Rattle.lq_server_slots.specs.Slots.{AreUnchanged, SlotsStand, StandsBeside, is_full, slot_in};
+ghost use Rattle.lq_server_slots.specs.Opening.{IsBegun, IsOpened, IsOpeningAnswer};
 
 use crate::slots::{PLACES, Slots};
 use lq_board::{Board, Keeper, Seat};
@@ -204,10 +204,8 @@ pub fn open_in(
     asked: &Asked,
 ) -> Result<Opened, Refusal>
     requires board { slots.old.keeper.board ≡ board.now }
-    requires volume { volume.now ≡ state_of slots.old.keeper.book }
-    requires full { IsFullBook slots.old.keeper.book }
+    requires stands { StandsBeside slots.old volume.now }
     requires limit { slots.old.openings ≤ volume.now.limit }
-    requires holding { SlotsStand slots.old slots.old.keeper.book }
     ensures board { slots.new.keeper.board ≡ slots.old.keeper.board }
     ensures book { slots.new.keeper.book ≡ slots.old.keeper.book }
     ensures limit { slots.new.openings ≤ volume.now.limit }
@@ -217,17 +215,9 @@ pub fn open_in(
     ensures opened { IfOk result (λ o. IsOpened o slots.old.keeper.board slots.old.keeper.book
         asked.now.predicate.now asked.now.moved asked.now.port asked.now.backlog) }
 
-    // The first that fits, and no other.
-    ensures table { IsOpeningTabled slots.old volume.now.limit asked.now.port asked.now.backlog
+    // The first refusal that fits and no other, or the lowest free slot.
+    ensures answered { IsOpeningAnswer slots.old volume.now.limit asked.now.port asked.now.backlog
         result }
-    ensures lowest { IfOk result (λ o. (j : ℕ) → 0 < j → j < o.slot
-        → IsSome (slot_in slots.old.subscriptions.items j)) }
-
-    // The numbers are checked first, by their bounds alone.
-    ensures refused { IfSome (opening_refusal asked.now.port asked.now.backlog)
-        (λ e. result ≡ Err e) }
-    ensures others { IfNone (opening_refusal asked.now.port asked.now.backlog)
-        (IfErr result IsOpeningRefused) }
 {
     if asked.port == 0 || asked.port > MAX_PLACES {
         return Err(Refusal::BadPort);

@@ -1,3 +1,5 @@
+use Rattle.std.proofs.Common.{subst}
+use Rattle.lq_server_slots.specs.Slots.{IsPut}
 use Rattle.lq_server_slots.proofs.TakenLemmas.{slots_stand-step}
 use Rattle.lq_server_slots.proofs.close.close_in.Goals as goal
 
@@ -11,5 +13,14 @@ returns-clause-holding g c =
     c.requires.place.1 c.requires.seat.0 f.book c.index_mut.ensures.value f.only f.fits f.asks
     f.kept
 
-pub returns-clause-put : goal.returns-clause-put
-returns-clause-put g c = c.close_at.ensures.put
+pub returns-clause-closed : goal.returns-clause-closed
+returns-clause-closed g c =
+    let f = c.close_at.ensures in record {
+      number = f.number;
+      closes = f.closes;
+      late = f.late;
+      put = (f.put.0, subst (IsPut f.put.0 c.close_at.new.seat.name) f.book f.put.1);
+      seat = f.seat;
+      later = f.later;
+      name = f.name;
+    }

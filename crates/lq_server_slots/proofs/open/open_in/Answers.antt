@@ -1,4 +1,4 @@
-use Rattle.std.proofs.Common.{◌≡◌, ◌∙◌, ◌<◌, ℕ, Bool, List, [], Option, sym, ap, subst}
+use Rattle.std.proofs.Common.{◌≡◌, ◌∙◌, ◌<◌, ℕ, Bool, List, rules, [], Option, sym, ap, subst}
 use Rattle.std.specs.Prelude.{IsSome, IfSome, IfOk, Err}
 use Rattle.std.proofs.lemmas.Result.{IfOk-weaker}
 use Rattle.lq_value.specs.declared.refusal.Refusal.{Refusal}
@@ -21,15 +21,6 @@ settle-requires-clause-free c =
     ap (λ (l : List (Option Subscription)). slot_in l c.in-Some.place) (sym c.deref.ensures.value)
     ∙ c.in-Some.ensures.free
 
-pub returns-clause-lowest : goal.returns-clause-lowest
-returns-clause-lowest c =
-    let items = c.args.slots.now.subscriptions.items in
-    IfOk-weaker c.settle.result (λ (o : Opened). o.slot ≡ c.in-Some.place)
-    (λ (o : Opened). (j : ℕ) → 0 < j → j < o.slot → IsSome (slot_in items j))
-    (λ o e j pos lt. subst (λ (l : List (Option Subscription)). IsSome (slot_in l j))
-    c.deref.ensures.value (c.in-Some.ensures.lowest j pos (subst (λ (n : ℕ). j < n) e lt)))
-    c.settle.ensures.slot
-
 pub returns-clause-limit : goal.returns-clause-limit
 returns-clause-limit c =
     let f = c.settle.ensures in
@@ -45,20 +36,25 @@ returns-clause-opened c =
     (λ o. IsOpened o was.board was.book z.0 z.1 z.2 z.3))
     (λ i. (b.query i, b.moved i, b.places i, b.backlog_is i)) c.settle.ensures.opened
 
-pub returns-clause-table : goal.returns-clause-table
-returns-clause-table c =
+pub returns-clause-answered : goal.returns-clause-answered
+returns-clause-answered c =
     let slots = c.args.slots.now in
     let asked = c.args.asked.now in
+    let items = slots.subscriptions.items in
     let free = c.in-Some.ensures.full ∙ ap is_full c.deref.ensures.value in
     let less = subst (λ (n : ℕ). slots.openings < n) c.limit.ensures c.if-limit-slots.false in
-    subst (IsRefusedBy c.settle.result) (sym (opening_fits (is_full slots.subscriptions.items)
-    slots.openings c.args.volume.now.limit asked.port asked.backlog c.if-asked-eq0.false
-    c.if-asked-gt-MAX_PLACES.false c.if-asked-gt-MAX_BACKLOG.false free less))
-    c.settle.ensures.refused
-
-pub returns-clause-refused : goal.returns-clause-refused
-returns-clause-refused c =
-    let asked = c.args.asked.now in
-    subst (λ (o : Option Refusal). IfSome o (λ e. c.settle.result ≡ Err e))
-    (sym (sizes_fit asked.port asked.backlog [] c.if-asked-eq0.false
-    c.if-asked-gt-MAX_PLACES.false c.if-asked-gt-MAX_BACKLOG.false)) tt
+    record {
+      table = subst (IsRefusedBy c.settle.result) (sym (opening_fits (is_full items)
+          slots.openings c.args.volume.now.limit asked.port asked.backlog c.if-asked-eq0.false
+          c.if-asked-gt-MAX_PLACES.false c.if-asked-gt-MAX_BACKLOG.false free less))
+          c.settle.ensures.refused;
+      lowest = IfOk-weaker c.settle.result (λ (o : Opened). o.slot ≡ c.in-Some.place)
+          (λ (o : Opened). (j : ℕ) → 0 < j → j < o.slot → IsSome (slot_in items j))
+          (λ o e j pos lt. subst (λ (l : List (Option Subscription)). IsSome (slot_in l j))
+          c.deref.ensures.value (c.in-Some.ensures.lowest j pos (subst (λ (n : ℕ). j < n) e lt)))
+          c.settle.ensures.slot;
+      refused = subst (λ (o : Option Refusal). IfSome o (λ e. c.settle.result ≡ Err e))
+          (sym (sizes_fit asked.port asked.backlog [] c.if-asked-eq0.false
+          c.if-asked-gt-MAX_PLACES.false c.if-asked-gt-MAX_BACKLOG.false)) tt;
+      others = search rules;
+    }

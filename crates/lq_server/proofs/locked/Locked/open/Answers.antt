@@ -1,4 +1,4 @@
-use Rattle.std.proofs.Common.{subst}
+use Rattle.std.proofs.Common.{rules, subst}
 use Rattle.lq_server_slots.specs.declared.slots.Slots.{Slots}
 use Rattle.lq_server_slots.specs.Slots.{SlotsStand}
 use Rattle.lq_server.proofs.locked.Locked.open.Goals as goal
@@ -9,3 +9,11 @@ returns-clause-over g c = (
   c.meet.ensures.same,
   subst (λ (z : Slots). SlotsStand z z.keeper.book) c.self.view_is c.self.invariant.6,
 )
+
+pub returns-clause-answered : goal.returns-clause-answered
+returns-clause-answered g c = record {
+  table = search rules;
+  lowest = search rules;
+  refused = c.open_in.ensures.answered.refused;
+  others = c.open_in.ensures.answered.others;
+}

@@ -36,7 +36,7 @@ returns-clause-table g c =
       answered_over _ f.over.0 g.N.Named.start c.args.seat.now c.open.new.seat c.args.port
           c.args.backlog
           (Ok (hold o.reading o.seat o.slot false)) f.over.1 f.over.2 f.seat f.within
-          c.in_ok-opened.ensures.table c.in_ok-opened.ensures.lowest,
+          c.in_ok-opened.ensures.answered.table c.in_ok-opened.ensures.answered.lowest,
     )
 
 pub returns-clause-own : goal.returns-clause-own

@@ -1,0 +1,30 @@
+-- What a change under the lock answers, and what it makes of the book, the volume and the seat of
+-- its author.
+use Rattle.std.specs.Prelude.{◌≡◌, [], ◌∷◌, length, Result, IfOk, OnOk, OnErr}
+use Rattle.lq_value.specs.declared.refusal.Refusal.{Refusal}
+use Rattle.lq_value.specs.Refusal.{IsRefusedBy}
+use Rattle.lq_volume.specs.State.{State}
+use Rattle.lq_volume.specs.declared.change.Change.{Change}
+use Rattle.lq_volume.specs.declared.change.Applied.{Applied}
+use Rattle.lq_volume.specs.Book.{Book, Extends, grown}
+use Rattle.lq_volume.specs.Change.{refused, node_of}
+use Rattle.lq_board.specs.Author.{with_change}
+use Rattle.lq_board.specs.Token.{SeatToken}
+use Rattle.lq_server_subscription.specs.declared.identity.Identity.{Identity}
+
+-- A change was made, or refused. The volume was v and is w, the book b and d, the author's seat s
+-- and t. Refused, the book and the seat's own changes stay. Made, it is the last of the book, under
+-- the number that is answered, which is among the seat's own. Either way the seat knows the book.
+pub record IsChangeMade (change : Change) (result : Result Applied Refusal) (v w : State)
+    (b d : Book) (s t : SeatToken Identity) : Type 0 where
+  pub refused : IsRefusedBy result (refused v change)
+  pub node : IfOk result (λ applied. applied.node ≡ node_of v change)
+  pub number : IfOk result (λ applied. applied.change ≡ length d.changes)
+  pub ok : OnOk result (d ≡ grown b (change ∷ []))
+  pub err : OnErr result (d ≡ b)
+  pub start : d.start ≡ b.start
+  pub limit : w.limit ≡ v.limit
+  pub seat : t ≡ record s { book = d; author = t.author }
+  pub author : IfOk result (λ applied. t.author ≡ with_change s.author applied.change)
+  pub others : OnErr result (t.author ≡ s.author)
+  pub later : Extends t.book s.book
