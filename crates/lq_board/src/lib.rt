@@ -8,6 +8,7 @@
 
 mod board;
 mod laws;
+mod meetings;
 mod moves;
 mod steps;
 mod tokens;

@@ -1,33 +1,22 @@
 //! The state under the lock.
-ghost use Rattle.std.specs.Prelude.{◌≡◌, ◌≢◌, ℕ, ◌+◌, ◌<◌, ◌≤◌, [], ◌∷◌, length, IfOk, IfErr, OnOk, OnErr, IsSome, IsSomeAnd, Some, None};
+ghost use Rattle.std.specs.Prelude.{◌≡◌, ◌<◌, ◌≤◌, length, IfOk, IfErr};
 ghost use Rattle.lq_value.specs.declared.refusal.Refusal.TheVariants.{NoSeat};
-ghost use Rattle.lq_value.specs.Refusal.{IsRefusedBy, first_refusal};
-ghost use Rattle.lq_volume.specs.Book.{Extends, grown, state_of};
-ghost use Rattle.lq_volume.specs.Result.{result_of};
-ghost use Rattle.lq_volume.specs.State.{record_at, node_in};
-ghost use Rattle.lq_volume.specs.Lookup.{find_refusals, entry_refusals, listed};
+ghost use Rattle.lq_volume.specs.Book.{Extends, state_of};
 ghost use Rattle.lq_board.specs.Book.{IsFullBook};
 ghost use Rattle.lq_board.specs.Slot.{slot_at};
-ghost use Rattle.lq_server_subscription.specs.declared.subscription.Subscription.{Subscription as SubscriptionOf};
-ghost use Rattle.lq_server_slots.specs.declared.slots.Slots.{Slots as SlotsOf};
-ghost use Rattle.lq_server_slots.specs.Slots.{IsServed, SameButKnown, SlotsAre, SlotsStand, slot_in};
-ghost use Rattle.lq_server_slots.specs.Closing.{IsClosed};
-ghost use Rattle.lq_server_slots.specs.Opening.{IsOpened, IsOpeningAnswer, IdentityFits, asks_after};
-ghost use Rattle.lq_server_slots.specs.Progress.{ShowsProgress};
-ghost use Rattle.lq_server.specs.Applied.{IsApplied};
+ghost use Rattle.lq_server_slots.specs.Slots.{SameButKnown, SlotsStand};
+
+mod subscriptions;
+mod volume;
 
 use crate::named::Named;
 use lq_board::{Board, Keeper, Seat};
-use lq_predicate::Predicate;
-use lq_server_slots::{
-    Asked, Opened, Progress, Slots, change_in, close_in, free_in, meet_in, open_in, sync_in,
-};
-use lq_server_subscription::{Identity, Reading};
-use lq_value::{Entry, Name, Refusal};
-use lq_volume::{Applied, Change, Listing, Volume};
+use lq_server_slots::{Slots, meet_in};
+use lq_server_subscription::Identity;
+use lq_value::{Entry, Refusal};
+use lq_volume::Volume;
 use std::alloc::Global;
 use std::marker::{Model, PhantomData};
-use std::sync::Wait;
 
 /// The most seats that are out at the same time.
 const MAX_SEATS: u64 = 16;
@@ -152,210 +141,6 @@ impl<N: Named> Locked<N> {
             return board.meet(&mut self.slots.keeper, seat);
         }
         meet_in(board, &mut self.slots, place as usize, seat)
-    }
-
-    /// The entries that match a predicate, by rising node, after the book that the seat then knows.
-    /// Refused: `NoMemory`.
-    pub fn fetch(
-        &mut self,
-        board: &Board<Identity>,
-        seat: &mut Seat<Identity>,
-        predicate: &Predicate,
-    ) -> Result<Found, Refusal>
-        requires { (board.now ≡ N.board) × (seat.old.board ≡ N.board) }
-        ensures same { SameButKnown self.old self.new }
-        ensures seat { seat.new ≡ record seat.old { book = self.old.keeper.book } }
-        ensures later { Extends seat.new.book seat.old.book }
-        ensures at { IfOk result (λ found. found.at ≡ length seat.new.book.changes) }
-        ensures entries { IfOk result (λ found.
-            found.entries.items ≡ result_of predicate.now (state_of seat.new.book)) }
-
-        // `NoMemory` is the only refusal.
-        ensures refused { IsRefusedBy result None }
-    {
-        let at = self.meet(board, seat);
-        let entries = self.volume.fetch(predicate)?;
-        Ok(Found { at, entries })
-    }
-
-    /// The node at a place, after the book that the seat then knows.
-    ///
-    /// Refused as `Volume::find` is.
-    pub fn find(
-        &mut self,
-        board: &Board<Identity>,
-        seat: &mut Seat<Identity>,
-        dir: u64,
-        name: &Name,
-    ) -> Result<u64, Refusal>
-        requires { (board.now ≡ N.board) × (seat.old.board ≡ N.board) }
-        ensures same { SameButKnown self.old self.new }
-        ensures seat { seat.new ≡ record seat.old { book = self.old.keeper.book } }
-        ensures later { Extends seat.new.book seat.old.book }
-        ensures value { IfOk result (λ node.
-            node_in (state_of seat.new.book).records dir name.now ≡ Some node) }
-        ensures ok { OnOk result
-            (first_refusal (find_refusals (state_of seat.new.book) dir name.now) ≡ None) }
-        ensures err { IfErr result (λ e.
-            first_refusal (find_refusals (state_of seat.new.book) dir name.now) ≡ Some e) }
-    {
-        self.meet(board, seat);
-        self.volume.find(dir, name)
-    }
-
-    /// A copy of a node's whole entry, after the book that the seat then knows.
-    ///
-    /// Refused as `Volume::listing` is.
-    pub fn listing(
-        &mut self,
-        board: &Board<Identity>,
-        seat: &mut Seat<Identity>,
-        node: u64,
-    ) -> Result<Listing, Refusal>
-        requires { (board.now ≡ N.board) × (seat.old.board ≡ N.board) }
-        ensures same { SameButKnown self.old self.new }
-        ensures seat { seat.new ≡ record seat.old { book = self.old.keeper.book } }
-        ensures later { Extends seat.new.book seat.old.book }
-        ensures value { IfOk result (λ listing.
-            record_at (state_of seat.new.book) node ≡ Some (listed listing)) }
-        ensures refused { IsRefusedBy result
-            (first_refusal (entry_refusals (state_of seat.new.book) node)) }
-    {
-        self.meet(board, seat);
-        self.volume.listing(node)
-    }
-
-    /// Makes a change and notifies the subscriptions. The seat is its author, and then knows the
-    /// book.
-    ///
-    /// First the subscriptions whose readers hung up end. Refused as the volume refuses the change,
-    /// or `NoMemory`; the book is then as it was, but the ports are filled.
-    pub fn apply<R: Wait>(
-        &mut self,
-        rt: &R,
-        board: &Board<Identity>,
-        seat: &mut Seat<Identity>,
-        change: &Change,
-    ) -> Result<Applied, Refusal>
-        requires { (board.now ≡ N.board) × (seat.old.board ≡ N.board) }
-        ensures applied { IsApplied change.now self.new.keeper.book seat.old seat.new result }
-        ensures grown { OnOk result
-            (self.new.keeper.book ≡ grown self.old.keeper.book (change.now ∷ [])) }
-        ensures same { OnErr result (self.new.keeper.book ≡ self.old.keeper.book) }
-        ensures openings { self.new.openings ≡ self.old.openings }
-        ensures served { SlotsAre IsServed self.new.subscriptions.items self.new.keeper.slots }
-        ensures number { IfOk result (λ a.
-            a.change ≡ length self.old.keeper.book.changes + 1) }
-    {
-        self.meet(board, seat);
-        change_in(rt, board, &mut self.slots, &mut self.volume, seat, change)
-    }
-
-    /// Opens a live query in the lowest free slot, over the book that the seat then knows.
-    ///
-    /// The port has `port` places, 1 to 1,024. At most `backlog` messages are held before it, up to
-    /// 65,536. `moved` asks for moved entries too. Refused, the first that fits: `BadPort`,
-    /// `BadBacklog`, `NoSlot` where 64 are open, `Exhausted` where the openings have reached the
-    /// volume's limit on changes, `NoMemory`. A refused opening changes no slot and isn't counted.
-    pub fn open(
-        &mut self,
-        board: &Board<Identity>,
-        seat: &mut Seat<Identity>,
-        predicate: &Predicate,
-        port: u64,
-        backlog: u64,
-        moved: bool,
-    ) -> Result<Opened, Refusal>
-        requires { (board.now ≡ N.board) × (seat.old.board ≡ N.board) }
-        ensures book { self.new.keeper.book ≡ self.old.keeper.book }
-        ensures seat { seat.new ≡ record seat.old { book = self.old.keeper.book } }
-        ensures later { Extends seat.new.book seat.old.book }
-        ensures opened { IfOk result (λ o.
-            IsOpened o N.board seat.new.book predicate.now moved port backlog) }
-        ensures counted { OnOk result (self.new.openings ≡ self.old.openings + 1) }
-        ensures err { OnErr result (SameButKnown self.old self.new) }
-
-        // The first refusal that fits and no other, or the lowest free slot.
-        ensures over { (under : SlotsOf) × SameButKnown self.old under
-            × SlotsStand under under.keeper.book }
-        ensures within { self.old.openings ≤ N.start.limit }
-        ensures answered { IsOpeningAnswer self.old N.start.limit port backlog result }
-    {
-        self.meet(board, seat);
-        let asked = Asked {
-            predicate,
-            port,
-            backlog,
-            moved,
-        };
-        open_in(self.alloc, board, &mut self.slots, &self.volume, &asked)
-    }
-
-    /// The progress of a reader's subscription. Its port is filled, and the seat knows the book.
-    ///
-    /// First the subscription ends as hung up where its reader asked for that. It takes no memory.
-    pub fn sync<R: Wait>(
-        &mut self,
-        rt: &R,
-        board: &Board<Identity>,
-        place: u64,
-        seat: &mut Seat<Identity>,
-        reading: &mut Reading,
-    ) -> Progress
-        requires board { (board.now ≡ N.board) × (seat.old.board ≡ N.board) }
-        requires place { (0 < place) × (place < 65) }
-        requires seat { (seat.old.slot ≡ place)
-            × IsSomeAnd seat.old.name (λ t. IdentityFits t reading.old.port) }
-        ensures same { self.new.keeper.book ≡ self.old.keeper.book }
-        ensures openings { self.new.openings ≡ self.old.openings }
-        ensures book { seat.new.book ≡ self.old.keeper.book }
-        ensures progress { (s : SubscriptionOf)
-            × ShowsProgress s seat.old seat.new reading.old reading.new result }
-    {
-        sync_in(rt, board, &mut self.slots, place as usize, seat, reading)
-    }
-
-    /// Closes a reader's subscription, and answers the number of changes then.
-    ///
-    /// `None` where it had ended before, also where its reader asked for that. Its port is filled.
-    /// The seat then knows the book, and its name says what the first close answered. It takes no
-    /// memory.
-    pub fn close<R: Wait>(
-        &mut self,
-        rt: &R,
-        board: &Board<Identity>,
-        place: u64,
-        seat: &mut Seat<Identity>,
-    ) -> Option<u64>
-        requires board { (board.now ≡ N.board) × (seat.old.board ≡ N.board) }
-        requires place { (0 < place) × (place < 65) }
-        requires seat { (seat.old.slot ≡ place) × IsSome seat.old.name }
-        ensures same { self.new.keeper.book ≡ self.old.keeper.book }
-        ensures openings { self.new.openings ≡ self.old.openings }
-        ensures book { seat.new.book ≡ self.old.keeper.book }
-        ensures closed { IsClosed seat.new.book seat.old seat.new result }
-    {
-        close_in(rt, board, &mut self.slots, place as usize, seat)
-    }
-
-    /// Takes the seat of a slot back and frees the slot, so that an opening may take it.
-    ///
-    /// `asked` says whether its reader asked for the end. The other slots keep their subscriptions.
-    /// It takes no memory.
-    pub fn free(&mut self, board: &Board<Identity>, place: u64, seat: Seat<Identity>, asked: bool)
-        requires board { (board.now ≡ N.board) × (seat.board ≡ N.board) }
-        requires place { (0 < place) × (place < 65) }
-        requires seat { (seat.slot ≡ place)
-            × IsSomeAnd seat.name (λ t. seat.asks ≡ asks_after t.asks asked) }
-        ensures same { self.new.keeper.book ≡ self.old.keeper.book }
-        ensures openings { self.new.openings ≡ self.old.openings }
-        ensures taken { IsSome (slot_in self.old.subscriptions.items place) }
-        ensures freed { slot_in self.new.subscriptions.items place ≡ None }
-        ensures others { (k : ℕ) → k ≢ place → slot_in self.new.subscriptions.items k
-            ≡ slot_in self.old.subscriptions.items k }
-        ensures later { Extends self.old.keeper.book seat.book }
-    {
-        free_in(board, &mut self.slots, place as usize, seat, asked);
     }
 
     /// The keeper and the volume.

@@ -9,7 +9,8 @@ ghost use Rattle.lq_board.specs.Slot.{slot_at};
 ghost use Rattle.lq_server_slots.specs.Changing.{IsChangeMade};
 ghost use Rattle.lq_server_slots.specs.Slots.{SlotsStand, StandsBeside, AllReady, IsNoticed, IsServed, SlotsAre};
 
-use crate::slots::{Slots, fill_all, ready_all, tell_all};
+use crate::passes::{ready_all, tell_all};
+use crate::slots::{Slots, fill_all};
 use lq_board::{Board, Seat};
 use lq_server_subscription::Identity;
 use lq_value::Refusal;

@@ -9,6 +9,7 @@ mod change;
 mod close;
 mod laws;
 mod open;
+mod passes;
 mod slots;
 mod sync;
 

@@ -3,7 +3,7 @@ use Rattle.std.specs.Prelude.{IsSome}
 use Rattle.lq_desk_sub.specs.Held.{Held}
 use Rattle.lq_server_slots.proofs.SlotLemmas.{taken_alike}
 use Rattle.lq_server_slots.proofs.TellLemmas.{noticed_then, counted_more}
-use Rattle.lq_server_slots.proofs.slots.ready_slot.Goals as goal
+use Rattle.lq_server_slots.proofs.passes.ready_slot.Goals as goal
 
 pub returns-clause-taken : goal.returns-clause-taken
 returns-clause-taken c =

@@ -7,7 +7,7 @@ use Rattle.lq_server_subscription.specs.declared.subscription.Subscription.{Subs
 use Rattle.lq_server_slots.specs.Slots.{asks_of, slot_in, place_at, SlotIs, IsNoticed, IsServed}
 use Rattle.lq_server_slots.proofs.SlotLemmas.{only_self}
 use Rattle.lq_server_slots.proofs.TellLemmas.{partly_told-first, partly_told-step, slots_are-more, slots_are-left, slots_are-all}
-use Rattle.lq_server_slots.proofs.slots.tell_all.Goals as goal
+use Rattle.lq_server_slots.proofs.passes.tell_all.Goals as goal
 
 pub loop-index-init : goal.loop-index-init
 loop-index-init g c =

@@ -1,0 +1,192 @@
+//! The two passes of a change over the slots: its messages are prepared, and then committed.
+ghost use Rattle.std.specs.Prelude.{◌≡◌, ◌<◌, ◌≤◌, ℕ, length, None, Some, is_some, OnOk};
+ghost use Rattle.lq_value.specs.Refusal.{IsRefusedBy};
+ghost use Rattle.lq_volume.specs.Book.{state_of};
+ghost use Rattle.lq_board.specs.Slot.{slot_at};
+ghost use Rattle.lq_server_slots.specs.Slots.{IsTaken, IsToFill, SlotStands, asks_of, SlotsStand, OnlyAt, IsReadyAt, AllReady, before_of, IsGrown, IsNoticed, IsServed, SlotIs, SlotsAre};
+
+use crate::slots::{Slots, notice_slot, place_of, pump_slot};
+use lq_board::{Board, Keeper};
+use lq_server_subscription::{Identity, Subscription, commit, ready};
+use lq_value::Refusal;
+use lq_volume::{Change, Planned};
+use std::sync::Wait;
+
+// Ends a subscription where its reader asked, then prepares its messages of a change if it is live.
+fn ready_slot(
+    board: &Board<Identity>,
+    keeper: &mut Keeper<Identity>,
+    slot: &mut Subscription,
+    place: usize,
+    planned: &Planned<'_>,
+) -> Result<(), Refusal>
+    requires board { keeper.old.board ≡ board.now }
+    requires place { (0 < place) × (place < 65) × (length keeper.old.slots ≡ 65) }
+    requires state { planned.now.before ≡ state_of keeper.old.book }
+    requires taken { IsTaken slot.old (slot_at keeper.old.slots place) keeper.old.book }
+    ensures refused { IsRefusedBy result None }
+    ensures board { keeper.new.board ≡ keeper.old.board }
+    ensures book { keeper.new.book ≡ keeper.old.book }
+    ensures only { OnlyAt keeper.old.slots keeper.new.slots place }
+    ensures taken { IsTaken slot.new (slot_at keeper.new.slots place) keeper.new.book }
+    ensures asks { slot.new.asks ≡ slot.old.asks }
+    ensures rises { (slot_at keeper.old.slots place).asks ≤ (slot_at keeper.new.slots place).asks }
+    ensures ready { OnOk result
+        (IsReadyAt (Some slot.new) planned.now.before planned.now.change) }
+    ensures noticed { IsNoticed slot.new (slot_at keeper.new.slots place) }
+{
+    let number = planned.applied().change - 1;
+    notice_slot(board, keeper, slot, place, number);
+    ready(slot, planned)
+}
+
+// The same for a slot that may be free.
+fn ready_at(
+    board: &Board<Identity>,
+    keeper: &mut Keeper<Identity>,
+    slot: &mut Option<Subscription>,
+    place: usize,
+    planned: &Planned<'_>,
+) -> Result<(), Refusal>
+    requires board { keeper.old.board ≡ board.now }
+    requires place { (0 < place) × (place < 65) × (length keeper.old.slots ≡ 65) }
+    requires state { planned.now.before ≡ state_of keeper.old.book }
+    requires fits { SlotStands slot.old (slot_at keeper.old.slots place) keeper.old.book }
+    ensures refused { IsRefusedBy result None }
+    ensures board { keeper.new.board ≡ keeper.old.board }
+    ensures book { keeper.new.book ≡ keeper.old.book }
+    ensures only { OnlyAt keeper.old.slots keeper.new.slots place }
+    ensures fits { SlotStands slot.new (slot_at keeper.new.slots place) keeper.new.book }
+    ensures asks { asks_of slot.new (slot_at keeper.new.slots place)
+        ≤ asks_of slot.old (slot_at keeper.old.slots place) }
+    ensures rises { (slot_at keeper.old.slots place).asks ≤ (slot_at keeper.new.slots place).asks }
+    ensures kept { is_some slot.new ≡ is_some slot.old }
+    ensures ready { OnOk result
+        (IsReadyAt slot.new planned.now.before planned.now.change) }
+    ensures noticed { SlotIs IsNoticed slot.new (slot_at keeper.new.slots place) }
+{
+    match slot {
+        Some(taken) => ready_slot(board, keeper, taken, place, planned),
+        None => Ok(()),
+    }
+}
+
+/// Ends each subscription whose reader asked, and prepares the messages of a change for the live
+/// ones.
+pub(crate) fn ready_all(
+    board: &Board<Identity>,
+    slots: &mut Slots,
+    planned: &Planned<'_>,
+) -> Result<(), Refusal>
+    requires board { slots.old.keeper.board ≡ board.now }
+    requires state { planned.now.before ≡ state_of slots.old.keeper.book }
+    requires holding { SlotsStand slots.old slots.old.keeper.book }
+    ensures refused { IsRefusedBy result None }
+    ensures board { slots.new.keeper.board ≡ slots.old.keeper.board }
+    ensures book { slots.new.keeper.book ≡ slots.old.keeper.book }
+    ensures openings { slots.new.openings ≡ slots.old.openings }
+    ensures holding { SlotsStand slots.new slots.new.keeper.book }
+    ensures rises { (k : ℕ) → (slot_at slots.old.keeper.slots k).asks
+        ≤ (slot_at slots.new.keeper.slots k).asks }
+    ensures ready { OnOk result (AllReady slots.new.subscriptions.items
+        planned.now.before planned.now.change) }
+    ensures noticed { OnOk result
+        (SlotsAre IsNoticed slots.new.subscriptions.items slots.new.keeper.slots) }
+{
+    for index in 0..slots.taken.len() {
+        let place = place_of(slots, index);
+        let keeper = &mut slots.keeper;
+        ready_at(
+            board,
+            keeper,
+            &mut slots.subscriptions[place],
+            place,
+            planned,
+        )?;
+    }
+    Ok(())
+}
+
+// For a slot that may be free: commits the change that was just added, and fills the port.
+fn tell_at<R: Wait>(
+    rt: &R,
+    keeper: &Keeper<Identity>,
+    slot: &mut Option<Subscription>,
+    place: usize,
+    change: &Change,
+)
+    requires grown { IsGrown keeper.now.book change.now }
+    requires ready { IsReadyAt slot.old (state_of (before_of keeper.now.book)) change.now }
+    requires fits { SlotStands slot.old (slot_at keeper.now.slots place)
+        (before_of keeper.now.book) }
+    requires noticed { SlotIs IsNoticed slot.old (slot_at keeper.now.slots place) }
+    ensures fits { SlotStands slot.new (slot_at keeper.now.slots place) keeper.now.book }
+    ensures asks { asks_of slot.new (slot_at keeper.now.slots place)
+        ≤ asks_of slot.old (slot_at keeper.now.slots place) }
+    ensures kept { is_some slot.new ≡ is_some slot.old }
+    ensures served { SlotIs IsServed slot.new (slot_at keeper.now.slots place) }
+{
+    if let Some(taken) = slot {
+        tell_slot(rt, keeper, taken, place, change);
+    }
+}
+
+fn tell_slot<R: Wait>(
+    rt: &R,
+    keeper: &Keeper<Identity>,
+    slot: &mut Subscription,
+    place: usize,
+    change: &Change,
+)
+    requires grown { IsGrown keeper.now.book change.now }
+    requires ready { IsReadyAt (Some slot.old) (state_of (before_of keeper.now.book)) change.now }
+    requires taken { IsTaken slot.old (slot_at keeper.now.slots place)
+        (before_of keeper.now.book) }
+    requires noticed { IsNoticed slot.old (slot_at keeper.now.slots place) }
+    ensures taken { IsTaken slot.new (slot_at keeper.now.slots place) keeper.now.book }
+    ensures asks { slot.new.asks ≡ slot.old.asks }
+    ensures served { IsServed slot.new (slot_at keeper.now.slots place) }
+{
+    commit_slot(keeper, slot, place, change);
+    pump_slot(rt, keeper, slot, place);
+}
+
+// Commits the change that was just added. The port is still to be filled.
+fn commit_slot(keeper: &Keeper<Identity>, slot: &mut Subscription, place: usize, change: &Change)
+    requires grown { IsGrown keeper.now.book change.now }
+    requires ready { IsReadyAt (Some slot.old) (state_of (before_of keeper.now.book)) change.now }
+    requires taken { IsTaken slot.old (slot_at keeper.now.slots place)
+        (before_of keeper.now.book) }
+    requires noticed { IsNoticed slot.old (slot_at keeper.now.slots place) }
+    ensures taken { IsToFill slot.new (slot_at keeper.now.slots place) keeper.now.book }
+    ensures asks { slot.new.asks ≡ slot.old.asks }
+    ensures noticed { IsNoticed slot.new (slot_at keeper.now.slots place) }
+{
+    let _ = keeper;
+    let _ = place;
+    commit(slot, change);
+}
+
+/// Commits the change that was just added in each subscription, and fills each port.
+pub(crate) fn tell_all<R: Wait>(rt: &R, slots: &mut Slots, change: &Change)
+    requires grown { IsGrown slots.old.keeper.book change.now }
+    requires ready { AllReady slots.old.subscriptions.items
+        (state_of (before_of slots.old.keeper.book)) change.now }
+    requires holding { SlotsStand slots.old (before_of slots.old.keeper.book) }
+    requires noticed { SlotsAre IsNoticed slots.old.subscriptions.items slots.old.keeper.slots }
+    ensures keeper { slots.new.keeper ≡ slots.old.keeper }
+    ensures openings { slots.new.openings ≡ slots.old.openings }
+    ensures holding { SlotsStand slots.new slots.new.keeper.book }
+    ensures served { SlotsAre IsServed slots.new.subscriptions.items slots.new.keeper.slots }
+{
+    for index in 0..slots.taken.len() {
+        let place = place_of(slots, index);
+        tell_at(
+            rt,
+            &slots.keeper,
+            &mut slots.subscriptions[place],
+            place,
+            change,
+        );
+    }
+}
