@@ -139,8 +139,10 @@ fn put_range(masks: &mut [u32], j: usize, first: char, last: char, chars: &[char
 {
     if (last as usize) < ASCII {
         put_codes(masks, j, first as usize, last as usize + 1);
-    } else {
+    } else if (first as usize) < ASCII {
         put_within(masks, j, first, last, chars);
+    } else {
+        put_high_range(masks, j, first, last, chars);
     }
 }
 
@@ -163,6 +165,19 @@ fn put_within(masks: &mut [u32], j: usize, first: char, last: char, chars: &[cha
     ensures { ArePut (λ d. nat_le first d && nat_le d last) j chars.now masks.old masks.new }
 {
     for i in 0..masks.len() {
+        masks[i] = put_bit(is_within(first, last, chars[i]), j, masks[i]);
+    }
+}
+
+// The same for a range that has no ASCII character.
+fn put_high_range(masks: &mut [u32], j: usize, first: char, last: char, chars: &[char])
+    requires bit { j < 32 }
+    requires alphabet { IsAlphabet chars.now }
+    requires same { length masks.old ≡ length chars.now }
+    requires high { 128 ≤ first }
+    ensures { ArePut (λ d. nat_le first d && nat_le d last) j chars.now masks.old masks.new }
+{
+    for i in ASCII..masks.len() {
         masks[i] = put_bit(is_within(first, last, chars[i]), j, masks[i]);
     }
 }

@@ -12,9 +12,10 @@ use crate::seek::{find_place, from_place};
 // From how many bytes on a text is matched at many places at once.
 const LONG_TEXT: usize = 128;
 
-// The same where a set has many items, and how many these are.
+// The same where a set has many items.
 const LONG_FOR_SETS: usize = 32;
 
+// A set of more items has many.
 const MANY_ITEMS: usize = 16;
 
 // How many characters it may have.

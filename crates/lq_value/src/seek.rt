@@ -5,15 +5,16 @@ ghost use Rattle.lq_value.specs.Seek.{AreOn, IsNextOn, TakeNoneBefore, IsFirstPl
 use crate::element::Element;
 use crate::run::{count_run, keep_run};
 
-// The number of places that are tried at once, and of the first of them.
+// The number of places that are tried at once.
 const WINDOW: usize = 512;
 
+// The number of those that are tried first: of many parts most are found there.
 const FIRST_WINDOW: usize = 64;
 
 /// The first place of the text from which on each element takes a character.
 ///
-/// It takes one step for each place and each element except `?`, and does several at once. Each
-/// item of a set is a step too.
+/// It takes about one step for each place and each element except `?`, and does several at once.
+/// Each item of a set is a step too, or a few, for each 512 places.
 #[tactic(auto, using(crate::proofs::SeekLemmas::places_more))]
 pub(crate) fn find_place(elements: &[Element], text: &[char]) -> Option<usize>
     requires { length elements.now ≤ length text.now }
