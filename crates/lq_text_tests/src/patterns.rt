@@ -57,11 +57,11 @@ const SETS: [&str; 16] = [
 ];
 
 const TEXTS_OF_SETS: [&str; 16] = [
-    "a", "a", "a", "é", "b", "ab", "aa", "a", "aé", "b", "a", "€", "aa", "a", "😀", "a",
+    "a", "a", "a", "é", "b", "ab", "aa", "a", "aé", "b", "a", "€", "aa", "d", "😀", "a",
 ];
 
 const ASCII_TEXTS: [&str; 16] = [
-    "a", "a", "a", "a", "a", "ab", "aa", "a", "ac", "b", "a", "x", "aa", "a", "x", "ab",
+    "a", "a", "a", "a", "a", "ab", "aa", "a", "ac", "b", "a", "d", "aa", "a", "x", "ab",
 ];
 
 // The next of a row of drawn numbers.

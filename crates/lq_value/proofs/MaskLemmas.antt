@@ -1,17 +1,19 @@
 -- What the bits of masks say of elements and of the ends of elements.
-use Rattle.std.proofs.Common.{◌≡◌, ◌<◌, ◌+◌, ◌-◌, ◌*◌, ◌^◌, ◌%◌, ℕ, zero, suc, List, [], ◌∷◌, ◌++◌, length, take, drop, get_or, Bool, true, false, refl, sym, ap, ◌∙◌, arith, length-drop}
-use Rattle.std.specs.Prelude.{◌&&◌, ◌||◌, ◌==◌, not, min, slice_index}
+use Rattle.std.proofs.Common.{◌≡◌, ◌<◌, ◌≤◌, ◌+◌, ◌-◌, ◌*◌, ◌^◌, ◌%◌, ℕ, zero, suc, List, [], ◌∷◌, ◌++◌, length, take, drop, get_or, Bool, true, false, refl, sym, ap, ◌∙◌, arith, length-drop, inl, inr}
+use Rattle.std.specs.Prelude.{◌&&◌, ◌||◌, ◌==◌, not, min, slice_index, nat_le}
 use Rattle.std.specs.Int.{bit_at, w32}
 use Rattle.std.proofs.lemmas.Nat.{shl_whole}
 use Rattle.std.proofs.lemmas.Nat.Bits.{bit_at_and, bit_at_xor, bit_at-pow_same, bit_at-pow_other, bit_at_set_same, bit_at_set_other, bit_at-lt, bit_at_cat_low, bit_at_cat_high}
 use Rattle.std.proofs.Math.Seq.{take-add}
 use Rattle.std.proofs.lemmas.List.{take_all, get_or-drop}
+use Rattle.std.proofs.lemmas.Bool.{cases_lt}
+use Rattle.std.proofs.lemmas.Bool.Decides.{nat_tests}
 use Rattle.lq_value.specs.declared.element.Item.{Item}
 use Rattle.lq_value.specs.declared.element.Element.{Element}
 use Rattle.lq_value.specs.declared.element.Element.TheVariants.{Star, Any}
 use Rattle.lq_value.specs.Element.{has, set_has, takes}
 use Rattle.lq_value.specs.Seek.{kept, take_front}
-use Rattle.lq_value.specs.Masks.{marked, put_bit, flip_bit, next_ends, takes_at, AreBitsOff, AreEnds, AreFlipped, ArePut, IsBitMarked, IsBitTaken, IsPair}
+use Rattle.lq_value.specs.Masks.{marked, put_bit, flip_bit, next_ends, takes_at, AreBitsOff, AreEnds, AreFlipped, ArePut, IsAlphabet, IsBitMarked, IsBitTaken, IsPair}
 use Rattle.lq_value.proofs.FlagLemmas.{or_false, and_true, and_assoc}
 
 -- ---- one bit
@@ -253,3 +255,46 @@ ends_all es cs ends last i k all is are =
     ∙ ap (λ l. take_front l (drop k cs)) whole)
 
 -- ---- other characters
+
+-- ---- ranges
+
+-- a number within a range, and below it
+within_test : (first last y : ℕ) → first ≤ y → y ≤ last → (nat_le first y && nat_le y last) ≡ true
+within_test first last y h g = grind (arith, nat_tests)
+
+below_test : (first last y : ℕ) → y < first → (nat_le first y && nat_le y last) ≡ false
+below_test first last y h = grind (arith, nat_tests)
+
+-- a number that isn't below a range
+above_test : (first last y : ℕ) → first ≤ y
+    → nat_le y last ≡ (nat_le first y && nat_le y last)
+above_test first last y h = grind (arith, nat_tests)
+
+-- the bits of a range from an ASCII character to another one
+pub crossing_put : (first last j : ℕ) (cs old now new : List ℕ) → first < 128 → 128 ≤ last
+    → IsAlphabet cs
+    → ((x : ℕ) → first ≤ x → x < 128
+    → slice_index now x ≡ put_bit true j (slice_index old x))
+    → ((x : ℕ) → x < first → slice_index now x ≡ slice_index old x)
+    → ((x : ℕ) → 128 ≤ x → slice_index now x ≡ slice_index old x)
+    → ((x : ℕ) → 128 ≤ x → x < length cs
+    → slice_index new x ≡ put_bit (nat_le (slice_index cs x) last) j (slice_index now x))
+    → ((x : ℕ) → x < 128 → slice_index new x ≡ slice_index now x)
+    → ArePut (λ d. nat_le first d && nat_le d last) j cs old new
+crossing_put first last j cs old now new h g are inside below above high low = λ x lt.
+    let c = slice_index cs x in
+    let mask = slice_index old x in
+    elim (cases_lt x 128) [
+      | inl near ↦
+          let same = ap (λ y. nat_le first y && nat_le y last) (are.ascii x near) in
+          elim (cases_lt x first) [
+            | inl out ↦ low x near ∙ (below x out
+                ∙ ap (λ b. put_bit b j mask) (sym (same ∙ below_test first last x out)))
+            | inr from ↦ low x near ∙ (inside x from near
+                ∙ ap (λ b. put_bit b j mask)
+                (sym (same ∙ within_test first last x from (omega arith))))
+          ]
+      | inr far ↦ high x far lt ∙ (ap (put_bit (nat_le c last) j) (above x far)
+          ∙ ap (λ b. put_bit b j mask)
+          (above_test first last c (omega (arith, are.apart x far lt))))
+    ]

@@ -140,7 +140,7 @@ fn put_range(masks: &mut [u32], j: usize, first: char, last: char, chars: &[char
     if (last as usize) < ASCII {
         put_codes(masks, j, first as usize, last as usize + 1);
     } else if (first as usize) < ASCII {
-        put_within(masks, j, first, last, chars);
+        put_crossing(masks, j, first, last, chars);
     } else {
         put_high_range(masks, j, first, last, chars);
     }
@@ -159,13 +159,29 @@ fn put_codes(masks: &mut [u32], j: usize, from: usize, to: usize)
     }
 }
 
-fn put_within(masks: &mut [u32], j: usize, first: char, last: char, chars: &[char])
+// The same for a range from an ASCII character to another one.
+fn put_crossing(masks: &mut [u32], j: usize, first: char, last: char, chars: &[char])
     requires bit { j < 32 }
+    requires alphabet { IsAlphabet chars.now }
     requires same { length masks.old ≡ length chars.now }
+    requires low { first < 128 }
+    requires high { 128 ≤ last }
     ensures { ArePut (λ d. nat_le first d && nat_le d last) j chars.now masks.old masks.new }
 {
-    for i in 0..masks.len() {
-        masks[i] = put_bit(is_within(first, last, chars[i]), j, masks[i]);
+    put_codes(masks, j, first as usize, ASCII);
+    put_up_to(masks, j, last, chars);
+}
+
+// Puts the bit for the characters up to this one that are not ASCII.
+fn put_up_to(masks: &mut [u32], j: usize, last: char, chars: &[char])
+    requires bit { j < 32 }
+    requires same { length masks.old ≡ length chars.now }
+    ensures high { (x : ℕ) → 128 ≤ x → x < length chars.now → slice_index masks.new x
+        ≡ put_bit (nat_le (slice_index chars.now x) last) j (slice_index masks.old x) }
+    ensures low { (x : ℕ) → x < 128 → slice_index masks.new x ≡ slice_index masks.old x }
+{
+    for i in ASCII..masks.len() {
+        masks[i] = put_bit(chars[i] <= last, j, masks[i]);
     }
 }
 
