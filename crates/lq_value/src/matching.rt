@@ -29,6 +29,8 @@ pub(crate) enum Taken<'a> {
 /// Whether the elements fit the whole text. It takes no memory.
 ///
 /// It backtracks to the latest star only, since that star can take whatever an earlier one could.
+/// It is no part of its caller, whose stack need not have room for a long text then.
+#[inline(never)]
 pub(crate) fn fits_text(left: Left<'_>) -> bool
     ensures { result ≡ fits left.entry.elements.now (chars left.entry.text.now) }
 {
