@@ -76,19 +76,20 @@ impl Slot {
         })
     }
 
-    /// Makes the messages of a change, if the subscription is live.
+    /// Makes the messages of a change, if the subscription is live; answers whether there are any.
     #[inline(always)]
-    pub fn ready(&mut self, planned: &Planned<'_>) -> Result<(), Refusal>
+    pub fn ready(&mut self, planned: &Planned<'_>) -> Result<bool, Refusal>
         requires few { self.old.sub.held.sent < 2 ^ 63 }
         ensures refused { IsRefusedBy result None }
+        ensures any { IfOk result (λ any. any ≡ has_ready self.new) }
         ensures ok { OnOk result
             (self.new ≡ prepared_slot planned.now.before planned.now.change self.old) }
         ensures err { OnErr result (slot_of self.new ≡ slot_of self.old) }
     {
-        if self.sub.is_live() {
-            self.sub.ready_planned(planned)?;
+        if !self.sub.is_live() {
+            return Ok(false);
         }
-        Ok(())
+        self.sub.ready_planned(planned)
     }
 
     /// Commits the messages that were made, if the subscription is live.
@@ -99,13 +100,6 @@ impl Slot {
         if self.sub.is_live() {
             self.sub.commit();
         }
-    }
-
-    /// Whether the subscription is live and has messages of a change that aren't committed yet.
-    pub fn has_ready(&self) -> bool
-        ensures { result ≡ has_ready self.now }
-    {
-        self.sub.is_live() && self.sub.has_ready()
     }
 
     /// Moves the next parcel into the port if there is room; answers whether one moved.
@@ -314,8 +308,7 @@ pub fn ready_at(slot: &mut Option<Slot>, planned: &Planned<'_>) -> Result<bool, 
     let Some(there) = slot else {
         return Ok(false);
     };
-    there.ready(planned)?;
-    Ok(there.has_ready())
+    there.ready(planned)
 }
 
 /// Commits a slot's messages, if the flag says that there may be some.

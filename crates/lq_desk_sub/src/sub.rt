@@ -148,18 +148,21 @@ impl Sub {
         ensures err { OnErr result (self.new ≡ self.old) }
     {
         let planned = volume.plan(change)?;
-        self.ready_planned(&planned)
+        let _ = self.ready_planned(&planned)?;
+        Ok(())
     }
 
-    /// Makes the messages of a planned change, as `ready` does for the plan's volume and change.
+    /// Makes the messages of a planned change, as `ready` does for the plan's volume and change;
+    /// answers whether there are any.
     ///
     /// It skips a change that alters only values that the predicate doesn't look at. Refused:
     /// `NoMemory`; then nothing changes, and the messages made ready before stay too.
     #[inline(always)]
-    pub fn ready_planned(&mut self, planned: &Planned<'_>) -> Result<(), Refusal>
+    pub fn ready_planned(&mut self, planned: &Planned<'_>) -> Result<bool, Refusal>
         requires few { self.old.held.sent < 2 ^ 63 }
         requires live { IsTrue (is_live self.old.held) }
         ensures refused { IsRefusedBy result None }
+        ensures any { IfOk result (λ any. any ≡ nat_lt 0 (length self.new.ready)) }
         ensures ok { OnOk result
             (self.new ≡ prepared planned.now.before planned.now.change self.old) }
         ensures err { OnErr result (self.new ≡ self.old) }
@@ -168,7 +171,7 @@ impl Sub {
         match self.query.asked(planned) {
             None => {
                 self.messages.forget_ready(before);
-                Ok(())
+                Ok(false)
             }
             Some((matched_before, matches_after)) => {
                 self.make_ready(planned, matched_before, matches_after)
@@ -177,15 +180,15 @@ impl Sub {
     }
 
     // Makes the messages of a change that may have some, by whether the query matches the entry of
-    // its own node before the change, and after it. This is a separate function because most
-    // changes have no message for most queries.
+    // its own node before the change, and after it; answers whether there are any. This is a
+    // separate function because most changes have no message for most queries.
     #[inline(never)]
     fn make_ready(
         &mut self,
         planned: &Planned<'_>,
         matched_before: bool,
         matches_after: bool,
-    ) -> Result<(), Refusal>
+    ) -> Result<bool, Refusal>
         requires few { self.old.held.sent < 2 ^ 63 }
         requires asked_before { matched_before ≡ is_match self.old.held.query
             (record_at planned.now.before (node_of planned.now.before planned.now.change)) }
@@ -193,6 +196,7 @@ impl Sub {
             (record_at (after planned.now.before planned.now.change)
             (node_of planned.now.before planned.now.change)) }
         ensures refused { IsRefusedBy result None }
+        ensures any { IfOk result (λ any. any ≡ nat_lt 0 (length self.new.ready)) }
         ensures ok { OnOk result
             (self.new ≡ prepared planned.now.before planned.now.change self.old) }
         ensures err { OnErr result (self.new ≡ self.old) }
@@ -205,7 +209,8 @@ impl Sub {
         };
         let first = self.sent + 1;
         self.messages
-            .make_ready(self.alloc, &matches, first, self.moved)
+            .make_ready(self.alloc, &matches, first, self.moved)?;
+        Ok(self.messages.ready() > 0)
     }
 
     /// Holds the messages made ready for a change. If they are more than the backlog has room for,

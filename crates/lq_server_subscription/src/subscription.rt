@@ -56,7 +56,8 @@ pub fn ready(slot: &mut Subscription, planned: &Planned<'_>) -> Result<(), Refus
     if !slot.sub.is_live() {
         return Ok(());
     }
-    slot.sub.ready_planned(planned)
+    let _ = slot.sub.ready_planned(planned)?;
+    Ok(())
 }
 
 /// Holds the messages that `ready` prepared for this change, or ends with an overrun where they are
