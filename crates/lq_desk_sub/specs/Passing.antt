@@ -1,6 +1,8 @@
 -- The changes that a subscription may skip, since they have no message for it.
-use Rattle.std.specs.Prelude.{ℕ, List, [], ◌∷◌, Bool, false, codes, not, Option, Some, None}
+use Rattle.std.specs.Prelude.{◌≡◌, ℕ, ◌-◌, ◌%◌, List, [], ◌∷◌, Bool, true, false, codes, length, not, Option, Some, None, slice_get}
+use Rattle.std.specs.Int.{bit_at}
 use Rattle.std.specs.List.{list_any}
+use Rattle.std.specs.Option.{option_map_or}
 use Rattle.std.specs.Str.{bytes_eq}
 use Rattle.lq_volume.specs.declared.change.Change.{Change}
 use Rattle.lq_update.specs.Laws.{names_altered}
@@ -21,3 +23,12 @@ are_written names = list_any (is_among names) (codes "size" ∷ codes "last_modi
 -- whether the change alters only values, and none under these names
 abbrev pub passes_over : List (List ℕ) → Change → Bool
 passes_over names c = are_apart names (names_altered c)
+
+-- the lowest six bits of a name's last byte
+abbrev pub ending_of : List ℕ → ℕ
+ending_of name = option_map_or (λ byte. byte % 64) (slice_get name (length name - 1)) 0
+
+-- the word has a bit for the ending of each of these names
+abbrev pub HasEndings : List (List ℕ) → ℕ → Type 0
+HasEndings names word = (name : List ℕ) → is_among names name ≡ true
+    → bit_at word (ending_of name) ≡ 1

@@ -1,12 +1,13 @@
 //! The query of a subscription, and what is found of it once.
-ghost use Rattle.std.specs.Prelude.{◌≡◌, ℕ, Bool, true, [], IfNone, IfOk, IfSome, None};
+ghost use Rattle.std.specs.Prelude.{◌≡◌, ◌<◌, ◌==◌, ℕ, Bool, true, [], IfNone, IfOk, IfSome, None};
+ghost use Rattle.std.specs.Int.{bit_at};
 ghost use Rattle.lq_value.specs.Refusal.{IsRefusedBy};
 ghost use Rattle.lq_predicate.specs.Names.{names_of};
 ghost use Rattle.lq_volume.specs.State.{record_at};
 ghost use Rattle.lq_volume.specs.Change.{after, node_of};
 ghost use Rattle.lq_update.specs.Touched.{is_match};
 ghost use Rattle.lq_update.specs.Updates.{step_of};
-ghost use Rattle.lq_desk_sub.specs.Passing.{are_written, is_among, passes_over};
+ghost use Rattle.lq_desk_sub.specs.Passing.{HasEndings, are_written, ending_of, is_among, passes_over};
 
 use lq_predicate::{Predicate, Spans, names, truth_goes_by_names};
 use lq_update::{changes_pass_over, matches_of, writes_beside};
@@ -21,6 +22,8 @@ use std::marker::Model;
 pub struct LiveQuery {
     predicate: Predicate,
     names: Vec<AttrName>,
+    // A word with a bit for the ending of each name: a name whose bit is clear is none of them.
+    endings: u64,
     // Whether a write alters what one of the query's names shows.
     sees_writes: bool,
     // The spans of the numbers that the query compares sizes and times with.
@@ -33,7 +36,7 @@ impl Model for LiveQuery {
     ghost use Rattle.lq_predicate.specs.Names.{names_of};
     ghost use Rattle.lq_predicate.specs.Span.{spans_of};
     ghost use Rattle.lq_predicate.specs.QueryCode.{coded_query};
-    ghost use Rattle.lq_desk_sub.specs.Passing.{are_written};
+    ghost use Rattle.lq_desk_sub.specs.Passing.{HasEndings, are_written};
 
     ghost Value = { Query };
 
@@ -42,6 +45,7 @@ impl Model for LiveQuery {
     ghost view = { λ q. q.predicate };
 
     ghost invariant = { λ q. (q.names.items ≡ names_of q.predicate)
+        × HasEndings (names_of q.predicate) q.endings
         × (q.sees_writes ≡ are_written (names_of q.predicate))
         × (q.spans ≡ spans_of q.predicate) };
 }
@@ -53,10 +57,12 @@ impl LiveQuery {
         ensures value { IfOk result (λ query. query ≡ predicate.now) }
     {
         let names = names(alloc, predicate)?;
+        let endings = endings_of(&names);
         let sees_writes = are_written(&names);
         Ok(LiveQuery {
             predicate: predicate.copy()?,
             names,
+            endings,
             sees_writes,
             spans: Spans::new(predicate),
         })
@@ -116,10 +122,62 @@ impl LiveQuery {
             Change::Create { .. } | Change::Remove { .. } | Change::Move { .. } => false,
             Change::Write { .. } => !self.sees_writes,
             Change::SetAttr { attr, .. } | Change::RemoveAttr { attr, .. } => {
-                !is_among(&self.names, attr.as_str())
+                !self.sees(attr.as_str())
             }
         }
     }
+
+    // Whether a name is one of the query's. Most that aren't have another ending.
+    #[inline(always)]
+    fn sees(&self, name: &str) -> bool
+        ensures { result ≡ is_among (names_of self.now) name.now }
+    {
+        if !has_bit(self.endings, ending_of(name)) {
+            return false;
+        }
+        is_among(&self.names, name)
+    }
+}
+
+// A word with a bit for the ending of each of these names.
+fn endings_of(names: &[AttrName]) -> u64
+    ensures { HasEndings names.now result }
+{
+    let mut endings = 0;
+    for name in names {
+        endings = with_bit(endings, ending_of(name.as_str()));
+    }
+    endings
+}
+
+// The lowest six bits of a name's last byte.
+#[inline(always)]
+fn ending_of(name: &str) -> usize
+    ensures value { result ≡ ending_of name.now }
+    ensures few { result < 64 }
+{
+    match name.as_bytes().last() {
+        None => 0,
+        Some(byte) => (*byte % 64) as usize,
+    }
+}
+
+// Whether the bit with this index is set.
+#[inline(always)]
+fn has_bit(word: u64, place: usize) -> bool
+    requires { place < 64 }
+    ensures { result ≡ (bit_at word place == 1) }
+{
+    (word >> place) & 1 == 1
+}
+
+// A word with the bit of an index also set.
+fn with_bit(word: u64, place: usize) -> u64
+    requires { place < 64 }
+    ensures here { bit_at result place ≡ 1 }
+    ensures others { (i : ℕ) → bit_at word i ≡ 1 → bit_at result i ≡ 1 }
+{
+    word | 1 << place
 }
 
 // Whether a write alters what an entry shows under one of these names.

@@ -18,6 +18,6 @@ returns-then-looks_elsewhere c moved seq is =
 
 pub returns-else-looks_elsewhere : goal.returns-else-looks_elsewhere
 returns-else-looks_elsewhere c moved seq is =
-    let spans : c.self.inside.spans ≡ spans_of c.args.self.now = c.self.invariant.2
+    let spans : c.self.inside.spans ≡ spans_of c.args.self.now = c.self.invariant.3
     ∙ ap spans_of c.self.view_is in
     c.writes_beside.ensures c.args.self.now moved seq is spans
