@@ -1,5 +1,5 @@
 -- Words with a bit for each slot: a slot whose bit is clear has no work to do.
-use Rattle.std.specs.Prelude.{◌≡◌, ℕ, List, Bool, true, Option, Some, slice_get}
+use Rattle.std.specs.Prelude.{◌≡◌, ◌≢◌, ℕ, List, Bool, true, Option, Some, slice_get}
 use Rattle.std.specs.Int.{bit_at}
 use Rattle.lq_desk.specs.Slot.{KeptSlot, can_move, is_ending}
 
@@ -17,3 +17,8 @@ pub record AreMarked (ending movable : ℕ) (ks : List (Option KeptSlot)) : Type
 pub record SetsBit (old : ℕ) (place : ℕ) (is_set : Bool) (new : ℕ) : Type 0 where
   pub here : is_set ≡ true → bit_at new place ≡ 1
   pub others : (i : ℕ) → bit_at old i ≡ 1 → bit_at new i ≡ 1
+
+-- the bit at an index is clear, and all others stay
+pub record ClearsBit (old : ℕ) (place : ℕ) (new : ℕ) : Type 0 where
+  pub here : bit_at new place ≡ 0
+  pub others : (i : ℕ) → i ≢ place → bit_at new i ≡ bit_at old i

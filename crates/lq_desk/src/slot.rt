@@ -311,15 +311,11 @@ pub fn ready_at(slot: &mut Option<Slot>, planned: &Planned<'_>) -> Result<bool, 
     there.ready(planned)
 }
 
-/// Commits a slot's messages, if the flag says that there may be some.
-pub fn commit_at(slot: &mut Option<Slot>, may_tell: bool)
-    requires few { IsFew (2 ^ 63 - 1) (option_map slot_of slot.old) }
-    requires tells { passes has_ready slot.old ≡ true → may_tell ≡ true }
+/// Commits a slot's messages.
+pub fn commit_at(slot: &mut Option<Slot>)
+    requires { IsFew (2 ^ 63 - 1) (option_map slot_of slot.old) }
     ensures { slot.new ≡ option_map committed_slot slot.old }
 {
-    if !may_tell {
-        return;
-    }
     if let Some(there) = slot {
         there.commit();
     }

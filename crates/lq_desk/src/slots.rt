@@ -14,7 +14,7 @@ use crate::reply::Reply;
 use crate::slot::{
     Slot, act_at, can_move_at, commit_at, fill_at, is_ending_at, notice_at, ready_at,
 };
-use crate::word::{has_bit, with_bit};
+use crate::word::{has_bit, lowest_bit, with_bit, without_bit};
 use lq_desk_world::Act;
 use lq_value::Refusal;
 use lq_volume::Planned;
@@ -243,11 +243,30 @@ fn commit_all(slots: &mut Vec<Option<Slot>>, told: u64)
     ensures len { vec_len slots.new ≡ vec_len slots.old }
     ensures room { vec_capacity slots.new ≡ vec_capacity slots.old }
 {
-    let mut index = 0;
-    for slot in slots.iter_mut() {
-        commit_at(slot, has_bit(told, index));
-        index += 1;
+    let mut rest = told;
+    for _ in 0..SLOTS {
+        if rest == 0 {
+            return;
+        }
+        let place = lowest_bit(rest);
+        commit_stored(slots, place);
+        rest = without_bit(rest, place);
     }
+}
+
+// Commits the messages of the slot at an index, if it is stored.
+fn commit_stored(slots: &mut Vec<Option<Slot>>, place: usize)
+    requires { IsFew (2 ^ 63 - 1)
+        (option_map slot_of (option_flatten (slice_get slots.old.items place))) }
+    ensures items { slots.new.items ≡ slice_set slots.old.items place
+        (option_map committed_slot (option_flatten (slice_get slots.old.items place))) }
+    ensures len { vec_len slots.new ≡ vec_len slots.old }
+    ensures room { vec_capacity slots.new ≡ vec_capacity slots.old }
+{
+    if place >= slots.len() {
+        return;
+    }
+    commit_at(&mut slots[place]);
 }
 
 // Ends each live subscription whose end was asked for; the word has a bit for each of them.
@@ -276,11 +295,28 @@ fn fill_all(slots: &mut Vec<Option<Slot>>, movable: u64)
     ensures len { vec_len slots.new ≡ vec_len slots.old }
     ensures room { vec_capacity slots.new ≡ vec_capacity slots.old }
 {
-    let mut index = 0;
-    for slot in slots.iter_mut() {
-        fill_at(slot, has_bit(movable, index));
-        index += 1;
+    let mut rest = movable;
+    for _ in 0..SLOTS {
+        if rest == 0 {
+            return;
+        }
+        let place = lowest_bit(rest);
+        fill_stored(slots, place);
+        rest = without_bit(rest, place);
     }
+}
+
+// Fills the port of the slot at an index, if it is stored.
+fn fill_stored(slots: &mut Vec<Option<Slot>>, place: usize)
+    ensures items { map (option_map slot_of) slots.new.items ≡
+        done_at filled (map (option_map slot_of) slots.old.items) place }
+    ensures len { vec_len slots.new ≡ vec_len slots.old }
+    ensures room { vec_capacity slots.new ≡ vec_capacity slots.old }
+{
+    if place >= slots.len() {
+        return;
+    }
+    fill_in(slots, place, true);
 }
 
 // Notices the end of the subscription at an index, if the flag says that it may be asked for.

@@ -1,44 +1,56 @@
-use Rattle.std.proofs.Common.{◌≡◌, ◌≢◌, ◌<◌, ◌-◌, ◌^◌, ◌∙◌, ap, refl, rules, arith, length, length-set, get_or-set_other, Option}
-use Rattle.std.specs.Prelude.{◌==◌}
+use Rattle.std.proofs.Common.{◌≡◌, ◌^◌, ◌-◌, ◌∙◌, ap, sym, subst, refl, arith}
+use Rattle.std.specs.Option.{option_flatten}
 use Rattle.std.specs.Int.{bit_at}
-use Rattle.std.proofs.lemmas.List.Edits.{map_over_more}
-use Rattle.std.specs.Option.{option_map}
-use Rattle.lq_desk.specs.Slot.{PreparedSlot, committed_slot, has_ready, passes}
-use Rattle.lq_desk.proofs.LoopLemmas.{undone-at}
-use Rattle.lq_desk.proofs.SlotsLemmas.{few-at}
-use Rattle.lq_desk.proofs.WordLemmas.{marked-at}
+use Rattle.std.proofs.lemmas.Nat.Bits.{bit_at-zero}
+use Rattle.lq_desk.specs.Slot.{committed_slot, has_ready}
+use Rattle.lq_desk.specs.Kept.{IsFew}
+use Rattle.lq_desk.proofs.BitLemmas.{AreDone, clear-more, done-all, done-first, done-more, few-flat, no-bits}
+use Rattle.lq_desk.proofs.SlotsLemmas.{kept_slot, committed-quiet}
 use Rattle.lq_desk.proofs.slots.commit_all.Goals as goal
 
-pub loop-slot-preserved : goal.loop-slot-preserved
-loop-slot-preserved c =
-    let l = c.loop-slot in
-    let here : l.slot-index < length c.args.slots.now.items = omega arith in
+pub loop-init : goal.loop-init
+loop-init c = record {
+  done = done-first committed_slot has_ready c.args.told c.args.slots.now.items committed-quiet
+      c.requires.told;
+  clear = λ i lt. absurd (omega (arith, lt));
+  fits = omega arith;
+  len = refl;
+  room = refl;
+}
+
+pub commit_stored-requires : goal.commit_stored-requires
+commit_stored-requires c =
+    let place = c.lowest_bit-place.result in
+    subst (λ o. IsFew (2 ^ 63 - 1) (kept_slot (option_flatten o)))
+    (sym (c.loop.invariant.done.left place c.lowest_bit-place.ensures.set))
+    (few-flat (2 ^ 63 - 1) c.args.slots.now.items place c.requires.few)
+
+pub loop-preserved : goal.loop-preserved
+loop-preserved c =
+    let l = c.loop in
+    let place = c.lowest_bit-place.result in
     record {
-      done = rw (c.commit_at.ensures, ← c.slot-item.is)
-          (map_over_more (option_map committed_slot) c.args.slots.now.items l.slot-items
-          l.slot-index c.slot-item.result here l.invariant.done c.slot-item.is);
-      few = λ k d le lt. let ne : k ≢ l.slot-index = omega arith in
-          rw get_or-set_other
-          (l.invariant.few k d (omega arith) (omega (arith, length-set {A = Option PreparedSlot})));
-      place = omega (arith, l.invariant.place);
+      done = subst (AreDone committed_slot c.without_bit-rest.result c.args.slots.now.items)
+          (sym c.commit_stored.ensures.items)
+          (done-more committed_slot l.rest c.without_bit-rest.result c.args.slots.now.items
+          l.slots.items place c.lowest_bit-place.ensures.set c.without_bit-rest.ensures
+          l.invariant.done);
+      clear = clear-more l.rest c.without_bit-rest.result place l.counter
+          c.lowest_bit-place.ensures.set c.lowest_bit-place.ensures.lowest
+          c.without_bit-rest.ensures l.invariant.clear;
+      fits = c.without_bit-rest.type_inv;
+      len = c.commit_stored.ensures.len ∙ l.invariant.len;
+      room = c.commit_stored.ensures.room ∙ l.invariant.room;
     }
 
-pub commit_at-requires-clause-tells : goal.commit_at-requires-clause-tells
-commit_at-requires-clause-tells c = λ has.
-    let l = c.loop-slot in
-    let here : l.slot-index < length c.args.slots.now.items = omega arith in
-    let there = undone-at (option_map committed_slot) c.args.slots.now.items l.slot-items
-    l.slot-index c.slot-item.result here l.invariant.done c.slot-item.is in
-    c.has_bit.ensures ∙ (ap (λ i. bit_at c.args.told i == 1) l.invariant.place
-    ∙ marked-at has_ready c.args.told c.args.slots.now.items l.slot-index c.slot-item.result
-    c.requires.told there (ap (passes has_ready) c.slot-item.is ∙ has))
+pub returns-then-rest-eq0-clause-items : goal.returns-then-rest-eq0-clause-items
+returns-then-rest-eq0-clause-items c =
+    done-all committed_slot c.loop.rest c.args.slots.now.items c.loop.slots.items
+    (λ i. ap (λ rest. bit_at rest i) c.if-rest-eq0.true ∙ bit_at-zero i) c.loop.invariant.done
 
-pub loop-slot-init : goal.loop-slot-init
-loop-slot-init c =
-    let e : c.deref_mut-slot-items.result.now ≡ c.args.slots.now.items = search rules in
-    record {
-      done = e;
-      few = λ k d le lt. few-at
-          (2 ^ 63 - 1) c.deref_mut-slot-items.result.now k d lt (rw e c.requires.few);
-      place = refl;
-    }
+pub returns-clause-items : goal.returns-clause-items
+returns-clause-items c =
+    let clear = c.loop.invariant.clear in
+    done-all committed_slot c.loop.rest c.args.slots.now.items c.loop.slots.items
+    (no-bits c.loop.rest c.loop.invariant.fits
+    (λ i lt. clear i (omega (arith, lt, c.loop-test.false)))) c.loop.invariant.done

@@ -1,46 +1,48 @@
-use Rattle.std.proofs.Common.{◌≡◌, ◌<◌, ◌≤◌, ◌∙◌, ap, sym, refl, rules, arith, map, length}
-use Rattle.std.specs.Prelude.{◌==◌}
-use Rattle.std.specs.Option.{option_map}
+use Rattle.std.proofs.Common.{◌≡◌, ◌∙◌, ap, sym, subst, refl, arith, map}
 use Rattle.std.specs.Int.{bit_at}
-use Rattle.lq_desk.specs.Slot.{can_move, filled, passes}
-use Rattle.lq_desk.proofs.LoopLemmas.{kept-end, kept-here, kept-length, kept-step, written-back}
+use Rattle.std.proofs.lemmas.Nat.Bits.{bit_at-zero}
+use Rattle.lq_desk.specs.Slot.{can_move, filled}
+use Rattle.lq_desk.proofs.BitLemmas.{AreDone, clear-more, done-all, done-first, done-more, no-bits}
+use Rattle.lq_desk.proofs.PutLemmas.{filled-quiet}
 use Rattle.lq_desk.proofs.SlotsLemmas.{kept_slot}
-use Rattle.lq_desk.proofs.WordLemmas.{marked-at}
 use Rattle.lq_desk.proofs.slots.fill_all.Goals as goal
 
-pub loop-slot-preserved : goal.loop-slot-preserved
-loop-slot-preserved c =
-    let l = c.loop-slot in
-    let here : l.slot-index < length c.args.slots.now.items = omega arith in
+pub loop-init : goal.loop-init
+loop-init c = record {
+  done = done-first filled can_move c.args.movable (map kept_slot c.args.slots.now.items)
+      filled-quiet c.requires.moves;
+  clear = λ i lt. absurd (omega (arith, lt));
+  fits = omega arith;
+  len = refl;
+  room = refl;
+}
+
+pub loop-preserved : goal.loop-preserved
+loop-preserved c =
+    let l = c.loop in
+    let place = c.lowest_bit-place.result in
+    let xs = map kept_slot c.args.slots.now.items in
     record {
-      done = kept-step filled c.args.slots.now.items l.slot-items l.slot-index c.slot-item.result
-          here l.invariant.done c.slot-item.is c.fill_at.new.slot (c.fill_at.ensures
-          ∙ ap (λ o. option_map filled (kept_slot o)) (sym c.slot-item.is));
-      place = omega (arith, l.invariant.place);
+      done = subst (AreDone filled c.without_bit-rest.result xs) (sym c.fill_stored.ensures.items)
+          (done-more filled l.rest c.without_bit-rest.result xs (map kept_slot l.slots.items) place
+          c.lowest_bit-place.ensures.set c.without_bit-rest.ensures l.invariant.done);
+      clear = clear-more l.rest c.without_bit-rest.result place l.counter
+          c.lowest_bit-place.ensures.set c.lowest_bit-place.ensures.lowest
+          c.without_bit-rest.ensures l.invariant.clear;
+      fits = c.without_bit-rest.type_inv;
+      len = c.fill_stored.ensures.len ∙ l.invariant.len;
+      room = c.fill_stored.ensures.room ∙ l.invariant.room;
     }
 
-pub fill_at-requires : goal.fill_at-requires
-fill_at-requires c = λ test.
-    let l = c.loop-slot in
-    let here : l.slot-index < length c.args.slots.now.items = omega arith in
-    let there = kept-here filled c.args.slots.now.items l.slot-items l.slot-index c.slot-item.result
-    here l.invariant.done c.slot-item.is in
-    c.has_bit.ensures
-    ∙ (ap (λ i. bit_at c.args.movable i == 1) l.invariant.place ∙ marked-at can_move c.args.movable
-    (map kept_slot c.args.slots.now.items) l.slot-index (kept_slot c.slot-item.result)
-    c.requires.moves there (ap (λ o. passes can_move (kept_slot o)) c.slot-item.is ∙ test))
+pub returns-then-rest-eq0-clause-items : goal.returns-then-rest-eq0-clause-items
+returns-then-rest-eq0-clause-items c =
+    done-all filled c.loop.rest (map kept_slot c.args.slots.now.items)
+    (map kept_slot c.loop.slots.items)
+    (λ i. ap (λ rest. bit_at rest i) c.if-rest-eq0.true ∙ bit_at-zero i) c.loop.invariant.done
 
 pub returns-clause-items : goal.returns-clause-items
 returns-clause-items c =
-    let l = c.loop-slot in
-    let end : length c.args.slots.now.items ≤ l.slot-index = omega arith in
-    let long : length l.slot-items ≡ length c.args.slots.now.items =
-    kept-length filled c.args.slots.now.items l.slot-items l.slot-index l.invariant.done in
-    ap (map kept_slot)
-    (written-back c.args.slots.now.len l.slot-items _ (omega (arith, long, c.args.slots.now.ok.0)))
-    ∙ kept-end filled c.args.slots.now.items l.slot-items l.slot-index end l.invariant.done
-
-pub loop-slot-init : goal.loop-slot-init
-loop-slot-init c =
-    let e : c.deref_mut-slot-items.result.now ≡ c.args.slots.now.items = search rules in
-    record { done = ap (map kept_slot) e; place = refl }
+    let clear = c.loop.invariant.clear in
+    done-all filled c.loop.rest (map kept_slot c.args.slots.now.items)
+    (map kept_slot c.loop.slots.items) (no-bits c.loop.rest c.loop.invariant.fits
+    (λ i lt. clear i (omega (arith, lt, c.loop-test.false)))) c.loop.invariant.done
