@@ -111,7 +111,8 @@ impl Messages {
             return self.replace_ready(alloc, matches, first_seq, moved);
         }
         let held = self.queue.len();
-        self.queue.reserve(MAX_STEP + 1)?;
+        // One place more than is needed: so the room is of six places, doubled as it fills up.
+        self.queue.reserve(MAX_STEP + 2)?;
         matches.put_step(alloc, first_seq, moved, &mut self.queue)?;
         self.ready = self.queue.len() - held;
         self.before = matches.planned.applied().change - 1;
@@ -139,7 +140,7 @@ impl Messages {
     {
         let mut step = VecDeque::with_capacity(alloc, MAX_STEP)?;
         matches.put_step(alloc, first_seq, moved, &mut step)?;
-        self.queue.reserve(MAX_STEP + 1)?;
+        self.queue.reserve(MAX_STEP + 2)?;
         let held = self.queue.len() - self.ready;
         self.queue.truncate(held);
         self.ready = step.len();
