@@ -234,13 +234,6 @@ impl Sub {
         self.sent += ready;
     }
 
-    /// Whether messages of a change are made and not committed yet. It takes no memory.
-    pub fn has_ready(&self) -> bool
-        ensures { result ≡ nat_lt 0 (length self.now.ready) }
-    {
-        self.messages.ready() > 0
-    }
-
     /// Whether `next` has a parcel to give. It takes no memory.
     pub fn has_next(&self) -> bool
         ensures { result ≡ is_some (next_parcel self.now.held) }
