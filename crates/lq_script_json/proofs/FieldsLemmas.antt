@@ -1,31 +1,24 @@
--- The fields of a line, and the members that they are found among.
-use Rattle.std.proofs.Common.{◌≡◌, ◌∙◌, ℕ, suc, ◌+◌, ◌<◌, List, [], ◌∷◌, ◌++◌, Bool, true, false, cond, Option, Some, None, option_map, refl, sym, ap, inl, inr, rules, Vec, length, bytes_eq, codes, drop, get_or, add-one, drop-cons, if◌then◌else◌}
-use Rattle.std.specs.Prelude.{◌⊎◌}
-use Rattle.std.specs.Borrow.{Bor}
+-- The places of a line's keys, and the members that they show.
+use Rattle.std.proofs.Common.{◌≡◌, ◌∙◌, ℕ, List, Bool, true, false, Some, option_map, refl, sym, ap, true≢false, bytes_eq, codes, if◌then◌else◌}
 use Rattle.std.proofs.lemmas.Bool.{false_from_ne_true}
 use Rattle.std.proofs.lemmas.Slice.Eq.{bytes_eq-Decides}
-use Rattle.json.specs.Json as json
-use Rattle.json.specs.Find as found
-use Rattle.json.specs.Value.{value_view, items_view, members_view}
-use Rattle.json.specs.declared.value.Value.{Value, Null, Bool as Bool_of, Number, String, Array, the_lemmas}
-use Rattle.json.proofs.Trees.{get_member-push, view-Array}
-use Rattle.serde_json.specs.Find.{get}
-use Rattle.serde_json.specs.Read.{of_json}
-use Rattle.lq_script_json.specs.Data.{data_of, in_range, view}
-use Rattle.lq_script_json.proofs.DataLemmas.{get-data_of, of_json-data_of}
+use Rattle.serde_json.specs.Data.{Data, Members, object, put}
+use Rattle.serde_json.specs.Find.{get_member}
+use Rattle.serde_json.proofs.Views.{get_member-put, get_member-put_other}
 use Rattle.lq_script_json.specs.declared.key.Key.{Key}
 use Rattle.lq_script_json.specs.declared.key.Key.TheVariants as key
-use Rattle.lq_script_json.specs.declared.fields.Field.{Field}
-use Rattle.lq_script_json.specs.declared.fields.Fields.{Fields}
-use Rattle.lq_script_json.specs.Fields.{data_in, field_at, name_of, updated}
+use Rattle.lq_script_json.specs.declared.field.Field.{Field}
+use Rattle.lq_script_json.specs.declared.places.Places.{Places}
+use Rattle.lq_script_json.specs.Shown.{data_in, shown}
+use Rattle.lq_script_json.specs.Fields.{Show, field_at, name_of, updated}
 
 -- another text
 differs : (k name : List ℕ) → (k ≡ name → ⊥) → bytes_eq k name ≡ false
 differs k name not =
     false_from_ne_true (bytes_eq k name) (λ is. not ((bytes_eq-Decides k name).0 is))
 
--- a member with another key than those of lines changes no field
-pub updated-other : (k : List ℕ) (f : Field) (fs : Fields)
+-- a member with another key than those of lines changes no place
+pub updated-other : (k : List ℕ) (f : Field) (fs : Places)
     → (k ≡ codes "do" → ⊥)
     → (k ≡ codes "dir" → ⊥)
     → (k ≡ codes "name" → ⊥)
@@ -63,7 +56,7 @@ updated-other k f fs n0 n1 n2 n3 n4 n5 n6 n7 n8 n9 n10 n11 n12 n13 n14 n15 =
     rw (b0, b1, b2, b3, b4, b5, b6, b7, b8, b9, b10, b11, b12, b13, b14, b15) refl
 
 -- a member counts for its key alone
-placed : (k : List ℕ) (f : Field) (fs : Fields) (at : Key)
+placed : (k : List ℕ) (f : Field) (fs : Places) (at : Key)
     → field_at (updated k f fs) at ≡ (if bytes_eq k (name_of at) then f else field_at fs at)
 placed k f fs key.Do = refl
 placed k f fs key.Dir = refl
@@ -82,62 +75,23 @@ placed k f fs key.Moved = refl
 placed k f fs key.Slot = refl
 placed k f fs key.Clobber = refl
 
--- the data of what was chosen
-chosen : (b : Bool) (f g : Field) (j : json.Json) (o : Option json.Json)
-    → data_in f ≡ Some (data_of j) → data_in g ≡ option_map data_of o
-    → data_in (if b then f else g) ≡ option_map data_of (cond b (Some j) o)
-chosen true f g j o is was = is
-chosen false f g j o is was = was
+-- what was chosen shows what is found
+chosen : (k name : List ℕ) (b : Bool) (f g : Field) (d : Data) (ms : Members)
+    → bytes_eq k name ≡ b → data_in f ≡ Some (shown d)
+    → data_in g ≡ option_map shown (get_member name ms)
+    → data_in (if b then f else g) ≡ option_map shown (get_member name (put k d ms))
+chosen k name true f g d ms same is was =
+    let equal : k ≡ name = (bytes_eq-Decides k name).0 same in
+    is ∙ sym (ap (option_map shown) (ap (λ n. get_member n (put k d ms)) (sym equal)
+    ∙ get_member-put k d ms))
+chosen k name false f g d ms other is was =
+    was ∙ sym (ap (option_map shown) (get_member-put_other name k d ms
+    (λ same. true≢false (sym ((bytes_eq-Decides k name).1 (sym same)) ∙ other))))
 
--- the fields are the last members, one member more
-pub among-push : {A : Type 0} (ms : List (Bor (List ℕ) × Value A)) (m : Bor (List ℕ) × Value A)
-    (f : Field) (fs : Fields) (at : Key) → data_in f ≡ Some (view m.1)
-    → data_in (field_at fs at)
-    ≡ option_map data_of (found.get_member (name_of at) (members_view ms))
-    → data_in (field_at (updated m.0.now f fs) at)
-    ≡ option_map data_of (found.get_member (name_of at) (members_view (ms ++ m ∷ [])))
-among-push ms m f fs at is was =
-    ap data_in (placed m.0.now f fs at)
-    ∙ chosen (bytes_eq m.0.now (name_of at)) f (field_at fs at) (value_view m.1)
-    (found.get_member (name_of at) (members_view ms)) is was
-    ∙ sym (ap (option_map data_of) (get_member-push (name_of at) ms m))
-
--- the member at an index, and those after it
-pub left-cons : {A : Type 0} (xs : List A) (i : ℕ) (m : A) → i < length xs → m ≡ get_or xs i m
-    → drop i xs ≡ m ∷ drop (i + 1) xs
-left-cons xs i m h is =
-    rw add-one (drop-cons xs i m h ∙ ap (λ y. y ∷ drop (suc i) xs) (sym is))
-
--- serde_json reads the data where the range is right
-pub read-by : (j : json.Json) (b : Bool) → b ≡ in_range j
-    → of_json j ≡ (if b then Some (data_of j) else None)
-read-by j b is = of_json-data_of j ∙ ap (λ r. cond r (Some (data_of j)) None) (sym is)
-
--- a value that has no member with this key
-none-of : {A : Type 0} (v : Value A) (k : List ℕ) (j : json.Json) → value_view v ≡ j
-    → found.get k j ≡ None → None ≡ get k (view v)
-none-of v k j is none =
-    sym (get-data_of k (value_view v) ∙ ap (λ i. option_map data_of (found.get k i)) is
-    ∙ ap (option_map data_of) none)
-
--- what is no object has no member
-pub none-other : {A : Type 0} (v : Value A) (k : List ℕ)
-    → (v ≡ Null) ⊎ (((b : Bool) × (v ≡ Bool_of b)) ⊎ (((s : Bor (List ℕ)) × (v ≡ Number s))
-    ⊎ (((s : Bor (List ℕ)) × (v ≡ String s)) ⊎ ((xs : Vec (Value A) A) × (v ≡ Array xs)))))
-    → None ≡ get k (view v)
-none-other {A} v k (inl e) =
-    let seen : value_view {A = A} Null ≡ json.null = search (rules, the_lemmas) in
-    none-of v k json.null (ap value_view e ∙ seen) refl
-none-other {A} v k (inr (inl (b, e))) =
-    let seen : value_view {A = A} (Bool_of b) ≡ json.boolean b = search (rules, the_lemmas) in
-    none-of v k (json.boolean b) (ap value_view e ∙ seen) refl
-none-other {A} v k (inr (inr (inl (s, e)))) =
-    let seen : value_view {A = A} (Number s) ≡ json.number s.now = search (rules, the_lemmas) in
-    none-of v k (json.number s.now) (ap value_view e ∙ seen) refl
-none-other {A} v k (inr (inr (inr (inl (s, e))))) =
-    let seen : value_view {A = A} (String s) ≡ json.string s.now = search (rules, the_lemmas) in
-    none-of v k (json.string s.now) (ap value_view e ∙ seen) refl
-none-other {A} v k (inr (inr (inr (inr (xs, e))))) =
-    let seen : value_view {A = A} (Array xs) ≡ json.array (items_view xs.items) =
-    view-Array xs in
-    none-of v k (json.array (items_view xs.items)) (ap value_view e ∙ seen) refl
+-- the places show the last members, one member more
+pub Show-put : (k : List ℕ) (f : Field) (places : Places) (d : Data) (ms : Members)
+    → data_in f ≡ Some (shown d) → Show places (object ms)
+    → Show (updated k f places) (object (put k d ms))
+Show-put k f places d ms is were = λ at.
+    ap data_in (placed k f places at)
+    ∙ chosen k (name_of at) (bytes_eq k (name_of at)) f (field_at places at) d ms refl is (were at)

@@ -1,3 +1,4 @@
-pub mod DataLemmas
 pub mod FieldsLemmas
 pub mod NumberLemmas
+pub mod ReadingLemmas
+pub mod WalkLemmas

@@ -1,2 +1,2 @@
-pub mod Data
+pub mod Shown
 pub mod Fields

@@ -1,237 +1,76 @@
-//! The fields of a line, found in one walk over the members of its object.
-ghost use Rattle.std.specs.Prelude.{◌≡◌, Some, None, IfSome, IsTrue, is_some, length, option_and_then, option_map, if◌then◌else◌};
-ghost use Rattle.json.specs.Json.{number as number_json};
-ghost use Rattle.json.specs.Value.{members_view, value_view};
+//! The fields of a line, found while its JSON is read.
+ghost use Rattle.std.specs.Prelude.{◌≡◌, ◌⊎◌, IfErr, IfOk, None, Some, is_some, not, option_and_then, option_map};
+ghost use Rattle.lq_value.specs.declared.refusal.Refusal.TheVariants.{NoMemory, NotJson};
+ghost use Rattle.json.specs.Json.{value};
 ghost use Rattle.serde_json.specs.Data.{unsigned};
 ghost use Rattle.serde_json.specs.Find.{as_bool, as_i64, as_number, as_str, as_u64, get};
-ghost use Rattle.serde_json.specs.Read.{of_json};
-ghost use Rattle.lq_script_json.specs.Data.{in_range, members_in_range, view};
-ghost use Rattle.lq_script_json.specs.Fields.{AreAbsent, AreAmong, AreFound, data_in, field_at, json_of, known, name_of, updated, whole};
+ghost use Rattle.serde_json.specs.Read.{converted, of_json, read as read_text};
+ghost use Rattle.lq_script_json.specs.Fields.{AreAbsent, AreFound, Holds, name_of, whole};
+ghost use Rattle.lq_script_json.specs.Shown.{data_in};
 
+use crate::field::{Field, field_from};
 use crate::key::Key;
-use crate::number::{digits_in, number_in};
-use crate::reading::is_in_range;
-use json::Value;
+use crate::places::Places;
+use json::{Invalid, Reader, Scratch, Token};
+use lq_value::Refusal;
 
-/// The field of a key.
-#[derive(Clone, Copy)]
-pub enum Field<'v, 'a> {
-    /// No member has the key.
-    Absent,
-    /// A whole number, written by 1 to 18 digits and nothing else.
-    Whole(u64),
-    /// Any other value.
-    Given(&'v Value<'a>),
-}
+/// How deep arrays and objects may nest.
+const MAX_DEPTH: usize = 127;
 
-/// The fields of a JSON value: for each key of a line the last member with that key.
+/// The fields of a JSON text: for each key of a line the last member with that key.
 #[derive(Drop)]
-pub struct Fields<'v, 'a> {
-    value: &'v Value<'a>,
-    act: Field<'v, 'a>,
-    dir: Field<'v, 'a>,
-    name: Field<'v, 'a>,
-    kind: Field<'v, 'a>,
-    size: Field<'v, 'a>,
-    time: Field<'v, 'a>,
-    node: Field<'v, 'a>,
-    attr: Field<'v, 'a>,
-    value_type: Field<'v, 'a>,
-    given: Field<'v, 'a>,
-    query: Field<'v, 'a>,
-    port: Field<'v, 'a>,
-    backlog: Field<'v, 'a>,
-    moved: Field<'v, 'a>,
-    slot: Field<'v, 'a>,
-    clobber: Field<'v, 'a>,
+pub struct Fields<'a> {
+    text: &'a str,
+    places: Places<'a>,
 }
 
-impl<'v, 'a> Fields<'v, 'a> {
-    /// The fields of a value before any is found.
+impl<'a> Fields<'a> {
+    /// The fields before any is found.
     #[inline(always)]
-    pub fn new(value: &'v Value<'a>) -> Fields<'v, 'a>
-        ensures value { json_of result ≡ value_view value.now }
-        ensures absent { AreAbsent result }
+    pub fn new() -> Fields<'a>
+        ensures { AreAbsent result.places }
     {
-        let absent: Field<'v, 'a> = Field::Absent;
         Fields {
-            value,
-            act: absent,
-            dir: absent,
-            name: absent,
-            kind: absent,
-            size: absent,
-            time: absent,
-            node: absent,
-            attr: absent,
-            value_type: absent,
-            given: absent,
-            query: absent,
-            port: absent,
-            backlog: absent,
-            moved: absent,
-            slot: absent,
-            clobber: absent,
+            text: "",
+            places: Places::new(),
         }
     }
 
-    /// Finds the fields, in one walk over the members; of equal keys the last one counts, and a
-    /// value that is no object has no fields.
+    /// Finds the fields of a text while it is read, token by token. Of equal keys the last one
+    /// counts, and a value that is no object has no fields.
     ///
-    /// `false` where a number at any depth rounds to an infinite double. The fields are then those
-    /// of some of the members. It takes no memory.
-    pub fn find(&mut self) -> bool
-        requires { AreAbsent self.old }
-        ensures whole { whole self.new ≡ whole self.old }
-        ensures read { of_json (json_of self.old)
-            ≡ (if result then Some (whole self.old) else None) }
-        ensures found { IsTrue result → AreFound self.new }
+    /// They borrow the text, and also the scratch where a string has escapes. A reused scratch
+    /// allocates nothing more once it has read the longest text. Refused: `NoMemory`, else
+    /// `NotJson`, also where arrays and objects nest deeper than 127, or where a number rounds to
+    /// an infinite double.
+    #[inline(never)]
+    pub fn read(&mut self, scratch: &'a mut Scratch, text: &'a str) -> Result<(), Refusal>
+        requires { AreAbsent self.old.places }
+        ensures value { IfOk result (λ _. read_text text.now ≡ Some (whole self.new)) }
+        ensures found { IfOk result (λ _. AreFound self.new) }
+        ensures refused { IfErr result (λ e. (e ≡ NoMemory)
+            ⊎ ((e ≡ NotJson) × (read_text text.now ≡ None))) }
     {
-        match self.value {
-            Value::Object(members) => self.find_among(members.as_slice()),
-            Value::Null | Value::Bool(_) | Value::Number(_) | Value::String(_) | Value::Array(_) =>
-                is_in_range(self.value),
+        let Ok(mut reader) = Reader::new(text, scratch) else {
+            return Err(Refusal::NoMemory);
+        };
+        if read_value(&mut self.places, &mut reader).is_err() {
+            return Err(Refusal::NotJson);
         }
+        if reader.next().is_some() {
+            return Err(Refusal::NotJson);
+        }
+        self.text = text;
+        Ok(())
     }
 
-    // The fields among the members of the value.
-    fn find_among(&mut self, members: &'v [(&'a str, Value<'a>)]) -> bool
-        requires { AreAbsent self.old }
-        ensures value { self.new.value ≡ self.old.value }
-        ensures range { result ≡ members_in_range (members_view members.now) }
-        ensures found { IsTrue result → AreAmong self.new (members_view members.now) }
-    {
-        for member in members {
-            let Some(found) = field_of(&member.1) else {
-                return false;
-            };
-            self.put(member.0, found);
-        }
-        true
-    }
-
-    // Puts a value in the place of its key, if the key is one of a line's.
+    /// Whether there is a field of a key, once fields are found.
     #[inline(always)]
-    fn put(&mut self, key: &str, found: Field<'v, 'a>)
-        ensures { self.new ≡ updated key.now found.entry self.old }
-    {
-        match key.len() {
-            2 => self.put_2(key, found),
-            3 => self.put_3(key, found),
-            4 => self.put_4(key, found),
-            5 => self.put_5(key, found),
-            7 => self.put_7(key, found),
-            _ => {}
-        }
-    }
-
-    // The same for a key of 2 bytes.
-    #[inline(always)]
-    fn put_2(&mut self, key: &str, found: Field<'v, 'a>)
-        requires { length key.now ≡ 2 }
-        ensures { self.new ≡ updated key.now found.entry self.old }
-    {
-        match key {
-            "do" => self.act = found,
-            _ => {}
-        }
-    }
-
-    // The same for a key of 3 bytes.
-    #[inline(always)]
-    fn put_3(&mut self, key: &str, found: Field<'v, 'a>)
-        requires { length key.now ≡ 3 }
-        ensures { self.new ≡ updated key.now found.entry self.old }
-    {
-        match key {
-            "dir" => self.dir = found,
-            _ => {}
-        }
-    }
-
-    // The same for a key of 4 bytes.
-    #[inline(always)]
-    fn put_4(&mut self, key: &str, found: Field<'v, 'a>)
-        requires { length key.now ≡ 4 }
-        ensures { self.new ≡ updated key.now found.entry self.old }
-    {
-        match key {
-            "name" => self.name = found,
-            "size" => self.size = found,
-            "time" => self.time = found,
-            "node" => self.node = found,
-            "attr" => self.attr = found,
-            "type" => self.value_type = found,
-            "slot" => self.slot = found,
-            "kind" => self.kind = found,
-            "port" => self.port = found,
-            _ => {}
-        }
-    }
-
-    // The same for a key of 5 bytes.
-    #[inline(always)]
-    fn put_5(&mut self, key: &str, found: Field<'v, 'a>)
-        requires { length key.now ≡ 5 }
-        ensures { self.new ≡ updated key.now found.entry self.old }
-    {
-        match key {
-            "value" => self.given = found,
-            "query" => self.query = found,
-            "moved" => self.moved = found,
-            _ => {}
-        }
-    }
-
-    // The same for a key of 7 bytes.
-    #[inline(always)]
-    fn put_7(&mut self, key: &str, found: Field<'v, 'a>)
-        requires { length key.now ≡ 7 }
-        ensures { self.new ≡ updated key.now found.entry self.old }
-    {
-        match key {
-            "clobber" => self.clobber = found,
-            "backlog" => self.backlog = found,
-            _ => {}
-        }
-    }
-
-    // What stands in the place of a key.
-    #[inline(always)]
-    fn at(&self, key: Key) -> Field<'v, 'a>
-        ensures { result ≡ field_at self.now key }
-    {
-        match key {
-            Key::Do => self.act,
-            Key::Dir => self.dir,
-            Key::Name => self.name,
-            Key::Kind => self.kind,
-            Key::Size => self.size,
-            Key::Time => self.time,
-            Key::Node => self.node,
-            Key::Attr => self.attr,
-            Key::Type => self.value_type,
-            Key::Value => self.given,
-            Key::Query => self.query,
-            Key::Port => self.port,
-            Key::Backlog => self.backlog,
-            Key::Moved => self.moved,
-            Key::Slot => self.slot,
-            Key::Clobber => self.clobber,
-        }
-    }
-
-    /// The field of a key, once fields are found; `None` where no member has the key.
-    #[inline(always)]
-    pub fn field(&self, key: Key) -> Option<Field<'v, 'a>>
+    pub fn has(&self, key: Key) -> bool
         requires { AreFound self.now }
-        ensures { option_map known result ≡ get (name_of key) (whole self.now) }
+        ensures { result ≡ is_some (get (name_of key) (whole self.now)) }
     {
-        let found = self.at(key);
-        match found {
-            Field::Absent => None,
-            Field::Whole(_) | Field::Given(_) => Some(found),
-        }
+        !is_absent(self.places.at(key))
     }
 
     /// The text of a key's field, once fields are found; `None` where there is no such text.
@@ -241,7 +80,16 @@ impl<'v, 'a> Fields<'v, 'a> {
         ensures { option_map (λ text. text.now) result
             ≡ option_and_then as_str (get (name_of key) (whole self.now)) }
     {
-        text_of(self.field(key)?)
+        text_of(self.places.at(key))
+    }
+
+    /// The truth value of a key's field, once fields are found; `None` where there is none.
+    #[inline(always)]
+    pub fn truth(&self, key: Key) -> Option<bool>
+        requires { AreFound self.now }
+        ensures { result ≡ option_and_then as_bool (get (name_of key) (whole self.now)) }
+    {
+        truth_of(self.places.at(key))
     }
 
     /// The whole number from 0 up of a key's field, once fields are found; `None` where there is no
@@ -252,87 +100,126 @@ impl<'v, 'a> Fields<'v, 'a> {
         ensures { result ≡ option_and_then as_u64
             (option_and_then as_number (get (name_of key) (whole self.now))) }
     {
-        u64_of(self.field(key)?)
+        u64_of(self.places.at(key))
+    }
+
+    /// The whole number of 64 bits with a sign of a key's field, once fields are found; `None`
+    /// where there is no such number.
+    #[inline(always)]
+    pub fn signed(&self, key: Key) -> Option<i64>
+        requires { AreFound self.now }
+        ensures { result ≡ option_and_then as_i64
+            (option_and_then as_number (get (name_of key) (whole self.now))) }
+    {
+        i64_of(self.places.at(key))
     }
 }
 
-// The field that a member with this value is; `None` where the value has a number out of range.
+// Reads the next value, with the members that it has if it is an object.
 #[inline(always)]
-fn field_of<'v, 'a>(value: &'v Value<'a>) -> Option<Field<'v, 'a>>
-    ensures range { is_some result ≡ in_range (value_view value.now) }
-    ensures data { IfSome result (λ found. data_in found ≡ Some (view value.now)) }
+fn read_value<'a>(places: &mut Places<'a>, reader: &mut Reader<'a>) -> Result<(), Invalid>
+    requires { AreAbsent places.old }
+    ensures ok { IfOk result (λ _.
+        Holds places.new reader.new (converted of_json (value 127 reader.old))) }
+    ensures err { IfErr result (λ _. converted of_json (value 127 reader.old) ≡ None) }
 {
-    match value {
-        Value::Null | Value::Bool(_) | Value::String(_) => Some(Field::Given(value)),
-        Value::Number(text) => number_field(value, text),
-        Value::Array(_) | Value::Object(_) => {
-            if !is_in_range(value) {
-                return None;
-            }
-            Some(Field::Given(value))
+    let token = reader.next().ok_or(Invalid)?;
+    match token {
+        Token::BeginObject => places.read_members(reader, MAX_DEPTH - 1),
+        _ => {
+            let _ = field_from(reader, token, MAX_DEPTH)?;
+            Ok(())
         }
     }
 }
 
-// The field that a member with a number is, given its text.
+// Whether a field is absent.
 #[inline(always)]
-fn number_field<'v, 'a>(value: &'v Value<'a>, text: &str) -> Option<Field<'v, 'a>>
-    requires { value_view value.now ≡ number_json text.now }
-    ensures range { is_some result ≡ in_range (value_view value.now) }
-    ensures data { IfSome result (λ found. data_in found ≡ Some (view value.now)) }
-{
-    if let Some(number) = digits_in(text.as_bytes()) {
-        return Some(Field::Whole(number));
-    }
-    if number_in(text).is_none() {
-        return None;
-    }
-    Some(Field::Given(value))
-}
-
-/// The text in a field; `None` where the field isn't a text.
-#[inline(always)]
-pub fn text_of<'a>(field: Field<'_, 'a>) -> Option<&'a str>
-    ensures { option_map (λ text. text.now) result ≡ as_str (known field.entry) }
+fn is_absent(field: Field<'_>) -> bool
+    ensures { not result ≡ is_some (data_in field.entry) }
 {
     match field {
-        Field::Given(value) => value.as_str(),
-        Field::Absent | Field::Whole(_) => None,
+        Field::Absent => true,
+        Field::Null
+        | Field::True
+        | Field::False
+        | Field::Whole(_)
+        | Field::Number(_)
+        | Field::Text(_)
+        | Field::Array
+        | Field::Object => false,
     }
 }
 
-/// The truth value in a field; `None` where the field isn't one.
+// The text in a field; `None` where the field isn't a text.
 #[inline(always)]
-pub fn bool_of(field: Field<'_, '_>) -> Option<bool>
-    ensures { result ≡ as_bool (known field.entry) }
+fn text_of<'a>(field: Field<'a>) -> Option<&'a str>
+    ensures { option_map (λ text. text.now) result ≡ option_and_then as_str (data_in field.entry) }
 {
     match field {
-        Field::Given(value) => value.as_bool(),
-        Field::Absent | Field::Whole(_) => None,
+        Field::Text(text) => Some(text),
+        Field::Absent
+        | Field::Null
+        | Field::True
+        | Field::False
+        | Field::Whole(_)
+        | Field::Number(_)
+        | Field::Array
+        | Field::Object => None,
     }
 }
 
-/// The whole number of 64 bits from 0 up in a field; `None` where the field isn't one.
+// The truth value in a field; `None` where the field isn't one.
 #[inline(always)]
-pub fn u64_of(field: Field<'_, '_>) -> Option<u64>
-    ensures { result ≡ option_and_then as_u64 (as_number (known field.entry)) }
+fn truth_of(field: Field<'_>) -> Option<bool>
+    ensures { result ≡ option_and_then as_bool (data_in field.entry) }
+{
+    match field {
+        Field::True => Some(true),
+        Field::False => Some(false),
+        Field::Absent
+        | Field::Null
+        | Field::Whole(_)
+        | Field::Number(_)
+        | Field::Text(_)
+        | Field::Array
+        | Field::Object => None,
+    }
+}
+
+// The whole number of 64 bits from 0 up in a field; `None` where the field isn't one.
+#[inline(always)]
+fn u64_of(field: Field<'_>) -> Option<u64>
+    ensures { result ≡ option_and_then as_u64 (option_and_then as_number (data_in field.entry)) }
 {
     match field {
         Field::Whole(number) => Some(number),
-        Field::Given(value) => number_in(value.as_number()?)?.as_u64(),
-        Field::Absent => None,
+        Field::Number(number) => number.as_u64(),
+        Field::Absent
+        | Field::Null
+        | Field::True
+        | Field::False
+        | Field::Text(_)
+        | Field::Array
+        | Field::Object => None,
     }
 }
 
-/// The whole number of 64 bits with a sign in a field; `None` where the field isn't one.
+// The whole number of 64 bits with a sign in a field; `None` where the field isn't one.
 #[inline(always)]
-pub fn i64_of(field: Field<'_, '_>) -> Option<i64>
-    ensures { result ≡ option_and_then as_i64 (as_number (known field.entry)) }
+fn i64_of(field: Field<'_>) -> Option<i64>
+    ensures { result ≡ option_and_then as_i64 (option_and_then as_number (data_in field.entry)) }
 {
     match field {
         Field::Whole(number) => signed(number),
-        Field::Given(value) => number_in(value.as_number()?)?.as_i64(),
-        Field::Absent => None,
+        Field::Number(number) => number.as_i64(),
+        Field::Absent
+        | Field::Null
+        | Field::True
+        | Field::False
+        | Field::Text(_)
+        | Field::Array
+        | Field::Object => None,
     }
 }
 

@@ -1,18 +1,17 @@
-//! JSON input, read with a scratch that is reused from text to text.
+//! The fields of a line of JSON, read with a scratch that is reused from line to line.
 //!
-//! Contracts see a value as the data that serde_json reads from the same text (`specs/Data`): the
-//! last one of equal keys counts, and a text with a number beyond the doubles is no value.
-//! Contracts don't see the scratch. The fields of a line are found in one walk (`specs/Fields`).
-//! Nothing waits. Begin with `reading`, then `fields`.
+//! Contracts see a text as the data that serde_json reads from it: the last one of equal keys
+//! counts, and a text with a number beyond the doubles is no value. Contracts don't see the
+//! scratch. The fields are found while the text is read, token by token, with no tree of its values
+//! (`specs/Fields`); of an array or an object within them only the kind is kept (`specs/Shown`).
+//! Nothing waits. Begin with `fields`, then `places` and `field`.
 #![tactic(auto)]
 
+mod field;
 mod fields;
 mod key;
 mod number;
-mod plain;
-mod reading;
+mod places;
 
-pub use fields::{Field, Fields, bool_of, i64_of, text_of, u64_of};
+pub use fields::Fields;
 pub use key::Key;
-pub use plain::field;
-pub use reading::{parse, read};

@@ -6,8 +6,7 @@ use Rattle.std.specs.Prelude.{option_and_then, Bool, Result, Ok, Err, IfOk, IfEr
 use Rattle.std.specs.Str.{IsUtf8, is_utf8}
 use Rattle.std.proofs.lemmas.Str.{IsUtf8-from_is_utf8, is_utf8-from_IsUtf8}
 use Rattle.serde_json.specs.Data.{Data}
-use Rattle.json.specs.Json.{Json}
-use Rattle.serde_json.specs.Read.{of_json, read}
+use Rattle.serde_json.specs.Read.{read}
 use Rattle.lq_value.specs.declared.refusal.Refusal.{Refusal}
 use Rattle.lq_value.specs.declared.refusal.Refusal.TheVariants.{NoMemory, NotUtf8, NotJson}
 use Rattle.lq_script_request.specs.declared.question.Question.{Question}
@@ -96,18 +95,9 @@ asks-nothing d act found n0 n1 n2 n3 n4 n5 n6 n7 n8 n9 n10 n11 n12 n13 n14 =
     none ∙ ap (option_and_then (λ w. asked_by w d)) found
 
 -- a line asks for what its fields ask for
-pub line-asks-found : (line : List ℕ) (v j : Json) (d e : Data)
-    → asked_in line ≡ asked_from (of_json v) → j ≡ v → of_json j ≡ Some d → e ≡ d
-    → question_in line ≡ question_from (asked_or (asked_of e))
-line-asks-found line v j d e asks is read same =
-    ap question_from (asks ∙ ap (λ i. asked_from (of_json i)) (sym is) ∙ ap asked_from read)
-    ∙ ap (λ x. question_from (asked_or (asked_of x))) (sym same)
-
--- a line with a number out of range is no JSON
-pub line-not_json : (line : List ℕ) (v j : Json) → asked_in line ≡ asked_from (of_json v) → j ≡ v
-    → of_json j ≡ None → question_in line ≡ Err NotJson
-line-not_json line v j asks is read =
-    ap question_from (asks ∙ ap (λ i. asked_from (of_json i)) (sym is) ∙ ap asked_from read)
+pub line-asks-found : (line : List ℕ) (o : Option Data) (d : Data) → asked_in line ≡ asked_from o
+    → o ≡ Some d → asked_in line ≡ asked_or (asked_of d)
+line-asks-found line o d asks is = asks ∙ ap asked_from is
 
 -- the refusal of a line is that of what it asks for
 pub refused-along : (line : List ℕ) (e : Refusal) (r : Result Question Refusal)

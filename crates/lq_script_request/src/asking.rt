@@ -1,18 +1,15 @@
 //! From the bytes of a line to its question.
 ghost use Rattle.std.specs.Prelude.{◌≡◌, ◌⊎◌, IfOk, IfErr, IfSome, IfNone, Ok, Err};
 ghost use Rattle.std.specs.Str.{IsUtf8};
-ghost use Rattle.json.specs.Value.{value_view};
-ghost use Rattle.serde_json.specs.Read.{of_json};
-ghost use Rattle.lq_script_json.specs.Fields.{AreFound, whole};
+ghost use Rattle.lq_script_json.specs.Fields.{AreAbsent, AreFound, whole};
 ghost use Rattle.lq_value.specs.declared.refusal.Refusal.TheVariants.{NoMemory};
 ghost use Rattle.lq_script_request.specs.Asked.{asked, given};
-ghost use Rattle.lq_script_request.specs.Request.{asks_create, asks_fetch, asks_find, asks_move, asks_open, asks_set, asks_unset, value_for, asked_from, asked_in, asked_of, asked_or, question_for, question_from, question_in};
+ghost use Rattle.lq_script_request.specs.Request.{asks_create, asks_fetch, asks_find, asks_move, asks_open, asks_set, asks_unset, value_for, asked_in, asked_of, asked_or, question_for, question_from, question_in};
 
 use crate::plain::plain_read;
 use crate::question::Question;
 use crate::request::{Request, request_in};
 use crate::scratch::{RecentAttrs, Scratch};
-use json::Value;
 use lq_desk_world::Event;
 use lq_predicate::read;
 use lq_script_json::Fields;
@@ -34,28 +31,28 @@ pub fn question_in(alloc: Global, scratch: &mut Scratch, line: &[u8]) -> Result<
     if let Some(slot) = plain_read(line) {
         return Ok(Question::Event(Event::Take(slot)));
     }
-    let value = value_in(alloc, &mut scratch.json, line)?;
-    let mut fields = Fields::new(&value);
-    if !fields.find() {
-        return Err(Refusal::NotJson);
-    }
+    let mut fields = Fields::new();
+    read_fields(&mut fields, &mut scratch.json, line)?;
     question_of(alloc, &mut scratch.attrs, &fields)
 }
 
-// The JSON value that a line writes; its numbers may have any size.
-fn value_in<'a>(
-    alloc: Global,
+// Finds the fields of a line.
+#[inline(always)]
+fn read_fields<'a>(
+    fields: &mut Fields<'a>,
     scratch: &'a mut json::Scratch,
     line: &'a [u8],
-) -> Result<Value<'a>, Refusal>
-    ensures value { IfOk result (λ value.
-        asked_in line.now ≡ asked_from (of_json (value_view value))) }
+) -> Result<(), Refusal>
+    requires { AreAbsent fields.old.places }
+    ensures value { IfOk result (λ _.
+        asked_in line.now ≡ asked_or (asked_of (whole fields.new))) }
+    ensures found { IfOk result (λ _. AreFound fields.new) }
     ensures refused { IfErr result (λ e. (e ≡ NoMemory) ⊎ (asked_in line.now ≡ Err e)) }
 {
     let Some(text) = text_of(line) else {
         return Err(Refusal::NotUtf8);
     };
-    lq_script_json::parse(alloc, scratch, text)
+    fields.read(scratch, text)
 }
 
 // The text that a line is; `None` where its bytes aren't UTF-8.
@@ -73,7 +70,7 @@ fn text_of(line: &[u8]) -> Option<&str>
 fn question_of(
     alloc: Global,
     attrs: &mut RecentAttrs,
-    fields: &Fields<'_, '_>,
+    fields: &Fields<'_>,
 ) -> Result<Question, Refusal>
     requires { AreFound fields.now }
     ensures value { IfOk result (λ question.

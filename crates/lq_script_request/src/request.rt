@@ -4,15 +4,15 @@ ghost use Rattle.std.specs.Option.{option_map};
 ghost use Rattle.lq_value.specs.declared.value.Value.TheVariants.{Int32, UInt32};
 ghost use Rattle.lq_value.specs.declared.kind.Kind.TheVariants.{File};
 ghost use Rattle.serde_json.specs.Find.{as_i64, as_number, as_u64, get};
-ghost use Rattle.lq_script_json.specs.Fields.{AreFound, known, name_of, whole};
+ghost use Rattle.lq_script_json.specs.Fields.{AreFound, name_of, whole};
 ghost use Rattle.lq_script_request.specs.Request.{asked_by, asked_of, create_of, remove_of, move_of, write_of, set_of, unset_of, open_of, act_of, rebuilt_of, find_of, entry_of, fetch_of, given_by, given_number, within_i32, within_u32, flag_or, needed_text, needed_u64, u64_or, i64_or, kind_named, kind_or};
 ghost use Rattle.lq_script_request.specs.Asked.{asked, given};
 
 use lq_desk_world::Act;
-use lq_script_json::{Field, Fields, Key, bool_of, i64_of, text_of, u64_of};
+use lq_script_json::{Fields, Key};
 use lq_value::{Kind, View};
 
-/// The request of a line, with its texts borrowed from the line's JSON value.
+/// The request of a line, with its texts borrowed from the line's JSON.
 #[derive(Drop)]
 pub enum Request<'a> {
     Create {
@@ -71,7 +71,7 @@ pub enum Request<'a> {
 }
 
 /// The request of a line whose fields are found; `None` where a field is missing or wrong.
-pub fn request_in<'a>(fields: &Fields<'_, 'a>) -> Option<Request<'a>>
+pub fn request_in<'a>(fields: &Fields<'a>) -> Option<Request<'a>>
     requires { AreFound fields.now }
     ensures { option_map asked result ≡ asked_of (whole fields.now) }
 {
@@ -113,7 +113,7 @@ pub fn request_in<'a>(fields: &Fields<'_, 'a>) -> Option<Request<'a>>
     }
 }
 
-fn create_in<'a>(fields: &Fields<'_, 'a>) -> Option<Request<'a>>
+fn create_in<'a>(fields: &Fields<'a>) -> Option<Request<'a>>
     requires { AreFound fields.now }
     ensures { option_map asked result ≡ create_of (whole fields.now) }
 {
@@ -141,7 +141,7 @@ fn create_in<'a>(fields: &Fields<'_, 'a>) -> Option<Request<'a>>
     })
 }
 
-fn remove_in<'a>(fields: &Fields<'_, 'a>) -> Option<Request<'a>>
+fn remove_in<'a>(fields: &Fields<'a>) -> Option<Request<'a>>
     requires { AreFound fields.now }
     ensures { option_map asked result ≡ remove_of (whole fields.now) }
 {
@@ -149,7 +149,7 @@ fn remove_in<'a>(fields: &Fields<'_, 'a>) -> Option<Request<'a>>
     Some(Request::Remove { node })
 }
 
-fn move_in<'a>(fields: &Fields<'_, 'a>) -> Option<Request<'a>>
+fn move_in<'a>(fields: &Fields<'a>) -> Option<Request<'a>>
     requires { AreFound fields.now }
     ensures { option_map asked result ≡ move_of (whole fields.now) }
 {
@@ -173,7 +173,7 @@ fn move_in<'a>(fields: &Fields<'_, 'a>) -> Option<Request<'a>>
     })
 }
 
-fn write_in<'a>(fields: &Fields<'_, 'a>) -> Option<Request<'a>>
+fn write_in<'a>(fields: &Fields<'a>) -> Option<Request<'a>>
     requires { AreFound fields.now }
     ensures { option_map asked result ≡ write_of (whole fields.now) }
 {
@@ -189,7 +189,7 @@ fn write_in<'a>(fields: &Fields<'_, 'a>) -> Option<Request<'a>>
     Some(Request::Write { node, size, time })
 }
 
-fn set_in<'a>(fields: &Fields<'_, 'a>) -> Option<Request<'a>>
+fn set_in<'a>(fields: &Fields<'a>) -> Option<Request<'a>>
     requires { AreFound fields.now }
     ensures { option_map asked result ≡ set_of (whole fields.now) }
 {
@@ -202,16 +202,13 @@ fn set_in<'a>(fields: &Fields<'_, 'a>) -> Option<Request<'a>>
     let Some(kind) = fields.text(Key::Type) else {
         return None;
     };
-    let Some(given) = fields.field(Key::Value) else {
-        return None;
-    };
-    let Some(value) = typed_in(kind, given) else {
+    let Some(value) = typed_in(fields, kind) else {
         return None;
     };
     Some(Request::Set { node, attr, value })
 }
 
-fn unset_in<'a>(fields: &Fields<'_, 'a>) -> Option<Request<'a>>
+fn unset_in<'a>(fields: &Fields<'a>) -> Option<Request<'a>>
     requires { AreFound fields.now }
     ensures { option_map asked result ≡ unset_of (whole fields.now) }
 {
@@ -224,37 +221,39 @@ fn unset_in<'a>(fields: &Fields<'_, 'a>) -> Option<Request<'a>>
     Some(Request::Unset { node, attr })
 }
 
-// A value of one of the five attribute types, given the type's text.
-fn typed_in<'a>(kind: &str, value: Field<'_, 'a>) -> Option<View<'a>>
-    ensures { option_map given result ≡ given_by kind.now (known value.entry) }
+// The value of one of the five attribute types, given the type's text.
+fn typed_in<'a>(fields: &Fields<'a>, kind: &str) -> Option<View<'a>>
+    requires { AreFound fields.now }
+    ensures { option_map given result
+        ≡ option_and_then (given_by kind.now) (get (codes "value") (whole fields.now)) }
 {
     match kind {
         "CSTR" => {
-            let Some(text) = text_of(value) else {
+            let Some(text) = fields.text(Key::Value) else {
                 return None;
             };
             Some(View::Text(text))
         }
         "LONG" => {
-            let Some(number) = i32_of(value) else {
+            let Some(number) = narrow_signed(fields, Key::Value) else {
                 return None;
             };
             Some(View::Int32(number))
         }
         "LLNG" => {
-            let Some(number) = i64_of(value) else {
+            let Some(number) = fields.signed(Key::Value) else {
                 return None;
             };
             Some(View::Int64(number))
         }
         "ULNG" => {
-            let Some(number) = u32_of(value) else {
+            let Some(number) = narrow_number(fields, Key::Value) else {
                 return None;
             };
             Some(View::UInt32(number))
         }
         "ULLG" => {
-            let Some(number) = u64_of(value) else {
+            let Some(number) = fields.number(Key::Value) else {
                 return None;
             };
             Some(View::UInt64(number))
@@ -263,12 +262,14 @@ fn typed_in<'a>(kind: &str, value: Field<'_, 'a>) -> Option<View<'a>>
     }
 }
 
-// The whole number in a value, if it fits into 32 bits with a sign.
-fn i32_of(value: Field<'_, '_>) -> Option<i32>
+// The whole number of a key's field, if it fits into 32 bits with a sign.
+fn narrow_signed(fields: &Fields<'_>, key: Key) -> Option<i32>
+    requires { AreFound fields.now }
     ensures { option_map (λ n. given_number (Int32 n)) result
-        ≡ option_and_then within_i32 (option_and_then as_i64 (as_number (known value.entry))) }
+        ≡ option_and_then within_i32 (option_and_then as_i64
+        (option_and_then as_number (get (name_of key) (whole fields.now)))) }
 {
-    let Some(number) = i64_of(value) else {
+    let Some(number) = fields.signed(key) else {
         return None;
     };
     if number < -2147483648 || number > 2147483647 {
@@ -277,12 +278,14 @@ fn i32_of(value: Field<'_, '_>) -> Option<i32>
     Some(number as i32)
 }
 
-// The whole number in a value, if it fits into 32 bits without a sign.
-fn u32_of(value: Field<'_, '_>) -> Option<u32>
+// The whole number of a key's field, if it fits into 32 bits without a sign.
+fn narrow_number(fields: &Fields<'_>, key: Key) -> Option<u32>
+    requires { AreFound fields.now }
     ensures { option_map (λ n. given_number (UInt32 n)) result
-        ≡ option_and_then within_u32 (option_and_then as_u64 (as_number (known value.entry))) }
+        ≡ option_and_then within_u32 (option_and_then as_u64
+        (option_and_then as_number (get (name_of key) (whole fields.now)))) }
 {
-    let Some(number) = u64_of(value) else {
+    let Some(number) = fields.number(key) else {
         return None;
     };
     if number > 4294967295 {
@@ -291,7 +294,7 @@ fn u32_of(value: Field<'_, '_>) -> Option<u32>
     Some(number as u32)
 }
 
-fn open_in<'a>(fields: &Fields<'_, 'a>) -> Option<Request<'a>>
+fn open_in<'a>(fields: &Fields<'a>) -> Option<Request<'a>>
     requires { AreFound fields.now }
     ensures { option_map asked result ≡ open_of (whole fields.now) }
 {
@@ -315,7 +318,7 @@ fn open_in<'a>(fields: &Fields<'_, 'a>) -> Option<Request<'a>>
     })
 }
 
-fn act_in<'a>(fields: &Fields<'_, 'a>, act: Act) -> Option<Request<'a>>
+fn act_in<'a>(fields: &Fields<'a>, act: Act) -> Option<Request<'a>>
     requires { AreFound fields.now }
     ensures { option_map asked result ≡ act_of act (whole fields.now) }
 {
@@ -323,7 +326,7 @@ fn act_in<'a>(fields: &Fields<'_, 'a>, act: Act) -> Option<Request<'a>>
     Some(Request::At { slot, act })
 }
 
-fn find_in<'a>(fields: &Fields<'_, 'a>) -> Option<Request<'a>>
+fn find_in<'a>(fields: &Fields<'a>) -> Option<Request<'a>>
     requires { AreFound fields.now }
     ensures { option_map asked result ≡ find_of (whole fields.now) }
 {
@@ -336,7 +339,7 @@ fn find_in<'a>(fields: &Fields<'_, 'a>) -> Option<Request<'a>>
     Some(Request::Find { dir, name })
 }
 
-fn entry_in<'a>(fields: &Fields<'_, 'a>) -> Option<Request<'a>>
+fn entry_in<'a>(fields: &Fields<'a>) -> Option<Request<'a>>
     requires { AreFound fields.now }
     ensures { option_map asked result ≡ entry_of (whole fields.now) }
 {
@@ -344,7 +347,7 @@ fn entry_in<'a>(fields: &Fields<'_, 'a>) -> Option<Request<'a>>
     Some(Request::Entry { node })
 }
 
-fn fetch_in<'a>(fields: &Fields<'_, 'a>) -> Option<Request<'a>>
+fn fetch_in<'a>(fields: &Fields<'a>) -> Option<Request<'a>>
     requires { AreFound fields.now }
     ensures { option_map asked result ≡ fetch_of (whole fields.now) }
 {
@@ -352,7 +355,7 @@ fn fetch_in<'a>(fields: &Fields<'_, 'a>) -> Option<Request<'a>>
     Some(Request::Fetch { query })
 }
 
-fn rebuilt_in<'a>(fields: &Fields<'_, 'a>) -> Option<Request<'a>>
+fn rebuilt_in<'a>(fields: &Fields<'a>) -> Option<Request<'a>>
     requires { AreFound fields.now }
     ensures { option_map asked result ≡ rebuilt_of (whole fields.now) }
 {
@@ -361,47 +364,47 @@ fn rebuilt_in<'a>(fields: &Fields<'_, 'a>) -> Option<Request<'a>>
 }
 
 // A whole number from 0 up, or the default if the field is absent.
-fn u64_or(fields: &Fields<'_, '_>, key: Key, default: u64) -> Option<u64>
+fn u64_or(fields: &Fields<'_>, key: Key, default: u64) -> Option<u64>
     requires { AreFound fields.now }
     ensures { result ≡ u64_or default (get (name_of key) (whole fields.now)) }
 {
-    match fields.field(key) {
-        None => Some(default),
-        Some(found) => u64_of(found),
+    if !fields.has(key) {
+        return Some(default);
     }
+    fields.number(key)
 }
 
 // A whole number of 64 bits with a sign, or 0 if the field is absent.
-fn i64_or_zero(fields: &Fields<'_, '_>, key: Key) -> Option<i64>
+fn i64_or_zero(fields: &Fields<'_>, key: Key) -> Option<i64>
     requires { AreFound fields.now }
     ensures { result ≡ i64_or (pos 0) (get (name_of key) (whole fields.now)) }
 {
-    match fields.field(key) {
-        None => Some(0),
-        Some(found) => i64_of(found),
+    if !fields.has(key) {
+        return Some(0);
     }
+    fields.signed(key)
 }
 
 // A truth value, or false if the field is absent.
-fn bool_or_false(fields: &Fields<'_, '_>, key: Key) -> Option<bool>
+fn bool_or_false(fields: &Fields<'_>, key: Key) -> Option<bool>
     requires { AreFound fields.now }
     ensures { result ≡ flag_or false (get (name_of key) (whole fields.now)) }
 {
-    match fields.field(key) {
-        None => Some(false),
-        Some(found) => bool_of(found),
+    if !fields.has(key) {
+        return Some(false);
     }
+    fields.truth(key)
 }
 
 // The kind, or a file if the field is absent.
-fn kind_or_file(fields: &Fields<'_, '_>) -> Option<Kind>
+fn kind_or_file(fields: &Fields<'_>) -> Option<Kind>
     requires { AreFound fields.now }
     ensures { result ≡ kind_or File (get (codes "kind") (whole fields.now)) }
 {
-    let Some(found) = fields.field(Key::Kind) else {
+    if !fields.has(Key::Kind) {
         return Some(Kind::File);
-    };
-    let Some(text) = text_of(found) else {
+    }
+    let Some(text) = fields.text(Key::Kind) else {
         return None;
     };
     match text {

@@ -1,6 +1,8 @@
 //! Texts at the borders of what serde_json takes, read by it and by lq_script_json.
-use json::{Scratch, Value};
-use lq_script_json::{Field, bool_of, field, i64_of, read, text_of, u64_of};
+ghost use Rattle.lq_script_json.specs.Fields.{AreFound};
+
+use json::Scratch;
+use lq_script_json::{Fields, Key};
 use lq_value::Refusal;
 use std::alloc::{AllocError, Global};
 use std::test::Fail;
@@ -8,47 +10,47 @@ use std::test::Fail;
 // texts, of which scenarios/json-borders says which are JSON within the limits
 const TEXTS: [&str; 40] = [
     // equal keys, and keys that an escape makes equal
-    r#"{"a":1,"a":2}"#,
-    r#"{"a":1,"b":2,"a":"x","b":3,"a":true}"#,
-    r#"{"a":1,"\u0061":2}"#,
-    r#"{"\u0061":2,"a":null}"#,
-    r#"{"a":{"a":1},"b":{"b":2}}"#,
+    r#"{"size":1,"size":2}"#,
+    r#"{"size":1,"node":2,"size":"x","node":3,"size":true}"#,
+    r#"{"size":1,"\u0073ize":2}"#,
+    r#"{"\u0073ize":2,"size":null}"#,
+    r#"{"size":{"size":1},"node":{"node":2}}"#,
     // numbers
-    r#"{"a":0,"b":-0}"#,
-    r#"{"a":-0.0,"b":0.0}"#,
-    r#"{"a":1.0,"b":1e2}"#,
-    r#"{"a":18446744073709551615,"b":18446744073709551616}"#,
-    r#"{"a":9223372036854775807,"b":9223372036854775808}"#,
-    r#"{"a":-9223372036854775808,"b":-9223372036854775809}"#,
-    r#"{"a":999999999999999999,"b":1000000000000000000}"#,
-    r#"{"a":1e308,"b":1e-999}"#,
-    r#"{"a":1e999}"#,
-    r#"{"a":-1e999}"#,
-    r#"{"a":1,"b":1e309}"#,
-    r#"{"c":[1,{"d":[1e309]}]}"#,
-    r#"{"a":1e309,"a":1}"#,
-    r#"{"a":01}"#,
-    r#"{"a":+1}"#,
-    r#"{"a":1.}"#,
-    r#"{"a":.5}"#,
-    r#"{"a":-}"#,
-    r#"{"a":1e}"#,
+    r#"{"size":0,"node":-0}"#,
+    r#"{"size":-0.0,"node":0.0}"#,
+    r#"{"size":1.0,"node":1e2}"#,
+    r#"{"size":18446744073709551615,"node":18446744073709551616}"#,
+    r#"{"size":9223372036854775807,"node":9223372036854775808}"#,
+    r#"{"size":-9223372036854775808,"node":-9223372036854775809}"#,
+    r#"{"size":999999999999999999,"node":1000000000000000000}"#,
+    r#"{"size":1e308,"node":1e-999}"#,
+    r#"{"size":1e999}"#,
+    r#"{"size":-1e999}"#,
+    r#"{"size":1,"node":1e309}"#,
+    r#"{"attr":[1,{"d":[1e309]}]}"#,
+    r#"{"size":1e309,"size":1}"#,
+    r#"{"size":01}"#,
+    r#"{"size":+1}"#,
+    r#"{"size":1.}"#,
+    r#"{"size":.5}"#,
+    r#"{"size":-}"#,
+    r#"{"size":1e}"#,
     // strings
-    r#"{"a":"\"\\\/\b\f\n\r\t","b":"\u00e9\u20AC"}"#,
-    r#"{"a":"\ud834\udd1e","b":"é€𝄞"}"#,
-    r#"{"a":"\u0000"}"#,
-    r#"{"a":"\ud834"}"#,
-    r#"{"a":"\udd1e\ud834"}"#,
-    r#"{"a":"\x"}"#,
-    "{\"a\":\"\n\"}",
-    r#"{"a":"x}"#,
+    r#"{"size":"\"\\\/\b\f\n\r\t","node":"\u00e9\u20AC"}"#,
+    r#"{"size":"\ud834\udd1e","node":"é€𝄞"}"#,
+    r#"{"size":"\u0000"}"#,
+    r#"{"size":"\ud834"}"#,
+    r#"{"size":"\udd1e\ud834"}"#,
+    r#"{"size":"\x"}"#,
+    "{\"size\":\"\n\"}",
+    r#"{"size":"x}"#,
     // layout, other words, and what is no object
-    " {\t\"a\" :\r1 , \"b\":false }\n",
-    r#"{"a":1,}"#,
-    r#"{"a":1}}"#,
-    r#"{"a":tru}"#,
-    r#"{a:1}"#,
-    r#"[{"a":1}]"#,
+    " {\t\"size\" :\r1 , \"node\":false }\n",
+    r#"{"size":1,}"#,
+    r#"{"size":1}}"#,
+    r#"{"size":tru}"#,
+    r#"{size:1}"#,
+    r#"[{"size":1}]"#,
     "null",
     "",
 ];
@@ -73,31 +75,30 @@ const ENDS: [&str; 12] = [
     "", "", "", "0", "7", ".0", ".5", "e0", "E+2", "e291", "e292", "e-340",
 ];
 
-// Whether both have the same number, text or truth value, or none.
-fn is_same(plain: &serde_json::Value, value: &Value<'_>) -> bool {
-    let field = Field::Given(value);
-    plain.as_u64() == u64_of(field)
-        && plain.as_i64() == i64_of(field)
-        && plain.as_str() == text_of(field)
-        && plain.as_bool() == bool_of(field)
-}
-
 // Whether both have the same field of that key, as far as its kind goes.
-fn has_same(plain: &serde_json::Value, value: &Value<'_>, key: &str) -> bool {
-    match (plain.get(key), field(value, key)) {
-        (Some(plain), Some(value)) => is_same(plain, value),
-        (None, None) => true,
-        _ => false,
+fn has_same(plain: &serde_json::Value, fields: &Fields<'_>, name: &str, key: Key) -> bool
+    requires { AreFound fields.now }
+{
+    match plain.get(name) {
+        None => !fields.has(key),
+        Some(plain) => fields.has(key)
+            && plain.as_u64() == fields.number(key)
+            && plain.as_i64() == fields.signed(key)
+            && plain.as_str() == fields.text(key)
+            && plain.as_bool() == fields.truth(key),
     }
 }
 
-// Whether serde_json and lq_script_json read the same fields `a` and `b`, or both refuse a text.
+// Whether serde_json and lq_script_json read the same fields `size` and `node`, or both refuse a
+// text.
 fn is_read_alike(alloc: Global, scratch: &mut Scratch, text: &str) -> bool {
+    let mut fields = Fields::new();
     let Ok(plain) = serde_json::Value::from_str(alloc, text) else {
-        return read(alloc, scratch, text).err() == Some(Refusal::NotJson);
+        return fields.read(scratch, text).err() == Some(Refusal::NotJson);
     };
-    match read(alloc, scratch, text) {
-        Ok(value) => has_same(&plain, &value, "a") && has_same(&plain, &value, "b"),
+    match fields.read(scratch, text) {
+        Ok(()) => has_same(&plain, &fields, "size", Key::Size)
+            && has_same(&plain, &fields, "node", Key::Node),
         Err(_) => false,
     }
 }
@@ -108,7 +109,7 @@ fn drawn_text(alloc: Global, drawn: u64) -> Result<String, AllocError> {
     let whole = WHOLES[(at % 9) as usize].wrapping_add(at / 9 % 8);
     let sign = SIGNS[(at / 72 % 2) as usize];
     let end = ENDS[(at / 144 % 12) as usize];
-    format!(in alloc; "{{\"a\":{sign}{whole}{end},\"b\":[{whole}]}}")
+    format!(in alloc; "{{\"size\":{sign}{whole}{end},\"node\":[{whole}]}}")
 }
 
 #[test]

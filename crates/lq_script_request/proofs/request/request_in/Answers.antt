@@ -5,78 +5,78 @@ use Rattle.lq_script_request.proofs.request.request_in.Goals as goal
 
 pub returns-in-set : goal.returns-in-set
 returns-in-set c =
-    asks-as (whole c.args.fields.now) c.in-Some.act.now (codes "set") _ c.in-Some.ensures c.in-set.is
-    c.set_in.ensures
+    asks-as (whole c.args.fields.now) c.in-Some.act.now (codes "set") _ c.in-Some.ensures
+    c.in-set.is c.set_in.ensures
 
 pub returns-in-read : goal.returns-in-read
 returns-in-read c =
-    asks-as (whole c.args.fields.now) c.in-Some.act.now (codes "read") _ c.in-Some.ensures c.in-read.is
-    c.act_in.ensures
+    asks-as (whole c.args.fields.now) c.in-Some.act.now (codes "read") _ c.in-Some.ensures
+    c.in-read.is c.act_in.ensures
 
 pub returns-in-move : goal.returns-in-move
 returns-in-move c =
-    asks-as (whole c.args.fields.now) c.in-Some.act.now (codes "move") _ c.in-Some.ensures c.in-move.is
-    c.move_in.ensures
+    asks-as (whole c.args.fields.now) c.in-Some.act.now (codes "move") _ c.in-Some.ensures
+    c.in-move.is c.move_in.ensures
 
 pub returns-in-open : goal.returns-in-open
 returns-in-open c =
-    asks-as (whole c.args.fields.now) c.in-Some.act.now (codes "open") _ c.in-Some.ensures c.in-open.is
-    c.open_in.ensures
+    asks-as (whole c.args.fields.now) c.in-Some.act.now (codes "open") _ c.in-Some.ensures
+    c.in-open.is c.open_in.ensures
 
 pub returns-in-find : goal.returns-in-find
 returns-in-find c =
-    asks-as (whole c.args.fields.now) c.in-Some.act.now (codes "find") _ c.in-Some.ensures c.in-find.is
-    c.find_in.ensures
+    asks-as (whole c.args.fields.now) c.in-Some.act.now (codes "find") _ c.in-Some.ensures
+    c.in-find.is c.find_in.ensures
 
 pub returns-in-write : goal.returns-in-write
 returns-in-write c =
-    asks-as (whole c.args.fields.now) c.in-Some.act.now (codes "write") _ c.in-Some.ensures c.in-write.is
-    c.write_in.ensures
+    asks-as (whole c.args.fields.now) c.in-Some.act.now (codes "write") _ c.in-Some.ensures
+    c.in-write.is c.write_in.ensures
 
 pub returns-in-unset : goal.returns-in-unset
 returns-in-unset c =
-    asks-as (whole c.args.fields.now) c.in-Some.act.now (codes "unset") _ c.in-Some.ensures c.in-unset.is
-    c.unset_in.ensures
+    asks-as (whole c.args.fields.now) c.in-Some.act.now (codes "unset") _ c.in-Some.ensures
+    c.in-unset.is c.unset_in.ensures
 
 pub returns-in-close : goal.returns-in-close
 returns-in-close c =
-    asks-as (whole c.args.fields.now) c.in-Some.act.now (codes "close") _ c.in-Some.ensures c.in-close.is
-    c.act_in-in-close.ensures
+    asks-as (whole c.args.fields.now) c.in-Some.act.now (codes "close") _ c.in-Some.ensures
+    c.in-close.is c.act_in-in-close.ensures
 
 pub returns-in-entry : goal.returns-in-entry
 returns-in-entry c =
-    asks-as (whole c.args.fields.now) c.in-Some.act.now (codes "entry") _ c.in-Some.ensures c.in-entry.is
-    c.entry_in.ensures
+    asks-as (whole c.args.fields.now) c.in-Some.act.now (codes "entry") _ c.in-Some.ensures
+    c.in-entry.is c.entry_in.ensures
 
 pub returns-in-fetch : goal.returns-in-fetch
 returns-in-fetch c =
-    asks-as (whole c.args.fields.now) c.in-Some.act.now (codes "fetch") _ c.in-Some.ensures c.in-fetch.is
-    c.fetch_in.ensures
+    asks-as (whole c.args.fields.now) c.in-Some.act.now (codes "fetch") _ c.in-Some.ensures
+    c.in-fetch.is c.fetch_in.ensures
 
 pub returns-in-create : goal.returns-in-create
 returns-in-create c =
-    asks-as (whole c.args.fields.now) c.in-Some.act.now (codes "create") _ c.in-Some.ensures c.in-create.is
-    c.create_in.ensures
+    asks-as (whole c.args.fields.now) c.in-Some.act.now (codes "create") _ c.in-Some.ensures
+    c.in-create.is c.create_in.ensures
 
 pub returns-in-remove : goal.returns-in-remove
 returns-in-remove c =
-    asks-as (whole c.args.fields.now) c.in-Some.act.now (codes "remove") _ c.in-Some.ensures c.in-remove.is
-    c.remove_in.ensures
+    asks-as (whole c.args.fields.now) c.in-Some.act.now (codes "remove") _ c.in-Some.ensures
+    c.in-remove.is c.remove_in.ensures
 
 pub returns-in-finish : goal.returns-in-finish
 returns-in-finish c =
-    asks-as (whole c.args.fields.now) c.in-Some.act.now (codes "finish") _ c.in-Some.ensures c.in-finish.is
-    c.act_in-in-finish.ensures
+    asks-as (whole c.args.fields.now) c.in-Some.act.now (codes "finish") _ c.in-Some.ensures
+    c.in-finish.is c.act_in-in-finish.ensures
 
 pub returns-in-result : goal.returns-in-result
 returns-in-result c =
-    asks-as (whole c.args.fields.now) c.in-Some.act.now (codes "result") _ c.in-Some.ensures c.in-result.is
-    c.rebuilt_in.ensures
+    asks-as (whole c.args.fields.now) c.in-Some.act.now (codes "result") _ c.in-Some.ensures
+    c.in-result.is c.rebuilt_in.ensures
 
 pub returns-in-hang_up : goal.returns-in-hang_up
 returns-in-hang_up c =
-    asks-as (whole c.args.fields.now) c.in-Some.act.now (codes "hang_up") _ c.in-Some.ensures c.in-hang_up.is
-    c.act_in-in-hang_up.ensures
+    asks-as (whole c.args.fields.now) c.in-Some.act.now (codes "hang_up") _ c.in-Some.ensures
+    c.in-hang_up.is c.act_in-in-hang_up.ensures
 
 pub returns-in_default-act : goal.returns-in_default-act
 returns-in_default-act c =

@@ -1,0 +1,43 @@
+-- What a field shows of the data that serde_json reads.
+use Rattle.std.specs.Prelude.{◌≡◌, List, Option, Some, None, true, false}
+use Rattle.json.specs.Json.{Json}
+use Rattle.json.specs.Token.{Token}
+use Rattle.serde_json.specs.Data.{Num, Data, null, boolean, number, string, array, object, no_items, no_members, unsigned}
+use Rattle.serde_json.specs.Read.{converted, of_json}
+use Rattle.serde_json.specs.View.{number_view}
+use Rattle.lq_script_json.specs.declared.field.Field.{Field}
+use Rattle.lq_script_json.specs.declared.field.Field.TheVariants as field
+
+-- of an array or an object only that it is one
+abbrev pub shown : Data → Data
+shown null = null
+shown (boolean b) = boolean b
+shown (number n) = number n
+shown (string s) = string s
+shown (array ds) = array no_items
+shown (object ms) = object no_members
+
+-- the data that a field shows, if it is there
+abbrev pub data_in : Field → Option Data
+data_in field.Absent = None
+data_in field.Null = Some null
+data_in field.True = Some (boolean true)
+data_in field.False = Some (boolean false)
+data_in (field.Whole n) = Some (number (unsigned n))
+data_in (field.Number n) = Some (number (number_view n))
+data_in (field.Text s) = Some (string s.now)
+data_in field.Array = Some (array no_items)
+data_in field.Object = Some (object no_members)
+
+-- what was read, up to the rest
+abbrev pub IsReadUpTo : {A : Type 0} → List Token → Option (A × List Token) → Type 0
+IsReadUpTo {A} rest read = (x : A) × (read ≡ Some (x, rest))
+
+-- a field shows the value that was read, up to the rest
+abbrev pub Shows : Field → Option (Json × List Token) → List Token → Type 0
+Shows field read rest =
+    (d : Data) × (converted of_json read ≡ Some (d, rest)) × (data_in field ≡ Some (shown d))
+
+-- a field shows a number
+abbrev pub ShowsNumber : Field → Option Num → Type 0
+ShowsNumber field o = (n : Num) × (o ≡ Some n) × (data_in field ≡ Some (number n))

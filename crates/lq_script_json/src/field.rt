@@ -1,0 +1,130 @@
+//! The value of a member, as far as a line's fields go, read from its tokens.
+ghost use Rattle.std.specs.Prelude.{◌≡◌, ◌<◌, ◌≤◌, ◌∷◌, length, None, IfNone, IfOk, IfErr, IfSome, OnOk};
+ghost use Rattle.json.specs.Json.{items, members, value};
+ghost use Rattle.json.specs.Reads.{token_of};
+ghost use Rattle.serde_json.specs.Data.{no_members};
+ghost use Rattle.serde_json.specs.Read.{converted, number_of, of_items, of_json, of_members};
+ghost use Rattle.lq_script_json.specs.Shown.{IsReadUpTo, Shows, ShowsNumber};
+
+use crate::number::{digits_in, number_in};
+use json::{Invalid, Reader, Token};
+use serde_json::Number;
+
+/// The field of a key.
+#[derive(Clone, Copy)]
+pub enum Field<'a> {
+    /// No member has the key.
+    Absent,
+    Null,
+    True,
+    False,
+    /// A whole number, written by 1 to 18 digits and nothing else.
+    Whole(u64),
+    /// Any other number.
+    Number(Number),
+    Text(&'a str),
+    /// An array, without its items.
+    Array,
+    /// An object, without its members.
+    Object,
+}
+
+// The next value of the reader. Arrays and objects may nest `depth` deep. It takes no memory.
+#[cycle(read)]
+#[inline(always)]
+pub(crate) fn read_field<'a>(reader: &mut Reader<'a>, depth: usize) -> Result<Field<'a>, Invalid>
+    ensures ok { IfOk result (λ field. Shows field (value depth reader.old) reader.new) }
+    ensures err { IfErr result (λ _. converted of_json (value depth reader.old) ≡ None) }
+    ensures shorter { OnOk result (length reader.new < length reader.old) }
+{
+    let token = reader.next().ok_or(Invalid)?;
+    field_from(reader, token, depth)
+}
+
+// The value that begins with a token, which the reader has passed.
+#[cycle(read)]
+#[inline(always)]
+pub(crate) fn field_from<'a>(
+    reader: &mut Reader<'a>,
+    token: Token<'a>,
+    depth: usize,
+) -> Result<Field<'a>, Invalid>
+    ensures ok { IfOk result (λ field.
+        Shows field (value depth (token_of token.entry ∷ reader.old)) reader.new) }
+    ensures err { IfErr result (λ _.
+        converted of_json (value depth (token_of token.entry ∷ reader.old)) ≡ None) }
+    ensures no_longer { OnOk result (length reader.new ≤ length reader.old) }
+{
+    match token {
+        Token::String(text) => Ok(Field::Text(text)),
+        Token::Number(text) => match number_field(text) {
+            Some(field) => Ok(field),
+            None => Err(Invalid),
+        },
+        Token::Bool(true) => Ok(Field::True),
+        Token::Bool(false) => Ok(Field::False),
+        Token::Null => Ok(Field::Null),
+        Token::EndObject | Token::EndArray | Token::Key(_) | Token::Bad => Err(Invalid),
+        Token::BeginArray => {
+            if depth == 0 {
+                return Err(Invalid);
+            }
+            pass_items(reader, depth - 1)?;
+            Ok(Field::Array)
+        }
+        Token::BeginObject => {
+            if depth == 0 {
+                return Err(Invalid);
+            }
+            pass_members(reader, depth - 1)?;
+            Ok(Field::Object)
+        }
+    }
+}
+
+// Passes the items of an array that is open.
+#[cycle(read)]
+#[inline(never)]
+fn pass_items(reader: &mut Reader<'_>, depth: usize) -> Result<(), Invalid>
+    ensures ok { IfOk result (λ _. IsReadUpTo reader.new
+        (converted of_items (items (value depth) (length reader.old) reader.old))) }
+    ensures err { IfErr result (λ _.
+        converted of_items (items (value depth) (length reader.old) reader.old) ≡ None) }
+    ensures shorter { OnOk result (length reader.new < length reader.old) }
+{
+    'items: while !reader.take_end_array() {
+        let _ = read_field(reader, depth)?;
+    }
+    Ok(())
+}
+
+// Passes the members of an object that is open.
+#[cycle(read)]
+#[inline(never)]
+fn pass_members(reader: &mut Reader<'_>, depth: usize) -> Result<(), Invalid>
+    ensures ok { IfOk result (λ _. IsReadUpTo reader.new (converted
+        (λ ms. of_members ms no_members) (members (value depth) (length reader.old) reader.old))) }
+    ensures err { IfErr result (λ _. converted (λ ms. of_members ms no_members)
+        (members (value depth) (length reader.old) reader.old) ≡ None) }
+    ensures shorter { OnOk result (length reader.new < length reader.old) }
+{
+    'members: while let Some(_) = reader.next_key()? {
+        let _ = read_field(reader, depth)?;
+    }
+    Ok(())
+}
+
+// The field that a number is, given its text; `None` where it rounds to an infinite double.
+#[inline(always)]
+fn number_field<'a>(text: &str) -> Option<Field<'a>>
+    ensures some { IfSome result (λ field. ShowsNumber field (number_of text.now)) }
+    ensures none { IfNone result (number_of text.now ≡ None) }
+{
+    if let Some(number) = digits_in(text.as_bytes()) {
+        return Some(Field::Whole(number));
+    }
+    match number_in(text) {
+        Some(number) => Some(Field::Number(number)),
+        None => None,
+    }
+}
