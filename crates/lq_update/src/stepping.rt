@@ -77,8 +77,9 @@ impl<'s, 'a> Matches<'s, 'a> {
     /// Puts the messages of the change for the query behind those in a queue with room for three
     /// more.
     ///
-    /// They are those of `step_planned`. Asking `may_tell` first is faster where there is no message.
-    /// It takes memory for names alone. Refused: `NoMemory`; then the queue stays as it was.
+    /// They are those of `step_planned`. Asking `may_tell` first is faster where there is no
+    /// message. It takes memory for names alone. Refused: `NoMemory`; then the queue stays as it
+    /// was.
     #[inline(always)]
     pub fn put_step(
         &self,

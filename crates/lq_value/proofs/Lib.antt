@@ -1,6 +1,6 @@
 -- Read in this order. Matching: PatternLemmas, MatchingLemmas, SeekLemmas, LongLemmas, FlagLemmas,
--- MaskLemmas, StarredLemmas. Reading a source: PieceLemmas, ReadingLemmas, WrittenLemmas, SourceLemmas,
--- SourceLaws.
+-- MaskLemmas, StarredLemmas. Reading a source: PieceLemmas, ReadingLemmas, WrittenLemmas,
+-- SourceLemmas, SourceLaws.
 pub mod PatternLemmas
 pub mod MatchingLemmas
 pub mod StarredLemmas

@@ -4,6 +4,7 @@ use Rattle.lq_value.proofs.bits.put_codes.Goals as goal
 
 pub returns-clause-above : goal.returns-clause-above
 returns-clause-above c = λ x le. elim (cases_lt x c.loop-code.code) [
-  | inl below ↦ c.loop-code.invariant.below x (omega (arith, c.loop-code.invariant.end (omega arith)))
+  | inl below ↦
+      c.loop-code.invariant.below x (omega (arith, c.loop-code.invariant.end (omega arith)))
   | inr above ↦ c.loop-code.invariant.left x above
 ]

@@ -12,5 +12,6 @@ returns c =
     let text = c.in-Ok.ensures.cases in
     fetches-as (if-utf8 c.args.formula.now _ _ text.1
     ∙ ap (λ (formula : List ℕ). question_for (asks_fetch formula)) (sym text.0))
-    (fetches-made c.look-response.ensures.responds c.look-response.ensures.stays c.fetched.ensures.status
+    (fetches-made c.look-response.ensures.responds c.look-response.ensures.stays
+    c.fetched.ensures.status
     c.fetched.ensures.out c.fetched.ensures.after)

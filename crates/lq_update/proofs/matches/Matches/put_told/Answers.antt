@@ -21,6 +21,7 @@ returns-clause-ok c moved removed last =
     (λ n off. c.changes_touch_few.ensures.stay s change n volume lawful off)
     (λ n is. c.changes_touch_few.ensures.go s change n volume is)
     (ap (λ m. m.change) c.applied-made.ensures.value) removed last
-    (λ r. r.now) c.clobbered-taken.result c.in_ok-gone.gone c.is_below.result c.applied-made.result.node
+    (λ r. r.now) c.clobbered-taken.result c.in_ok-gone.gone c.is_below.result
+    c.applied-made.result.node
     c.clobbered-taken.ensures.node c.clobbered-taken.ensures.entry c.in_ok-gone.ensures.value
     (ap (λ m. m.node) c.applied-made.ensures.value) c.is_below.ensures)
