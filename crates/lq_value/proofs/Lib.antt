@@ -1,6 +1,6 @@
 -- Read in this order. Matching: PatternLemmas, MatchingLemmas, SeekLemmas, LongLemmas, FlagLemmas,
 -- MaskLemmas, StarredLemmas. Reading a source: PieceLemmas, ReadingLemmas, WrittenLemmas,
--- SourceLemmas, SourceLaws.
+-- ElementLemmas, SourceLemmas, SourceLaws.
 pub mod PatternLemmas
 pub mod MatchingLemmas
 pub mod StarredLemmas
@@ -11,5 +11,6 @@ pub mod MaskLemmas
 pub mod PieceLemmas
 pub mod ReadingLemmas
 pub mod WrittenLemmas
+pub mod ElementLemmas
 pub mod SourceLemmas
 pub mod SourceLaws

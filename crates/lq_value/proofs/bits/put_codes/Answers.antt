@@ -4,7 +4,8 @@ use Rattle.lq_value.proofs.bits.put_codes.Goals as goal
 
 pub returns-clause-above : goal.returns-clause-above
 returns-clause-above c = λ x le. elim (cases_lt x c.loop-code.code) [
-  | inl below ↦
-      c.loop-code.invariant.below x (omega (arith, c.loop-code.invariant.end (omega arith)))
+  | inl near ↦
+      let end = c.loop-code.invariant.end (omega arith) in
+      c.loop-code.invariant.below x (omega (arith, end))
   | inr above ↦ c.loop-code.invariant.left x above
 ]
