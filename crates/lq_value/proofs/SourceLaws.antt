@@ -12,7 +12,7 @@ use Rattle.lq_value.specs.Sign.{signs_of, signs_len}
 use Rattle.lq_value.specs.Source.{First, ends, has, faulty, Pieces, whole, stuck, begin, after_first, pieces_within, pieces_of, element_at, elements_or_place, pattern_of, fault_refusal, source_refusal}
 use Rattle.lq_value.specs.Written.{IsElement, Writes, HasFaultAt}
 use Rattle.lq_value.proofs.PieceLemmas.{begins, begins-whole, begins-stuck, begin-whole, pieces_of-step}
-use Rattle.lq_value.proofs.WrittenLemmas.{IsFirstElement, element_read, element_written}
+use Rattle.lq_value.proofs.ElementLemmas.{IsFirstElement, element_read, element_written}
 use Rattle.lq_value.proofs.SourceLemmas.{element_shrinks, signs-text, signs-split}
 
 -- ---- elements that are read are written

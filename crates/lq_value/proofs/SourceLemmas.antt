@@ -20,7 +20,7 @@ use Rattle.lq_value.specs.Source.{First, ends, has, faulty, element_at, elements
 use Rattle.lq_value.specs.Written.{IsElement}
 use Rattle.lq_value.specs.Reading.{IsFound, IsWithElement, AreFound}
 use Rattle.lq_value.proofs.PieceLemmas.{Shrinks, SoFar, so_far_more, so_far_end, so_far_stuck}
-use Rattle.lq_value.proofs.WrittenLemmas.{IsFirstElement, element_read}
+use Rattle.lq_value.proofs.ElementLemmas.{IsFirstElement, element_read}
 
 -- ---- the bytes of signs
 
