@@ -10,9 +10,10 @@ use crate::bits::put_elements;
 use crate::element::Element;
 use crate::run::kept;
 
-// The number of ASCII characters, and the most places of a text.
+// The number of ASCII characters.
 const ASCII: usize = 128;
 
+// The most places of a text that are read: 512 for one element, and one for each other element.
 const PLACES: usize = 544;
 
 // The number of characters that have masks: the ASCII ones, and the others of the text.
