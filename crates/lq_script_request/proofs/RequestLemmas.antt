@@ -10,7 +10,7 @@ use Rattle.serde_json.specs.Read.{read}
 use Rattle.lq_value.specs.declared.refusal.Refusal.{Refusal}
 use Rattle.lq_value.specs.declared.refusal.Refusal.TheVariants.{NoMemory, NotUtf8, NotJson}
 use Rattle.lq_script_request.specs.declared.question.Question.{Question}
-use Rattle.lq_script_request.specs.Request.{Asked, asked_by, asked_in, asked_from, asked_of, asked_or, needed_text, question_from, question_in}
+use Rattle.lq_script_request.specs.Request.{Asked, asked_by, asked_in, asked_from, asked_of, asked_or, needed_text, question_in}
 
 -- a line that isn't UTF-8 is refused as such
 pub asked-not_utf8 : (line : List ℕ) → ¬ IsUtf8 line → asked_in line ≡ Err NotUtf8
