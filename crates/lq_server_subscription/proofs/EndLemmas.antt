@@ -1,6 +1,6 @@
 -- A subscription as the book grows, and as it ends.
 use Rattle.std.proofs.Common.{◌≡◌, ℕ, ◌+◌, ◌<◌, ◌≤◌, Bool, true, false, true≢false, List, [], ◌∷◌, ◌++◌, length, Option, Some, None, refl, sym, ap, ◌∙◌, subst, arith, append_assoc, length-append}
-use Rattle.std.specs.Prelude.{IfSome, IsSome, nat_lt, is_none, ◌&&◌, Result, Ok, Err, OnOk}
+use Rattle.std.specs.Prelude.{IfSome, IsSome, nat_lt, is_none, ◌&&◌}
 use Rattle.std.proofs.lemmas.Bool.Decides.{nat_tests}
 use Rattle.lq_predicate_formula.specs.Query.{Query}
 use Rattle.lq_volume.specs.declared.change.Change.{Change}
@@ -317,11 +317,6 @@ first_answer u o n e f = at u (subst (ShutFits u) e f)
 -- the messages of a change are made
 pub ready_of : (s : State) (c : Change) (p q : Prepared) → q ≡ prepared s c p → IsReady q s c
 ready_of s c p q e = subst (λ (z : Prepared). IsReady z s c) (sym e) (λ _. (refl, refl))
-
--- a fact of an Ok gives another
-pub on_ok : {A E : Type 0} (r : Result A E) (P Q : Type 0) → OnOk r P → (P → Q) → OnOk r Q
-on_ok (Ok a) P Q h f = f h
-on_ok (Err e) P Q h f = tt
 
 -- a commit makes it stand over the book with the change
 pub committed_stands : (p q : Prepared) (e : End Delivery Opening) (places : ℕ) (shut : Shut)
