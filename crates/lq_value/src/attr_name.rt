@@ -13,12 +13,13 @@ ghost use Rattle.lq_value.specs.Field.{field_of};
 
 use crate::field::Field;
 use crate::refusal::Refusal;
-use crate::shared_text::SharedText;
+use crate::small_text::SmallText;
 use crate::text::same_text;
 use std::alloc::Global;
 use std::fmt;
 use std::hash::{Hash, Hasher};
 use std::marker::Model;
+use std::sync::Arc;
 
 /// The longest name of an attribute, in bytes.
 pub const MAX_ATTR_NAME: usize = 255;
@@ -26,17 +27,23 @@ pub const MAX_ATTR_NAME: usize = 255;
 /// The name of an attribute: 1 to 255 bytes of UTF-8 without NUL.
 ///
 /// A contract sees it as its bytes. A name and its copies share one text, which is freed with the
-/// last of them. The name keeps the field that it stands for, so that no later look-up compares
+/// last of them. Beside the text stands the field that it means, so that no later look-up compares
 /// texts for it.
 pub struct AttrName {
-    text: SharedText,
+    shared: Arc<FieldName>,
+}
+
+/// The text of an attribute's name and the field that it means. A contract sees it as its bytes.
+#[derive(Drop)]
+struct FieldName {
+    text: SmallText,
     field: Field,
 }
 
 // Dropping one is a single call, instead of code at each place.
 impl Drop for AttrName {
     fn drop(self) {
-        let AttrName { text: _, field: _ } = self;
+        let AttrName { shared: _ } = self;
     }
 }
 
@@ -47,16 +54,40 @@ impl fmt::Debug for AttrName {
 }
 
 impl Model for AttrName {
+    ghost use Rattle.std.specs.Prelude.{ℕ, List};
+    ghost use Rattle.std.specs.Arc.{arc_value};
+
+    ghost Value = { List ℕ };
+
+    ghost view = { λ name. arc_value name.shared };
+}
+
+impl Model for FieldName {
     ghost use Rattle.std.specs.Prelude.{◌≡◌, ℕ, List, IsTrue};
     ghost use Rattle.lq_value.specs.Field.{field_of};
     ghost use Rattle.lq_value.specs.Name.{is_attr_name};
 
     ghost Value = { List ℕ };
 
-    ghost view = { λ name. name.text };
+    ghost view = { λ known. known.text };
 
-    ghost invariant = { λ name.
-        IsTrue (is_attr_name name.text) × (name.field ≡ field_of name.text) };
+    ghost invariant = { λ known.
+        IsTrue (is_attr_name known.text) × (known.field ≡ field_of known.text) };
+}
+
+impl FieldName {
+    fn as_str(&self) -> &str
+        ensures value { result.now ≡ self.now }
+        ensures valid { IsTrue (is_attr_name self.now) }
+    {
+        self.text.as_str()
+    }
+
+    fn field(&self) -> Field
+        ensures { result ≡ field_of self.now }
+    {
+        self.field
+    }
 }
 
 impl AttrName {
@@ -72,9 +103,12 @@ impl AttrName {
         if !is_attr_name_text(text) {
             return Err(Refusal::BadName);
         }
-        Ok(AttrName {
-            text: SharedText::new(alloc, text)?,
+        let known = FieldName {
+            text: SmallText::new(alloc, text)?,
             field: field_of_text(text),
+        };
+        Ok(AttrName {
+            shared: Arc::new(alloc, known)?,
         })
     }
 
@@ -83,14 +117,14 @@ impl AttrName {
         ensures value { result.now ≡ self.now }
         ensures valid { IsTrue (is_attr_name self.now) }
     {
-        self.text.as_str()
+        self.shared.as_str()
     }
 
     /// The field of an entry that the name stands for, or `Attribute`. It takes no memory.
     pub fn field(&self) -> Field
         ensures { result ≡ field_of self.now }
     {
-        self.field
+        self.shared.field()
     }
 
     /// Another name that shares this one's text, which takes no memory.
@@ -102,10 +136,11 @@ impl AttrName {
         ensures value { IfOk result (λ name. name ≡ self.now) }
         ensures valid { IfOk result (λ name. IsTrue (is_attr_name name)) }
     {
-        Ok(AttrName {
-            text: self.text.copy(alloc)?,
-            field: self.field,
-        })
+        let text = self.as_str();
+        match self.shared.clone() {
+            Ok(shared) => Ok(AttrName { shared }),
+            Err(_) => AttrName::read(alloc, text),
+        }
     }
 }
 
