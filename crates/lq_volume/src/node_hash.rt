@@ -7,14 +7,17 @@ use std::hash::{BuildHasherDefault, Hasher};
 /// An odd number, 2^64 over the golden ratio: its multiples spread over all numbers.
 const FACTOR: u64 = 0x9e37_79b9_7f4a_7c15;
 
-/// Tells apart the hashes of four nodes in a row, by their two highest bits.
-const APART: u64 = 1 << 62;
+/// The upper half of a product with `FACTOR` is the product over this.
+const HALF: u64 = 1 << 32;
+
+/// Tells apart the hashes of four nodes in a row.
+const APART: u64 = 1 << 30;
 
 /// The hasher of nodes.
 ///
-/// The nodes 4 k to 4 k + 3 have hashes that differ in the two highest bits alone. So a map has
-/// them in one place, as long as there is room, and a new entry mostly comes where the last one
-/// did.
+/// The map keeps entries in groups, one line of the cache each, and takes the group from the low
+/// bits of a hash. Four nodes in a row share a group, and 64 have sixteen groups in a row. So a new
+/// entry mostly comes where the last one did or beside it, and the runs of groups spread evenly.
 #[derive(Clone, Copy)]
 pub struct NodeHasher {
     hash: u64,
@@ -49,7 +52,8 @@ impl Hasher for NodeHasher {
 fn hash_of(node: u64) -> u64
     ensures { result ≡ node_hash node }
 {
-    (node / 4).wrapping_mul(FACTOR) ^ (node % 4 * APART)
+    let start = (node / 64).wrapping_mul(FACTOR) / HALF;
+    (start + node / 4 % 16) ^ (node % 4 * APART)
 }
 
 // The number whose eight bytes these are, the lowest first.
