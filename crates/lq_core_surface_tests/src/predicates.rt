@@ -55,9 +55,8 @@ fn a_predicate_holds_of_a_row(rt: HostRuntime) -> Result<(), Fail> {
     Ok(())
 }
 
-// The canonical text of a comparison of `a` with what is pushed by a call.
-fn compared(alloc: Global, number: u64, op: StackOp) -> Result<String, Refusal> {
-    let mut stack = Stack::new(alloc);
+// Pushes `a`, a value by a call of this number, and an operator.
+fn push(stack: &mut Stack, number: u64, op: StackOp) -> Result<(), Refusal> {
     stack.push_attr("a")?;
     match number {
         1 => stack.push_text("t*")?,
@@ -66,7 +65,13 @@ fn compared(alloc: Global, number: u64, op: StackOp) -> Result<String, Refusal> 
         4 => stack.push_uint32(4)?,
         _ => stack.push_uint64(5)?,
     }
-    stack.push_op(op)?;
+    stack.push_op(op)
+}
+
+// The canonical text of that comparison.
+fn compared(alloc: Global, number: u64, op: StackOp) -> Result<String, Refusal> {
+    let mut stack = Stack::new(alloc);
+    push(&mut stack, number, op)?;
     let predicate = stack.finish()?;
     write(alloc, &predicate)
 }

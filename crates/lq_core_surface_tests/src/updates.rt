@@ -89,12 +89,24 @@ fn message(alloc: Global, seq: u64, change: u64, op: Opcode) -> Result<Message, 
     })
 }
 
+// Folds a message of a file `a` at node 2.
+fn fold(
+    alloc: Global,
+    rebuild: &mut Rebuild,
+    seq: u64,
+    change: u64,
+    op: Opcode,
+) -> Result<(), Refusal> {
+    let message = message(alloc, seq, change, op)?;
+    rebuild.apply(&message)
+}
+
 #[test]
 fn a_rebuild_keeps_a_result(rt: HostRuntime) -> Result<(), Fail> {
     let alloc = rt.alloc();
     let mut rebuild = Rebuild::new(alloc, 3, Vec::new(alloc));
     assert!(rt; rebuild.is_settled() && rebuild.last_change() == 3);
-    rebuild.apply(&message(alloc, 1, 4, Opcode::Created)?)?;
+    fold(alloc, &mut rebuild, 1, 4, Opcode::Created)?;
     let is_right = match rebuild.result() {
         [entry] => entry.dir == 1 && entry.name.as_str() == "a" && entry.node == 2,
         _ => false,
@@ -107,9 +119,9 @@ fn a_rebuild_keeps_a_result(rt: HostRuntime) -> Result<(), Fail> {
 fn a_message_that_does_not_fit_is_refused(rt: HostRuntime) -> Result<(), Fail> {
     let alloc = rt.alloc();
     let mut rebuild = Rebuild::new(alloc, 3, Vec::new(alloc));
-    let refused = rebuild.apply(&message(alloc, 1, 3, Opcode::Created)?).err();
+    let refused = fold(alloc, &mut rebuild, 1, 3, Opcode::Created).err();
     assert!(rt; refused == Some(Refusal::OutOfStep));
-    let refused = rebuild.apply(&message(alloc, 1, 4, Opcode::Removed)?).err();
+    let refused = fold(alloc, &mut rebuild, 1, 4, Opcode::Removed).err();
     assert!(rt; refused == Some(Refusal::Mismatch));
     assert!(rt; rebuild.result().is_empty() && rebuild.last_change() == 3);
     Ok(())
