@@ -1,5 +1,5 @@
 -- Parcels under their rule.
-use Rattle.std.proofs.Common.{◌≡◌, List, [], ◌∷◌, ◌++◌, length, Option, None, refl, sym, ap, ◌∙◌, subst, append_assoc, append-nil}
+use Rattle.std.proofs.Common.{◌≡◌, false, true≢false, List, [], ◌∷◌, ◌++◌, length, Option, Some, None, is_some, refl, sym, ap, ◌∙◌, subst, append_assoc, append-nil}
 use Rattle.std.specs.Prelude.{IfSome}
 use mathlib.Core.List.{IsPrefix}
 use Rattle.lq_volume.specs.Book.{Book, Extends}
@@ -14,6 +14,11 @@ use Rattle.lq_server_subscription.specs.Rule.{book_of, floor_of, query_of, messa
 use Rattle.lq_server_subscription.specs.LegalList.{known_by, LegalList}
 use Rattle.lq_server_subscription.proofs.Books.{extends_self, extends_trans}
 use Rattle.lq_server_subscription.proofs.UpdateLemmas.{updates-front}
+
+-- an option that has no value
+pub none-of : {A : Type 0} (o : Option A) → is_some o ≡ false → o ≡ None
+none-of None absent = refl
+none-of (Some x) absent = absurd (true≢false absent)
 
 -- a list is a prefix of itself
 pub prefix_self : {A : Type 0} (xs : List A) → IsPrefix xs xs

@@ -76,7 +76,8 @@ pub fn pump<R: Wait>(rt: &R, keeper: &Keeper<Identity>, slot: &mut Subscription)
     ensures alike { SameButPuts slot.old slot.new }
     ensures stuck { IsStuck slot.new }
 {
-    while put_one(rt, keeper, slot) {}
+    // Asked first, so that nothing is moved where nothing is left.
+    while slot.sub.has_next() && put_one(rt, keeper, slot) {}
 }
 
 /// Puts until nothing is left to put or the port is full, and answers how many parcels wait in it.

@@ -212,8 +212,8 @@ impl Reading {
         ensures over { IsSome (mark_read self.old) → result ≡ Ok Read.Ended }
     {
         rebuilds_take_all();
-        if let Some(message) = self.hand.take() {
-            return keep(&mut self.rebuild, &mut self.hand, message);
+        if self.hand.is_some() {
+            return self.read_hand();
         }
         if self.ended {
             return Ok(Read::Ended);
@@ -229,6 +229,27 @@ impl Reading {
             }
             Parcel::Update(message) => keep(&mut self.rebuild, &mut self.hand, message),
         }
+    }
+
+    // Gives the message in hand. Few reads have one, and the others then move none.
+    #[inline(never)]
+    fn read_hand(&mut self) -> Result<Read, Refusal>
+        requires hand { IsSome self.old.hand }
+        ensures refused { IsRefusedBy result None }
+        ensures same { IsSamePort self.old.port self.new.port }
+        ensures known { Extends (known self.new) (known self.old) }
+        ensures received { IsPrefix (received self.new)
+            (whole self.new.port.floor (known self.new)) }
+        ensures gives { IfOk result (Gives self.old self.new) }
+        ensures fails { OnErr result (Fails self.old self.new) }
+        ensures hand { OnErr result (IsSome self.new.hand) }
+        ensures over { IsSome (mark_read self.old) → result ≡ Ok Read.Ended }
+    {
+        rebuilds_take_all();
+        let Some(message) = self.hand.take() else {
+            unreachable!()
+        };
+        keep(&mut self.rebuild, &mut self.hand, message)
     }
 
     /// How many parcels wait, found with both ends of the port.
@@ -253,13 +274,15 @@ impl Reading {
     }
 }
 
-// Folds a message, or keeps it in hand where memory runs out.
+// Folds a message, or keeps it in hand where memory runs out. No other message is in hand.
+#[inline(always)]
 fn keep(
     rebuild: &mut Rebuild,
     hand: &mut Option<Message>,
     message: Message,
 ) -> Result<Read, Refusal>
-    requires { first_refusal (fold_refusals rebuild.old message) ≡ None }
+    requires fits { first_refusal (fold_refusals rebuild.old message) ≡ None }
+    requires free { hand.old ≡ None }
     ensures refused { IsRefusedBy result None }
     ensures ok { OnOk result
         ((rebuild.new ≡ folding_after rebuild.old message) × (hand.new ≡ None)) }
@@ -267,10 +290,7 @@ fn keep(
     ensures read { IfOk result (λ r. r ≡ Read.Update message) }
 {
     match rebuild.apply(&message) {
-        Ok(()) => {
-            *hand = None;
-            Ok(Read::Update(message))
-        }
+        Ok(()) => Ok(Read::Update(message)),
         Err(refusal) => {
             *hand = Some(message);
             Err(refusal)

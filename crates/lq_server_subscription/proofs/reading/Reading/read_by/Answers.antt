@@ -1,7 +1,6 @@
-use Rattle.std.proofs.Common.{◌≡◌, Some, None, true, Option, refl, sym, subst}
+use Rattle.std.proofs.Common.{true, refl, sym, subst, ◌∙◌}
 use Rattle.std.specs.Prelude.{IsSome}
 use Rattle.lq_volume.specs.Book.{Extends}
-use Rattle.lq_update.specs.declared.message.Message.{Message}
 use Rattle.lq_port.specs.End.{End}
 use Rattle.lq_server_subscription.specs.declared.delivery.Delivery.{Delivery}
 use Rattle.lq_server_subscription.specs.declared.delivery.Opening.{Opening}
@@ -9,95 +8,42 @@ use Rattle.lq_server_subscription.specs.LegalList.{known_by}
 use Rattle.lq_server_subscription.specs.Reading.{ReadingHold, Reads, Gives, Fails, known, mark_read}
 use Rattle.lq_desk_sub.specs.declared.read.Read.TheVariants.{Update, Fin}
 use Rattle.lq_server_subscription.proofs.Books.{extends_self}
-use Rattle.lq_server_subscription.proofs.ReadLemmas.{hold, received_front, hand_fits, kept_hand, stays_hand, fails_hand, later, update_fits, took, took_in_hand, took_gives, took_fails, took_mark, gives_mark, opened_then, hand_first, live_unmarked, on_err, ok_with, either}
+use Rattle.lq_server_subscription.proofs.PortLemmas.{none-of}
+use Rattle.lq_server_subscription.proofs.ReadLemmas.{hold, received_front, later, update_fits, took, took_in_hand, took_gives, took_fails, took_mark, gives_mark, opened_then, live_unmarked, on_err, ok_with, either}
 use Rattle.lq_server_subscription.proofs.reading.Reading.read_by.Goals as goal
-
-pub keep-requires : goal.keep-requires
-keep-requires g c =
-    let i = c.self.inside in
-    let there : i.hand ≡ Some c.in-Some.message = cc in
-    hand_fits c.rebuilds_take_all.ensures i.output i.rebuild c.in-Some.message i.ended
-    (subst (λ (z : Option Message). Reads i.output i.rebuild z i.ended) there
-    c.self.invariant.0)
-
-pub invariant_of-self : goal.invariant_of-self
-invariant_of-self g c =
-    let i = c.self.inside in
-    let k = c.keep in
-    let there : i.hand ≡ Some c.in-Some.message = cc in
-    let r = subst (λ (z : Option Message). Reads i.output i.rebuild z i.ended) there
-    c.self.invariant.0 in (
-      either k.result _ _ (Reads i.output k.new.rebuild k.new.hand i.ended) k.ensures.ok
-          k.ensures.err
-          (kept_hand c.rebuilds_take_all.ensures i.output i.rebuild c.in-Some.message i.ended r
-          k.new.rebuild k.new.hand)
-          (stays_hand c.rebuilds_take_all.ensures i.output i.rebuild c.in-Some.message i.ended r
-          k.new.rebuild k.new.hand),
-      c.self.invariant.1,
-    )
-
-pub returns-in-Some-clause-received : goal.returns-in-Some-clause-received
-returns-in-Some-clause-received g c =
-    let i = c.self.inside in
-    let k = c.keep in
-    let there : i.hand ≡ Some c.in-Some.message = cc in
-    let r = subst (λ (z : Option Message). Reads i.output i.rebuild z i.ended) there
-    c.self.invariant.0 in
-    received_front i.output k.new.hand k.new.rebuild i.ended
-    (either k.result _ _ (Reads i.output k.new.rebuild k.new.hand i.ended) k.ensures.ok
-    k.ensures.err
-    (kept_hand c.rebuilds_take_all.ensures i.output i.rebuild c.in-Some.message i.ended r
-    k.new.rebuild k.new.hand)
-    (stays_hand c.rebuilds_take_all.ensures i.output i.rebuild c.in-Some.message i.ended r
-    k.new.rebuild k.new.hand))
-
-pub returns-in-Some-clause-fails : goal.returns-in-Some-clause-fails
-returns-in-Some-clause-fails g c =
-    let i = c.self.inside in
-    let k = c.keep in
-    let there : i.hand ≡ Some c.in-Some.message = cc in
-    let r = subst (λ (z : Option Message). Reads i.output i.rebuild z i.ended) there
-    c.self.invariant.0 in
-    on_err k.result _ _ k.ensures.err
-    (λ f. subst (λ (z : ReadingHold). Fails z (hold i.output k.new.hand k.new.rebuild))
-    c.self.view_is
-    (subst (λ (z : Option Message). Fails (hold i.output z i.rebuild)
-    (hold i.output k.new.hand k.new.rebuild)) (sym there)
-    (fails_hand c.rebuilds_take_all.ensures i.output i.rebuild c.in-Some.message i.ended r
-    k.new.rebuild k.new.hand f)))
 
 pub invariant_of-self-in-Fin : goal.invariant_of-self-in-Fin
 invariant_of-self-in-Fin g c =
     let i = c.self.inside in
-    let a = c.in-Some-take_one.ensures in
-    let none : i.hand ≡ None = cc in (
-      took_mark i.output c.take_one.new.output c.in-Some-take_one.item a.port a.some a.follows
+    let a = c.in-Some.ensures in
+    let none = none-of i.hand (sym c.is_some.ensures ∙ c.if-is_some.false) in (
+      took_mark i.output c.take_one.new.output c.in-Some.item a.port a.some a.follows
           i.rebuild i.hand i.ended none c.if-self.false c.self.invariant.0 c.in-Fin.mark c.in-Fin.is
-          c.take.new.self c.take.ensures.after,
+          i.hand none,
       opened_then i.output c.take_one.new.output a.port i.opened c.self.invariant.1,
     )
 
-pub keep-requires-in-Update : goal.keep-requires-in-Update
-keep-requires-in-Update g c =
+pub keep-requires-clause-fits : goal.keep-requires-clause-fits
+keep-requires-clause-fits g c =
     let i = c.self.inside in
-    let a = c.in-Some-take_one.ensures in
-    let none : i.hand ≡ None = cc in
-    update_fits i.output c.take_one.new.output c.in-Some-take_one.item a.port a.some a.follows
+    let a = c.in-Some.ensures in
+    let none = none-of i.hand (sym c.is_some.ensures ∙ c.if-is_some.false) in
+    update_fits i.output c.take_one.new.output c.in-Some.item a.port a.some a.follows
     i.rebuild i.hand i.ended none c.if-self.false c.self.invariant.0 c.in-Update.message
     c.in-Update.is c.rebuilds_take_all.ensures
 
 pub invariant_of-self-in-Update : goal.invariant_of-self-in-Update
 invariant_of-self-in-Update g c =
     let i = c.self.inside in
-    let a = c.in-Some-take_one.ensures in
-    let k = c.keep-in-Update in
-    let none : i.hand ≡ None = cc in (
+    let a = c.in-Some.ensures in
+    let k = c.keep in
+    let none = none-of i.hand (sym c.is_some.ensures ∙ c.if-is_some.false) in (
       either k.result _ _ (Reads c.take_one.new.output k.new.rebuild k.new.hand i.ended)
           k.ensures.ok k.ensures.err
-          (took i.output c.take_one.new.output c.in-Some-take_one.item a.port a.some a.follows
+          (took i.output c.take_one.new.output c.in-Some.item a.port a.some a.follows
           i.rebuild i.hand i.ended none c.if-self.false c.self.invariant.0 c.in-Update.message
           c.in-Update.is k.new.rebuild k.new.hand)
-          (took_in_hand i.output c.take_one.new.output c.in-Some-take_one.item a.port a.some
+          (took_in_hand i.output c.take_one.new.output c.in-Some.item a.port a.some
           a.follows i.rebuild i.hand i.ended none c.if-self.false c.self.invariant.0
           c.in-Update.message c.in-Update.is k.new.rebuild k.new.hand),
       opened_then i.output c.take_one.new.output a.port i.opened c.self.invariant.1,
@@ -105,122 +51,99 @@ invariant_of-self-in-Update g c =
 
 pub returns-in-Fin-clause-known : goal.returns-in-Fin-clause-known
 returns-in-Fin-clause-known g c =
-    let a = c.in-Some-take_one.ensures in
+    let a = c.in-Some.ensures in
     subst (λ (z : ReadingHold). Extends
     (known_by c.take_one.new.output.floor c.take_one.new.output.taken) (known z)) c.self.view_is
-    (later c.self.inside.output c.take_one.new.output c.in-Some-take_one.item a.port a.some
+    (later c.self.inside.output c.take_one.new.output c.in-Some.item a.port a.some
     a.follows)
 
 pub returns-in-Fin-clause-received : goal.returns-in-Fin-clause-received
 returns-in-Fin-clause-received g c =
     let i = c.self.inside in
-    let a = c.in-Some-take_one.ensures in
-    let none : i.hand ≡ None = cc in
-    received_front c.take_one.new.output c.take.new.self i.rebuild true
-    (took_mark i.output c.take_one.new.output c.in-Some-take_one.item a.port a.some a.follows
+    let a = c.in-Some.ensures in
+    let none = none-of i.hand (sym c.is_some.ensures ∙ c.if-is_some.false) in
+    received_front c.take_one.new.output i.hand i.rebuild true
+    (took_mark i.output c.take_one.new.output c.in-Some.item a.port a.some a.follows
     i.rebuild i.hand i.ended none c.if-self.false c.self.invariant.0 c.in-Fin.mark c.in-Fin.is
-    c.take.new.self c.take.ensures.after)
+    i.hand none)
 
 pub returns-in-Fin-clause-gives : goal.returns-in-Fin-clause-gives
 returns-in-Fin-clause-gives g c =
     let i = c.self.inside in
-    let a = c.in-Some-take_one.ensures in
-    let none : i.hand ≡ None = cc in
-    subst (λ (z : ReadingHold). Gives z (hold c.take_one.new.output c.take.new.self i.rebuild)
+    let a = c.in-Some.ensures in
+    let none = none-of i.hand (sym c.is_some.ensures ∙ c.if-is_some.false) in
+    subst (λ (z : ReadingHold). Gives z (hold c.take_one.new.output i.hand i.rebuild)
     (Fin c.in-Fin.mark)) c.self.view_is
-    (gives_mark i.output c.take_one.new.output c.in-Some-take_one.item a.port a.some a.follows
+    (gives_mark i.output c.take_one.new.output c.in-Some.item a.port a.some a.follows
     i.rebuild i.hand i.ended none c.if-self.false c.self.invariant.0 c.in-Fin.mark c.in-Fin.is
-    c.take.new.self c.take.ensures.after)
+    i.hand none)
 
 pub returns-in-Update-clause-known : goal.returns-in-Update-clause-known
 returns-in-Update-clause-known g c =
-    let a = c.in-Some-take_one.ensures in
+    let a = c.in-Some.ensures in
     subst (λ (z : ReadingHold). Extends
     (known_by c.take_one.new.output.floor c.take_one.new.output.taken) (known z)) c.self.view_is
-    (later c.self.inside.output c.take_one.new.output c.in-Some-take_one.item a.port a.some
+    (later c.self.inside.output c.take_one.new.output c.in-Some.item a.port a.some
     a.follows)
 
 pub returns-in-Update-clause-received : goal.returns-in-Update-clause-received
 returns-in-Update-clause-received g c =
     let i = c.self.inside in
-    let a = c.in-Some-take_one.ensures in
-    let k = c.keep-in-Update in
-    let none : i.hand ≡ None = cc in
+    let a = c.in-Some.ensures in
+    let k = c.keep in
+    let none = none-of i.hand (sym c.is_some.ensures ∙ c.if-is_some.false) in
     received_front c.take_one.new.output k.new.hand k.new.rebuild i.ended
     (either k.result _ _ (Reads c.take_one.new.output k.new.rebuild k.new.hand i.ended) k.ensures.ok
     k.ensures.err
-    (took i.output c.take_one.new.output c.in-Some-take_one.item a.port a.some a.follows i.rebuild
+    (took i.output c.take_one.new.output c.in-Some.item a.port a.some a.follows i.rebuild
     i.hand i.ended none c.if-self.false c.self.invariant.0 c.in-Update.message c.in-Update.is
     k.new.rebuild k.new.hand)
-    (took_in_hand i.output c.take_one.new.output c.in-Some-take_one.item a.port a.some a.follows
+    (took_in_hand i.output c.take_one.new.output c.in-Some.item a.port a.some a.follows
     i.rebuild i.hand i.ended none c.if-self.false c.self.invariant.0 c.in-Update.message
     c.in-Update.is k.new.rebuild k.new.hand))
 
 pub returns-in-Update-clause-gives : goal.returns-in-Update-clause-gives
 returns-in-Update-clause-gives g c =
     let i = c.self.inside in
-    let a = c.in-Some-take_one.ensures in
-    let k = c.keep-in-Update in
-    let none : i.hand ≡ None = cc in
+    let a = c.in-Some.ensures in
+    let k = c.keep in
+    let none = none-of i.hand (sym c.is_some.ensures ∙ c.if-is_some.false) in
     ok_with k.result _ (Update c.in-Update.message) _ k.ensures.ok k.ensures.read
     (λ f. subst
     (λ (z : ReadingHold). Gives z (hold c.take_one.new.output k.new.hand k.new.rebuild)
     (Update c.in-Update.message)) c.self.view_is
-    (took_gives i.output c.take_one.new.output c.in-Some-take_one.item a.port a.some a.follows
+    (took_gives i.output c.take_one.new.output c.in-Some.item a.port a.some a.follows
     i.rebuild i.hand i.ended none c.if-self.false c.self.invariant.0 c.in-Update.message
     c.in-Update.is k.new.rebuild k.new.hand f))
 
 pub returns-in-Update-clause-fails : goal.returns-in-Update-clause-fails
 returns-in-Update-clause-fails g c =
     let i = c.self.inside in
-    let a = c.in-Some-take_one.ensures in
-    let k = c.keep-in-Update in
-    let none : i.hand ≡ None = cc in
+    let a = c.in-Some.ensures in
+    let k = c.keep in
+    let none = none-of i.hand (sym c.is_some.ensures ∙ c.if-is_some.false) in
     on_err k.result _ _ k.ensures.err
     (λ f. subst (λ (z : ReadingHold). Fails z (hold c.take_one.new.output k.new.hand k.new.rebuild))
     c.self.view_is
-    (took_fails i.output c.take_one.new.output c.in-Some-take_one.item a.port a.some a.follows
+    (took_fails i.output c.take_one.new.output c.in-Some.item a.port a.some a.follows
     i.rebuild i.hand i.ended none c.if-self.false c.self.invariant.0 c.in-Update.message
     c.in-Update.is k.new.rebuild k.new.hand f))
 
-pub returns-in-Some-clause-known : goal.returns-in-Some-clause-known
-returns-in-Some-clause-known g c =
-    let e = c.self.inside.output in
-    subst (λ (z : ReadingHold). Extends (known_by e.floor e.taken) (known z)) c.self.view_is
-    (extends_self (known_by e.floor e.taken))
-
-pub returns-then-self-clause-known : goal.returns-then-self-clause-known
-returns-then-self-clause-known g c =
-    let e = c.self.inside.output in
-    subst (λ (z : ReadingHold). Extends (known_by e.floor e.taken) (known z)) c.self.view_is
-    (extends_self (known_by e.floor e.taken))
-
-pub returns-in_default-take_one-clause-known : goal.returns-in_default-take_one-clause-known
-returns-in_default-take_one-clause-known g c =
+pub returns-in_default-clause-known : goal.returns-in_default-clause-known
+returns-in_default-clause-known g c =
     let e = c.take_one.new.output in
     subst (λ (z : ReadingHold). Extends (known_by e.floor e.taken) (known z)) c.self.view_is
     (subst (λ (d : End Delivery Opening). Extends (known_by e.floor e.taken)
-    (known_by d.floor d.taken)) c.in_default-take_one.ensures.none
+    (known_by d.floor d.taken)) c.in_default.ensures.none
     (extends_self (known_by e.floor e.taken)))
-
-pub returns-in-Some-clause-hand : goal.returns-in-Some-clause-hand
-returns-in-Some-clause-hand g c =
-    on_err c.keep.result _ _ c.keep.ensures.err (λ f. subst IsSome (sym f.1) refl)
 
 pub returns-in-Update-clause-hand : goal.returns-in-Update-clause-hand
 returns-in-Update-clause-hand g c =
-    on_err c.keep-in-Update.result _ _ c.keep-in-Update.ensures.err
+    on_err c.keep.result _ _ c.keep.ensures.err
     (λ f. subst IsSome (sym f.1) refl)
 
-pub returns-in-Some-clause-over : goal.returns-in-Some-clause-over
-returns-in-Some-clause-over g c = λ some.
-    let i = c.self.inside in
-    let there : i.hand ≡ Some c.in-Some.message = cc in
-    absurd (hand_first i.output i.rebuild i.hand c.in-Some.message i.ended c.self.invariant.0 there
-    (subst (λ (z : ReadingHold). IsSome (mark_read z)) (sym c.self.view_is) some))
-
-pub returns-in_default-take_one-clause-over : goal.returns-in_default-take_one-clause-over
-returns-in_default-take_one-clause-over g c = λ some.
+pub returns-in_default-clause-over : goal.returns-in_default-clause-over
+returns-in_default-clause-over g c = λ some.
     let i = c.self.inside in
     absurd (live_unmarked i.output i.rebuild i.hand i.ended c.self.invariant.0 c.if-self.false
     (subst (λ (z : ReadingHold). IsSome (mark_read z)) (sym c.self.view_is) some))
