@@ -136,11 +136,10 @@ impl<N: Named> Locked<N> {
         ensures later { Extends seat.new.book seat.old.book }
         ensures number { result ≡ length self.old.keeper.book.changes }
     {
-        let place = seat.slot();
-        if place == 0 {
+        if seat.slot() == 0 {
             return board.meet(&mut self.slots.keeper, seat);
         }
-        meet_in(board, &mut self.slots, place as usize, seat)
+        meet_in(board, &mut self.slots, seat)
     }
 
     /// The keeper and the volume.

@@ -15,6 +15,7 @@ use crate::named::{Named, Seat};
 use crate::reader::Reader;
 use crate::server::{Server, Synced};
 use lq_predicate::Predicate;
+use lq_server_slots::Asked;
 use lq_value::Refusal;
 use std::sync::Wait;
 
@@ -50,10 +51,13 @@ impl<N: Named> Server<N> {
         ensures table { (under : SlotsOf)
             × IsAnsweredOver under N.start seat.new.book port backlog result }
     {
-        let opened = self
-            .state
-            .lock(rt)
-            .open(&self.board, seat, predicate, port, backlog, moved)?;
+        let asked = Asked {
+            predicate,
+            port,
+            backlog,
+            moved,
+        };
+        let opened = self.state.lock(rt).open(&self.board, seat, &asked)?;
         Ok(Reader {
             reading: opened.reading,
             seat: opened.seat,
@@ -72,13 +76,10 @@ impl<N: Named> Server<N> {
         ensures { IsSynced reader.old reader.new result }
     {
         reader.reading.told();
-        let progress = self.state.lock(rt).sync(
-            rt,
-            &self.board,
-            reader.slot,
-            &mut reader.seat,
-            &mut reader.reading,
-        );
+        let progress = self
+            .state
+            .lock(rt)
+            .sync(rt, &self.board, &mut reader.seat, &mut reader.reading);
         let waiting = waiting(
             progress.waiting,
             reader.reading.has_hand(),
@@ -111,10 +112,7 @@ impl<N: Named> Server<N> {
         requires own { IsOwn reader.old }
         ensures { IsCloseAnswer reader.old reader.new result }
     {
-        let closed = self
-            .state
-            .lock(rt)
-            .close(rt, &self.board, reader.slot, &mut reader.seat);
+        let closed = self.state.lock(rt).close(rt, &self.board, &mut reader.seat);
         closed.ok_or(Refusal::NotOpen)
     }
 
@@ -135,12 +133,10 @@ impl<N: Named> Server<N> {
         let Reader {
             reading: _,
             seat,
-            slot,
+            slot: _,
             hang_up_asked,
         } = reader;
-        self.state
-            .lock(rt)
-            .free(&self.board, slot, seat, hang_up_asked);
+        self.state.lock(rt).free(&self.board, seat, hang_up_asked);
         Ok(())
     }
 }

@@ -1,6 +1,6 @@
 -- What a change under the lock answers, and what it makes of the book, the volume and the seat of
 -- its author.
-use Rattle.std.specs.Prelude.{◌≡◌, [], ◌∷◌, length, Result, IfOk, OnOk, OnErr}
+use Rattle.std.specs.Prelude.{◌≡◌, ℕ, ◌≤◌, None, [], ◌∷◌, length, Result, IfOk, OnOk, OnErr}
 use Rattle.lq_value.specs.declared.refusal.Refusal.{Refusal}
 use Rattle.lq_value.specs.Refusal.{IsRefusedBy}
 use Rattle.lq_volume.specs.State.{State}
@@ -9,8 +9,11 @@ use Rattle.lq_volume.specs.declared.change.Applied.{Applied}
 use Rattle.lq_volume.specs.Book.{Book, Extends, grown}
 use Rattle.lq_volume.specs.Change.{refused, node_of}
 use Rattle.lq_board.specs.Author.{with_change}
+use Rattle.lq_board.specs.Slot.{slot_at}
 use Rattle.lq_board.specs.Token.{SeatToken}
 use Rattle.lq_server_subscription.specs.declared.identity.Identity.{Identity}
+use Rattle.lq_server_slots.specs.declared.slots.Slots.{Slots}
+use Rattle.lq_server_slots.specs.Slots.{AllReady, IsNoticed, SlotsAre, SlotsStand}
 
 -- A change was made, or refused. The volume was v and is w, the book b and d, the author's seat s
 -- and t. Refused, the book and the seat's own changes stay. Made, it is the last of the book, under
@@ -28,3 +31,18 @@ pub record IsChangeMade (change : Change) (result : Result Applied Refusal) (v w
   pub author : IfOk result (λ applied. t.author ≡ with_change s.author applied.change)
   pub others : OnErr result (t.author ≡ s.author)
   pub later : Extends t.book s.book
+
+-- A change of a volume was checked, and its messages were prepared in all slots, or it was refused.
+-- First each subscription ended whose reader had asked for that. The book stays, and so does what
+-- stands over it; what the keeper knows of asks only rises.
+pub record IsPrepared (v : State) (change : Change) (result : Result (Unit {0}) Refusal)
+    (old new : Slots) : Type 0 where
+  pub lawful : OnOk result (refused v change ≡ None)
+  pub ready : OnOk result (AllReady new.subscriptions.items v change)
+  pub noticed : OnOk result (SlotsAre IsNoticed new.subscriptions.items new.keeper.slots)
+  pub board : new.keeper.board ≡ old.keeper.board
+  pub book : new.keeper.book ≡ old.keeper.book
+  pub openings : new.openings ≡ old.openings
+  pub holding : SlotsStand new new.keeper.book
+  pub rises : (k : ℕ) → (slot_at old.keeper.slots k).asks ≤ (slot_at new.keeper.slots k).asks
+  pub refused : IsRefusedBy result (refused v change)

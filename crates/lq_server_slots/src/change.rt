@@ -6,7 +6,7 @@ ghost use Rattle.lq_volume.specs.Change.{refused, node_of};
 ghost use Rattle.lq_board.specs.Author.{with_change};
 ghost use Rattle.lq_board.specs.Book.{IsFullBook};
 ghost use Rattle.lq_board.specs.Slot.{slot_at};
-ghost use Rattle.lq_server_slots.specs.Changing.{IsChangeMade};
+ghost use Rattle.lq_server_slots.specs.Changing.{IsChangeMade, IsPrepared};
 ghost use Rattle.lq_server_slots.specs.Slots.{SlotsStand, StandsBeside, AllReady, IsNoticed, IsServed, SlotsAre};
 
 use crate::passes::{ready_all, tell_all};
@@ -103,11 +103,47 @@ fn add(
     ensures full { IsFullBook slots.new.keeper.book }
     ensures holding { SlotsStand slots.new slots.old.keeper.book }
 {
-    let planned = volume.plan(change)?;
-    ready_all(board, slots, &planned)?;
+    prepare(board, slots, volume, change)?;
     let applied = volume.make(change)?;
     // For the proof: this call says that the seat's slot is one of 64, or 0.
     let _ = seat.slot();
     board.add_by(&mut slots.keeper, seat, change);
     Ok(applied)
+}
+
+// Checks a change, and prepares its messages in the taken slots. Where no slot is taken it makes no
+// plan, which is a large value.
+fn prepare(
+    board: &Board<Identity>,
+    slots: &mut Slots,
+    volume: &Volume,
+    change: &Change,
+) -> Result<(), Refusal>
+    requires board { slots.old.keeper.board ≡ board.now }
+    requires volume { volume.now ≡ state_of slots.old.keeper.book }
+    requires holding { SlotsStand slots.old slots.old.keeper.book }
+    ensures { IsPrepared volume.now change.now result slots.old slots.new }
+{
+    if slots.taken.is_empty() {
+        volume.check(change)?;
+        return Ok(());
+    }
+    prepare_taken(board, slots, volume, change)
+}
+
+// As `prepare`, by a plan.
+#[inline(never)]
+fn prepare_taken(
+    board: &Board<Identity>,
+    slots: &mut Slots,
+    volume: &Volume,
+    change: &Change,
+) -> Result<(), Refusal>
+    requires board { slots.old.keeper.board ≡ board.now }
+    requires volume { volume.now ≡ state_of slots.old.keeper.book }
+    requires holding { SlotsStand slots.old slots.old.keeper.book }
+    ensures { IsPrepared volume.now change.now result slots.old slots.new }
+{
+    let planned = volume.plan(change)?;
+    ready_all(board, slots, &planned)
 }

@@ -133,12 +133,10 @@ pub fn close_in<R: Wait>(
     rt: &R,
     board: &Board<Identity>,
     slots: &mut Slots,
-    place: usize,
     seat: &mut Seat<Identity>,
 ) -> Option<u64>
     requires board { (slots.old.keeper.board ≡ board.now) × (seat.old.board ≡ board.now) }
-    requires place { (0 < place) × (place < 65) }
-    requires seat { (seat.old.slot ≡ place) × IsSome seat.old.name }
+    requires seat { (0 < seat.old.slot) × IsSome seat.old.name }
     requires holding { SlotsStand slots.old slots.old.keeper.book }
     ensures closed { IsClosed slots.old.keeper.book seat.old seat.new result }
     ensures board { slots.new.keeper.board ≡ slots.old.keeper.board }
@@ -146,6 +144,7 @@ pub fn close_in<R: Wait>(
     ensures openings { slots.new.openings ≡ slots.old.openings }
     ensures holding { SlotsStand slots.new slots.new.keeper.book }
 {
+    let place = seat.slot() as usize;
     let keeper = &mut slots.keeper;
     close_at(rt, board, keeper, &mut slots.subscriptions[place], seat)
 }
@@ -202,28 +201,22 @@ fn take_out(taken: &mut Vec<usize>, place: usize)
 }
 
 /// Takes a slot's seat back and frees the slot. The other slots keep their subscriptions.
-pub fn free_in(
-    board: &Board<Identity>,
-    slots: &mut Slots,
-    place: usize,
-    seat: Seat<Identity>,
-    asked: bool,
-)
+pub fn free_in(board: &Board<Identity>, slots: &mut Slots, seat: Seat<Identity>, asked: bool)
     requires board { (slots.old.keeper.board ≡ board.now) × (seat.board ≡ board.now) }
-    requires place { (0 < place) × (place < 65) }
-    requires seat { (seat.slot ≡ place)
+    requires seat { (0 < seat.slot)
         × IsSomeAnd seat.name (λ t. seat.asks ≡ asks_after t.asks asked) }
     requires holding { SlotsStand slots.old slots.old.keeper.book }
     ensures board { slots.new.keeper.board ≡ slots.old.keeper.board }
     ensures book { slots.new.keeper.book ≡ slots.old.keeper.book }
     ensures openings { slots.new.openings ≡ slots.old.openings }
     ensures holding { SlotsStand slots.new slots.new.keeper.book }
-    ensures taken { IsSome (slot_in slots.old.subscriptions.items place) }
-    ensures freed { slot_in slots.new.subscriptions.items place ≡ None }
-    ensures others { (k : ℕ) → k ≢ place → slot_in slots.new.subscriptions.items k
+    ensures taken { IsSome (slot_in slots.old.subscriptions.items seat.slot) }
+    ensures freed { slot_in slots.new.subscriptions.items seat.slot ≡ None }
+    ensures others { (k : ℕ) → k ≢ seat.slot → slot_in slots.new.subscriptions.items k
         ≡ slot_in slots.old.subscriptions.items k }
     ensures later { Extends slots.old.keeper.book seat.book }
 {
+    let place = seat.slot() as usize;
     let keeper = &mut slots.keeper;
     free_at(board, keeper, &mut slots.subscriptions[place], seat, asked);
     take_out(&mut slots.taken, place);

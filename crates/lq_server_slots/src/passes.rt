@@ -12,35 +12,8 @@ use lq_value::Refusal;
 use lq_volume::{Change, Planned};
 use std::sync::Wait;
 
-// Ends a subscription where its reader asked, then prepares its messages of a change if it is live.
-fn ready_slot(
-    board: &Board<Identity>,
-    keeper: &mut Keeper<Identity>,
-    slot: &mut Subscription,
-    place: usize,
-    planned: &Planned<'_>,
-) -> Result<(), Refusal>
-    requires board { keeper.old.board ≡ board.now }
-    requires place { (0 < place) × (place < 65) × (length keeper.old.slots ≡ 65) }
-    requires state { planned.now.before ≡ state_of keeper.old.book }
-    requires taken { IsTaken slot.old (slot_at keeper.old.slots place) keeper.old.book }
-    ensures refused { IsRefusedBy result None }
-    ensures board { keeper.new.board ≡ keeper.old.board }
-    ensures book { keeper.new.book ≡ keeper.old.book }
-    ensures only { OnlyAt keeper.old.slots keeper.new.slots place }
-    ensures taken { IsTaken slot.new (slot_at keeper.new.slots place) keeper.new.book }
-    ensures asks { slot.new.asks ≡ slot.old.asks }
-    ensures rises { (slot_at keeper.old.slots place).asks ≤ (slot_at keeper.new.slots place).asks }
-    ensures ready { OnOk result
-        (IsReadyAt (Some slot.new) planned.now.before planned.now.change) }
-    ensures noticed { IsNoticed slot.new (slot_at keeper.new.slots place) }
-{
-    let number = planned.applied().change - 1;
-    notice_slot(board, keeper, slot, place, number);
-    ready(slot, planned)
-}
-
-// The same for a slot that may be free.
+// For a slot that may be free: ends the subscription where its reader asked, then prepares its
+// messages of a change if it is live.
 fn ready_at(
     board: &Board<Identity>,
     keeper: &mut Keeper<Identity>,
@@ -65,10 +38,12 @@ fn ready_at(
         (IsReadyAt slot.new planned.now.before planned.now.change) }
     ensures noticed { SlotIs IsNoticed slot.new (slot_at keeper.new.slots place) }
 {
-    match slot {
-        Some(taken) => ready_slot(board, keeper, taken, place, planned),
-        None => Ok(()),
-    }
+    let Some(taken) = slot else {
+        return Ok(());
+    };
+    let number = planned.applied().change - 1;
+    notice_slot(board, keeper, taken, place, number);
+    ready(taken, planned)
 }
 
 /// Ends each subscription whose reader asked, and prepares the messages of a change for the live
@@ -127,28 +102,9 @@ fn tell_at<R: Wait>(
     ensures served { SlotIs IsServed slot.new (slot_at keeper.now.slots place) }
 {
     if let Some(taken) = slot {
-        tell_slot(rt, keeper, taken, place, change);
+        commit_slot(keeper, taken, place, change);
+        pump_slot(rt, keeper, taken, place);
     }
-}
-
-fn tell_slot<R: Wait>(
-    rt: &R,
-    keeper: &Keeper<Identity>,
-    slot: &mut Subscription,
-    place: usize,
-    change: &Change,
-)
-    requires grown { IsGrown keeper.now.book change.now }
-    requires ready { IsReadyAt (Some slot.old) (state_of (before_of keeper.now.book)) change.now }
-    requires taken { IsTaken slot.old (slot_at keeper.now.slots place)
-        (before_of keeper.now.book) }
-    requires noticed { IsNoticed slot.old (slot_at keeper.now.slots place) }
-    ensures taken { IsTaken slot.new (slot_at keeper.now.slots place) keeper.now.book }
-    ensures asks { slot.new.asks ≡ slot.old.asks }
-    ensures served { IsServed slot.new (slot_at keeper.now.slots place) }
-{
-    commit_slot(keeper, slot, place, change);
-    pump_slot(rt, keeper, slot, place);
 }
 
 // Commits the change that was just added. The port is still to be filled.

@@ -223,23 +223,18 @@ fn meet_slot_at(
 }
 
 /// The number of changes in the keeper's book, which the seat of a slot then knows.
-pub fn meet_in(
-    board: &Board<Identity>,
-    slots: &mut Slots,
-    place: usize,
-    seat: &mut Seat<Identity>,
-) -> u64
+pub fn meet_in(board: &Board<Identity>, slots: &mut Slots, seat: &mut Seat<Identity>) -> u64
     requires board { (slots.old.keeper.board ≡ board.now) × (seat.old.board ≡ board.now) }
-    requires place { (0 < place) × (place < 65) }
-    requires seat { (seat.old.slot ≡ place) × IsSome seat.old.name }
+    requires seat { (0 < seat.old.slot) × IsSome seat.old.name }
     requires holding { SlotsStand slots.old slots.old.keeper.book }
     ensures number { result ≡ length slots.old.keeper.book.changes }
     ensures same { SameButKnown slots.old slots.new }
     ensures holding { SlotsStand slots.new slots.new.keeper.book }
     ensures seat { seat.new ≡ record seat.old { book = slots.old.keeper.book } }
-    ensures known { (slot_at slots.new.keeper.slots place).asks ≡ seat.old.asks }
+    ensures known { (slot_at slots.new.keeper.slots seat.old.slot).asks ≡ seat.old.asks }
     ensures later { Extends slots.old.keeper.book seat.old.book }
 {
+    let place = seat.slot() as usize;
     meet_slot_at(board, &mut slots.keeper, &slots.subscriptions[place], seat)
 }
 
@@ -248,13 +243,11 @@ pub fn sync_in<R: Wait>(
     rt: &R,
     board: &Board<Identity>,
     slots: &mut Slots,
-    place: usize,
     seat: &mut Seat<Identity>,
     reading: &mut Reading,
 ) -> Progress
     requires board { (slots.old.keeper.board ≡ board.now) × (seat.old.board ≡ board.now) }
-    requires place { (0 < place) × (place < 65) }
-    requires seat { (seat.old.slot ≡ place)
+    requires seat { (0 < seat.old.slot)
         × IsSomeAnd seat.old.name (λ t. IdentityFits t reading.old.port) }
     requires holding { SlotsStand slots.old slots.old.keeper.book }
     ensures board { slots.new.keeper.board ≡ slots.old.keeper.board }
@@ -265,6 +258,7 @@ pub fn sync_in<R: Wait>(
     ensures progress { (s : SubscriptionOf)
         × ShowsProgress s seat.old seat.new reading.old reading.new result }
 {
+    let place = seat.slot() as usize;
     let keeper = &mut slots.keeper;
     sync_at(
         rt,

@@ -112,6 +112,8 @@ impl<N: Named> Locked<N> {
         ensures number { IfOk result (λ a.
             a.change ≡ length self.old.keeper.book.changes + 1) }
     {
+        // The seat meets the keeper before the change, since it has to know the book of a refused
+        // one too. A change that is made meets once more, when the seat signs it.
         self.meet(board, seat);
         change_in(rt, board, &mut self.slots, &mut self.volume, seat, change)
     }

@@ -9,8 +9,8 @@ use Rattle.lq_server_slots.proofs.change.add.Goals as goal
 
 pub returns-clause-holding : goal.returns-clause-holding
 returns-clause-holding c =
-    let r = c.in_ok-ready_all.ensures in
-    let slots = c.ready_all.new.slots in
+    let r = c.prepare.ensures in
+    let slots = c.prepare.new.slots in
     let seat = c.args.seat.now in
     let a = c.add_by.ensures.added in
     let within = c.slot.ensures.within in
@@ -30,8 +30,8 @@ returns-clause-holding c =
 
 pub returns-clause-noticed : goal.returns-clause-noticed
 returns-clause-noticed c =
-    let r = c.in_ok-ready_all.ensures in
-    let slots = c.ready_all.new.slots in
+    let r = c.prepare.ensures in
+    let slots = c.prepare.new.slots in
     let seat = c.args.seat.now in
     let a = c.add_by.ensures.added in
     let within = c.slot.ensures.within in
@@ -45,4 +45,4 @@ returns-clause-noticed c =
     (λ pos. let first = c.requires.known pos in let then = r.rises seat.slot in
     omega (arith, first, then)) in
     subst (λ (l : List (Known Identity)). SlotsAre IsNoticed slots.subscriptions.items l) (sym same)
-    r.noticed
+    c.in_ok-prepare.ensures.noticed

@@ -1,4 +1,4 @@
-use Rattle.std.proofs.Common.{◌≤◌, ◌∙◌, Option, None, sym, subst, slice_set, arith}
+use Rattle.std.proofs.Common.{◌≡◌, ℕ, ◌≢◌, ◌≤◌, ◌∙◌, Option, None, sym, subst, slice_set, arith}
 use Rattle.std.specs.Prelude.{IsSome}
 use Rattle.std.proofs.lemmas.List.{get_or_read}
 use Rattle.lq_board.specs.Slot.{slot_at}
@@ -15,15 +15,17 @@ returns-clause-holding c =
     let f = c.free_at.ensures in
     let known = c.free_at.new.keeper in
     let items = was.subscriptions.items in
-    let place = c.args.place in
+    let place = c.slot-place.result in
+    let low = c.requires.seat.0 in
+    let value = c.slot-place.ensures.value in
     let slot = c.args.seat.slot in
     let wide = h.wide in
-    let within = c.requires.place.1 in
+    let within = c.slot-place.ensures.within in
     let read = get_or_read items place _ (omega arith) c.index_mut.ensures.value None in
     let asks = subst (λ (z : Option Subscription). (slot_at known.slots slot).asks ≤ asks_of z
     (slot_at was.keeper.slots slot)) read f.asks in (
       all_stand-step was.keeper known items slot place was.openings c.free_at.new.slot
-          was.keeper.book known.book h c.requires.place.0 within c.requires.seat.0 f.book f.only
+          was.keeper.book known.book h (omega (arith, low, value)) within (sym value) f.book f.only
           (subst (λ (z : Option Subscription). SlotStands z (slot_at known.slots slot) known.book)
           (sym f.free) f.back)
           (subst (λ (z : Option Subscription). asks_of z (slot_at known.slots slot) ≤ asks_of
@@ -37,18 +39,23 @@ returns-clause-holding c =
 pub returns-clause-freed : goal.returns-clause-freed
 returns-clause-freed c =
     let wide = c.requires.holding.0.wide in
-    let within = c.requires.place.1 in
-    in_here c.args.slots.now.subscriptions.items c.args.place c.free_at.new.slot (omega arith)
-    ∙ c.free_at.ensures.free
+    let within = c.slot-place.ensures.within in
+    let items = c.args.slots.now.subscriptions.items in
+    subst (λ (p : ℕ). slot_in (slice_set items c.slot-place.result c.free_at.new.slot) p ≡ None)
+    c.slot-place.ensures.value
+    (in_here items c.slot-place.result c.free_at.new.slot (omega arith) ∙ c.free_at.ensures.free)
 
 pub returns-clause-taken : goal.returns-clause-taken
 returns-clause-taken c =
     let items = c.args.slots.now.subscriptions.items in
+    let place = c.slot-place.result in
     let wide = c.requires.holding.0.wide in
-    let within = c.requires.place.1 in
-    let read = get_or_read items c.args.place _ (omega arith) c.index_mut.ensures.value None in
-    subst (λ (z : Option Subscription). IsSome z) read c.free_at.ensures.taken
+    let within = c.slot-place.ensures.within in
+    let read = get_or_read items place _ (omega arith) c.index_mut.ensures.value None in
+    subst (λ (p : ℕ). IsSome (slot_in items p)) c.slot-place.ensures.value
+    (subst (λ (z : Option Subscription). IsSome z) read c.free_at.ensures.taken)
 
 pub returns-clause-others : goal.returns-clause-others
 returns-clause-others c = λ k ne.
-    in_else c.args.slots.now.subscriptions.items c.args.place k c.free_at.new.slot ne
+    let apart : k ≢ c.slot-place.result = λ e. ne (e ∙ c.slot-place.ensures.value) in
+    in_else c.args.slots.now.subscriptions.items c.slot-place.result k c.free_at.new.slot apart

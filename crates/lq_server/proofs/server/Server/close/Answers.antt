@@ -1,4 +1,4 @@
-use Rattle.std.proofs.Common.{ℕ, sym, subst}
+use Rattle.std.proofs.Common.{ℕ, ◌<◌, sym, subst}
 use Rattle.std.specs.Prelude.{Result}
 use Rattle.lq_value.specs.declared.refusal.Refusal.{Refusal}
 use Rattle.lq_server.specs.Closed.{IsCloseAnswer}
@@ -12,7 +12,7 @@ close-closed-requires-clause-seat g c =
     let i = c.reader.inside in
     let old : ReaderHold = hold i.reading i.seat i.slot i.hang_up_asked in
     let own : IsOwn old = subst IsOwn (sym c.reader.view_is) c.requires.own in
-    (own.slot, own_named old own)
+    (subst (λ (k : ℕ). 0 < k) (sym own.slot) own.low, own_named old own)
 
 pub returns : goal.returns
 returns g c =
