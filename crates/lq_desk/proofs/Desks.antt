@@ -1,5 +1,5 @@
 -- Each event keeps what is so of every desk.
-use Rattle.std.proofs.Common.{◌≡◌, ℕ, zero, suc, ◌*◌, ◌-◌, ◌≤◌, ◌<◌, List, [], ◌∷◌, refl, ap, sym, subst, ◌∙◌, arith, Some, None, Option, map, length}
+use Rattle.std.proofs.Common.{◌≡◌, ℕ, zero, suc, ◌*◌, ◌≤◌, ◌<◌, List, [], ◌∷◌, ◌++◌, refl, ap, sym, subst, ◌∙◌, arith, Some, None, Option, map, length}
 use Rattle.std.specs.Prelude.{Bool, slice_set, replicate}
 use Rattle.std.specs.Option.{option_map}
 use Rattle.std.specs.List.{AllByRecursion}
@@ -15,19 +15,19 @@ use Rattle.lq_volume.specs.Laws.{ChangesCount}
 use Rattle.lq_update.specs.Laws.{StepsAreFew}
 use Rattle.lq_desk_world.specs.World.{first_world}
 use Rattle.lq_desk_world.specs.declared.event.Event.{Event}
-use Rattle.lq_desk_world.specs.declared.event.Event.TheVariants.{Change, Open}
+use Rattle.lq_desk_world.specs.declared.event.Event.TheVariants.{Change, Open, Take, Notice, Close}
 use Rattle.lq_desk_world.specs.Events.{Answer, event_at, next, outcome}
-use Rattle.lq_desk_world.specs.Turns.{after_all}
+use Rattle.lq_desk_world.specs.Turns.{after_all, places_at, puts}
 use Rattle.lq_desk_world.specs.Laws.{FirstWorldsAreFair}
 use Rattle.lq_desk_world.specs.declared.event.Act.{Act}
 use Rattle.lq_desk.specs.Slot.{KeptSlot, PreparedSlot, slot_of, fresh_slot}
-use Rattle.lq_desk.specs.Act.{outcome_in}
-use Rattle.lq_desk.specs.Kept.{Kept, IsDesk, IsFew, Shows, first_free, opening_refusal, opened, open_if, changed, change_if, kept_act, kept_outcome, slot_for}
-use Rattle.lq_desk.specs.Turn.{kept_after}
+use Rattle.lq_desk.specs.Act.{act_of, close_turn, outcome_of, read_turn}
+use Rattle.lq_desk.specs.Kept.{Kept, IsDesk, IsFew, Shows, first_free, opening_refusal, opened, open_if, changed, change_if, at_kept, kept_outcome, slot_for}
+use Rattle.lq_desk.specs.Turn.{kept_after, kept_ports, kept_turn}
 use Rattle.lq_desk.specs.Laws.{KeptShowsWorlds}
 use Rattle.lq_desk.proofs.ListLemmas.{all-set}
-use Rattle.lq_desk.proofs.SlotsLemmas.{act-outcome, kept_slot, few-after, few-outcome_in}
-use Rattle.lq_desk.proofs.TurnLemmas.{after-shows}
+use Rattle.lq_desk.proofs.SlotsLemmas.{act-outcome, at-same, kept_slot, few-act, few-after, few-close_turn, few-outcome_of, few-read_turn, length-outcome_of}
+use Rattle.lq_desk.proofs.TurnLemmas.{after-join, after-shows, close-events, read-events}
 
 -- free slots have made no messages
 few-free : (m n : ℕ) → AllByRecursion (IsFew m) (map kept_slot (replicate n None))
@@ -97,26 +97,6 @@ module _ (alike : KeptShowsWorlds) where
             (alike k d.world (Open q port backlog moved) d.shows).1;
       }
 
-  -- a desk is one after an act at a slot
-  pub IsDesk-act : (k : Kept) (a : Act) (slot : ℕ) (r : Answer) (ks : List (Option KeptSlot))
-      → IsDesk k → (r, ks) ≡ outcome_in k.volume.number a k.slots (slot - 1)
-      → (r, record k { slots = ks }) ≡ kept_act k slot a
-      → IsDesk (record k { slots = ks })
-  IsDesk-act k a slot r ks d is does =
-      let e : Event = event_at slot a in
-      let at : ks ≡ (outcome_in k.volume.number a k.slots (slot - 1)).1 =
-      ap (λ (p : Answer × List (Option KeptSlot)). p.1) is in
-      record {
-        slots = ap length at ∙ (length-set k.slots (slot - 1) _ ∙ d.slots);
-        few = subst (λ (js : List (Option KeptSlot)).
-            AllByRecursion (IsFew (3 * k.volume.number)) js) (sym at)
-            (few-outcome_in (3 * k.volume.number) k.volume.number a k.slots (slot - 1) d.few);
-        world = next d.world e;
-        shows = subst (λ (p : Answer × Kept). Shows p.1 (next d.world e))
-            (act-outcome k slot a ∙ sym does)
-            (alike k d.world e d.shows).1;
-      }
-
   -- after events that leave the number of slots, and make no message
   pub IsDesk-after : (k : Kept) (es : List Event) (ks : List (Option KeptSlot))
       → IsDesk k → kept_after k es ≡ record k { slots = ks } → length ks ≡ length k.slots
@@ -129,6 +109,52 @@ module _ (alike : KeptShowsWorlds) where
     shows = subst (λ (j : Kept). Shows j (after_all outcome d.world es)) is
         (after-shows alike k d.world es d.shows);
   }
+
+  -- after what is done at a slot, where events do that and it makes no message
+  IsDesk-at : (k : Kept) (slot : ℕ) (does : KeptSlot → Answer × Option KeptSlot) (es : List Event)
+      (r : Answer) (ks : List (Option KeptSlot)) → IsDesk k → (r, ks) ≡ outcome_of does k.slots slot
+      → kept_after k es ≡ (at_kept k slot does).1
+      → ((s : KeptSlot) → IsFew (3 * k.volume.number) (Some s)
+      → IsFew (3 * k.volume.number) (does s).1)
+      → IsDesk (record k { slots = ks })
+  IsDesk-at k slot does es r ks d is same keeps =
+      let at : ks ≡ (outcome_of does k.slots slot).1 =
+      ap (λ (p : Answer × List (Option KeptSlot)). p.1) is in
+      IsDesk-after k es ks d
+      (same ∙ sym (ap (λ (p : Answer × Kept). p.1) (at-same k does slot r ks is)))
+      (ap length at ∙ length-outcome_of does k.slots slot)
+      (subst (λ (js : List (Option KeptSlot)). AllByRecursion (IsFew (3 * k.volume.number)) js)
+      (sym at) (few-outcome_of (3 * k.volume.number) does keeps k.slots slot d.few))
+
+  -- after an act at a slot
+  pub IsDesk-act : (k : Kept) (a : Act) (slot : ℕ) (r : Answer) (ks : List (Option KeptSlot))
+      → IsDesk k → (r, ks) ≡ outcome_of (act_of k.volume.number a) k.slots slot
+      → IsDesk (record k { slots = ks })
+  IsDesk-act k a slot r ks d is =
+      IsDesk-at k slot (act_of k.volume.number a) (event_at slot a ∷ []) r ks d is
+      (ap (λ (p : Answer × Kept). p.1) (act-outcome k slot a))
+      (few-act (3 * k.volume.number) k.volume.number a)
+
+  -- after a read with its turn
+  pub IsDesk-read : (k : Kept) (slot : ℕ) (r : Answer) (ks : List (Option KeptSlot)) → IsDesk k
+      → (r, ks) ≡ outcome_of (read_turn k.volume.number) k.slots slot
+      → IsDesk (record k { slots = ks })
+  IsDesk-read k slot r ks d is =
+      let before = (kept_turn k (Take slot)).before in
+      IsDesk-at k slot (read_turn k.volume.number) (before ++ Take slot ∷ []) r ks d is
+      (after-join kept_outcome k before (Take slot ∷ [])
+      ∙ ap (λ (p : Answer × Kept). p.1) (read-events k slot))
+      (few-read_turn (3 * k.volume.number) k.volume.number)
+
+  -- after a close with its turn
+  pub IsDesk-close : (k : Kept) (slot : ℕ) (r : Answer) (ks : List (Option KeptSlot)) → IsDesk k
+      → (r, ks) ≡ outcome_of (close_turn k.volume.number) k.slots slot
+      → IsDesk (record k { slots = ks })
+  IsDesk-close k slot r ks d is =
+      IsDesk-at k slot (close_turn k.volume.number)
+      (Notice slot ∷ Close slot ∷ puts slot (places_at (kept_ports k) slot)) r ks d is
+      (ap (λ (p : Answer × Kept). p.1) (close-events k slot))
+      (few-close_turn (3 * k.volume.number) k.volume.number)
 
 -- an opening that passes the tests
 pub opens : (k : Kept) (port backlog : ℕ) → 1 ≤ port → port ≤ 1024

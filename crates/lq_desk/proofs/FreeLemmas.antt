@@ -1,19 +1,18 @@
 -- Slots with free ones behind them.
 use Rattle.std.proofs.Common.{◌≡◌, ℕ, zero, suc, ◌+◌, ◌-◌, ◌≤◌, ◌<◌, List, [], ◌∷◌, ◌++◌, refl, ap, map, replicate, length, length-append, ◌∙◌, subst, sym, arith, Some, None, Option}
-use Rattle.std.specs.Prelude.{slice_get, slice_set}
+use Rattle.std.specs.Prelude.{slice_get, slice_set, Bool, true, false, ◌==◌, ◌≢◌, if◌then◌else◌}
 use Rattle.std.specs.Option.{option_map, option_flatten}
 use Rattle.std.specs.List.{AllByRecursion}
+use Rattle.std.proofs.lemmas.Bool.Decides.{nat_tests}
 use Rattle.std.proofs.lemmas.List.{length-map, length-set, map-append}
-use Rattle.std.proofs.lemmas.Option.{slice_get-map}
 use Rattle.lq_value.specs.declared.refusal.Refusal.TheVariants.{NotOpen}
 use Rattle.lq_desk_world.specs.Events.{Answer, Refused}
-use Rattle.lq_desk_world.specs.declared.event.Act.{Act}
-use Rattle.lq_desk.specs.Act.{outcome_at, outcome_in}
-use Rattle.lq_desk.specs.Slot.{KeptSlot, PreparedSlot, slot_of, done_at, has_ready, with_free}
+use Rattle.lq_desk.specs.Act.{outcome_at, outcome_in, outcome_of}
+use Rattle.lq_desk.specs.Slot.{KeptSlot, PreparedSlot, slot_of, has_ready, with_free}
 use Rattle.lq_desk.specs.Words.{IsMarked}
 use Rattle.lq_desk.specs.Kept.{IsFew, first_free}
-use Rattle.lq_desk.proofs.ListLemmas.{set-seam, set-same}
-use Rattle.lq_desk.proofs.SlotsLemmas.{kept_slot}
+use Rattle.lq_desk.proofs.ListLemmas.{set-seam}
+use Rattle.lq_desk.proofs.SlotsLemmas.{kept_slot, set-free}
 
 -- free slots stay free
 map-none : {A B : Type 0} (f : A → B) (n : ℕ)
@@ -101,67 +100,6 @@ kept-free xs ys same =
     ∙ (ap (λ n. map kept_slot ys ++ map kept_slot (replicate (64 - n) None)) same_length
     ∙ sym (map-append kept_slot ys (replicate (64 - length ys) None))))
 
--- ---- an act at a place
-
--- each of free slots is free
-get-here : (n i : ℕ) → i < n → slice_get {X = Option PreparedSlot} (replicate n None) i ≡ Some None
-get-here zero i lt = absurd (omega arith)
-get-here (suc n) zero lt = refl
-get-here (suc n) (suc i) lt = get-here n i (omega arith)
-
--- a slot behind the stored ones is free
-get-past : (xs : List (Option PreparedSlot)) (n i : ℕ) → length xs ≤ i → i < length xs + n
-    → slice_get (xs ++ replicate n None) i ≡ Some None
-get-past [] n i le lt = get-here n i (omega (arith, lt))
-get-past (x ∷ xs) n zero le lt = absurd (omega arith)
-get-past (x ∷ xs) n (suc i) le lt = get-past xs n i (omega arith) (omega (arith, lt))
-
--- an act at a slot that isn't stored is refused
-pub act-free : (number : ℕ) (a : Act) (xs : List (Option PreparedSlot)) (place : ℕ)
-    → length xs ≤ place → place < 64
-    → (Refused NotOpen, map kept_slot (with_free xs))
-    ≡ outcome_in number a (map kept_slot (with_free xs)) place
-act-free number a xs place le lt =
-    let ks = map kept_slot (with_free xs) in
-    let here : slice_get ks place ≡ Some None = slice_get-map kept_slot (with_free xs) place
-    ∙ ap (option_map kept_slot) (get-past xs (64 - length xs) place le (omega (arith, le, lt))) in
-    ap (λ js. (Refused NotOpen, js)) (sym (set-same ks place None here))
-    ∙ ap (λ (o : Option (Option KeptSlot)). (
-      (outcome_at number a (option_flatten o)).0,
-      slice_set ks place (outcome_at number a (option_flatten o)).1,
-    )) (sym here)
-
--- an act in the stored slots is one in all 64
-pub act-stored : (number : ℕ) (a : Act)
-    (xs ys : List (Option PreparedSlot)) (place : ℕ) (r : Answer) → place < length xs
-    → (r, map kept_slot ys) ≡ outcome_in number a (map kept_slot xs) place
-    → (r, map kept_slot (with_free ys)) ≡ outcome_in number a (map kept_slot (with_free xs)) place
-act-stored number a xs ys place r lt does =
-    let ks = map kept_slot xs in
-    let free : List (Option KeptSlot) = map kept_slot (replicate (64 - length xs) None) in
-    let o = option_flatten (slice_get ks place) in
-    let made : map kept_slot ys ≡ slice_set ks place (outcome_at number a o).1 =
-    ap (λ (p : Answer × List (Option KeptSlot)). p.1) does in
-    let same_length : length ys ≡ length xs = sym (length-map ys kept_slot) ∙ (ap length made
-    ∙ (length-set ks place (outcome_at number a o).1 ∙ length-map xs kept_slot)) in
-    let within : place < length ks = omega (arith, lt, length-map xs kept_slot) in
-    let whole : map kept_slot (with_free xs) ≡ ks ++ free =
-    map-append kept_slot xs (replicate (64 - length xs) None) in
-    let here : slice_get (ks ++ free) place ≡ slice_get ks place = get-front ks free place within in
-    ap (λ js. (r, js)) (map-append kept_slot ys (replicate (64 - length ys) None)
-    ∙ (ap (λ n. map kept_slot ys ++ map kept_slot (replicate (64 - n) None)) same_length
-    ∙ (ap (λ js. js ++ free) made
-    ∙ sym (set-front ks free place (outcome_at number a o).1 within))))
-    ∙ (ap (λ b. (b, slice_set (ks ++ free) place (outcome_at number a o).1))
-    (ap (λ (p : Answer × List (Option KeptSlot)). p.0) does)
-    ∙ (ap (λ (g : Option (Option KeptSlot)). (
-      (outcome_at number a (option_flatten g)).0,
-      slice_set (ks ++ free) place (outcome_at number a (option_flatten g)).1,
-    )) (sym here)
-    ∙ ap (λ js. outcome_in number a js place) (sym whole)))
-
--- ---- what is done in each slot, and at a place
-
 -- free slots are kept as free ones
 none-kept : (n : ℕ) → map kept_slot (replicate n None) ≡ replicate n None
 none-kept n = map-none slot_of n
@@ -171,6 +109,86 @@ pub kept-more : (xs : List (Option PreparedSlot))
     → map kept_slot (with_free xs) ≡ map kept_slot xs ++ replicate (64 - length xs) None
 kept-more xs = map-append kept_slot xs (replicate (64 - length xs) None)
     ∙ ap (λ ks. map kept_slot xs ++ ks) (none-kept (64 - length xs))
+
+-- ---- what is done at a slot
+
+-- each of free slots is free, and so is what comes after them
+none-among : (n i : ℕ)
+    → option_flatten (slice_get {X = Option KeptSlot} (replicate n None) i) ≡ None
+none-among zero i = refl
+none-among (suc n) zero = refl
+none-among (suc n) (suc i) = none-among n i
+
+-- a slot behind the stored ones is free
+none-behind : (ks : List (Option KeptSlot)) (n i : ℕ) → length ks ≤ i
+    → option_flatten (slice_get (ks ++ replicate n None) i) ≡ None
+none-behind [] n i le = none-among n i
+none-behind (k ∷ ks) n zero le = absurd (omega arith)
+none-behind (k ∷ ks) n (suc i) le = none-behind ks n i (omega arith)
+
+-- what is done at a slot that isn't stored is refused
+pub act-free : (does : KeptSlot → Answer × Option KeptSlot) (xs : List (Option PreparedSlot))
+    (slot : ℕ) → (slot ≢ 0 → length xs < slot) → (Refused NotOpen, map kept_slot (with_free xs))
+    ≡ outcome_of does (map kept_slot (with_free xs)) slot
+act-free does xs slot past = by (slot == 0) refl
+  where
+    ks : List (Option KeptSlot)
+    ks = map kept_slot (with_free xs)
+
+    by : (x : Bool) → (slot == 0) ≡ x → (Refused NotOpen, ks)
+        ≡ (if x then (Refused NotOpen, ks) else outcome_in does ks (slot - 1))
+    by true is = refl
+    by false is =
+        let some : slot ≢ 0 = λ zero. grind (arith, nat_tests, zero, is) in
+        let free : option_flatten (slice_get ks (slot - 1)) ≡ None =
+        ap (λ js. option_flatten (slice_get js (slot - 1))) (kept-more xs)
+        ∙ none-behind (map kept_slot xs) (64 - length xs) (slot - 1)
+        (omega (arith, past some, length-map xs kept_slot)) in
+        ap (λ js. (Refused NotOpen, js)) (sym (set-free ks (slot - 1) free))
+        ∙ ap (λ (o : Option KeptSlot). (
+          (outcome_at does o).0,
+          slice_set ks (slot - 1) (outcome_at does o).1,
+        )) (sym free)
+
+-- at another slot than 0 it is done at an index
+of-in : (does : KeptSlot → Answer × Option KeptSlot) (ks : List (Option KeptSlot)) (slot : ℕ)
+    → slot ≢ 0 → outcome_in does ks (slot - 1) ≡ outcome_of does ks slot
+of-in does ks slot some =
+    let other : (slot == 0) ≡ false = grind (arith, nat_tests, some) in
+    ap (λ x. if x then (Refused NotOpen, ks) else outcome_in does ks (slot - 1)) (sym other)
+
+-- what is done in the stored slots is done in all 64
+pub act-stored : (does : KeptSlot → Answer × Option KeptSlot)
+    (xs ys : List (Option PreparedSlot)) (slot : ℕ) (r : Answer) → slot ≢ 0 → slot ≤ length xs
+    → (r, map kept_slot ys) ≡ outcome_in does (map kept_slot xs) (slot - 1)
+    → (r, map kept_slot (with_free ys)) ≡ outcome_of does (map kept_slot (with_free xs)) slot
+act-stored does xs ys slot r some le is =
+    let place = slot - 1 in
+    let ks = map kept_slot xs in
+    let free : List (Option KeptSlot) = map kept_slot (replicate (64 - length xs) None) in
+    let o = option_flatten (slice_get ks place) in
+    let made : map kept_slot ys ≡ slice_set ks place (outcome_at does o).1 =
+    ap (λ (p : Answer × List (Option KeptSlot)). p.1) is in
+    let same_length : length ys ≡ length xs = sym (length-map ys kept_slot) ∙ (ap length made
+    ∙ (length-set ks place (outcome_at does o).1 ∙ length-map xs kept_slot)) in
+    let within : place < length ks = omega (arith, some, le, length-map xs kept_slot) in
+    let whole : map kept_slot (with_free xs) ≡ ks ++ free =
+    map-append kept_slot xs (replicate (64 - length xs) None) in
+    let here : slice_get (ks ++ free) place ≡ slice_get ks place = get-front ks free place within in
+    ap (λ js. (r, js)) (map-append kept_slot ys (replicate (64 - length ys) None)
+    ∙ (ap (λ n. map kept_slot ys ++ map kept_slot (replicate (64 - n) None)) same_length
+    ∙ (ap (λ js. js ++ free) made
+    ∙ sym (set-front ks free place (outcome_at does o).1 within))))
+    ∙ (ap (λ b. (b, slice_set (ks ++ free) place (outcome_at does o).1))
+    (ap (λ (p : Answer × List (Option KeptSlot)). p.0) is)
+    ∙ (ap (λ (g : Option (Option KeptSlot)). (
+      (outcome_at does (option_flatten g)).0,
+      slice_set (ks ++ free) place (outcome_at does (option_flatten g)).1,
+    )) (sym here)
+    ∙ (ap (λ js. outcome_in does js place) (sym whole)
+    ∙ of-in does (map kept_slot (with_free xs)) slot some)))
+
+-- ---- what is done in each slot
 
 -- what was done in each stored slot was done in all 64
 pub kept-map : (f : KeptSlot → KeptSlot) (xs ys : List (Option PreparedSlot))
@@ -185,37 +203,6 @@ kept-map f xs ys does =
     ∙ sym (ap (map (option_map f)) (kept-more xs)
     ∙ (map-append (option_map f) (map kept_slot xs) (replicate (64 - length xs) None)
     ∙ ap (λ ks. map (option_map f) (map kept_slot xs) ++ ks) (map-none f (64 - length xs))))))
-
--- what was done in one stored slot was done in one of the 64
-pub done-stored : (f : KeptSlot → KeptSlot) (xs ys : List (Option PreparedSlot)) (place : ℕ)
-    → place < length xs → map kept_slot ys ≡ done_at f (map kept_slot xs) place
-    → map kept_slot (with_free ys) ≡ done_at f (map kept_slot (with_free xs)) place
-done-stored f xs ys place lt does =
-    let ks = map kept_slot xs in
-    let free : List (Option KeptSlot) = replicate (64 - length xs) None in
-    let o = option_map f (option_flatten (slice_get ks place)) in
-    let same_length : length ys ≡ length xs = sym (length-map ys kept_slot)
-    ∙ (ap length does ∙ (length-set ks place o ∙ length-map xs kept_slot)) in
-    let within : place < length ks = omega (arith, lt, length-map xs kept_slot) in
-    kept-more ys
-    ∙ (ap (λ n. map kept_slot ys ++ replicate (64 - n) None) same_length
-    ∙ (ap (λ js. js ++ free) does
-    ∙ (sym (set-front ks free place o within)
-    ∙ (ap (λ (g : Option (Option KeptSlot)). slice_set (ks ++ free) place
-    (option_map f (option_flatten g))) (sym (get-front ks free place within))
-    ∙ ap (λ js. done_at f js place) (sym (kept-more xs))))))
-
--- what is done in a slot that isn't stored leaves all as they were
-pub done-free : (f : KeptSlot → KeptSlot) (xs : List (Option PreparedSlot)) (place : ℕ)
-    → length xs ≤ place → place < 64
-    → map kept_slot (with_free xs) ≡ done_at f (map kept_slot (with_free xs)) place
-done-free f xs place le lt =
-    let ks = map kept_slot (with_free xs) in
-    let here : slice_get ks place ≡ Some None = slice_get-map kept_slot (with_free xs) place
-    ∙ ap (option_map kept_slot) (get-past xs (64 - length xs) place le (omega (arith, le, lt))) in
-    sym (set-same ks place None here)
-    ∙ ap (λ (g : Option (Option KeptSlot)). slice_set ks place (option_map f (option_flatten g)))
-    (sym here)
 
 -- a test of stored slots holds of all
 pub stored-at : (xs : List (Option PreparedSlot)) (i : ℕ) (x : PreparedSlot)

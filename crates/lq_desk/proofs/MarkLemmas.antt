@@ -1,21 +1,20 @@
 -- The words of the slots: what marks them goes on marking them.
 use Rattle.std.proofs.Common.{◌≡◌, ℕ, ◌<◌, List, [], ◌∷◌, ◌++◌, refl, ap, map, length, ◌∙◌, sym, subst, Some, None, Option, Bool, true, false}
-use Rattle.std.specs.Prelude.{slice_get, slice_set}
+use Rattle.std.specs.Prelude.{slice_get, slice_set, ◌||◌}
 use Rattle.std.specs.Option.{option_map, option_flatten}
 use Rattle.std.specs.Int.{bit_at}
 use Rattle.std.specs.Int.RustNames.{bit_or}
 use Rattle.std.proofs.lemmas.Option.{slice_get-map}
-use Rattle.lq_desk.specs.Slot.{KeptSlot, PreparedSlot, slot_of, can_move, committed_slot, done_at, filled, has_ready, is_ending, noticed, passes}
+use Rattle.lq_update.specs.declared.mark.Cause.TheVariants.{Closed}
+use Rattle.lq_update.specs.declared.parcel.Parcel.{Parcel}
+use Rattle.lq_desk_sub.specs.Held.{is_live, ended_by}
+use Rattle.lq_desk.specs.Slot.{KeptSlot, PreparedSlot, slot_of, can_move, close_if, committed_slot, filled, has_ready, has_work, is_ending, noticed, passes, read_if}
+use Rattle.lq_desk.specs.Act.{close_turn, outcome_at, outcome_in, read_turn}
 use Rattle.lq_desk.specs.Words.{AreMarked, IsMarked, SetsBit}
 use Rattle.lq_desk.proofs.ListLemmas.{get-set_in}
 use Rattle.lq_desk.proofs.PutLemmas.{filled-ends, filled-still}
 use Rattle.lq_desk.proofs.SlotsLemmas.{kept_slot, committed-ends, committed-quiet, noticed-quiet, noticed-still}
-use Rattle.lq_desk.proofs.WordLemmas.{either-left, either-right, marked-map, marked-none, marked-push, marked-set}
-
--- any words mark no slots
-pub marks-new : (ending movable : ℕ) → AreMarked ending movable []
-marks-new ending movable =
-    record { ends = marked-none is_ending ending; moves = marked-none can_move movable }
+use Rattle.lq_desk.proofs.WordLemmas.{either-left, either-right, marked-map, marked-push, marked-set}
 
 -- a test isn't true and false
 and_cases : (x : Bool) → x ≡ true → x ≡ false → ⊥
@@ -84,54 +83,6 @@ marks-filled ending movable ks js does marked =
           (λ i k at is. absurd (and_cases _ is (filled-still k)));
     })
 
--- the bit of what stood at a place, by a test of what is done there
-at-place : (test : KeptSlot → Bool) (f : KeptSlot → KeptSlot) (word : ℕ)
-    (ks : List (Option KeptSlot)) (place : ℕ) → ((k : KeptSlot) → slice_get ks place ≡ Some (Some k)
-    → test (f k) ≡ true → bit_at word place ≡ 1)
-    → passes test (option_map f (option_flatten (slice_get ks place))) ≡ true
-    → bit_at word place ≡ 1
-at-place test f word ks place set is = by (slice_get ks place) refl is
-  where
-    by : (o : Option (Option KeptSlot)) → slice_get ks place ≡ o
-        → passes test (option_map f (option_flatten o)) ≡ true → bit_at word place ≡ 1
-    by None at is = absurd (let no : ⊥ = cc in no)
-    by (Some None) at is = absurd (let no : ⊥ = cc in no)
-    by (Some (Some k)) at is = set k at is
-
--- the end of one slot is noticed: where it was ending, its mark may move now
-pub marks-noticed_at : (number ending movable : ℕ) (ks js : List (Option KeptSlot)) (place : ℕ)
-    → js ≡ done_at (noticed number) ks place → AreMarked ending movable ks
-    → AreMarked ending (bit_or movable ending) js
-marks-noticed_at number ending movable ks js place does marked =
-    subst (λ hs. AreMarked ending (bit_or movable ending) hs) (sym does) (record {
-      ends = marked-set is_ending ending ending ks place _ marked.ends (λ i is. is)
-          (at-place is_ending (noticed number) ending ks place
-          (λ k at is. absurd (and_cases _ is (noticed-still number k))));
-      moves = marked-set can_move movable (bit_or movable ending) ks place _ marked.moves
-          (either-left movable ending)
-          (at-place can_move (noticed number) (bit_or movable ending) ks place
-          (λ k at is. by k at is (is_ending k) refl));
-    })
-  where
-    by : (k : KeptSlot) → slice_get ks place ≡ Some (Some k) → can_move (noticed number k) ≡ true
-        → (x : Bool) → is_ending k ≡ x → bit_at (bit_or movable ending) place ≡ 1
-    by k at is true ends = either-right movable ending place (marked.ends place k at ends)
-    by k at is false ends = either-left movable ending place
-        (marked.moves place k at (ap can_move (sym (noticed-quiet number k ends)) ∙ is))
-
--- the port of one slot is filled, which needs no other bit
-pub marks-filled_at : (ending movable : ℕ) (ks js : List (Option KeptSlot)) (place : ℕ)
-    → js ≡ done_at filled ks place → AreMarked ending movable ks → AreMarked ending movable js
-marks-filled_at ending movable ks js place does marked =
-    subst (λ hs. AreMarked ending movable hs) (sym does) (record {
-      ends = marked-set is_ending ending ending ks place _ marked.ends (λ i is. is)
-          (at-place is_ending filled ending ks place
-          (λ k at is. marked.ends place k at (sym (filled-ends k) ∙ is)));
-      moves = marked-set can_move movable movable ks place _ marked.moves (λ i is. is)
-          (at-place can_move filled movable ks place
-          (λ k at is. absurd (and_cases _ is (filled-still k))));
-    })
-
 -- another thing stands at a place
 pub marks-set : (ending movable ending' movable' : ℕ) (ks js : List (Option KeptSlot)) (place : ℕ)
     (o : Option KeptSlot) → js ≡ slice_set ks place o
@@ -157,6 +108,79 @@ marks-acted ending movable ending' movable' ks js place o lt does e m marked =
     marks-set ending movable ending' movable' ks js place o does
     (subst (λ g. SetsBit ending place (passes is_ending g) ending') there e)
     (subst (λ g. SetsBit movable place (passes can_move g) movable') there m) marked
+
+-- a bit that is needed by no test stays
+stays : (old place : ℕ) (x : Bool) → x ≡ false → SetsBit old place x old
+stays old place x unset = record {
+  here = λ set. absurd (and_cases x set unset);
+  others = λ i is. is;
+}
+
+-- after a read with its turn no slot is ending
+read-ends : (number : ℕ) (o : Option KeptSlot)
+    → passes is_ending (outcome_at (read_turn number) o).1 ≡ false
+read-ends number None = refl
+read-ends number (Some k) = by (slice_get t.queue 0)
+  where
+    t : KeptSlot
+    t = filled (noticed number k)
+
+    still : is_ending t ≡ false
+    still = filled-ends (noticed number k) ∙ noticed-still number k
+
+    by : (o : Option Parcel) → passes is_ending (read_if t o).1 ≡ false
+    by None = still
+    by (Some p) = still
+
+-- a read with its turn
+pub marks-read : (number ending movable movable' : ℕ) (ks js : List (Option KeptSlot)) (place : ℕ)
+    → place < length ks → js ≡ (outcome_in (read_turn number) ks place).1
+    → SetsBit movable place (passes can_move (option_flatten (slice_get js place))) movable'
+    → AreMarked ending movable ks → AreMarked ending movable' js
+marks-read number ending movable movable' ks js place lt does m marked =
+    let o = (outcome_at (read_turn number) (option_flatten (slice_get ks place))).1 in
+    let there : option_flatten (slice_get js place) ≡ o =
+    ap (λ hs. option_flatten (slice_get hs place)) does
+    ∙ ap option_flatten (get-set_in ks place o lt) in
+    marks-acted ending movable ending movable' ks js place o lt does
+    (stays ending place _ (ap (passes is_ending) there
+    ∙ read-ends number (option_flatten (slice_get ks place)))) m marked
+
+-- after a close with its turn a slot isn't ending, and nothing can move into its port
+close-rests : (number : ℕ) (o : Option KeptSlot)
+    → (passes is_ending (outcome_at (close_turn number) o).1 ≡ false)
+    × (passes can_move (outcome_at (close_turn number) o).1 ≡ false)
+close-rests number None = (refl, refl)
+close-rests number (Some k) = by (is_live u.held)
+  where
+    u : KeptSlot
+    u = noticed number k
+
+    by : (x : Bool) → (passes is_ending (option_map filled (close_if number u x).1) ≡ false)
+        × (passes can_move (option_map filled (close_if number u x).1) ≡ false)
+    by true =
+        let t : KeptSlot = record u { held = ended_by u.held Closed number } in
+        (filled-ends t, filled-still t)
+    by false = (filled-ends u ∙ noticed-still number k, filled-still u)
+
+-- a close with its turn
+pub marks-closed : (number ending movable : ℕ) (ks js : List (Option KeptSlot)) (place : ℕ)
+    → js ≡ (outcome_in (close_turn number) ks place).1
+    → AreMarked ending movable ks → AreMarked ending movable js
+marks-closed number ending movable ks js place does marked =
+    let rests = close-rests number (option_flatten (slice_get ks place)) in
+    marks-set ending movable ending movable ks js place _ does
+    (stays ending place _ rests.0) (stays movable place _ rests.1) marked
+
+-- a slot with work has its bit in one of the words
+pub work-marked : (ending movable : ℕ) (ks : List (Option KeptSlot)) → AreMarked ending movable ks
+    → IsMarked has_work (bit_or ending movable) ks
+work-marked ending movable ks marked = λ i k at is. by i k at (is_ending k) refl is
+  where
+    by : (i : ℕ) (k : KeptSlot) → slice_get ks i ≡ Some (Some k) → (x : Bool) → is_ending k ≡ x
+        → (x || can_move k) ≡ true → bit_at (bit_or ending movable) i ≡ 1
+    by i k at true ends is = either-left ending movable i (marked.ends i k at ends)
+    by i k at false ends is = either-right ending movable i (marked.moves i k at is)
 
 -- one slot more
 pub marks-pushed : (ending movable ending' movable' : ℕ) (ks js : List (Option KeptSlot))

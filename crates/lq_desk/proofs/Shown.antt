@@ -258,30 +258,32 @@ module _ (count : ChangesCount) where
             },
           )
 
-      -- what may run out in the desk may in the world
-      runs_out : (w : World) (e : Event) → KeptMayRunOut (kept_of w) e → MayRunOut w e
-      runs_out w (Change c) is = is
-      runs_out w (Open q port backlog moved) is = sym (refusal-same w port backlog) ∙ is
-      runs_out w (Put slot) is = is
-      runs_out w (Take slot) is = is
-      runs_out w (HangUp slot) is = is
-      runs_out w (Notice slot) is = is
-      runs_out w (Close slot) is = is
-      runs_out w (Finish slot) is = is
+-- where what is kept shows a world, and both answer alike
+module _ (alike : KeptShowsWorlds) where
+  -- what may run out in the desk may in the world
+  runs_out : (w : World) (e : Event) → KeptMayRunOut (kept_of w) e → MayRunOut w e
+  runs_out w (Change c) is = is
+  runs_out w (Open q port backlog moved) is = sym (refusal-same w port backlog) ∙ is
+  runs_out w (Put slot) is = is
+  runs_out w (Take slot) is = is
+  runs_out w (HangUp slot) is = is
+  runs_out w (Notice slot) is = is
+  runs_out w (Close slot) is = is
+  runs_out w (Finish slot) is = is
 
-      -- a step of what is kept is a move from a world that it shows
-      pub moves : (old new : Kept) (w : World) (e : Event) (a : Answer) → KeptStep old e a new
-          → Shows old w → Moves new w e a
-      moves old new w e a (inl done) shows =
-          let same = kept-shows old w e shows in
-          record {
-            next = next w e;
-            step = inl (done.0 ∙ same.0, refl);
-            shows = subst (λ (k : Kept). Shows k (next w e)) (sym done.1) same.1;
-          }
-      moves old new w e a (inr ran) shows = record {
-        next = w;
-        step = inr
-            (runs_out w e (subst (λ (k : Kept). KeptMayRunOut k e) shows.kept ran.0), ran.1, refl);
-        shows = subst (λ (k : Kept). Shows k w) (sym ran.2) shows;
+  -- a step of what is kept is a move from a world that it shows
+  pub moves : (old new : Kept) (w : World) (e : Event) (a : Answer) → KeptStep old e a new
+      → Shows old w → Moves new w e a
+  moves old new w e a (inl done) shows =
+      let same = alike old w e shows in
+      record {
+        next = next w e;
+        step = inl (done.0 ∙ same.0, refl);
+        shows = subst (λ (k : Kept). Shows k (next w e)) (sym done.1) same.1;
       }
+  moves old new w e a (inr ran) shows = record {
+    next = w;
+    step = inr
+        (runs_out w e (subst (λ (k : Kept). KeptMayRunOut k e) shows.kept ran.0), ran.1, refl);
+    shows = subst (λ (k : Kept). Shows k w) (sym ran.2) shows;
+  }

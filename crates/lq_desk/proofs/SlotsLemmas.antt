@@ -1,11 +1,11 @@
 -- The slots of a desk, as contracts see them.
-use Rattle.std.proofs.Common.{◌≡◌, ℕ, zero, suc, ◌+◌, ◌-◌, ◌*◌, ◌≤◌, ◌<◌, List, [], ◌∷◌, ◌++◌, refl, ap, map, take, drop, get_or, length, ◌∙◌, sym, subst, append-nil, arith, Some, None, Option, Bool, true, false}
-use Rattle.std.specs.Prelude.{slice_get, slice_set, replicate, if◌then◌else◌, ◌≢◌, ◌&&◌, nat_lt}
+use Rattle.std.proofs.Common.{◌≡◌, ℕ, zero, suc, ◌+◌, ◌-◌, ◌*◌, ◌≤◌, ◌<◌, ◌^◌, List, [], ◌∷◌, ◌++◌, refl, ap, map, take, drop, get_or, length, ◌∙◌, sym, subst, append-nil, arith, Some, None, Option, Bool, true, false}
+use Rattle.std.specs.Prelude.{slice_get, slice_set, if◌then◌else◌, ◌==◌, ◌&&◌, ◌||◌, nat_lt}
 use Rattle.std.specs.Option.{option_map, option_flatten}
 use Rattle.std.specs.List.{AllByRecursion}
 use Rattle.std.proofs.lemmas.Bool.Decides.{nat_tests}
 use Rattle.std.proofs.lemmas.Bool.{and_parts}
-use Rattle.std.proofs.lemmas.List.{map-set}
+use Rattle.std.proofs.lemmas.List.{length-set, map-set}
 use Rattle.std.proofs.lemmas.Option.{slice_get-map}
 use Rattle.lq_volume.specs.declared.change.Change.{Change as Change_}
 use Rattle.lq_volume.specs.State.{State, IsVolume}
@@ -21,12 +21,12 @@ use Rattle.lq_value.specs.declared.refusal.Refusal.TheVariants.{NotOpen}
 use Rattle.lq_desk_world.specs.declared.event.Act.{Act}
 use Rattle.lq_desk_world.specs.declared.event.Act.TheVariants as act
 use Rattle.lq_desk_sub.specs.Held.{Held, is_live, held_after, committed, ended_by, after_messages, after_messages_by, overruns}
-use Rattle.lq_desk.specs.Slot.{KeptSlot, PreparedSlot, slot_of, prepared_slot, committed_slot, slot_after, put_if, read_if, notice_if, close_if, finish_if, done_at, filled, has_ready, is_ending, noticed}
-use Rattle.lq_desk.specs.Act.{act_of, outcome_at, outcome_in}
-use Rattle.lq_desk.specs.Kept.{Kept, IsFew, kept_act, kept_at, at_place, kept_outcome}
+use Rattle.lq_desk.specs.Slot.{KeptSlot, PreparedSlot, slot_of, prepared_slot, committed_slot, slot_after, put_if, read_if, notice_if, close_if, close_slot, finish_if, can_move, done_at, filled, has_ready, has_work, is_ending, noticed, read_slot}
+use Rattle.lq_desk.specs.Act.{act_of, close_turn, outcome_at, outcome_in, outcome_of, read_turn}
+use Rattle.lq_desk.specs.Kept.{Kept, IsFew, kept_act, at_kept, at_place, kept_outcome}
 use Rattle.lq_desk.specs.Kept as kept
-use Rattle.lq_desk.proofs.ListLemmas.{all-set, all-get, set-same, lt-get}
-use Rattle.lq_desk.proofs.PutLemmas.{puts-keep}
+use Rattle.lq_desk.proofs.ListLemmas.{all-set, all-get}
+use Rattle.lq_desk.proofs.PutLemmas.{filled-quiet, puts-keep}
 
 -- what is kept of what may be in a slot
 abbrev pub kept_slot : Option PreparedSlot → Option KeptSlot
@@ -43,6 +43,16 @@ one-few n (y ∷ ys) zero d lt at h =
     subst (λ (o : Option PreparedSlot). IsFew n (kept_slot o)) (sym at) h.0
 one-few n (y ∷ ys) (suc i) d lt at h = one-few n ys i d (omega arith) at h.1
 
+-- so it has, where it is taken
+pub sent-there : (ys : List (Option PreparedSlot)) (i : ℕ) (p : PreparedSlot)
+    (d : Option PreparedSlot) → i < length ys → d ≡ get_or ys i d → d ≡ Some p
+    → AllByRecursion (IsFew (2 ^ 63 - 1)) (map kept_slot ys) → p.sub.held.sent < 2 ^ 63
+sent-there ys i p d lt at is h =
+    let few : p.sub.held.sent ≤ 2 ^ 63 - 1 =
+    subst (λ (o : Option PreparedSlot). IsFew (2 ^ 63 - 1) (kept_slot o)) is
+    (one-few (2 ^ 63 - 1) ys i d lt at h) in
+    omega (arith, few)
+
 -- and so has the one at a place
 pub few-at : (n : ℕ) (ys : List (Option PreparedSlot)) (i : ℕ) (d : Option PreparedSlot)
     → i < length ys → AllByRecursion (IsFew n) (map kept_slot ys)
@@ -58,20 +68,29 @@ one-get [] i d lt at = absurd (omega arith)
 one-get (x ∷ xs) zero d lt at = ap (λ (o : Option PreparedSlot). Some o) (sym at)
 one-get (x ∷ xs) (suc i) d lt at = one-get xs i d (omega arith) at
 
--- an act at one of them
-pub act_in-same : (number : ℕ) (a : Act) (xs : List (Option PreparedSlot)) (i : ℕ)
-    (x d : Option PreparedSlot) (r : Answer) → i < length xs → d ≡ get_or xs i d
-    → (r, kept_slot x) ≡ outcome_at number a (kept_slot d)
-    → (r, map kept_slot (slice_set xs i x)) ≡ outcome_in number a (map kept_slot xs) i
-act_in-same number a xs i x d r lt at is =
+-- what is done at one of them
+pub act_in-same : (does : KeptSlot → Answer × Option KeptSlot) (xs : List (Option PreparedSlot))
+    (i : ℕ) (x d : Option PreparedSlot) (r : Answer) → i < length xs → d ≡ get_or xs i d
+    → (r, kept_slot x) ≡ outcome_at does (kept_slot d)
+    → (r, map kept_slot (slice_set xs i x)) ≡ outcome_in does (map kept_slot xs) i
+act_in-same does xs i x d r lt at is =
     let found : option_flatten (slice_get (map kept_slot xs) i) ≡ kept_slot d = ap option_flatten
     (slice_get-map kept_slot xs i ∙ ap (option_map kept_slot) (one-get xs i d lt at)) in
     ap (λ ks. (r, ks)) (map-set kept_slot xs i x)
     ∙ (ap (λ (p : Answer × Option KeptSlot). (p.0, slice_set (map kept_slot xs) i p.1)) is
     ∙ ap (λ (o : Option KeptSlot). (
-      (outcome_at number a o).0,
-      slice_set (map kept_slot xs) i (outcome_at number a o).1,
+      (outcome_at does o).0,
+      slice_set (map kept_slot xs) i (outcome_at does o).1,
     )) (sym found))
+
+-- nothing is done at a free one
+pub act_in-none : (does : KeptSlot → Answer × Option KeptSlot) (xs : List (Option PreparedSlot))
+    (i : ℕ) (d : Option PreparedSlot) → i < length xs → d ≡ get_or xs i d → d ≡ None
+    → (Refused NotOpen, map kept_slot (slice_set xs i d)) ≡ outcome_in does (map kept_slot xs) i
+act_in-none does xs i d lt at is =
+    act_in-same does xs i d d (Refused NotOpen) lt at
+    (ap (λ (o : Option PreparedSlot). (Refused NotOpen, kept_slot o)) is
+    ∙ ap (λ (o : Option PreparedSlot). outcome_at does (kept_slot o)) (sym is))
 
 -- and what is kept of it is what is kept at that place
 pub kept-get : (xs : List (Option PreparedSlot)) (i : ℕ) (d : Option PreparedSlot) → i < length xs
@@ -162,6 +181,15 @@ map-kept s c xs ys i x z done same at = map-same_here ys i x z same at
 -- a noticing leaves a slot whose end wasn't asked for, or that has ended
 pub noticed-quiet : (n : ℕ) (k : KeptSlot) → is_ending k ≡ false → noticed n k ≡ k
 noticed-quiet n k is = ap (λ x. if x then record k { held = ended_by k.held HungUp n } else k) is
+
+-- where there is no work, a read with its turn is a read
+pub read-quiet : (n : ℕ) (k : KeptSlot) → has_work k ≡ false → read_slot k ≡ read_turn n k
+read-quiet n k is = by (is_ending k) refl is
+  where
+    by : (x : Bool) → is_ending k ≡ x → (x || can_move k) ≡ false → read_slot k ≡ read_turn n k
+    by true ends none = absurd (let bad : ⊥ = cc in bad)
+    by false ends none = ap read_slot
+        (sym (ap filled (noticed-quiet n k ends) ∙ filled-quiet k none))
 
 -- after a noticing a slot isn't ending
 pub noticed-still : (n : ℕ) (k : KeptSlot) → is_ending (noticed n k) ≡ false
@@ -274,6 +302,16 @@ few-noticed n number k h = by (is_ending k)
     by true = h
     by false = h
 
+-- a slot that was noticed has made few
+pub sent-noticed : (number : ℕ) (k : KeptSlot) (p : PreparedSlot) → slot_of p ≡ noticed number k
+    → k.held.sent < 2 ^ 63 → p.sub.held.sent < 2 ^ 63
+sent-noticed number k p is lt =
+    let few : (noticed number k).held.sent ≤ 2 ^ 63 - 1 =
+    few-noticed (2 ^ 63 - 1) number k (omega (arith, lt)) in
+    let same : p.sub.held.sent ≡ (noticed number k).held.sent =
+    ap (λ (j : KeptSlot). j.held.sent) is in
+    omega (arith, few, same)
+
 -- puts make none
 few-filled : (n : ℕ) (k : KeptSlot) → IsFew n (Some k) → IsFew n (Some (filled k))
 few-filled n k h = few-same n k (filled k) (puts-keep k.port k).sent h
@@ -328,7 +366,8 @@ few-finish n k true h = tt
 few-finish n k false h = h
 
 -- no act makes any
-few-act : (n number : ℕ) (a : Act) (k : KeptSlot) → IsFew n (Some k) → IsFew n (act_of number a k).1
+pub few-act : (n number : ℕ) (a : Act) (k : KeptSlot) → IsFew n (Some k)
+    → IsFew n (act_of number a k).1
 few-act n number act.Put k h = few-put n k _ _ h
 few-act n number act.Take k h = few-read n k _ h
 few-act n number act.HangUp k h = h
@@ -336,11 +375,30 @@ few-act n number act.Notice k h = few-notice n number k _ h
 few-act n number act.Close k h = few-close n number k _ h
 few-act n number act.Finish k h = few-finish n k _ h
 
--- nor at a slot that may be free
-few-outcome : (n number : ℕ) (a : Act) (o : Option KeptSlot) → IsFew n o
-    → IsFew n (outcome_at number a o).1
-few-outcome n number a None h = tt
-few-outcome n number a (Some k) h = few-act n number a k h
+-- a notice, puts and a read make none
+pub few-read_turn : (n number : ℕ) (k : KeptSlot) → IsFew n (Some k)
+    → IsFew n (read_turn number k).1
+few-read_turn n number k h =
+    let t = filled (noticed number k) in
+    few-read n t (slice_get t.queue 0) (few-filled n (noticed number k) (few-noticed n number k h))
+
+-- a notice, a closing and puts make none
+pub few-close_turn : (n number : ℕ) (k : KeptSlot) → IsFew n (Some k)
+    → IsFew n (close_turn number k).1
+few-close_turn n number k h =
+    let u = noticed number k in
+    by (close_slot number u).1 (few-close n number u (is_live u.held) (few-noticed n number k h))
+  where
+    by : (o : Option KeptSlot) → IsFew n o → IsFew n (option_map filled o)
+    by None few = tt
+    by (Some t) few = few-filled n t few
+
+-- what makes none makes none at a slot that may be free
+few-outcome : (n : ℕ) (does : KeptSlot → Answer × Option KeptSlot)
+    → ((k : KeptSlot) → IsFew n (Some k) → IsFew n (does k).1) → (o : Option KeptSlot) → IsFew n o
+    → IsFew n (outcome_at does o).1
+few-outcome n does keeps None h = tt
+few-outcome n does keeps (Some k) h = keeps k h
 
 -- what is at a place has made few, where all have
 few-flat : (n : ℕ) (ks : List (Option KeptSlot)) (i : ℕ) (o : Option (Option KeptSlot))
@@ -348,35 +406,31 @@ few-flat : (n : ℕ) (ks : List (Option KeptSlot)) (i : ℕ) (o : Option (Option
 few-flat n ks i None is h = tt
 few-flat n ks i (Some k) is h = all-get (IsFew n) ks i k h is
 
--- an act at a place of the slots makes none
-pub few-outcome_in : (n number : ℕ) (a : Act) (ks : List (Option KeptSlot)) (i : ℕ)
-    → AllByRecursion (IsFew n) ks → AllByRecursion (IsFew n) (outcome_in number a ks i).1
-few-outcome_in n number a ks i h =
-    all-set (IsFew n) ks i _ h (few-outcome n number a (option_flatten (slice_get ks i))
-    (few-flat n ks i (slice_get ks i) refl h))
-
--- what makes none in a slot makes none in that of a place
-few-done : (n : ℕ) (f : KeptSlot → KeptSlot)
-    → ((k : KeptSlot) → IsFew n (Some k) → IsFew n (Some (f k))) → (ks : List (Option KeptSlot))
-    (i : ℕ) → AllByRecursion (IsFew n) ks → AllByRecursion (IsFew n) (done_at f ks i)
-few-done n f keeps ks i h = all-set (IsFew n) ks i _ h
-    (by (option_flatten (slice_get ks i)) (few-flat n ks i (slice_get ks i) refl h))
+-- what makes none makes none at a slot of a list
+pub few-outcome_of : (n : ℕ) (does : KeptSlot → Answer × Option KeptSlot)
+    → ((k : KeptSlot) → IsFew n (Some k) → IsFew n (does k).1)
+    → (ks : List (Option KeptSlot)) (slot : ℕ) → AllByRecursion (IsFew n) ks
+    → AllByRecursion (IsFew n) (outcome_of does ks slot).1
+few-outcome_of n does keeps ks slot h = by (slot == 0)
   where
-    by : (o : Option KeptSlot) → IsFew n o → IsFew n (option_map f o)
-    by None h = tt
-    by (Some k) h = keeps k h
+    by : (x : Bool) → AllByRecursion (IsFew n)
+        (if x then (Refused NotOpen, ks) else outcome_in does ks (slot - 1)).1
+    by true = h
+    by false = all-set (IsFew n) ks (slot - 1) _ h
+        (few-outcome n does keeps (option_flatten (slice_get ks (slot - 1)))
+        (few-flat n ks (slot - 1) (slice_get ks (slot - 1)) refl h))
 
--- a noticing at a place makes none
-pub few-noticed_at : (n number : ℕ) (ks : List (Option KeptSlot)) (i : ℕ)
-    → AllByRecursion (IsFew n) ks → AllByRecursion (IsFew n) (done_at (noticed number) ks i)
-few-noticed_at n number ks i h = few-done n (noticed number) (few-noticed n number) ks i h
+-- as many slots are left
+pub length-outcome_of : (does : KeptSlot → Answer × Option KeptSlot) (ks : List (Option KeptSlot))
+    (slot : ℕ) → length (outcome_of does ks slot).1 ≡ length ks
+length-outcome_of does ks slot = by (slot == 0)
+  where
+    by : (x : Bool)
+        → length (if x then (Refused NotOpen, ks) else outcome_in does ks (slot - 1)).1 ≡ length ks
+    by true = refl
+    by false = length-set ks (slot - 1) _
 
--- puts at a place make none
-pub few-filled_at : (n : ℕ) (ks : List (Option KeptSlot)) (i : ℕ) → AllByRecursion (IsFew n) ks
-    → AllByRecursion (IsFew n) (done_at filled ks i)
-few-filled_at n ks i h = few-done n filled (few-filled n) ks i h
-
--- ---- an act at a place is the event at its slot
+-- ---- what is done at a slot of the list is done at the desk's slot
 
 -- an act at a slot is an event
 pub act-outcome : (k : Kept) (slot : ℕ) (a : Act)
@@ -388,54 +442,45 @@ act-outcome k slot act.Notice = refl
 act-outcome k slot act.Close = refl
 act-outcome k slot act.Finish = refl
 
--- an act at a place within the slots is the event there
-at-place : (k : Kept) (a : Act) (place : ℕ) (o : Option (Option KeptSlot))
-    → slice_get k.slots place ≡ o → place < length k.slots
-    → (
-      (outcome_at k.volume.number a (option_flatten o)).0,
-      record k {
-        slots =
-            slice_set k.slots place (outcome_at k.volume.number a (option_flatten o)).1;
-      },
-    )
-    ≡ at_place k place (option_flatten o) (act_of k.volume.number a)
-at-place k a place None is lt = absurd (let no = lt-get k.slots place in grind (arith, nat_tests))
-at-place k a place (Some None) is lt =
-    ap (λ ks. (Refused NotOpen, record k { slots = ks })) (set-same k.slots place None is)
-at-place k a place (Some (Some s)) is lt = refl
+-- where no subscription is, writing none leaves the slots
+pub set-free : (ks : List (Option KeptSlot)) (i : ℕ) → option_flatten (slice_get ks i) ≡ None
+    → slice_set ks i None ≡ ks
+set-free [] i is = refl
+set-free (k ∷ ks) zero is = ap (λ j. j ∷ ks) (sym is)
+set-free (k ∷ ks) (suc i) is = ap (λ js. k ∷ js) (set-free ks i is)
 
--- an act at a slot is its event
-pub act-same : (k : Kept) (a : Act) (slot : ℕ) (r : Answer) (ks : List (Option KeptSlot)) → slot ≢ 0
-    → slot ≤ length k.slots → (r, ks) ≡ outcome_in k.volume.number a k.slots (slot - 1)
-    → (r, record k { slots = ks }) ≡ kept_act k slot a
-act-same k a slot r ks some within is =
-    let there : option_flatten (slice_get k.slots (slot - 1)) ≡ kept_at k slot =
-    grind (arith, nat_tests) in
+-- what is done at a slot
+pub at-same : (k : Kept) (does : KeptSlot → Answer × Option KeptSlot) (slot : ℕ) (r : Answer)
+    (ks : List (Option KeptSlot)) → (r, ks) ≡ outcome_of does k.slots slot
+    → (r, record k { slots = ks }) ≡ at_kept k slot does
+at-same k does slot r ks is =
     ap (λ (p : Answer × List (Option KeptSlot)). (p.0, record k { slots = p.1 })) is
-    ∙ (at-place k a (slot - 1) (slice_get k.slots (slot - 1)) refl (omega arith)
-    ∙ ap (λ (o : Option KeptSlot). at_place k (slot - 1) o (act_of k.volume.number a)) there)
+    ∙ by (slot == 0) (option_flatten (slice_get k.slots (slot - 1))) refl
+  where
+    kept : Answer × List (Option KeptSlot) → Answer × Kept
+    kept p = (p.0, record k { slots = p.1 })
 
--- an act at a free slot is refused, and leaves what is kept
-pub no-slot : (k : Kept) (a : Act) (slot : ℕ) → kept_at k slot ≡ None
-    → (Refused NotOpen, k) ≡ kept_act k slot a
-no-slot k a slot none =
-    ap (λ (o : Option KeptSlot). at_place k (slot - 1) o (act_of k.volume.number a)) (sym none)
-
--- slot 0 is free
-pub zero-free : (k : Kept) → kept_at k 0 ≡ None
-zero-free k = refl
-
--- past the end of a list nothing is
-get-past : {A : Type 0} (xs : List A) (i : ℕ) → length xs ≤ i → slice_get xs i ≡ None
-get-past [] i h = refl
-get-past (x ∷ xs) zero h = absurd (omega arith)
-get-past (x ∷ xs) (suc i) h = get-past xs i (omega arith)
-
--- a slot past the last one is free
-pub past-free : (k : Kept) (slot : ℕ) → length k.slots < slot → kept_at k slot ≡ None
-past-free k slot past =
-    let none : slice_get k.slots (slot - 1) ≡ None = get-past k.slots (slot - 1) (omega arith) in
-    grind (arith, nat_tests, none)
+    by : (x : Bool) (o : Option KeptSlot) → option_flatten (slice_get k.slots (slot - 1)) ≡ o
+        → kept (if x then (Refused NotOpen, k.slots) else outcome_in does k.slots (slot - 1))
+        ≡ at_place k (slot - 1)
+        (if x then None else option_flatten (slice_get k.slots (slot - 1))) does
+    by true o there = refl
+    by false None there =
+        ap (λ (o : Option KeptSlot). kept (
+          (outcome_at does o).0,
+          slice_set k.slots (slot - 1)
+              (outcome_at does o).1,
+        )) there
+        ∙ (ap (λ js. (Refused NotOpen, record k { slots = js }))
+        (set-free k.slots (slot - 1) there)
+        ∙ ap (λ (o : Option KeptSlot). at_place k (slot - 1) o does) (sym there))
+    by false (Some s) there =
+        ap (λ (o : Option KeptSlot). kept (
+          (outcome_at does o).0,
+          slice_set k.slots (slot - 1)
+              (outcome_at does o).1,
+        )) there
+        ∙ ap (λ (o : Option KeptSlot). at_place k (slot - 1) o does) (sym there)
 
 -- ---- the first free slot
 
@@ -445,12 +490,3 @@ pub first_free-front : (xs : List (Option PreparedSlot))
 first_free-front [] = omega arith
 first_free-front (None ∷ xs) = omega arith
 first_free-front (Some p ∷ xs) = omega (arith, first_free-front xs)
-
--- one more of the same
-pub replicate-more : (n : ℕ) (o : Option PreparedSlot)
-    → replicate n o ++ o ∷ [] ≡ replicate (n + 1) o
-replicate-more n o = by n ∙ ap (λ k. replicate k o) (let e : suc n ≡ n + 1 = omega arith in e)
-  where
-    by : (n : ℕ) → replicate n o ++ o ∷ [] ≡ replicate (suc n) o
-    by zero = refl
-    by (suc n) = ap (λ os. o ∷ os) (by n)

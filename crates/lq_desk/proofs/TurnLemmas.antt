@@ -1,6 +1,6 @@
 -- The turns of a desk.
-use Rattle.std.proofs.Common.{◌≡◌, ℕ, zero, suc, ◌+◌, ◌-◌, ◌≤◌, ◌<◌, List, [], ◌∷◌, ◌++◌, refl, ap, map, length, ◌∙◌, sym, subst, arith, Some, None, Option, Bool, true, false, inl, inr}
-use Rattle.std.specs.Prelude.{slice_get, slice_set, replicate, if◌then◌else◌, ◌==◌, ◌&&◌, ◌≢◌, ◌⊎◌}
+use Rattle.std.proofs.Common.{◌≡◌, ℕ, zero, suc, ◌+◌, ◌-◌, List, [], ◌∷◌, ◌++◌, refl, ap, map, length, ◌∙◌, sym, subst, arith, Some, None, Option, Bool, true, false, inl, inr}
+use Rattle.std.specs.Prelude.{slice_get, slice_set, replicate, if◌then◌else◌, ◌==◌, ◌&&◌}
 use Rattle.std.specs.Option.{option_map, option_flatten}
 use Rattle.std.proofs.lemmas.Bool.Decides.{nat_tests}
 use Rattle.std.proofs.lemmas.List.{map-set, set-set}
@@ -13,11 +13,13 @@ use Rattle.lq_volume.specs.Change.{refused}
 use Rattle.lq_desk_world.specs.World.{World, Subscribed}
 use Rattle.lq_desk_world.specs.declared.event.Event.{Event}
 use Rattle.lq_desk_world.specs.declared.event.Event.TheVariants.{Change, Open, Put, Take, HangUp, Notice, Close, Finish}
-use Rattle.lq_desk_world.specs.Events.{Answer, outcome, next}
+use Rattle.lq_desk_world.specs.Events.{Answer, Refused, outcome, next}
 use Rattle.lq_desk_world.specs.Turns.{Turn, turn_of, ports_of, places_at, places_in, at_slot_of, at_each, one_notice, puts, notices, all_puts, after_all, carried_out}
-use Rattle.lq_update.specs.declared.mark.Cause.TheVariants.{HungUp}
+use Rattle.lq_value.specs.declared.refusal.Refusal.TheVariants.{NotOpen}
+use Rattle.lq_update.specs.declared.mark.Cause.TheVariants.{Closed, HungUp}
 use Rattle.lq_desk_sub.specs.Held.{is_live, held_after, ended_by}
-use Rattle.lq_desk.specs.Slot.{KeptSlot, put_slot, notice_if, notice_slot, close_if, close_slot, slot_after, after_put, after_puts, done_at, filled, noticed}
+use Rattle.lq_desk.specs.Slot.{KeptSlot, put_slot, read_slot, notice_if, notice_slot, close_if, close_slot, slot_after, after_put, after_puts, filled, noticed}
+use Rattle.lq_desk.specs.Act.{close_turn, read_turn}
 use Rattle.lq_desk.specs.Kept.{Kept, KeptStep, Shows, slot_for, kept_at, at_place, at_kept, kept_outcome, change_if}
 use Rattle.lq_desk.specs.Reply.{Moves, Runs}
 use Rattle.lq_desk.specs.Turn.{slot_port, kept_ports, kept_turn, kept_after, TurnStep, TurnRuns}
@@ -58,14 +60,6 @@ notice-keeps n s = by (is_live s.held && s.hang_up_asked)
     by true = refl
     by false = refl
 
--- and a closing
-close-keeps : (n : ℕ) → Keeps (close_slot n)
-close-keeps n s = by (is_live s.held)
-  where
-    by : (x : Bool) → option_map slot_port (close_if n s x).1 ≡ Some s.port
-    by true = refl
-    by false = refl
-
 -- what stands in a taken slot
 kept-there : (k : Kept) (slot : ℕ) (s : KeptSlot) → kept_at k slot ≡ Some s
     → slice_get k.slots (slot - 1) ≡ Some (Some s)
@@ -93,12 +87,6 @@ ports-noticed : (k : Kept) (slot : ℕ)
     → kept_ports (kept_outcome k (Notice slot)).1 ≡ kept_ports k
 ports-noticed k slot = at-keeps k slot (kept_at k slot)
     (notice_slot k.volume.number) refl (notice-keeps k.volume.number)
-
--- a closing keeps all ports
-ports-closed : (k : Kept) (slot : ℕ)
-    → kept_ports (kept_outcome k (Close slot)).1 ≡ kept_ports k
-ports-closed k slot =
-    at-keeps k slot (kept_at k slot) (close_slot k.volume.number) refl (close-keeps k.volume.number)
 
 -- a change keeps all ports
 ports-after : (s : State) (c : Change_) (slots : List (Option KeptSlot))
@@ -179,30 +167,6 @@ puts-do k i (suc n) ks s at =
 fill-does : (k : Kept) → Does puts filled k
 fill-does k ks i s at = puts-do k i s.port ks s at
 
--- at one slot
-slot-does : (events : ℕ → ℕ → List Event) (f : KeptSlot → KeptSlot) (k : Kept) (i : ℕ)
-    (o : Option KeptSlot) → Does events f k → slice_get k.slots i ≡ Some o
-    → kept_after k (at_slot_of events (i + 1) (option_map slot_port o))
-    ≡ record k { slots = slice_set k.slots i (option_map f o) }
-slot-does events f k i None does at =
-    ap (λ ks. record k { slots = ks }) (sym (set-same k.slots i None at))
-slot-does events f k i (Some s) does at = does k.slots i s at
-
--- a place within a list has an element
-get-some : {A : Type 0} (xs : List A) (i : ℕ) → i < length xs → (x : A) × (slice_get xs i ≡ Some x)
-get-some [] i lt = absurd (omega arith)
-get-some (x ∷ xs) zero lt = (x, refl)
-get-some (x ∷ xs) (suc i) lt = get-some xs i (omega arith)
-
--- a noticing at a place is the turn's noticing there, also of a free slot
-notice-there : (k : Kept) (i : ℕ) (o : Option KeptSlot)
-    → slice_get k.slots i ≡ Some o → (kept_outcome k (Notice (i + 1))).1
-    ≡ kept_after k (at_slot_of one_notice (i + 1) (option_map slot_port o))
-notice-there k i None is =
-    ap (λ (o : Option KeptSlot). (at_place k (i + 1 - 1) o (notice_slot k.volume.number)).1)
-    (kept-next k i None is)
-notice-there k i (Some s) is = refl
-
 -- the places of a slot's port
 places-here : (k : Kept) (i : ℕ) (o : Option KeptSlot) → slice_get k.slots i ≡ Some o
     → places_at (kept_ports k) (i + 1) ≡ places_in (option_map slot_port o)
@@ -213,50 +177,6 @@ places-here k i o is =
     slice_get-map (option_map slot_port) k.slots (i + 1 - 1)
     ∙ ap (option_map (option_map slot_port)) (ap (slice_get k.slots) e ∙ is) in
     rw (some, there) refl
-
--- the puts at a place are the turn's puts there, also of a free slot
-puts-there : (k : Kept) (i : ℕ) (o : Option KeptSlot)
-    → slice_get k.slots i ≡ Some o → kept_after k (puts (i + 1) (places_at (kept_ports k) (i + 1)))
-    ≡ kept_after k (at_slot_of puts (i + 1) (option_map slot_port o))
-puts-there k i o is = ap (λ n. kept_after k (puts (i + 1) n)) (places-here k i o is) ∙ by o
-  where
-    by : (o : Option KeptSlot) → kept_after k (puts (i + 1) (places_in (option_map slot_port o)))
-        ≡ kept_after k (at_slot_of puts (i + 1) (option_map slot_port o))
-    by None = refl
-    by (Some s) = refl
-
--- what is done at a place, where that is one of the slots
-done-there : (f : KeptSlot → KeptSlot) (k : Kept) (i : ℕ) (o : Option KeptSlot)
-    → slice_get k.slots i ≡ Some o → record k { slots = slice_set k.slots i (option_map f o) }
-    ≡ record k { slots = done_at f k.slots i }
-done-there f k i o at = ap (λ (g : Option (Option KeptSlot)).
-    record k { slots = slice_set k.slots i (option_map f (option_flatten g)) }) (sym at)
-
--- the notice of a slot, and the puts of a slot
-pub noticed-one : (k : Kept) (slot : ℕ) → slot ≢ 0 → slot ≤ length k.slots
-    → record k { slots = done_at (noticed k.volume.number) k.slots (slot - 1) }
-    ≡ (kept_outcome k (Notice slot)).1
-noticed-one k slot some within =
-    let i = slot - 1 in
-    let e : i + 1 ≡ slot = omega (arith, some) in
-    let t = get-some k.slots i (omega (arith, some, within)) in
-    sym (ap (λ n. (kept_outcome k (Notice n)).1) (sym e)
-    ∙ (notice-there k i t.0 t.1
-    ∙ (slot-does one_notice (noticed k.volume.number) k i t.0 (notice-does k) t.1
-    ∙ done-there (noticed k.volume.number) k i t.0 t.1)))
-
--- puts at one slot of the turn fill it
-pub filled-one : (k : Kept) (slot : ℕ) → slot ≢ 0
-    → slot ≤ length k.slots → record k { slots = done_at filled k.slots (slot - 1) }
-    ≡ kept_after k (puts slot (places_at (kept_ports k) slot))
-filled-one k slot some within =
-    let i = slot - 1 in
-    let e : i + 1 ≡ slot = omega (arith, some) in
-    let t = get-some k.slots i (omega (arith, some, within)) in
-    sym (ap (λ n. kept_after k (puts n (places_at (kept_ports k) n))) (sym e)
-    ∙ (puts-there k i t.0 t.1
-    ∙ (slot-does puts filled k i t.0 (fill-does k) t.1
-    ∙ done-there filled k i t.0 t.1)))
 
 -- where there is no slot, nothing is done
 pub noticed-none : (k : Kept) (slot : ℕ) → kept_at k slot ≡ None
@@ -282,6 +202,160 @@ filled-none k slot none =
     (slice_get-map (option_map slot_port) k.slots (slot - 1))
     ∙ no-places (slot == 0) (slice_get k.slots (slot - 1)) none in
     sym (ap (λ n. kept_after k (puts slot n)) zero_places)
+
+-- ---- the turns of a read and of a close
+
+-- these slots in place of those that are kept
+abbrev at-slots : Kept → List (Option KeptSlot) → Kept
+at-slots k ks = record k { slots = ks }
+
+-- a taken slot has a number that follows another
+kept-number : (k : Kept) (slot : ℕ) (s : KeptSlot) → kept_at k slot ≡ Some s
+    → slot - 1 + 1 ≡ slot
+kept-number k zero s is = absurd (let bad : ⊥ = cc in bad)
+kept-number k (suc n) s is = omega arith
+
+-- what is written in a taken slot is there
+kept-set : (k : Kept) (slot : ℕ) (s t : KeptSlot) → kept_at k slot ≡ Some s
+    → kept_at (at-slots k (slice_set k.slots (slot - 1) (Some t))) slot ≡ Some t
+kept-set k slot s t is = by (slot == 0) is
+  where
+    by : (x : Bool) → (if x then None else option_flatten (slice_get k.slots (slot - 1))) ≡ Some s
+        → (if x then None else option_flatten (slice_get (slice_set k.slots (slot - 1) (Some t))
+        (slot - 1))) ≡ Some t
+    by true none = absurd (let bad : ⊥ = cc in bad)
+    by false here = ap option_flatten
+        (get-set_here k.slots (slot - 1) (Some s) (Some t) (kept-there k slot s is))
+
+-- puts at a taken slot
+puts-taken : (n : ℕ) (k : Kept) (slot : ℕ) (s : KeptSlot) → kept_at k slot ≡ Some s
+    → kept_after k (puts slot n)
+    ≡ at-slots k (slice_set k.slots (slot - 1) (Some (after_puts n s)))
+puts-taken n k slot s is =
+    ap (λ m. kept_after k (replicate n (Put m))) (sym (kept-number k slot s is))
+    ∙ puts-do k (slot - 1) n k.slots s (kept-there k slot s is)
+
+-- a notice at a taken slot
+notice-taken : (k : Kept) (slot : ℕ) (s : KeptSlot) → kept_at k slot ≡ Some s
+    → (kept_outcome k (Notice slot)).1
+    ≡ at-slots k (slice_set k.slots (slot - 1) (Some (noticed k.volume.number s)))
+notice-taken k slot s is =
+    ap (λ (o : Option KeptSlot). (at_place k (slot - 1) o (notice_slot k.volume.number)).1) is
+    ∙ ap (λ o. at-slots k (slice_set k.slots (slot - 1) o)) (notice-some k.volume.number s)
+
+-- the places of its port
+places-taken : (k : Kept) (slot : ℕ) (s : KeptSlot) → kept_at k slot ≡ Some s
+    → places_at (kept_ports k) slot ≡ s.port
+places-taken k slot s is =
+    ap (places_at (kept_ports k)) (sym (kept-number k slot s is))
+    ∙ places-here k (slot - 1) (Some s) (kept-there k slot s is)
+
+-- a notice keeps the port
+port-noticed : (n : ℕ) (s : KeptSlot) → (noticed n s).port ≡ s.port
+port-noticed n s = by (is_live s.held && s.hang_up_asked)
+  where
+    by : (x : Bool) → (if x then record s { held = ended_by s.held HungUp n } else s).port ≡ s.port
+    by true = refl
+    by false = refl
+
+-- a close leaves the slot taken, with its port
+close-some : (n : ℕ) (s : KeptSlot)
+    → (t : KeptSlot) × ((close_slot n s).1 ≡ Some t) × (t.port ≡ s.port)
+close-some n s = by (is_live s.held)
+  where
+    by : (x : Bool) → (t : KeptSlot) × ((close_if n s x).1 ≡ Some t) × (t.port ≡ s.port)
+    by true = (record s { held = ended_by s.held Closed n }, refl, refl)
+    by false = (s, refl, refl)
+
+-- what is done at a taken slot after another thing was
+taken-again : (k : Kept) (slot : ℕ) (s t : KeptSlot) (does : KeptSlot → Answer × Option KeptSlot)
+    → kept_at k slot ≡ Some s
+    → at_kept (at-slots k (slice_set k.slots (slot - 1) (Some t))) slot does
+    ≡ ((does t).0, at-slots k (slice_set k.slots (slot - 1) (does t).1))
+taken-again k slot s t does is =
+    let j = at-slots k (slice_set k.slots (slot - 1) (Some t)) in
+    ap (λ (o : Option KeptSlot). at_place j (slot - 1) o does) (kept-set k slot s t is)
+    ∙ ap (λ ks. ((does t).0, at-slots k ks)) (set-set k.slots (slot - 1) (Some t) (does t).1)
+
+-- a notice, puts and a read
+pub read-events : (k : Kept) (slot : ℕ)
+    → kept_outcome (kept_after k (kept_turn k (Take slot)).before) (Take slot)
+    ≡ at_kept k slot (read_turn k.volume.number)
+read-events k slot = by (kept_at k slot) refl
+  where
+    places : List Event
+    places = puts slot (places_at (kept_ports k) slot)
+
+    by : (o : Option KeptSlot) → kept_at k slot ≡ o
+        → kept_outcome (kept_after (kept_outcome k (Notice slot)).1 places) (Take slot)
+        ≡ at_place k (slot - 1) o (read_turn k.volume.number)
+    by None is =
+        ap (λ j. kept_outcome (kept_after j places) (Take slot)) (sym (noticed-none k slot is))
+        ∙ (ap (λ j. kept_outcome j (Take slot)) (sym (filled-none k slot is))
+        ∙ ap (λ (o : Option KeptSlot). at_place k (slot - 1) o read_slot) is)
+    by (Some s) is =
+        let u = noticed k.volume.number s in
+        let l = at-slots k (slice_set k.slots (slot - 1) (Some u)) in
+        let port : places_at (kept_ports k) slot ≡ u.port = places-taken k slot s is
+        ∙ sym (port-noticed k.volume.number s) in
+        let full : kept_after l places
+        ≡ at-slots k (slice_set k.slots (slot - 1) (Some (filled u))) =
+        ap (λ n. kept_after l (puts slot n)) port
+        ∙ (puts-taken u.port l slot u (kept-set k slot s u is)
+        ∙ ap (at-slots k) (set-set k.slots (slot - 1) (Some u) (Some (filled u)))) in
+        ap (λ j. kept_outcome (kept_after j places) (Take slot)) (notice-taken k slot s is)
+        ∙ (ap (λ j. kept_outcome j (Take slot)) full
+        ∙ taken-again k slot s (filled u) read_slot is)
+
+-- a notice, a close and puts
+pub close-events : (k : Kept) (slot : ℕ) → (
+  (kept_outcome (kept_outcome k (Notice slot)).1 (Close slot)).0,
+  kept_after (kept_outcome (kept_outcome k (Notice slot)).1 (Close slot)).1
+      (puts slot (places_at (kept_ports k) slot)),
+)
+    ≡ at_kept k slot (close_turn k.volume.number)
+close-events k slot = by (kept_at k slot) refl
+  where
+    places : List Event
+    places = puts slot (places_at (kept_ports k) slot)
+
+    close : Kept → Answer × Kept
+    close j = (
+      (kept_outcome j (Close slot)).0,
+      kept_after (kept_outcome j (Close slot)).1 places,
+    )
+
+    by : (o : Option KeptSlot) → kept_at k slot ≡ o → close (kept_outcome k (Notice slot)).1
+        ≡ at_place k (slot - 1) o (close_turn k.volume.number)
+    by None is =
+        ap close (sym (noticed-none k slot is))
+        ∙ (ap (λ (p : Answer × Kept). (p.0, kept_after p.1 places))
+        (ap (λ (o : Option KeptSlot). at_place k (slot - 1) o (close_slot k.volume.number)) is)
+        ∙ ap (λ j. (Refused NotOpen, j)) (sym (filled-none k slot is)))
+    by (Some s) is =
+        let number = k.volume.number in
+        let u = noticed number s in
+        let t = close-some number u in
+        let l = at-slots k (slice_set k.slots (slot - 1) (Some t.0)) in
+        let port : places_at (kept_ports k) slot ≡ t.0.port = places-taken k slot s is
+        ∙ (sym (port-noticed number s) ∙ sym t.2) in
+        let full : kept_after l places
+        ≡ at-slots k (slice_set k.slots (slot - 1) (Some (filled t.0))) =
+        ap (λ n. kept_after l (puts slot n)) port
+        ∙ (puts-taken t.0.port l slot t.0 (kept-set k slot s t.0 is)
+        ∙ ap (at-slots k) (set-set k.slots (slot - 1) (Some t.0) (Some (filled t.0)))) in
+        ap close (notice-taken k slot s is)
+        ∙ (ap (λ (p : Answer × Kept). (p.0, kept_after p.1 places))
+        (taken-again k slot s u (close_slot number) is)
+        ∙ (ap (λ o. (
+          (close_slot number u).0,
+          kept_after (at-slots k (slice_set k.slots (slot - 1) o)) places,
+        )) t.1
+        ∙ (ap (λ j. ((close_slot number u).0, j)) full
+        ∙ ap (λ o. (
+          (close_slot number u).0,
+          at-slots k (slice_set k.slots (slot - 1) (option_map filled o)),
+        )) (sym t.1))))
 
 -- ---- one slot after another
 
@@ -376,44 +450,26 @@ filled-all k = sym (all-does puts filled k (fill-does k))
 
 -- ---- whole turns
 
--- a noticing, puts and a read are the turn of a read
-pub read-turn : (k l m n : Kept) (slot : ℕ) (a : Answer)
-    → l ≡ (kept_outcome k (Notice slot)).1
-    → m ≡ kept_after l (puts slot (places_at (kept_ports l) slot))
-    → (a, n) ≡ kept_outcome m (Take slot)
-    → TurnStep k (Take slot) a n
-read-turn k l m n slot a noticed filled taken =
-    let same : kept_ports l ≡ kept_ports k = ap kept_ports noticed ∙ ports-noticed k slot in
-    let at : m ≡ kept_after (kept_outcome k (Notice slot)).1
-    (puts slot (places_at (kept_ports k) slot)) =
-    filled ∙ (ap (λ ps. kept_after l (puts slot (places_at ps slot))) same
-    ∙ ap (λ j. kept_after j (puts slot (places_at (kept_ports k) slot))) noticed) in
+-- a read with what belongs to it is the turn of a read
+pub read-step : (k l : Kept) (slot : ℕ) (a : Answer)
+    → (a, l) ≡ at_kept k slot (read_turn k.volume.number) → TurnStep k (Take slot) a l
+read-step k l slot a is =
+    let same = is ∙ sym (read-events k slot) in
     record {
-      middle = n;
-      step = inl (
-        ap (λ (p : Answer × Kept). p.0) taken ∙ ap (λ j. (kept_outcome j (Take slot)).0) at,
-        ap (λ (p : Answer × Kept). p.1) taken ∙ ap (λ j. (kept_outcome j (Take slot)).1) at,
-      );
+      middle = l;
+      step = inl (ap (λ (p : Answer × Kept). p.0) same, ap (λ (p : Answer × Kept). p.1) same);
       after = refl;
     }
 
--- a noticing, a closing and puts are the turn of a closing
-pub close-turn : (k l m n : Kept) (slot : ℕ) (a : Answer)
-    → l ≡ (kept_outcome k (Notice slot)).1 → (a, m) ≡ kept_outcome l (Close slot)
-    → n ≡ kept_after m (puts slot (places_at (kept_ports m) slot))
-    → TurnStep k (Close slot) a n
-close-turn k l m n slot a noticed closed filled =
-    let same : kept_ports m ≡ kept_ports k = ap (λ (p : Answer × Kept). kept_ports p.1) closed
-    ∙ (ports-closed l slot ∙ (ap kept_ports noticed ∙ ports-noticed k slot)) in
+-- a close with what belongs to it is the turn of a close
+pub close-step : (k l : Kept) (slot : ℕ) (a : Answer)
+    → (a, l) ≡ at_kept k slot (close_turn k.volume.number) → TurnStep k (Close slot) a l
+close-step k l slot a is =
+    let same = is ∙ sym (close-events k slot) in
     record {
-      middle = m;
-      step = inl (
-        ap (λ (p : Answer × Kept). p.0) closed ∙ ap
-            (λ j. (kept_outcome j (Close slot)).0) noticed,
-        ap (λ (p : Answer × Kept). p.1) closed
-            ∙ ap (λ j. (kept_outcome j (Close slot)).1) noticed,
-      );
-      after = filled ∙ ap (λ ps. kept_after m (puts slot (places_at ps slot))) same;
+      middle = (kept_outcome (kept_outcome k (Notice slot)).1 (Close slot)).1;
+      step = inl (ap (λ (p : Answer × Kept). p.0) same, refl);
+      after = ap (λ (p : Answer × Kept). p.1) same;
     }
 
 -- a change keeps the ports, refused or not

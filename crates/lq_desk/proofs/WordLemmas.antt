@@ -25,12 +25,6 @@ module _ {T : Type 0} (test : T → Bool) where
   pub marked-none : (word : ℕ) → IsMarked test word []
   marked-none word = λ i x at is. absurd (let no : ⊥ = cc in no)
 
-  -- a word with more bits
-  pub marked-more : (old new : ℕ) (xs : List (Option T))
-      → ((i : ℕ) → bit_at old i ≡ 1 → bit_at new i ≡ 1) → IsMarked test old xs
-      → IsMarked test new xs
-  marked-more old new xs more marked = λ i x at is. more i (marked i x at is)
-
   -- another thing in one of the slots
   pub marked-set : (old new : ℕ) (xs : List (Option T)) (place : ℕ) (o : Option T)
       → IsMarked test old xs → ((i : ℕ) → bit_at old i ≡ 1 → bit_at new i ≡ 1)
@@ -115,6 +109,12 @@ none-marked {T} test f xs quiet marked = map-same f xs (λ i x at. quiet x (by i
     by : (i : ℕ) (x : T) → slice_get xs i ≡ Some (Some x) → (b : Bool) → test x ≡ b → test x ≡ false
     by i x at false is = is
     by i x at true is = absurd (omega (arith, marked i x at is, bit_at-zero i))
+
+-- what would set a flag isn't so, where the flag is clear
+pub unset-by : (x may : Bool) → (x ≡ true → may ≡ true) → may ≡ false → x ≡ false
+unset-by false may sets is = refl
+unset-by true may sets is =
+    absurd (let both : true ≡ false = sym (sets refl) ∙ is in let bad : ⊥ = cc in bad)
 
 -- what is done in a slot that a test passes by
 pub quiet-at : {T : Type 0} (test : T → Bool) (f : T → T) (o : Option T) (may : Bool)

@@ -1,5 +1,5 @@
 -- The contents of a taken slot, a subscription and its port, and what each act does there.
-use Rattle.std.specs.Prelude.{ℕ, zero, suc, ◌-◌, List, [], ◌∷◌, ◌++◌, length, drop, replicate, Bool, true, false, ◌&&◌, ◌==◌, nat_lt, Option, Some, None, is_some, unwrap_or, slice_get, slice_set, if◌then◌else◌}
+use Rattle.std.specs.Prelude.{ℕ, zero, suc, ◌-◌, List, [], ◌∷◌, ◌++◌, length, drop, replicate, Bool, true, false, ◌&&◌, ◌||◌, ◌==◌, nat_lt, Option, Some, None, is_some, unwrap_or, slice_get, slice_set, if◌then◌else◌}
 use Rattle.std.specs.Option.{option_map, option_flatten}
 use Rattle.lq_value.specs.declared.refusal.Refusal.TheVariants.{NotOpen, StillOpen}
 use Rattle.lq_predicate_formula.specs.Query.{Query}
@@ -136,6 +136,10 @@ noticed number k = if is_ending k then record k { held = ended_by k.held HungUp 
 -- whether a put would move a parcel
 abbrev pub can_move : KeptSlot → Bool
 can_move k = nat_lt (length k.queue) k.port && is_some (next_parcel k.held)
+
+-- whether a notice or a put would change the slot
+abbrev pub has_work : KeptSlot → Bool
+has_work k = is_ending k || can_move k
 
 -- a slot after one put
 abbrev pub after_put : KeptSlot → KeptSlot

@@ -6,16 +6,14 @@ ghost use Rattle.lq_volume.specs.Change.{refused, node_of};
 
 mod turn;
 
+use crate::laws::kept_shows_worlds;
 use crate::reply::Reply;
 use crate::slot::Slot;
 use crate::slots::{SLOTS, Slots};
 use lq_desk_sub::MAX_BACKLOG;
-use lq_desk_world::{
-    Act, Event, first_worlds_are_fair, readers_are_told, refusals_leave_worlds,
-    runs_keep_worlds_fair,
-};
+use lq_desk_world::{Act, Event, first_worlds_are_fair, readers_are_told, refusals_leave_worlds};
 use lq_predicate::Predicate;
-use lq_update::{steps_are_few, updates_join};
+use lq_update::steps_are_few;
 use lq_value::Refusal;
 use lq_volume::{Applied, Change, Volume, changes_are_counted};
 use std::alloc::Global;
@@ -120,9 +118,7 @@ impl Desk {
         ensures refused { (refusal : Refusal) → answer_of result ≡ Refused refusal
             → self.new ≡ self.old }
     {
-        updates_join();
-        changes_are_counted();
-        runs_keep_worlds_fair();
+        kept_shows_worlds();
         refusals_leave_worlds();
         let _ = &self.volume;
         self.carry_out(event)
@@ -190,10 +186,9 @@ impl Desk {
         ensures ok { OnOk result (self.new ≡ changed self.old change.now) }
         ensures err { OnErr result (self.new ≡ self.old) }
     {
-        updates_join();
+        kept_shows_worlds();
         steps_are_few();
         changes_are_counted();
-        runs_keep_worlds_fair();
         let _ = self.volume.changes();
         let planned = self.volume.plan(change)?;
         let told = self.slots.ready(&planned)?;
@@ -218,9 +213,7 @@ impl Desk {
             (fresh_slot predicate.now moved self.old.volume.number port backlog)) }
         ensures err { OnErr result (self.new ≡ self.old) }
     {
-        updates_join();
-        changes_are_counted();
-        runs_keep_worlds_fair();
+        kept_shows_worlds();
         if port < 1 || port > MAX_PORT {
             return Err(Refusal::BadPort);
         }
@@ -250,13 +243,8 @@ impl Desk {
     fn act(&mut self, slot: u64, act: Act) -> Reply
         ensures { (answer_of result, self.new) ≡ kept_act self.old slot act }
     {
-        updates_join();
-        changes_are_counted();
-        runs_keep_worlds_fair();
+        kept_shows_worlds();
         let number = self.volume.changes();
-        if slot == 0 || slot > SLOTS as u64 {
-            return Reply::Refused(Refusal::NotOpen);
-        }
-        self.slots.act((slot - 1) as usize, act, number)
+        self.slots.act(slot, act, number)
     }
 }

@@ -11,6 +11,7 @@ mod laws;
 mod reply;
 mod slot;
 mod slots;
+mod stored;
 mod word;
 
 pub use desk::Desk;

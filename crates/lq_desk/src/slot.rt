@@ -2,9 +2,9 @@
 ghost use Rattle.std.specs.Prelude.{◌≡◌, ◌<◌, ◌≤◌, ◌^◌, ◌-◌, true, if◌then◌else◌, None, Some, IfOk, OnOk, OnErr};
 ghost use Rattle.lq_value.specs.Refusal.{IsRefusedBy};
 ghost use Rattle.std.specs.Option.{option_map};
-ghost use Rattle.lq_desk.specs.Slot.{slot_of, prepared_slot, committed_slot, can_move, filled, has_ready, is_ending, noticed, passes};
+ghost use Rattle.lq_desk.specs.Slot.{slot_of, prepared_slot, committed_slot, can_move, close_slot, filled, has_ready, is_ending, noticed, passes};
 ghost use Rattle.lq_desk.specs.Kept.{IsFew};
-ghost use Rattle.lq_desk.specs.Act.{outcome_at};
+ghost use Rattle.lq_desk.specs.Act.{act_of, outcome_at};
 ghost use Rattle.lq_desk.specs.Reply.{answer_of};
 
 use crate::reply::Reply;
@@ -50,10 +50,8 @@ impl Model for Slot {
 
 impl Slot {
     ghost use Rattle.lq_desk_world.specs.Events.{Answer, Moved, Noticed};
-    ghost use Rattle.lq_desk_sub.specs.Held.{is_live, ended_by};
     ghost use Rattle.lq_desk.specs.Slot.{KeptSlot, PreparedSlot, fresh_slot, put_slot, read_slot, notice_slot, is_read};
     ghost use Rattle.lq_desk.specs.Reply.{answer_of_read};
-    ghost use Rattle.lq_update.specs.declared.mark.Cause.TheVariants.{Closed};
 
     /// A new subscription, with an empty port of `port` places.
     pub fn new(
@@ -74,22 +72,6 @@ impl Slot {
             queue: VecDeque::with_capacity(alloc, port as usize)?,
             hang_up_asked: false,
         })
-    }
-
-    /// Makes the messages of a change, if the subscription is live; answers whether there are any.
-    #[inline(always)]
-    pub fn ready(&mut self, planned: &Planned<'_>) -> Result<bool, Refusal>
-        requires few { self.old.sub.held.sent < 2 ^ 63 }
-        ensures refused { IsRefusedBy result None }
-        ensures any { IfOk result (λ any. any ≡ has_ready self.new) }
-        ensures ok { OnOk result
-            (self.new ≡ prepared_slot planned.now.before planned.now.change self.old) }
-        ensures err { OnErr result (slot_of self.new ≡ slot_of self.old) }
-    {
-        if !self.sub.is_live() {
-            return Ok(false);
-        }
-        self.sub.ready_planned(planned)
     }
 
     /// Commits the messages that were made, if the subscription is live.
@@ -181,19 +163,17 @@ impl Slot {
         ends
     }
 
-    /// Ends the subscription unless it has ended; answers whether it did.
-    pub fn close(&mut self, number: u64) -> bool
+    /// Ends the subscription, unless it has ended: that is refused.
+    pub fn close(&mut self, number: u64) -> Reply
         requires { self.old.sub.held.sent < 2 ^ 63 }
-        ensures ended { result ≡ is_live self.old.sub.held }
-        ensures slot { slot_of self.new ≡ (if is_live self.old.sub.held
-            then record (slot_of self.old) { held = ended_by self.old.sub.held Closed number }
-            else slot_of self.old) }
+        ensures { (answer_of result, Some (slot_of self.new))
+            ≡ close_slot number (slot_of self.old) }
     {
-        let ends = self.sub.is_live();
-        if ends {
-            self.sub.finish_with(Cause::Closed, number);
+        if !self.sub.is_live() {
+            return Reply::Refused(Refusal::NotOpen);
         }
-        ends
+        self.sub.finish_with(Cause::Closed, number);
+        Reply::Shut(number)
     }
 
     /// The number of places of its port.
@@ -215,7 +195,7 @@ impl Slot {
 pub fn act_at(slot: &mut Option<Slot>, act: Act, number: u64) -> Reply
     requires { IsFew (2 ^ 63 - 1) (option_map slot_of slot.old) }
     ensures { (answer_of result, option_map slot_of slot.new)
-        ≡ outcome_at number act (option_map slot_of slot.old) }
+        ≡ outcome_at (act_of number act) (option_map slot_of slot.old) }
 {
     let Some(there) = slot else {
         return Reply::Refused(Refusal::NotOpen);
@@ -228,13 +208,7 @@ pub fn act_at(slot: &mut Option<Slot>, act: Act, number: u64) -> Reply
             Reply::Asked
         }
         Act::Notice => Reply::Noticed(there.notice(number)),
-        Act::Close => {
-            if there.close(number) {
-                Reply::Shut(number)
-            } else {
-                Reply::Refused(Refusal::NotOpen)
-            }
-        }
+        Act::Close => there.close(number),
         Act::Finish => {
             if there.is_read() {
                 *slot = None;
@@ -261,39 +235,6 @@ pub fn notice_at(slot: &mut Option<Slot>, may_end: bool, number: u64)
     }
 }
 
-/// Fills a slot's port, if the flag says that a parcel may move.
-pub fn fill_at(slot: &mut Option<Slot>, may_move: bool)
-    requires { passes can_move (option_map slot_of slot.old) ≡ true → may_move ≡ true }
-    ensures { option_map slot_of slot.new ≡ option_map filled (option_map slot_of slot.old) }
-{
-    if !may_move {
-        return;
-    }
-    if let Some(there) = slot {
-        there.fill();
-    }
-}
-
-/// Whether a slot has a live subscription whose end was asked for.
-pub fn is_ending_at(slot: &Option<Slot>) -> bool
-    ensures { result ≡ passes is_ending (option_map slot_of slot.now) }
-{
-    match slot {
-        None => false,
-        Some(there) => there.is_ending(),
-    }
-}
-
-/// Whether a parcel could move into a slot's port.
-pub fn can_move_at(slot: &Option<Slot>) -> bool
-    ensures { result ≡ passes can_move (option_map slot_of slot.now) }
-{
-    match slot {
-        None => false,
-        Some(there) => there.can_move(),
-    }
-}
-
 /// Makes the messages of a change for a slot, if a live subscription is there; answers whether
 /// there are any.
 #[inline(always)]
@@ -308,15 +249,8 @@ pub fn ready_at(slot: &mut Option<Slot>, planned: &Planned<'_>) -> Result<bool, 
     let Some(there) = slot else {
         return Ok(false);
     };
-    there.ready(planned)
-}
-
-/// Commits a slot's messages.
-pub fn commit_at(slot: &mut Option<Slot>)
-    requires { IsFew (2 ^ 63 - 1) (option_map slot_of slot.old) }
-    ensures { slot.new ≡ option_map committed_slot slot.old }
-{
-    if let Some(there) = slot {
-        there.commit();
+    if !there.sub.is_live() {
+        return Ok(false);
     }
+    there.sub.ready_planned(planned)
 }

@@ -2,19 +2,17 @@
 ghost use Rattle.std.specs.Prelude.{◌≡◌, ◌⊎◌};
 ghost use Rattle.lq_value.specs.declared.refusal.Refusal.TheVariants.{NoMemory};
 ghost use Rattle.lq_desk_world.specs.World.{World};
-ghost use Rattle.lq_desk_world.specs.declared.event.Event.TheVariants.{Notice};
 ghost use Rattle.lq_desk_world.specs.Events.{Refused};
-ghost use Rattle.lq_desk_world.specs.Turns.{all_puts, notices, places_at, puts};
-ghost use Rattle.lq_desk.specs.Kept.{Shows, kept_outcome};
+ghost use Rattle.lq_desk_world.specs.Turns.{all_puts, notices};
+ghost use Rattle.lq_desk.specs.Act.{close_turn, read_turn};
+ghost use Rattle.lq_desk.specs.Kept.{Shows, at_kept};
 ghost use Rattle.lq_desk.specs.Reply.{answer_of};
 ghost use Rattle.lq_desk.specs.Turn.{TurnRuns, TurnStep, kept_after, kept_ports, kept_turn_outcome};
 
 use crate::desk::Desk;
+use crate::laws::kept_shows_worlds;
 use crate::reply::Reply;
-use crate::slots::SLOTS;
-use lq_desk_world::{Act, Event, runs_keep_worlds_fair};
-use lq_update::updates_join;
-use lq_volume::changes_are_counted;
+use lq_desk_world::Event;
 
 impl Desk {
     /// Carries out one event with all that belongs to its turn, and answers the event.
@@ -30,9 +28,7 @@ impl Desk {
         ensures run { (w : World) → Shows self.old w →
             TurnRuns self.old self.new w event.now (answer_of result) }
     {
-        updates_join();
-        changes_are_counted();
-        runs_keep_worlds_fair();
+        kept_shows_worlds();
         self.take_turn(event)
     }
 
@@ -47,17 +43,8 @@ impl Desk {
                 self.fill_all();
                 reply
             }
-            Event::Take(slot) => {
-                self.notice(*slot);
-                self.fill(*slot);
-                self.act(*slot, Act::Take)
-            }
-            Event::Close(slot) => {
-                self.notice(*slot);
-                let reply = self.act(*slot, Act::Close);
-                self.fill(*slot);
-                reply
-            }
+            Event::Take(slot) => self.read(*slot),
+            Event::Close(slot) => self.close(*slot),
             Event::Open { .. }
             | Event::Put(_)
             | Event::HangUp(_)
@@ -70,50 +57,36 @@ impl Desk {
     fn notice_all(&mut self)
         ensures { self.new ≡ kept_after self.old (notices (kept_ports self.old)) }
     {
-        updates_join();
-        changes_are_counted();
-        runs_keep_worlds_fair();
+        kept_shows_worlds();
         let number = self.volume.changes();
         self.slots.notice_all(number);
-    }
-
-    // Notices the end of a slot, where that asks for it.
-    fn notice(&mut self, slot: u64)
-        ensures { self.new ≡ (kept_outcome self.old (Notice slot)).1 }
-    {
-        updates_join();
-        changes_are_counted();
-        runs_keep_worlds_fair();
-        let number = self.volume.changes();
-        if slot == 0 || slot > SLOTS as u64 {
-            return;
-        }
-        self.slots.notice((slot - 1) as usize, number);
     }
 
     // Fills each port.
     fn fill_all(&mut self)
         ensures { self.new ≡ kept_after self.old (all_puts (kept_ports self.old)) }
     {
-        updates_join();
-        changes_are_counted();
-        runs_keep_worlds_fair();
+        kept_shows_worlds();
         self.slots.fill_all();
     }
 
-    // Moves parcels into a slot's port until nothing moves.
-    fn fill(&mut self, slot: u64)
-        ensures { self.new
-            ≡ kept_after self.old (puts slot (places_at (kept_ports self.old) slot)) }
+    // Takes a parcel from a slot's port, after the slot's notice and the filling of its port.
+    fn read(&mut self, slot: u64) -> Reply
+        ensures { (answer_of result, self.new)
+            ≡ at_kept self.old slot (read_turn self.old.volume.number) }
     {
-        updates_join();
-        changes_are_counted();
-        runs_keep_worlds_fair();
-        // For what is so of each desk.
-        let _ = self.volume.changes();
-        if slot == 0 || slot > SLOTS as u64 {
-            return;
-        }
-        self.slots.fill((slot - 1) as usize);
+        kept_shows_worlds();
+        let number = self.volume.changes();
+        self.slots.read(slot, number)
+    }
+
+    // Ends a slot's subscription, after the slot's notice; then fills its port.
+    fn close(&mut self, slot: u64) -> Reply
+        ensures { (answer_of result, self.new)
+            ≡ at_kept self.old slot (close_turn self.old.volume.number) }
+    {
+        kept_shows_worlds();
+        let number = self.volume.changes();
+        self.slots.close(slot, number)
     }
 }

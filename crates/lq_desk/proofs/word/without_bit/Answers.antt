@@ -1,5 +1,5 @@
-use Rattle.std.proofs.Common.{◌≡◌, ◌≢◌, ℕ, ◌<◌, ◌≤◌, arith, inl, inr}
-use Rattle.std.specs.Prelude.{◌⊎◌, bit_and}
+use Rattle.std.proofs.Common.{◌≡◌, ℕ, arith, inl, inr}
+use Rattle.std.specs.Prelude.{bit_and}
 use Rattle.std.specs.Int.{bit_at, w64}
 use Rattle.std.proofs.lemmas.Bool.{cases_lt}
 use Rattle.std.proofs.lemmas.Nat.Bits.{bit_at_above, bit_at_and, bit_at_clear_other, bit_at_clear_same}

@@ -1,7 +1,6 @@
 use Rattle.std.proofs.Common.{◌*◌, ◌-◌, ◌^◌, ap, arith}
 use Rattle.std.proofs.lemmas.Result.{err_from_is_err_and}
 use Rattle.lq_desk.specs.Kept.{Kept, changed}
-use Rattle.lq_desk.proofs.Shown.{kept-shows}
 use Rattle.lq_desk.proofs.SlotsLemmas.{few-more, map-prepared, map-committed}
 use Rattle.lq_desk.proofs.Desks.{IsDesk-change}
 use Rattle.lq_desk.proofs.desk.Desk.change.Goals as goal
@@ -31,9 +30,8 @@ invariant_of-self-2 c =
       c.in_ok-applied.ensures.ok,
       map-committed,
     )
-    (IsDesk-change (kept-shows c.changes_are_counted.ensures c.updates_join.ensures
-    c.runs_keep_worlds_fair.ensures) c.steps_are_few.ensures c.changes_are_counted.ensures _
-    c.args.change.now c.self.invariant c.changes.ensures.volume c.in_ok-planned.ensures.ok)
+    (IsDesk-change c.kept_shows_worlds.ensures c.steps_are_few.ensures c.changes_are_counted.ensures
+    _ c.args.change.now c.self.invariant c.changes.ensures.volume c.in_ok-planned.ensures.ok)
 
 pub returns-clause-ok : goal.returns-clause-ok
 returns-clause-ok c =

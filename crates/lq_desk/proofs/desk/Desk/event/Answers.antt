@@ -6,8 +6,7 @@ use Rattle.lq_desk.proofs.desk.Desk.event.Goals as goal
 
 pub returns-clause-world : goal.returns-clause-world
 returns-clause-world c = λ w shows.
-    moves c.changes_are_counted.ensures c.updates_join.ensures c.runs_keep_worlds_fair.ensures _ _ w
-    _ _ c.carry_out.ensures shows
+    moves c.kept_shows_worlds.ensures _ _ w _ _ c.carry_out.ensures shows
 
 pub returns-clause-refused : goal.returns-clause-refused
 returns-clause-refused c = λ refusal is.

@@ -5,7 +5,6 @@ use Rattle.lq_desk_world.specs.Turns.{notices}
 use Rattle.lq_desk.specs.Slot.{noticed}
 use Rattle.lq_desk.specs.Kept.{Kept, IsDesk}
 use Rattle.lq_desk.specs.Turn.{kept_after, kept_ports}
-use Rattle.lq_desk.proofs.Shown.{kept-shows}
 use Rattle.lq_desk.proofs.Desks.{IsDesk-after}
 use Rattle.lq_desk.proofs.SlotsLemmas.{kept_slot, few-more, few-noticed_all}
 use Rattle.lq_desk.proofs.TurnLemmas.{noticed-all}
@@ -23,8 +22,7 @@ invariant_of-self c =
     rw (← c.changes-number.ensures.number) c.notice_all.ensures in
     subst (λ ks. IsDesk (record { volume = k.volume; openings = k.openings; slots = ks }))
     (sym made)
-    (IsDesk-after (kept-shows c.changes_are_counted.ensures
-    c.updates_join.ensures c.runs_keep_worlds_fair.ensures) k (notices (kept_ports k))
+    (IsDesk-after c.kept_shows_worlds.ensures k (notices (kept_ports k))
     (map (option_map (noticed c.self.inside.volume.number)) k.slots) c.self.invariant
     (sym (noticed-all k)) (length-map k.slots _)
     (few-noticed_all (3 * k.volume.number) k.volume.number k.slots c.self.invariant.few))

@@ -2,7 +2,6 @@ use Rattle.std.proofs.Common.{refl, ◌≡◌, ◌+◌, ◌<◌, None, Some, len
 use Rattle.std.specs.Prelude.{slice_set}
 use Rattle.lq_desk.specs.Slot.{KeptSlot, slot_of, fresh_slot}
 use Rattle.lq_desk.specs.Kept.{Kept, IsDesk, first_free, opening_refusal, opened}
-use Rattle.lq_desk.proofs.Shown.{kept-shows}
 use Rattle.lq_desk.proofs.Desks.{IsDesk-open, opens, slots-opened}
 use Rattle.lq_desk.proofs.SlotsLemmas.{kept_slot}
 use Rattle.lq_desk.proofs.desk.Desk.open.Goals as goal
@@ -31,9 +30,8 @@ invariant_of-self c =
     (first_free k.slots) c.in_ok-slot.slot fresh c.open.ensures same refl in
     subst (λ ks. IsDesk (record { volume = k.volume; openings = k.openings + 1; slots = ks }))
     (sym made)
-    (IsDesk-open (kept-shows c.changes_are_counted.ensures c.updates_join.ensures
-    c.runs_keep_worlds_fair.ensures) k c.args.predicate.now c.args.port c.args.backlog c.args.moved
-    c.self.invariant none)
+    (IsDesk-open c.kept_shows_worlds.ensures k c.args.predicate.now c.args.port c.args.backlog
+    c.args.moved c.self.invariant none)
 
 pub returns-clause-ok : goal.returns-clause-ok
 returns-clause-ok c =

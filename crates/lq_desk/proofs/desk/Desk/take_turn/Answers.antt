@@ -1,6 +1,6 @@
 use Rattle.std.proofs.Common.{refl, inl, inr}
 use Rattle.lq_desk_world.specs.declared.event.Event.TheVariants.{Open, Put, HangUp, Notice, Finish}
-use Rattle.lq_desk.proofs.TurnLemmas.{alone-like, change-turn, close-turn, read-turn}
+use Rattle.lq_desk.proofs.TurnLemmas.{alone-like, change-turn, close-step, read-step}
 use Rattle.lq_desk.proofs.desk.Desk.take_turn.Goals as goal
 
 pub returns-in-Change : goal.returns-in-Change
@@ -11,13 +11,12 @@ returns-in-Change c =
     (rw c.in-Change.is at step) c.fill_all.ensures)
 
 pub returns-in-Take : goal.returns-in-Take
-returns-in-Take c = rw c.in-Take.is (read-turn c.args.self.now c.notice.new.self c.fill.new.self
-    c.act.new.self c.in-Take.slot _ c.notice.ensures c.fill.ensures c.act.ensures)
+returns-in-Take c = rw c.in-Take.is
+    (read-step c.args.self.now c.read.new.self c.in-Take.slot _ c.read.ensures)
 
 pub returns-in-Close : goal.returns-in-Close
-returns-in-Close c = rw c.in-Close.is (close-turn c.args.self.now c.notice-in-Close.new.self
-    c.act-reply.new.self c.fill-in-Close.new.self c.in-Close.slot _
-    c.notice-in-Close.ensures c.act-reply.ensures c.fill-in-Close.ensures)
+returns-in-Close c = rw c.in-Close.is
+    (close-step c.args.self.now c.close.new.self c.in-Close.slot _ c.close.ensures)
 
 pub returns-in-Open : goal.returns-in-Open
 returns-in-Open c =

@@ -1,0 +1,16 @@
+use Rattle.std.proofs.Common.{◌≡◌, ℕ, ◌-◌, ◌<◌, ◌≤◌, ◌^◌, ◌++◌, map, length, take, drop, get_or, Option}
+use Rattle.std.specs.Option.{option_map}
+use Rattle.lq_desk.specs.Slot.{PreparedSlot, has_ready, prepared_slot, slot_of}
+use Rattle.lq_desk.specs.Words.{IsMarked}
+use Rattle.lq_desk.specs.Kept.{IsFew}
+use Rattle.lq_desk.proofs.stored.ready_all.Given as goal
+
+abbrev pub invariant-loop-slot : goal.invariant-loop-slot
+invariant-loop-slot l = record {
+  done : l.slot-items ≡ map (option_map (prepared_slot l.planned.before l.planned.change))
+      (take l.slot-index l.fn.slots.items) ++ drop l.slot-index l.fn.slots.items;
+  few : (k : ℕ) (d : Option PreparedSlot) → l.slot-index ≤ k → k < length l.slot-items
+      → IsFew (2 ^ 63 - 1) (option_map slot_of (get_or l.slot-items k d));
+  place : l.index ≡ l.slot-index;
+  told : IsMarked has_ready l.told (take l.slot-index l.slot-items);
+}

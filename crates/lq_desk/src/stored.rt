@@ -1,0 +1,233 @@
+//! The slots that are stored: what is done at one of them, and in each.
+ghost use Rattle.std.specs.Prelude.{◌≡◌, ◌<◌, ◌≤◌, ◌^◌, ◌-◌, None, Some, true, IfOk, OnOk, OnErr, map, length, slice_get, slice_set, vec_len};
+ghost use Rattle.std.specs.Vec.{vec_capacity};
+ghost use Rattle.std.specs.List.{AllByRecursion};
+ghost use Rattle.std.specs.Option.{option_map, option_flatten};
+ghost use Rattle.lq_value.specs.Refusal.{IsRefusedBy};
+ghost use Rattle.lq_desk.specs.Slot.{slot_of, prepared_slot, committed_slot, can_move, done_at, filled, has_ready, has_work, is_ending, noticed, passes};
+ghost use Rattle.lq_desk.specs.Words.{IsMarked};
+ghost use Rattle.lq_desk.specs.Kept.{IsFew, first_free};
+ghost use Rattle.lq_desk.specs.Act.{act_of, close_turn, outcome_in, read_turn};
+ghost use Rattle.lq_desk.specs.Reply.{answer_of};
+
+use crate::reply::Reply;
+use crate::slot::{Slot, act_at, notice_at, ready_at};
+use crate::slots::SLOTS;
+use crate::word::{has_bit, lowest_bit, with_bit, without_bit};
+use lq_desk_world::Act;
+use lq_value::Refusal;
+use lq_volume::Planned;
+
+/// The index of the first free slot, or the number of slots.
+pub fn first_free(slots: &[Option<Slot>]) -> usize
+    ensures { result ≡ first_free (map (option_map slot_of) slots.now) }
+{
+    let mut place = 0;
+    for slot in slots {
+        if slot.is_none() {
+            return place;
+        }
+        place += 1;
+    }
+    place
+}
+
+/// Puts a subscription into the slot at an index.
+pub fn fill(slots: &mut Vec<Option<Slot>>, place: usize, slot: Slot)
+    requires { place < length slots.old.items }
+    ensures items { slots.new.items ≡ slice_set slots.old.items place (Some slot) }
+    ensures len { vec_len slots.new ≡ vec_len slots.old }
+    ensures room { vec_capacity slots.new ≡ vec_capacity slots.old }
+{
+    slots[place] = Some(slot);
+}
+
+/// Makes the messages of a change for each subscription; answers a word with a bit for each slot
+/// that has messages.
+pub fn ready_all(slots: &mut Vec<Option<Slot>>, planned: &Planned<'_>) -> Result<u64, Refusal>
+    requires within { length slots.old.items ≤ 64 }
+    requires few { AllByRecursion (IsFew (2 ^ 63 - 1)) (map (option_map slot_of) slots.old.items) }
+    ensures refused { IsRefusedBy result None }
+    ensures told { IfOk result (λ told. IsMarked has_ready told slots.new.items) }
+    ensures ok { OnOk result (slots.new.items ≡
+        map (option_map (prepared_slot planned.now.before planned.now.change)) slots.old.items) }
+    ensures err { OnErr result (map (option_map slot_of) slots.new.items ≡
+        map (option_map slot_of) slots.old.items) }
+    ensures len { vec_len slots.new ≡ vec_len slots.old }
+    ensures room { vec_capacity slots.new ≡ vec_capacity slots.old }
+{
+    let mut told = 0;
+    let mut index = 0;
+    for slot in slots.iter_mut() {
+        let any = ready_at(slot, planned)?;
+        told = with_bit(told, index, any);
+        index += 1;
+    }
+    Ok(told)
+}
+
+/// Commits each subscription's messages; the word has a bit for each slot that has some.
+pub fn commit_all(slots: &mut Vec<Option<Slot>>, told: u64)
+    requires within { length slots.old.items ≤ 64 }
+    requires few { AllByRecursion (IsFew (2 ^ 63 - 1)) (map (option_map slot_of) slots.old.items) }
+    requires told { IsMarked has_ready told slots.old.items }
+    ensures items { slots.new.items ≡ map (option_map committed_slot) slots.old.items }
+    ensures len { vec_len slots.new ≡ vec_len slots.old }
+    ensures room { vec_capacity slots.new ≡ vec_capacity slots.old }
+{
+    let mut rest = told;
+    for _ in 0..SLOTS {
+        if rest == 0 {
+            return;
+        }
+        let place = lowest_bit(rest);
+        commit_at(slots, place);
+        rest = without_bit(rest, place);
+    }
+}
+
+// Commits the messages of the slot at an index, if a live subscription is there.
+fn commit_at(slots: &mut Vec<Option<Slot>>, place: usize)
+    requires { IsFew (2 ^ 63 - 1)
+        (option_map slot_of (option_flatten (slice_get slots.old.items place))) }
+    ensures items { slots.new.items ≡ slice_set slots.old.items place
+        (option_map committed_slot (option_flatten (slice_get slots.old.items place))) }
+    ensures len { vec_len slots.new ≡ vec_len slots.old }
+    ensures room { vec_capacity slots.new ≡ vec_capacity slots.old }
+{
+    if place >= slots.len() {
+        return;
+    }
+    if let Some(there) = &mut slots[place] {
+        there.commit();
+    }
+}
+
+/// Ends each live subscription whose end was asked for; the word has a bit for each of them.
+pub fn notice_all(slots: &mut Vec<Option<Slot>>, ending: u64, number: u64)
+    requires within { length slots.old.items ≤ 64 }
+    requires few { AllByRecursion (IsFew (2 ^ 63 - 1)) (map (option_map slot_of) slots.old.items) }
+    requires ends { IsMarked is_ending ending (map (option_map slot_of) slots.old.items) }
+    ensures items { map (option_map slot_of) slots.new.items ≡
+        map (option_map (noticed number)) (map (option_map slot_of) slots.old.items) }
+    ensures len { vec_len slots.new ≡ vec_len slots.old }
+    ensures room { vec_capacity slots.new ≡ vec_capacity slots.old }
+{
+    let mut index = 0;
+    for slot in slots.iter_mut() {
+        notice_at(slot, has_bit(ending, index), number);
+        index += 1;
+    }
+}
+
+/// Fills each port; the word has a bit for each that may take a parcel.
+pub fn fill_all(slots: &mut Vec<Option<Slot>>, movable: u64)
+    requires within { length slots.old.items ≤ 64 }
+    requires moves { IsMarked can_move movable (map (option_map slot_of) slots.old.items) }
+    ensures items { map (option_map slot_of) slots.new.items ≡
+        map (option_map filled) (map (option_map slot_of) slots.old.items) }
+    ensures len { vec_len slots.new ≡ vec_len slots.old }
+    ensures room { vec_capacity slots.new ≡ vec_capacity slots.old }
+{
+    let mut rest = movable;
+    for _ in 0..SLOTS {
+        if rest == 0 {
+            return;
+        }
+        let place = lowest_bit(rest);
+        fill_at(slots, place);
+        rest = without_bit(rest, place);
+    }
+}
+
+// Fills the port of the slot at an index, if a subscription is there.
+fn fill_at(slots: &mut Vec<Option<Slot>>, place: usize)
+    ensures items { map (option_map slot_of) slots.new.items ≡
+        done_at filled (map (option_map slot_of) slots.old.items) place }
+    ensures len { vec_len slots.new ≡ vec_len slots.old }
+    ensures room { vec_capacity slots.new ≡ vec_capacity slots.old }
+{
+    if place >= slots.len() {
+        return;
+    }
+    if let Some(there) = &mut slots[place] {
+        there.fill();
+    }
+}
+
+/// Whether the subscription at an index is live and its end was asked for.
+pub fn is_ending_in(slots: &Vec<Option<Slot>>, place: usize) -> bool
+    requires { place < length slots.now.items }
+    ensures { result ≡ passes is_ending
+        (option_flatten (slice_get (map (option_map slot_of) slots.now.items) place)) }
+{
+    match &slots[place] {
+        None => false,
+        Some(there) => there.is_ending(),
+    }
+}
+
+/// Whether a parcel could move into the port of the slot at an index.
+pub fn can_move_in(slots: &Vec<Option<Slot>>, place: usize) -> bool
+    requires { place < length slots.now.items }
+    ensures { result ≡ passes can_move
+        (option_flatten (slice_get (map (option_map slot_of) slots.now.items) place)) }
+{
+    match &slots[place] {
+        None => false,
+        Some(there) => there.can_move(),
+    }
+}
+
+/// Takes a parcel from the port of the slot at an index; before that, if the flag says that there
+/// may be work, come a notice and the filling of the port.
+pub fn read_in(slots: &mut Vec<Option<Slot>>, place: usize, may_work: bool, number: u64) -> Reply
+    requires place { place < length slots.old.items }
+    requires few { AllByRecursion (IsFew (2 ^ 63 - 1)) (map (option_map slot_of) slots.old.items) }
+    requires work { passes has_work (option_flatten (slice_get (map (option_map slot_of)
+        slots.old.items) place)) ≡ true → may_work ≡ true }
+    ensures does { (answer_of result, map (option_map slot_of) slots.new.items) ≡
+        outcome_in (read_turn number) (map (option_map slot_of) slots.old.items) place }
+    ensures len { vec_len slots.new ≡ vec_len slots.old }
+    ensures room { vec_capacity slots.new ≡ vec_capacity slots.old }
+{
+    let Some(there) = &mut slots[place] else {
+        return Reply::Refused(Refusal::NotOpen);
+    };
+    if !may_work {
+        return Reply::Took(there.read());
+    }
+    let _ = there.notice(number);
+    there.fill();
+    Reply::Took(there.read())
+}
+
+/// Ends the subscription at an index, after a notice; then fills its port.
+pub fn close_in(slots: &mut Vec<Option<Slot>>, place: usize, number: u64) -> Reply
+    requires place { place < length slots.old.items }
+    requires few { AllByRecursion (IsFew (2 ^ 63 - 1)) (map (option_map slot_of) slots.old.items) }
+    ensures does { (answer_of result, map (option_map slot_of) slots.new.items) ≡
+        outcome_in (close_turn number) (map (option_map slot_of) slots.old.items) place }
+    ensures len { vec_len slots.new ≡ vec_len slots.old }
+    ensures room { vec_capacity slots.new ≡ vec_capacity slots.old }
+{
+    let Some(there) = &mut slots[place] else {
+        return Reply::Refused(Refusal::NotOpen);
+    };
+    let _ = there.notice(number);
+    let reply = there.close(number);
+    there.fill();
+    reply
+}
+
+/// Carries out an act at the slot with this index.
+pub fn act_in(slots: &mut Vec<Option<Slot>>, place: usize, act: Act, number: u64) -> Reply
+    requires place { place < length slots.old.items }
+    requires few { AllByRecursion (IsFew (2 ^ 63 - 1)) (map (option_map slot_of) slots.old.items) }
+    ensures does { (answer_of result, map (option_map slot_of) slots.new.items) ≡
+        outcome_in (act_of number act) (map (option_map slot_of) slots.old.items) place }
+    ensures len { vec_len slots.new ≡ vec_len slots.old }
+    ensures room { vec_capacity slots.new ≡ vec_capacity slots.old }
+{
+    act_at(&mut slots[place], act, number)
+}
