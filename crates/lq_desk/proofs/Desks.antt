@@ -26,8 +26,12 @@ use Rattle.lq_desk.specs.Kept.{Kept, IsDesk, IsFew, Shows, first_free, opening_r
 use Rattle.lq_desk.specs.Turn.{kept_after, kept_ports, kept_turn}
 use Rattle.lq_desk.specs.Laws.{KeptShowsWorlds}
 use Rattle.lq_desk.proofs.ListLemmas.{all-set}
-use Rattle.lq_desk.proofs.SlotsLemmas.{act-outcome, at-same, kept_slot, few-act, few-after, few-close_turn, few-outcome_of, few-read_turn, length-outcome_of}
-use Rattle.lq_desk.proofs.TurnLemmas.{after-join, after-shows, close-events, read-events}
+use Rattle.lq_desk.proofs.PlaceLemmas.{act-outcome, at-same}
+use Rattle.lq_desk.proofs.SlotsLemmas.{kept_slot}
+use Rattle.lq_desk.proofs.FewLemmas.{few-act, few-after, few-close_turn, few-outcome_of, few-read_turn, length-outcome_of}
+use Rattle.lq_desk.proofs.EventLemmas.{after-join}
+use Rattle.lq_desk.proofs.TurnLemmas.{after-shows}
+use Rattle.lq_desk.proofs.SlotTurnLemmas.{close-events, read-events}
 
 -- free slots have made no messages
 few-free : (m n : ℕ) → AllByRecursion (IsFew m) (map kept_slot (replicate n None))

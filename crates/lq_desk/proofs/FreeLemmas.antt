@@ -12,7 +12,8 @@ use Rattle.lq_desk.specs.Slot.{KeptSlot, PreparedSlot, slot_of, has_ready, with_
 use Rattle.lq_desk.specs.Words.{IsMarked}
 use Rattle.lq_desk.specs.Kept.{IsFew, first_free}
 use Rattle.lq_desk.proofs.ListLemmas.{set-seam}
-use Rattle.lq_desk.proofs.SlotsLemmas.{kept_slot, set-free}
+use Rattle.lq_desk.proofs.SlotsLemmas.{kept_slot}
+use Rattle.lq_desk.proofs.PlaceLemmas.{set-free}
 
 -- free slots stay free
 map-none : {A B : Type 0} (f : A → B) (n : ℕ)

@@ -30,7 +30,8 @@ use Rattle.lq_desk.specs.Reply.{Moves}
 use Rattle.lq_desk.specs.Laws.{KeptShowsWorlds}
 use Rattle.lq_desk.proofs.ListLemmas.{all-get, not-below}
 use Rattle.lq_desk.proofs.UpdateLemmas.{after_all-append, number-all}
-use Rattle.lq_desk.proofs.SlotLemmas.{kept_alike, put-same, read-same, ask-same, notice-same, close-same, finish-same, change-same}
+use Rattle.lq_desk.proofs.SlotLemmas.{kept_alike, put-same}
+use Rattle.lq_desk.proofs.EndLemmas.{read-same, ask-same, notice-same, close-same, finish-same, change-same}
 
 -- ---- an event of one slot
 

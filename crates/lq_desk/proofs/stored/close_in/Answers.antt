@@ -4,7 +4,8 @@ use Rattle.lq_desk_world.specs.Events.{Answer}
 use Rattle.lq_desk.specs.Slot.{KeptSlot, slot_of, close_slot, filled}
 use Rattle.lq_desk.specs.Act.{close_turn, outcome_at}
 use Rattle.lq_desk.specs.Reply.{answer_of}
-use Rattle.lq_desk.proofs.SlotsLemmas.{kept_slot, act_in-none, act_in-same, sent-noticed, sent-there}
+use Rattle.lq_desk.proofs.SlotsLemmas.{kept_slot, act_in-none, act_in-same, sent-there}
+use Rattle.lq_desk.proofs.FewLemmas.{sent-noticed}
 use Rattle.lq_desk.proofs.stored.close_in.Goals as goal
 
 pub returns-in_default-clause-does : goal.returns-in_default-clause-does

@@ -1,7 +1,8 @@
 use Rattle.std.proofs.Common.{◌*◌, ◌-◌, ◌^◌, ap, arith}
 use Rattle.std.proofs.lemmas.Result.{err_from_is_err_and}
 use Rattle.lq_desk.specs.Kept.{Kept, changed}
-use Rattle.lq_desk.proofs.SlotsLemmas.{few-more, map-prepared, map-committed}
+use Rattle.lq_desk.proofs.FewLemmas.{few-more}
+use Rattle.lq_desk.proofs.SlotsLemmas.{map-prepared, map-committed}
 use Rattle.lq_desk.proofs.Desks.{IsDesk-change}
 use Rattle.lq_desk.proofs.desk.Desk.change.Goals as goal
 

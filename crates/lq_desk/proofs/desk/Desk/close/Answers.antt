@@ -3,7 +3,9 @@ use Rattle.lq_desk.specs.Act.{close_turn, outcome_of}
 use Rattle.lq_desk.specs.Kept.{Kept, at_kept}
 use Rattle.lq_desk.specs.Reply.{answer_of}
 use Rattle.lq_desk.proofs.Desks.{IsDesk-close}
-use Rattle.lq_desk.proofs.SlotsLemmas.{kept_slot, at-same, few-more}
+use Rattle.lq_desk.proofs.SlotsLemmas.{kept_slot}
+use Rattle.lq_desk.proofs.PlaceLemmas.{at-same}
+use Rattle.lq_desk.proofs.FewLemmas.{few-more}
 use Rattle.lq_desk.proofs.desk.Desk.close.Goals as goal
 
 pub invariant_of-self : goal.invariant_of-self

@@ -6,7 +6,8 @@ use Rattle.lq_desk.specs.Slot.{filled}
 use Rattle.lq_desk.specs.Kept.{Kept, IsDesk}
 use Rattle.lq_desk.specs.Turn.{kept_after, kept_ports}
 use Rattle.lq_desk.proofs.Desks.{IsDesk-after}
-use Rattle.lq_desk.proofs.SlotsLemmas.{kept_slot, few-filled_all}
+use Rattle.lq_desk.proofs.SlotsLemmas.{kept_slot}
+use Rattle.lq_desk.proofs.FewLemmas.{few-filled_all}
 use Rattle.lq_desk.proofs.TurnLemmas.{filled-all}
 use Rattle.lq_desk.proofs.desk.Desk.fill_all.Goals as goal
 

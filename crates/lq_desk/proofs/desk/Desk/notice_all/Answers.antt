@@ -6,7 +6,8 @@ use Rattle.lq_desk.specs.Slot.{noticed}
 use Rattle.lq_desk.specs.Kept.{Kept, IsDesk}
 use Rattle.lq_desk.specs.Turn.{kept_after, kept_ports}
 use Rattle.lq_desk.proofs.Desks.{IsDesk-after}
-use Rattle.lq_desk.proofs.SlotsLemmas.{kept_slot, few-more, few-noticed_all}
+use Rattle.lq_desk.proofs.SlotsLemmas.{kept_slot}
+use Rattle.lq_desk.proofs.FewLemmas.{few-more, few-noticed_all}
 use Rattle.lq_desk.proofs.TurnLemmas.{noticed-all}
 use Rattle.lq_desk.proofs.desk.Desk.notice_all.Goals as goal
 
