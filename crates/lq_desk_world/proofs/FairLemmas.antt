@@ -23,7 +23,8 @@ use Rattle.lq_desk_world.specs.Fair.{IsFair, IsFairSlot, IsFairWorld}
 use Rattle.lq_desk_world.specs.Laws.{FirstWorldsAreFair, RunsKeepWorldsFair}
 use Rattle.lq_desk_world.specs.World.{is_over}
 use Rattle.lq_desk_world.proofs.ListLemmas.{all-get, all-set, all-map}
-use Rattle.lq_desk_world.proofs.SubLemmas.{Leaves, keeps-change, putting-leaves, reading-leaves, hanging_up-leaves, noticing-leaves, closing-leaves}
+use Rattle.lq_desk_world.proofs.SubLemmas.{Leaves, keeps-change}
+use Rattle.lq_desk_world.proofs.TakenLemmas.{putting-leaves, reading-leaves, hanging_up-leaves, noticing-leaves, closing-leaves}
 
 -- slots that are all free are fair
 free_slots : (b : Book) (n : ℕ) → AllByRecursion (IsFairSlot b) (replicate n None)

@@ -24,7 +24,8 @@ use Rattle.lq_desk_world.proofs.WorldLemmas.{after_all-append, number-all, updat
 use Rattle.lq_desk_world.proofs.BookLemmas.{run-lawful}
 use Rattle.lq_desk_world.proofs.FairLemmas.{MayOpen, may_open, opened-fair}
 use Rattle.lq_desk_world.proofs.ReadLemmas.{Stands, run-book}
-use Rattle.lq_desk_world.proofs.RunLemmas.{AreTold, parcels_in-append, updates_among-append, run-ran, ran-reads}
+use Rattle.lq_desk_world.proofs.OpeningLemmas.{AreTold, ran-reads}
+use Rattle.lq_desk_world.proofs.RunLemmas.{parcels_in-append, updates_among-append, run-ran}
 
 -- ---- the parts of a run
 

@@ -1,14 +1,20 @@
--- Read in this order: ListLemmas; WorldLemmas (updates), SubLemmas (one event, one subscription),
--- FairLemmas (what each event keeps); FillLemmas (turns), PassingLemmas (lists, refusals);
--- ReadLemmas, BookLemmas, RunLemmas and HeadlineLemmas (whole runs). Example has scenarios.
+-- Read in this order: ListLemmas; WorldLemmas (updates), SubLemmas and TakenLemmas (one event, one
+-- subscription), FairLemmas (what each event keeps); FillLemmas, PutsLemmas and PortLemmas (turns),
+-- PassingLemmas (lists, refusals); ReadLemmas, AnswerLemmas, BookLemmas, RunLemmas, OpeningLemmas
+-- and HeadlineLemmas (whole runs). Example has scenarios.
 pub mod ListLemmas
 pub mod WorldLemmas
 pub mod SubLemmas
+pub mod TakenLemmas
 pub mod FairLemmas
 mod Example
 pub mod ReadLemmas
+pub mod AnswerLemmas
 pub mod RunLemmas
+pub mod OpeningLemmas
 pub mod BookLemmas
 pub mod HeadlineLemmas
 pub mod PassingLemmas
 pub mod FillLemmas
+pub mod PutsLemmas
+pub mod PortLemmas

@@ -1,26 +1,28 @@
 -- What the reads of a subscription are answered over a run from its opening on.
-use Rattle.std.proofs.Common.{◌≡◌, ℕ, zero, suc, ◌+◌, ◌-◌, ◌≤◌, List, [], ◌∷◌, ◌++◌, refl, ap, take, drop, length, ◌∙◌, sym, subst, arith, append_assoc, append-nil, Some, None, Option, inl, inr, Bool, true, false}
+use Rattle.std.proofs.Common.{◌≡◌, ℕ, zero, suc, ◌+◌, List, [], ◌∷◌, ◌++◌, refl, ap, take, drop, length, ◌∙◌, sym, subst, arith, append_assoc, append-nil, Some, None, Option, inl, inr, Bool, true, false}
 use Rattle.std.specs.Prelude.{◌⊎◌, ◌==◌, if◌then◌else◌}
 use Rattle.std.specs.List.{AllByRecursion}
 use Rattle.std.proofs.lemmas.List.{take-append-drop, take_all}
 use Rattle.lq_predicate_formula.specs.Query.{Query}
-use Rattle.lq_volume.specs.Book.{Book, grown, number_of}
+use Rattle.lq_volume.specs.Book.{Book, grown}
 use Rattle.lq_update.specs.declared.message.Message.{Message}
 use Rattle.lq_update.specs.declared.mark.Mark.{Mark}
 use Rattle.lq_update.specs.declared.parcel.Parcel.{Parcel}
 use Rattle.lq_update.specs.declared.parcel.Parcel.TheVariants.{Update, Fin}
 use Rattle.lq_update.specs.Updates.{updates_of, IsPrefixOf}
 use Rattle.lq_update.specs.Laws.{UpdatesJoin, UpdatesGrow}
-use Rattle.lq_desk_world.specs.World.{World, Subscribed, End, covered, covered_by, updates_due, mark_behind, whole}
+use Rattle.lq_desk_world.specs.World.{World, Subscribed, End, updates_due, mark_behind, whole}
 use Rattle.lq_desk_world.specs.declared.event.Event.{Event}
 use Rattle.lq_desk_world.specs.declared.event.Event.TheVariants.{Change, Open, Put, Take, HangUp, Notice, Close, Finish}
 use Rattle.lq_desk_world.specs.Events.{Answer, Took, Ended}
 use Rattle.lq_desk_world.specs.Runs.{Run}
 use Rattle.lq_desk_world.specs.Fair.{IsFair}
-use Rattle.lq_desk_world.specs.Headline.{read_by, reads_of, parcel_in, parcels_in, updates_among, updates_in, accepted, HasMark}
+use Rattle.lq_desk_world.specs.Headline.{read_by, reads_of, parcel_in, parcels_in, updates_among, accepted, HasMark}
 use Rattle.lq_desk_world.proofs.ListLemmas.{all-append}
-use Rattle.lq_desk_world.proofs.SubLemmas.{parcels, IsSame, IsOver, IsEnded, Reads, keeps-ended, reads-nothing, reads-self, taken_within}
-use Rattle.lq_desk_world.proofs.ReadLemmas.{Stands, Passes, step-goes, run-book}
+use Rattle.lq_desk_world.proofs.SubLemmas.{parcels, IsSame, IsOver, IsEnded, Reads, keeps-ended}
+use Rattle.lq_desk_world.proofs.TakenLemmas.{reads-nothing, reads-self, taken_within}
+use Rattle.lq_desk_world.proofs.ReadLemmas.{Stands, Passes, run-book}
+use Rattle.lq_desk_world.proofs.AnswerLemmas.{step-goes}
 
 -- a mark stands last
 abbrev IsMarked : List Parcel → Type 0
@@ -209,7 +211,7 @@ updates_among-append (Update m ∷ xs) ys = ap (λ ms. m ∷ ms) (updates_among-
 updates_among-append (Fin mark ∷ xs) ys = updates_among-append xs ys
 
 -- the updates of a front of a list are a front of its updates
-updates_among-take : (us : List Message) (n k : ℕ) (o : Option End)
+pub updates_among-take : (us : List Message) (n k : ℕ) (o : Option End)
     → updates_among (take n (parcels us ++ mark_behind k o)) ≡ take n us
 updates_among-take [] zero k o = refl
 updates_among-take [] (suc n) k None = refl
@@ -219,7 +221,7 @@ updates_among-take (u ∷ us) zero k o = refl
 updates_among-take (u ∷ us) (suc n) k o = ap (λ ms. u ∷ ms) (updates_among-take us n k o)
 
 -- a mark in a list stands behind all its updates
-mark-place : (us : List Message) (k : ℕ) (o : Option End) (xs ys : List Parcel) (m : Mark)
+pub mark-place : (us : List Message) (k : ℕ) (o : Option End) (xs ys : List Parcel) (m : Mark)
     → xs ++ Fin m ∷ ys ≡ parcels us ++ mark_behind k o → (updates_among xs ≡ us)
     × ((e : End) × (o ≡ Some e) × (m ≡ record { seq = k + 1; change = e.change; cause = e.cause }))
 mark-place [] k None xs ys m is = absurd (no_place xs ys (Fin m) (sym is))
@@ -234,7 +236,7 @@ mark-place (u ∷ us) k o (x ∷ xs) ys m is =
     (ap (λ p. updates_among (p ∷ xs)) first ∙ ap (λ ms. u ∷ ms) rest.0, rest.1)
 
 -- a mark that answers gave is among them
-has-mark : (reads : List Answer) → IsMarked (parcels_in reads) → HasMark reads
+pub has-mark : (reads : List Answer) → IsMarked (parcels_in reads) → HasMark reads
 has-mark [] marked = absurd (no_place marked.1 [] (Fin marked.0) marked.2)
 has-mark (x ∷ reads) marked =
     by x marked.0 marked.1 marked.2 (λ m front is. has-mark reads (m, front, is))
@@ -269,16 +271,16 @@ prefix-self : (xs : List Message) → IsPrefixOf xs xs
 prefix-self xs = ([], append-nil xs)
 
 -- what a beginning begins with, the list begins with
-prefix-more : (xs ys zs : List Message) → IsPrefixOf xs ys → IsPrefixOf ys zs → IsPrefixOf xs zs
+pub prefix-more : (xs ys zs : List Message) → IsPrefixOf xs ys → IsPrefixOf ys zs → IsPrefixOf xs zs
 prefix-more xs ys zs p q =
     (p.0 ++ q.0, sym (append_assoc xs p.0 q.0) ∙ (ap (λ us. us ++ q.0) p.1 ∙ q.1))
 
 -- a list begins with each of its fronts
-prefix-take : (n : ℕ) (xs : List Message) → IsPrefixOf (take n xs) xs
+pub prefix-take : (n : ℕ) (xs : List Message) → IsPrefixOf (take n xs) xs
 prefix-take n xs = (drop n xs, take-append-drop n xs)
 
 -- the updates up to one change are a beginning of those up to a later one
-updates-prefix : UpdatesGrow → (q : Query) (moved : Bool) (b : Book) (m n k : ℕ)
+pub updates-prefix : UpdatesGrow → (q : Query) (moved : Bool) (b : Book) (m n k : ℕ)
     → IsPrefixOf (updates_of q moved b m n) (updates_of q moved b m (n + k))
 updates-prefix grow q moved b m n zero =
     subst (λ (l : ℕ). IsPrefixOf (updates_of q moved b m n) (updates_of q moved b m l))
@@ -287,65 +289,3 @@ updates-prefix grow q moved b m n (suc k) =
     subst (λ (l : ℕ). IsPrefixOf (updates_of q moved b m n) (updates_of q moved b m l))
     (let e : n + k + 1 ≡ n + suc k = omega arith in e)
     (prefix-more _ _ _ (updates-prefix grow q moved b m n k) (grow q moved b m (n + k)))
-
--- ---- the reads of a subscription from its opening on
-
--- what they are, but for folding
-pub record AreTold (b : Book) (q : Query) (moved : Bool) (at : ℕ)
-    (reads : List Answer) : Type 0 where
-  pub prefix : IsPrefixOf (updates_in reads) (updates_of q moved b at (number_of b))
-  pub mark : (front rest : List Answer) (m : Mark) → reads ≡ front ++ Took (Fin m) ∷ rest →
-      (at ≤ m.change) × (m.change ≤ number_of b)
-      × (updates_in front ≡ updates_of q moved b at m.change)
-      × (m.seq ≡ length (updates_in front) + 1)
-      × AllByRecursion IsEnded rest
-  pub ended : (front rest : List Answer) → reads ≡ front ++ Ended ∷ rest → HasMark front
-
--- what a subscription reads over a run, from its first read, is what the book tells
-pub ran-reads : UpdatesGrow → (b : Book) (s : Subscribed) (d : Book) (reads : List Answer)
-    → s.taken ≡ 0
-    → Ran b s d reads → AreTold d s.query s.moved s.opened reads
-ran-reads grow b s d reads none ran =
-    let t = ran.sub in
-    let us = updates_of s.query s.moved d s.opened (covered d t) in
-    let list : updates_due d t ≡ us = alike d t s (covered d t) ran.same in
-    let given : parcels_in reads ≡ take t.taken (whole d t) =
-    ap (λ n. take n (whole b s) ++ parcels_in reads) (sym none) ∙ ran.front in
-    let all : updates_in reads ≡ take t.taken us = ap updates_among given
-    ∙ (updates_among-take (updates_due d t) t.taken (length (updates_due d t)) t.end
-    ∙ ap (take t.taken) list) in
-    let end : covered d t + (number_of d - covered d t) ≡ number_of d =
-    omega (arith, ran.fair.covered) in
-    let longer : IsPrefixOf us (updates_of s.query s.moved d s.opened (number_of d)) =
-    subst (λ (n : ℕ). IsPrefixOf us (updates_of s.query s.moved d s.opened n)) end
-    (updates-prefix grow s.query s.moved d s.opened (covered d t) (number_of d - covered d t)) in
-    record {
-      prefix = subst (λ (ms : List Message).
-          IsPrefixOf ms (updates_of s.query s.moved d s.opened (number_of d))) (sym all)
-          (prefix-more _ us _ (prefix-take t.taken us) longer);
-      mark = λ front rest m is.
-          let parts : parcels_in front ++ Fin m
-          ∷ (parcels_in rest ++ drop t.taken (whole d t)) ≡ whole d t =
-          sym (append_assoc (parcels_in front) (Fin m ∷ parcels_in rest) (drop t.taken (whole d t)))
-          ∙ (ap (λ ps. ps ++ drop t.taken (whole d t))
-          (sym (parcels_in-append front (Took (Fin m) ∷ rest)) ∙ (ap parcels_in (sym is) ∙ given))
-          ∙ take-append-drop t.taken (whole d t)) in
-          let place =
-          mark-place (updates_due d t) (length (updates_due d t)) t.end
-          (parcels_in front) _ m parts in
-          let to : covered d t ≡ m.change = ap (covered_by d) place.1.1
-          ∙ sym (ap (λ (n : Mark). n.change) place.1.2) in (
-            omega (arith, ran.fair.opened, ran.same.opened, to),
-            omega (arith, ran.fair.covered, to),
-            place.0 ∙ (list ∙ ap (updates_of s.query s.moved d s.opened) to),
-            ap (λ (n : Mark). n.seq) place.1.2
-                ∙ ap (λ (ms : List Message). length ms + 1) (sym place.0),
-            ran.marked front rest m is,
-          );
-      ended = λ front rest is. has-mark front (let h = ran.shown front rest is in
-          (h.0, h.1, ap (λ n. take n (whole b s) ++ parcels_in front) (sym none) ∙ h.2));
-    }
-  where
-    alike : (d : Book) (t s : Subscribed) (n : ℕ) → IsSame s t
-        → updates_of t.query t.moved d t.opened n ≡ updates_of s.query s.moved d s.opened n
-    alike d t s n same = rw (same.query, same.moved, same.opened) refl

@@ -1,0 +1,196 @@
+-- What was read of a subscription.
+use Rattle.std.proofs.Common.{◌≡◌, ℕ, zero, suc, ◌+◌, ◌-◌, ◌≤◌, List, [], ◌∷◌, ◌++◌, refl, ap, take, length, ◌∙◌, sym, arith, append-nil, length-drop, Some, None, Option, Bool, true, false}
+use Rattle.std.specs.Prelude.{slice_get, ◌&&◌, nat_lt, if◌then◌else◌}
+use Rattle.std.proofs.lemmas.Bool.{and_parts, ltb-true}
+use Rattle.std.proofs.lemmas.List.{take-append-le}
+use Rattle.lq_volume.specs.Book.{Book, number_of}
+use Rattle.lq_update.specs.declared.message.Message.{Message}
+use Rattle.lq_update.specs.declared.mark.Mark.{Mark}
+use Rattle.lq_update.specs.declared.mark.Cause.TheVariants.{HungUp, Closed}
+use Rattle.lq_update.specs.declared.parcel.Parcel.{Parcel}
+use Rattle.lq_update.specs.declared.parcel.Parcel.TheVariants.{Fin}
+use Rattle.lq_desk_world.specs.World.{Subscribed, End, updates_due, mark_behind, whole, is_live, is_over, with_end, with_hang_up_asked, one_more_put, one_more_taken, can_put, first_in_port}
+use Rattle.lq_desk_world.specs.Events.{Took, Ended, Empty, putting_if, putting, reading_if, reading, hanging_up, noticing_if, noticing, closing_if, closing}
+use Rattle.lq_desk_world.specs.Fair.{IsFair}
+use Rattle.lq_desk_world.specs.Headline.{parcels_in}
+use Rattle.lq_desk_world.proofs.ListLemmas.{take-one_more}
+use Rattle.lq_desk_world.proofs.SubLemmas.{Keeps, Leaves, Reads, keeps-end, keeps-same, keeps-self, live-none, over-from, over-true, parcels}
+
+-- ---- what was read
+
+-- no read
+pub reads-nothing : (b : Book) (s : Subscribed) (d : Book) (t : Subscribed)
+    → s.taken ≤ length (whole b s) → t.taken ≡ s.taken → Keeps b s d t → Reads b s d t []
+reads-nothing b s d t within taken k = record {
+  keeps = k;
+  front = append-nil _ ∙ (sym (take-append-le s.taken (whole b s) k.more within)
+      ∙ (ap (take s.taken) (sym k.grows) ∙ ap (λ n. take n (whole d t)) (sym taken)));
+  over = λ o.
+      let en = k.ended o.0 o.1 in
+      let all : length (whole d t) ≡ length (whole b s) =
+      ap length (k.grows ∙ (ap (λ xs. whole b s ++ xs) en.1 ∙ append-nil _)) in
+      ((o.0, en.0, taken ∙ (o.2 ∙ sym all)), tt);
+  marked = λ m no. absurd (let never : ⊥ = cc in never);
+  shown = λ no. absurd (let never : ⊥ = cc in never);
+}
+
+-- no more is taken than the whole list has
+pub taken_within : (b : Book) (s : Subscribed) → IsFair b s → s.taken ≤ length (whole b s)
+taken_within b s h = omega (arith, h.taken, h.put)
+
+-- nothing that happens reads nothing
+pub reads-self : (b : Book) (s : Subscribed) → IsFair b s → Reads b s b s []
+reads-self b s h = reads-nothing b s b s (taken_within b s h) refl (keeps-self b s h)
+
+-- an event that reads nothing and keeps what was told leaves the reads
+leaves : (b : Book) (s : Subscribed) (t : Subscribed) → IsFair b s → t.taken ≡ s.taken
+    → Keeps b s b t
+    → Leaves b s [] (Some t)
+leaves b s t h taken k =
+    record { sub = t; is = refl; does = reads-nothing b s b t (taken_within b s h) taken k }
+
+-- a put leaves the reads of a fair subscription
+pub putting-leaves : (b : Book) (s : Subscribed) → IsFair b s → Leaves b s [] (putting b s).1
+putting-leaves b s h = by (can_put b s) refl
+  where
+    by : (x : Bool) → can_put b s ≡ x → Leaves b s [] (putting_if s x).1
+    by true is =
+        let tests =
+        and_parts (nat_lt (s.put - s.taken) s.port) (nat_lt s.put (length (whole b s))) is in
+        let room = ltb-true _ _ tests.0 in
+        let there = ltb-true _ _ tests.1 in
+        leaves b s (one_more_put s) h refl (keeps-same b s (one_more_put s)
+        (record { query = refl; moved = refl; opened = refl }) refl refl (record {
+          begun = h.begun;
+          places = h.places;
+          most = h.most;
+          backlog = h.backlog;
+          opened = h.opened;
+          covered = h.covered;
+          taken = omega (arith, h.taken);
+          put = omega (arith, there);
+          port = omega (arith, room, h.taken);
+          held = λ live. omega (
+            arith,
+            h.held live,
+            length-drop s.put (updates_due b s),
+            length-drop (s.put + 1) (updates_due b s),
+          );
+        }))
+    by false is = leaves b s s h refl (keeps-self b s h)
+
+-- a hang-up leaves the reads of a fair subscription
+pub hanging_up-leaves : (b : Book) (s : Subscribed) → IsFair b s → Leaves b s [] (hanging_up s).1
+hanging_up-leaves b s h = leaves b s (with_hang_up_asked s) h refl
+    (keeps-same b s (with_hang_up_asked s)
+    (record { query = refl; moved = refl; opened = refl }) refl refl (record {
+      begun = h.begun;
+      places = h.places;
+      most = h.most;
+      backlog = h.backlog;
+      opened = h.opened;
+      covered = h.covered;
+      taken = h.taken;
+      put = h.put;
+      port = h.port;
+      held = h.held;
+    }))
+
+-- noticing a hang-up leaves the reads of a fair subscription
+pub noticing-leaves : (b : Book) (s : Subscribed) → IsFair b s → Leaves b s [] (noticing b s).1
+noticing-leaves b s h = by (is_live s && s.hang_up_asked) refl
+  where
+    by : (x : Bool) → (is_live s && s.hang_up_asked) ≡ x → Leaves b s [] (noticing_if b s x).1
+    by true is = leaves b s (with_end s HungUp (number_of b)) h refl
+        (keeps-end b s HungUp h (live-none s.end (and_parts (is_live s) s.hang_up_asked is).0))
+    by false is = leaves b s s h refl (keeps-self b s h)
+
+-- a close leaves the reads of a fair subscription
+pub closing-leaves : (b : Book) (s : Subscribed) → IsFair b s → Leaves b s [] (closing b s).1
+closing-leaves b s h = by (is_live s) refl
+  where
+    by : (x : Bool) → is_live s ≡ x → Leaves b s [] (closing_if b s x).1
+    by true is = leaves b s (with_end s Closed (number_of b)) h refl
+        (keeps-end b s Closed h (live-none s.end is))
+    by false is = leaves b s s h refl (keeps-self b s h)
+
+-- a mark is the last of its list
+mark-last : (us : List Message) (n i : ℕ) (o : Option End) (m : Mark)
+    → slice_get (parcels us ++ mark_behind n o) i ≡ Some (Fin m)
+    → (e : End) × (o ≡ Some e) × (i + 1 ≡ length (parcels us ++ mark_behind n o))
+mark-last [] n i None m at = absurd (let no : ⊥ = cc in no)
+mark-last [] n zero (Some e) m at = (e, refl, omega arith)
+mark-last [] n (suc i) (Some e) m at = absurd (let no : ⊥ = cc in no)
+mark-last (u ∷ us) n zero o m at = absurd (let no : ⊥ = cc in no)
+mark-last (u ∷ us) n (suc i) o m at =
+    let rest = mark-last us n i o m at in
+    (rest.0, rest.1, omega (arith, rest.2))
+
+-- a parcel that is in the port is there, and it is this one
+in_port : (x : Bool) (o : Option Parcel) (p : Parcel) → (if x then o else None) ≡ Some p
+    → (x ≡ true) × (o ≡ Some p)
+in_port true o p is = (refl, is)
+in_port false o p is = absurd (let no : ⊥ = cc in no)
+
+-- a read gives the reads of a fair subscription its answer
+pub reading-leaves : (b : Book) (s : Subscribed) → IsFair b s
+    → Leaves b s ((reading b s).0 ∷ []) (reading b s).1
+reading-leaves b s h = by (first_in_port b s) refl
+  where
+    none_given : (x : Bool) → [] ≡ parcels_in ((if x then Ended else Empty) ∷ [])
+    none_given true = refl
+    none_given false = refl
+
+    is_ended : (x : Bool) → (if x then Ended else Empty) ∷ [] ≡ Ended ∷ [] → x ≡ true
+    is_ended true is = refl
+    is_ended false is = absurd (let no : ⊥ = cc in no)
+
+    no_mark : (x : Bool) (m : Mark) → (if x then Ended else Empty) ∷ [] ≡ Took (Fin m) ∷ [] → ⊥
+    no_mark true m is = cc
+    no_mark false m is = cc
+
+    by : (o : Option Parcel) → first_in_port b s ≡ o
+        → Leaves b s ((reading_if b s o).0 ∷ []) (reading_if b s o).1
+    by None is = record {
+      sub = s;
+      is = refl;
+      does = record {
+        keeps = keeps-self b s h;
+        front = ap (λ ps. take s.taken (whole b s) ++ ps) (sym (none_given (is_over b s)))
+            ∙ append-nil _;
+        over = λ o. (o, (ap (λ x. if x then Ended else Empty) (over-true b s o), tt));
+        marked = λ m is. absurd (no_mark (is_over b s) m is);
+        shown = λ is. over-from b s (is_ended (is_over b s) is);
+      };
+    }
+    by (Some p) is =
+        let at = in_port (nat_lt s.taken s.put) (slice_get (whole b s) s.taken) p is in
+        let there = ltb-true s.taken s.put at.0 in
+        let more = take-one_more (whole b s) s.taken p at.1 in
+        record {
+          sub = one_more_taken s;
+          is = refl;
+          does = record {
+            keeps = keeps-same b s (one_more_taken s)
+                (record { query = refl; moved = refl; opened = refl }) refl refl (record {
+                  begun = h.begun;
+                  places = h.places;
+                  most = h.most;
+                  backlog = h.backlog;
+                  opened = h.opened;
+                  covered = h.covered;
+                  taken = omega (arith, there);
+                  put = h.put;
+                  port = omega (arith, h.port);
+                  held = h.held;
+                });
+            front = sym more.0;
+            over = λ o. absurd (omega (arith, o.2, more.1));
+            marked = λ m same.
+                let mark : p ≡ Fin m = cc in
+                let last = mark-last (updates_due b s) (length (updates_due b s)) s.taken s.end m
+                (at.1 ∙ ap (λ q. Some q) mark) in
+                (last.0, last.1, last.2);
+            shown = λ no. absurd (let never : ⊥ = cc in never);
+          };
+        }
