@@ -9,7 +9,6 @@ use Rattle.lq_desk_world.specs.declared.event.Act.TheVariants as act
 use Rattle.lq_desk.specs.Slot.{KeptSlot}
 use Rattle.lq_desk.specs.Act.{outcome_at, outcome_in, outcome_of}
 use Rattle.lq_desk.specs.Kept.{Kept, kept_act, at_kept, at_place, kept_outcome}
-use Rattle.lq_desk.specs.Kept as kept
 
 -- ---- what is done at a slot of the list is done at the desk's slot
 

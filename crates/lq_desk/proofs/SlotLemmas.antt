@@ -13,7 +13,6 @@ use Rattle.lq_desk_world.specs.World.{Subscribed, End, updates_due, mark_behind,
 use Rattle.lq_desk_world.specs.Events.{Moved, putting_if, putting}
 use Rattle.lq_desk_world.specs.Fair.{IsFair}
 use Rattle.lq_desk_sub.specs.Held.{Held, next_of, without, next_parcel}
-use Rattle.lq_desk_sub.specs.Held as h
 use Rattle.lq_desk.specs.Slot.{KeptSlot, put_if, put_slot}
 use Rattle.lq_desk.specs.Kept.{mark_of, held_for, slot_for}
 use Rattle.lq_desk.proofs.ListLemmas.{take-one_more, lt-get, above-zero, lt-suc}

@@ -1,5 +1,5 @@
 -- The turns of a desk.
-use Rattle.std.proofs.Common.{◌≡◌, ℕ, suc, ◌+◌, ◌-◌, List, [], ◌∷◌, ◌++◌, refl, ap, map, length, ◌∙◌, sym, subst, arith, Some, None, Option, inl, inr}
+use Rattle.std.proofs.Common.{◌≡◌, ℕ, suc, ◌+◌, List, [], ◌∷◌, ◌++◌, refl, ap, map, length, ◌∙◌, sym, subst, arith, Some, None, Option, inl, inr}
 use Rattle.std.specs.Prelude.{slice_get}
 use Rattle.std.specs.Option.{option_map}
 use Rattle.lq_value.specs.declared.refusal.Refusal.{Refusal}

@@ -180,8 +180,8 @@ impl Sub {
     }
 
     // Makes the messages of a change that may have some, by whether the query matches the entry of
-    // its own node before the change, and after it; answers whether there are any. This is a
-    // separate function because most changes have no message for most queries.
+    // its own node before it and after it; answers whether there are any. It is a function of its
+    // own because most changes have no message for most queries.
     #[inline(never)]
     fn make_ready(
         &mut self,
@@ -268,8 +268,6 @@ impl Sub {
         ensures room { IfSome result (λ parcel. IsTrue (fits_back self.new.lent parcel)) }
         ensures sent { self.new.held.sent ≡ self.old.held.sent }
         ensures mark { self.new.held.mark ≡ self.old.held.mark }
-
-        // The messages made ready for a change stay.
         ensures ready { self.new.ready ≡ self.old.ready }
         ensures before { self.new.before ≡ self.old.before }
     {
@@ -291,8 +289,6 @@ impl Sub {
         ensures held { self.new.held ≡ with_back self.old.held parcel }
         ensures sent { self.new.held.sent ≡ self.old.held.sent }
         ensures mark { self.new.held.mark ≡ self.old.held.mark }
-
-        // The messages made ready for a change stay.
         ensures ready { self.new.ready ≡ self.old.ready }
         ensures before { self.new.before ≡ self.old.before }
     {
