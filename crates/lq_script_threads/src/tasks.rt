@@ -38,11 +38,6 @@ impl<T: Task + Drop> Tasks<T> {
         self.done = done;
     }
 
-    /// The tasks that no thread has begun.
-    pub fn waiting(&self) -> &[T] {
-        self.waiting.as_slice()
-    }
-
     /// The task of a slot, for its thread; `None` where none waits.
     pub fn begin(&mut self, slot: u64) -> Option<T> {
         let index = self.waiting.iter().position(|task| task.slot() == slot)?;

@@ -39,11 +39,16 @@ impl<T: Task + Drop> Shared<T> {
 
     // Asks for these tasks, and wakes the thread of each. `done` is empty and has room for them.
     fn ask<R: Wait>(&self, rt: &R, waiting: Vec<T>, done: Vec<T>) {
+        let slots = slots_of(&waiting);
         let mut tasks = self.tasks.lock(rt);
         self.left.store(waiting.len() as u64, Ordering::SeqCst);
         tasks.ask(waiting, done);
-        for task in tasks.waiting() {
-            self.wake(task.slot());
+        drop(tasks);
+        // Out of the lock, since a thread that wakes takes it at once.
+        for slot in 1..=SLOTS as u64 {
+            if slots & bit_of(slot) != 0 {
+                self.wake(slot);
+            }
         }
     }
 
@@ -123,6 +128,17 @@ impl<T: Task + Drop> Shared<T> {
             condition.notify_one();
         }
     }
+}
+
+// The slots of these tasks, a bit each.
+fn slots_of<T: Task>(tasks: &[T]) -> u64 {
+    tasks
+        .iter()
+        .fold(0, |slots, task| slots | bit_of(task.slot()))
+}
+
+fn bit_of(slot: u64) -> u64 {
+    1 << (slot.wrapping_sub(1) % 64)
 }
 
 fn index_of(slot: u64) -> usize {
