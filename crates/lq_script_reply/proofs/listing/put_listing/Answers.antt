@@ -5,6 +5,7 @@ use Rattle.std.specs.Prelude.{map, false}
 use Rattle.serde_json.specs.View.{items_of}
 use Rattle.serde_json.specs.Written.{items_text}
 use Rattle.lq_script_reply.specs.Reply.{attr_data, kind_name}
+use Rattle.lq_script_reply.proofs.FrontLemmas.{extends_on}
 use Rattle.lq_script_reply.proofs.PieceLemmas.{piece}
 use Rattle.lq_script_reply.proofs.listing.put_listing.Goals as goal
 
@@ -23,3 +24,25 @@ returns-clause-ok c =
     (piece c.put_unsigned.new.out.items (codes ",\"kind\":") (quoted (kind_name e.kind)) _ kind
     (piece c.put_text.new.out.items (codes ",\"name\":") (quoted e.name) _ name last))))
     c.put_sized.ensures.ok
+
+pub returns-in_err-put_unsigned-clause-front : goal.returns-in_err-put_unsigned-clause-front
+returns-in_err-put_unsigned-clause-front c =
+    extends_on _ _ _ c.put_unsigned.ensures.front c.in_ok-put_attrs.ensures.front
+
+pub returns-in_err-put_text-clause-front : goal.returns-in_err-put_text-clause-front
+returns-in_err-put_text-clause-front c =
+    extends_on _ _ _ c.put_text.ensures.front
+    (extends_on _ _ _ c.in_ok-put_unsigned.ensures.front c.in_ok-put_attrs.ensures.front)
+
+pub returns-in_err-put_text-2-clause-front : goal.returns-in_err-put_text-2-clause-front
+returns-in_err-put_text-2-clause-front c =
+    extends_on _ _ _ c.put_text-2.ensures.front
+    (extends_on _ _ _ c.in_ok-put_text.ensures.front
+    (extends_on _ _ _ c.in_ok-put_unsigned.ensures.front c.in_ok-put_attrs.ensures.front))
+
+pub returns-clause-front : goal.returns-clause-front
+returns-clause-front c =
+    extends_on _ _ _ c.put_sized.ensures.front
+    (extends_on _ _ _ c.in_ok-put_text-2.ensures.front
+    (extends_on _ _ _ c.in_ok-put_text.ensures.front
+    (extends_on _ _ _ c.in_ok-put_unsigned.ensures.front c.in_ok-put_attrs.ensures.front)))

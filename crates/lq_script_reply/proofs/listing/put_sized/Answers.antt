@@ -4,6 +4,7 @@ use Rattle.json.specs.Print.{escape_byte}
 use Rattle.serde_json.specs.Data.{number}
 use Rattle.serde_json.specs.Find.{of_integer}
 use Rattle.serde_json.specs.Written.{compact_text}
+use Rattle.lq_script_reply.proofs.FrontLemmas.{extends_on}
 use Rattle.lq_script_reply.proofs.PieceLemmas.{piece}
 use Rattle.lq_script_reply.proofs.listing.put_sized.Goals as goal
 
@@ -21,3 +22,18 @@ returns-clause-ok c =
     (piece c.put_unsigned-2.new.out.items (codes ",\"time\":")
     (compact_text (number (of_integer e.time))) _ signed last)))
     c.put_bytes.ensures.ok
+
+pub returns-in_err-put_unsigned-2-clause-front : goal.returns-in_err-put_unsigned-2-clause-front
+returns-in_err-put_unsigned-2-clause-front c =
+    extends_on _ _ _ c.put_unsigned-2.ensures.front c.in_ok-put_unsigned.ensures.front
+
+pub returns-in_err-put_signed-clause-front : goal.returns-in_err-put_signed-clause-front
+returns-in_err-put_signed-clause-front c =
+    extends_on _ _ _ c.put_signed.ensures.front
+    (extends_on _ _ _ c.in_ok-put_unsigned-2.ensures.front c.in_ok-put_unsigned.ensures.front)
+
+pub returns-clause-front : goal.returns-clause-front
+returns-clause-front c =
+    extends_on _ _ _ c.put_bytes.ensures.front
+    (extends_on _ _ _ c.in_ok-put_signed.ensures.front
+    (extends_on _ _ _ c.in_ok-put_unsigned-2.ensures.front c.in_ok-put_unsigned.ensures.front))

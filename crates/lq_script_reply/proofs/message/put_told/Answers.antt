@@ -3,6 +3,7 @@ use Rattle.std.proofs.lemmas.Result.{on_ok_weaker}
 use Rattle.json.specs.Print.{escape_byte, quoted}
 use Rattle.serde_json.specs.Data.{boolean}
 use Rattle.serde_json.specs.Written.{compact_text}
+use Rattle.lq_script_reply.proofs.FrontLemmas.{extends_on}
 use Rattle.lq_script_reply.proofs.PieceLemmas.{piece}
 use Rattle.lq_script_reply.proofs.message.put_told.Goals as goal
 
@@ -19,3 +20,18 @@ returns-clause-ok c =
     (piece c.put_text.new.out.items (codes ",\"node\":")
     (decimal m.node) _ c.in_ok-put_unsigned.ensures.ok e)))
     c.put_numbered.ensures.ok
+
+pub returns-in_err-put_text-clause-front : goal.returns-in_err-put_text-clause-front
+returns-in_err-put_text-clause-front c =
+    extends_on _ _ _ c.put_text.ensures.front c.in_ok-put_truth.ensures.front
+
+pub returns-in_err-put_unsigned-clause-front : goal.returns-in_err-put_unsigned-clause-front
+returns-in_err-put_unsigned-clause-front c =
+    extends_on _ _ _ c.put_unsigned.ensures.front
+    (extends_on _ _ _ c.in_ok-put_text.ensures.front c.in_ok-put_truth.ensures.front)
+
+pub returns-clause-front : goal.returns-clause-front
+returns-clause-front c =
+    extends_on _ _ _ c.put_numbered.ensures.front
+    (extends_on _ _ _ c.in_ok-put_unsigned.ensures.front
+    (extends_on _ _ _ c.in_ok-put_text.ensures.front c.in_ok-put_truth.ensures.front))

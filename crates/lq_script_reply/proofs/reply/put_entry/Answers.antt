@@ -2,6 +2,7 @@ use Rattle.std.proofs.Common.{[], codes, decimal}
 use Rattle.std.proofs.lemmas.Result.{on_ok_weaker}
 use Rattle.json.specs.Print.{escape_byte, quoted}
 use Rattle.serde_json.specs.Written.{comma_if}
+use Rattle.lq_script_reply.proofs.FrontLemmas.{extends_on}
 use Rattle.lq_script_reply.proofs.PieceLemmas.{named_piece, piece}
 use Rattle.lq_script_reply.proofs.reply.put_entry.Goals as goal
 
@@ -17,3 +18,18 @@ returns-clause-ok c =
     (piece c.put_text.new.out.items (codes ",\"node\":")
     (decimal e.node) _ c.in_ok-put_unsigned-2.ensures.ok last)))
     c.put_bytes.ensures.ok
+
+pub returns-in_err-put_text-clause-front : goal.returns-in_err-put_text-clause-front
+returns-in_err-put_text-clause-front c =
+    extends_on _ _ _ c.put_text.ensures.front c.in_ok-put_unsigned.ensures.front
+
+pub returns-in_err-put_unsigned-2-clause-front : goal.returns-in_err-put_unsigned-2-clause-front
+returns-in_err-put_unsigned-2-clause-front c =
+    extends_on _ _ _ c.put_unsigned-2.ensures.front
+    (extends_on _ _ _ c.in_ok-put_text.ensures.front c.in_ok-put_unsigned.ensures.front)
+
+pub returns-clause-front : goal.returns-clause-front
+returns-clause-front c =
+    extends_on _ _ _ c.put_bytes.ensures.front
+    (extends_on _ _ _ c.in_ok-put_unsigned-2.ensures.front
+    (extends_on _ _ _ c.in_ok-put_text.ensures.front c.in_ok-put_unsigned.ensures.front))

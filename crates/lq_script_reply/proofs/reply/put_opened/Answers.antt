@@ -5,6 +5,7 @@ use Rattle.std.specs.Prelude.{map, false}
 use Rattle.serde_json.specs.View.{items_of}
 use Rattle.serde_json.specs.Written.{items_text}
 use Rattle.lq_script_reply.specs.Reply.{entry_data}
+use Rattle.lq_script_reply.proofs.FrontLemmas.{extends_on}
 use Rattle.lq_script_reply.proofs.PieceLemmas.{piece}
 use Rattle.lq_script_reply.proofs.reply.put_opened.Goals as goal
 
@@ -20,3 +21,18 @@ returns-clause-ok c =
     (piece c.put_entries.new.out.items (codes ",\"slot\":")
     (decimal c.args.slot) _ c.in_ok-put_unsigned-2.ensures.ok last)))
     c.put_bytes.ensures.ok
+
+pub returns-in_err-put_entries-clause-front : goal.returns-in_err-put_entries-clause-front
+returns-in_err-put_entries-clause-front c =
+    extends_on _ _ _ c.put_entries.ensures.front c.in_ok-put_unsigned.ensures.front
+
+pub returns-in_err-put_unsigned-2-clause-front : goal.returns-in_err-put_unsigned-2-clause-front
+returns-in_err-put_unsigned-2-clause-front c =
+    extends_on _ _ _ c.put_unsigned-2.ensures.front
+    (extends_on _ _ _ c.in_ok-put_entries.ensures.front c.in_ok-put_unsigned.ensures.front)
+
+pub returns-clause-front : goal.returns-clause-front
+returns-clause-front c =
+    extends_on _ _ _ c.put_bytes.ensures.front
+    (extends_on _ _ _ c.in_ok-put_unsigned-2.ensures.front
+    (extends_on _ _ _ c.in_ok-put_entries.ensures.front c.in_ok-put_unsigned.ensures.front))

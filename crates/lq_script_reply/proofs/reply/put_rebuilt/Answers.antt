@@ -6,7 +6,8 @@ use Rattle.serde_json.specs.Data.{boolean}
 use Rattle.serde_json.specs.View.{items_of}
 use Rattle.serde_json.specs.Written.{items_text, compact_text}
 use Rattle.lq_script_reply.specs.Reply.{entry_data}
-use Rattle.lq_script_reply.proofs.PieceLemmas.{extends_on, piece}
+use Rattle.lq_script_reply.proofs.FrontLemmas.{extends_on}
+use Rattle.lq_script_reply.proofs.PieceLemmas.{piece}
 use Rattle.lq_script_reply.proofs.reply.put_rebuilt.Goals as goal
 
 pub returns-clause-ok : goal.returns-clause-ok
@@ -27,3 +28,12 @@ returns-clause-front c =
     extends_on _ _ _ c.put_bytes.ensures.front
     (extends_on _ _ _ c.in_ok-put_truth.ensures.front
     (extends_on _ _ _ c.in_ok-put_entries.ensures.front c.in_ok-put_unsigned.ensures.front))
+
+pub returns-in_err-put_entries-clause-front : goal.returns-in_err-put_entries-clause-front
+returns-in_err-put_entries-clause-front c =
+    extends_on _ _ _ c.put_entries.ensures.front c.in_ok-put_unsigned.ensures.front
+
+pub returns-in_err-put_truth-clause-front : goal.returns-in_err-put_truth-clause-front
+returns-in_err-put_truth-clause-front c =
+    extends_on _ _ _ c.put_truth.ensures.front
+    (extends_on _ _ _ c.in_ok-put_entries.ensures.front c.in_ok-put_unsigned.ensures.front)
