@@ -2,6 +2,7 @@ use Rattle.std.proofs.Common.{codes, decimal}
 use Rattle.std.proofs.lemmas.Result.{on_ok_weaker}
 use Rattle.json.specs.Print.{escape_byte, quoted}
 use Rattle.lq_value.specs.Refusal.{code_of, name_of}
+use Rattle.lq_script_reply.proofs.FrontLemmas.{extends_on}
 use Rattle.lq_script_reply.proofs.PieceLemmas.{piece}
 use Rattle.lq_script_reply.proofs.reply.put_refusal.Goals as goal
 
@@ -18,3 +19,25 @@ returns-in_ok-put_unsigned-in-Some-clause-ok c =
     (piece c.put_text.new.out.items (codes ",\"place\":")
     (decimal c.in-Some.place) _ c.in_ok-put_unsigned-in-Some.ensures.ok last))))
     c.put_bytes-in-Some.ensures.ok
+
+pub returns-in_ok-put_unsigned-in-Some-clause-front
+    : goal.returns-in_ok-put_unsigned-in-Some-clause-front
+returns-in_ok-put_unsigned-in-Some-clause-front c =
+    extends_on _ _ _ c.put_bytes-in-Some.ensures.front
+    (extends_on _ _ _ c.in_ok-put_unsigned-in-Some.ensures.front
+    (extends_on _ _ _ c.in_ok-put_text.ensures.front c.in_ok-put_unsigned.ensures.front))
+
+pub returns-in_err-put_text-clause-front : goal.returns-in_err-put_text-clause-front
+returns-in_err-put_text-clause-front c =
+    extends_on _ _ _ c.put_text.ensures.front c.in_ok-put_unsigned.ensures.front
+
+pub returns-in-None-clause-front : goal.returns-in-None-clause-front
+returns-in-None-clause-front c =
+    extends_on _ _ _ c.put_bytes.ensures.front
+    (extends_on _ _ _ c.in_ok-put_text.ensures.front c.in_ok-put_unsigned.ensures.front)
+
+pub returns-in_err-put_unsigned-in-Some-clause-front
+    : goal.returns-in_err-put_unsigned-in-Some-clause-front
+returns-in_err-put_unsigned-in-Some-clause-front c =
+    extends_on _ _ _ c.put_unsigned-in-Some.ensures.front
+    (extends_on _ _ _ c.in_ok-put_text.ensures.front c.in_ok-put_unsigned.ensures.front)
