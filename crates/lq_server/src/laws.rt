@@ -11,6 +11,7 @@ use lq_update::{folds_give_results, whole_folds_give_results};
 pub fn answers_are_told()
     ensures { AnswersAreTold }
 {
+    // For the proof: what a fold gives where it is settled, and at the end.
     folds_give_results();
     whole_folds_give_results();
 }

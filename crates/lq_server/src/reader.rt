@@ -142,6 +142,7 @@ impl Reader {
         requires own { IsOwn self.old }
         ensures { IsWaitingRead self.old self.new result }
     {
+        // For the proof: a book extends itself, and the reading's invariant.
         books_extend_themselves();
         self.reading.told();
         if self.reading.is_ended() {
@@ -197,6 +198,7 @@ impl Reader {
     pub fn headline(&self)
         ensures { ReaderIsTold self.now }
     {
+        // For the proof: what each of these calls says.
         self.reading.told();
         self.reading.result();
         self.reading.is_settled();

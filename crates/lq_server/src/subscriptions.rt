@@ -75,6 +75,7 @@ impl<N: Named> Server<N> {
         requires own { IsOwn reader.old }
         ensures { IsSynced reader.old reader.new result }
     {
+        // For the proof: the reading's invariant.
         reader.reading.told();
         let progress = self
             .state

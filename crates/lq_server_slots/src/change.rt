@@ -77,29 +77,16 @@ fn add(
     requires volume { volume.old ≡ state_of slots.old.keeper.book }
     requires full { IsFullBook slots.old.keeper.book }
     requires holding { SlotsStand slots.old slots.old.keeper.book }
-    ensures refused { IsRefusedBy result (refused volume.old change.now) }
-    ensures node { IfOk result (λ applied. applied.node ≡ node_of volume.old change.now) }
-    ensures number { IfOk result (λ applied.
-        applied.change ≡ length slots.new.keeper.book.changes) }
-    ensures ok { OnOk result
-        (slots.new.keeper.book ≡ grown slots.old.keeper.book (change.now ∷ [])) }
+    ensures made { IsChangeMade change.now result volume.old volume.new
+        slots.old.keeper.book slots.new.keeper.book seat.old seat.new }
+    ensures lawful { OnOk result (refused volume.old change.now ≡ None) }
     ensures ready { OnOk result (AllReady slots.new.subscriptions.items
         (state_of slots.old.keeper.book) change.now) }
-    ensures lawful { OnOk result (refused volume.old change.now ≡ None) }
     ensures noticed { OnOk result
         (SlotsAre IsNoticed slots.new.subscriptions.items slots.new.keeper.slots) }
-    ensures err { OnErr result (slots.new.keeper.book ≡ slots.old.keeper.book) }
-    ensures seat { seat.new ≡ record seat.old {
-      book = slots.new.keeper.book;
-      author = seat.new.author;
-    } }
-    ensures author { IfOk result (λ applied.
-        seat.new.author ≡ with_change seat.old.author applied.change) }
-    ensures others { OnErr result (seat.new.author ≡ seat.old.author) }
     ensures board { slots.new.keeper.board ≡ slots.old.keeper.board }
     ensures openings { slots.new.openings ≡ slots.old.openings }
     ensures volume { volume.new ≡ state_of slots.new.keeper.book }
-    ensures limit { volume.new.limit ≡ volume.old.limit }
     ensures full { IsFullBook slots.new.keeper.book }
     ensures holding { SlotsStand slots.new slots.old.keeper.book }
 {

@@ -171,6 +171,7 @@ fn free_at(
         ≤ asks_of slot.old (slot_at keeper.old.slots seat.slot) }
     ensures later { Extends keeper.old.book seat.book }
 {
+    // For the contract alone, which says how often the seat has asked.
     let _ = asked;
     board.join(keeper, seat);
     *slot = None;

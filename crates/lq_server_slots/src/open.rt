@@ -72,6 +72,7 @@ fn begin(
     ensures begun { IfOk result (λ r. IsBegun r.0 r.1 keeper.now.book
         asked.now.predicate.now asked.now.moved asked.now.port asked.now.backlog) }
 {
+    // For the proof: a result's nodes rise, and a new subscription stands over the book.
     results_rise();
     new_subscriptions_stand();
     let at = volume.changes();
@@ -120,6 +121,7 @@ fn sit_named(
       author = new_author keeper.old.register;
     } }
 {
+    // For the contract alone, which names the subscription.
     let _ = slot;
     board.slot_seat(keeper, place)
 }

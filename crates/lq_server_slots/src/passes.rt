@@ -118,6 +118,7 @@ fn commit_slot(keeper: &Keeper<Identity>, slot: &mut Subscription, place: usize,
     ensures asks { slot.new.asks ≡ slot.old.asks }
     ensures noticed { IsNoticed slot.new (slot_at keeper.now.slots place) }
 {
+    // For the contract alone, which names the book and the slot.
     let _ = keeper;
     let _ = place;
     commit(slot, change);

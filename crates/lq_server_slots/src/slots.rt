@@ -170,6 +170,7 @@ pub(crate) fn pump_slot<R: Wait>(
     ensures served { IsNoticed taken.old (slot_at keeper.now.slots place)
         → IsServed taken.new (slot_at keeper.now.slots place) }
 {
+    // For the contract alone, which names the slot.
     let _ = place;
     pump(rt, keeper, taken);
 }

@@ -75,6 +75,7 @@ fn meet_named(
     ensures asks { (slot_at keeper.old.slots seat.old.slot).asks ≤ seat.old.asks }
     ensures number { result ≡ length keeper.old.book.changes }
 {
+    // For the contract alone, which names the subscription.
     let _ = slot;
     board.meet_slot(keeper, seat)
 }
@@ -218,6 +219,7 @@ fn meet_slot_at(
     ensures seat { seat.new ≡ record seat.old { book = keeper.old.book } }
     ensures later { Extends keeper.old.book seat.old.book }
 {
+    // For the contract alone, which says what stands in the slot.
     let _ = slot;
     meet_same(board, keeper, seat)
 }

@@ -29,6 +29,7 @@ pub fn put_one<R: Wait>(rt: &R, keeper: &Keeper<Identity>, slot: &mut Subscripti
     ensures moved { MatchBool result (left slot.new < left slot.old)
         ((slot.new.input ≡ slot.old.input) × IsStuck slot.new) }
 {
+    // For the proof: a parcel that goes out and is put back leaves the subscription as it was.
     putting_back_undoes();
     let Some(parcel) = slot.sub.next() else {
         return false;

@@ -126,6 +126,7 @@ impl Reading {
         ensures marked { IfSome (mark_read self.now) (λ k. result.now
             ≡ result_of (query_of self.now.port.floor) (state_at (known self.now) k.change)) }
     {
+        // For the proof: what a fold of the whole list gives, and how a fold goes on.
         whole_folds_give_results();
         foldings_follow();
         self.rebuild.result()
@@ -141,6 +142,7 @@ impl Reading {
             ≡ result_of (query_of self.now.port.floor)
             (state_at (known self.now) self.now.result.change) }
     {
+        // For the proof: what a fold gives where it is settled, and how that is tested.
         folds_give_results();
         foldings_follow();
         settled_is_tested();
@@ -152,6 +154,7 @@ impl Reading {
         ensures change { result ≡ self.now.result.change }
         ensures received { result ≡ last_change self.now.port.floor.opened (received self.now) }
     {
+        // For the proof: how a fold goes on.
         foldings_follow();
         self.rebuild.last_change()
     }
@@ -160,6 +163,7 @@ impl Reading {
     pub fn told(&self)
         ensures { IsTold self.now }
     {
+        // For the proof: a field that is read shows the invariant.
         let _ = &self.rebuild;
     }
 
@@ -211,6 +215,7 @@ impl Reading {
         ensures hand { OnErr result (IsSome self.new.hand) }
         ensures over { IsSome (mark_read self.old) → result ≡ Ok Read.Ended }
     {
+        // For the proof: a fold takes each message of the update list.
         rebuilds_take_all();
         if self.hand.is_some() {
             return self.read_hand();
@@ -245,6 +250,7 @@ impl Reading {
         ensures hand { OnErr result (IsSome self.new.hand) }
         ensures over { IsSome (mark_read self.old) → result ≡ Ok Read.Ended }
     {
+        // For the proof: a fold takes each message of the update list.
         rebuilds_take_all();
         let Some(message) = self.hand.take() else {
             unreachable!()

@@ -80,7 +80,9 @@ pub fn commit(slot: &mut Subscription, change: &Change)
     ensures still { IsSome slot.old.sub.held.mark
         → slot.new.sub.held.mark ≡ slot.old.sub.held.mark }
 {
+    // For the contract alone, which names the change.
     let _ = change;
+    // For the proof: a change has at most three messages.
     steps_are_few();
     if !slot.sub.is_live() {
         return;

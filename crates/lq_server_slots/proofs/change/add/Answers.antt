@@ -1,11 +1,69 @@
-use Rattle.std.proofs.Common.{List, sym, ap, ◌∙◌, subst, arith}
+use Rattle.std.proofs.Common.{◌≡◌, List, [], ◌∷◌, sym, ap, ◌∙◌, subst, arith, rules}
+use Rattle.lq_volume.specs.Book.{Book, grown}
 use Rattle.lq_board.specs.declared.views.Slot.{Slot as Known}
 use Rattle.lq_board.specs.Token.{KeeperToken}
 use Rattle.lq_server_subscription.specs.declared.identity.Identity.{Identity}
 use Rattle.lq_server_slots.specs.Slots.{SlotsAre, IsNoticed}
 use Rattle.lq_server_slots.proofs.SlotLemmas.{all_stand-alike}
-use Rattle.lq_server_slots.proofs.SyncLemmas.{back_out}
+use Rattle.lq_server_slots.proofs.SyncLemmas.{back_out, later_grown, later_same, seat_stays}
 use Rattle.lq_server_slots.proofs.change.add.Goals as goal
+
+pub returns-clause-made : goal.returns-clause-made
+returns-clause-made c =
+    let a = c.add_by.ensures.added in
+    let seat = c.args.seat.now in
+    let book = c.args.slots.now.keeper.book in
+    let change = c.args.change.now in
+    let ok : c.add_by.new.keeper.book ≡ grown book (change ∷ []) =
+    ap (λ (k : KeeperToken Identity). k.book) a.keeper
+    ∙ ap (λ (b : Book). grown b (change ∷ [])) c.prepare.ensures.book in record {
+      refused = search rules;
+      node = search rules;
+      number = search rules;
+      ok = ok;
+      err = search rules;
+      start = ap (λ (b : Book). b.start) ok;
+      limit = search rules;
+      seat = search (rules, seat_stays);
+      author = search rules;
+      others = search rules;
+      later = later_grown seat.book c.add_by.new.seat.book book change c.requires.met
+          (search rules);
+    }
+
+pub returns-in_err-prepare-clause-made : goal.returns-in_err-prepare-clause-made
+returns-in_err-prepare-clause-made c =
+    let book = c.args.slots.now.keeper.book in
+    let seat = c.args.seat.now in record {
+      refused = search rules;
+      node = search rules;
+      number = search rules;
+      ok = search rules;
+      err = search rules;
+      start = ap (λ (b : Book). b.start) c.prepare.ensures.book;
+      limit = search rules;
+      seat = seat_stays seat _ (c.requires.met ∙ sym c.prepare.ensures.book);
+      author = search rules;
+      others = search rules;
+      later = later_same seat.book seat.book book c.requires.met c.requires.met;
+    }
+
+pub returns-in_err-applied-clause-made : goal.returns-in_err-applied-clause-made
+returns-in_err-applied-clause-made c =
+    let book = c.args.slots.now.keeper.book in
+    let seat = c.args.seat.now in record {
+      refused = search rules;
+      node = search rules;
+      number = search rules;
+      ok = search rules;
+      err = search rules;
+      start = ap (λ (b : Book). b.start) c.prepare.ensures.book;
+      limit = search rules;
+      seat = seat_stays seat _ (c.requires.met ∙ sym c.prepare.ensures.book);
+      author = search rules;
+      others = search rules;
+      later = later_same seat.book seat.book book c.requires.met c.requires.met;
+    }
 
 pub returns-clause-holding : goal.returns-clause-holding
 returns-clause-holding c =

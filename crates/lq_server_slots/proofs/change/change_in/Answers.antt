@@ -3,18 +3,17 @@ use Rattle.lq_volume.specs.State.{State}
 use Rattle.lq_volume.specs.Change.{IsLawful}
 use Rattle.lq_volume.specs.Book.{Book, state_of}
 use Rattle.lq_board.specs.Book.{IsFullBook}
-use Rattle.lq_board.specs.Token.{KeeperToken, SeatToken}
+use Rattle.lq_board.specs.Token.{KeeperToken}
 use Rattle.lq_server_subscription.specs.declared.identity.Identity.{Identity}
 use Rattle.lq_server_slots.specs.Changing.{IsChangeMade}
 use Rattle.lq_server_slots.specs.Slots.{SlotsStand, AllReady}
 use Rattle.lq_server_slots.proofs.SlotLemmas.{before_is, grown_is}
-use Rattle.lq_server_slots.proofs.SyncLemmas.{later_grown, later_same}
 use Rattle.lq_server_slots.proofs.change.change_in.Goals as goal
 
 pub tell_all-requires-clause-grown : goal.tell_all-requires-clause-grown
 tell_all-requires-clause-grown g c =
     let a = c.in-Ok.ensures in
-    grown_is c.args.slots.now.keeper.book c.add.new.slots.keeper.book c.args.change.now a.ok
+    grown_is c.args.slots.now.keeper.book c.add.new.slots.keeper.book c.args.change.now a.made.ok
     (subst (λ (s : State). IsLawful s c.args.change.now) c.requires.stands.state a.lawful) a.full
 
 pub tell_all-requires-clause-ready : goal.tell_all-requires-clause-ready
@@ -22,13 +21,13 @@ tell_all-requires-clause-ready g c =
     let a = c.in-Ok.ensures in
     subst (λ (b : Book). AllReady c.add.new.slots.subscriptions.items (state_of b)
     c.args.change.now) (sym (before_is c.args.slots.now.keeper.book c.add.new.slots.keeper.book
-    c.args.change.now a.ok)) a.ready
+    c.args.change.now a.made.ok)) a.ready
 
 pub tell_all-requires-clause-holding : goal.tell_all-requires-clause-holding
 tell_all-requires-clause-holding g c =
     let a = c.in-Ok.ensures in
     subst (λ (b : Book). SlotsStand c.add.new.slots b) (sym (before_is
-    c.args.slots.now.keeper.book c.add.new.slots.keeper.book c.args.change.now a.ok)) a.holding
+    c.args.slots.now.keeper.book c.add.new.slots.keeper.book c.args.change.now a.made.ok)) a.holding
 
 pub fill_all-requires-clause-number : goal.fill_all-requires-clause-number
 fill_all-requires-clause-number g c =
@@ -38,27 +37,13 @@ fill_all-requires-clause-number g c =
 pub fill_all-requires-clause-holding : goal.fill_all-requires-clause-holding
 fill_all-requires-clause-holding g c =
     let a = c.in-Err.ensures in
-    subst (λ (b : Book). SlotsStand c.add.new.slots b) (sym a.err) a.holding
+    subst (λ (b : Book). SlotsStand c.add.new.slots b) (sym a.made.err) a.holding
 
 pub returns-in-Ok-clause-made : goal.returns-in-Ok-clause-made
 returns-in-Ok-clause-made g c =
-    let a = c.in-Ok.ensures in
     subst (λ (k : KeeperToken Identity). IsChangeMade c.args.change.now (Ok c.in-Ok.applied)
     c.args.volume.now c.add.new.volume c.args.slots.now.keeper.book k.book c.args.seat.now
-    c.add.new.seat) (sym c.tell_all.ensures.keeper) (record {
-      refused = a.refused;
-      node = a.node;
-      number = a.number;
-      ok = a.ok;
-      err = tt;
-      start = ap (λ (b : Book). b.start) a.ok;
-      limit = a.limit;
-      seat = a.seat;
-      author = a.author;
-      others = tt;
-      later = later_grown c.args.seat.now.book c.add.new.seat.book c.args.slots.now.keeper.book
-          c.args.change.now c.requires.met (ap (λ (s : SeatToken Identity). s.book) a.seat ∙ a.ok);
-    })
+    c.add.new.seat) (sym c.tell_all.ensures.keeper) c.in-Ok.ensures.made
 
 pub returns-in-Ok-clause-stands : goal.returns-in-Ok-clause-stands
 returns-in-Ok-clause-stands g c =
@@ -72,23 +57,9 @@ returns-in-Ok-clause-stands g c =
 
 pub returns-in-Err-clause-made : goal.returns-in-Err-clause-made
 returns-in-Err-clause-made g c =
-    let a = c.in-Err.ensures in
     subst (λ (b : Book). IsChangeMade c.args.change.now (Err c.in-Err.refusal)
     c.args.volume.now c.add.new.volume c.args.slots.now.keeper.book b c.args.seat.now
-    c.add.new.seat) (sym c.fill_all.ensures.book) (record {
-      refused = a.refused;
-      node = tt;
-      number = tt;
-      ok = tt;
-      err = a.err;
-      start = ap (λ (b : Book). b.start) a.err;
-      limit = a.limit;
-      seat = a.seat;
-      author = tt;
-      others = a.others;
-      later = later_same c.args.seat.now.book c.add.new.seat.book c.args.slots.now.keeper.book
-          c.requires.met (ap (λ (s : SeatToken Identity). s.book) a.seat ∙ a.err);
-    })
+    c.add.new.seat) (sym c.fill_all.ensures.book) c.in-Err.ensures.made
 
 pub returns-in-Err-clause-stands : goal.returns-in-Err-clause-stands
 returns-in-Err-clause-stands g c =
