@@ -5,7 +5,6 @@ ghost use Rattle.lq_board.specs.Slot.{slot_at};
 ghost use Rattle.lq_server_subscription.specs.declared.identity.Shut.TheVariants.{Never};
 ghost use Rattle.lq_server_subscription.specs.Marking.{first_close};
 ghost use Rattle.lq_server_subscription.specs.Identity.{identity_of};
-ghost use Rattle.lq_server_subscription.specs.declared.subscription.Subscription.{Subscription as SubscriptionOf};
 ghost use Rattle.lq_server_slots.specs.Closing.{IsClosed};
 ghost use Rattle.lq_server_slots.specs.Slots.{IsTaken, SlotStands, SlotsStand, IsPlaceIn, IsDropped, IsPut, place_at, OnlyAt, asks_of, slot_in};
 ghost use Rattle.lq_server_slots.specs.Opening.{asks_after, name_or};
@@ -99,10 +98,7 @@ fn close_at<R: Wait>(
         × (length keeper.old.slots ≡ 65) }
     requires seat { IsSome seat.old.name }
     requires fits { SlotStands slot.old (slot_at keeper.old.slots seat.old.slot) keeper.old.book }
-    ensures number { IfSome result (λ n. n ≡ length keeper.old.book.changes) }
-    ensures closes { IfSome result (λ _. (name_or seat.old.name).shut ≡ Never) }
-    ensures late { (name_or seat.old.name).asks < seat.old.asks → result ≡ None }
-    ensures put { (s : SubscriptionOf) × IsPut s seat.new.name keeper.new.book }
+    ensures closed { IsClosed keeper.old.book seat.old seat.new result }
     ensures board { keeper.new.board ≡ keeper.old.board }
     ensures book { keeper.new.book ≡ keeper.old.book }
     ensures only { OnlyAt keeper.old.slots keeper.new.slots seat.old.slot }
@@ -110,12 +106,6 @@ fn close_at<R: Wait>(
     ensures asks { asks_of slot.new (slot_at keeper.new.slots seat.old.slot)
         ≤ asks_of slot.old (slot_at keeper.old.slots seat.old.slot) }
     ensures kept { is_some slot.new ≡ is_some slot.old }
-    ensures seat { seat.new ≡ record seat.old { book = keeper.old.book; name = seat.new.name } }
-    ensures later { Extends keeper.old.book seat.old.book }
-    ensures name { seat.new.name ≡ Some (record (name_or seat.old.name) {
-      shut = first_close (name_or seat.old.name).shut (is_some result)
-          (length keeper.old.book.changes);
-    }) }
 {
     let number = meet_same(board, keeper, seat);
     let Some(taken) = slot else { unreachable!() };

@@ -1,8 +1,9 @@
-use Rattle.std.proofs.Common.{◌∙◌, ◌<◌, ℕ, true, false, true≢false, length, Option, sym, ap, subst}
+use Rattle.std.proofs.Common.{◌≡◌, ◌∙◌, ◌<◌, ℕ, true, false, true≢false, length, Option, refl, sym, ap, subst}
 use Rattle.lq_board.specs.Slot.{slot_at}
 use Rattle.lq_board.specs.Token.{SeatToken}
 use Rattle.lq_server_subscription.specs.declared.identity.Identity.{Identity}
-use Rattle.lq_server_slots.specs.Slots.{IsTaken, SlotStands}
+use Rattle.lq_server_subscription.specs.declared.identity.Shut.TheVariants.{Never}
+use Rattle.lq_server_slots.specs.Slots.{IsTaken, IsPut, SlotStands}
 use Rattle.lq_server_slots.specs.Opening.{name_or}
 use Rattle.lq_server_slots.proofs.SyncLemmas.{only_then, seat_then, close_then}
 use Rattle.lq_server_slots.proofs.close.close_at.Goals as goal
@@ -24,18 +25,33 @@ returns-then-close_slot-clause-fits g c =
     (ap (λ (s : SeatToken Identity). s.slot) c.meet_same-number.ensures.seat)
     c.close_slot.ensures.taken
 
-pub returns-then-close_slot-clause-seat : goal.returns-then-close_slot-clause-seat
-returns-then-close_slot-clause-seat g c =
+pub returns-then-close_slot-clause-closed : goal.returns-then-close_slot-clause-closed
+returns-then-close_slot-clause-closed g c =
     let m = c.meet_same-number.ensures in
-    seat_then c.args.seat.now c.meet_same-number.new.seat c.close_slot.new.seat _ _ m.seat m.book
-    c.close_slot.ensures.seat
-
-pub returns-then-close_slot-clause-name : goal.returns-then-close_slot-clause-name
-returns-then-close_slot-clause-name g c =
-    let m = c.meet_same-number.ensures in
-    close_then c.close_slot.new.seat.name c.meet_same-number.new.seat.name c.args.seat.now.name
-    true c.meet_same-number.result (length c.args.keeper.now.book.changes)
-    (ap (λ (s : SeatToken Identity). s.name) m.seat) m.number c.if-close_slot.ensures.name
+    let keeper = c.args.keeper.now in
+    let same = ap (λ (s : SeatToken Identity). s.name) m.seat in
+    let taken = subst (λ z. SlotStands z (slot_at keeper.slots c.args.seat.now.slot) keeper.book)
+    c.in-Some.is c.requires.fits in
+    let named = ap (λ (o : Option Identity). (name_or o).asks) (sym m.name ∙ taken.name) in
+    let asks = ap (λ (s : SeatToken Identity). s.asks) m.seat in
+    record {
+      number = m.number;
+      closes = subst (λ (o : Option Identity). (name_or o).shut ≡ Never) same
+          (c.close_slot.ensures.closes c.if-close_slot.true);
+      late = λ lt. absurd (true≢false (sym c.if-close_slot.true ∙ c.close_slot.ensures.late
+          (subst (λ (z : ℕ × ℕ). z.0 < z.1) (λ i. (named i, sym asks i)) lt)));
+      put = (
+        c.close_slot.new.slot,
+        subst (IsPut c.close_slot.new.slot c.close_slot.new.seat.name)
+            (c.close_slot.ensures.book ∙ m.book) c.close_slot.ensures.put,
+      );
+      seat = seat_then c.args.seat.now c.meet_same-number.new.seat c.close_slot.new.seat _ _ m.seat
+          m.book c.close_slot.ensures.seat;
+      later = m.later;
+      name = close_then c.close_slot.new.seat.name c.meet_same-number.new.seat.name
+          c.args.seat.now.name true c.meet_same-number.result
+          (length c.args.keeper.now.book.changes) same m.number c.if-close_slot.ensures.name;
+    }
 
 pub returns-else-close_slot-clause-book : goal.returns-else-close_slot-clause-book
 returns-else-close_slot-clause-book g c =
@@ -54,34 +70,23 @@ returns-else-close_slot-clause-fits g c =
     (ap (λ (s : SeatToken Identity). s.slot) c.meet_same-number.ensures.seat)
     c.close_slot.ensures.taken
 
-pub returns-else-close_slot-clause-seat : goal.returns-else-close_slot-clause-seat
-returns-else-close_slot-clause-seat g c =
+pub returns-else-close_slot-clause-closed : goal.returns-else-close_slot-clause-closed
+returns-else-close_slot-clause-closed g c =
     let m = c.meet_same-number.ensures in
-    seat_then c.args.seat.now c.meet_same-number.new.seat c.close_slot.new.seat _ _ m.seat m.book
-    c.close_slot.ensures.seat
-
-pub returns-else-close_slot-clause-name : goal.returns-else-close_slot-clause-name
-returns-else-close_slot-clause-name g c =
-    let m = c.meet_same-number.ensures in
-    close_then c.close_slot.new.seat.name c.meet_same-number.new.seat.name c.args.seat.now.name
-    false c.meet_same-number.result (length c.args.keeper.now.book.changes)
-    (ap (λ (s : SeatToken Identity). s.name) m.seat) m.number c.if-close_slot.ensures.name
-
-pub returns-then-close_slot-clause-late : goal.returns-then-close_slot-clause-late
-returns-then-close_slot-clause-late g c = λ lt.
-    let keeper = c.args.keeper.now in
-    let m = c.meet_same-number.ensures in
-    let taken = subst (λ z. SlotStands z (slot_at keeper.slots c.args.seat.now.slot) keeper.book)
-    c.in-Some.is c.requires.fits in
-    let named = ap (λ (o : Option Identity). (name_or o).asks) (sym m.name ∙ taken.name) in
-    let asks = ap (λ (s : SeatToken Identity). s.asks) m.seat in
-    absurd (true≢false (sym c.if-close_slot.true ∙ c.close_slot.ensures.late
-    (subst (λ (z : ℕ × ℕ). z.0 < z.1) (λ i. (named i, sym asks i)) lt)))
-
-pub returns-then-close_slot-clause-put : goal.returns-then-close_slot-clause-put
-returns-then-close_slot-clause-put g c =
-    (c.close_slot.new.slot, c.close_slot.ensures.put)
-
-pub returns-else-close_slot-clause-put : goal.returns-else-close_slot-clause-put
-returns-else-close_slot-clause-put g c =
-    (c.close_slot.new.slot, c.close_slot.ensures.put)
+    let same = ap (λ (s : SeatToken Identity). s.name) m.seat in
+    record {
+      number = tt;
+      closes = tt;
+      late = λ lt. refl;
+      put = (
+        c.close_slot.new.slot,
+        subst (IsPut c.close_slot.new.slot c.close_slot.new.seat.name)
+            (c.close_slot.ensures.book ∙ m.book) c.close_slot.ensures.put,
+      );
+      seat = seat_then c.args.seat.now c.meet_same-number.new.seat c.close_slot.new.seat _ _ m.seat
+          m.book c.close_slot.ensures.seat;
+      later = m.later;
+      name = close_then c.close_slot.new.seat.name c.meet_same-number.new.seat.name
+          c.args.seat.now.name false c.meet_same-number.result
+          (length c.args.keeper.now.book.changes) same m.number c.if-close_slot.ensures.name;
+    }

@@ -1,5 +1,4 @@
-use Rattle.std.proofs.Common.{sym, subst, arith}
-use Rattle.lq_server_slots.specs.Slots.{IsPut}
+use Rattle.std.proofs.Common.{sym, arith}
 use Rattle.lq_server_slots.proofs.TakenLemmas.{slots_stand-step}
 use Rattle.lq_server_slots.proofs.close.close_in.Goals as goal
 
@@ -16,13 +15,4 @@ returns-clause-holding g c =
     f.kept
 
 pub returns-clause-closed : goal.returns-clause-closed
-returns-clause-closed g c =
-    let f = c.close_at.ensures in record {
-      number = f.number;
-      closes = f.closes;
-      late = f.late;
-      put = (f.put.0, subst (IsPut f.put.0 c.close_at.new.seat.name) f.book f.put.1);
-      seat = f.seat;
-      later = f.later;
-      name = f.name;
-    }
+returns-clause-closed g c = c.close_at.ensures.closed
