@@ -1,5 +1,5 @@
 -- Each event keeps what is so of every desk.
-use Rattle.std.proofs.Common.{◌≡◌, ℕ, zero, suc, ◌*◌, ◌≤◌, ◌<◌, List, [], ◌∷◌, ◌++◌, refl, ap, sym, subst, ◌∙◌, arith, Some, None, Option, map, length}
+use Rattle.std.proofs.Common.{◌≡◌, ℕ, zero, suc, ◌*◌, ◌-◌, ◌≤◌, ◌<◌, ◌^◌, List, [], ◌∷◌, ◌++◌, refl, ap, sym, subst, ◌∙◌, arith, Some, None, Option, map, length}
 use Rattle.std.specs.Prelude.{Bool, slice_set, replicate}
 use Rattle.std.specs.Option.{option_map}
 use Rattle.std.specs.List.{AllByRecursion}
@@ -28,7 +28,7 @@ use Rattle.lq_desk.specs.Laws.{KeptShowsWorlds}
 use Rattle.lq_desk.proofs.ListLemmas.{all-set}
 use Rattle.lq_desk.proofs.PlaceLemmas.{act-outcome, at-same}
 use Rattle.lq_desk.proofs.SlotsLemmas.{kept_slot}
-use Rattle.lq_desk.proofs.FewLemmas.{few-act, few-after, few-close_turn, few-outcome_of, few-read_turn, length-outcome_of}
+use Rattle.lq_desk.proofs.FewLemmas.{few-act, few-after, few-close_turn, few-outcome_of, few-read_turn, length-outcome_of, few-more}
 use Rattle.lq_desk.proofs.EventLemmas.{after-join}
 use Rattle.lq_desk.proofs.TurnLemmas.{after-shows}
 use Rattle.lq_desk.proofs.SlotTurnLemmas.{close-events, read-events}
@@ -131,34 +131,53 @@ module _ (alike : KeptShowsWorlds) where
       (sym at) (few-outcome_of (3 * k.volume.number) does keeps k.slots slot d.few))
 
   -- after an act at a slot
-  pub IsDesk-act : (k : Kept) (a : Act) (slot : ℕ) (r : Answer) (ks : List (Option KeptSlot))
-      → IsDesk k → (r, ks) ≡ outcome_of (act_of k.volume.number a) k.slots slot
-      → IsDesk (record k { slots = ks })
-  IsDesk-act k a slot r ks d is =
-      IsDesk-at k slot (act_of k.volume.number a) (event_at slot a ∷ []) r ks d is
+  pub IsDesk-act : (k : Kept) (n : ℕ) (a : Act) (slot : ℕ) (r : Answer)
+      (ks : List (Option KeptSlot)) → IsDesk k → n ≡ k.volume.number
+      → (r, ks) ≡ outcome_of (act_of n a) k.slots slot → IsDesk (record k { slots = ks })
+  IsDesk-act k n a slot r ks d same is =
+      IsDesk-at k slot (act_of k.volume.number a) (event_at slot a ∷ []) r ks d
+      (is ∙ ap (λ m. outcome_of (act_of m a) k.slots slot) same)
       (ap (λ (p : Answer × Kept). p.1) (act-outcome k slot a))
       (few-act (3 * k.volume.number) k.volume.number a)
 
   -- after a read with its turn
-  pub IsDesk-read : (k : Kept) (slot : ℕ) (r : Answer) (ks : List (Option KeptSlot)) → IsDesk k
-      → (r, ks) ≡ outcome_of (read_turn k.volume.number) k.slots slot
+  pub IsDesk-read : (k : Kept) (n slot : ℕ) (r : Answer) (ks : List (Option KeptSlot)) → IsDesk k
+      → n ≡ k.volume.number → (r, ks) ≡ outcome_of (read_turn n) k.slots slot
       → IsDesk (record k { slots = ks })
-  IsDesk-read k slot r ks d is =
+  IsDesk-read k n slot r ks d same is =
       let before = (kept_turn k (Take slot)).before in
-      IsDesk-at k slot (read_turn k.volume.number) (before ++ Take slot ∷ []) r ks d is
+      IsDesk-at k slot (read_turn k.volume.number) (before ++ Take slot ∷ []) r ks d
+      (is ∙ ap (λ m. outcome_of (read_turn m) k.slots slot) same)
       (after-join kept_outcome k before (Take slot ∷ [])
       ∙ ap (λ (p : Answer × Kept). p.1) (read-events k slot))
       (few-read_turn (3 * k.volume.number) k.volume.number)
 
   -- after a close with its turn
-  pub IsDesk-close : (k : Kept) (slot : ℕ) (r : Answer) (ks : List (Option KeptSlot)) → IsDesk k
-      → (r, ks) ≡ outcome_of (close_turn k.volume.number) k.slots slot
+  pub IsDesk-close : (k : Kept) (n slot : ℕ) (r : Answer) (ks : List (Option KeptSlot)) → IsDesk k
+      → n ≡ k.volume.number → (r, ks) ≡ outcome_of (close_turn n) k.slots slot
       → IsDesk (record k { slots = ks })
-  IsDesk-close k slot r ks d is =
+  IsDesk-close k n slot r ks d same is =
       IsDesk-at k slot (close_turn k.volume.number)
-      (Notice slot ∷ Close slot ∷ puts slot (places_at (kept_ports k) slot)) r ks d is
+      (Notice slot ∷ Close slot ∷ puts slot (places_at (kept_ports k) slot)) r ks d
+      (is ∙ ap (λ m. outcome_of (close_turn m) k.slots slot) same)
       (ap (λ (p : Answer × Kept). p.1) (close-events k slot))
       (few-close_turn (3 * k.volume.number) k.volume.number)
+
+-- what is done at a slot, by the desk as it was seen before
+pub at-view : (does : ℕ → KeptSlot → Answer × Option KeptSlot) (k j : Kept) (n slot : ℕ)
+    (r : Answer) (ks : List (Option KeptSlot)) → k ≡ j → n ≡ k.volume.number
+    → (r, ks) ≡ outcome_of (does n) k.slots slot
+    → (r, record k { slots = ks }) ≡ at_kept j slot (does j.volume.number)
+at-view does k j n slot r ks view same is =
+    at-same k (does n) slot r ks is
+    ∙ (ap (λ m. at_kept k slot (does m)) same
+    ∙ ap (λ (i : Kept). at_kept i slot (does i.volume.number)) view)
+
+-- each slot of a desk has made few messages
+pub few-desk : (k : Kept) → IsVolume k.volume → IsDesk k
+    → AllByRecursion (IsFew (2 ^ 63 - 1)) k.slots
+few-desk k v d = few-more (3 * k.volume.number) (2 ^ 63 - 1) k.slots
+    (omega (arith, v.numbered.limit, v.numbered.number)) d.few
 
 -- an opening that passes the tests
 pub opens : (k : Kept) (port backlog : ℕ) → 1 ≤ port → port ≤ 1024

@@ -85,10 +85,11 @@ few-front n [] ys h = tt
 few-front n (x ∷ xs) ys h = (h.0, few-front n xs ys h.1)
 
 -- and so of the stored ones
-pub few-stored : (n : ℕ) (xs : List (Option PreparedSlot))
-    → AllByRecursion (IsFew n) (map kept_slot (with_free xs))
-    → AllByRecursion (IsFew n) (map kept_slot xs)
-few-stored n xs h = few-front n xs (replicate (64 - length xs) None) h
+pub few-stored : (n : ℕ) (xs ys : List (Option PreparedSlot)) → with_free xs ≡ ys
+    → AllByRecursion (IsFew n) (map kept_slot ys) → AllByRecursion (IsFew n) (map kept_slot xs)
+few-stored n xs ys view h = few-front n xs (replicate (64 - length xs) None)
+    (subst (λ (zs : List (Option PreparedSlot)). AllByRecursion (IsFew n) (map kept_slot zs))
+    (sym view) h)
 
 -- what a contract sees of them
 pub kept-free : (xs ys : List (Option PreparedSlot)) → map kept_slot xs ≡ map kept_slot ys
@@ -129,9 +130,12 @@ none-behind (k ∷ ks) n (suc i) le = none-behind ks n i (omega arith)
 
 -- what is done at a slot that isn't stored is refused
 pub act-free : (does : KeptSlot → Answer × Option KeptSlot) (xs : List (Option PreparedSlot))
-    (slot : ℕ) → (slot ≢ 0 → length xs < slot) → (Refused NotOpen, map kept_slot (with_free xs))
-    ≡ outcome_of does (map kept_slot (with_free xs)) slot
-act-free does xs slot past = by (slot == 0) refl
+    (ys : List (Option PreparedSlot)) (slot : ℕ) → with_free xs ≡ ys
+    → (slot ≢ 0 → length xs < slot)
+    → (Refused NotOpen, map kept_slot ys) ≡ outcome_of does (map kept_slot ys) slot
+act-free does xs ys slot view past = subst (λ (zs : List (Option PreparedSlot)).
+    (Refused NotOpen, map kept_slot zs) ≡ outcome_of does (map kept_slot zs) slot) view
+    (by (slot == 0) refl)
   where
     ks : List (Option KeptSlot)
     ks = map kept_slot (with_free xs)
@@ -160,10 +164,10 @@ of-in does ks slot some =
 
 -- what is done in the stored slots is done in all 64
 pub act-stored : (does : KeptSlot → Answer × Option KeptSlot)
-    (xs ys : List (Option PreparedSlot)) (slot : ℕ) (r : Answer) → slot ≢ 0 → slot ≤ length xs
-    → (r, map kept_slot ys) ≡ outcome_in does (map kept_slot xs) (slot - 1)
-    → (r, map kept_slot (with_free ys)) ≡ outcome_of does (map kept_slot (with_free xs)) slot
-act-stored does xs ys slot r some le is =
+    (xs ys zs : List (Option PreparedSlot)) (slot : ℕ) (r : Answer) → with_free xs ≡ zs → slot ≢ 0
+    → slot ≤ length xs → (r, map kept_slot ys) ≡ outcome_in does (map kept_slot xs) (slot - 1)
+    → (r, map kept_slot (with_free ys)) ≡ outcome_of does (map kept_slot zs) slot
+act-stored does xs ys zs slot r view some le is =
     let place = slot - 1 in
     let ks = map kept_slot xs in
     let free : List (Option KeptSlot) = map kept_slot (replicate (64 - length xs) None) in
@@ -187,7 +191,8 @@ act-stored does xs ys slot r some le is =
       slice_set (ks ++ free) place (outcome_at does (option_flatten g)).1,
     )) (sym here)
     ∙ (ap (λ js. outcome_in does js place) (sym whole)
-    ∙ of-in does (map kept_slot (with_free xs)) slot some)))
+    ∙ (of-in does (map kept_slot (with_free xs)) slot some
+    ∙ ap (λ js. outcome_of does (map kept_slot js) slot) view))))
 
 -- ---- what is done in each slot
 

@@ -104,7 +104,7 @@ impl Slot {
     pub fn fill(&mut self)
         ensures { slot_of self.new ≡ filled (slot_of self.old) }
     {
-        for _ in 0..self.places() {
+        for _ in 0..self.port {
             if !self.put() {
                 return;
             }
@@ -174,13 +174,6 @@ impl Slot {
         }
         self.sub.finish_with(Cause::Closed, number);
         Reply::Shut(number)
-    }
-
-    /// The number of places of its port.
-    pub fn places(&self) -> u64
-        ensures { result ≡ (slot_of self.now).port }
-    {
-        self.port
     }
 
     /// Whether its mark was put into the port, and the port is empty.

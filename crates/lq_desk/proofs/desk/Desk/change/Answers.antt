@@ -1,9 +1,8 @@
-use Rattle.std.proofs.Common.{◌*◌, ◌-◌, ◌^◌, ap, arith}
+use Rattle.std.proofs.Common.{ap}
 use Rattle.std.proofs.lemmas.Result.{err_from_is_err_and}
 use Rattle.lq_desk.specs.Kept.{Kept, changed}
-use Rattle.lq_desk.proofs.FewLemmas.{few-more}
 use Rattle.lq_desk.proofs.SlotsLemmas.{map-prepared, map-committed}
-use Rattle.lq_desk.proofs.Desks.{IsDesk-change}
+use Rattle.lq_desk.proofs.Desks.{IsDesk-change, few-desk}
 use Rattle.lq_desk.proofs.desk.Desk.change.Goals as goal
 
 pub invariant_of-self-in_err-applied : goal.invariant_of-self-in_err-applied
@@ -17,10 +16,8 @@ returns-in_err-applied-clause-err c =
     rw (p.1, c.in_err-applied.ensures.err, c.in_ok-told.ensures.ok, map-prepared) c.self.view_is
 
 pub commit-requires-clause-few : goal.commit-requires-clause-few
-commit-requires-clause-few c =
-    let numbered = c.changes.ensures.volume.numbered in
-    rw (c.in_ok-told.ensures.ok, map-prepared) (few-more (3 * c.self.inside.volume.number)
-    (2 ^ 63 - 1) _ (omega (arith, numbered.limit, numbered.number)) c.self.invariant.few)
+commit-requires-clause-few c = rw (c.in_ok-told.ensures.ok, map-prepared)
+    (few-desk _ c.changes.ensures.volume c.self.invariant)
 
 pub invariant_of-self-2 : goal.invariant_of-self-2
 invariant_of-self-2 c =

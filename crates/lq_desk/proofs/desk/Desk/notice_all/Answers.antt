@@ -1,13 +1,13 @@
-use Rattle.std.proofs.Common.{◌≡◌, ◌-◌, ◌*◌, ◌^◌, arith, ap, ◌∙◌, sym, subst, map}
+use Rattle.std.proofs.Common.{◌≡◌, ◌*◌, ap, ◌∙◌, sym, subst, map}
 use Rattle.std.specs.Option.{option_map}
 use Rattle.std.proofs.lemmas.List.{length-map}
 use Rattle.lq_desk_world.specs.Turns.{notices}
 use Rattle.lq_desk.specs.Slot.{noticed}
 use Rattle.lq_desk.specs.Kept.{Kept, IsDesk}
 use Rattle.lq_desk.specs.Turn.{kept_after, kept_ports}
-use Rattle.lq_desk.proofs.Desks.{IsDesk-after}
+use Rattle.lq_desk.proofs.Desks.{IsDesk-after, few-desk}
 use Rattle.lq_desk.proofs.SlotsLemmas.{kept_slot}
-use Rattle.lq_desk.proofs.FewLemmas.{few-more, few-noticed_all}
+use Rattle.lq_desk.proofs.FewLemmas.{few-noticed_all}
 use Rattle.lq_desk.proofs.TurnLemmas.{noticed-all}
 use Rattle.lq_desk.proofs.desk.Desk.notice_all.Goals as goal
 
@@ -42,7 +42,4 @@ returns c =
     ∙ (noticed-all k ∙ ap (λ (j : Kept). kept_after j (notices (kept_ports j))) c.self.view_is)
 
 pub notice_all-requires : goal.notice_all-requires
-notice_all-requires c =
-    let numbered = c.changes-number.ensures.volume.numbered in
-    few-more (3 * c.self.inside.volume.number) (2 ^ 63 - 1) _
-    (omega (arith, numbered.limit, numbered.number)) c.self.invariant.few
+notice_all-requires c = few-desk _ c.changes-number.ensures.volume c.self.invariant

@@ -1,13 +1,10 @@
-use Rattle.std.proofs.Common.{◌≡◌, ◌<◌, ◌≤◌, ◌^◌, ◌-◌, ap, ◌∙◌, sym, subst, map, length, arith, List, Option}
+use Rattle.std.proofs.Common.{◌<◌, ◌≤◌, ◌^◌, ◌-◌, ap, subst, map, length, arith, List, Option}
 use Rattle.std.specs.Prelude.{◌≢◌}
-use Rattle.std.specs.List.{AllByRecursion}
 use Rattle.std.proofs.lemmas.List.{length-map}
-use Rattle.lq_value.specs.declared.refusal.Refusal.TheVariants.{NotOpen}
-use Rattle.lq_desk_world.specs.Events.{Answer, Refused}
-use Rattle.lq_desk.specs.Act.{act_of, outcome_of}
-use Rattle.lq_desk.specs.Slot.{KeptSlot, PreparedSlot}
+use Rattle.lq_desk_world.specs.Events.{Answer}
+use Rattle.lq_desk.specs.Act.{act_of}
+use Rattle.lq_desk.specs.Slot.{KeptSlot}
 use Rattle.lq_desk.specs.Words.{SetsBit}
-use Rattle.lq_desk.specs.Kept.{IsFew}
 use Rattle.lq_desk.specs.Reply.{answer_of}
 use Rattle.lq_desk.proofs.SlotsLemmas.{kept_slot}
 use Rattle.lq_desk.proofs.FreeLemmas.{act-free, act-stored, few-stored}
@@ -23,23 +20,19 @@ returns-then-slot-eq0 c =
       | then-slot-eq0-via-else-slot-eq0+then-slot-len w ↦
           omega (arith, w.if-slot-len.true, w.len.ensures)
     ] in
-    subst (λ (ys : List (Option PreparedSlot)). (Refused NotOpen, map kept_slot ys)
-    ≡ outcome_of (act_of c.args.number c.args.act) (map kept_slot ys) c.args.slot) c.self.view_is
-    (act-free (act_of c.args.number c.args.act) xs c.args.slot past)
+    act-free (act_of c.args.number c.args.act) xs c.args.self.now c.args.slot c.self.view_is past
 
 pub act_in-reply-requires-clause-few : goal.act_in-reply-requires-clause-few
 act_in-reply-requires-clause-few c =
-    few-stored (2 ^ 63 - 1) c.self.inside.stored.items (subst (λ (ys : List (Option PreparedSlot)).
-    AllByRecursion (IsFew (2 ^ 63 - 1)) (map kept_slot ys)) (sym c.self.view_is) c.requires)
+    few-stored (2 ^ 63 - 1) c.self.inside.stored.items c.args.self.now c.self.view_is c.requires
 
 pub returns : goal.returns
 returns c =
     let xs = c.self.inside.stored.items in
     let within : c.args.slot ≤ length xs = omega (arith, c.if-slot-len.false, c.len.ensures) in
-    act-stored (act_of c.args.number c.args.act) xs c.act_in-reply.new.slots.items c.args.slot
-    (answer_of c.act_in-reply.result) c.if-slot-eq0.false within c.act_in-reply.ensures.does
-    ∙ ap (λ ys. outcome_of (act_of c.args.number c.args.act) (map kept_slot ys) c.args.slot)
-    c.self.view_is
+    act-stored (act_of c.args.number c.args.act) xs c.act_in-reply.new.slots.items c.args.self.now
+    c.args.slot (answer_of c.act_in-reply.result) c.self.view_is c.if-slot-eq0.false within
+    c.act_in-reply.ensures.does
 
 pub invariant_of-self : goal.invariant_of-self
 invariant_of-self c =

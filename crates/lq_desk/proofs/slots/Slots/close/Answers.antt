@@ -1,12 +1,9 @@
-use Rattle.std.proofs.Common.{◌≡◌, ◌<◌, ◌≤◌, ◌^◌, ◌-◌, ap, ◌∙◌, sym, subst, map, length, arith, List, Option}
+use Rattle.std.proofs.Common.{◌<◌, ◌≤◌, ◌^◌, ◌-◌, ap, map, length, arith, List, Option}
 use Rattle.std.specs.Prelude.{◌≢◌}
-use Rattle.std.specs.List.{AllByRecursion}
 use Rattle.std.proofs.lemmas.List.{length-map}
-use Rattle.lq_value.specs.declared.refusal.Refusal.TheVariants.{NotOpen}
-use Rattle.lq_desk_world.specs.Events.{Answer, Refused}
-use Rattle.lq_desk.specs.Act.{close_turn, outcome_of}
-use Rattle.lq_desk.specs.Slot.{KeptSlot, PreparedSlot}
-use Rattle.lq_desk.specs.Kept.{IsFew}
+use Rattle.lq_desk_world.specs.Events.{Answer}
+use Rattle.lq_desk.specs.Act.{close_turn}
+use Rattle.lq_desk.specs.Slot.{KeptSlot}
 use Rattle.lq_desk.specs.Reply.{answer_of}
 use Rattle.lq_desk.proofs.SlotsLemmas.{kept_slot}
 use Rattle.lq_desk.proofs.FreeLemmas.{act-free, act-stored, few-stored}
@@ -22,22 +19,19 @@ returns-then-slot-eq0 c =
       | then-slot-eq0-via-else-slot-eq0+then-slot-len w ↦
           omega (arith, w.if-slot-len.true, w.len.ensures)
     ] in
-    subst (λ (ys : List (Option PreparedSlot)). (Refused NotOpen, map kept_slot ys)
-    ≡ outcome_of (close_turn c.args.number) (map kept_slot ys) c.args.slot) c.self.view_is
-    (act-free (close_turn c.args.number) xs c.args.slot past)
+    act-free (close_turn c.args.number) xs c.args.self.now c.args.slot c.self.view_is past
 
 pub close_in-requires-clause-few : goal.close_in-requires-clause-few
 close_in-requires-clause-few c =
-    few-stored (2 ^ 63 - 1) c.self.inside.stored.items (subst (λ (ys : List (Option PreparedSlot)).
-    AllByRecursion (IsFew (2 ^ 63 - 1)) (map kept_slot ys)) (sym c.self.view_is) c.requires)
+    few-stored (2 ^ 63 - 1) c.self.inside.stored.items c.args.self.now c.self.view_is c.requires
 
 pub returns : goal.returns
 returns c =
     let xs = c.self.inside.stored.items in
     let within : c.args.slot ≤ length xs = omega (arith, c.if-slot-len.false, c.len.ensures) in
-    act-stored (close_turn c.args.number) xs c.close_in.new.slots.items c.args.slot
-    (answer_of c.close_in.result) c.if-slot-eq0.false within c.close_in.ensures.does
-    ∙ ap (λ ys. outcome_of (close_turn c.args.number) (map kept_slot ys) c.args.slot) c.self.view_is
+    act-stored (close_turn c.args.number) xs c.close_in.new.slots.items c.args.self.now
+    c.args.slot (answer_of c.close_in.result) c.self.view_is c.if-slot-eq0.false within
+    c.close_in.ensures.does
 
 pub invariant_of-self : goal.invariant_of-self
 invariant_of-self c =

@@ -1,10 +1,8 @@
-use Rattle.std.proofs.Common.{◌^◌, ◌-◌, arith, ap, ◌∙◌, sym, subst, map, List, Option}
+use Rattle.std.proofs.Common.{◌^◌, ◌-◌, arith, ap, ◌∙◌, sym, subst, map}
 use Rattle.std.specs.Option.{option_map}
-use Rattle.std.specs.List.{AllByRecursion}
-use Rattle.lq_desk.specs.Slot.{PreparedSlot, committed_slot, has_ready, with_free}
+use Rattle.lq_desk.specs.Slot.{committed_slot, has_ready, with_free}
 use Rattle.lq_desk.specs.Words.{IsMarked}
-use Rattle.lq_desk.specs.Kept.{IsFew}
-use Rattle.lq_desk.proofs.SlotsLemmas.{kept_slot, committed-quiet}
+use Rattle.lq_desk.proofs.SlotsLemmas.{committed-quiet}
 use Rattle.lq_desk.proofs.FreeLemmas.{few-stored, map-free, stored-told}
 use Rattle.lq_desk.proofs.MarkLemmas.{marks-committed}
 use Rattle.lq_desk.proofs.WordLemmas.{none-marked}
@@ -32,8 +30,7 @@ invariant_of-self c = (
 
 pub commit_all-requires-clause-few : goal.commit_all-requires-clause-few
 commit_all-requires-clause-few c =
-    few-stored (2 ^ 63 - 1) c.self.inside.stored.items (subst (λ (ys : List (Option PreparedSlot)).
-    AllByRecursion (IsFew (2 ^ 63 - 1)) (map kept_slot ys)) (sym c.self.view_is) c.requires.few)
+    few-stored (2 ^ 63 - 1) c.self.inside.stored.items c.args.self.now c.self.view_is c.requires.few
 
 pub returns : goal.returns
 returns c =

@@ -1,9 +1,7 @@
-use Rattle.std.proofs.Common.{arith, ◌^◌, ◌-◌, ap, ◌∙◌, sym, subst, map, List, Option}
+use Rattle.std.proofs.Common.{arith, ◌^◌, ◌-◌, ap, ◌∙◌, sym, subst, map}
 use Rattle.std.specs.Option.{option_map}
-use Rattle.std.specs.List.{AllByRecursion}
-use Rattle.lq_desk.specs.Slot.{PreparedSlot, is_ending, noticed}
+use Rattle.lq_desk.specs.Slot.{is_ending, noticed}
 use Rattle.lq_desk.specs.Words.{IsMarked}
-use Rattle.lq_desk.specs.Kept.{IsFew}
 use Rattle.lq_desk.proofs.SlotsLemmas.{kept_slot, noticed-quiet}
 use Rattle.lq_desk.proofs.FreeLemmas.{few-stored, kept-map}
 use Rattle.lq_desk.proofs.MarkLemmas.{marks-noticed}
@@ -22,8 +20,7 @@ returns-then-self-eq0 c =
 
 pub notice_all-requires-clause-few : goal.notice_all-requires-clause-few
 notice_all-requires-clause-few c =
-    few-stored (2 ^ 63 - 1) c.self.inside.stored.items (subst (λ (ys : List (Option PreparedSlot)).
-    AllByRecursion (IsFew (2 ^ 63 - 1)) (map kept_slot ys)) (sym c.self.view_is) c.requires)
+    few-stored (2 ^ 63 - 1) c.self.inside.stored.items c.args.self.now c.self.view_is c.requires
 
 pub invariant_of-self : goal.invariant_of-self
 invariant_of-self c = (

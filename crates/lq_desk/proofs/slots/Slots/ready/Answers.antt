@@ -1,17 +1,14 @@
-use Rattle.std.proofs.Common.{◌^◌, ◌-◌, arith, ap, ◌∙◌, sym, subst, map, List, Option}
+use Rattle.std.proofs.Common.{◌^◌, ◌-◌, arith, ap, ◌∙◌, sym, map}
 use Rattle.std.specs.Option.{option_map}
-use Rattle.std.specs.List.{AllByRecursion}
 use Rattle.std.proofs.lemmas.Result.{err_from_is_err_and}
-use Rattle.lq_desk.specs.Slot.{PreparedSlot, prepared_slot, with_free}
-use Rattle.lq_desk.specs.Kept.{IsFew}
+use Rattle.lq_desk.specs.Slot.{prepared_slot, with_free}
 use Rattle.lq_desk.proofs.SlotsLemmas.{kept_slot, map-prepared}
 use Rattle.lq_desk.proofs.FreeLemmas.{few-stored, kept-free, map-free, stored-at}
 use Rattle.lq_desk.proofs.slots.Slots.ready.Goals as goal
 
 pub ready_all-requires-clause-few : goal.ready_all-requires-clause-few
 ready_all-requires-clause-few c =
-    few-stored (2 ^ 63 - 1) c.self.inside.stored.items (subst (λ (ys : List (Option PreparedSlot)).
-    AllByRecursion (IsFew (2 ^ 63 - 1)) (map kept_slot ys)) (sym c.self.view_is) c.requires.few)
+    few-stored (2 ^ 63 - 1) c.self.inside.stored.items c.args.self.now c.self.view_is c.requires.few
 
 pub returns-clause-ok : goal.returns-clause-ok
 returns-clause-ok c =
