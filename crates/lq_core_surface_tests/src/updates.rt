@@ -37,12 +37,17 @@ fn is_told(message: &Message, seq: u64, last: bool, name: &str) -> bool {
         && message.node == 2
 }
 
+// What that tells `name=*`.
+fn told(alloc: Global, moved: bool) -> Result<Vec<Message>, Refusal> {
+    let predicate = read(alloc, "name=*")?;
+    let before = volume(alloc)?;
+    let change = renaming(alloc, &before)?;
+    step(alloc, &predicate, &before, &change, 5, moved)
+}
+
 #[test]
 fn a_step_tells_what_leaves_and_what_comes(rt: HostRuntime) -> Result<(), Fail> {
-    let predicate = read(rt.alloc(), "name=*")?;
-    let before = volume(rt.alloc())?;
-    let change = renaming(rt.alloc(), &before)?;
-    let messages = step(rt.alloc(), &predicate, &before, &change, 5, false)?;
+    let messages = told(rt.alloc(), false)?;
     let is_right = match messages.as_slice() {
         [gone, come] => {
             is_told(gone, 5, false, "a")
@@ -58,10 +63,7 @@ fn a_step_tells_what_leaves_and_what_comes(rt: HostRuntime) -> Result<(), Fail> 
 
 #[test]
 fn a_step_tells_a_move_where_it_is_asked_to(rt: HostRuntime) -> Result<(), Fail> {
-    let predicate = read(rt.alloc(), "name=*")?;
-    let before = volume(rt.alloc())?;
-    let change = renaming(rt.alloc(), &before)?;
-    let messages = step(rt.alloc(), &predicate, &before, &change, 5, true)?;
+    let messages = told(rt.alloc(), true)?;
     let is_right = match messages.as_slice() {
         [message] => match &message.op {
             Opcode::Moved {

@@ -1,7 +1,7 @@
 //! Of lq_volume: the tree, its changes and the static query.
 use crate::changes::{create, rename, set, unset};
 use lq_predicate::read;
-use lq_value::{AttrName, Kind, Name, Refusal, Value, View};
+use lq_value::{AttrName, Entry, Kind, Name, Refusal, Value, View};
 use lq_volume::{Applied, Change, EntryRef, Listing, Volume};
 use std::alloc::Global;
 use std::test::Fail;
@@ -14,32 +14,35 @@ fn volume(alloc: Global) -> Result<Volume, Refusal> {
     Ok(volume)
 }
 
-// Each kind of change, all accepted by that volume.
-fn changes(alloc: Global) -> Result<[Change; 5], Refusal> {
-    Ok([
-        Change::Write {
+// A change of each kind, all accepted by that volume in turn.
+fn change(alloc: Global, place: u64) -> Result<Change, Refusal> {
+    match place {
+        0 => Ok(Change::Write {
             node: 2,
             size: 9,
             time: 6,
-        },
-        unset(alloc, 2)?,
-        rename(alloc, 2, "b")?,
-        set(alloc, 2, Value::text(alloc, "q")?)?,
-        Change::Remove { node: 2 },
-    ])
+        }),
+        1 => unset(alloc, 2),
+        2 => rename(alloc, 2, "b"),
+        3 => set(alloc, 2, Value::text(alloc, "q")?),
+        _ => Ok(Change::Remove { node: 2 }),
+    }
+}
+
+// Whether a change is checked and then applied, under this number.
+fn is_applied(volume: &mut Volume, change: &Change, number: u64) -> Result<bool, Refusal> {
+    let checked: Applied = volume.check(change)?;
+    let applied = volume.apply(change)?;
+    let is_checked = checked.change == number && checked.node == 2;
+    Ok(is_checked && applied.change == number && applied.node == 2)
 }
 
 #[test]
 fn changes_are_checked_and_applied(rt: HostRuntime) -> Result<(), Fail> {
     let mut volume = volume(rt.alloc())?;
-    for (place, change) in changes(rt.alloc())?.iter().enumerate() {
-        let checked: Applied = volume.check(change)?;
-        let applied = volume.apply(change)?;
-        if checked.change != place as u64 + 3
-            || checked.node != 2
-            || applied.change != checked.change
-            || applied.node != 2
-        {
+    for place in 0..5 {
+        let change = change(rt.alloc(), place)?;
+        if !is_applied(&mut volume, &change, place + 3)? {
             return Err(Fail::from(place));
         }
     }
@@ -108,15 +111,21 @@ fn what_is_not_there_is_not_found(rt: HostRuntime) -> Result<(), Fail> {
     Ok(())
 }
 
+// The entries that a formula finds.
+fn fetched(alloc: Global, volume: &Volume, formula: &str) -> Result<Vec<Entry>, Refusal> {
+    let predicate = read(alloc, formula)?;
+    volume.fetch(&predicate)
+}
+
 #[test]
 fn entries_are_fetched_by_a_predicate(rt: HostRuntime) -> Result<(), Fail> {
     let volume = volume(rt.alloc())?;
-    let entries = volume.fetch(&read(rt.alloc(), "x=7&&name=a")?)?;
+    let entries = fetched(rt.alloc(), &volume, "x=7&&name=a")?;
     let is_right = match entries.as_slice() {
         [entry] => entry.dir == 1 && entry.name.as_str() == "a" && entry.node == 2,
         _ => false,
     };
-    assert!(rt; is_right);
-    assert!(rt; volume.fetch(&read(rt.alloc(), "x>7")?)?.is_empty());
+    let none = fetched(rt.alloc(), &volume, "x>7")?;
+    assert!(rt; is_right && none.is_empty());
     Ok(())
 }
