@@ -12,6 +12,7 @@ mod laws;
 mod puts;
 mod reading;
 mod subscription;
+mod taking;
 
 pub use delivery::{Delivery, Opening};
 pub use identity::{Identity, PortId, Shut};

@@ -1,18 +1,19 @@
 //! Reading: the end of a subscription that takes its parcels and folds them.
-ghost use Rattle.std.specs.Prelude.{◌≡◌, [], length, IfOk, IfSome, IfNone, OnOk, OnErr, Ok, Some, None, is_some, IsSome, IsTrue, true, ◌↔◌};
+ghost use Rattle.std.specs.Prelude.{◌≡◌, [], length, IfOk, IfSome, OnErr, Ok, Some, None, is_some, IsSome, IsTrue, true, ◌↔◌};
 ghost use mathlib.Core.List.{IsPrefix};
-ghost use Rattle.lq_value.specs.Refusal.{IsRefusedBy, first_refusal};
+ghost use Rattle.lq_value.specs.Refusal.{IsRefusedBy};
 ghost use Rattle.lq_volume.specs.Book.{Extends, state_of, state_at};
 ghost use Rattle.lq_volume.specs.Result.{result_of};
 ghost use Rattle.lq_board.specs.Book.{IsFullBook};
-ghost use Rattle.lq_update.specs.Fold.{EntriesRise, fold_refusals, folding_after, opened_at, folded, last_change};
+ghost use Rattle.lq_update.specs.Fold.{EntriesRise, opened_at, folded, last_change};
 ghost use Rattle.lq_update.specs.Updates.{IsSettled};
-ghost use Rattle.lq_port.specs.End.{IsSamePort, Loses, all_put};
+ghost use Rattle.lq_port.specs.End.{IsSamePort, all_put};
 ghost use Rattle.lq_port.specs.Port.{IsLegal};
 ghost use Rattle.lq_server_subscription.specs.Rule.{MayFollow, floor_of, query_of, whole};
 ghost use Rattle.lq_server_subscription.specs.Reading.{Gives, Fails, known, received, is_marked, mark_read, opening_of, IsTold};
 
 use crate::delivery::Delivery;
+use crate::taking::{keep, take_one};
 use lq_desk_sub::Read;
 use lq_port::{PortIn, PortOut};
 use lq_update::{
@@ -278,42 +279,4 @@ impl Reading {
     {
         self.output.beside(input)
     }
-}
-
-// Folds a message, or keeps it in hand where memory runs out. No other message is in hand.
-#[inline(always)]
-fn keep(
-    rebuild: &mut Rebuild,
-    hand: &mut Option<Message>,
-    message: Message,
-) -> Result<Read, Refusal>
-    requires fits { first_refusal (fold_refusals rebuild.old message) ≡ None }
-    requires free { hand.old ≡ None }
-    ensures refused { IsRefusedBy result None }
-    ensures ok { OnOk result
-        ((rebuild.new ≡ folding_after rebuild.old message) × (hand.new ≡ None)) }
-    ensures err { OnErr result ((rebuild.new ≡ rebuild.old) × (hand.new ≡ Some message)) }
-    ensures read { IfOk result (λ r. r ≡ Read.Update message) }
-{
-    match rebuild.apply(&message) {
-        Ok(()) => Ok(Read::Update(message)),
-        Err(refusal) => {
-            *hand = Some(message);
-            Err(refusal)
-        }
-    }
-}
-
-// The next parcel, with or without waiting for it.
-fn take_one<R: Wait>(output: &mut PortOut<Delivery>, rt: &R, waits: bool) -> Option<Delivery>
-    ensures some { IfSome result (λ item. Loses output.old item output.new) }
-    ensures follows { IfSome result (λ item. MayFollow output.old.taken output.old.floor item) }
-    ensures port { IsSamePort output.old output.new }
-    ensures empty { IfNone result (output.old.ahead ≡ []) }
-    ensures none { IfNone result (output.new ≡ output.old) }
-{
-    if waits {
-        return output.take_waiting(rt);
-    }
-    output.take(rt)
 }
