@@ -1,10 +1,11 @@
 //! A reader's seat in the calls on the volume.
-ghost use Rattle.std.specs.Prelude.{◌≡◌};
+ghost use Rattle.std.specs.Prelude.{◌≡◌, IfOk};
+ghost use Rattle.lq_server.specs.Own.{IsOwn, StaysOwn};
 
 use crate::acts::file;
 use crate::stage::base;
 use lq_predicate::read;
-use lq_server::{Base, Named, Read, Server};
+use lq_server::{Accepted, Base, Named, Read, Reader, Seat, Server};
 use lq_update::Cause;
 use lq_value::{Name, Refusal};
 use std::alloc::Global;
@@ -12,64 +13,135 @@ use std::marker::Brand;
 use std::sync::Wait;
 use std::test::Fail;
 
+/// Opens a query of every entry, with a backlog of 8.
+fn open<N: Named, R: Wait>(
+    rt: &R,
+    alloc: Global,
+    server: &Server<N>,
+    seat: &mut Seat,
+    port: u64,
+) -> Result<Reader, Refusal>
+    requires { seat.old.board ≡ N.board }
+    ensures seat { seat.new.board ≡ N.board }
+    ensures own { StaysOwn seat.old seat.new }
+    ensures reader { IfOk result (λ r. (r.seat.board ≡ N.board) × IsOwn r) }
+{
+    let predicate = read(alloc, "name=*")?;
+    server.open(rt, seat, &predicate, port, 8, false)
+}
+
+/// A file comes into the root, by a seat.
+fn add<N: Named, R: Wait>(
+    rt: &R,
+    alloc: Global,
+    server: &Server<N>,
+    seat: &mut Seat,
+) -> Result<Accepted, Refusal>
+    requires { seat.old.board ≡ N.board }
+    ensures seat { seat.new.board ≡ N.board }
+    ensures own { StaysOwn seat.old seat.new }
+{
+    let change = file(Name::read(alloc, "a")?);
+    server.apply(rt, seat, &change)
+}
+
+/// The number, the length and the folder of looks at the file.
+fn looks<N: Named, R: Wait>(
+    rt: &R,
+    alloc: Global,
+    server: &Server<N>,
+    seat: &mut Seat,
+) -> Result<[u64; 4], Refusal>
+    requires { seat.old.board ≡ N.board }
+    ensures { seat.new.board ≡ N.board }
+{
+    let predicate = read(alloc, "name=*")?;
+    let found = server.fetch(rt, seat, &predicate)?;
+    let (at, entries) = (found.at, found.entries.len() as u64);
+    let name = Name::read(alloc, "a")?;
+    let node = server.find(rt, seat, 1, &name)?;
+    Ok([at, entries, node, server.listing(rt, seat, node)?.dir])
+}
+
 /// What calls by a reader's seat answer: the change and the node of a create, the number and the
 /// length of a fetch, the node of a find, the folder of a listing, and the slot and the opening of
 /// a second reader.
-fn numbers<N: Named, R: Wait>(rt: &R, alloc: Global, base: Base) -> Result<[u64; 8], Refusal>
+fn numbers<N: Named, R: Wait>(
+    rt: &R,
+    alloc: Global,
+    server: &Server<N>,
+    seat: &mut Seat,
+) -> Result<[u64; 8], Refusal>
+    requires { seat.old.board ≡ N.board }
+    ensures { seat.new.board ≡ N.board }
+{
+    let made = add(rt, alloc, server, seat)?;
+    let [at, entries, node, dir] = looks(rt, alloc, server, seat)?;
+    let second = open(rt, alloc, server, seat, 4)?;
+    let (slot, opened) = (second.slot(), second.opened());
+    Ok([made.change, made.node, at, entries, node, dir, slot, opened])
+}
+
+fn numbers_at<N: Named, R: Wait>(rt: &R, alloc: Global, base: Base) -> Result<[u64; 8], Refusal>
     requires { (base.board ≡ N.board) × (base.volume ≡ N.start) }
 {
     let server: Server<N> = Server::new(base);
     let mut seat = server.seat(rt)?;
-    let predicate = read(alloc, "name=*")?;
-    let name = Name::read(alloc, "a")?;
-    let mut reader = server.open(rt, &mut seat, &predicate, 4, 8, false)?;
-    let made = server.apply(rt, reader.seat(), &file(Name::read(alloc, "a")?))?;
-    let found = server.fetch(rt, reader.seat(), &predicate)?;
-    let node = server.find(rt, reader.seat(), 1, &name)?;
-    let listing = server.listing(rt, reader.seat(), node)?;
-    let second = server.open(rt, reader.seat(), &predicate, 4, 8, false)?;
-    Ok([
-        made.change,
-        made.node,
-        found.at,
-        found.entries.len() as u64,
-        node,
-        listing.dir,
-        second.slot(),
-        second.opened(),
-    ])
+    let mut reader = open(rt, alloc, &server, &mut seat, 4)?;
+    numbers(rt, alloc, &server, reader.seat())
+}
+
+// Whether this is the update of the first change.
+fn is_first(read: Read) -> bool {
+    match read {
+        Read::Update(message) => message.seq == 1 && message.change == 1,
+        _ => false,
+    }
+}
+
+// Whether this is the mark of a reader that hung up after it.
+fn is_mark(read: Read) -> bool {
+    match read {
+        Read::Fin(mark) => mark.seq == 2 && mark.change == 1 && mark.cause == Cause::HungUp,
+        _ => false,
+    }
 }
 
 /// Whether a reader reads the change that was made by its own seat, and then its mark: it hangs up,
 /// its seat's next change is refused, and its close comes too late.
-fn goes_on<N: Named, R: Wait>(rt: &R, alloc: Global, base: Base) -> Result<bool, Refusal>
+fn goes_on<N: Named, R: Wait>(
+    rt: &R,
+    alloc: Global,
+    server: &Server<N>,
+    reader: &mut Reader,
+) -> Result<bool, Refusal>
+    requires { (reader.old.seat.board ≡ N.board) × IsOwn reader.old }
+    ensures { (reader.new.seat.board ≡ N.board) × IsOwn reader.new }
+{
+    add(rt, alloc, server, reader.seat())?;
+    let told = is_first(reader.read(rt)?);
+    reader.hang_up(server);
+    let refused = add(rt, alloc, server, reader.seat()).err();
+    let marked = is_mark(reader.read(rt)?);
+    let late = server.close(rt, reader).err();
+    let is_refused = refused == Some(Refusal::Exists) && late == Some(Refusal::NotOpen);
+    Ok(told && is_refused && marked)
+}
+
+fn goes_on_at<N: Named, R: Wait>(rt: &R, alloc: Global, base: Base) -> Result<bool, Refusal>
     requires { (base.board ≡ N.board) × (base.volume ≡ N.start) }
 {
     let server: Server<N> = Server::new(base);
     let mut seat = server.seat(rt)?;
-    let change = file(Name::read(alloc, "a")?);
-    let mut reader = server.open(rt, &mut seat, &read(alloc, "name=*")?, 1, 8, false)?;
-    server.apply(rt, reader.seat(), &change)?;
-    let told = match reader.read(rt)? {
-        Read::Update(message) => message.seq == 1 && message.change == 1,
-        _ => false,
-    };
-    reader.hang_up(&server);
-    let refused = server.apply(rt, reader.seat(), &change).err();
-    let marked = match reader.read(rt)? {
-        Read::Fin(mark) => mark.seq == 2 && mark.change == 1 && mark.cause == Cause::HungUp,
-        _ => false,
-    };
-    let late = server.close(rt, &mut reader).err();
-    let finished = server.finish(rt, reader).is_ok();
-    let is_refused = refused == Some(Refusal::Exists) && late == Some(Refusal::NotOpen);
-    Ok(told && is_refused && marked && finished)
+    let mut reader = open(rt, alloc, &server, &mut seat, 1)?;
+    let goes_on = goes_on(rt, alloc, &server, &mut reader)?;
+    Ok(goes_on && server.finish(rt, reader).is_ok())
 }
 
 #[test]
 fn a_readers_seat_serves_each_call(rt: HostRuntime) -> Result<(), Fail> {
     let base = base(rt.alloc())?;
-    let numbers = numbers::<Brand, _>(&rt, rt.alloc(), base)?;
+    let numbers = numbers_at::<Brand, _>(&rt, rt.alloc(), base)?;
     assert!(rt; numbers == [1, 2, 1, 1, 2, 1, 2, 1]);
     Ok(())
 }
@@ -77,6 +149,6 @@ fn a_readers_seat_serves_each_call(rt: HostRuntime) -> Result<(), Fail> {
 #[test]
 fn a_readers_seat_changes_what_it_reads(rt: HostRuntime) -> Result<(), Fail> {
     let base = base(rt.alloc())?;
-    assert!(rt; goes_on::<Brand, _>(&rt, rt.alloc(), base)?);
+    assert!(rt; goes_on_at::<Brand, _>(&rt, rt.alloc(), base)?);
     Ok(())
 }
