@@ -20,6 +20,7 @@ use lq_value::{AttrName, Kind, Name, Refusal, Value};
 /// The most bytes of a file: the size is shown as an `i64`.
 const MAX_SIZE: u64 = 9_223_372_036_854_775_807;
 
+#[inline(always)]
 pub fn check_create(
     volume: &Volume,
     dir: u64,
@@ -48,6 +49,7 @@ pub fn check_create(
     Ok(())
 }
 
+#[inline(always)]
 pub fn check_remove(volume: &Volume, node: u64) -> Result<Touched<'_>, Refusal>
     requires { IsVolume volume.now }
     ensures ok { OnOk result (refused volume.now (Remove node) ≡ None) }
@@ -64,6 +66,7 @@ pub fn check_remove(volume: &Volume, node: u64) -> Result<Touched<'_>, Refusal>
     Ok(touched_at(node, record, None, None))
 }
 
+#[inline(always)]
 pub fn check_move<'a>(
     volume: &'a Volume,
     moved: u64,
@@ -101,6 +104,7 @@ pub fn check_move<'a>(
     Ok(touched_at(moved, record, Some(after), other))
 }
 
+#[inline(always)]
 pub fn check_write(volume: &Volume, file: u64, size: u64, time: i64) -> Result<Touched<'_>, Refusal>
     requires { IsVolume volume.now }
     ensures ok { OnOk result (refused volume.now (Write file size time) ≡ None) }
@@ -121,6 +125,7 @@ pub fn check_write(volume: &Volume, file: u64, size: u64, time: i64) -> Result<T
     Ok(touched_at(file, record, Some(after), None))
 }
 
+#[inline(always)]
 pub fn check_set_attr<'a>(
     volume: &'a Volume,
     entry: u64,
@@ -144,6 +149,7 @@ pub fn check_set_attr<'a>(
     Ok(touched_at(entry, record, Some(after), None))
 }
 
+#[inline(always)]
 pub fn check_remove_attr<'a>(
     volume: &'a Volume,
     owner: u64,

@@ -50,6 +50,7 @@ pub struct Touched<'a> {
 
 impl<'a> Planned<'a> {
     // Looks up what a change touches, or is refused.
+    #[inline(always)]
     pub(crate) fn new(volume: &'a Volume, change: &'a Change) -> Result<Planned<'a>, Refusal>
         ensures ok { OnOk result (refused volume.now change.now ≡ None) }
         ensures err { IfErr result (λ e. refused volume.now change.now ≡ Some e) }
@@ -117,6 +118,7 @@ impl<'a> Planned<'a> {
 }
 
 // Looks up what a change touches, and checks the change at the same time.
+#[inline(always)]
 fn touched_by<'a>(volume: &'a Volume, change: &'a Change) -> Result<Touched<'a>, Refusal>
     ensures ok { OnOk result (refused volume.now change.now ≡ None) }
     ensures err { IfErr result (λ e. refused volume.now change.now ≡ Some e) }
@@ -155,6 +157,7 @@ fn touched_by<'a>(volume: &'a Volume, change: &'a Change) -> Result<Touched<'a>,
 }
 
 // What is touched by a change that names a node and may remove another.
+#[inline(always)]
 pub fn touched_at<'a>(
     node: u64,
     before: &'a Stored,

@@ -164,6 +164,7 @@ impl Stored {
     }
 
     /// What a predicate sees of the entry, with a difference applied to its attributes.
+    #[inline(always)]
     pub fn seen<'a>(&'a self, difference: Difference<'a>) -> Seen<'a>
         ensures { result ≡ with_attrs (attrs_after difference.entry self.now.attrs) self.now }
     {

@@ -195,6 +195,7 @@ impl Volume {
     /// `KindClash`, `NotEmpty`: the entry at the place, without and with `clobber`, or the one to
     /// remove. `WouldLoop`: `dir` is the node or below it. `IsFolder`, `TooLong`: the size.
     /// `NoAttr`: no attribute of that name. The order is our own.
+    #[inline(always)]
     pub fn check(&self, change: &Change) -> Result<Applied, Refusal>
         ensures ok { OnOk result (refused self.now change.now ≡ None) }
         ensures err { IfErr result (λ e. refused self.now change.now ≡ Some e) }
@@ -209,6 +210,7 @@ impl Volume {
     /// changes nothing.
     ///
     /// Refused exactly as `check`.
+    #[inline(always)]
     pub fn plan<'a>(&'a self, change: &'a Change) -> Result<Planned<'a>, Refusal>
         ensures ok { OnOk result (refused self.now change.now ≡ None) }
         ensures err { IfErr result (λ e. refused self.now change.now ≡ Some e) }
