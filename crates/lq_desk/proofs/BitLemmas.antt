@@ -13,7 +13,7 @@ use Rattle.lq_desk.specs.Words.{ClearsBit, IsMarked}
 use Rattle.lq_desk.proofs.SlotsLemmas.{kept_slot}
 
 -- what is found at each place is the same
-same-slots : {A : Type 0} (xs ys : List A) → ((i : ℕ) → slice_get xs i ≡ slice_get ys i) → xs ≡ ys
+pub same-slots : {A : Type 0} (xs ys : List A) → ((i : ℕ) → slice_get xs i ≡ slice_get ys i) → xs ≡ ys
 same-slots [] [] same = refl
 same-slots [] (y ∷ ys) same = absurd (let h = same 0 in let no : ⊥ = cc in no)
 same-slots (x ∷ xs) [] same = absurd (let h = same 0 in let no : ⊥ = cc in no)
@@ -24,7 +24,7 @@ same-slots (x ∷ xs) (y ∷ ys) same =
     cc
 
 -- what is written at a place is there, where there was something
-set-here : {A : Type 0} (f : Option A → Option A) (xs : List (Option A)) (i : ℕ)
+pub set-here : {A : Type 0} (f : Option A → Option A) (xs : List (Option A)) (i : ℕ)
     → slice_get (slice_set xs i (f (option_flatten (slice_get xs i)))) i
     ≡ option_map f (slice_get xs i)
 set-here f [] i = refl
@@ -32,7 +32,7 @@ set-here f (x ∷ xs) zero = refl
 set-here f (x ∷ xs) (suc i) = set-here f xs i
 
 -- another place is as it was
-set-other : {A : Type 0} (xs : List A) (i j : ℕ) (y : A) → i ≢ j
+pub set-other : {A : Type 0} (xs : List A) (i j : ℕ) (y : A) → i ≢ j
     → slice_get (slice_set xs i y) j ≡ slice_get xs j
 set-other [] i j y ne = refl
 set-other (x ∷ xs) zero zero y ne = absurd (ne refl)
@@ -41,7 +41,7 @@ set-other (x ∷ xs) (suc i) zero y ne = refl
 set-other (x ∷ xs) (suc i) (suc j) y ne = set-other xs i j y (λ same. ne (ap suc same))
 
 -- two places are the same, or they aren't
-which : (i j : ℕ) → (i ≡ j) ⊎ (i ≢ j)
+pub which : (i j : ℕ) → (i ≡ j) ⊎ (i ≢ j)
 which i j = by (cases_lt i j) (cases_lt j i)
   where
     by : (i < j) ⊎ (j ≤ i) → (j < i) ⊎ (i ≤ j) → (i ≡ j) ⊎ (i ≢ j)

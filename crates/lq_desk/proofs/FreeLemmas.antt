@@ -8,8 +8,10 @@ use Rattle.std.proofs.lemmas.List.{length-map, length-set, map-append}
 use Rattle.lq_value.specs.declared.refusal.Refusal.TheVariants.{NotOpen}
 use Rattle.lq_desk_world.specs.Events.{Answer, Refused}
 use Rattle.lq_desk.specs.Act.{outcome_at, outcome_in, outcome_of}
-use Rattle.lq_desk.specs.Slot.{KeptSlot, PreparedSlot, slot_of, has_ready, with_free}
-use Rattle.lq_desk.specs.Words.{IsMarked}
+use Rattle.lq_volume.specs.declared.change.Change.{Change}
+use Rattle.lq_volume.specs.State.{State}
+use Rattle.lq_desk.specs.Slot.{KeptSlot, PreparedSlot, slot_of, with_free}
+use Rattle.lq_desk.specs.Words.{AreReady}
 use Rattle.lq_desk.specs.Kept.{IsFew, first_free}
 use Rattle.lq_desk.proofs.ListLemmas.{set-seam}
 use Rattle.lq_desk.proofs.SlotsLemmas.{kept_slot}
@@ -245,8 +247,8 @@ pub free-place : (xs ys : List (Option PreparedSlot)) (place : ℕ)
 free-place xs ys place is view free =
     omega (arith, is, first-free xs, ap (λ zs. first_free (map kept_slot zs)) view, free)
 
--- a word that marks all 64 marks the stored ones
-pub stored-told : (told : ℕ) (xs ys : List (Option PreparedSlot)) → with_free xs ≡ ys
-    → IsMarked has_ready told ys → IsMarked has_ready told xs
-stored-told told xs ys view marked =
-    λ i p at. subst (λ zs. IsMarked has_ready told zs) (sym view) marked i p (free-at xs i p at)
+-- messages made in all slots are made in those that are stored
+pub stored-ready : (s : State) (c : Change) (told : ℕ) (xs ys : List (Option PreparedSlot))
+    → with_free xs ≡ ys → AreReady s c told ys → AreReady s c told xs
+stored-ready s c told xs ys view ready =
+    λ i p at. subst (AreReady s c told) (sym view) ready i p (free-at xs i p at)

@@ -1,6 +1,6 @@
 -- Read in this order. Lists, words of bits and update lists: ListLemmas, WordLemmas, UpdateLemmas.
 -- One slot: PutLemmas. All slots: SlotsLemmas, FewLemmas, PlaceLemmas, LoopLemmas, BitLemmas,
--- FreeLemmas, MarkLemmas. A desk shows a world: SlotLemmas and EndLemmas (one subscription), Shown
+-- ReadyLemmas, FreeLemmas, MarkLemmas, WatchLemmas. A desk shows a world: SlotLemmas and EndLemmas (one subscription), Shown
 -- (each event), PassedLemmas (lists and refusals). Turns: RunLemmas, EventLemmas, SlotTurnLemmas,
 -- TurnLemmas. A desk stays one: Desks.
 pub mod ListLemmas
@@ -15,7 +15,9 @@ pub mod FewLemmas
 pub mod PlaceLemmas
 pub mod LoopLemmas
 pub mod BitLemmas
+pub mod ReadyLemmas
 pub mod MarkLemmas
+pub mod WatchLemmas
 pub mod FreeLemmas
 pub mod RunLemmas
 pub mod EventLemmas

@@ -1,5 +1,5 @@
 -- The words of the slots: what marks them goes on marking them.
-use Rattle.std.proofs.Common.{◌≡◌, ℕ, ◌<◌, List, [], ◌∷◌, ◌++◌, refl, ap, map, length, ◌∙◌, sym, subst, Some, None, Option, Bool, true, false}
+use Rattle.std.proofs.Common.{◌≡◌, ℕ, ◌<◌, List, [], ◌∷◌, ◌++◌, refl, ap, map, length, ◌∙◌, sym, subst, Some, None, Option, Bool, true, false, inl, inr}
 use Rattle.std.specs.Prelude.{slice_get, slice_set, ◌||◌}
 use Rattle.std.specs.Option.{option_map, option_flatten}
 use Rattle.std.specs.Int.{bit_at}
@@ -8,12 +8,13 @@ use Rattle.std.proofs.lemmas.Option.{slice_get-map}
 use Rattle.lq_update.specs.declared.mark.Cause.TheVariants.{Closed}
 use Rattle.lq_update.specs.declared.parcel.Parcel.{Parcel}
 use Rattle.lq_desk_sub.specs.Held.{is_live, ended_by}
-use Rattle.lq_desk.specs.Slot.{KeptSlot, PreparedSlot, slot_of, can_move, close_if, committed_slot, filled, has_ready, has_work, is_ending, noticed, passes, read_if}
+use Rattle.lq_desk.specs.Slot.{KeptSlot, PreparedSlot, slot_of, can_move, close_if, filled, has_work, is_ending, noticed, passes, read_if}
 use Rattle.lq_desk.specs.Act.{close_turn, outcome_at, outcome_in, read_turn}
-use Rattle.lq_desk.specs.Words.{AreMarked, IsMarked, SetsBit}
+use Rattle.lq_desk.specs.Words.{AreCommitted, AreMarked, IsMarked, SetsBit}
 use Rattle.lq_desk.proofs.ListLemmas.{get-set_in}
 use Rattle.lq_desk.proofs.PutLemmas.{filled-ends, filled-still}
-use Rattle.lq_desk.proofs.SlotsLemmas.{kept_slot, committed-ends, committed-quiet, noticed-quiet, noticed-still}
+use Rattle.lq_desk.proofs.ReadyLemmas.{CameFrom, committed-from}
+use Rattle.lq_desk.proofs.SlotsLemmas.{kept_slot, committed-ends, noticed-quiet, noticed-still}
 use Rattle.lq_desk.proofs.WordLemmas.{either-left, either-right, marked-map, marked-push, marked-set}
 
 -- a test isn't true and false
@@ -30,28 +31,33 @@ map-through f g (Some x ∷ xs) = ap (λ ys. Some (g (f x)) ∷ ys) (map-through
 
 -- messages are told
 pub marks-committed : (ending movable told : ℕ) (xs ys : List (Option PreparedSlot))
-    → ys ≡ map (option_map committed_slot) xs → IsMarked has_ready told xs
-    → AreMarked ending movable (map kept_slot xs)
+    → AreCommitted told xs ys → AreMarked ending movable (map kept_slot xs)
     → AreMarked ending (bit_or movable told) (map kept_slot ys)
-marks-committed ending movable told xs ys does ready marked =
-    subst (λ ks. AreMarked ending (bit_or movable told) ks)
-    (sym (ap (map kept_slot) does ∙ map-through committed_slot slot_of xs)) (record {
-      ends = marked-map is_ending (λ p. slot_of (committed_slot p)) ending xs
-          (λ i p at is. marked.ends i (slot_of p) (there i p at) (committed-ends p is));
-      moves = marked-map can_move (λ p. slot_of (committed_slot p)) (bit_or movable told) xs
-          (λ i p at is. by i p at is (has_ready p) refl);
-    })
+marks-committed ending movable told xs ys does marked = record {
+  ends = marked-map is_ending slot_of ending ys
+      (λ i q at is. ends i q (come i q at) is);
+  moves = marked-map can_move slot_of (bit_or movable told) ys
+      (λ i q at is. moves i q (come i q at) is);
+}
   where
+    come : (i : ℕ) (q : PreparedSlot) → slice_get ys i ≡ Some (Some q) → CameFrom told xs i q
+    come i q at = committed-from told xs ys does i q at
+
     there : (i : ℕ) (p : PreparedSlot) → slice_get xs i ≡ Some (Some p)
         → slice_get (map kept_slot xs) i ≡ Some (Some (slot_of p))
     there i p at = slice_get-map kept_slot xs i ∙ ap (option_map kept_slot) at
 
-    by : (i : ℕ) (p : PreparedSlot) → slice_get xs i ≡ Some (Some p)
-        → can_move (slot_of (committed_slot p)) ≡ true → (x : Bool) → has_ready p ≡ x
+    ends : (i : ℕ) (q : PreparedSlot) → CameFrom told xs i q → is_ending (slot_of q) ≡ true
+        → bit_at ending i ≡ 1
+    ends i q (inl h) is = marked.ends i (slot_of h.0) (there i h.0 h.2) (committed-ends h.0
+        (ap (λ (r : PreparedSlot). is_ending (slot_of r)) h.3 ∙ is))
+    ends i q (inr at) is = marked.ends i (slot_of q) (there i q at) is
+
+    moves : (i : ℕ) (q : PreparedSlot) → CameFrom told xs i q → can_move (slot_of q) ≡ true
         → bit_at (bit_or movable told) i ≡ 1
-    by i p at is true has = either-right movable told i (ready i p at has)
-    by i p at is false has = either-left movable told i (marked.moves i (slot_of p) (there i p at)
-        (ap (λ q. can_move (slot_of q)) (sym (committed-quiet p has)) ∙ is))
+    moves i q (inl h) is = either-right movable told i h.1
+    moves i q (inr at) is =
+        either-left movable told i (marked.moves i (slot_of q) (there i q at) is)
 
 -- ends are noticed
 pub marks-noticed : (number ending movable : ℕ) (ks js : List (Option KeptSlot))
@@ -114,6 +120,7 @@ stays : (old place : ℕ) (x : Bool) → x ≡ false → SetsBit old place x old
 stays old place x unset = record {
   here = λ set. absurd (and_cases x set unset);
   others = λ i is. is;
+  same = λ i other. refl;
 }
 
 -- after a read with its turn no slot is ending

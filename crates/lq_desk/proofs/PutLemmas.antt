@@ -19,29 +19,35 @@ put-some k = by (nat_lt (length k.queue) k.port) (next_parcel k.held)
 
 -- what a put leaves
 pub record Keeps (k l : KeptSlot) : Type 0 where
+  pub query : l.held.query ≡ k.held.query
   pub sent : l.held.sent ≡ k.held.sent
   pub mark : l.held.mark ≡ k.held.mark
   pub port : l.port ≡ k.port
   pub hang_up_asked : l.hang_up_asked ≡ k.hang_up_asked
 
--- a put keeps the number of messages made, the mark, the port and whether the end was asked for
+-- a put keeps the query, the number of messages made, the mark, the port and whether the end was asked for
 put-keeps : (k : KeptSlot) → Keeps k (after_put k)
 put-keeps k = by (nat_lt (length k.queue) k.port) (next_parcel k.held)
   where
     by : (x : Bool) (o : Option Parcel) → Keeps k (unwrap_or (put_if k x o).1 k)
     by true (Some (Update m)) =
-        record { sent = refl; mark = refl; port = refl; hang_up_asked = refl }
-    by true (Some (Fin m)) = record { sent = refl; mark = refl; port = refl; hang_up_asked = refl }
-    by true None = record { sent = refl; mark = refl; port = refl; hang_up_asked = refl }
-    by false o = record { sent = refl; mark = refl; port = refl; hang_up_asked = refl }
+        record { query = refl; sent = refl; mark = refl; port = refl; hang_up_asked = refl }
+    by true (Some (Fin m)) =
+        record { query = refl; sent = refl; mark = refl; port = refl; hang_up_asked = refl }
+    by true None =
+        record { query = refl; sent = refl; mark = refl; port = refl; hang_up_asked = refl }
+    by false o =
+        record { query = refl; sent = refl; mark = refl; port = refl; hang_up_asked = refl }
 
 -- and so do several
 pub puts-keep : (n : ℕ) (k : KeptSlot) → Keeps k (after_puts n k)
-puts-keep zero k = record { sent = refl; mark = refl; port = refl; hang_up_asked = refl }
+puts-keep zero k =
+    record { query = refl; sent = refl; mark = refl; port = refl; hang_up_asked = refl }
 puts-keep (suc n) k =
     let rest = puts-keep n (after_put k) in
     let here = put-keeps k in
     record {
+      query = rest.query ∙ here.query;
       sent = rest.sent ∙ here.sent;
       mark = rest.mark ∙ here.mark;
       port = rest.port ∙ here.port;

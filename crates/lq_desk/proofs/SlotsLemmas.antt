@@ -18,6 +18,7 @@ use Rattle.lq_desk.specs.Slot.{KeptSlot, PreparedSlot, slot_of, prepared_slot, c
 use Rattle.lq_desk.specs.Act.{outcome_at, outcome_in, read_turn}
 use Rattle.lq_desk.specs.Kept.{IsFew}
 use Rattle.lq_desk.specs.Kept as kept
+use Rattle.lq_desk.proofs.ListLemmas.{set-same}
 use Rattle.lq_desk.proofs.PutLemmas.{filled-quiet}
 
 -- what is kept of what may be in a slot
@@ -99,6 +100,16 @@ done_in-same f xs i x d lt at is =
     map-set kept_slot xs i x
     ∙ ap (slice_set (map kept_slot xs) i) (is ∙ ap (option_map f) (sym (kept-get xs i d lt at)))
 
+-- another subscription with the same contents is written at one of them
+pub kept-written : (xs : List (Option PreparedSlot)) (i : ℕ) (x d : Option PreparedSlot)
+    → i < length xs → d ≡ get_or xs i d → kept_slot x ≡ kept_slot d
+    → map kept_slot (slice_set xs i x) ≡ map kept_slot xs
+kept-written xs i x d lt at is =
+    map-set kept_slot xs i x
+    ∙ (ap (slice_set (map kept_slot xs) i) is
+    ∙ set-same (map kept_slot xs) i (kept_slot d) (slice_get-map kept_slot xs i
+    ∙ ap (option_map kept_slot) (one-get xs i d lt at)))
+
 -- ---- messages that are made, and then told
 
 -- where a function takes two values to one, it doesn't matter which of them is chosen
@@ -113,8 +124,13 @@ pub prepared-keeps : (s : State) (c : Change_) (o : Option PreparedSlot)
 prepared-keeps s c None = refl
 prepared-keeps s c (Some p) = ap (λ k. Some k) (live-if slot_of (is_live p.sub.held) _ p refl)
 
+-- and don't alter what is kept of a slot
+pub slot-prepared : (s : State) (c : Change_) (p : PreparedSlot)
+    → slot_of (prepared_slot s c p) ≡ slot_of p
+slot-prepared s c p = live-if slot_of (is_live p.sub.held) _ p refl
+
 -- messages made and then told leave the slot after the change
-committed-after : (s : State) (c : Change_) (p : PreparedSlot)
+pub committed-after : (s : State) (c : Change_) (p : PreparedSlot)
     → slot_of (committed_slot (prepared_slot s c p)) ≡ slot_after s c (slot_of p)
 committed-after s c p = by (is_live p.sub.held) refl
   where
@@ -215,7 +231,7 @@ committed-none p none = same (after_messages p.sub.held p.sub.ready p.sub.before
         ∙ ap (λ ns. record p { sub = record p.sub { ready = ns } }) b
 
 -- messages whose number isn't above zero are none
-no-messages : (ms : List Message) → nat_lt 0 (length ms) ≡ false → ms ≡ []
+pub no-messages : (ms : List Message) → nat_lt 0 (length ms) ≡ false → ms ≡ []
 no-messages [] none = refl
 no-messages (m ∷ ms) none = absurd (grind (arith, nat_tests, none))
 

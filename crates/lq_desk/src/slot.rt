@@ -74,6 +74,13 @@ impl Slot {
         })
     }
 
+    /// The subscription.
+    pub fn sub(&self) -> &Sub
+        ensures { result.now ≡ self.now.sub }
+    {
+        &self.sub
+    }
+
     /// Commits the messages that were made, if the subscription is live.
     pub fn commit(&mut self)
         requires { self.old.sub.held.sent < 2 ^ 63 }

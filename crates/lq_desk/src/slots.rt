@@ -3,8 +3,10 @@ ghost use Rattle.std.specs.Prelude.{◌≡◌, ◌<◌, ◌^◌, ◌-◌, None, 
 ghost use Rattle.std.specs.List.{AllByRecursion};
 ghost use Rattle.std.specs.Option.{option_map};
 ghost use Rattle.lq_value.specs.Refusal.{IsRefusedBy};
-ghost use Rattle.lq_desk.specs.Slot.{slot_of, prepared_slot, committed_slot, filled, has_ready, noticed};
-ghost use Rattle.lq_desk.specs.Words.{IsMarked};
+ghost use Rattle.lq_volume.specs.declared.change.Change.{Change};
+ghost use Rattle.lq_volume.specs.State.{State};
+ghost use Rattle.lq_desk.specs.Slot.{slot_of, slot_after, filled, noticed};
+ghost use Rattle.lq_desk.specs.Words.{AreReady};
 ghost use Rattle.lq_desk.specs.Kept.{IsFew, first_free};
 ghost use Rattle.lq_desk.specs.Act.{act_of, close_turn, outcome_of, read_turn};
 ghost use Rattle.lq_desk.specs.Reply.{answer_of};
@@ -16,6 +18,7 @@ use crate::stored::{
     notice_all, read_in, ready_all,
 };
 use crate::word::{has_bit, with_bit};
+use lq_desk_sub::Watch;
 use lq_desk_world::Act;
 use lq_value::Refusal;
 use lq_volume::Planned;
@@ -28,12 +31,14 @@ pub const SLOTS: usize = 64;
 /// The slots of a desk. Those after the last one that was ever taken are free, and aren't stored.
 ///
 /// Two words have a bit for each slot: one for slots that may be ending, the other for slots whose
-/// port may take a parcel. A slot whose bit is clear isn't looked at.
+/// port may take a parcel. The watch says which slots a change may have messages for. A slot whose
+/// bit is clear isn't looked at.
 #[derive(Drop)]
 pub struct Slots {
     stored: Vec<Option<Slot>>,
     ending: u64,
     movable: u64,
+    watch: Watch,
 }
 
 impl Model for Slots {
@@ -41,7 +46,7 @@ impl Model for Slots {
     ghost use Rattle.std.specs.Option.{option_map};
     ghost use Rattle.std.specs.Vec.{vec_capacity};
     ghost use Rattle.lq_desk.specs.Slot.{PreparedSlot, slot_of, with_free};
-    ghost use Rattle.lq_desk.specs.Words.{AreMarked};
+    ghost use Rattle.lq_desk.specs.Words.{AreMarked, AreWatched};
     ghost use Rattle.std.specs.Coded.{codes};
     ghost use Rattle.lq_predicate.specs.QueryCode.{coded_query};
 
@@ -52,7 +57,8 @@ impl Model for Slots {
     ghost view = { λ s. with_free s.stored.items };
 
     ghost invariant = { λ s. (vec_len s.stored ≤ 64) × (64 ≤ vec_capacity s.stored)
-        × AreMarked s.ending s.movable (map (option_map slot_of) s.stored.items) };
+        × AreMarked s.ending s.movable (map (option_map slot_of) s.stored.items)
+        × AreWatched s.watch (map (option_map slot_of) s.stored.items) };
 }
 
 impl Slots {
@@ -65,6 +71,7 @@ impl Slots {
             stored: Vec::with_capacity(alloc, SLOTS)?,
             ending: 0,
             movable: 0,
+            watch: Watch::new(),
         })
     }
 
@@ -84,6 +91,7 @@ impl Slots {
         let place = first_free(&self.stored);
         self.ending = with_bit(self.ending, place, slot.is_ending());
         self.movable = with_bit(self.movable, place, slot.can_move());
+        self.watch.set(place, slot.sub());
         if place < self.stored.len() {
             fill(&mut self.stored, place, slot);
         } else {
@@ -96,20 +104,20 @@ impl Slots {
     pub fn ready(&mut self, planned: &Planned<'_>) -> Result<u64, Refusal>
         requires few { AllByRecursion (IsFew (2 ^ 63 - 1)) (map (option_map slot_of) self.old) }
         ensures refused { IsRefusedBy result None }
-        ensures told { IfOk result (λ told. IsMarked has_ready told self.new) }
-        ensures ok { OnOk result (self.new ≡
-            map (option_map (prepared_slot planned.now.before planned.now.change)) self.old) }
-        ensures err { OnErr result (map (option_map slot_of) self.new ≡
-            map (option_map slot_of) self.old) }
+        ensures told { IfOk result (λ told.
+            AreReady planned.now.before planned.now.change told self.new) }
+        ensures kept { map (option_map slot_of) self.new ≡ map (option_map slot_of) self.old }
     {
-        Ok(ready_all(&mut self.stored, planned)?)
+        let asked = self.watch.asked(planned.change());
+        Ok(ready_all(&mut self.stored, asked, planned)?)
     }
 
-    /// Commits each subscription's messages; the word has a bit for each slot that has some.
+    /// Commits the messages of each subscription that the word has a bit for.
     pub fn commit(&mut self, told: u64)
         requires few { AllByRecursion (IsFew (2 ^ 63 - 1)) (map (option_map slot_of) self.old) }
-        requires told { IsMarked has_ready told self.old }
-        ensures { self.new ≡ map (option_map committed_slot) self.old }
+        ensures { (s : State) (c : Change) → AreReady s c told self.old
+            → map (option_map slot_of) self.new
+            ≡ map (option_map (slot_after s c)) (map (option_map slot_of) self.old) }
     {
         if told == 0 {
             return;

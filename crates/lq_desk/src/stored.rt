@@ -5,7 +5,7 @@ ghost use Rattle.std.specs.List.{AllByRecursion};
 ghost use Rattle.std.specs.Option.{option_map, option_flatten};
 ghost use Rattle.lq_value.specs.Refusal.{IsRefusedBy};
 ghost use Rattle.lq_desk.specs.Slot.{slot_of, prepared_slot, committed_slot, can_move, done_at, filled, has_ready, has_work, is_ending, noticed, passes};
-ghost use Rattle.lq_desk.specs.Words.{IsMarked};
+ghost use Rattle.lq_desk.specs.Words.{AreCommitted, AreReady, IsMarked, PassOver};
 ghost use Rattle.lq_desk.specs.Kept.{IsFew, first_free};
 ghost use Rattle.lq_desk.specs.Act.{act_of, close_turn, outcome_in, read_turn};
 ghost use Rattle.lq_desk.specs.Reply.{answer_of};
@@ -42,36 +42,70 @@ pub fn fill(slots: &mut Vec<Option<Slot>>, place: usize, slot: Slot)
     slots[place] = Some(slot);
 }
 
-/// Makes the messages of a change for each subscription; answers a word with a bit for each slot
-/// that has messages.
-pub fn ready_all(slots: &mut Vec<Option<Slot>>, planned: &Planned<'_>) -> Result<u64, Refusal>
-    requires within { length slots.old.items ≤ 64 }
+/// Makes the messages of a change for each subscription that the word `asked` has a bit for, where
+/// the change has none for the others; answers a word with a bit for each that has messages.
+pub fn ready_all(
+    slots: &mut Vec<Option<Slot>>,
+    asked: u64,
+    planned: &Planned<'_>,
+) -> Result<u64, Refusal>
     requires few { AllByRecursion (IsFew (2 ^ 63 - 1)) (map (option_map slot_of) slots.old.items) }
+    requires others { PassOver planned.now.change asked (map (option_map slot_of) slots.old.items) }
     ensures refused { IsRefusedBy result None }
-    ensures told { IfOk result (λ told. IsMarked has_ready told slots.new.items) }
-    ensures ok { OnOk result (slots.new.items ≡
-        map (option_map (prepared_slot planned.now.before planned.now.change)) slots.old.items) }
+    ensures told { IfOk result (λ told.
+        AreReady planned.now.before planned.now.change told slots.new.items) }
+    ensures kept { map (option_map slot_of) slots.new.items ≡
+        map (option_map slot_of) slots.old.items }
+    ensures len { vec_len slots.new ≡ vec_len slots.old }
+    ensures room { vec_capacity slots.new ≡ vec_capacity slots.old }
+{
+    // For its clauses `lawful` and `volume`.
+    let _ = planned.applied();
+    let mut told = 0;
+    let mut rest = asked;
+    for _ in 0..SLOTS {
+        if rest == 0 {
+            return Ok(told);
+        }
+        let place = lowest_bit(rest);
+        let any = ready_in(slots, place, planned)?;
+        told = with_bit(told, place, any);
+        rest = without_bit(rest, place);
+    }
+    Ok(told)
+}
+
+// Makes the messages of a change for the slot at an index, if a live subscription is there; answers
+// whether there are any.
+#[inline(always)]
+fn ready_in(
+    slots: &mut Vec<Option<Slot>>,
+    place: usize,
+    planned: &Planned<'_>,
+) -> Result<bool, Refusal>
+    requires { IsFew (2 ^ 63 - 1)
+        (option_map slot_of (option_flatten (slice_get slots.old.items place))) }
+    ensures refused { IsRefusedBy result None }
+    ensures any { IfOk result (λ any. any
+        ≡ passes has_ready (option_flatten (slice_get slots.new.items place))) }
+    ensures ok { OnOk result (slots.new.items ≡ slice_set slots.old.items place (option_map
+        (prepared_slot planned.now.before planned.now.change)
+        (option_flatten (slice_get slots.old.items place)))) }
     ensures err { OnErr result (map (option_map slot_of) slots.new.items ≡
         map (option_map slot_of) slots.old.items) }
     ensures len { vec_len slots.new ≡ vec_len slots.old }
     ensures room { vec_capacity slots.new ≡ vec_capacity slots.old }
 {
-    let mut told = 0;
-    let mut index = 0;
-    for slot in slots.iter_mut() {
-        let any = ready_at(slot, planned)?;
-        told = with_bit(told, index, any);
-        index += 1;
+    if place >= slots.len() {
+        return Ok(false);
     }
-    Ok(told)
+    ready_at(&mut slots[place], planned)
 }
 
-/// Commits each subscription's messages; the word has a bit for each slot that has some.
+/// Commits the messages of each subscription that the word has a bit for.
 pub fn commit_all(slots: &mut Vec<Option<Slot>>, told: u64)
-    requires within { length slots.old.items ≤ 64 }
     requires few { AllByRecursion (IsFew (2 ^ 63 - 1)) (map (option_map slot_of) slots.old.items) }
-    requires told { IsMarked has_ready told slots.old.items }
-    ensures items { slots.new.items ≡ map (option_map committed_slot) slots.old.items }
+    ensures items { AreCommitted told slots.old.items slots.new.items }
     ensures len { vec_len slots.new ≡ vec_len slots.old }
     ensures room { vec_capacity slots.new ≡ vec_capacity slots.old }
 {

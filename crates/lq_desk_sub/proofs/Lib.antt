@@ -1,3 +1,5 @@
--- Read in this order: HeldLemmas (its next parcel), PassingLemmas (changes that tell it nothing).
+-- Read in this order: HeldLemmas (its next parcel), PassingLemmas (changes that tell it nothing),
+-- WatchLemmas (the changes that may tell it something).
 pub mod HeldLemmas
 pub mod PassingLemmas
+pub mod WatchLemmas

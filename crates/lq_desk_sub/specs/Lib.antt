@@ -1,4 +1,5 @@
 pub mod Held
 pub mod Messages
 pub mod Passing
+pub mod Watch
 pub mod Laws

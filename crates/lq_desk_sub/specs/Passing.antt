@@ -4,8 +4,12 @@ use Rattle.std.specs.Int.{bit_at}
 use Rattle.std.specs.List.{list_any}
 use Rattle.std.specs.Option.{option_map_or}
 use Rattle.std.specs.Str.{bytes_eq}
+use Rattle.lq_predicate_formula.specs.Query.{Query}
 use Rattle.lq_volume.specs.declared.change.Change.{Change}
+use Rattle.lq_volume.specs.State.{State, IsVolume}
+use Rattle.lq_volume.specs.Change.{IsLawful}
 use Rattle.lq_update.specs.Laws.{names_altered}
+use Rattle.lq_update.specs.Updates.{step_of}
 
 -- whether one of these names is among the others
 abbrev pub is_among : List (List ℕ) → List ℕ → Bool
@@ -32,3 +36,8 @@ ending_of name = option_map_or (λ byte. byte % 64) (slice_get name (length name
 abbrev pub HasEndings : List (List ℕ) → ℕ → Type 0
 HasEndings names word = (name : List ℕ) → is_among names name ≡ true
     → bit_at word (ending_of name) ≡ 1
+
+-- the change has no message for the query, whatever state it is made to
+abbrev pub TellsNothing : Query → Change → Type 0
+TellsNothing q c = (moved : Bool) (s : State) (seq : ℕ) → IsVolume s → IsLawful s c
+    → step_of q moved s c seq ≡ []

@@ -3,7 +3,7 @@
 //!
 //! Contracts see how it was opened, the messages that it holds and its mark (`specs/Held`). The
 //! desk puts its parcels into its own port, the server for threads into a shared one. Nothing here
-//! waits. Begin with `sub`.
+//! waits. Begin with `sub`, then `watch`.
 #![tactic(auto)]
 
 mod laws;
@@ -11,7 +11,10 @@ mod live_query;
 mod messages;
 mod read;
 mod sub;
+mod watch;
+mod word;
 
 pub use laws::putting_back_undoes;
 pub use read::Read;
 pub use sub::{MAX_BACKLOG, Sub};
+pub use watch::Watch;

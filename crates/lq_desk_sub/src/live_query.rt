@@ -1,6 +1,5 @@
 //! The query of a subscription, and what is found of it once.
-ghost use Rattle.std.specs.Prelude.{◌≡◌, ◌<◌, ◌==◌, ℕ, Bool, true, [], IfNone, IfOk, IfSome, None};
-ghost use Rattle.std.specs.Int.{bit_at};
+ghost use Rattle.std.specs.Prelude.{◌≡◌, ◌<◌, ℕ, Bool, true, [], IfNone, IfOk, IfSome, None};
 ghost use Rattle.lq_value.specs.Refusal.{IsRefusedBy};
 ghost use Rattle.lq_predicate.specs.Names.{names_of};
 ghost use Rattle.lq_volume.specs.State.{record_at};
@@ -9,8 +8,10 @@ ghost use Rattle.lq_update.specs.Touched.{is_match};
 ghost use Rattle.lq_update.specs.Updates.{step_of};
 ghost use Rattle.lq_desk_sub.specs.Passing.{HasEndings, are_written, ending_of, is_among, passes_over};
 
-use lq_predicate::{Predicate, Spans, names, truth_goes_by_names};
-use lq_update::{changes_pass_over, matches_of, writes_beside};
+use crate::laws::passed_changes_tell_nothing;
+use crate::word::{has_bit, with_bit};
+use lq_predicate::{Predicate, Spans, names};
+use lq_update::{matches_of, writes_beside};
 use lq_value::{AttrName, Refusal, same_text};
 use lq_volume::{Change, Planned};
 use std::alloc::Global;
@@ -76,6 +77,22 @@ impl LiveQuery {
         &self.predicate
     }
 
+    /// Whether a write alters what one of the query's names shows.
+    #[inline(always)]
+    pub fn sees_writes(&self) -> bool
+        ensures { result ≡ are_written (names_of self.now) }
+    {
+        self.sees_writes
+    }
+
+    /// A word with a bit for the ending of each of the query's names.
+    #[inline(always)]
+    pub fn endings(&self) -> u64
+        ensures { HasEndings (names_of self.now) result }
+    {
+        self.endings
+    }
+
     /// Whether the query matches the entry of a change's own node before the change, and after it,
     /// if the change may have messages for the query. It takes no memory.
     #[inline(always)]
@@ -106,8 +123,7 @@ impl LiveQuery {
         ensures { (moved : Bool) → (seq : ℕ) → result ≡ true
             → step_of self.now moved planned.now.before planned.now.change seq ≡ [] }
     {
-        changes_pass_over();
-        truth_goes_by_names();
+        passed_changes_tell_nothing();
         // For its clauses `lawful` and `volume`.
         let _ = planned.applied();
         self.looks_elsewhere(planned.change()) || writes_beside(&self.spans, planned)
@@ -150,9 +166,9 @@ fn endings_of(names: &[AttrName]) -> u64
     endings
 }
 
-// The lowest six bits of a name's last byte.
+/// The lowest six bits of a name's last byte.
 #[inline(always)]
-fn ending_of(name: &str) -> usize
+pub(crate) fn ending_of(name: &str) -> usize
     ensures value { result ≡ ending_of name.now }
     ensures few { result < 64 }
 {
@@ -160,24 +176,6 @@ fn ending_of(name: &str) -> usize
         None => 0,
         Some(byte) => (*byte % 64) as usize,
     }
-}
-
-// Whether the bit with this index is set.
-#[inline(always)]
-fn has_bit(word: u64, place: usize) -> bool
-    requires { place < 64 }
-    ensures { result ≡ (bit_at word place == 1) }
-{
-    (word >> place) & 1 == 1
-}
-
-// A word with the bit of an index also set.
-fn with_bit(word: u64, place: usize) -> u64
-    requires { place < 64 }
-    ensures here { bit_at result place ≡ 1 }
-    ensures others { (i : ℕ) → bit_at word i ≡ 1 → bit_at result i ≡ 1 }
-{
-    word | 1 << place
 }
 
 // Whether a write alters what an entry shows under one of these names.

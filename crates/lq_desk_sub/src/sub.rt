@@ -4,6 +4,8 @@ ghost use Rattle.lq_value.specs.Refusal.{IsRefusedBy};
 ghost use Rattle.lq_volume.specs.State.{record_at};
 ghost use Rattle.lq_volume.specs.Change.{after, node_of, IsLawful};
 ghost use Rattle.lq_update.specs.Touched.{is_match};
+ghost use Rattle.lq_predicate.specs.Names.{names_of};
+ghost use Rattle.lq_desk_sub.specs.Passing.{HasEndings, are_written};
 
 use crate::live_query::LiveQuery;
 use crate::messages::Messages;
@@ -111,6 +113,22 @@ impl Sub {
         ensures { result ≡ is_live self.now.held }
     {
         self.mark.is_none()
+    }
+
+    // Whether a write alters what one of the query's names shows.
+    #[inline(always)]
+    pub(crate) fn sees_writes(&self) -> bool
+        ensures { result ≡ are_written (names_of self.now.held.query) }
+    {
+        self.query.sees_writes()
+    }
+
+    // A word with a bit for the ending of each of the query's names.
+    #[inline(always)]
+    pub(crate) fn endings(&self) -> u64
+        ensures { HasEndings (names_of self.now.held.query) result }
+    {
+        self.query.endings()
     }
 
     /// Whether the mark went out. It takes no memory.

@@ -2,16 +2,15 @@ use Rattle.std.proofs.Common.{◌^◌, ◌-◌, ◌∙◌, ap, sym, subst, refl,
 use Rattle.std.specs.Option.{option_flatten}
 use Rattle.std.specs.Int.{bit_at}
 use Rattle.std.proofs.lemmas.Nat.Bits.{bit_at-zero}
-use Rattle.lq_desk.specs.Slot.{committed_slot, has_ready}
 use Rattle.lq_desk.specs.Kept.{IsFew}
-use Rattle.lq_desk.proofs.BitLemmas.{AreDone, clear-more, done-all, done-first, done-more, few-flat, no-bits}
-use Rattle.lq_desk.proofs.SlotsLemmas.{kept_slot, committed-quiet}
+use Rattle.lq_desk.proofs.BitLemmas.{clear-more, few-flat, no-bits}
+use Rattle.lq_desk.proofs.ReadyLemmas.{AreCommittedTo, committed-all, committed-first, committed-more}
+use Rattle.lq_desk.proofs.SlotsLemmas.{kept_slot}
 use Rattle.lq_desk.proofs.stored.commit_all.Goals as goal
 
 pub loop-init : goal.loop-init
 loop-init c = record {
-  done = done-first committed_slot has_ready c.args.told c.args.slots.now.items committed-quiet
-      c.requires.told;
+  done = committed-first c.args.told c.args.slots.now.items;
   clear = λ i lt. absurd (omega (arith, lt));
   fits = omega arith;
   len = refl;
@@ -30,9 +29,9 @@ loop-preserved c =
     let l = c.loop in
     let place = c.lowest_bit-place.result in
     record {
-      done = subst (AreDone committed_slot c.without_bit-rest.result c.args.slots.now.items)
+      done = subst (AreCommittedTo c.args.told c.without_bit-rest.result c.args.slots.now.items)
           (sym c.commit_at.ensures.items)
-          (done-more committed_slot l.rest c.without_bit-rest.result c.args.slots.now.items
+          (committed-more c.args.told l.rest c.without_bit-rest.result c.args.slots.now.items
           l.slots.items place c.lowest_bit-place.ensures.set c.without_bit-rest.ensures
           l.invariant.done);
       clear = clear-more l.rest c.without_bit-rest.result place l.counter
@@ -45,12 +44,12 @@ loop-preserved c =
 
 pub returns-then-rest-eq0-clause-items : goal.returns-then-rest-eq0-clause-items
 returns-then-rest-eq0-clause-items c =
-    done-all committed_slot c.loop.rest c.args.slots.now.items c.loop.slots.items
+    committed-all c.args.told c.loop.rest c.args.slots.now.items c.loop.slots.items
     (λ i. ap (λ rest. bit_at rest i) c.if-rest-eq0.true ∙ bit_at-zero i) c.loop.invariant.done
 
 pub returns-clause-items : goal.returns-clause-items
 returns-clause-items c =
     let clear = c.loop.invariant.clear in
-    done-all committed_slot c.loop.rest c.args.slots.now.items c.loop.slots.items
+    committed-all c.args.told c.loop.rest c.args.slots.now.items c.loop.slots.items
     (no-bits c.loop.rest c.loop.invariant.fits
     (λ i lt. clear i (omega (arith, lt, c.loop-test.false)))) c.loop.invariant.done

@@ -2,13 +2,12 @@ use Rattle.std.proofs.Common.{◌≡◌, ℕ, ◌<◌, ◌^◌}
 use Rattle.std.specs.Prelude.{vec_len}
 use Rattle.std.specs.Vec.{vec_capacity}
 use Rattle.std.specs.Int.{bit_at}
-use Rattle.lq_desk.specs.Slot.{committed_slot}
-use Rattle.lq_desk.proofs.BitLemmas.{AreDone}
+use Rattle.lq_desk.proofs.ReadyLemmas.{AreCommittedTo}
 use Rattle.lq_desk.proofs.stored.commit_all.Given as goal
 
 abbrev pub invariant-loop : goal.invariant-loop
 invariant-loop l = record {
-  done : AreDone committed_slot l.rest l.fn.slots.items l.slots.items;
+  done : AreCommittedTo l.told l.rest l.fn.slots.items l.slots.items;
   clear : (i : ℕ) → i < l.counter → bit_at l.rest i ≡ 0;
   fits : l.rest < 2 ^ 64;
   len : vec_len l.slots ≡ vec_len l.fn.slots;

@@ -1,16 +1,17 @@
-use Rattle.std.proofs.Common.{◌≡◌, ℕ, ◌-◌, ◌<◌, ◌≤◌, ◌^◌, ◌++◌, map, length, take, drop, get_or, Option}
-use Rattle.std.specs.Option.{option_map}
-use Rattle.lq_desk.specs.Slot.{PreparedSlot, has_ready, prepared_slot, slot_of}
-use Rattle.lq_desk.specs.Words.{IsMarked}
-use Rattle.lq_desk.specs.Kept.{IsFew}
+use Rattle.std.proofs.Common.{◌≡◌, ℕ, ◌<◌, ◌^◌, map}
+use Rattle.std.specs.Prelude.{vec_len}
+use Rattle.std.specs.Vec.{vec_capacity}
+use Rattle.std.specs.Int.{bit_at}
+use Rattle.lq_desk.proofs.ReadyLemmas.{AreMade}
+use Rattle.lq_desk.proofs.SlotsLemmas.{kept_slot}
 use Rattle.lq_desk.proofs.stored.ready_all.Given as goal
 
-abbrev pub invariant-loop-slot : goal.invariant-loop-slot
-invariant-loop-slot l = record {
-  done : l.slot-items ≡ map (option_map (prepared_slot l.planned.before l.planned.change))
-      (take l.slot-index l.fn.slots.items) ++ drop l.slot-index l.fn.slots.items;
-  few : (k : ℕ) (d : Option PreparedSlot) → l.slot-index ≤ k → k < length l.slot-items
-      → IsFew (2 ^ 63 - 1) (option_map slot_of (get_or l.slot-items k d));
-  place : l.index ≡ l.slot-index;
-  told : IsMarked has_ready l.told (take l.slot-index l.slot-items);
+abbrev pub invariant-loop : goal.invariant-loop
+invariant-loop l = record {
+  made : AreMade l.planned.before l.planned.change l.asked l.rest l.told l.slots.items;
+  kept : map kept_slot l.slots.items ≡ map kept_slot l.fn.slots.items;
+  clear : (i : ℕ) → i < l.counter → bit_at l.rest i ≡ 0;
+  fits : l.rest < 2 ^ 64;
+  len : vec_len l.slots ≡ vec_len l.fn.slots;
+  room : vec_capacity l.slots ≡ vec_capacity l.fn.slots;
 }

@@ -1,5 +1,6 @@
+use Rattle.std.proofs.Common.{refl}
 use Rattle.std.specs.Int.{w64}
-use Rattle.std.proofs.lemmas.Nat.Bits.{bit_at_set_same}
+use Rattle.std.proofs.lemmas.Nat.Bits.{bit_at_set_other, bit_at_set_same}
 use Rattle.lq_desk.proofs.WordLemmas.{either-left}
 use Rattle.lq_desk.proofs.word.with_bit.Goals as goal
 
@@ -8,10 +9,12 @@ returns-then-not-is_set c =
     record {
       here = λ is. absurd (let set = c.if-not-is_set.true in let no : ⊥ = cc in no);
       others = λ i is. is;
+      same = λ i other. refl;
     }
 
 pub returns : goal.returns
 returns c = record {
   here = λ is. bit_at_set_same w64 c.args.word c.args.place c.requires;
   others = either-left c.args.word _;
+  same = λ i other. bit_at_set_other w64 c.args.word c.args.place c.requires i other;
 }

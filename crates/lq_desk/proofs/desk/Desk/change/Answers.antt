@@ -1,32 +1,41 @@
 use Rattle.std.proofs.Common.{ap}
 use Rattle.std.proofs.lemmas.Result.{err_from_is_err_and}
 use Rattle.lq_desk.specs.Kept.{Kept, changed}
-use Rattle.lq_desk.proofs.SlotsLemmas.{map-prepared, map-committed}
 use Rattle.lq_desk.proofs.Desks.{IsDesk-change, few-desk}
 use Rattle.lq_desk.proofs.desk.Desk.change.Goals as goal
 
+pub invariant_of-self : goal.invariant_of-self
+invariant_of-self c = rw c.ready.ensures.kept c.self.invariant
+
+pub returns-in_err-told-clause-err : goal.returns-in_err-told-clause-err
+returns-in_err-told-clause-err c =
+    let p = err_from_is_err_and c.from_residual-in_err-told.result
+    c.from_residual-in_err-told.ensures.1 in
+    rw (p.1, c.ready.ensures.kept) c.self.view_is
+
 pub invariant_of-self-in_err-applied : goal.invariant_of-self-in_err-applied
 invariant_of-self-in_err-applied c =
-    rw (c.in_err-applied.ensures.err, c.in_ok-told.ensures.ok, map-prepared) c.self.invariant
+    rw (c.in_err-applied.ensures.err, c.ready.ensures.kept) c.self.invariant
 
 pub returns-in_err-applied-clause-err : goal.returns-in_err-applied-clause-err
 returns-in_err-applied-clause-err c =
     let p = err_from_is_err_and c.from_residual-in_err-applied.result
     c.from_residual-in_err-applied.ensures.1 in
-    rw (p.1, c.in_err-applied.ensures.err, c.in_ok-told.ensures.ok, map-prepared) c.self.view_is
+    rw (p.1, c.in_err-applied.ensures.err, c.ready.ensures.kept) c.self.view_is
 
-pub commit-requires-clause-few : goal.commit-requires-clause-few
-commit-requires-clause-few c = rw (c.in_ok-told.ensures.ok, map-prepared)
-    (few-desk _ c.changes.ensures.volume c.self.invariant)
+pub commit-requires : goal.commit-requires
+commit-requires c = record {
+  few = rw c.ready.ensures.kept (few-desk _ c.changes.ensures.volume c.self.invariant);
+}
 
 pub invariant_of-self-2 : goal.invariant_of-self-2
 invariant_of-self-2 c =
     rw (
-      c.commit.ensures,
-      c.in_ok-told.ensures.ok,
+      c.commit.ensures c.in_ok-planned.planned.before c.in_ok-planned.planned.change
+      c.in_ok-told.ensures.told,
+      c.ready.ensures.kept,
       c.in_ok-planned.ensures.value,
       c.in_ok-applied.ensures.ok,
-      map-committed,
     )
     (IsDesk-change c.kept_shows_worlds.ensures c.steps_are_few.ensures c.changes_are_counted.ensures
     _ c.args.change.now c.self.invariant c.changes.ensures.volume c.in_ok-planned.ensures.ok)
@@ -34,10 +43,10 @@ invariant_of-self-2 c =
 pub returns-clause-ok : goal.returns-clause-ok
 returns-clause-ok c =
     rw (
-      c.commit.ensures,
-      c.in_ok-told.ensures.ok,
+      c.commit.ensures c.in_ok-planned.planned.before c.in_ok-planned.planned.change
+      c.in_ok-told.ensures.told,
+      c.ready.ensures.kept,
       c.in_ok-planned.ensures.value,
       c.in_ok-applied.ensures.ok,
-      map-committed,
     )
     (ap (λ (k : Kept). changed k c.args.change.now) c.self.view_is)

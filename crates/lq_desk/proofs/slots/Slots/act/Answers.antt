@@ -9,6 +9,7 @@ use Rattle.lq_desk.specs.Reply.{answer_of}
 use Rattle.lq_desk.proofs.SlotsLemmas.{kept_slot}
 use Rattle.lq_desk.proofs.FreeLemmas.{act-free, act-stored, few-stored}
 use Rattle.lq_desk.proofs.MarkLemmas.{marks-acted}
+use Rattle.lq_desk.proofs.WatchLemmas.{act-query, watched-acted}
 use Rattle.lq_desk.proofs.slots.Slots.act.Goals.{then-slot-eq0-via-then-slot-eq0, then-slot-eq0-via-else-slot-eq0+then-slot-len}
 use Rattle.lq_desk.proofs.slots.Slots.act.Goals as goal
 
@@ -57,4 +58,8 @@ invariant_of-self c =
           (subst (λ b. SetsBit c.self.inside.movable (c.args.slot - 1) b
           c.with_bit-self-inside-2.result) c.can_move_in.ensures c.with_bit-self-inside-2.ensures)
           c.self.invariant.2,
+      watched-acted c.self.inside.watch (act_of c.args.number c.args.act) (act-query c.args.number c.args.act) ks
+          (map kept_slot c.act_in-reply.new.slots.items) (c.args.slot - 1)
+          (ap (λ (p : Answer × List (Option KeptSlot)). p.1) c.act_in-reply.ensures.does)
+          c.self.invariant.3,
     )

@@ -8,6 +8,7 @@ use Rattle.lq_desk.specs.Reply.{answer_of}
 use Rattle.lq_desk.proofs.SlotsLemmas.{kept_slot}
 use Rattle.lq_desk.proofs.FreeLemmas.{act-free, act-stored, few-stored}
 use Rattle.lq_desk.proofs.MarkLemmas.{marks-closed}
+use Rattle.lq_desk.proofs.WatchLemmas.{close_turn-query, watched-acted}
 use Rattle.lq_desk.proofs.slots.Slots.close.Goals.{then-slot-eq0-via-then-slot-eq0, then-slot-eq0-via-else-slot-eq0+then-slot-len}
 use Rattle.lq_desk.proofs.slots.Slots.close.Goals as goal
 
@@ -50,4 +51,8 @@ invariant_of-self c =
       marks-closed c.args.number c.self.inside.ending c.self.inside.movable ks _ (c.args.slot - 1)
           (ap (λ (p : Answer × List (Option KeptSlot)). p.1) c.close_in.ensures.does)
           c.self.invariant.2,
+      watched-acted c.self.inside.watch (close_turn c.args.number) (close_turn-query c.args.number) ks
+          (map kept_slot c.close_in.new.slots.items) (c.args.slot - 1)
+          (ap (λ (p : Answer × List (Option KeptSlot)). p.1) c.close_in.ensures.does)
+          c.self.invariant.3,
     )

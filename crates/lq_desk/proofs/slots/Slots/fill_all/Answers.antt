@@ -7,6 +7,7 @@ use Rattle.lq_desk.proofs.PutLemmas.{filled-quiet}
 use Rattle.lq_desk.proofs.FreeLemmas.{kept-map}
 use Rattle.lq_desk.proofs.MarkLemmas.{marks-filled}
 use Rattle.lq_desk.proofs.WordLemmas.{none-marked}
+use Rattle.lq_desk.proofs.WatchLemmas.{filled-query, watched-mapped}
 use Rattle.lq_desk.proofs.slots.Slots.fill_all.Goals as goal
 
 pub returns-then-self-eq0 : goal.returns-then-self-eq0
@@ -24,6 +25,8 @@ invariant_of-self c = (
   omega (arith, c.self.invariant.1, c.fill_all.ensures.room),
   marks-filled c.self.inside.ending c.self.inside.movable
       (map kept_slot c.self.inside.stored.items) _ c.fill_all.ensures.items c.self.invariant.2,
+  watched-mapped c.self.inside.watch filled filled-query
+      (map kept_slot c.self.inside.stored.items) _ c.fill_all.ensures.items c.self.invariant.3,
 )
 
 pub returns : goal.returns

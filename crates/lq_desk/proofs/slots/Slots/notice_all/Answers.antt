@@ -6,6 +6,7 @@ use Rattle.lq_desk.proofs.SlotsLemmas.{kept_slot, noticed-quiet}
 use Rattle.lq_desk.proofs.FreeLemmas.{few-stored, kept-map}
 use Rattle.lq_desk.proofs.MarkLemmas.{marks-noticed}
 use Rattle.lq_desk.proofs.WordLemmas.{none-marked}
+use Rattle.lq_desk.proofs.WatchLemmas.{noticed-query, watched-mapped}
 use Rattle.lq_desk.proofs.slots.Slots.notice_all.Goals as goal
 
 pub returns-then-self-eq0 : goal.returns-then-self-eq0
@@ -28,6 +29,8 @@ invariant_of-self c = (
   omega (arith, c.self.invariant.1, c.notice_all.ensures.room),
   marks-noticed c.args.number c.self.inside.ending c.self.inside.movable
       (map kept_slot c.self.inside.stored.items) _ c.notice_all.ensures.items c.self.invariant.2,
+  watched-mapped c.self.inside.watch (noticed c.args.number) (noticed-query c.args.number)
+      (map kept_slot c.self.inside.stored.items) _ c.notice_all.ensures.items c.self.invariant.3,
 )
 
 pub returns : goal.returns

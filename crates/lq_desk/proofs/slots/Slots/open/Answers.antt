@@ -1,12 +1,13 @@
 use Rattle.std.proofs.Common.{◌≡◌, ◌<◌, ap, ◌∙◌, sym, subst, map, length, arith, [], ◌∷◌, Some}
 use Rattle.std.specs.Prelude.{slice_set}
 use Rattle.std.proofs.lemmas.List.{length-map, map-append, map-set}
-use Rattle.lq_desk.specs.Slot.{with_free}
+use Rattle.lq_desk.specs.Slot.{slot_of, with_free}
 use Rattle.lq_desk.specs.Kept.{first_free}
 use Rattle.lq_desk.proofs.SlotsLemmas.{kept_slot, first_free-front}
 use Rattle.lq_desk.proofs.FreeLemmas.{first-free, free-place, set-stored, set-pushed}
 use Rattle.lq_desk.specs.Words.{SetsBit}
 use Rattle.lq_desk.proofs.MarkLemmas.{marks-pushed, marks-set}
+use Rattle.lq_desk.proofs.WatchLemmas.{watched-pushed, watched-set, watches}
 use Rattle.lq_desk.proofs.slots.Slots.open.Goals as goal
 
 pub returns-then-place-len : goal.returns-then-place-len
@@ -68,6 +69,13 @@ invariant_of-self c =
           (subst (λ b. SetsBit c.self.inside.movable c.first_free-place.result b
           c.with_bit-self-inside-2.result) c.can_move.ensures c.with_bit-self-inside-2.ensures)
           c.self.invariant.2,
+      watched-set c.self.inside.watch _ (map kept_slot xs) _ c.first_free-place.result
+          (slot_of c.args.slot)
+          (ap (map kept_slot) c.fill.ensures.items
+          ∙ map-set kept_slot xs c.first_free-place.result (Some c.args.slot))
+          (watches c.self.inside.watch _ c.first_free-place.result c.args.slot c.sub.result.now
+          c.sub.ensures c.set.ensures.here c.set.ensures.others)
+          c.self.invariant.3,
     )
 
 pub invariant_of-self-else-place-len : goal.invariant_of-self-else-place-len
@@ -95,4 +103,15 @@ invariant_of-self-else-place-len c =
       omega (arith, free, all, xs_len, c.push_reserved.ensures.len),
       omega (arith, c.self.invariant.1, c.push_reserved.ensures.capacity),
       marks,
+      watched-pushed c.self.inside.watch _ (map kept_slot xs) _ c.first_free-place.result
+          (slot_of c.args.slot) last
+          (ap (map kept_slot) c.push_reserved.ensures.items ∙ map-append kept_slot xs (x ∷ []))
+          (watches c.self.inside.watch _ c.first_free-place.result c.args.slot c.sub.result.now
+          c.sub.ensures c.set.ensures.here c.set.ensures.others)
+          c.self.invariant.3,
     )
+
+pub set-requires : goal.set-requires
+set-requires c = free-place c.self.inside.stored.items
+    c.args.self.now c.first_free-place.result (c.first_free-place.ensures
+    ∙ ap (λ ys. first_free (map kept_slot ys)) c.deref.ensures.value) c.self.view_is c.requires

@@ -11,6 +11,7 @@ use Rattle.lq_desk.proofs.FreeLemmas.{act-free, act-stored, few-stored}
 use Rattle.lq_desk.proofs.MarkLemmas.{marks-read, work-marked}
 use Rattle.std.specs.Int.RustNames.{bit_or}
 use Rattle.lq_desk.proofs.WordLemmas.{marked-flat}
+use Rattle.lq_desk.proofs.WatchLemmas.{read_turn-query, watched-acted}
 use Rattle.lq_desk.proofs.slots.Slots.read.Goals.{then-slot-eq0-via-then-slot-eq0, then-slot-eq0-via-else-slot-eq0+then-slot-len}
 use Rattle.lq_desk.proofs.slots.Slots.read.Goals as goal
 
@@ -57,6 +58,10 @@ invariant_of-self c =
           (subst (λ b. SetsBit c.self.inside.movable (c.args.slot - 1) b
           c.with_bit-self-inside.result) c.can_move_in.ensures c.with_bit-self-inside.ensures)
           c.self.invariant.2,
+      watched-acted c.self.inside.watch (read_turn c.args.number) (read_turn-query c.args.number) ks
+          (map kept_slot c.read_in-reply.new.slots.items) (c.args.slot - 1)
+          (ap (λ (p : Answer × List (Option KeptSlot)). p.1) c.read_in-reply.ensures.does)
+          c.self.invariant.3,
     )
 
 pub read_in-reply-requires-clause-work : goal.read_in-reply-requires-clause-work

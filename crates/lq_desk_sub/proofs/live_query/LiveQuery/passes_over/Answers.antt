@@ -2,7 +2,6 @@ use Rattle.std.proofs.Common.{◌≡◌, ap, sym, ◌∙◌, true}
 use Rattle.lq_predicate.specs.Names.{names_of}
 use Rattle.lq_predicate.specs.Span.{spans_of}
 use Rattle.lq_desk_sub.specs.Passing.{passes_over}
-use Rattle.lq_desk_sub.proofs.PassingLemmas.{step-empty}
 use Rattle.lq_desk_sub.proofs.live_query.LiveQuery.passes_over.Goals as goal
 
 pub returns-then-looks_elsewhere : goal.returns-then-looks_elsewhere
@@ -13,8 +12,8 @@ returns-then-looks_elsewhere c moved seq is =
     let over : passes_over (names_of q) change ≡ true =
     ap (passes_over (names_of q)) (sym c.change.ensures)
     ∙ (sym c.looks_elsewhere.ensures ∙ c.if-looks_elsewhere.true) in
-    step-empty c.changes_pass_over.ensures c.truth_goes_by_names.ensures q moved
-    s change seq c.applied.ensures.volume over
+    c.passed_changes_tell_nothing.ensures q change over moved s seq c.applied.ensures.volume
+    c.applied.ensures.lawful
 
 pub returns-else-looks_elsewhere : goal.returns-else-looks_elsewhere
 returns-else-looks_elsewhere c moved seq is =

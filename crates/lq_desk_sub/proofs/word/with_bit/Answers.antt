@@ -2,7 +2,7 @@ use Rattle.std.proofs.Common.{◌≡◌, ℕ, arith}
 use Rattle.std.specs.Int.{bit_at, w64}
 use Rattle.std.specs.Int.RustNames.{bit_or}
 use Rattle.std.proofs.lemmas.Nat.Bits.{bit_at_set_same, bit_at_or, bit_at-lt}
-use Rattle.lq_desk_sub.proofs.live_query.with_bit.Goals as goal
+use Rattle.lq_desk_sub.proofs.word.with_bit.Goals as goal
 
 pub returns-clause-here : goal.returns-clause-here
 returns-clause-here c = bit_at_set_same w64 c.args.word c.args.place c.requires
