@@ -19,7 +19,7 @@ use Rattle.lq_volume.specs.Result.{entry_of, shown, result_of, match_at, entry_i
 use Rattle.lq_update.specs.declared.message.Opcode.{Opcode}
 use Rattle.lq_update.specs.declared.message.Opcode.TheVariants.{Created, Removed}
 use Rattle.lq_update.specs.Diff.{same_entry, missing, diff}
-use Rattle.lq_update.specs.Touched.{left, left_at, told_first, told_last}
+use Rattle.lq_update.specs.Touched.{is_match, left, left_at, told_first, told_last}
 use Rattle.lq_update.proofs.ToldLemmas.{Has, Lacks, told-among}
 use Rattle.lq_update.specs.Updates.{numbered, step_of}
 
@@ -509,3 +509,40 @@ told-nothing true None None h k = (refl, refl)
 told-nothing false None None h k = (refl, refl)
 told-nothing moved None (Some f) h k = cc
 told-nothing moved (Some e) new h k = cc
+
+-- where nothing left or came at the own node and nothing else is taken away, nothing is told
+pub told-none : (q : Query) (moved : Bool) (s : State) (c : Change) (seq : ℕ)
+    → IsVolume s → IsVolume (after s c)
+    → ((n : ℕ) → AllByRecursion (λ k. n ≢ k) (touched_by s c)
+    → record_at s n ≡ record_at (after s c) n)
+    → ((n : ℕ) → clobbered s c ≡ Some n → (n ≢ node_of s c) × (record_at (after s c) n ≡ None))
+    → clobbered s c ≡ None → left_at q s (after s c) (node_of s c) ≡ None
+    → left_at q (after s c) s (node_of s c) ≡ None → step_of q moved s c seq ≡ []
+told-none q moved s c seq v w same gone none left_is came_is =
+    let nothing = told-nothing moved _ _ left_is came_is in
+    sym (told-alone q moved s c seq (s.number + 1) None None v w same gone refl nothing.0 nothing.1
+    none)
+
+-- a record that doesn't match isn't in the result
+match-unmatched : (q : Query) (s : State) (n : ℕ) → is_match q (record_at s n) ≡ false
+    → match_at q s n ≡ None
+match-unmatched q s n is = at (record_at s n) is
+  where
+    at : (o : Option Record) → is_match q o ≡ false
+        → option_and_then (λ r. entry_if q (n, r)) o ≡ None
+    at None h = refl
+    at (Some r) h = rw h refl
+
+-- where the own node matches neither before nor after and nothing else is taken away, nothing is
+-- told
+pub told-unmatched : (q : Query) (moved : Bool) (s : State) (c : Change) (seq : ℕ)
+    → IsVolume s → IsVolume (after s c)
+    → ((n : ℕ) → AllByRecursion (λ k. n ≢ k) (touched_by s c)
+    → record_at s n ≡ record_at (after s c) n)
+    → ((n : ℕ) → clobbered s c ≡ Some n → (n ≢ node_of s c) × (record_at (after s c) n ≡ None))
+    → clobbered s c ≡ None → is_match q (record_at s (node_of s c)) ≡ false
+    → is_match q (record_at (after s c) (node_of s c)) ≡ false → step_of q moved s c seq ≡ []
+told-unmatched q moved s c seq v w same gone none before now =
+    let before_is = match-unmatched q s (node_of s c) before in
+    let now_is = match-unmatched q (after s c) (node_of s c) now in
+    told-none q moved s c seq v w same gone none (rw before_is refl) (rw now_is refl)

@@ -26,11 +26,14 @@ impl<'s, 'a> Matches<'s, 'a> {
         changes_touch_few();
         // For its clauses `lawful` and `volume`.
         let _ = self.planned.applied();
-        let (left, came) = self.difference();
-        if left.is_none() && came.is_none() && self.planned.clobbered().is_none() {
+        if self.matched_before != self.matches_after || self.planned.clobbered().is_some() {
+            return true;
+        }
+        if !self.matched_before {
             return false;
         }
-        true
+        let (left, came) = self.difference();
+        left.is_some() || came.is_some()
     }
 
     // What left the result at the change's own node, and what came into it there.
