@@ -1,12 +1,13 @@
 -- Read in this order. Canonical texts, a piece at a time: PartLemmas, CanonicalLemmas, SizeLemmas,
--- QuerySizeLemmas, DepthLemmas. Names and truth: NameLemmas, TruthLemmas, SpanLemmas. Reading:
--- WeightLemmas, ValidatorLemmas, PlaceLemmas, SoFarLemmas, LimitLemmas, ReadLemmas, ParserLemmas.
--- Pushes: FitLemmas, StarredLemmas (a comparison's size, and a pattern that finds a text's
--- characters), StackLemmas.
+-- QuerySizeLemmas, DepthLemmas. Names and truth: NameLemmas, TruthLemmas, SpanLemmas, NeedLemmas.
+-- Reading: WeightLemmas, ValidatorLemmas, PlaceLemmas, SoFarLemmas, LimitLemmas, ReadLemmas,
+-- ParserLemmas. Pushes: FitLemmas, StarredLemmas (a comparison's size, and a pattern that finds a
+-- text's characters), StackLemmas.
 pub mod PartLemmas
 pub mod NameLemmas
 pub mod TruthLemmas
 pub mod SpanLemmas
+pub mod NeedLemmas
 pub mod CanonicalLemmas
 pub mod WeightLemmas
 pub mod DepthLemmas

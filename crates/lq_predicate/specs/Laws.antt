@@ -1,9 +1,12 @@
 -- Facts about every predicate.
-use Rattle.std.specs.Prelude.{◌≡◌, ◌⊎◌, ℕ, List, true}
+use Rattle.std.specs.Prelude.{◌≡◌, ◌⊎◌, ℕ, List, None, true, false}
 use Rattle.std.specs.List.{list_any}
 use Rattle.std.specs.Str.{bytes_eq}
+use Rattle.lq_value.specs.declared.field.Field.TheVariants.{Attribute}
+use Rattle.lq_value.specs.Field.{field_of}
 use Rattle.lq_predicate_formula.specs.Query.{Query}
 use Rattle.lq_predicate.specs.Names.{names_of}
+use Rattle.lq_predicate.specs.Needs.{needs_attribute}
 use Rattle.lq_predicate.specs.Span.{StaysBeside, span_of}
 use Rattle.lq_predicate.specs.Truth.{Look, truth}
 
@@ -24,3 +27,9 @@ TruthStaysBesideSpans = (q : Query) (look now : Look)
     → ((name : List ℕ) →
     (look name ≡ now name) ⊎ StaysBeside (span_of name q) (look name) (now name))
     → truth q look ≡ truth q now
+
+-- a predicate that needs an attribute is false of a row that shows nothing under any name but those
+-- of the three fields
+abbrev pub BareRowsFail : Type 0
+BareRowsFail = (q : Query) (look : Look) → needs_attribute q ≡ true
+    → ((name : List ℕ) → field_of name ≡ Attribute → look name ≡ None) → truth q look ≡ false

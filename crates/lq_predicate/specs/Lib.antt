@@ -7,6 +7,7 @@ pub mod PlainPlace
 pub mod Refusals
 pub mod Truth
 pub mod Names
+pub mod Needs
 pub mod Span
 pub mod Laws
 pub mod Validator

@@ -1,5 +1,5 @@
 //! Laws of predicates: each is the contract of a function with no body.
-ghost use Rattle.lq_predicate.specs.Laws.{TruthGoesByNames, TruthStaysBesideSpans};
+ghost use Rattle.lq_predicate.specs.Laws.{BareRowsFail, TruthGoesByNames, TruthStaysBesideSpans};
 
 /// The truth of a predicate depends on its `names` alone: it is the same for two rows that show the
 /// same under each of them, whatever they show under other names.
@@ -11,4 +11,10 @@ pub fn truth_goes_by_names()
 /// numbers on the same side of all numbers that the predicate compares this name with.
 pub fn truth_stays_beside_spans()
     ensures { TruthStaysBesideSpans }
+{}
+
+/// A predicate that needs an attribute (`needs_attribute`) is false of each row without attributes:
+/// one that shows something under `name`, `size` and `last_modified` at most.
+pub fn bare_rows_fail()
+    ensures { BareRowsFail }
 {}

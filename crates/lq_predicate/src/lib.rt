@@ -29,9 +29,9 @@ mod tree;
 mod truth;
 mod validator;
 
-pub use attributes::names;
+pub use attributes::{names, needs_attribute};
 pub use canonical::write;
-pub use laws::{truth_goes_by_names, truth_stays_beside_spans};
+pub use laws::{bare_rows_fail, truth_goes_by_names, truth_stays_beside_spans};
 pub use predicate::Predicate;
 pub use reader::read;
 pub use spans::Spans;

@@ -8,13 +8,14 @@ ghost use Rattle.lq_value.specs.Refusal.{IsRefusedBy};
 ghost use Rattle.lq_predicate_formula.specs.Capped.{capped};
 ghost use Rattle.lq_predicate.specs.Limits.{is_formed};
 ghost use Rattle.lq_predicate.specs.Names.{attributes, each_once, is_among};
+ghost use Rattle.lq_predicate.specs.Needs.{needs_attribute};
 ghost use Rattle.lq_predicate.specs.Span.{numbers_of, span_of, widened};
 ghost use Rattle.lq_predicate.specs.Truth.{truth};
 
 use crate::span::Span;
 use crate::truth::Row;
 use lq_predicate_formula::{comparison_size, put_comparison};
-use lq_value::{AttrName, Literal, Op, Refusal, compare, same_text};
+use lq_value::{AttrName, Field, Literal, Op, Refusal, compare, same_text};
 use std::alloc::{AllocError, Global};
 use std::marker::Model;
 
@@ -260,6 +261,35 @@ impl Tree {
             }
         }
         Ok(())
+    }
+
+    // Whether the query needs an attribute, so that it is false of each row that has none.
+    pub(crate) fn needs_attribute(&self) -> bool
+        ensures { result ≡ needs_attribute self.now }
+    {
+        match &self.node {
+            TreeNode::Compare(attr, _, _) => match attr.field() {
+                Field::Name | Field::Size | Field::LastModified => false,
+                Field::Attribute => true,
+            },
+            TreeNode::Not(_) => false,
+            TreeNode::And(parts) => {
+                for part in parts {
+                    if part.needs_attribute() {
+                        return true;
+                    }
+                }
+                false
+            }
+            TreeNode::Or(parts) => {
+                for part in parts {
+                    if !part.needs_attribute() {
+                        return false;
+                    }
+                }
+                true
+            }
+        }
     }
 
     // The least and the greatest number that the query compares an attribute with.

@@ -1,5 +1,5 @@
 //! Of lq_predicate: formulas, and predicates from pushes, which no script makes.
-use lq_predicate::{Predicate, Stack, StackOp, names, read, write};
+use lq_predicate::{Predicate, Stack, StackOp, names, needs_attribute, read, write};
 use lq_value::Refusal;
 use std::alloc::Global;
 use std::test::Fail;
@@ -136,6 +136,30 @@ fn scenario_formula_texts(rt: HostRuntime) -> Result<(), Fail> {
     for (formula, place) in &FAULTS {
         let refused = read(rt.alloc(), formula).err();
         if refused != Some(Refusal::BadQuery { place: *place }) {
+            return Err(Fail::from(*formula));
+        }
+    }
+    Ok(())
+}
+
+// a formula, whether it needs an attribute
+const NEEDS: [(&str, bool); 9] = [
+    ("PRIO==2", true),
+    ("PRIO!=2", true),
+    ("size>0", false),
+    ("name==a", false),
+    ("last_modified>0", false),
+    ("!(PRIO==2)", false),
+    ("size>0&&PRIO==2", true),
+    ("size>0||PRIO==2", false),
+    ("PRIO==1||PRIO==2", true),
+];
+
+#[test]
+fn formulas_that_need_an_attribute(rt: HostRuntime) -> Result<(), Fail> {
+    for (formula, needs) in &NEEDS {
+        let predicate = read(rt.alloc(), formula)?;
+        if needs_attribute(&predicate) != *needs {
             return Err(Fail::from(*formula));
         }
     }
