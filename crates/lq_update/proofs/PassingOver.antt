@@ -1,5 +1,5 @@
 -- A change under names that a predicate doesn't go by leaves its result as it was.
-use Rattle.std.proofs.Common.{◌≡◌, ◌⊎◌, inl, inr, ℕ, ℤ, pos, List, [], ◌∷◌, refl, sym, ap, subst, ◌∙◌, Bool, true, false, arith}
+use Rattle.std.proofs.Common.{◌≡◌, ◌⊎◌, inl, inr, ℕ, ℤ, pos, List, [], ◌∷◌, ◌++◌, ◌<◌, refl, sym, ap, subst, ◌∙◌, Bool, true, false, arith}
 use Rattle.std.specs.Prelude.{Option, Some, None, map, filter, codes, not, cond, ◌==◌, nat_eq, option_and_then}
 use Rattle.std.specs.List.{AllByRecursion, list_any}
 use Rattle.std.specs.Map.{lookup}
@@ -10,23 +10,27 @@ use Rattle.std.proofs.lemmas.Bool.Decides.{nat_tests}
 use Rattle.std.proofs.lemmas.Map.Entries.{lookup-filter-keys}
 use Rattle.std.proofs.lemmas.Slice.Eq.{bytes_eq-Decides}
 use Rattle.lq_value.specs.declared.entry.Entry.{Entry}
+use Rattle.lq_value.specs.declared.field.Field.TheVariants.{Name, Size, LastModified, Attribute}
 use Rattle.lq_value.specs.declared.value.Value.{Value}
+use Rattle.lq_value.specs.Field.{field_of}
 use Rattle.lq_predicate_formula.specs.Query.{Query}
-use Rattle.lq_predicate.specs.Laws.{TruthStaysBesideSpans}
+use Rattle.lq_predicate.specs.Laws.{BareRowsFail, TruthStaysBesideSpans}
 use Rattle.lq_predicate.specs.Span.{StaysBeside, is_beside, span_of}
 use Rattle.lq_predicate.specs.Truth.{truth}
 use Rattle.lq_volume.specs.declared.change.Change.TheVariants.{Create, Remove, Move, Write, SetAttr, RemoveAttr}
 use Rattle.lq_volume.specs.Attributes.{Attributes, value_of, with_attr, without_attr}
 use Rattle.lq_volume.specs.State.{State, Record, IsVolume, record_at}
 use Rattle.lq_volume.specs.Change.{after, altered, written, set_attr, remove_attr}
+use Rattle.lq_volume.specs.Laws.{ChangesKeepTrees, ClobberedGo, UntouchedStay}
 use Rattle.lq_volume.specs.Result.{result_of, entry_of, entry_if, match_at, shown}
 use Rattle.lq_update.specs.Diff.{missing, messages_of, diff}
 use Rattle.lq_update.specs.Fold.{EntriesRise}
-use Rattle.lq_update.specs.Laws.{ChangesPassOver}
+use Rattle.lq_update.specs.Laws.{BareCreatesTellNothing, ChangesPassOver}
+use Rattle.lq_update.specs.Touched.{is_match}
 use Rattle.lq_update.proofs.EntryLemmas.{entry_at, entries-same, rises-filter}
 use Rattle.lq_update.proofs.FoldLaws.{results-rise}
 use Rattle.lq_update.proofs.FoldLemmas.{missing-at}
-use Rattle.lq_update.proofs.TouchedLemmas.{left-same}
+use Rattle.lq_update.proofs.TouchedLemmas.{Entries, left-same, told-unmatched}
 
 -- another name of the predicate has the test's answer too
 same-name : (names : List (List ℕ)) (name other : List ℕ) → list_any (bytes_eq name) names ≡ true
@@ -237,3 +241,41 @@ match-written law q s r node size time is sizes times =
     ap (option_and_then (λ r. entry_if q (node, r))) there
     ∙ ap (λ b. cond b (Some (entry_of (node, r))) None) (sym same)
     ∙ sym (ap (option_and_then (λ r. entry_if q (node, r))) is)
+
+-- ---- a creation, where the query needs an attribute
+
+-- a new node has no record, and then the one that is put last
+created-last : (es : Entries) (k : ℕ) (r : Record) → AllByRecursion (λ e. e.0 < k) es
+    → (lookup (nat_eq k) es ≡ None) × (lookup (nat_eq k) (es ++ (k, r) ∷ []) ≡ Some r)
+created-last [] k r below = grind (arith, nat_tests)
+created-last (e ∷ es) k r below =
+    let rest = created-last es k r below.1 in
+    (grind (arith, nat_tests), grind (arith, nat_tests))
+
+-- a record without attributes shows nothing under the name of one
+shown-bare : (r : Record) → r.attrs ≡ [] → (name : List ℕ) → field_of name ≡ Attribute
+    → shown r name ≡ None
+shown-bare r bare name is = by (bytes_eq name (codes "name")) refl
+    (bytes_eq name (codes "size")) refl (bytes_eq name (codes "last_modified")) refl
+  where
+    by : (a : Bool) → bytes_eq name (codes "name") ≡ a → (b : Bool)
+        → bytes_eq name (codes "size") ≡ b → (c : Bool)
+        → bytes_eq name (codes "last_modified") ≡ c → shown r name ≡ None
+    by true n b sz c t = let no : Name ≡ Attribute = rw n at is in cc
+    by false n true sz c t = let no : Size ≡ Attribute = rw (n, sz) at is in cc
+    by false n false sz true t = let no : LastModified ≡ Attribute = rw (n, sz, t) at is in cc
+    by false n false sz false t = rw (n, sz, t, bare) refl
+
+-- a creation tells nothing to a query that needs an attribute
+pub bare-creates : BareRowsFail → ChangesKeepTrees → UntouchedStay → ClobberedGo
+    → BareCreatesTellNothing
+bare-creates fail trees stay go q moved s dir name kind size time seq v lawful needs =
+    let c = Create dir name kind size time in
+    let r : Record =
+    record { dir = dir; name = name; kind = kind; size = size; time = time; attrs = [] } in
+    let last = created-last s.records s.next r v.numbered.below in
+    let before : is_match q (record_at s s.next) ≡ false = ap (is_match q) last.0 in
+    let now : is_match q (record_at (after s c) s.next) ≡ false =
+    ap (is_match q) last.1 ∙ fail q (shown r) needs (shown-bare r refl) in
+    told-unmatched q moved s c seq v (trees s c v lawful)
+    (λ n off. stay s c n v lawful off) (λ n is. go s c n v is) refl before now

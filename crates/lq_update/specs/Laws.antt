@@ -1,11 +1,13 @@
 -- Facts about every update list.
-use Rattle.std.specs.Prelude.{◌≡◌, ◌↔◌, ℕ, ◌+◌, ◌≤◌, List, [], ◌∷◌, ◌++◌, length, Bool, true, false, codes, Option, Some, None}
+use Rattle.std.specs.Prelude.{◌≡◌, ◌↔◌, ℕ, ℤ, ◌+◌, ◌≤◌, List, [], ◌∷◌, ◌++◌, length, Bool, true, false, codes, Option, Some, None}
 use Rattle.std.specs.List.{AllByRecursion, list_any}
 use Rattle.std.specs.Str.{bytes_eq}
 use mathlib.Core.List.{IsPrefix}
+use Rattle.lq_value.specs.declared.kind.Kind.{Kind}
 use Rattle.lq_value.specs.Refusal.{first_refusal}
 use Rattle.lq_predicate_formula.specs.Query.{Query}
 use Rattle.lq_predicate.specs.Laws.{GoesBy}
+use Rattle.lq_predicate.specs.Needs.{needs_attribute}
 use Rattle.lq_volume.specs.declared.change.Change.{Change}
 use Rattle.lq_volume.specs.declared.change.Change.TheVariants.{Create, Remove, Move, Write, SetAttr, RemoveAttr}
 use Rattle.lq_volume.specs.State.{State, IsVolume}
@@ -118,3 +120,10 @@ ChangesPassOver = (q : Query) (moved : Bool) (s : State) (c : Change)
     (names altered : List (List ℕ)) → IsVolume s → GoesBy names q → names_altered c ≡ Some altered
     → AllByRecursion (λ name. list_any (bytes_eq name) names ≡ false) altered
     → diff q moved s (after s c) ≡ []
+
+-- a creation makes no message for a predicate that needs an attribute, since the new entry has none
+abbrev pub BareCreatesTellNothing : Type 0
+BareCreatesTellNothing = (q : Query) (moved : Bool) (s : State) (dir : ℕ) (name : List ℕ)
+    (kind : Kind) (size : ℕ) (time : ℤ) (seq : ℕ) → IsVolume s
+    → IsLawful s (Create dir name kind size time) → needs_attribute q ≡ true
+    → step_of q moved s (Create dir name kind size time) seq ≡ []

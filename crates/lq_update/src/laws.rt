@@ -1,6 +1,8 @@
 //! Laws of the update lists: each is the contract of a function with no body.
-ghost use Rattle.lq_update.specs.Laws.{ChangesAddSteps, ChangesPassOver, FoldingsFollow, FoldsGiveResults, MessagesFitIn, RebuildsTakeAll, ResultsRise, SettledIsTested, StepsAreFew, UpdatesArePrefixes, UpdatesBeginEmpty, UpdatesGrow, UpdatesJoin, UpdatesStay, WholeFoldsGiveResults};
+ghost use Rattle.lq_update.specs.Laws.{BareCreatesTellNothing, ChangesAddSteps, ChangesPassOver, FoldingsFollow, FoldsGiveResults, MessagesFitIn, RebuildsTakeAll, ResultsRise, SettledIsTested, StepsAreFew, UpdatesArePrefixes, UpdatesBeginEmpty, UpdatesGrow, UpdatesJoin, UpdatesStay, WholeFoldsGiveResults};
 
+use crate::difference::changes_touch_few;
+use lq_predicate::bare_rows_fail;
 use lq_volume::{
     accepted_changes_keep_trees, changes_are_counted, clobbered_nodes_go, untouched_nodes_stay,
 };
@@ -102,3 +104,12 @@ pub fn rebuilds_take_all()
 pub fn changes_pass_over()
     ensures { ChangesPassOver }
 {}
+
+/// A creation makes no message for a predicate that needs an attribute (`needs_attribute` of
+/// lq_predicate): a new entry has none until one is set.
+pub fn bare_creates_tell_nothing()
+    ensures { BareCreatesTellNothing }
+{
+    bare_rows_fail();
+    changes_touch_few();
+}

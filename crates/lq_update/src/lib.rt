@@ -23,9 +23,10 @@ mod telling;
 pub use beside::writes_beside;
 pub use indexed_rebuild::IndexedRebuild;
 pub use laws::{
-    changes_add_steps, changes_pass_over, foldings_follow, folds_give_results, messages_fit_in,
-    rebuilds_take_all, results_rise, settled_is_tested, steps_are_few, updates_are_prefixes,
-    updates_begin_empty, updates_grow, updates_join, updates_stay, whole_folds_give_results,
+    bare_creates_tell_nothing, changes_add_steps, changes_pass_over, foldings_follow,
+    folds_give_results, messages_fit_in, rebuilds_take_all, results_rise, settled_is_tested,
+    steps_are_few, updates_are_prefixes, updates_begin_empty, updates_grow, updates_join,
+    updates_stay, whole_folds_give_results,
 };
 pub use mark::{Cause, Mark};
 pub use matches::{Matches, matches_of};
