@@ -1,7 +1,8 @@
 //! Tests that cross crates: worked examples as lists of events (`events`), each call that may give
 //! up with memory for each variant of its arguments (`variants`), listings and paths (`folders`),
-//! calls that are given again where memory ran out (`again`), and the plain body of `step` beside
-//! the fast one (`plain`, `bodies`). Nothing here waits.
+//! calls that are given again where memory ran out (`again`), the plain body of `step` beside the
+//! fast one (`plain`, `bodies`), and changes that tell nothing (`beside`, `creates`). Nothing here
+//! waits.
 #![tactic(auto)]
 
 #[cfg(test)]
@@ -14,6 +15,8 @@ mod ask;
 mod beside;
 #[cfg(test)]
 mod bodies;
+#[cfg(test)]
+mod creates;
 #[cfg(test)]
 mod events;
 #[cfg(test)]
