@@ -7,8 +7,10 @@ use Rattle.std.specs.Option.{option_map_or}
 use Rattle.std.proofs.lemmas.Bool.{cases_lt}
 use Rattle.lq_predicate_formula.specs.Query.{Query}
 use Rattle.lq_predicate.specs.Names.{names_of}
+use Rattle.lq_predicate.specs.Needs.{needs_attribute}
 use Rattle.lq_volume.specs.declared.change.Change.{Change}
 use Rattle.lq_volume.specs.declared.change.Change.TheVariants.{Create, Remove, Move, Write, SetAttr, RemoveAttr}
+use Rattle.lq_update.specs.Laws.{BareCreatesTellNothing}
 use Rattle.lq_desk_sub.specs.declared.watch.Watch.{Watch}
 use Rattle.lq_desk_sub.specs.Laws.{PassedTellNothing}
 use Rattle.lq_desk_sub.specs.Passing.{HasEndings, TellsNothing, are_written, ending_of, is_among}
@@ -107,9 +109,10 @@ not-among names endings name has clear = by (is_among names name) refl
         ap (λ n. n == 1) (sym one) ∙ clear in let no : ⊥ = cc in no)
 
 -- the words of a watch before and after a subscription is watched
-module _ (law : PassedTellNothing) (q : Query) (old new : Watch) (place endings n : ℕ)
+module _ (law : PassedTellNothing) (bare : BareCreatesTellNothing) (q : Query) (old new : Watch) (place endings n : ℕ)
     (wide : 64 ≤ n)
     (all : PutsBit old.all place true new.all)
+    (creates : PutsBit old.creates place (not (needs_attribute q)) new.creates)
     (writes : PutsBit old.writes place (are_written (names_of q)) new.writes)
     (attrs : AreSet endings place n old.attrs new.attrs) (has : HasEndings (names_of q) endings)
     where
@@ -134,10 +137,16 @@ module _ (law : PassedTellNothing) (q : Query) (old new : Watch) (place endings 
       → not (list_any (is_among (names_of q)) (name ∷ [])) ≡ true
   passed name none = over (is_among (names_of q) name) none
 
+  -- what isn't false is true
+  needed : (b : Bool) → not b ≡ false → b ≡ true
+  needed true is = refl
+  needed false is = absurd (let no : ⊥ = cc in no)
+
   -- a change whose bit is clear has no message
   pub watch-here : (c : Change) → bit_at (asked new c) place ≡ 0 → TellsNothing q c
-  watch-here (Create dir name kind size time) clear =
-      absurd (omega (arith, clear, all.here refl))
+  watch-here (Create dir name kind size time) clear = λ moved s seq volume lawful.
+      bare q moved s dir name kind size time seq volume lawful
+      (needed (needs_attribute q) (unset _ place (not (needs_attribute q)) creates.here clear))
   watch-here (Remove node) clear = absurd (omega (arith, clear, all.here refl))
   watch-here (Move node dir name clobber) clear = absurd (omega (arith, clear, all.here refl))
   watch-here (Write node size time) clear = law q (Write node size time)
@@ -150,7 +159,7 @@ module _ (law : PassedTellNothing) (q : Query) (old new : Watch) (place endings 
   -- no other bit is cleared
   pub watch-others : (c : Change) (i : ℕ) → i ≢ place → bit_at (asked new c) i ≡ 0
       → bit_at (asked old c) i ≡ 0
-  watch-others (Create dir name kind size time) = all.others
+  watch-others (Create dir name kind size time) = creates.others
   watch-others (Remove node) = all.others
   watch-others (Move node dir name clobber) = all.others
   watch-others (Write node size time) = writes.others

@@ -8,7 +8,7 @@ use Rattle.lq_desk_sub.specs.Passing.{ending_of}
 
 -- the word of the subscriptions that a change may have messages for
 abbrev pub asked : Watch → Change → ℕ
-asked w (Create dir name kind size time) = w.all
+asked w (Create dir name kind size time) = w.creates
 asked w (Remove node) = w.all
 asked w (Move node dir name clobber) = w.all
 asked w (Write node size time) = w.writes

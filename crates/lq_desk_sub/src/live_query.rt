@@ -1,7 +1,8 @@
 //! The query of a subscription, and what is found of it once.
-ghost use Rattle.std.specs.Prelude.{◌≡◌, ◌<◌, ℕ, Bool, true, [], IfNone, IfOk, IfSome, None};
+ghost use Rattle.std.specs.Prelude.{◌≡◌, ◌<◌, ℕ, Bool, true, [], not, IfNone, IfOk, IfSome, None};
 ghost use Rattle.lq_value.specs.Refusal.{IsRefusedBy};
 ghost use Rattle.lq_predicate.specs.Names.{names_of};
+ghost use Rattle.lq_predicate.specs.Needs.{needs_attribute};
 ghost use Rattle.lq_volume.specs.State.{record_at};
 ghost use Rattle.lq_volume.specs.Change.{after, node_of};
 ghost use Rattle.lq_update.specs.Touched.{is_match};
@@ -10,7 +11,7 @@ ghost use Rattle.lq_desk_sub.specs.Passing.{HasEndings, are_written, ending_of, 
 
 use crate::laws::passed_changes_tell_nothing;
 use crate::word::{has_bit, with_bit};
-use lq_predicate::{Predicate, Spans, names};
+use lq_predicate::{Predicate, Spans, names, needs_attribute};
 use lq_update::{matches_of, writes_beside};
 use lq_value::{AttrName, Refusal, same_text};
 use lq_volume::{Change, Planned};
@@ -27,14 +28,17 @@ pub struct LiveQuery {
     endings: u64,
     // Whether a write alters what one of the query's names shows.
     sees_writes: bool,
+    // Whether the query may match an entry without attributes.
+    sees_creates: bool,
     // The spans of the numbers that the query compares sizes and times with.
     spans: Spans,
 }
 
 impl Model for LiveQuery {
-    ghost use Rattle.std.specs.Prelude.{◌≡◌};
+    ghost use Rattle.std.specs.Prelude.{◌≡◌, not};
     ghost use Rattle.lq_predicate_formula.specs.Query.{Query};
     ghost use Rattle.lq_predicate.specs.Names.{names_of};
+    ghost use Rattle.lq_predicate.specs.Needs.{needs_attribute};
     ghost use Rattle.lq_predicate.specs.Span.{spans_of};
     ghost use Rattle.lq_predicate.specs.QueryCode.{coded_query};
     ghost use Rattle.lq_desk_sub.specs.Passing.{HasEndings, are_written};
@@ -48,7 +52,8 @@ impl Model for LiveQuery {
     ghost invariant = { λ q. (q.names.items ≡ names_of q.predicate)
         × HasEndings (names_of q.predicate) q.endings
         × (q.sees_writes ≡ are_written (names_of q.predicate))
-        × (q.spans ≡ spans_of q.predicate) };
+        × (q.spans ≡ spans_of q.predicate)
+        × (q.sees_creates ≡ not (needs_attribute q.predicate)) };
 }
 
 impl LiveQuery {
@@ -65,6 +70,7 @@ impl LiveQuery {
             names,
             endings,
             sees_writes,
+            sees_creates: !needs_attribute(predicate),
             spans: Spans::new(predicate),
         })
     }
@@ -83,6 +89,14 @@ impl LiveQuery {
         ensures { result ≡ are_written (names_of self.now) }
     {
         self.sees_writes
+    }
+
+    /// Whether the query may match an entry without attributes, as each creation makes one.
+    #[inline(always)]
+    pub fn sees_creates(&self) -> bool
+        ensures { result ≡ not (needs_attribute self.now) }
+    {
+        self.sees_creates
     }
 
     /// A word with a bit for the ending of each of the query's names.

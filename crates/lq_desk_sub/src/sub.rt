@@ -1,10 +1,11 @@
 //! One subscription.
-ghost use Rattle.std.specs.Prelude.{◌≡◌, ◌+◌, ◌<◌, ◌^◌, [], length, nat_lt, is_some, true, false, None, Some, IfOk, OnOk, OnErr, IsTrue, IfSome};
+ghost use Rattle.std.specs.Prelude.{◌≡◌, ◌+◌, ◌<◌, ◌^◌, [], length, nat_lt, not, is_some, true, false, None, Some, IfOk, OnOk, OnErr, IsTrue, IfSome};
 ghost use Rattle.lq_value.specs.Refusal.{IsRefusedBy};
 ghost use Rattle.lq_volume.specs.State.{record_at};
 ghost use Rattle.lq_volume.specs.Change.{after, node_of, IsLawful};
 ghost use Rattle.lq_update.specs.Touched.{is_match};
 ghost use Rattle.lq_predicate.specs.Names.{names_of};
+ghost use Rattle.lq_predicate.specs.Needs.{needs_attribute};
 ghost use Rattle.lq_desk_sub.specs.Passing.{HasEndings, are_written};
 
 use crate::live_query::LiveQuery;
@@ -121,6 +122,14 @@ impl Sub {
         ensures { result ≡ are_written (names_of self.now.held.query) }
     {
         self.query.sees_writes()
+    }
+
+    // Whether the query may match an entry without attributes, as each creation makes one.
+    #[inline(always)]
+    pub(crate) fn sees_creates(&self) -> bool
+        ensures { result ≡ not (needs_attribute self.now.held.query) }
+    {
+        self.query.sees_creates()
     }
 
     // A word with a bit for the ending of each of the query's names.

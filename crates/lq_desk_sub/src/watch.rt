@@ -9,17 +9,22 @@ use crate::laws::passed_changes_tell_nothing;
 use crate::live_query::ending_of;
 use crate::sub::Sub;
 use crate::word::{has_bit, put_bit};
+use lq_update::bare_creates_tell_nothing;
 use lq_volume::Change;
 
 /// For each of 64 subscriptions, which changes may have messages for it: no other subscription need
 /// be asked.
 ///
-/// Each word has a bit for each subscription. A change of an attribute is told apart by the ending
-/// of the attribute's name.
+/// Each word has a bit for each subscription. A creation, which makes an entry without attributes,
+/// is shown to those whose query may match one; a write to those that look at sizes or times; a
+/// change of an attribute to those that look at a name with the ending of the attribute's; and a
+/// removal or a move to all of them.
 #[derive(Drop)]
 pub struct Watch {
     // The subscriptions that are watched.
     all: u64,
+    // Those whose query may match an entry without attributes.
+    creates: u64,
     // Those whose query looks at sizes or times.
     writes: u64,
     // For each ending, those whose query looks at a name that has it.
@@ -31,6 +36,7 @@ impl Watch {
     pub fn new() -> Watch {
         Watch {
             all: 0,
+            creates: 0,
             writes: 0,
             attrs: [0; 64],
         }
@@ -46,7 +52,9 @@ impl Watch {
             → bit_at (asked self.old c) i ≡ 0 }
     {
         passed_changes_tell_nothing();
+        bare_creates_tell_nothing();
         self.all = put_bit(self.all, place, true);
+        self.creates = put_bit(self.creates, place, sub.sees_creates());
         self.writes = put_bit(self.writes, place, sub.sees_writes());
         let endings = sub.endings();
         for ending in 0..64 {
@@ -61,7 +69,8 @@ impl Watch {
         ensures { result ≡ asked self.now change.now }
     {
         match change {
-            Change::Create { .. } | Change::Remove { .. } | Change::Move { .. } => self.all,
+            Change::Create { .. } => self.creates,
+            Change::Remove { .. } | Change::Move { .. } => self.all,
             Change::Write { .. } => self.writes,
             Change::SetAttr { attr, .. } | Change::RemoveAttr { attr, .. } => {
                 self.attrs[ending_of(attr.as_str())]

@@ -7,8 +7,10 @@ use Rattle.lq_desk_sub.proofs.watch.Watch.set.Goals as goal
 pub loop-ending-init : goal.loop-ending-init
 loop-ending-init c = record {
   all = c.put_bit-self.ensures;
-  writes = subst (λ b. PutsBit c.args.self.now.writes c.args.place b c.put_bit-self-2.result)
-      c.sees_writes.ensures c.put_bit-self-2.ensures;
+  creates = subst (λ b. PutsBit c.args.self.now.creates c.args.place b c.put_bit-self-2.result)
+      c.sees_creates.ensures c.put_bit-self-2.ensures;
+  writes = subst (λ b. PutsBit c.args.self.now.writes c.args.place b c.put_bit-self-3.result)
+      c.sees_writes.ensures c.put_bit-self-3.ensures;
   attrs = record {
     done = λ e lt. absurd (omega (arith, lt));
     left = λ e le. refl;
@@ -21,6 +23,7 @@ loop-ending-preserved c =
     let l = c.loop-ending in
     record {
       all = l.invariant.all;
+      creates = l.invariant.creates;
       writes = l.invariant.writes;
       attrs = set-more c.endings-endings.result c.args.place l.ending c.args.self.now.attrs
           l.self.attrs c.put_bit.result (omega (arith, c.loop-ending-test.true))
@@ -32,15 +35,15 @@ loop-ending-preserved c =
 pub returns-clause-here : goal.returns-clause-here
 returns-clause-here c =
     let i = c.loop-ending.invariant in
-    watch-here c.passed_changes_tell_nothing.ensures c.args.sub.now.held.query c.args.self.now
+    watch-here c.passed_changes_tell_nothing.ensures c.bare_creates_tell_nothing.ensures c.args.sub.now.held.query c.args.self.now
     c.loop-ending.self c.args.place c.endings-endings.result c.loop-ending.ending
-    (omega (arith, c.loop-ending-test.false)) i.all i.writes i.attrs
+    (omega (arith, c.loop-ending-test.false)) i.all i.creates i.writes i.attrs
     c.endings-endings.ensures
 
 pub returns-clause-others : goal.returns-clause-others
 returns-clause-others c =
     let i = c.loop-ending.invariant in
-    watch-others c.passed_changes_tell_nothing.ensures c.args.sub.now.held.query c.args.self.now
+    watch-others c.passed_changes_tell_nothing.ensures c.bare_creates_tell_nothing.ensures c.args.sub.now.held.query c.args.self.now
     c.loop-ending.self c.args.place c.endings-endings.result c.loop-ending.ending
-    (omega (arith, c.loop-ending-test.false)) i.all i.writes i.attrs
+    (omega (arith, c.loop-ending-test.false)) i.all i.creates i.writes i.attrs
     c.endings-endings.ensures
