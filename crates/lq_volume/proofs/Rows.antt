@@ -1,16 +1,15 @@
 -- A move: its table of refusals, where the first rows have been tried, and the other node.
 use Rattle.std.proofs.Common.{◌≡◌, ℕ, Bool, true, false, List, [], ◌∷◌, ◌∙◌, ap, refl, subst, sym}
-use Rattle.std.specs.Prelude.{◌==◌, ◌&&◌, not, IfSome, Option, Some, None, is_none}
+use Rattle.std.specs.Prelude.{◌==◌, ◌&&◌, not, Option, Some, None, is_none}
 use Rattle.std.specs.Bool.{beq}
-use Rattle.std.specs.Borrow.{Bor}
-use Rattle.std.specs.Option.{option_map, option_map_or}
+use Rattle.std.specs.Option.{option_map_or}
 use Rattle.lq_value.specs.declared.kind.Kind.{Kind}
 use Rattle.lq_value.specs.declared.refusal.Refusal.{Refusal}
 use Rattle.lq_value.specs.declared.refusal.Refusal.TheVariants.{NoNode, NotFolder, Reserved, WouldLoop, Exists, KindClash, NotEmpty, Exhausted}
 use Rattle.lq_value.specs.Refusal.{first_refusal}
 use Rattle.lq_volume.specs.declared.change.Change.TheVariants.{Move}
 use Rattle.lq_volume.specs.Kind.{is_folder}
-use Rattle.lq_volume.specs.State.{State, Record, root, record_at, kind_at, is_folder_at, has_entries, reaches}
+use Rattle.lq_volume.specs.State.{State, root, kind_at, is_folder_at, has_entries, reaches}
 use Rattle.lq_volume.specs.Change.{differ, is_file_at, is_full, is_other, other_at, refused}
 
 -- two rows that refuse nothing leave it to the others
@@ -46,21 +45,6 @@ pub filled-is : (s : State) (x : ℕ) (j : Kind) (a is : Bool) → kind_at s x �
 filled-is s x j a is at_x test value =
     ap (λ (o : Option Kind). option_map_or is_folder o false && has_entries s x) at_x
     ∙ (sym test ∙ value)
-
--- the node of what is seen of the other entry
-pub node-seen : (o : Option (ℕ × Bor Record))
-    → option_map (λ (e : ℕ × Record). e.0) (option_map (λ e. (e.0, e.1.now)) o)
-    ≡ option_map (λ e. e.0) o
-node-seen None = refl
-node-seen (Some e) = refl
-
--- what is seen of the other entry is its record
-pub record-seen : (s : State) (o : Option (ℕ × Bor Record))
-    → IfSome o (λ e. record_at s e.0 ≡ Some e.1.now)
-    → IfSome {T = ℕ × Record} (option_map (λ e. (e.0, e.1.now)) o)
-    (λ e. record_at s e.0 ≡ Some e.1)
-record-seen s None h = h
-record-seen s (Some e) h = h
 
 -- where the entry and the folder are there, which the first four rows say
 module _ (s : State) (node dir : ℕ) (name : List ℕ) (clobber : Bool)

@@ -1,9 +1,9 @@
 -- A lawful change to a state, with what it touches.
-use Rattle.std.specs.Prelude.{◌≡◌, Some, IfSome}
-use Rattle.std.specs.Option.{option_map}
+use Rattle.std.specs.Prelude.{◌≡◌, ℕ, Option, Some, IfSome}
+use Rattle.std.specs.Option.{option_copied, option_map}
 use Rattle.lq_volume.specs.declared.change.Change.{Change}
-use Rattle.lq_volume.specs.declared.planned.Touched.{Touched}
-use Rattle.lq_volume.specs.State.{State, record_at, IsVolume}
+use Rattle.lq_volume.specs.declared.planned.Found.{Found}
+use Rattle.lq_volume.specs.State.{State, Record, record_at, IsVolume}
 use Rattle.lq_volume.specs.Change.{node_of, record_left, clobbered, IsLawful}
 
 -- a state and a change to it
@@ -11,14 +11,24 @@ pub record Plan : Type 0 where
   pub before : State
   pub change : Change
 
--- the change is lawful, and each look-up gave what the definitions say
-pub record IsPlanned (s : State) (c : Change) (t : Touched) : Type 0 where
+-- the change is lawful, and each look-up of its check gave what the definitions say
+pub record IsFound (s : State) (c : Change) (found : Found) : Type 0 where
   pub volume : IsVolume s
   pub lawful : IsLawful s c
-  -- the change's own node, with its record before and after
-  pub node : t.node ≡ node_of s c
-  pub before : t.before ≡ record_at s (node_of s c)
-  pub after : t.after ≡ record_left s c
+  -- the record of the change's own node
+  pub stored : option_copied found.stored ≡ record_at s (node_of s c)
   -- the other node that is removed, with its record
-  pub clobbered : option_map (λ e. e.0) t.clobbered ≡ clobbered s c
-  pub gone : IfSome t.clobbered (λ e. record_at s e.0 ≡ Some e.1)
+  pub other : option_map (λ e. e.0) found.other ≡ clobbered s c
+  pub gone : IfSome found.other (λ e. record_at s e.0 ≡ Some e.1.now)
+
+-- the change is lawful, and this is what it touches
+pub record IsPlanned (s : State) (c : Change) (seen_before seen_after : Option Record)
+    (other : Option (ℕ × Record)) : Type 0 where
+  pub volume : IsVolume s
+  pub lawful : IsLawful s c
+  -- the record of the change's own node, before and after
+  pub before : seen_before ≡ record_at s (node_of s c)
+  pub after : seen_after ≡ record_left s c
+  -- the other node that is removed, with its record
+  pub clobbered : option_map (λ e. e.0) other ≡ clobbered s c
+  pub gone : IfSome other (λ e. record_at s e.0 ≡ Some e.1)

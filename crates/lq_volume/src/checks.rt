@@ -1,4 +1,4 @@
-//! Why each change is refused, by the first test of its table that holds, else what it touches.
+//! Why each change is refused, by the first test of its table that holds, else what it finds.
 ghost use Rattle.std.specs.Prelude.{◌≡◌, [], ◌∷◌, ◌==◌, ◌&&◌, true, Some, None, IfErr, IfOk, IfSome, OnOk, is_none};
 ghost use Rattle.std.specs.Option.{option_map};
 ghost use Rattle.lq_value.specs.declared.refusal.Refusal.TheVariants.{NoNode, NotFolder, Reserved};
@@ -9,10 +9,9 @@ ghost use Rattle.lq_volume.specs.Kind.{is_folder};
 ghost use Rattle.lq_volume.specs.State.{root, record_at, kind_at, is_folder_at, has_entries, reaches, IsVolume};
 ghost use Rattle.lq_volume.specs.Change.{create_refusals, refused, is_file_at, other_at};
 ghost use Rattle.lq_volume.specs.Lookup.{children_refusals};
-ghost use Rattle.lq_volume.specs.Plan.{IsPlanned};
+ghost use Rattle.lq_volume.specs.Plan.{IsFound};
 
-use crate::planned::{Touched, touched_at};
-use crate::seen::Difference;
+use crate::planned::Found;
 use crate::stored::Stored;
 use crate::volume::{ROOT, Volume};
 use lq_value::{AttrName, Kind, Name, Refusal, Value};
@@ -50,11 +49,11 @@ pub fn check_create(
 }
 
 #[inline(always)]
-pub fn check_remove(volume: &Volume, node: u64) -> Result<Touched<'_>, Refusal>
+pub fn check_remove(volume: &Volume, node: u64) -> Result<&Stored, Refusal>
     requires { IsVolume volume.now }
     ensures ok { OnOk result (refused volume.now (Remove node) ≡ None) }
     ensures err { IfErr result (λ e. refused volume.now (Remove node) ≡ Some e) }
-    ensures touched { IfOk result (IsPlanned volume.now (Remove node)) }
+    ensures record { IfOk result (λ r. record_at volume.now node ≡ Some r.now) }
 {
     let record = entry_at(volume, node)?;
     if is_filled(volume, node, record) {
@@ -63,7 +62,7 @@ pub fn check_remove(volume: &Volume, node: u64) -> Result<Touched<'_>, Refusal>
     if volume.is_full() {
         return Err(Refusal::Exhausted);
     }
-    Ok(touched_at(node, record, None, None))
+    Ok(record)
 }
 
 #[inline(always)]
@@ -71,14 +70,14 @@ pub fn check_move<'a>(
     volume: &'a Volume,
     moved: u64,
     dir: u64,
-    name: &'a Name,
+    name: &Name,
     clobber: bool,
-) -> Result<Touched<'a>, Refusal>
+) -> Result<Found<'a>, Refusal>
     requires { IsVolume volume.now }
     ensures ok { OnOk result (refused volume.now (Move moved dir name.now clobber) ≡ None) }
     ensures err { IfErr result (λ e.
         refused volume.now (Move moved dir name.now clobber) ≡ Some e) }
-    ensures touched { IfOk result (IsPlanned volume.now (Move moved dir name.now clobber)) }
+    ensures found { IfOk result (IsFound volume.now (Move moved dir name.now clobber)) }
 {
     let record = entry_at(volume, moved)?;
     check_folder(volume, dir)?;
@@ -100,16 +99,18 @@ pub fn check_move<'a>(
     if volume.is_full() {
         return Err(Refusal::Exhausted);
     }
-    let after = record.seen_at(dir, name);
-    Ok(touched_at(moved, record, Some(after), other))
+    Ok(Found {
+        stored: Some(record),
+        other,
+    })
 }
 
 #[inline(always)]
-pub fn check_write(volume: &Volume, file: u64, size: u64, time: i64) -> Result<Touched<'_>, Refusal>
+pub fn check_write(volume: &Volume, file: u64, size: u64, time: i64) -> Result<&Stored, Refusal>
     requires { IsVolume volume.now }
     ensures ok { OnOk result (refused volume.now (Write file size time) ≡ None) }
     ensures err { IfErr result (λ e. refused volume.now (Write file size time) ≡ Some e) }
-    ensures touched { IfOk result (IsPlanned volume.now (Write file size time)) }
+    ensures record { IfOk result (λ r. record_at volume.now file ≡ Some r.now) }
 {
     let record = entry_at(volume, file)?;
     if record.is_folder() {
@@ -121,22 +122,21 @@ pub fn check_write(volume: &Volume, file: u64, size: u64, time: i64) -> Result<T
     if volume.is_full() {
         return Err(Refusal::Exhausted);
     }
-    let after = record.seen_with(size, time);
-    Ok(touched_at(file, record, Some(after), None))
+    Ok(record)
 }
 
 #[inline(always)]
 pub fn check_set_attr<'a>(
     volume: &'a Volume,
     entry: u64,
-    attr: &'a AttrName,
-    value: &'a Value,
-) -> Result<Touched<'a>, Refusal>
+    attr: &AttrName,
+    value: &Value,
+) -> Result<&'a Stored, Refusal>
     requires { IsVolume volume.now }
     ensures ok { OnOk result (refused volume.now (SetAttr entry attr.now value.now) ≡ None) }
     ensures err { IfErr result (λ e.
         refused volume.now (SetAttr entry attr.now value.now) ≡ Some e) }
-    ensures touched { IfOk result (IsPlanned volume.now (SetAttr entry attr.now value.now)) }
+    ensures record { IfOk result (λ r. record_at volume.now entry ≡ Some r.now) }
 {
     let record = entry_at(volume, entry)?;
     if is_reserved(attr) {
@@ -145,20 +145,19 @@ pub fn check_set_attr<'a>(
     if volume.is_full() {
         return Err(Refusal::Exhausted);
     }
-    let after = record.seen(Difference::Set { attr, value });
-    Ok(touched_at(entry, record, Some(after), None))
+    Ok(record)
 }
 
 #[inline(always)]
 pub fn check_remove_attr<'a>(
     volume: &'a Volume,
     owner: u64,
-    attr: &'a AttrName,
-) -> Result<Touched<'a>, Refusal>
+    attr: &AttrName,
+) -> Result<&'a Stored, Refusal>
     requires { IsVolume volume.now }
     ensures ok { OnOk result (refused volume.now (RemoveAttr owner attr.now) ≡ None) }
     ensures err { IfErr result (λ e. refused volume.now (RemoveAttr owner attr.now) ≡ Some e) }
-    ensures touched { IfOk result (IsPlanned volume.now (RemoveAttr owner attr.now)) }
+    ensures record { IfOk result (λ r. record_at volume.now owner ≡ Some r.now) }
 {
     let record = entry_at(volume, owner)?;
     if is_reserved(attr) {
@@ -170,8 +169,7 @@ pub fn check_remove_attr<'a>(
     if volume.is_full() {
         return Err(Refusal::Exhausted);
     }
-    let after = record.seen(Difference::Unset { attr });
-    Ok(touched_at(owner, record, Some(after), None))
+    Ok(record)
 }
 
 // The record of a node that is there and is not the root.

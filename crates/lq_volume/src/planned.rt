@@ -2,14 +2,14 @@
 ghost use Rattle.std.specs.Prelude.{◌≡◌, ◌+◌, Some, None, IfErr, IfOk, IfSome, OnOk};
 ghost use Rattle.std.specs.Option.{option_copied, option_map};
 ghost use Rattle.lq_volume.specs.State.{record_at, IsVolume};
-ghost use Rattle.lq_volume.specs.Change.{after, clobbered, node_of, refused, IsLawful};
-ghost use Rattle.lq_volume.specs.Plan.{IsPlanned};
+ghost use Rattle.lq_volume.specs.Change.{after, clobbered, node_of, record_left, refused, IsLawful};
+ghost use Rattle.lq_volume.specs.Plan.{IsFound};
 
 use crate::change::{Applied, Change};
 use crate::checks::{
     check_create, check_move, check_remove, check_remove_attr, check_set_attr, check_write,
 };
-use crate::seen::{Difference, Seen};
+use crate::seen::{Seen, record_of};
 use crate::stored::Stored;
 use crate::volume::Volume;
 use lq_value::Refusal;
@@ -23,7 +23,9 @@ use std::marker::Model;
 pub struct Planned<'a> {
     volume: &'a Volume,
     change: &'a Change,
-    touched: Touched<'a>,
+    before: Option<Seen<'a>>,
+    after: Option<Seen<'a>>,
+    clobbered: Option<(u64, Seen<'a>)>,
 }
 
 impl<'a> Model for Planned<'a> {
@@ -36,16 +38,7 @@ impl<'a> Model for Planned<'a> {
       change = p.change.now;
     } };
 
-    ghost invariant = { λ p. IsPlanned p.volume.now p.change.now p.touched };
-}
-
-/// What a change touches: its own node, before and after, and the other node that it removes.
-#[derive(Drop)]
-pub struct Touched<'a> {
-    pub node: u64,
-    pub before: Option<Seen<'a>>,
-    pub after: Option<Seen<'a>>,
-    pub clobbered: Option<(u64, Seen<'a>)>,
+    ghost invariant = { λ p. IsPlanned p.volume.now p.change.now p.before p.after p.clobbered };
 }
 
 impl<'a> Planned<'a> {
@@ -57,11 +50,13 @@ impl<'a> Planned<'a> {
         ensures value { IfOk result (λ planned.
             planned ≡ record { before = volume.now; change = change.now }) }
     {
-        let touched = touched_by(volume, change)?;
+        let found = found_by(volume, change)?;
         Ok(Planned {
             volume,
             change,
-            touched,
+            before: seen_before(found.stored),
+            after: seen_after(volume, change, found.stored),
+            clobbered: seen_other(found.other),
         })
     }
 
@@ -78,7 +73,7 @@ impl<'a> Planned<'a> {
     {
         Applied {
             change: self.volume.changes() + 1,
-            node: self.touched.node,
+            node: self.volume.node_of(self.change),
         }
     }
 
@@ -94,7 +89,7 @@ impl<'a> Planned<'a> {
         ensures { option_copied result
             ≡ record_at self.now.before (node_of self.now.before self.now.change) }
     {
-        self.touched.before.as_ref()
+        self.before.as_ref()
     }
 
     /// The entry of the change's own node after the change; `None` where the change removes it.
@@ -102,7 +97,7 @@ impl<'a> Planned<'a> {
         ensures { option_copied result ≡ record_at (after self.now.before self.now.change)
             (node_of self.now.before self.now.change) }
     {
-        self.touched.after.as_ref()
+        self.after.as_ref()
     }
 
     /// The other node that a move removes, and its entry.
@@ -110,19 +105,27 @@ impl<'a> Planned<'a> {
         ensures node { option_map (λ e. e.0) result ≡ clobbered self.now.before self.now.change }
         ensures entry { IfSome result (λ e. record_at self.now.before e.0 ≡ Some e.1.now) }
     {
-        match &self.touched.clobbered {
+        match &self.clobbered {
             None => None,
             Some((node, seen)) => Some((*node, seen)),
         }
     }
 }
 
-// Looks up what a change touches, and checks the change at the same time.
+// What a check of a change finds: the record of the change's own node, and the other node at the
+// place of a move, with its record.
+#[derive(Drop)]
+pub struct Found<'a> {
+    pub stored: Option<&'a Stored>,
+    pub other: Option<(u64, &'a Stored)>,
+}
+
+// Checks a change, and gives what that finds.
 #[inline(always)]
-fn touched_by<'a>(volume: &'a Volume, change: &'a Change) -> Result<Touched<'a>, Refusal>
+fn found_by<'a>(volume: &'a Volume, change: &'a Change) -> Result<Found<'a>, Refusal>
     ensures ok { OnOk result (refused volume.now change.now ≡ None) }
     ensures err { IfErr result (λ e. refused volume.now change.now ≡ Some e) }
-    ensures touched { IfOk result (λ touched. IsPlanned volume.now change.now touched) }
+    ensures found { IfOk result (IsFound volume.now change.now) }
 {
     // For its clause `volume`.
     let _ = volume.changes();
@@ -132,52 +135,74 @@ fn touched_by<'a>(volume: &'a Volume, change: &'a Change) -> Result<Touched<'a>,
             name,
             kind,
             size,
-            time,
+            ..
         } => {
             check_create(volume, *dir, name, *kind, *size)?;
-            let created = Seen::new(*dir, name, *kind, *size, *time);
-            Ok(Touched {
-                node: volume.node_of(change),
-                before: None,
-                after: Some(created),
-                clobbered: None,
+            Ok(Found {
+                stored: None,
+                other: None,
             })
         }
-        Change::Remove { node } => check_remove(volume, *node),
+        Change::Remove { node } => Ok(found_record(check_remove(volume, *node)?)),
         Change::Move {
             node,
             dir,
             name,
             clobber,
         } => check_move(volume, *node, *dir, name, *clobber),
-        Change::Write { node, size, time } => check_write(volume, *node, *size, *time),
-        Change::SetAttr { node, attr, value } => check_set_attr(volume, *node, attr, value),
-        Change::RemoveAttr { node, attr } => check_remove_attr(volume, *node, attr),
+        Change::Write { node, size, time } => {
+            Ok(found_record(check_write(volume, *node, *size, *time)?))
+        }
+        Change::SetAttr { node, attr, value } => {
+            Ok(found_record(check_set_attr(volume, *node, attr, value)?))
+        }
+        Change::RemoveAttr { node, attr } => Ok(found_record(check_remove_attr(
+            volume, *node, attr,
+        )?)),
     }
 }
 
-// What is touched by a change that names a node and may remove another.
-#[inline(always)]
-pub fn touched_at<'a>(
-    node: u64,
-    before: &'a Stored,
-    after: Option<Seen<'a>>,
-    other: Option<(u64, &'a Stored)>,
-) -> Touched<'a>
-    ensures { result ≡ record {
-      node = node;
-      before = Some before.now;
-      after = after.entry;
-      clobbered = option_map (λ e. (e.0, e.1.now)) other.entry;
-    } }
+// What a check finds that looks up one node.
+fn found_record(stored: &Stored) -> Found<'_>
+    ensures { result ≡ record { stored = Some stored.entry; other = None } }
 {
-    let before = before.seen(Difference::None);
-    let clobbered = seen_other(other);
-    Touched {
-        node,
-        before: Some(before),
-        after,
-        clobbered,
+    Found {
+        stored: Some(stored),
+        other: None,
+    }
+}
+
+// The entry of the change's own node before the change.
+fn seen_before(stored: Option<&Stored>) -> Option<Seen<'_>>
+    ensures { result ≡ option_copied stored.entry }
+{
+    match stored {
+        None => None,
+        Some(stored) => Some(Seen::stored(stored)),
+    }
+}
+
+// The entry of the change's own node after the change.
+fn seen_after<'a>(
+    volume: &Volume,
+    change: &'a Change,
+    stored: Option<&'a Stored>,
+) -> Option<Seen<'a>>
+    requires volume { IsVolume volume.now }
+    requires lawful { IsLawful volume.now change.now }
+    requires stored { option_copied stored
+        ≡ record_at volume.now (node_of volume.now change.now) }
+    ensures { result ≡ record_left volume.now change.now }
+{
+    match change {
+        Change::Remove { .. } => None,
+        Change::Create { dir, name, .. } | Change::Move { dir, name, .. } => {
+            Some(Seen::changed(*dir, name, stored, change))
+        }
+        Change::Write { .. } | Change::SetAttr { .. } | Change::RemoveAttr { .. } => {
+            let record = record_of(stored);
+            Some(Seen::changed(record.dir(), record.name(), stored, change))
+        }
     }
 }
 
@@ -187,6 +212,6 @@ fn seen_other<'a>(other: Option<(u64, &'a Stored)>) -> Option<(u64, Seen<'a>)>
 {
     match other {
         None => None,
-        Some((node, record)) => Some((node, record.seen(Difference::None))),
+        Some((node, stored)) => Some((node, Seen::stored(stored))),
     }
 }

@@ -10,7 +10,7 @@ ghost use Rattle.lq_volume.specs.Order.{shown_pair};
 ghost use Rattle.lq_volume.specs.Result.{shown, entry_of};
 
 use crate::node_hash::NodeHashes;
-use crate::seen::Difference;
+use crate::seen::Seen;
 use crate::stored::Stored;
 use indexmap::IndexMap;
 use lq_predicate::{Predicate, holds};
@@ -160,7 +160,7 @@ impl Records {
             None => Ok(()),
             Some(record) => {
                 if record.dir() == dir {
-                    entries.push(record.seen(Difference::None).entry(alloc, node)?)?;
+                    entries.push(Seen::stored(record).entry(alloc, node)?)?;
                 }
                 Ok(())
             }
@@ -291,7 +291,7 @@ fn finds_in(
 {
     let mut finds = Vec::new(alloc);
     for (node, record) in stored.iter() {
-        let seen = record.seen(Difference::None);
+        let seen = Seen::stored(record);
         if holds(predicate, &seen) {
             finds.push(seen.entry(alloc, *node)?)?;
         }

@@ -1,87 +1,77 @@
 //! An entry as a predicate sees it.
-ghost use Rattle.std.specs.Prelude.{◌≡◌, ◌<◌, ◌^◌, [], None, IfOk};
+ghost use Rattle.std.specs.Prelude.{◌≡◌, ◌<◌, ◌^◌, Some, None, IfOk, IsSome};
 ghost use Rattle.std.specs.Option.{option_copied};
 ghost use Rattle.lq_value.specs.Refusal.{IsRefusedBy};
 ghost use Rattle.lq_volume.specs.Attributes.{value_of};
-ghost use Rattle.lq_volume.specs.Seen.{attrs_of};
+ghost use Rattle.lq_volume.specs.Seen.{changed_record, record_before, seen_of, IsSeen};
 
-use crate::attributes::Attributes;
+use crate::change::Change;
+use crate::stored::Stored;
 use lq_predicate::Row;
-use lq_value::{AttrName, Entry, Field, Kind, Name, Refusal, Value, View, same_text};
+use lq_value::{AttrName, Entry, Field, Name, Refusal, Value, View, same_text};
 use std::alloc::Global;
 use std::marker::Model;
 
-/// The effect that a change would have on the attributes of an entry.
-#[derive(Clone, Copy)]
-pub enum Difference<'a> {
-    None,
-    Set {
-        attr: &'a AttrName,
-        value: &'a Value,
-    },
-    Unset {
-        attr: &'a AttrName,
-    },
-}
-
 /// An entry as it is, or as a change would leave it, borrowed: what a predicate looks at.
 ///
+/// What it shows beside its place is in the change, where that gives it, else in the entry's record.
 /// Contracts see it as its `Record`. Its size fits into an `i64`.
 #[derive(Drop)]
 pub struct Seen<'a> {
-    pub(crate) dir: u64,
-    pub(crate) name: &'a Name,
-    pub(crate) kind: Kind,
-    pub(crate) size: u64,
-    pub(crate) time: i64,
-    pub(crate) attrs: Option<&'a Attributes>,
-    pub(crate) difference: Difference<'a>,
+    dir: u64,
+    name: &'a Name,
+    // The entry's record; none where the change creates the entry.
+    stored: Option<&'a Stored>,
+    // The change; none where the entry is seen as it is.
+    change: Option<&'a Change>,
 }
 
 impl<'a> Model for Seen<'a> {
-    ghost use Rattle.std.specs.Prelude.{◌<◌, ◌^◌};
+    ghost use Rattle.lq_volume.specs.Change.{at_place};
+    ghost use Rattle.lq_volume.specs.Seen.{seen_of, IsSeen};
     ghost use Rattle.lq_volume.specs.State.{Record};
-    ghost use Rattle.lq_volume.specs.Seen.{attrs_of, attrs_after};
 
     ghost Value = { Record };
 
-    ghost view = { λ s. record {
-      dir = s.dir;
-      name = s.name.now;
-      kind = s.kind;
-      size = s.size;
-      time = s.time;
-      attrs = attrs_after s.difference (attrs_of s.attrs);
-    } };
+    ghost view = { λ s. at_place s.dir s.name.now (seen_of s.stored s.change) };
 
-    ghost invariant = { λ s. s.size < 2 ^ 63 };
+    ghost invariant = { λ s. IsSeen s.stored s.change };
 }
 
 impl<'a> Seen<'a> {
     ghost use Rattle.lq_volume.specs.Attributes.{value_of, held};
+    ghost use Rattle.lq_volume.specs.Change.{at_place};
     ghost use Rattle.lq_volume.specs.Result.{entry_of};
-    ghost use Rattle.lq_volume.specs.Seen.{has_same_place};
+    ghost use Rattle.lq_volume.specs.Seen.{has_same_place, seen_of, IsSeen};
 
-    // An entry without attributes.
-    pub(crate) fn new(dir: u64, name: &'a Name, kind: Kind, size: u64, time: i64) -> Seen<'a>
-        requires { size < 2 ^ 63 }
-        ensures { result ≡ record {
-          dir = dir;
-          name = name.now;
-          kind = kind;
-          size = size;
-          time = time;
-          attrs = [];
-        } }
+    /// An entry as it is.
+    pub(crate) fn stored(stored: &'a Stored) -> Seen<'a>
+        ensures { result ≡ stored.now }
+    {
+        Seen {
+            dir: stored.dir(),
+            name: stored.name(),
+            stored: Some(stored),
+            change: None,
+        }
+    }
+
+    /// An entry as a change would leave it, at this place; without a record, as the change would
+    /// create it.
+    pub(crate) fn changed(
+        dir: u64,
+        name: &'a Name,
+        stored: Option<&'a Stored>,
+        change: &'a Change,
+    ) -> Seen<'a>
+        requires { IsSeen stored (Some change) }
+        ensures { result ≡ at_place dir name.now (seen_of stored.entry (Some change.entry)) }
     {
         Seen {
             dir,
             name,
-            kind,
-            size,
-            time,
-            attrs: None,
-            difference: Difference::None,
+            stored,
+            change: Some(change),
         }
     }
 
@@ -89,14 +79,28 @@ impl<'a> Seen<'a> {
     pub fn size(&self) -> u64
         ensures { result ≡ self.now.size }
     {
-        self.size
+        self.small_size()
+    }
+
+    // The size, which fits into an `i64`.
+    fn small_size(&self) -> u64
+        ensures value { result ≡ self.now.size }
+        ensures small { result < 2 ^ 63 }
+    {
+        match self.change {
+            Some(Change::Create { size, .. } | Change::Write { size, .. }) => *size,
+            _ => record_of(self.stored).size(),
+        }
     }
 
     /// The entry's `last_modified`, in seconds since 1970. It takes no memory.
     pub fn time(&self) -> i64
         ensures { result ≡ self.now.time }
     {
-        self.time
+        match self.change {
+            Some(Change::Create { time, .. } | Change::Write { time, .. }) => *time,
+            _ => record_of(self.stored).time(),
+        }
     }
 
     /// Whether another entry has the same place: the same folder and name. It takes no memory.
@@ -122,33 +126,54 @@ impl<'a> Seen<'a> {
     fn value(&self, asked: &AttrName) -> Option<&Value>
         ensures { option_copied result ≡ value_of self.now.attrs asked.now }
     {
-        match self.difference {
-            Difference::None => kept(self.attrs, asked),
-            Difference::Set { attr, value } => {
-                if same_text(asked.as_str(), attr.as_str()) {
-                    Some(value)
-                } else {
-                    kept(self.attrs, asked)
-                }
-            }
-            Difference::Unset { attr } => {
-                if same_text(asked.as_str(), attr.as_str()) {
-                    None
-                } else {
-                    kept(self.attrs, asked)
-                }
-            }
+        match self.change {
+            None => record_of(self.stored).attrs().get(asked),
+            Some(change) => value_after(change, self.stored, asked),
         }
     }
 }
 
-// The value of an attribute in the stored attributes of an entry.
-fn kept<'a>(attrs: Option<&'a Attributes>, asked: &AttrName) -> Option<&'a Value>
-    ensures { option_copied result ≡ value_of (attrs_of attrs.entry) asked.now }
+// The value of an attribute as a change leaves it.
+#[inline(always)]
+fn value_after<'a>(
+    change: &'a Change,
+    stored: Option<&'a Stored>,
+    asked: &AttrName,
+) -> Option<&'a Value>
+    requires { IsSeen stored (Some change) }
+    ensures { option_copied result
+        ≡ value_of (changed_record change.now (record_before stored.entry)).attrs asked.now }
 {
-    match attrs {
-        None => None,
-        Some(attrs) => attrs.get(asked),
+    match change {
+        Change::Create { .. } => None,
+        Change::SetAttr { attr, value, .. } => {
+            if same_text(asked.as_str(), attr.as_str()) {
+                Some(value)
+            } else {
+                record_of(stored).attrs().get(asked)
+            }
+        }
+        Change::RemoveAttr { attr, .. } => {
+            if same_text(asked.as_str(), attr.as_str()) {
+                None
+            } else {
+                record_of(stored).attrs().get(asked)
+            }
+        }
+        Change::Remove { .. } | Change::Move { .. } | Change::Write { .. } => {
+            record_of(stored).attrs().get(asked)
+        }
+    }
+}
+
+// The record of an entry that no change creates.
+pub(crate) fn record_of<'a>(stored: Option<&'a Stored>) -> &'a Stored
+    requires { IsSome stored }
+    ensures { stored.entry ≡ Some result }
+{
+    match stored {
+        None => unreachable!(),
+        Some(stored) => stored,
     }
 }
 
@@ -160,8 +185,8 @@ impl<'a> Row for Seen<'a> {
     fn look(&self, attr: &AttrName) -> Option<View<'_>> {
         match attr.field() {
             Field::Name => Some(View::Text(self.name.as_str())),
-            Field::Size => Some(View::Int64(self.size as i64)),
-            Field::LastModified => Some(View::Int64(self.time)),
+            Field::Size => Some(View::Int64(self.small_size() as i64)),
+            Field::LastModified => Some(View::Int64(self.time())),
             Field::Attribute => match self.value(attr) {
                 None => None,
                 Some(value) => Some(value.view()),

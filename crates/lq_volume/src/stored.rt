@@ -4,7 +4,6 @@ ghost use Rattle.std.specs.Str.{bytes_eq};
 ghost use Rattle.lq_value.specs.Refusal.{IsRefusedBy};
 
 use crate::attributes::Attributes;
-use crate::seen::{Difference, Seen};
 use lq_value::{AttrName, Kind, Name, Refusal, Value};
 use std::alloc::Global;
 use std::marker::Model;
@@ -55,8 +54,7 @@ impl Model for Stored {
 impl Stored {
     ghost use Rattle.lq_volume.specs.Kind.{is_folder};
     ghost use Rattle.lq_volume.specs.State.{Record};
-    ghost use Rattle.lq_volume.specs.Change.{at_place, written, set_attr, remove_attr, with_attrs};
-    ghost use Rattle.lq_volume.specs.Seen.{attrs_after};
+    ghost use Rattle.lq_volume.specs.Change.{at_place, written, set_attr, remove_attr};
 
     /// A record without attributes.
     pub fn new(alloc: Global, dir: u64, name: Name, kind: Kind, size: u64, time: i64) -> Stored
@@ -161,45 +159,6 @@ impl Stored {
         ensures { self.new ≡ remove_attr attr.now self.old }
     {
         self.attrs.remove(attr);
-    }
-
-    /// What a predicate sees of the entry, with a difference applied to its attributes.
-    #[inline(always)]
-    pub fn seen<'a>(&'a self, difference: Difference<'a>) -> Seen<'a>
-        ensures { result ≡ with_attrs (attrs_after difference.entry self.now.attrs) self.now }
-    {
-        Seen {
-            dir: self.dir,
-            name: &self.name,
-            kind: self.kind,
-            size: self.size,
-            time: self.time,
-            attrs: Some(&self.attrs),
-            difference,
-        }
-    }
-
-    /// What a predicate would see of the entry at another place.
-    pub fn seen_at<'a>(&'a self, dir: u64, name: &'a Name) -> Seen<'a>
-        ensures { result ≡ at_place dir name.now self.now }
-    {
-        Seen {
-            dir,
-            name,
-            ..self.seen(Difference::None)
-        }
-    }
-
-    /// What a predicate would see of the entry with another size and time.
-    pub fn seen_with(&self, size: u64, time: i64) -> Seen<'_>
-        requires { size < 2 ^ 63 }
-        ensures { result ≡ written size time self.now }
-    {
-        Seen {
-            size,
-            time,
-            ..self.seen(Difference::None)
-        }
     }
 
     /// A copy of the record.

@@ -1,5 +1,5 @@
-use Rattle.std.proofs.Common.{◌∙◌, refl, sym, true, false}
-use Rattle.lq_volume.proofs.Rows.{filled-is, kinds-differ, move-clashes, move-exists, move-filled, move-free, move-loops, move-over, node-seen, record-seen}
+use Rattle.std.proofs.Common.{◌∙◌, sym, true, false}
+use Rattle.lq_volume.proofs.Rows.{filled-is, kinds-differ, move-clashes, move-exists, move-filled, move-free, move-loops, move-over}
 use Rattle.lq_volume.proofs.checks.check_move.Goals as goal
 use Rattle.lq_volume.proofs.checks.check_move.Goals.{in-Some+else-not-clobber+else-is_folder+else-is_filled, in_default}
 
@@ -80,13 +80,11 @@ returns-clause-ok c =
           w.in_default.ensures.node below false full
     ]
 
-pub returns-clause-touched : goal.returns-clause-touched
-returns-clause-touched c = rw c.touched_at.ensures (record {
+pub returns-clause-found : goal.returns-clause-found
+returns-clause-found c = record {
   volume = c.requires;
   lawful = returns-clause-ok c;
-  node = refl;
-  before = sym c.in_ok-record.ensures.record;
-  after = rw (c.seen_at-after.ensures, c.in_ok-record.ensures.record) refl;
-  clobbered = node-seen c.other_in-other.result ∙ c.other_in-other.ensures.node;
-  gone = record-seen c.args.volume.now c.other_in-other.result c.other_in-other.ensures.record;
-})
+  stored = sym c.in_ok-record.ensures.record;
+  other = c.other_in-other.ensures.node;
+  gone = c.other_in-other.ensures.record;
+}

@@ -10,17 +10,17 @@ pub loop-node-preserved-in_ok-push : goal.loop-node-preserved-in_ok-push
 loop-node-preserved-in_ok-push c =
     let is : c.in_ok-entry.field-0 ≡ entry_of (c.in-Some.node.now, c.in-Some.record.now) =
     c.in_ok-entry.ensures.value
-    ∙ ap (λ (r : Record). entry_of (c.in-Some.node.now, r)) c.seen-seen.ensures in
+    ∙ ap (λ (r : Record). entry_of (c.in-Some.node.now, r)) c.stored-seen.ensures in
     finds-more (λ e. truth c.args.predicate.now (shown e.1)) c.loop-node.yielded
     (c.in-Some.node, c.in-Some.record) c.loop-node.finds.items c.push.new.self.items
     c.loop-node.invariant
     (c.in_ok-push.ensures.items ∙ ap (λ (e : Entry). c.loop-node.finds.items ++ e ∷ []) is)
-    (ap (λ (r : Record). truth c.args.predicate.now (shown r)) (sym c.seen-seen.ensures)
+    (ap (λ (r : Record). truth c.args.predicate.now (shown r)) (sym c.stored-seen.ensures)
     ∙ sym c.if-holds.ensures)
 
 pub loop-node-preserved : goal.loop-node-preserved
 loop-node-preserved c =
     finds-same (λ e. truth c.args.predicate.now (shown e.1)) c.loop-node.yielded
     (c.in-Some.node, c.in-Some.record) c.loop-node.finds.items c.loop-node.invariant
-    (ap (λ (r : Record). truth c.args.predicate.now (shown r)) (sym c.seen-seen.ensures)
+    (ap (λ (r : Record). truth c.args.predicate.now (shown r)) (sym c.stored-seen.ensures)
     ∙ sym c.if-holds.ensures)
