@@ -3,7 +3,7 @@ ghost use Rattle.std.specs.Prelude.{◌≡◌, ◌<◌, ◌^◌, Some, None, IfO
 ghost use Rattle.std.specs.Option.{option_copied};
 ghost use Rattle.lq_value.specs.Refusal.{IsRefusedBy};
 ghost use Rattle.lq_volume.specs.Attributes.{value_of};
-ghost use Rattle.lq_volume.specs.Seen.{changed_record, record_before, seen_of, IsSeen};
+ghost use Rattle.lq_volume.specs.Seen.{seen_of, IsSeen};
 
 use crate::change::Change;
 use crate::stored::Stored;
@@ -126,43 +126,23 @@ impl<'a> Seen<'a> {
     fn value(&self, asked: &AttrName) -> Option<&Value>
         ensures { option_copied result ≡ value_of self.now.attrs asked.now }
     {
-        match self.change {
-            None => record_of(self.stored).attrs().get(asked),
-            Some(change) => value_after(change, self.stored, asked),
-        }
-    }
-}
-
-// The value of an attribute as a change leaves it.
-#[inline(always)]
-fn value_after<'a>(
-    change: &'a Change,
-    stored: Option<&'a Stored>,
-    asked: &AttrName,
-) -> Option<&'a Value>
-    requires { IsSeen stored (Some change) }
-    ensures { option_copied result
-        ≡ value_of (changed_record change.now (record_before stored.entry)).attrs asked.now }
-{
-    match change {
-        Change::Create { .. } => None,
-        Change::SetAttr { attr, value, .. } => {
-            if same_text(asked.as_str(), attr.as_str()) {
-                Some(value)
-            } else {
-                record_of(stored).attrs().get(asked)
+        if let Some(change) = self.change {
+            match change {
+                Change::Create { .. } => return None,
+                Change::SetAttr { attr, value, .. } => {
+                    if same_text(asked.as_str(), attr.as_str()) {
+                        return Some(value);
+                    }
+                }
+                Change::RemoveAttr { attr, .. } => {
+                    if same_text(asked.as_str(), attr.as_str()) {
+                        return None;
+                    }
+                }
+                Change::Remove { .. } | Change::Move { .. } | Change::Write { .. } => {}
             }
         }
-        Change::RemoveAttr { attr, .. } => {
-            if same_text(asked.as_str(), attr.as_str()) {
-                None
-            } else {
-                record_of(stored).attrs().get(asked)
-            }
-        }
-        Change::Remove { .. } | Change::Move { .. } | Change::Write { .. } => {
-            record_of(stored).attrs().get(asked)
-        }
+        record_of(self.stored).attrs().get(asked)
     }
 }
 
