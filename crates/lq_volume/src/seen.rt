@@ -14,7 +14,7 @@ use std::marker::Model;
 
 /// An entry as it is, or as a change would leave it, borrowed: what a predicate looks at.
 ///
-/// What it shows beside its place is in the change, where that gives it, else in the entry's record.
+/// What it shows beside its place is in the change, where that says it, else in the record.
 /// Contracts see it as its `Record`. Its size fits into an `i64`.
 #[derive(Drop)]
 pub struct Seen<'a> {
