@@ -19,8 +19,8 @@ pub fn names(alloc: Global, predicate: &Predicate) -> Result<Vec<AttrName>, Refu
     Ok(names)
 }
 
-/// Whether the predicate needs an attribute other than `name`, `size` and `last_modified`: if so, it
-/// doesn't hold for a row that has none (`bare_rows_fail`). It takes no memory.
+/// Whether the predicate needs an attribute other than `name`, `size` and `last_modified`: if so,
+/// it doesn't hold for a row that has none (`bare_rows_fail`). It takes no memory.
 ///
 /// A comparison needs its attribute. An `And` needs one where one of its parts does, an `Or` where
 /// all of them do, and a `Not` never does. Where the answer is false, the predicate may or may not
