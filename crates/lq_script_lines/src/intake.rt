@@ -1,11 +1,10 @@
 //! The part of an input that has come so far: the line in progress and the counts.
 ghost use Rattle.std.specs.Prelude.{◌≡◌, ◌+◌, ◌++◌, ◌≤◌, ℕ, List, [], length, false, true, IfErr, IsOk, OnOk, OnErr};
-ghost use Rattle.lq_script_lines.specs.Lines.{Begins, given_line, line_of, reply_to, state_after, without_cr};
+ghost use Rattle.lq_script_lines.specs.Lines.{given_line, line_of, reply_to, state_after, without_cr};
 ghost use Rattle.lq_script_lines.specs.Progress.{IsKept};
 
 use crate::responder::Responder;
 use crate::run_fault::RunFault;
-use lq_value::Refusal;
 use std::alloc::Global;
 
 /// The most bytes of a line, without its LF.
@@ -65,13 +64,11 @@ impl Intake {
         // An empty line has no reply and takes no memory.
         ensures empty { self.now.long ≡ false → self.now.line.items ≡ [] → IsOk result }
     {
+        if !self.long {
+            return answer_line(&self.line, responder, out);
+        }
         let before = out.len();
-        let answered = if self.long {
-            responder.respond_long(out)
-        } else {
-            answer_given(cut_cr(&self.line), responder, out)
-        };
-        if answered.is_err() {
+        if responder.respond_long(out).is_err() {
             out.truncate(before);
             return Err(RunFault::Memory);
         }
@@ -106,7 +103,7 @@ impl Intake {
             self.keep(bytes)?;
             return self.answer(responder, out);
         }
-        answer_whole(bytes, responder, out)?;
+        answer_line(bytes, responder, out)?;
         self.bytes += bytes.len() as u64;
         Ok(())
     }
@@ -134,22 +131,26 @@ impl Intake {
     }
 }
 
-/// Appends the reply to a line that isn't too long to `out`.
-fn answer_whole<S: Responder>(
+/// Appends the reply to a line that isn't too long to `out`. An empty line has none.
+fn answer_line<S: Responder>(
     line: &[u8],
     responder: &mut S,
     out: &mut Vec<u8>,
 ) -> Result<(), RunFault>
-    requires { length line.now ≤ MAX_LINE }
     ensures ok { OnOk result (out.new.items ≡ out.old.items
-        ++ reply_to S.rules (S.state responder.old) (line_of line.now)) }
-    ensures after { OnOk result
-        (S.state responder.new ≡ state_after S.rules (S.state responder.old) (line_of line.now)) }
+        ++ reply_to S.rules (S.state responder.old) (given_line (without_cr line.now))) }
+    ensures after { OnOk result (S.state responder.new
+        ≡ state_after S.rules (S.state responder.old) (given_line (without_cr line.now))) }
     ensures err { OnErr result (out.new.items ≡ out.old.items) }
     ensures memory { IfErr result (λ e. e ≡ RunFault.Memory) }
+    ensures empty { line.now ≡ [] → IsOk result }
 {
+    let given = cut_cr(line);
+    if given.is_empty() {
+        return Ok(());
+    }
     let before = out.len();
-    if answer_given(cut_cr(line), responder, out).is_err() {
+    if responder.respond(given, out).is_err() {
         out.truncate(before);
         return Err(RunFault::Memory);
     }
@@ -166,24 +167,4 @@ fn cut_cr(line: &[u8]) -> &[u8]
     } else {
         line
     }
-}
-
-/// Appends the reply to a line, without its CR, to `out`.
-fn answer_given<S: Responder>(
-    line: &[u8],
-    responder: &mut S,
-    out: &mut Vec<u8>,
-) -> Result<(), Refusal>
-    ensures ok { OnOk result (out.new.items ≡ out.old.items
-        ++ reply_to S.rules (S.state responder.old) (given_line line.now)) }
-    ensures after { OnOk result
-        (S.state responder.new
-        ≡ state_after S.rules (S.state responder.old) (given_line line.now)) }
-    ensures err { OnErr result (Begins out.new.items out.old.items) }
-    ensures empty { line.now ≡ [] → IsOk result }
-{
-    if line.is_empty() {
-        return Ok(());
-    }
-    responder.respond(line, out)
 }
