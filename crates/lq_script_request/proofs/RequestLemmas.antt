@@ -10,7 +10,7 @@ use Rattle.serde_json.specs.Read.{read}
 use Rattle.lq_value.specs.declared.refusal.Refusal.{Refusal}
 use Rattle.lq_value.specs.declared.refusal.Refusal.TheVariants.{NoMemory, NotUtf8, NotJson}
 use Rattle.lq_script_request.specs.declared.question.Question.{Question}
-use Rattle.lq_script_request.specs.Request.{Asked, asked_by, asked_in, asked_from, asked_of, asked_or, needed_text, question_in}
+use Rattle.lq_script_request.specs.Request.{Asked, asked_by, asked_in, asked_from, asked_of, asked_or, needed_text, question_from, question_in}
 
 -- a line that isn't UTF-8 is refused as such
 pub asked-not_utf8 : (line : List ℕ) → ¬ IsUtf8 line → asked_in line ≡ Err NotUtf8
@@ -24,13 +24,13 @@ asked-not_utf8 line not = at (is_utf8 line) refl
 pub asked-utf8 : (line : List ℕ) → IsUtf8 line → asked_in line ≡ asked_from (read line)
 asked-utf8 line utf8 = rw (is_utf8-from_IsUtf8 line utf8) refl
 
--- a text that doesn't read is no JSON, or memory ran out
+-- a line whose text doesn't read is refused as no JSON, or memory ran out
 pub line-refused : (line text : List ℕ) (e : Refusal) → asked_in line ≡ asked_from (read text)
     → (e ≡ NoMemory) ⊎ ((e ≡ NotJson) × (read text ≡ None))
-    → (e ≡ NoMemory) ⊎ (asked_in line ≡ Err e)
+    → (e ≡ NoMemory) ⊎ (question_in line ≡ Err e)
 line-refused line text e asks (inl was) = inl was
 line-refused line text e asks (inr was) =
-    inr (asks ∙ ap asked_from was.1 ∙ ap (λ x. Err x) (sym was.0))
+    inr (ap question_from (asks ∙ ap asked_from was.1) ∙ ap (λ x. Err x) (sym was.0))
 
 -- what follows from what is known of an answer's value, where it has one
 pub value-then : {T E : Type 0} {P Q : T → Type 0} (r : Result T E)

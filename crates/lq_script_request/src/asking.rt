@@ -1,10 +1,9 @@
 //! From the bytes of a line to its question.
 ghost use Rattle.std.specs.Prelude.{◌≡◌, ◌⊎◌, IfOk, IfErr, IfSome, IfNone, Ok, Err};
 ghost use Rattle.std.specs.Str.{IsUtf8};
-ghost use Rattle.lq_script_json.specs.Fields.{AreAbsent, AreFound, whole};
 ghost use Rattle.lq_value.specs.declared.refusal.Refusal.TheVariants.{NoMemory};
 ghost use Rattle.lq_script_request.specs.Asked.{asked, given};
-ghost use Rattle.lq_script_request.specs.Request.{asks_create, asks_fetch, asks_find, asks_move, asks_open, asks_set, asks_unset, value_for, asked_in, asked_of, asked_or, question_for, question_from, question_in};
+ghost use Rattle.lq_script_request.specs.Request.{asks_create, asks_fetch, asks_find, asks_move, asks_open, asks_set, asks_unset, value_for, question_for, question_in};
 
 use crate::plain::plain_read;
 use crate::question::Question;
@@ -31,28 +30,15 @@ pub fn question_in(alloc: Global, scratch: &mut Scratch, line: &[u8]) -> Result<
     if let Some(slot) = plain_read(line) {
         return Ok(Question::Event(Event::Take(slot)));
     }
-    let mut fields = Fields::new();
-    read_fields(&mut fields, &mut scratch.json, line)?;
-    question_of(alloc, &mut scratch.attrs, &fields)
-}
-
-// Finds the fields of a line.
-#[inline(always)]
-fn read_fields<'a>(
-    fields: &mut Fields<'a>,
-    scratch: &'a mut json::Scratch,
-    line: &'a [u8],
-) -> Result<(), Refusal>
-    requires { AreAbsent fields.old.places }
-    ensures value { IfOk result (λ _.
-        asked_in line.now ≡ asked_or (asked_of (whole fields.new))) }
-    ensures found { IfOk result (λ _. AreFound fields.new) }
-    ensures refused { IfErr result (λ e. (e ≡ NoMemory) ⊎ (asked_in line.now ≡ Err e)) }
-{
     let Some(text) = text_of(line) else {
         return Err(Refusal::NotUtf8);
     };
-    fields.read(scratch, text)
+    let mut fields = Fields::new();
+    fields.read(&mut scratch.json, text)?;
+    let Some(request) = request_in(&fields) else {
+        return Err(Refusal::BadLine);
+    };
+    question_for(alloc, &mut scratch.attrs, &request)
 }
 
 // The text that a line is; `None` where its bytes aren't UTF-8.
@@ -64,24 +50,6 @@ fn text_of(line: &[u8]) -> Option<&str>
         return None;
     }
     Some(unsafe { str::from_utf8_unchecked(line) })
-}
-
-// The question of a line whose fields are found.
-fn question_of(
-    alloc: Global,
-    attrs: &mut RecentAttrs,
-    fields: &Fields<'_>,
-) -> Result<Question, Refusal>
-    requires { AreFound fields.now }
-    ensures value { IfOk result (λ question.
-        question_from (asked_or (asked_of (whole fields.now))) ≡ Ok question) }
-    ensures refused { IfErr result (λ e. (e ≡ NoMemory)
-        ⊎ (question_from (asked_or (asked_of (whole fields.now))) ≡ Err e)) }
-{
-    match request_in(fields) {
-        None => Err(Refusal::BadLine),
-        Some(request) => question_for(alloc, attrs, &request),
-    }
 }
 
 /// The question of a request, with its values read.
@@ -118,18 +86,20 @@ fn question_for(
             size,
             time,
         } => creating(alloc, *dir, name, *kind, *size, *time),
-        Request::Remove { node } => Ok(change(Change::Remove { node: *node })),
+        Request::Remove { node } => Ok(Question::Event(Event::Change(Change::Remove {
+            node: *node,
+        }))),
         Request::Move {
             node,
             dir,
             name,
             clobber,
         } => moving(alloc, *node, *dir, name, *clobber),
-        Request::Write { node, size, time } => Ok(change(Change::Write {
+        Request::Write { node, size, time } => Ok(Question::Event(Event::Change(Change::Write {
             node: *node,
             size: *size,
             time: *time,
-        })),
+        }))),
         Request::Set { node, attr, value } => setting(alloc, attrs, *node, attr, *value),
         Request::Unset { node, attr } => unsetting(alloc, attrs, *node, attr),
         Request::Open {
@@ -144,13 +114,6 @@ fn question_for(
         Request::Fetch { query } => fetching(alloc, query),
         Request::Rebuilt { slot } => Ok(Question::Rebuilt { slot: *slot }),
     }
-}
-
-// The question that makes a change.
-fn change(change: Change) -> Question
-    ensures { result ≡ Question.Event (Event.Change change) }
-{
-    Question::Event(Event::Change(change))
 }
 
 // The question that creates an entry.
@@ -168,13 +131,13 @@ fn creating(
         ⊎ (question_for (asks_create dir name.now kind size time) ≡ Err e)) }
 {
     let name = Name::read(alloc, name)?;
-    Ok(change(Change::Create {
+    Ok(Question::Event(Event::Change(Change::Create {
         dir,
         name,
         kind,
         size,
         time,
-    }))
+    })))
 }
 
 // The question that moves an entry.
@@ -191,12 +154,12 @@ fn moving(
         ⊎ (question_for (asks_move node dir name.now clobber) ≡ Err e)) }
 {
     let name = Name::read(alloc, name)?;
-    Ok(change(Change::Move {
+    Ok(Question::Event(Event::Change(Change::Move {
         node,
         dir,
         name,
         clobber,
-    }))
+    })))
 }
 
 // The question that sets an attribute; its name is read before its value.
@@ -214,7 +177,7 @@ fn setting(
 {
     let attr = attrs.read(alloc, attr)?;
     let value = typed(alloc, value)?;
-    Ok(change(Change::SetAttr { node, attr, value }))
+    Ok(Question::Event(Event::Change(Change::SetAttr { node, attr, value })))
 }
 
 // The value of an attribute that a line gives.
@@ -244,7 +207,7 @@ fn unsetting(
         ⊎ (question_for (asks_unset node attr.now) ≡ Err e)) }
 {
     let attr = attrs.read(alloc, attr)?;
-    Ok(change(Change::RemoveAttr { node, attr }))
+    Ok(Question::Event(Event::Change(Change::RemoveAttr { node, attr })))
 }
 
 // The question that opens a subscription.

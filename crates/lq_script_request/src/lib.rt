@@ -9,6 +9,7 @@ mod plain;
 mod question;
 mod request;
 mod scratch;
+mod values;
 
 pub use asking::{question_in, read_request};
 pub use question::Question;

@@ -1,13 +1,11 @@
-//! The requests of a script's lines.
-ghost use Rattle.std.specs.Prelude.{◌≡◌, codes, option_and_then, pos, false};
+//! The request of a line: which one its word names, and its parts.
+ghost use Rattle.std.specs.Prelude.{◌≡◌};
 ghost use Rattle.std.specs.Option.{option_map};
-ghost use Rattle.lq_value.specs.declared.value.Value.TheVariants.{Int32, UInt32};
-ghost use Rattle.lq_value.specs.declared.kind.Kind.TheVariants.{File};
-ghost use Rattle.serde_json.specs.Find.{as_i64, as_number, as_u64, get};
-ghost use Rattle.lq_script_json.specs.Fields.{AreFound, name_of, whole};
-ghost use Rattle.lq_script_request.specs.Request.{asked_by, asked_of, create_of, remove_of, move_of, write_of, set_of, unset_of, open_of, act_of, rebuilt_of, find_of, entry_of, fetch_of, given_by, given_number, within_i32, within_u32, flag_or, needed_text, needed_u64, u64_or, i64_or, kind_named, kind_or};
-ghost use Rattle.lq_script_request.specs.Asked.{asked, given};
+ghost use Rattle.lq_script_json.specs.Fields.{AreFound, whole};
+ghost use Rattle.lq_script_request.specs.Request.{asked_of, create_of, remove_of, move_of, write_of, set_of, unset_of, open_of, act_of, rebuilt_of, find_of, entry_of, fetch_of};
+ghost use Rattle.lq_script_request.specs.Asked.{asked};
 
+use crate::values::{bool_or_false, i64_or_zero, kind_or_file, typed_in, u64_or};
 use lq_desk_world::Act;
 use lq_script_json::{Fields, Key};
 use lq_value::{Kind, View};
@@ -117,21 +115,11 @@ fn create_in<'a>(fields: &Fields<'a>) -> Option<Request<'a>>
     requires { AreFound fields.now }
     ensures { option_map asked result ≡ create_of (whole fields.now) }
 {
-    let Some(name) = fields.text(Key::Name) else {
-        return None;
-    };
-    let Some(dir) = u64_or(fields, Key::Dir, 1) else {
-        return None;
-    };
-    let Some(kind) = kind_or_file(fields) else {
-        return None;
-    };
-    let Some(size) = u64_or(fields, Key::Size, 0) else {
-        return None;
-    };
-    let Some(time) = i64_or_zero(fields, Key::Time) else {
-        return None;
-    };
+    let name = fields.text(Key::Name)?;
+    let dir = u64_or(fields, Key::Dir, 1)?;
+    let kind = kind_or_file(fields)?;
+    let size = u64_or(fields, Key::Size, 0)?;
+    let time = i64_or_zero(fields, Key::Time)?;
     Some(Request::Create {
         dir,
         name,
@@ -153,18 +141,10 @@ fn move_in<'a>(fields: &Fields<'a>) -> Option<Request<'a>>
     requires { AreFound fields.now }
     ensures { option_map asked result ≡ move_of (whole fields.now) }
 {
-    let Some(node) = fields.number(Key::Node) else {
-        return None;
-    };
-    let Some(name) = fields.text(Key::Name) else {
-        return None;
-    };
-    let Some(dir) = u64_or(fields, Key::Dir, 1) else {
-        return None;
-    };
-    let Some(clobber) = bool_or_false(fields, Key::Clobber) else {
-        return None;
-    };
+    let node = fields.number(Key::Node)?;
+    let name = fields.text(Key::Name)?;
+    let dir = u64_or(fields, Key::Dir, 1)?;
+    let clobber = bool_or_false(fields, Key::Clobber)?;
     Some(Request::Move {
         node,
         dir,
@@ -177,15 +157,9 @@ fn write_in<'a>(fields: &Fields<'a>) -> Option<Request<'a>>
     requires { AreFound fields.now }
     ensures { option_map asked result ≡ write_of (whole fields.now) }
 {
-    let Some(node) = fields.number(Key::Node) else {
-        return None;
-    };
-    let Some(size) = fields.number(Key::Size) else {
-        return None;
-    };
-    let Some(time) = i64_or_zero(fields, Key::Time) else {
-        return None;
-    };
+    let node = fields.number(Key::Node)?;
+    let size = fields.number(Key::Size)?;
+    let time = i64_or_zero(fields, Key::Time)?;
     Some(Request::Write { node, size, time })
 }
 
@@ -193,18 +167,10 @@ fn set_in<'a>(fields: &Fields<'a>) -> Option<Request<'a>>
     requires { AreFound fields.now }
     ensures { option_map asked result ≡ set_of (whole fields.now) }
 {
-    let Some(node) = fields.number(Key::Node) else {
-        return None;
-    };
-    let Some(attr) = fields.text(Key::Attr) else {
-        return None;
-    };
-    let Some(kind) = fields.text(Key::Type) else {
-        return None;
-    };
-    let Some(value) = typed_in(fields, kind) else {
-        return None;
-    };
+    let node = fields.number(Key::Node)?;
+    let attr = fields.text(Key::Attr)?;
+    let kind = fields.text(Key::Type)?;
+    let value = typed_in(fields, kind)?;
     Some(Request::Set { node, attr, value })
 }
 
@@ -212,104 +178,19 @@ fn unset_in<'a>(fields: &Fields<'a>) -> Option<Request<'a>>
     requires { AreFound fields.now }
     ensures { option_map asked result ≡ unset_of (whole fields.now) }
 {
-    let Some(node) = fields.number(Key::Node) else {
-        return None;
-    };
-    let Some(attr) = fields.text(Key::Attr) else {
-        return None;
-    };
+    let node = fields.number(Key::Node)?;
+    let attr = fields.text(Key::Attr)?;
     Some(Request::Unset { node, attr })
-}
-
-// The value of one of the five attribute types, given the type's text.
-fn typed_in<'a>(fields: &Fields<'a>, kind: &str) -> Option<View<'a>>
-    requires { AreFound fields.now }
-    ensures { option_map given result
-        ≡ option_and_then (given_by kind.now) (get (codes "value") (whole fields.now)) }
-{
-    match kind {
-        "CSTR" => {
-            let Some(text) = fields.text(Key::Value) else {
-                return None;
-            };
-            Some(View::Text(text))
-        }
-        "LONG" => {
-            let Some(number) = narrow_signed(fields, Key::Value) else {
-                return None;
-            };
-            Some(View::Int32(number))
-        }
-        "LLNG" => {
-            let Some(number) = fields.signed(Key::Value) else {
-                return None;
-            };
-            Some(View::Int64(number))
-        }
-        "ULNG" => {
-            let Some(number) = narrow_number(fields, Key::Value) else {
-                return None;
-            };
-            Some(View::UInt32(number))
-        }
-        "ULLG" => {
-            let Some(number) = fields.number(Key::Value) else {
-                return None;
-            };
-            Some(View::UInt64(number))
-        }
-        _ => None,
-    }
-}
-
-// The whole number of a key's field, if it fits into 32 bits with a sign.
-fn narrow_signed(fields: &Fields<'_>, key: Key) -> Option<i32>
-    requires { AreFound fields.now }
-    ensures { option_map (λ n. given_number (Int32 n)) result
-        ≡ option_and_then within_i32 (option_and_then as_i64
-        (option_and_then as_number (get (name_of key) (whole fields.now)))) }
-{
-    let Some(number) = fields.signed(key) else {
-        return None;
-    };
-    if number < -2147483648 || number > 2147483647 {
-        return None;
-    }
-    Some(number as i32)
-}
-
-// The whole number of a key's field, if it fits into 32 bits without a sign.
-fn narrow_number(fields: &Fields<'_>, key: Key) -> Option<u32>
-    requires { AreFound fields.now }
-    ensures { option_map (λ n. given_number (UInt32 n)) result
-        ≡ option_and_then within_u32 (option_and_then as_u64
-        (option_and_then as_number (get (name_of key) (whole fields.now)))) }
-{
-    let Some(number) = fields.number(key) else {
-        return None;
-    };
-    if number > 4294967295 {
-        return None;
-    }
-    Some(number as u32)
 }
 
 fn open_in<'a>(fields: &Fields<'a>) -> Option<Request<'a>>
     requires { AreFound fields.now }
     ensures { option_map asked result ≡ open_of (whole fields.now) }
 {
-    let Some(query) = fields.text(Key::Query) else {
-        return None;
-    };
-    let Some(port) = fields.number(Key::Port) else {
-        return None;
-    };
-    let Some(backlog) = fields.number(Key::Backlog) else {
-        return None;
-    };
-    let Some(moved) = bool_or_false(fields, Key::Moved) else {
-        return None;
-    };
+    let query = fields.text(Key::Query)?;
+    let port = fields.number(Key::Port)?;
+    let backlog = fields.number(Key::Backlog)?;
+    let moved = bool_or_false(fields, Key::Moved)?;
     Some(Request::Open {
         query,
         port,
@@ -330,12 +211,8 @@ fn find_in<'a>(fields: &Fields<'a>) -> Option<Request<'a>>
     requires { AreFound fields.now }
     ensures { option_map asked result ≡ find_of (whole fields.now) }
 {
-    let Some(name) = fields.text(Key::Name) else {
-        return None;
-    };
-    let Some(dir) = u64_or(fields, Key::Dir, 1) else {
-        return None;
-    };
+    let name = fields.text(Key::Name)?;
+    let dir = u64_or(fields, Key::Dir, 1)?;
     Some(Request::Find { dir, name })
 }
 
@@ -361,55 +238,4 @@ fn rebuilt_in<'a>(fields: &Fields<'a>) -> Option<Request<'a>>
 {
     let slot = fields.number(Key::Slot)?;
     Some(Request::Rebuilt { slot })
-}
-
-// A whole number from 0 up, or the default if the field is absent.
-fn u64_or(fields: &Fields<'_>, key: Key, default: u64) -> Option<u64>
-    requires { AreFound fields.now }
-    ensures { result ≡ u64_or default (get (name_of key) (whole fields.now)) }
-{
-    if !fields.has(key) {
-        return Some(default);
-    }
-    fields.number(key)
-}
-
-// A whole number of 64 bits with a sign, or 0 if the field is absent.
-fn i64_or_zero(fields: &Fields<'_>, key: Key) -> Option<i64>
-    requires { AreFound fields.now }
-    ensures { result ≡ i64_or (pos 0) (get (name_of key) (whole fields.now)) }
-{
-    if !fields.has(key) {
-        return Some(0);
-    }
-    fields.signed(key)
-}
-
-// A truth value, or false if the field is absent.
-fn bool_or_false(fields: &Fields<'_>, key: Key) -> Option<bool>
-    requires { AreFound fields.now }
-    ensures { result ≡ flag_or false (get (name_of key) (whole fields.now)) }
-{
-    if !fields.has(key) {
-        return Some(false);
-    }
-    fields.truth(key)
-}
-
-// The kind, or a file if the field is absent.
-fn kind_or_file(fields: &Fields<'_>) -> Option<Kind>
-    requires { AreFound fields.now }
-    ensures { result ≡ kind_or File (get (codes "kind") (whole fields.now)) }
-{
-    if !fields.has(Key::Kind) {
-        return Some(Kind::File);
-    }
-    let Some(text) = fields.text(Key::Kind) else {
-        return None;
-    };
-    match text {
-        "file" => Some(Kind::File),
-        "folder" => Some(Kind::Folder),
-        _ => None,
-    }
 }

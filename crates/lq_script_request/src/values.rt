@@ -1,0 +1,120 @@
+//! The values that a request takes from a line's fields: some have a default, some are narrower.
+ghost use Rattle.std.specs.Prelude.{◌≡◌, codes, option_and_then, pos, false};
+ghost use Rattle.std.specs.Option.{option_map};
+ghost use Rattle.lq_value.specs.declared.value.Value.TheVariants.{Int32, UInt32};
+ghost use Rattle.lq_value.specs.declared.kind.Kind.TheVariants.{File};
+ghost use Rattle.serde_json.specs.Find.{as_i64, as_number, as_u64, get};
+ghost use Rattle.lq_script_json.specs.Fields.{AreFound, name_of, whole};
+ghost use Rattle.lq_script_request.specs.Request.{given_by, given_number, within_i32, within_u32, flag_or, u64_or, i64_or, kind_or};
+ghost use Rattle.lq_script_request.specs.Asked.{given};
+
+use lq_script_json::{Fields, Key};
+use lq_value::{Kind, View};
+
+/// A whole number from 0 up, or the default if the field is absent.
+pub fn u64_or(fields: &Fields<'_>, key: Key, default: u64) -> Option<u64>
+    requires { AreFound fields.now }
+    ensures { result ≡ u64_or default (get (name_of key) (whole fields.now)) }
+{
+    if !fields.has(key) {
+        return Some(default);
+    }
+    fields.number(key)
+}
+
+/// A whole number of 64 bits with a sign, or 0 if the field is absent.
+pub fn i64_or_zero(fields: &Fields<'_>, key: Key) -> Option<i64>
+    requires { AreFound fields.now }
+    ensures { result ≡ i64_or (pos 0) (get (name_of key) (whole fields.now)) }
+{
+    if !fields.has(key) {
+        return Some(0);
+    }
+    fields.signed(key)
+}
+
+/// A truth value, or false if the field is absent.
+pub fn bool_or_false(fields: &Fields<'_>, key: Key) -> Option<bool>
+    requires { AreFound fields.now }
+    ensures { result ≡ flag_or false (get (name_of key) (whole fields.now)) }
+{
+    if !fields.has(key) {
+        return Some(false);
+    }
+    fields.truth(key)
+}
+
+/// The kind, or a file if the field is absent.
+pub fn kind_or_file(fields: &Fields<'_>) -> Option<Kind>
+    requires { AreFound fields.now }
+    ensures { result ≡ kind_or File (get (codes "kind") (whole fields.now)) }
+{
+    if !fields.has(Key::Kind) {
+        return Some(Kind::File);
+    }
+    let text = fields.text(Key::Kind)?;
+    match text {
+        "file" => Some(Kind::File),
+        "folder" => Some(Kind::Folder),
+        _ => None,
+    }
+}
+
+/// The value of one of the five attribute types, given the type's text.
+pub fn typed_in<'a>(fields: &Fields<'a>, kind: &str) -> Option<View<'a>>
+    requires { AreFound fields.now }
+    ensures { option_map given result
+        ≡ option_and_then (given_by kind.now) (get (codes "value") (whole fields.now)) }
+{
+    match kind {
+        "CSTR" => {
+            let text = fields.text(Key::Value)?;
+            Some(View::Text(text))
+        }
+        "LONG" => {
+            let number = narrow_signed(fields, Key::Value)?;
+            Some(View::Int32(number))
+        }
+        "LLNG" => {
+            let number = fields.signed(Key::Value)?;
+            Some(View::Int64(number))
+        }
+        "ULNG" => {
+            let number = narrow_number(fields, Key::Value)?;
+            Some(View::UInt32(number))
+        }
+        "ULLG" => {
+            let number = fields.number(Key::Value)?;
+            Some(View::UInt64(number))
+        }
+        _ => None,
+    }
+}
+
+// The whole number of a key's field, if it fits into 32 bits with a sign.
+fn narrow_signed(fields: &Fields<'_>, key: Key) -> Option<i32>
+    requires { AreFound fields.now }
+    ensures { option_map (λ n. given_number (Int32 n)) result
+        ≡ option_and_then within_i32 (option_and_then as_i64
+        (option_and_then as_number (get (name_of key) (whole fields.now)))) }
+{
+    let number = fields.signed(key)?;
+    if number < -2147483648 || number > 2147483647 {
+        return None;
+    }
+    Some(number as i32)
+}
+
+// The whole number of a key's field, if it fits into 32 bits without a sign.
+fn narrow_number(fields: &Fields<'_>, key: Key) -> Option<u32>
+    requires { AreFound fields.now }
+    ensures { option_map (λ n. given_number (UInt32 n)) result
+        ≡ option_and_then within_u32 (option_and_then as_u64
+        (option_and_then as_number (get (name_of key) (whole fields.now)))) }
+{
+    let number = fields.number(key)?;
+    if number > 4294967295 {
+        return None;
+    }
+    Some(number as u32)
+}
