@@ -6,7 +6,7 @@ use Rattle.lq_predicate_formula.specs.Canonical.{canonical}
 use Rattle.lq_predicate_formula.specs.Limits.{IsGoodPattern, IsProper, IsWithinLimits}
 use Rattle.lq_predicate_formula.specs.Words.{WordsAre}
 use Rattle.lq_predicate_formula.specs.Tokens.{bare, tokens_of}
-use Rattle.lq_value.specs.declared.element.Element.{Element}
+use Rattle.lq_value_pattern.specs.declared.element.Element.{Element}
 use Rattle.lq_value.specs.Source.{pattern_of}
 use Rattle.std.specs.Str.{IsUtf8}
 use Rattle.lq_predicate_formula.specs.Reading.{reading_of}

@@ -1,20 +1,20 @@
 //! Patterns, and the texts that they fit.
-ghost use Rattle.std.specs.Prelude.{◌≡◌, ◌↔◌, ℕ, None, Ok, IfOk, IfErr, IfSome, IsTrue, MatchOption};
+ghost use Rattle.std.specs.Prelude.{◌≡◌, ◌↔◌, ℕ, None, Ok, IfOk, IfErr, IsTrue};
 ghost use Rattle.std.specs.Str.{chars};
 ghost use Rattle.std.specs.String.{string_bytes};
 ghost use Rattle.lq_value.specs.Refusal.{IsRefusedBy};
-ghost use Rattle.lq_value.specs.Pattern.{Fits, fits, plain_chars, plain_elements, pattern_number, starred_elements};
-ghost use Rattle.lq_value.specs.Sign.{signs_of};
-ghost use Rattle.lq_value.specs.Source.{pattern_of, source_refusal};
-ghost use Rattle.lq_value.specs.Written.{HasFaultAt, Writes};
+ghost use Rattle.lq_value.specs.Form.{pattern_number};
+ghost use Rattle.lq_value.specs.SourceRefusal.{source_refusal};
+ghost use Rattle.lq_value_match.specs.Pattern.{Fits, fits, plain_elements};
+ghost use Rattle.lq_value_pattern.specs.Sign.{signs_of};
+ghost use Rattle.lq_value_pattern.specs.Source.{pattern_of};
+ghost use Rattle.lq_value_pattern.specs.Written.{HasFaultAt, Writes};
 ghost use Rattle.lq_value.specs.declared.refusal.Refusal.TheVariants.{BadQuery};
 
 use crate::digits::number_of_bytes;
-use crate::element::Element;
-use crate::matching::{Left, fits_text};
 use crate::refusal::Refusal;
-use crate::source::read_elements;
-use crate::starred::{Starred, without_stars};
+use lq_value_match::{Starred, fits_are_splits, fits_plain, fits_text, plain_text};
+use lq_value_pattern::{Element, copy_elements, read_elements};
 use std::alloc::Global;
 use std::marker::Model;
 
@@ -59,8 +59,8 @@ pub enum Elements<'a> {
 
 impl Model for Pattern {
     ghost use Rattle.std.specs.Prelude.{List};
-    ghost use Rattle.lq_value.specs.declared.element.Element.{Element};
-    ghost use Rattle.lq_value.specs.Pattern.{elements_of, IsTextIfPlain};
+    ghost use Rattle.lq_value_pattern.specs.declared.element.Element.{Element};
+    ghost use Rattle.lq_value.specs.Form.{elements_of, IsTextIfPlain};
 
     ghost Value = { List Element };
 
@@ -99,7 +99,7 @@ impl Pattern {
         if let Some(text) = plain_text(alloc, elements.as_slice())? {
             return Ok(plain_pattern(text));
         }
-        let form = match starred_text(alloc, elements.as_slice())? {
+        let form = match Starred::of(alloc, elements.as_slice())? {
             Some(starred) => Form::StarredText { elements, starred },
             None => Form::Elements(elements),
         };
@@ -128,13 +128,11 @@ impl Pattern {
         ensures fits { result ≡ fits self.now (chars text.now) }
         ensures split { IsTrue result ↔ Fits self.now (chars text.now) }
     {
+        fits_are_splits();
         match &self.form {
             Form::PlainText { text: plain, .. } => fits_plain(plain.as_str(), text),
             Form::StarredText { starred, .. } => starred.fits(text),
-            Form::Elements(elements) => fits_text(Left {
-                elements: elements.as_slice(),
-                text,
-            }),
+            Form::Elements(elements) => fits_text(elements.as_slice(), text),
         }
     }
 
@@ -191,59 +189,8 @@ fn plain_pattern(text: String) -> Pattern
     }
 }
 
-// The text of the elements, if all are plain.
-fn plain_text(alloc: Global, elements: &[Element]) -> Result<Option<String>, Refusal>
-    ensures refused { IsRefusedBy result None }
-    ensures value { IfOk result (λ text. MatchOption text (plain_chars elements.now ≡ None)
-        (λ plain. plain_elements (chars (string_bytes plain)) ≡ elements.now)) }
-{
-    let mut text = String::new(alloc);
-    for element in elements {
-        let Element::Plain(c) = element else {
-            return Ok(None);
-        };
-        text.push(*c)?;
-    }
-    Ok(Some(text))
-}
-
-// The elements as plain text with a star before it, after it or both, if they have that form.
-fn starred_text(alloc: Global, elements: &[Element]) -> Result<Option<Starred>, Refusal>
-    ensures refused { IsRefusedBy result None }
-    ensures value { IfOk result (λ text. IfSome text
-        (λ starred. starred_elements starred ≡ elements.now)) }
-{
-    let inner = without_stars(elements);
-    match plain_text(alloc, inner.elements)? {
-        None => Ok(None),
-        Some(text) => Ok(Some(Starred {
-            text,
-            before: inner.before,
-            behind: inner.behind,
-        })),
-    }
-}
-
-fn fits_plain(plain: &str, text: &str) -> bool
-    ensures { result ≡ fits (plain_elements (chars plain.now)) (chars text.now) }
-{
-    plain == text
-}
-
 fn plain_number(plain: &str) -> Option<i128>
     ensures { result ≡ pattern_number (plain_elements (chars plain.now)) }
 {
     number_of_bytes(plain.as_bytes())
-}
-
-fn copy_elements(alloc: Global, elements: &[Element]) -> Result<Vec<Element>, Refusal>
-    ensures refused { IsRefusedBy result None }
-    ensures value { IfOk result (λ copies. copies.items ≡ elements.now) }
-{
-    let mut copies = Vec::new(alloc);
-    for element in elements {
-        let copy = element.copy(alloc)?;
-        copies.push(copy)?;
-    }
-    Ok(copies)
 }

@@ -1,7 +1,9 @@
 //! Why a call is refused.
 ghost use Rattle.std.specs.Prelude.{◌≡◌};
+ghost use Rattle.lq_value.specs.SourceRefusal.{refusal_of};
 ghost use Rattle.lq_value.specs.declared.refusal.Refusal.TheVariants.{NoMemory};
 
+use lq_value_pattern::SourceError;
 use std::alloc::{AllocError, AllocFailed};
 use std::fmt;
 use thiserror::Error;
@@ -161,5 +163,16 @@ impl<T: Drop> From<AllocFailed<T>> for Refusal {
 
     fn from(_e: AllocFailed<T>) -> Refusal {
         Refusal::NoMemory
+    }
+}
+
+impl From<SourceError> for Refusal {
+    ghost from_gives = { λ error e. e ≡ refusal_of error };
+
+    fn from(error: SourceError) -> Refusal {
+        match error {
+            SourceError::Faulty { place } => Refusal::BadQuery { place },
+            SourceError::NoMemory => Refusal::NoMemory,
+        }
     }
 }

@@ -1,5 +1,0 @@
-use Rattle.lq_value.proofs.SourceLaws.{source_written}
-use Rattle.lq_value.proofs.laws.sources_are_read.Goals as goal
-
-pub returns : goal.returns
-returns c = source_written
