@@ -1,5 +1,5 @@
 -- Slots done one after another, by the bits of a word. Those whose bit is set are still to be done.
-use Rattle.std.proofs.Common.{◌≡◌, ◌≢◌, ℕ, zero, suc, ◌+◌, ◌<◌, ◌≤◌, ◌^◌, List, [], ◌∷◌, refl, ap, map, length, ◌∙◌, sym, arith, Some, None, Option, Bool, true, false, inl, inr}
+use Rattle.std.proofs.Common.{◌≡◌, ◌≢◌, ℕ, zero, suc, ◌+◌, ◌<◌, ◌≤◌, ◌^◌, List, [], ◌∷◌, refl, ap, map, ◌∙◌, sym, arith, Some, None, Option, Bool, true, false, inl, inr}
 use Rattle.std.specs.Prelude.{slice_get, slice_set, ◌⊎◌}
 use Rattle.std.specs.Option.{option_map, option_flatten}
 use Rattle.std.specs.Int.{bit_at}
@@ -13,7 +13,8 @@ use Rattle.lq_desk.specs.Words.{ClearsBit, IsMarked}
 use Rattle.lq_desk.proofs.SlotsLemmas.{kept_slot}
 
 -- what is found at each place is the same
-pub same-slots : {A : Type 0} (xs ys : List A) → ((i : ℕ) → slice_get xs i ≡ slice_get ys i) → xs ≡ ys
+pub same-slots : {A : Type 0} (xs ys : List A) → ((i : ℕ) → slice_get xs i ≡ slice_get ys i)
+    → xs ≡ ys
 same-slots [] [] same = refl
 same-slots [] (y ∷ ys) same = absurd (let h = same 0 in let no : ⊥ = cc in no)
 same-slots (x ∷ xs) [] same = absurd (let h = same 0 in let no : ⊥ = cc in no)
@@ -129,12 +130,6 @@ pub few-flat : (n : ℕ) (xs : List (Option PreparedSlot)) (i : ℕ)
 few-flat n [] i few = tt
 few-flat n (x ∷ xs) zero few = few.0
 few-flat n (x ∷ xs) (suc i) few = few-flat n xs i few.1
-
--- nothing is written past the end
-pub set-past : {A : Type 0} (xs : List A) (i : ℕ) (y : A) → length xs ≤ i → slice_set xs i y ≡ xs
-set-past [] i y le = refl
-set-past (x ∷ xs) zero y le = absurd (omega arith)
-set-past (x ∷ xs) (suc i) y le = ap (λ ys. x ∷ ys) (set-past xs i y (omega arith))
 
 -- one place more has no bit, once the lowest bit is cleared
 pub clear-more : (rest new place n : ℕ) → bit_at rest place ≡ 1

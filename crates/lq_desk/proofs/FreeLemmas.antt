@@ -23,15 +23,6 @@ map-none : {A B : Type 0} (f : A → B) (n : ℕ)
 map-none f zero = refl
 map-none f (suc n) = ap (λ os. None ∷ os) (map-none f n)
 
--- what is done in each slot is done in those that are stored
-pub map-free : (f : PreparedSlot → PreparedSlot) (xs : List (Option PreparedSlot))
-    → map (option_map f) (with_free xs) ≡ with_free (map (option_map f) xs)
-map-free f xs =
-    map-append (option_map f) xs (replicate (64 - length xs) None)
-    ∙ (ap (λ ys. map (option_map f) xs ++ ys) (map-none f (64 - length xs))
-    ∙ ap (λ n. map (option_map f) xs ++ replicate (64 - n) None)
-    (sym (length-map xs (option_map f))))
-
 -- a place of the front is one of the whole list
 get-front : {A : Type 0} (xs ys : List A) (i : ℕ) → i < length xs
     → slice_get (xs ++ ys) i ≡ slice_get xs i

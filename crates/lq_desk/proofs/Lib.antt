@@ -1,8 +1,8 @@
 -- Read in this order. Lists, words of bits and update lists: ListLemmas, WordLemmas, UpdateLemmas.
 -- One slot: PutLemmas. All slots: SlotsLemmas, FewLemmas, PlaceLemmas, LoopLemmas, BitLemmas,
--- ReadyLemmas, FreeLemmas, MarkLemmas, WatchLemmas. A desk shows a world: SlotLemmas and EndLemmas (one subscription), Shown
--- (each event), PassedLemmas (lists and refusals). Turns: RunLemmas, EventLemmas, SlotTurnLemmas,
--- TurnLemmas. A desk stays one: Desks.
+-- ReadyLemmas, FreeLemmas, MarkLemmas, WatchLemmas. A desk shows a world: SlotLemmas and EndLemmas
+-- (one subscription), Shown (each event), PassedLemmas (lists and refusals). Turns: RunLemmas,
+-- EventLemmas, SlotTurnLemmas, TurnLemmas. A desk stays one: Desks.
 pub mod ListLemmas
 pub mod UpdateLemmas
 pub mod PutLemmas

@@ -2,13 +2,10 @@
 use Rattle.std.proofs.Common.{◌≡◌, ℕ, zero, suc, ◌+◌, ◌≤◌, ◌<◌, List, [], ◌∷◌, ◌++◌, refl, ap, map, take, drop, get_or, length, ◌∙◌, sym, arith, Some, Option}
 use Rattle.std.specs.Prelude.{slice_get, slice_set}
 use Rattle.std.specs.Option.{option_map}
-use Rattle.std.specs.Int.{bit_at}
 use Rattle.std.proofs.lemmas.List.Edits.{map_over_more}
-use Rattle.std.proofs.lemmas.List.{drop_all, length-map, length-take-le, map-set, take-append-le, take_all}
-use Rattle.lq_desk.specs.Slot.{KeptSlot, PreparedSlot, has_ready, passes}
-use Rattle.lq_desk.specs.Words.{IsMarked, SetsBit}
+use Rattle.std.proofs.lemmas.List.{drop_all, length-map, map-set, take-append-le, take_all}
+use Rattle.lq_desk.specs.Slot.{KeptSlot, PreparedSlot}
 use Rattle.lq_desk.proofs.SlotsLemmas.{kept_slot}
-use Rattle.lq_desk.proofs.WordLemmas.{marked-push}
 
 -- what is at a place of a mapped list, or the value given
 get_or-map : {A B : Type 0} (f : A → B) (xs : List A) (i : ℕ) (d : A)
@@ -103,27 +100,3 @@ pub written-back : (n : ℕ) (ys zs : List (Option PreparedSlot)) → length ys 
     → take n (ys ++ zs) ≡ ys
 written-back n ys zs long = take-append-le n ys zs (omega (arith, long))
     ∙ take_all n ys (omega (arith, long))
-
--- ---- the word of the slots with messages
-
--- a front up to a place that was written ends with what was written
-take-set_more : {A : Type 0} (xs : List A) (i : ℕ) (x : A) → i < length xs
-    → take (suc i) (slice_set xs i x) ≡ take i xs ++ x ∷ []
-take-set_more [] i x lt = absurd (omega arith)
-take-set_more (y ∷ xs) zero x lt = refl
-take-set_more (y ∷ xs) (suc i) x lt = ap (λ ys. y ∷ ys) (take-set_more xs i x (omega arith))
-
--- the same, as a loop counts it
-take-set : {A : Type 0} (xs : List A) (i : ℕ) (x : A) → i < length xs
-    → take (i + 1) (slice_set xs i x) ≡ take i xs ++ x ∷ []
-take-set xs i x lt = ap (λ n. take n (slice_set xs i x)) (let e : i + 1 ≡ suc i = omega arith in e)
-    ∙ take-set_more xs i x lt
-
--- the word marks one slot more, once its bit is set where it has messages to be told
-pub told-more : (old new : ℕ) (xs : List (Option PreparedSlot)) (i : ℕ) (x : Option PreparedSlot)
-    → i < length xs → IsMarked has_ready old (take i xs) → SetsBit old i (passes has_ready x) new
-    → IsMarked has_ready new (take (i + 1) (slice_set xs i x))
-told-more old new xs i x lt marked set =
-    let long : i ≡ length (take i xs) = sym (length-take-le i xs (omega (arith, lt))) in
-    rw (take-set xs i x lt) (marked-push has_ready old new (take i xs) x marked set.others
-    (λ is. ap (bit_at new) (sym long) ∙ set.here is))

@@ -22,13 +22,6 @@ and_cases : (x : Bool) → x ≡ true → x ≡ false → ⊥
 and_cases true p q = cc
 and_cases false p q = cc
 
--- slots mapped twice are mapped by both
-map-through : {R S T : Type 0} (f : R → S) (g : S → T) (xs : List (Option R))
-    → map (option_map g) (map (option_map f) xs) ≡ map (option_map (λ x. g (f x))) xs
-map-through f g [] = refl
-map-through f g (None ∷ xs) = ap (λ ys. None ∷ ys) (map-through f g xs)
-map-through f g (Some x ∷ xs) = ap (λ ys. Some (g (f x)) ∷ ys) (map-through f g xs)
-
 -- messages are told
 pub marks-committed : (ending movable told : ℕ) (xs ys : List (Option PreparedSlot))
     → AreCommitted told xs ys → AreMarked ending movable (map kept_slot xs)

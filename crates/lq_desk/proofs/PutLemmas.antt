@@ -25,7 +25,8 @@ pub record Keeps (k l : KeptSlot) : Type 0 where
   pub port : l.port ≡ k.port
   pub hang_up_asked : l.hang_up_asked ≡ k.hang_up_asked
 
--- a put keeps the query, the number of messages made, the mark, the port and whether the end was asked for
+-- a put keeps the query, the number of messages made, the mark, the port and whether the end was
+-- asked for
 put-keeps : (k : KeptSlot) → Keeps k (after_put k)
 put-keeps k = by (nat_lt (length k.queue) k.port) (next_parcel k.held)
   where

@@ -52,8 +52,8 @@ prepared-is s c p q live is = by (is_live q.sub.held) refl
     by false off =
         let with_sub : PreparedSlot = record q { sub = prepared s c q.sub } in
         let same : q ≡ p = ap (λ b. if b then with_sub else q) (sym off) ∙ is in
-        let no : false ≡ true = sym off ∙ (ap (λ (r : PreparedSlot). is_live r.sub.held) same ∙ live)
-        in absurd (let bad : ⊥ = cc in bad)
+        let no : false ≡ true =
+        sym off ∙ (ap (λ (r : PreparedSlot). is_live r.sub.held) same ∙ live) in absurd (let bad : ⊥ = cc in bad)
 
 -- a live slot without messages has an empty list of them
 no-ready : (p : PreparedSlot) → is_live p.sub.held ≡ true → has_ready p ≡ false
@@ -149,8 +149,8 @@ made-all s c asked rest told xs ys volume lawful none kept over all =
       | inl unasked ↦ inr (
         (all.others i unasked).1,
         over i (slot_of p) (ap (λ ks. slice_get ks i) (sym kept) ∙ (slice_get-map kept_slot ys i
-        ∙ ap (option_map kept_slot) at)) unasked p.sub.held.moved s (p.sub.held.sent + 1) volume
-        lawful,
+            ∙ ap (option_map kept_slot) at)) unasked p.sub.held.moved s (p.sub.held.sent + 1) volume
+            lawful,
       )
       | inr one ↦ elim (bit-cases told i) [
         | inl clear ↦ inr (clear, (all.made i p at live one (none i)).none clear)
@@ -306,7 +306,8 @@ committed-after-all s c told xs ys ready does = same-slots (map kept_slot ys) _ 
 
     -- the slot there, as it was or committed
     one : (i : ℕ) (o o' : Option (Option PreparedSlot)) → slice_get ys i ≡ o'
-        → option_map kept_slot o' ≡ option_map (option_map (slot_after s c)) (option_map kept_slot o)
+        → option_map kept_slot o'
+        ≡ option_map (option_map (slot_after s c)) (option_map kept_slot o)
         → Goal i o
     one i o o' is same = ap (option_map kept_slot) is ∙ same
 
@@ -319,12 +320,14 @@ committed-after-all s c told xs ys ready does = same-slots (map kept_slot ys) _ 
     taken : (i : ℕ) (p : PreparedSlot) → slice_get xs i ≡ Some (Some p) → (b : Bool)
         → is_live p.sub.held ≡ b → (bit_at told i ≡ 0) ⊎ (bit_at told i ≡ 1)
         → Goal i (Some (Some p))
-    taken i p was false off (inl clear) = one i (Some (Some p)) (Some (Some p)) ((does i).1 clear ∙ was)
+    taken i p was false off (inl clear) = one i (Some (Some p)) (Some (Some p))
+        ((does i).1 clear ∙ was)
         (ap (λ k. Some (Some k)) (idle p off).1)
     taken i p was false off (inr set) = one i (Some (Some p)) (Some (Some (committed_slot p)))
         ((does i).0 set ∙ ap (option_map (option_map committed_slot)) was)
         (ap (λ k. Some (Some k)) (idle p off).0)
-    taken i p was true live (inl clear) = one i (Some (Some p)) (Some (Some p)) ((does i).1 clear ∙ was)
+    taken i p was true live (inl clear) = one i (Some (Some p)) (Some (Some p))
+        ((does i).1 clear ∙ was)
         (ap (λ k. Some (Some k)) (none-after s c p (untold (ready i p was live))))
       where
         untold : ((bit_at told i ≡ 1) × (p.sub ≡ prepared s c p.sub))

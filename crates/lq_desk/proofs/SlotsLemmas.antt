@@ -139,23 +139,6 @@ committed-after s c p = by (is_live p.sub.held) refl
     by true is = rw (is, is) refl
     by false is = rw (is, is) refl
 
--- messages that are made in all slots leave what is kept
-pub map-prepared : (s : State) (c : Change_) (xs : List (Option PreparedSlot))
-    → map kept_slot (map (option_map (prepared_slot s c)) xs) ≡ map kept_slot xs
-map-prepared s c [] = refl
-map-prepared s c (x ∷ xs) = let here = prepared-keeps s c x in let rest = map-prepared s c xs in cc
-
--- and once they are told, each slot is as after the change
-pub map-committed : (s : State) (c : Change_) (xs : List (Option PreparedSlot))
-    → map kept_slot (map (option_map committed_slot) (map (option_map (prepared_slot s c)) xs))
-    ≡ map (option_map (slot_after s c)) (map kept_slot xs)
-map-committed s c [] = refl
-map-committed s c (None ∷ xs) = ap (λ ks. None ∷ ks) (map-committed s c xs)
-map-committed s c (Some p ∷ xs) =
-    let here = committed-after s c p in
-    let rest = map-committed s c xs in
-    cc
-
 -- a slot written at its place leaves what is kept, if it keeps the same
 map-same_here : (ys : List (Option PreparedSlot)) (i : ℕ) (x z : Option PreparedSlot)
     → kept_slot x ≡ kept_slot z → z ≡ get_or ys i z
@@ -175,14 +158,6 @@ map-front s c (suc i) (x ∷ xs) =
     let here = prepared-keeps s c x in
     let rest = map-front s c i xs in
     cc
-
--- and so does the next slot when it is written, if it keeps what was there
-pub map-kept : (s : State) (c : Change_) (xs ys : List (Option PreparedSlot)) (i : ℕ)
-    (x z : Option PreparedSlot) → ys ≡ map (option_map (prepared_slot s c)) (take i xs) ++ drop i xs
-    → kept_slot x ≡ kept_slot z → z ≡ get_or ys i z
-    → map kept_slot (slice_set ys i x) ≡ map kept_slot xs
-map-kept s c xs ys i x z done same at = map-same_here ys i x z same at
-    ∙ (ap (map kept_slot) done ∙ map-front s c i xs)
 
 -- ---- slots with nothing to do
 

@@ -1,14 +1,12 @@
 -- Which slots a change may have messages for: what is watched stays watched, since no act alters a
 -- query.
 use Rattle.std.proofs.Common.{◌≡◌, ◌≢◌, ℕ, zero, suc, List, [], ◌∷◌, ◌++◌, refl, ap, map, length, ◌∙◌, sym, subst, Some, None, Option, Bool, true, false, inl, inr}
-use Rattle.std.specs.Prelude.{slice_get, slice_set, ◌+◌, ◌&&◌, nat_lt, ◌⊎◌, if◌then◌else◌}
+use Rattle.std.specs.Prelude.{slice_get, slice_set, ◌&&◌, nat_lt, ◌⊎◌, if◌then◌else◌}
 use Rattle.std.specs.Option.{option_map, option_flatten}
 use Rattle.std.specs.Int.{bit_at}
 use Rattle.std.proofs.lemmas.Option.{slice_get-map}
 use Rattle.lq_predicate_formula.specs.Query.{Query}
 use Rattle.lq_volume.specs.declared.change.Change.{Change}
-use Rattle.lq_volume.specs.State.{State}
-use Rattle.lq_update.specs.Updates.{step_of}
 use Rattle.lq_update.specs.declared.mark.Cause.TheVariants.{Closed, HungUp}
 use Rattle.lq_update.specs.declared.parcel.Parcel.{Parcel}
 use Rattle.lq_update.specs.declared.parcel.Parcel.TheVariants.{Update, Fin}
@@ -19,7 +17,7 @@ use Rattle.lq_desk_sub.specs.declared.watch.Watch.{Watch}
 use Rattle.lq_desk_sub.specs.Held.{Prepared, is_live, ended_by, after_messages_by, overruns, next_parcel}
 use Rattle.lq_desk_sub.specs.Passing.{TellsNothing}
 use Rattle.lq_desk_sub.specs.Watch.{asked}
-use Rattle.lq_desk.specs.Slot.{KeptSlot, PreparedSlot, close_if, committed_slot, filled, finish_if, is_ending, is_read, noticed, notice_if, put_if, read_if, slot_after, slot_of}
+use Rattle.lq_desk.specs.Slot.{KeptSlot, PreparedSlot, close_if, committed_slot, filled, finish_if, is_ending, is_read, noticed, notice_if, put_if, read_if, slot_of}
 use Rattle.lq_desk.specs.Act.{act_of, close_turn, outcome_at, outcome_in, read_turn}
 use Rattle.lq_desk.specs.Words.{AreCommitted, AreWatched}
 use Rattle.lq_desk.proofs.ListLemmas.{get-set}
@@ -37,24 +35,11 @@ filled-query k = (puts-keep k.port k).query
 pub noticed-query : (number : ℕ) (k : KeptSlot) → (noticed number k).held.query ≡ k.held.query
 noticed-query number k = by (is_ending k)
   where
-    by : (b : Bool) → (if b then record k { held = ended_by k.held HungUp number } else k).held.query
+    by : (b : Bool)
+        → (if b then record k { held = ended_by k.held HungUp number } else k).held.query
         ≡ k.held.query
     by true = refl
     by false = refl
-
--- a change
-pub after-query : (s : State) (c : Change) (k : KeptSlot)
-    → (slot_after s c k).held.query ≡ k.held.query
-after-query s c k = by (is_live k.held) (overruns k.held (step_of k.held.query k.held.moved s c
-    (k.held.sent + 1)))
-  where
-    by : (live over : Bool) → (if live then record k {
-      held = after_messages_by k.held (step_of k.held.query k.held.moved s c (k.held.sent + 1))
-          s.number over;
-    } else k).held.query ≡ k.held.query
-    by true true = refl
-    by true false = refl
-    by false over = refl
 
 -- what a slot holds after something was done at it has the query that was there
 abbrev pub KeepsQuery : (KeptSlot → Answer × Option KeptSlot) → Type 0
@@ -172,9 +157,11 @@ pub watches : (old new : Watch) (place : ℕ) (p : PreparedSlot) (sub : Prepared
     → ((c : Change) → bit_at (asked new c) place ≡ 0 → TellsNothing sub.held.query c)
     → ((c : Change) (i : ℕ) → i ≢ place → bit_at (asked new c) i ≡ 0 → bit_at (asked old c) i ≡ 0)
     → Watches old place p.sub.held.query new
-watches old new place p sub is here others =
-    (subst (λ (s : Prepared). (c : Change) → bit_at (asked new c) place ≡ 0
-    → TellsNothing s.held.query c) is here, others)
+watches old new place p sub is here others = (
+  subst (λ (s : Prepared). (c : Change) → bit_at (asked new c) place ≡ 0
+      → TellsNothing s.held.query c) is here,
+  others,
+)
 
 -- what is found where one place was written: what was written, or what was at another place
 get-put : {A : Type 0} (xs : List A) (i j : ℕ) (y z : A) → slice_get (slice_set xs i y) j ≡ Some z
@@ -233,10 +220,12 @@ watched-pushed old new ks js place k last is w watched = subst (AreWatched new) 
 committed-query : (p : PreparedSlot) → (committed_slot p).sub.held.query ≡ p.sub.held.query
 committed-query p = by (is_live p.sub.held) (overruns p.sub.held p.sub.ready)
   where
-    by : (live over : Bool) → (if live then record p { sub = record p.sub {
-      held = after_messages_by p.sub.held p.sub.ready p.sub.before over;
-      ready = [];
-    } } else p).sub.held.query ≡ p.sub.held.query
+    by : (live over : Bool) → (if live then record p {
+      sub = record p.sub {
+        held = after_messages_by p.sub.held p.sub.ready p.sub.before over;
+        ready = [];
+      };
+    } else p).sub.held.query ≡ p.sub.held.query
     by true true = refl
     by true false = refl
     by false over = refl

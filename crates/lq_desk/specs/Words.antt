@@ -41,7 +41,8 @@ PassOver c word ks = (i : ℕ) (k : KeptSlot) → slice_get ks i ≡ Some (Some 
 abbrev pub AreWatched : Watch → List (Option KeptSlot) → Type 0
 AreWatched w ks = (c : Change) → PassOver c (asked w c) ks
 
--- the messages of the change are made in each live slot whose bit is set; it has none for the others
+-- the messages of the change are made in each live slot whose bit is set, and it has none for the
+-- others
 abbrev pub AreReady : State → Change → ℕ → List (Option PreparedSlot) → Type 0
 AreReady s c told slots = (i : ℕ) (p : PreparedSlot) → slice_get slots i ≡ Some (Some p)
     → is_live p.sub.held ≡ true

@@ -109,59 +109,59 @@ not-among names endings name has clear = by (is_among names name) refl
         ap (λ n. n == 1) (sym one) ∙ clear in let no : ⊥ = cc in no)
 
 -- the words of a watch before and after a subscription is watched
-module _ (law : PassedTellNothing) (bare : BareCreatesTellNothing) (q : Query) (old new : Watch) (place endings n : ℕ)
-    (wide : 64 ≤ n)
+module _ (law : PassedTellNothing) (bare : BareCreatesTellNothing) (q : Query) (old new : Watch)
+    (place endings n : ℕ) (wide : 64 ≤ n)
     (all : PutsBit old.all place true new.all)
     (creates : PutsBit old.creates place (not (needs_attribute q)) new.creates)
     (writes : PutsBit old.writes place (are_written (names_of q)) new.writes)
     (attrs : AreSet endings place n old.attrs new.attrs) (has : HasEndings (names_of q) endings)
-    where
-  -- the word of each ending is set
-  word-set : (name : List ℕ) → PutsBit (slice_index old.attrs (ending_of name)) place
-      (bit_at endings (ending_of name) == 1) (slice_index new.attrs (ending_of name))
-  word-set name = attrs.done (ending_of name) (omega (arith, wide, ending-lt name))
+  where
+    -- the word of each ending is set
+    word-set : (name : List ℕ) → PutsBit (slice_index old.attrs (ending_of name)) place
+        (bit_at endings (ending_of name) == 1) (slice_index new.attrs (ending_of name))
+    word-set name = attrs.done (ending_of name) (omega (arith, wide, ending-lt name))
 
-  -- a name of an attribute
-  attr-here : (name : List ℕ) → bit_at (slice_index new.attrs (ending_of name)) place ≡ 0
-      → is_among (names_of q) name ≡ false
-  attr-here name clear = not-among (names_of q) endings name has
-      (unset _ place _ (word-set name).here clear)
+    -- a name of an attribute
+    attr-here : (name : List ℕ) → bit_at (slice_index new.attrs (ending_of name)) place ≡ 0
+        → is_among (names_of q) name ≡ false
+    attr-here name clear = not-among (names_of q) endings name has
+        (unset _ place _ (word-set name).here clear)
 
-  -- what isn't among the names is passed over
-  over : (b : Bool) → b ≡ false → not (b || false) ≡ true
-  over false is = refl
-  over true is = absurd (let no : ⊥ = cc in no)
+    -- what isn't among the names is passed over
+    over : (b : Bool) → b ≡ false → not (b || false) ≡ true
+    over false is = refl
+    over true is = absurd (let no : ⊥ = cc in no)
 
-  -- a change of an attribute of another name
-  passed : (name : List ℕ) → is_among (names_of q) name ≡ false
-      → not (list_any (is_among (names_of q)) (name ∷ [])) ≡ true
-  passed name none = over (is_among (names_of q) name) none
+    -- a change of an attribute of another name
+    passed : (name : List ℕ) → is_among (names_of q) name ≡ false
+        → not (list_any (is_among (names_of q)) (name ∷ [])) ≡ true
+    passed name none = over (is_among (names_of q) name) none
 
-  -- what isn't false is true
-  needed : (b : Bool) → not b ≡ false → b ≡ true
-  needed true is = refl
-  needed false is = absurd (let no : ⊥ = cc in no)
+    -- what isn't false is true
+    needed : (b : Bool) → not b ≡ false → b ≡ true
+    needed true is = refl
+    needed false is = absurd (let no : ⊥ = cc in no)
 
-  -- a change whose bit is clear has no message
-  pub watch-here : (c : Change) → bit_at (asked new c) place ≡ 0 → TellsNothing q c
-  watch-here (Create dir name kind size time) clear = λ moved s seq volume lawful.
-      bare q moved s dir name kind size time seq volume lawful
-      (needed (needs_attribute q) (unset _ place (not (needs_attribute q)) creates.here clear))
-  watch-here (Remove node) clear = absurd (omega (arith, clear, all.here refl))
-  watch-here (Move node dir name clobber) clear = absurd (omega (arith, clear, all.here refl))
-  watch-here (Write node size time) clear = law q (Write node size time)
-      (ap not (unset _ place (are_written (names_of q)) writes.here clear))
-  watch-here (SetAttr node attr value) clear =
-      law q (SetAttr node attr value) (passed attr (attr-here attr clear))
-  watch-here (RemoveAttr node attr) clear =
-      law q (RemoveAttr node attr) (passed attr (attr-here attr clear))
+    -- a change whose bit is clear has no message
+    pub watch-here : (c : Change) → bit_at (asked new c) place ≡ 0 → TellsNothing q c
+    watch-here (Create dir name kind size time) clear = λ moved s seq volume lawful.
+        bare q moved s dir name kind size time seq volume lawful
+        (needed (needs_attribute q) (unset _ place (not (needs_attribute q)) creates.here clear))
+    watch-here (Remove node) clear = absurd (omega (arith, clear, all.here refl))
+    watch-here (Move node dir name clobber) clear = absurd (omega (arith, clear, all.here refl))
+    watch-here (Write node size time) clear = law q (Write node size time)
+        (ap not (unset _ place (are_written (names_of q)) writes.here clear))
+    watch-here (SetAttr node attr value) clear =
+        law q (SetAttr node attr value) (passed attr (attr-here attr clear))
+    watch-here (RemoveAttr node attr) clear =
+        law q (RemoveAttr node attr) (passed attr (attr-here attr clear))
 
-  -- no other bit is cleared
-  pub watch-others : (c : Change) (i : ℕ) → i ≢ place → bit_at (asked new c) i ≡ 0
-      → bit_at (asked old c) i ≡ 0
-  watch-others (Create dir name kind size time) = creates.others
-  watch-others (Remove node) = all.others
-  watch-others (Move node dir name clobber) = all.others
-  watch-others (Write node size time) = writes.others
-  watch-others (SetAttr node attr value) = (word-set attr).others
-  watch-others (RemoveAttr node attr) = (word-set attr).others
+    -- no other bit is cleared
+    pub watch-others : (c : Change) (i : ℕ) → i ≢ place → bit_at (asked new c) i ≡ 0
+        → bit_at (asked old c) i ≡ 0
+    watch-others (Create dir name kind size time) = creates.others
+    watch-others (Remove node) = all.others
+    watch-others (Move node dir name clobber) = all.others
+    watch-others (Write node size time) = writes.others
+    watch-others (SetAttr node attr value) = (word-set attr).others
+    watch-others (RemoveAttr node attr) = (word-set attr).others

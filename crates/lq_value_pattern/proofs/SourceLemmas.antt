@@ -115,7 +115,8 @@ found_more es e (Err r) x (Err r') a f w = w ∙ a
 
 -- one element more is read, and found unless memory runs out
 pub elements_more : (start left rest : List Sign) (e : Element)
-    (g : Result (Vec Element) SourceError) (x : Result Element SourceError) (g' : Result (Vec Element) SourceError)
+    (g : Result (Vec Element) SourceError) (x : Result Element SourceError)
+    (g' : Result (Vec Element) SourceError)
     → ElementsSoFar start g left → element_at left ≡ has e rest → IsFound e x → IsWithElement g x g'
     → ElementsSoFar start g' rest
 elements_more start left rest e g x g' s is f w =

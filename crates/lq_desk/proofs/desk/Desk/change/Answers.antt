@@ -32,7 +32,7 @@ pub invariant_of-self-2 : goal.invariant_of-self-2
 invariant_of-self-2 c =
     rw (
       c.commit.ensures c.in_ok-planned.planned.before c.in_ok-planned.planned.change
-      c.in_ok-told.ensures.told,
+          c.in_ok-told.ensures.told,
       c.ready.ensures.kept,
       c.in_ok-planned.ensures.value,
       c.in_ok-applied.ensures.ok,
@@ -44,7 +44,7 @@ pub returns-clause-ok : goal.returns-clause-ok
 returns-clause-ok c =
     rw (
       c.commit.ensures c.in_ok-planned.planned.before c.in_ok-planned.planned.change
-      c.in_ok-told.ensures.told,
+          c.in_ok-told.ensures.told,
       c.ready.ensures.kept,
       c.in_ok-planned.ensures.value,
       c.in_ok-applied.ensures.ok,
