@@ -53,7 +53,8 @@ prepared-is s c p q live is = by (is_live q.sub.held) refl
         let with_sub : PreparedSlot = record q { sub = prepared s c q.sub } in
         let same : q ≡ p = ap (λ b. if b then with_sub else q) (sym off) ∙ is in
         let no : false ≡ true =
-        sym off ∙ (ap (λ (r : PreparedSlot). is_live r.sub.held) same ∙ live) in absurd (let bad : ⊥ = cc in bad)
+        sym off ∙ (ap (λ (r : PreparedSlot). is_live r.sub.held) same ∙ live) in
+        absurd (let bad : ⊥ = cc in bad)
 
 -- a live slot without messages has an empty list of them
 no-ready : (p : PreparedSlot) → is_live p.sub.held ≡ true → has_ready p ≡ false

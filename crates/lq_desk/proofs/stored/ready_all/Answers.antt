@@ -38,7 +38,8 @@ loop-preserved c =
           c.with_bit-told.result l.slots.items place c.lowest_bit-place.ensures.set
           c.without_bit-rest.ensures
           (subst (λ ys. SetsBit l.told place
-          (passes has_ready (option_flatten (slice_get ys place))) c.with_bit-told.result) is (subst (λ b. SetsBit l.told place b c.with_bit-told.result)
+          (passes has_ready (option_flatten (slice_get ys place))) c.with_bit-told.result) is
+          (subst (λ b. SetsBit l.told place b c.with_bit-told.result)
           c.in_ok-any.ensures.any c.with_bit-told.ensures)) l.invariant.made);
       kept = ap (map kept_slot) is
           ∙ (kept-prepared s change l.slots.items place ∙ l.invariant.kept);

@@ -59,7 +59,8 @@ invariant_of-self c =
           c.with_bit-self-inside-2.result) c.can_move_in.ensures c.with_bit-self-inside-2.ensures)
           c.self.invariant.2,
       watched-acted c.self.inside.watch (act_of c.args.number c.args.act)
-          (act-query c.args.number c.args.act) ks (map kept_slot c.act_in-reply.new.slots.items) (c.args.slot - 1)
+          (act-query c.args.number c.args.act) ks
+          (map kept_slot c.act_in-reply.new.slots.items) (c.args.slot - 1)
           (ap (λ (p : Answer × List (Option KeptSlot)). p.1) c.act_in-reply.ensures.does)
           c.self.invariant.3,
     )

@@ -52,7 +52,8 @@ invariant_of-self c =
           (ap (λ (p : Answer × List (Option KeptSlot)). p.1) c.close_in.ensures.does)
           c.self.invariant.2,
       watched-acted c.self.inside.watch (close_turn c.args.number)
-          (close_turn-query c.args.number) ks (map kept_slot c.close_in.new.slots.items) (c.args.slot - 1)
+          (close_turn-query c.args.number) ks
+          (map kept_slot c.close_in.new.slots.items) (c.args.slot - 1)
           (ap (λ (p : Answer × List (Option KeptSlot)). p.1) c.close_in.ensures.does)
           c.self.invariant.3,
     )
