@@ -1,5 +1,5 @@
 -- A subscription in the code: how it was opened, what it holds, and its mark.
-use Rattle.std.specs.Prelude.{ℕ, ◌+◌, List, [], ◌∷◌, ◌++◌, length, drop, Bool, true, false, ◌&&◌, nat_lt, Option, Some, None, is_none}
+use Rattle.std.specs.Prelude.{◌≡◌, ℕ, ◌+◌, List, [], ◌∷◌, ◌++◌, length, drop, Bool, true, false, ◌&&◌, nat_lt, Option, Some, None, is_none}
 use Rattle.lq_predicate_formula.specs.Query.{Query}
 use Rattle.lq_volume.specs.declared.change.Change.{Change}
 use Rattle.lq_volume.specs.State.{State}
@@ -74,14 +74,25 @@ after_messages_by h messages before false = with_messages h messages
 abbrev pub after_messages : Held → List Message → ℕ → Held
 after_messages h messages before = after_messages_by h messages before (overruns h messages)
 
+-- the messages that a change to the state has for the subscription
+abbrev pub messages_of : State → Change → Held → List Message
+messages_of s c h = step_of h.query h.moved s c (h.sent + 1)
+
 -- a live subscription after a change to the state
 abbrev pub held_after : State → Change → Held → Held
-held_after s c h = after_messages h (step_of h.query h.moved s c (h.sent + 1)) s.number
+held_after s c h = after_messages h (messages_of s c h) s.number
 
 -- with the messages of the change made ready
 abbrev pub prepared : State → Change → Prepared → Prepared
-prepared s c p =
-    record p { ready = step_of p.held.query p.held.moved s c (p.held.sent + 1); before = s.number }
+prepared s c p = record p { ready = messages_of s c p.held; before = s.number }
+
+-- If the change has messages, they are made ready; if it has none, what is held stays, and what was
+-- made ready before is of no use.
+pub record IsReadied (s : State) (c : Change) (told : Bool) (old new : Prepared) : Type 0 where
+  pub any : told ≡ nat_lt 0 (length (messages_of s c old.held))
+  pub ready : told ≡ true → new ≡ prepared s c old
+  pub held : new.held ≡ old.held
+  pub lent : new.lent ≡ old.lent
 
 -- with the messages made ready committed
 abbrev pub committed : Prepared → Prepared

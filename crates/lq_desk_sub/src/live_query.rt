@@ -28,17 +28,14 @@ pub struct LiveQuery {
     endings: u64,
     // Whether a write alters what one of the query's names shows.
     sees_writes: bool,
-    // Whether the query may match an entry without attributes.
-    sees_creates: bool,
     // The spans of the numbers that the query compares sizes and times with.
     spans: Spans,
 }
 
 impl Model for LiveQuery {
-    ghost use Rattle.std.specs.Prelude.{◌≡◌, not};
+    ghost use Rattle.std.specs.Prelude.{◌≡◌};
     ghost use Rattle.lq_predicate_formula.specs.Query.{Query};
     ghost use Rattle.lq_predicate.specs.Names.{names_of};
-    ghost use Rattle.lq_predicate.specs.Needs.{needs_attribute};
     ghost use Rattle.lq_predicate.specs.Span.{spans_of};
     ghost use Rattle.lq_predicate.specs.QueryCode.{coded_query};
     ghost use Rattle.lq_desk_sub.specs.Passing.{HasEndings, are_written};
@@ -52,8 +49,7 @@ impl Model for LiveQuery {
     ghost invariant = { λ q. (q.names.items ≡ names_of q.predicate)
         × HasEndings (names_of q.predicate) q.endings
         × (q.sees_writes ≡ are_written (names_of q.predicate))
-        × (q.spans ≡ spans_of q.predicate)
-        × (q.sees_creates ≡ not (needs_attribute q.predicate)) };
+        × (q.spans ≡ spans_of q.predicate) };
 }
 
 impl LiveQuery {
@@ -70,7 +66,6 @@ impl LiveQuery {
             names,
             endings,
             sees_writes,
-            sees_creates: !needs_attribute(predicate),
             spans: Spans::new(predicate),
         })
     }
@@ -92,11 +87,10 @@ impl LiveQuery {
     }
 
     /// Whether the query may match an entry without attributes, as each creation makes one.
-    #[inline(always)]
     pub fn sees_creates(&self) -> bool
         ensures { result ≡ not (needs_attribute self.now) }
     {
-        self.sees_creates
+        !needs_attribute(&self.predicate)
     }
 
     /// A word with a bit for the ending of each of the query's names.

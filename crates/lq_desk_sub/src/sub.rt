@@ -14,7 +14,7 @@ use lq_predicate::Predicate;
 use lq_update::{Cause, Mark, Matches, Parcel};
 use lq_value::Refusal;
 use lq_volume::{Change, Planned, Volume};
-use std::alloc::Global;
+use std::alloc::{AllocError, Global};
 use std::marker::Model;
 
 /// The largest backlog, in messages.
@@ -78,7 +78,7 @@ impl Model for Sub {
 }
 
 impl Sub {
-    ghost use Rattle.lq_desk_sub.specs.Held.{Held, Prepared, opened_with, is_live, prepared, committed, ended_by, next_parcel, without, with_back, fits_back};
+    ghost use Rattle.lq_desk_sub.specs.Held.{Held, IsReadied, Prepared, opened_with, is_live, prepared, committed, ended_by, next_parcel, without, with_back, fits_back};
 
     /// A live subscription that holds no message, opened after `at` changes. Refused: `NoMemory`.
     pub fn new(
@@ -125,7 +125,6 @@ impl Sub {
     }
 
     // Whether the query may match an entry without attributes, as each creation makes one.
-    #[inline(always)]
     pub(crate) fn sees_creates(&self) -> bool
         ensures { result ≡ not (needs_attribute self.now.held.query) }
     {
@@ -182,8 +181,7 @@ impl Sub {
     /// Makes the messages of a planned change, as `ready` does for the plan's volume and change;
     /// answers whether there are any.
     ///
-    /// It skips a change that alters only values that the predicate doesn't look at. Refused:
-    /// `NoMemory`; then nothing changes, and the messages made ready before stay too.
+    /// Refused: `NoMemory`; then nothing changes, and the messages made ready before stay too.
     #[inline(always)]
     pub fn ready_planned(&mut self, planned: &Planned<'_>) -> Result<bool, Refusal>
         requires few { self.old.held.sent < 2 ^ 63 }
@@ -194,12 +192,29 @@ impl Sub {
             (self.new ≡ prepared planned.now.before planned.now.change self.old) }
         ensures err { OnErr result (self.new ≡ self.old) }
     {
-        let before = planned.applied().change - 1;
+        let told = self.ready_if_told(planned)?;
+        if !told {
+            self.messages.forget_ready(planned.applied().change - 1);
+        }
+        Ok(told)
+    }
+
+    /// Makes the messages of a planned change, if it has some, in place of those made ready before;
+    /// answers whether it has.
+    ///
+    /// If it has none, the messages held stay, and those made ready are of no change: only the
+    /// messages of a change that has some may be committed after it. It skips a change that alters
+    /// only values that the predicate doesn't look at. Without memory nothing changes.
+    #[inline(always)]
+    pub fn ready_if_told(&mut self, planned: &Planned<'_>) -> Result<bool, AllocError>
+        requires few { self.old.held.sent < 2 ^ 63 }
+        requires live { IsTrue (is_live self.old.held) }
+        ensures ok { IfOk result (λ told.
+            IsReadied planned.now.before planned.now.change told self.old self.new) }
+        ensures err { OnErr result (self.new ≡ self.old) }
+    {
         match self.query.asked(planned) {
-            None => {
-                self.messages.forget_ready(before);
-                Ok(false)
-            }
+            None => Ok(false),
             Some((matched_before, matches_after)) => {
                 self.make_ready(planned, matched_before, matches_after)
             }
@@ -215,14 +230,13 @@ impl Sub {
         planned: &Planned<'_>,
         matched_before: bool,
         matches_after: bool,
-    ) -> Result<bool, Refusal>
+    ) -> Result<bool, AllocError>
         requires few { self.old.held.sent < 2 ^ 63 }
         requires asked_before { matched_before ≡ is_match self.old.held.query
             (record_at planned.now.before (node_of planned.now.before planned.now.change)) }
         requires asked_after { matches_after ≡ is_match self.old.held.query
             (record_at (after planned.now.before planned.now.change)
             (node_of planned.now.before planned.now.change)) }
-        ensures refused { IsRefusedBy result None }
         ensures any { IfOk result (λ any. any ≡ nat_lt 0 (length self.new.ready)) }
         ensures ok { OnOk result
             (self.new ≡ prepared planned.now.before planned.now.change self.old) }
@@ -235,9 +249,13 @@ impl Sub {
             matches_after,
         };
         let first = self.sent + 1;
-        self.messages
-            .make_ready(self.alloc, &matches, first, self.moved)?;
-        Ok(self.messages.ready() > 0)
+        let made = self
+            .messages
+            .make_ready(self.alloc, &matches, first, self.moved);
+        match made {
+            Ok(()) => Ok(self.messages.ready() > 0),
+            Err(_) => Err(AllocError),
+        }
     }
 
     /// Holds the messages made ready for a change. If they are more than the backlog has room for,
