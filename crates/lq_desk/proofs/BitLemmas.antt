@@ -1,5 +1,5 @@
 -- Slots done one after another, by the bits of a word. Those whose bit is set are still to be done.
-use Rattle.std.proofs.Common.{◌≡◌, ◌≢◌, ℕ, zero, suc, ◌+◌, ◌<◌, ◌≤◌, ◌^◌, List, [], ◌∷◌, refl, ap, map, ◌∙◌, sym, arith, Some, None, Option, Bool, true, false, inl, inr}
+use Rattle.std.proofs.Common.{◌≡◌, ◌≢◌, ℕ, zero, suc, ◌+◌, ◌<◌, ◌≤◌, ◌^◌, List, [], ◌∷◌, refl, ap, map, length, ◌∙◌, sym, arith, Some, None, Option, Bool, true, false, inl, inr}
 use Rattle.std.specs.Prelude.{slice_get, slice_set, ◌⊎◌}
 use Rattle.std.specs.Option.{option_map, option_flatten}
 use Rattle.std.specs.Int.{bit_at}
@@ -31,6 +31,13 @@ pub set-here : {A : Type 0} (f : Option A → Option A) (xs : List (Option A)) (
 set-here f [] i = refl
 set-here f (x ∷ xs) zero = refl
 set-here f (x ∷ xs) (suc i) = set-here f xs i
+
+-- what is written at the place of a slot is there
+pub set-at : {A : Type 0} (xs : List A) (i : ℕ) (y : A) → i < length xs
+    → slice_get (slice_set xs i y) i ≡ Some y
+set-at [] i y lt = absurd (omega (arith, lt))
+set-at (x ∷ xs) zero y lt = refl
+set-at (x ∷ xs) (suc i) y lt = set-at xs i y (omega (arith, lt))
 
 -- another place is as it was
 pub set-other : {A : Type 0} (xs : List A) (i j : ℕ) (y : A) → i ≢ j

@@ -112,6 +112,7 @@ marks-acted ending movable ending' movable' ks js place o lt does e m marked =
 stays : (old place : ℕ) (x : Bool) → x ≡ false → SetsBit old place x old
 stays old place x unset = record {
   here = λ set. absurd (and_cases x set unset);
+  none = λ _. refl;
   others = λ i is. is;
   same = λ i other. refl;
 }

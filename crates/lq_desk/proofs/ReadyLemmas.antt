@@ -1,23 +1,21 @@
 -- Messages of a change that are made in the slots that were asked, and committed in those that have
 -- some.
-use Rattle.std.proofs.Common.{◌≡◌, ◌≢◌, ℕ, zero, suc, ◌+◌, ◌<◌, List, [], ◌∷◌, refl, ap, map, length, ◌∙◌, sym, subst, arith, Some, None, Option, Bool, true, false, inl, inr}
-use Rattle.std.specs.Prelude.{slice_get, slice_set, ◌⊎◌, ◌&&◌, nat_lt, if◌then◌else◌}
+use Rattle.std.proofs.Common.{◌≡◌, ◌≢◌, ℕ, zero, suc, ◌+◌, ◌<◌, ◌≤◌, List, [], refl, ap, map, length, ◌∙◌, sym, subst, arith, Some, None, Option, Bool, true, false, inl, inr}
+use Rattle.std.specs.Prelude.{slice_get, slice_set, ◌⊎◌}
 use Rattle.std.specs.List.{AllByRecursion}
 use Rattle.std.specs.Option.{option_map, option_flatten}
 use Rattle.std.specs.Int.{bit_at}
 use Rattle.std.proofs.lemmas.Nat.Bits.{bit_at-lt, bit_at-zero}
-use Rattle.std.proofs.lemmas.Option.{slice_get-map}
+use Rattle.std.proofs.lemmas.Option.{slice_get-map, slice_get_past}
 use Rattle.lq_volume.specs.declared.change.Change.{Change}
 use Rattle.lq_volume.specs.State.{State, IsVolume}
 use Rattle.lq_volume.specs.Change.{IsLawful}
-use Rattle.lq_update.specs.declared.message.Message.{Message}
-use Rattle.lq_update.specs.Updates.{step_of}
-use Rattle.lq_desk_sub.specs.Held.{Prepared, is_live, prepared}
+use Rattle.lq_desk_sub.specs.Held.{IsReadied, Prepared, held_of, is_live, messages_of, prepared}
 use Rattle.lq_desk.specs.Kept.{IsFew}
-use Rattle.lq_desk.specs.Slot.{PreparedSlot, slot_of, committed_slot, has_ready, passes, prepared_slot, slot_after}
-use Rattle.lq_desk.specs.Words.{AreCommitted, AreReady, ClearsBit, PassOver, SetsBit}
-use Rattle.lq_desk.proofs.BitLemmas.{few-flat, same-slots, set-here, set-other, which}
-use Rattle.lq_desk.proofs.SlotsLemmas.{kept_slot, committed-after, committed-quiet, no-messages, prepared-keeps, slot-prepared}
+use Rattle.lq_desk.specs.Slot.{PreparedSlot, slot_of, committed_slot, slot_after}
+use Rattle.lq_desk.specs.Words.{AreCommitted, AreMadeIn, AreReady, ClearsBit, IsAsked, IsReady, PassOver, SetsBit}
+use Rattle.lq_desk.proofs.BitLemmas.{few-flat, same-slots, set-at, set-here, set-other, which}
+use Rattle.lq_desk.proofs.SlotsLemmas.{kept_slot, no-messages, told-none}
 
 -- a bit is set, or it is clear
 pub bit-cases : (word i : ℕ) → (bit_at word i ≡ 0) ⊎ (bit_at word i ≡ 1)
@@ -28,45 +26,41 @@ bit-cases word i = by (bit_at word i) refl (bit_at-lt word i)
     by (suc zero) is lt = inr is
     by (suc (suc b)) is lt = absurd (omega (arith, is, lt))
 
--- the messages that the change has for a slot
-abbrev pub step_for : State → Change → PreparedSlot → List Message
-step_for s c p = step_of p.sub.held.query p.sub.held.moved s c (p.sub.held.sent + 1)
+-- ---- one slot
+
+-- a subscription that was made ready, in a slot that was asked
+pub asked-is : (s : State) (c : Change) (any : Bool) (old new : Prepared) (p q : PreparedSlot)
+    → IsReadied s c any old new → q.sub ≡ new → Some q ≡ Some p
+    → (any ≡ true → AreMadeIn s c p) × (any ≡ false → messages_of s c p.sub.held ≡ [])
+asked-is s c any old new p q readied is at = ((λ some. made some), (λ none. empty none))
+  where
+    same : p.sub ≡ new
+    same = ap (λ (r : PreparedSlot). r.sub) (let there : p ≡ q = cc in there) ∙ is
+
+    held : p.sub.held ≡ old.held
+    held = ap held_of same ∙ readied.held
+
+    made : any ≡ true → AreMadeIn s c p
+    made some =
+        let all : p.sub ≡ prepared s c old = same ∙ readied.ready some in
+        record {
+          ready = ap (λ (r : Prepared). r.ready) all ∙ ap (messages_of s c) (sym held);
+          before = ap (λ (r : Prepared). r.before) all;
+        }
+
+    empty : any ≡ false → messages_of s c p.sub.held ≡ []
+    empty none = ap (messages_of s c) held
+        ∙ no-messages (messages_of s c old.held) (sym readied.any ∙ none)
 
 -- ---- the loop that makes them
-
--- a slot in which the messages of the change are made; where its bit is clear, there are none
-pub record IsMade (s : State) (c : Change) (told i : ℕ) (p : PreparedSlot) : Type 0 where
-  pub made : p.sub ≡ prepared s c p.sub
-  pub none : bit_at told i ≡ 0 → step_for s c p ≡ []
-
--- a slot that was prepared
-prepared-is : (s : State) (c : Change) (p q : PreparedSlot) → is_live p.sub.held ≡ true
-    → prepared_slot s c q ≡ p → p.sub ≡ prepared s c p.sub
-prepared-is s c p q live is = by (is_live q.sub.held) refl
-  where
-    by : (b : Bool) → is_live q.sub.held ≡ b → p.sub ≡ prepared s c p.sub
-    by true on =
-        let with_sub : PreparedSlot = record q { sub = prepared s c q.sub } in
-        let same : with_sub ≡ p = ap (λ b. if b then with_sub else q) (sym on) ∙ is in
-        subst (λ (r : PreparedSlot). r.sub ≡ prepared s c r.sub) same refl
-    by false off =
-        let with_sub : PreparedSlot = record q { sub = prepared s c q.sub } in
-        let same : q ≡ p = ap (λ b. if b then with_sub else q) (sym off) ∙ is in
-        let no : false ≡ true =
-        sym off ∙ (ap (λ (r : PreparedSlot). is_live r.sub.held) same ∙ live) in
-        absurd (let bad : ⊥ = cc in bad)
-
--- a live slot without messages has an empty list of them
-no-ready : (p : PreparedSlot) → is_live p.sub.held ≡ true → has_ready p ≡ false
-    → p.sub.ready ≡ []
-no-ready p live none = no-messages p.sub.ready
-    (ap (λ b. b && nat_lt 0 (length p.sub.ready)) (sym live) ∙ none)
 
 -- what the loop has done when some slots are still to be asked
 pub record AreMade (s : State) (c : Change) (asked rest told : ℕ)
     (slots : List (Option PreparedSlot)) : Type 0 where
   pub made : (i : ℕ) (p : PreparedSlot) → slice_get slots i ≡ Some (Some p)
-      → is_live p.sub.held ≡ true → bit_at asked i ≡ 1 → bit_at rest i ≡ 0 → IsMade s c told i p
+      → is_live p.sub.held ≡ true → bit_at asked i ≡ 1 → bit_at rest i ≡ 0
+      → IsReady s c (bit_at told i) p
+  pub left : (i : ℕ) → bit_at rest i ≡ 1 → bit_at told i ≡ 0
   pub others : (i : ℕ) → bit_at asked i ≡ 0 → (bit_at rest i ≡ 0) × (bit_at told i ≡ 0)
 
 -- at first
@@ -74,22 +68,27 @@ pub made-first : (s : State) (c : Change) (asked : ℕ) (slots : List (Option Pr
     → ((i : ℕ) → bit_at 0 i ≡ 0) → AreMade s c asked asked 0 slots
 made-first s c asked slots zeros = record {
   made = λ i p at live one none. absurd (omega (arith, one, none));
+  left = λ i one. zeros i;
   others = λ i none. (none, zeros i);
 }
 
 -- one slot more
 pub made-more : (s : State) (c : Change) (asked rest told rest' told' : ℕ)
-    (xs : List (Option PreparedSlot)) (place : ℕ) → bit_at rest place ≡ 1
-    → ClearsBit rest place rest'
-    → SetsBit told place (passes has_ready (option_flatten (slice_get (slice_set xs place
-    (option_map (prepared_slot s c) (option_flatten (slice_get xs place)))) place))) told'
-    → AreMade s c asked rest told xs
-    → AreMade s c asked rest' told' (slice_set xs place
-    (option_map (prepared_slot s c) (option_flatten (slice_get xs place))))
-made-more s c asked rest told rest' told' xs place set clears sets all = record {
+    (xs : List (Option PreparedSlot)) (place : ℕ) (any : Bool) (x : Option PreparedSlot)
+    → place < length xs → bit_at rest place ≡ 1 → ClearsBit rest place rest'
+    → SetsBit told place any told' → IsAsked s c any x → AreMade s c asked rest told xs
+    → AreMade s c asked rest' told' (slice_set xs place x)
+made-more s c asked rest told rest' told' xs place any x lt set clears sets is all = record {
   made = λ i p at live one done. elim (which i place) [
-    | inl here ↦ there i p here at live
-    | inr other ↦ earlier i p other at live one done
+    | inl here ↦ there i p here (sym (set-at xs place x lt)
+        ∙ (ap (slice_get (slice_set xs place x)) (sym here) ∙ at)) live any refl
+    | inr other ↦ subst (λ bit. IsReady s c bit p) (sym (sets.same i other))
+        (all.made i p (sym (set-other xs place i x (λ same. other (sym same))) ∙ at) live one
+        (sym (clears.others i other) ∙ done))
+  ];
+  left = λ i one. elim (which i place) [
+    | inl here ↦ absurd (omega (arith, one, clears.here, ap (bit_at rest') here))
+    | inr other ↦ sets.same i other ∙ all.left i (sym (clears.others i other) ∙ one)
   ];
   others = λ i none. elim (which i place) [
     | inl here ↦ absurd (omega (arith, set, (all.others i none).0, ap (bit_at rest) here))
@@ -100,45 +99,35 @@ made-more s c asked rest told rest' told' xs place set clears sets all = record 
   ];
 }
   where
-    ys : List (Option PreparedSlot)
-    ys = slice_set xs place (option_map (prepared_slot s c) (option_flatten (slice_get xs place)))
+    there : (i : ℕ) (p : PreparedSlot) → i ≡ place → Some x ≡ Some (Some p)
+        → is_live p.sub.held ≡ true → (b : Bool) → any ≡ b → IsReady s c (bit_at told' i) p
+    there i p here at live true has =
+        inl (ap (bit_at told') here ∙ sets.here has, is.some p (let same : x ≡ Some p = cc in same) has)
+    there i p here at live false has = inr (
+      ap (bit_at told') here ∙ (ap (λ word. bit_at word place) (sets.none has) ∙ all.left place set),
+      is.none p (let same : x ≡ Some p = cc in same) live has,
+    )
 
-    earlier : (i : ℕ) (p : PreparedSlot) → i ≢ place → slice_get ys i ≡ Some (Some p)
-        → is_live p.sub.held ≡ true → bit_at asked i ≡ 1 → bit_at rest' i ≡ 0
-        → IsMade s c told' i p
-    earlier i p other at live one done =
-        let before = all.made i p (sym (set-other xs place i _ (λ same. other (sym same))) ∙ at)
-        live one (sym (clears.others i other) ∙ done) in
-        record {
-          made = before.made;
-          none = λ clear. before.none (sym (sets.same i other) ∙ clear);
-        }
-
-    by : (i : ℕ) (p : PreparedSlot) → i ≡ place → slice_get ys place ≡ Some (Some p)
-        → is_live p.sub.held ≡ true → (o : Option (Option PreparedSlot)) → slice_get xs place ≡ o
-        → option_map (option_map (prepared_slot s c)) o ≡ Some (Some p) → (b : Bool)
-        → has_ready p ≡ b → IsMade s c told' i p
-    by i p here at live None was is b ready = absurd (let no : ⊥ = cc in no)
-    by i p here at live (Some None) was is b ready = absurd (let no : ⊥ = cc in no)
-    by i p here at live (Some (Some q)) was is true ready = record {
-      made = prepared-is s c p q live (let same : prepared_slot s c q ≡ p = cc in same);
-      none = λ clear. absurd (let one = sets.here (ap (λ (o : Option (Option PreparedSlot)).
-          passes has_ready (option_flatten o)) at ∙ ready) in
-          omega (arith, one, clear, ap (bit_at told') here));
-    }
-    by i p here at live (Some (Some q)) was is false ready =
-        let made = prepared-is s c p q live (let same : prepared_slot s c q ≡ p = cc in same) in
-        record {
-          made = made;
-          none = λ clear. sym (ap (λ (r : Prepared). r.ready) made) ∙ no-ready p live ready;
-        }
-
-    there : (i : ℕ) (p : PreparedSlot) → i ≡ place → slice_get ys i ≡ Some (Some p)
-        → is_live p.sub.held ≡ true → IsMade s c told' i p
-    there i p here at live =
-        let at_place : slice_get ys place ≡ Some (Some p) = ap (slice_get ys) (sym here) ∙ at in
-        by i p here at_place live (slice_get xs place) refl
-        (sym (set-here (option_map (prepared_slot s c)) xs place) ∙ at_place) (has_ready p) refl
+-- a place beyond the slots
+pub made-past : (s : State) (c : Change) (asked rest told rest' : ℕ)
+    (xs : List (Option PreparedSlot)) (place : ℕ) → length xs ≤ place → bit_at rest place ≡ 1
+    → ClearsBit rest place rest' → AreMade s c asked rest told xs
+    → AreMade s c asked rest' told xs
+made-past s c asked rest told rest' xs place past set clears all = record {
+  made = λ i p at live one done. elim (which i place) [
+    | inl here ↦ absurd (let no = slice_get_past xs i (omega (arith, past, here)) in
+        let bad : ⊥ = cc in bad)
+    | inr other ↦ all.made i p at live one (sym (clears.others i other) ∙ done)
+  ];
+  left = λ i one. elim (which i place) [
+    | inl here ↦ absurd (omega (arith, one, clears.here, ap (bit_at rest') here))
+    | inr other ↦ all.left i (sym (clears.others i other) ∙ one)
+  ];
+  others = λ i none. elim (which i place) [
+    | inl here ↦ absurd (omega (arith, set, (all.others i none).0, ap (bit_at rest) here))
+    | inr other ↦ (clears.others i other ∙ (all.others i none).0, (all.others i none).1)
+  ];
+}
 
 -- at the end
 pub made-all : (s : State) (c : Change) (asked rest told : ℕ) (xs ys : List (Option PreparedSlot))
@@ -153,10 +142,7 @@ made-all s c asked rest told xs ys volume lawful none kept over all =
             ∙ ap (option_map kept_slot) at)) unasked p.sub.held.moved s (p.sub.held.sent + 1) volume
             lawful,
       )
-      | inr one ↦ elim (bit-cases told i) [
-        | inl clear ↦ inr (clear, (all.made i p at live one (none i)).none clear)
-        | inr set ↦ inl (set, (all.made i p at live one (none i)).made)
-      ]
+      | inr one ↦ all.made i p at live one (none i)
     ]
 
 -- what is few of all slots is few of the one at a place, after others were prepared
@@ -165,14 +151,6 @@ pub few-kept : (n : ℕ) (xs ys : List (Option PreparedSlot)) (i : ℕ)
     → IsFew n (kept_slot (option_flatten (slice_get ys i)))
 few-kept n xs ys i kept few =
     few-flat n ys i (subst (AllByRecursion (IsFew n)) (sym kept) few)
-
--- what is prepared at a place leaves what is kept
-pub kept-prepared : (s : State) (c : Change) (xs : List (Option PreparedSlot)) (i : ℕ)
-    → map kept_slot (slice_set xs i (option_map (prepared_slot s c)
-    (option_flatten (slice_get xs i)))) ≡ map kept_slot xs
-kept-prepared s c [] i = refl
-kept-prepared s c (x ∷ xs) zero = ap (λ k. k ∷ map kept_slot xs) (prepared-keeps s c x)
-kept-prepared s c (x ∷ xs) (suc i) = ap (λ ks. kept_slot x ∷ ks) (kept-prepared s c xs i)
 
 -- ---- the loop that commits them
 
@@ -261,35 +239,24 @@ committed-from told xs ys does i q at = elim (bit-cases told i) [
 -- ---- a change
 
 -- a slot with the messages made that is committed is as after the change
-made-after : (s : State) (c : Change) (p : PreparedSlot) → p.sub ≡ prepared s c p.sub
+made-after : (s : State) (c : Change) (p : PreparedSlot) → AreMadeIn s c p
     → slot_of (committed_slot p) ≡ slot_after s c (slot_of p)
-made-after s c p made = ap (λ (r : PreparedSlot). slot_of (committed_slot r)) same
-    ∙ committed-after s c p
+made-after s c p made = by (is_live p.sub.held) refl
   where
-    with_sub : PreparedSlot
-    with_sub = record p { sub = prepared s c p.sub }
-
-    by : (b : Bool) → p ≡ (if b then with_sub else p)
-    by true = ap (λ (sub : Prepared). record p { sub = sub }) made
-    by false = refl
-
-    same : p ≡ prepared_slot s c p
-    same = by (is_live p.sub.held)
+    by : (b : Bool) → is_live p.sub.held ≡ b
+        → slot_of (committed_slot p) ≡ slot_after s c (slot_of p)
+    by true live = rw (live, made.ready, made.before) refl
+    by false live = rw live refl
 
 -- one that the change has no message for is as after it
-none-after : (s : State) (c : Change) (p : PreparedSlot) → step_for s c p ≡ []
+none-after : (s : State) (c : Change) (p : PreparedSlot) → messages_of s c p.sub.held ≡ []
     → slot_of p ≡ slot_after s c (slot_of p)
 none-after s c p none = by (is_live p.sub.held) refl
   where
-    quiet : (b : Bool) → is_live p.sub.held ≡ b → has_ready (prepared_slot s c p) ≡ false
-    quiet true live = rw (live, live, none) refl
-    quiet false live = rw (live, live) refl
-
     by : (b : Bool) → is_live p.sub.held ≡ b → slot_of p ≡ slot_after s c (slot_of p)
-    by b live =
-        sym (slot-prepared s c p)
-        ∙ (ap slot_of (sym (committed-quiet (prepared_slot s c p) (quiet b live)))
-        ∙ committed-after s c p)
+    by true live = rw live (sym (ap (λ held. record (slot_of p) { held = held })
+        (told-none p.sub.held (messages_of s c p.sub.held) s.number none)))
+    by false live = rw live refl
 
 -- once all are committed, each slot is as after the change
 pub committed-after-all : (s : State) (c : Change) (told : ℕ) (xs ys : List (Option PreparedSlot))
@@ -331,16 +298,14 @@ committed-after-all s c told xs ys ready does = same-slots (map kept_slot ys) _ 
         ((does i).1 clear ∙ was)
         (ap (λ k. Some (Some k)) (none-after s c p (untold (ready i p was live))))
       where
-        untold : ((bit_at told i ≡ 1) × (p.sub ≡ prepared s c p.sub))
-            ⊎ ((bit_at told i ≡ 0) × (step_for s c p ≡ [])) → step_for s c p ≡ []
+        untold : IsReady s c (bit_at told i) p → messages_of s c p.sub.held ≡ []
         untold (inl h) = absurd (omega (arith, clear, h.0))
         untold (inr h) = h.1
     taken i p was true live (inr set) = one i (Some (Some p)) (Some (Some (committed_slot p)))
         ((does i).0 set ∙ ap (option_map (option_map committed_slot)) was)
         (ap (λ k. Some (Some k)) (made-after s c p (told_is (ready i p was live))))
       where
-        told_is : ((bit_at told i ≡ 1) × (p.sub ≡ prepared s c p.sub))
-            ⊎ ((bit_at told i ≡ 0) × (step_for s c p ≡ [])) → p.sub ≡ prepared s c p.sub
+        told_is : IsReady s c (bit_at told i) p → AreMadeIn s c p
         told_is (inl h) = h.1
         told_is (inr h) = absurd (omega (arith, set, h.0))
 

@@ -1,5 +1,5 @@
 -- The slots of a desk, as contracts see them.
-use Rattle.std.proofs.Common.{◌≡◌, ℕ, zero, suc, ◌+◌, ◌-◌, ◌≤◌, ◌<◌, ◌^◌, List, [], ◌∷◌, ◌++◌, refl, ap, map, take, drop, get_or, length, ◌∙◌, sym, subst, append-nil, arith, Some, None, Option, Bool, true, false}
+use Rattle.std.proofs.Common.{◌≡◌, ℕ, zero, suc, ◌+◌, ◌-◌, ◌≤◌, ◌<◌, ◌^◌, List, [], ◌∷◌, ◌++◌, refl, ap, map, get_or, length, ◌∙◌, sym, subst, append-nil, arith, Some, None, Option, Bool, true, false}
 use Rattle.std.specs.Prelude.{slice_get, slice_set, if◌then◌else◌, ◌&&◌, ◌||◌, nat_lt}
 use Rattle.std.specs.Option.{option_map, option_flatten}
 use Rattle.std.specs.List.{AllByRecursion}
@@ -7,14 +7,12 @@ use Rattle.std.proofs.lemmas.Bool.Decides.{nat_tests}
 use Rattle.std.proofs.lemmas.Bool.{and_parts}
 use Rattle.std.proofs.lemmas.List.{map-set}
 use Rattle.std.proofs.lemmas.Option.{slice_get-map}
-use Rattle.lq_volume.specs.declared.change.Change.{Change as Change_}
-use Rattle.lq_volume.specs.State.{State}
 use Rattle.lq_update.specs.declared.mark.Cause.TheVariants.{HungUp}
 use Rattle.lq_update.specs.declared.message.Message.{Message}
 use Rattle.lq_desk_world.specs.Events.{Answer, Refused}
 use Rattle.lq_value.specs.declared.refusal.Refusal.TheVariants.{NotOpen}
 use Rattle.lq_desk_sub.specs.Held.{Held, is_live, committed, ended_by, after_messages}
-use Rattle.lq_desk.specs.Slot.{KeptSlot, PreparedSlot, slot_of, prepared_slot, committed_slot, slot_after, can_move, done_at, filled, has_ready, has_work, is_ending, noticed, read_slot}
+use Rattle.lq_desk.specs.Slot.{KeptSlot, PreparedSlot, slot_of, committed_slot, can_move, done_at, filled, has_work, is_ending, noticed, read_slot}
 use Rattle.lq_desk.specs.Act.{outcome_at, outcome_in, read_turn}
 use Rattle.lq_desk.specs.Kept.{IsFew}
 use Rattle.lq_desk.specs.Kept as kept
@@ -110,55 +108,6 @@ kept-written xs i x d lt at is =
     ∙ set-same (map kept_slot xs) i (kept_slot d) (slice_get-map kept_slot xs i
     ∙ ap (option_map kept_slot) (one-get xs i d lt at)))
 
--- ---- messages that are made, and then told
-
--- where a function takes two values to one, it doesn't matter which of them is chosen
-live-if : {A : Type 0} {B : Type 0} (f : A → B) (x : Bool) (p q : A) → f p ≡ f q
-    → f (if x then p else q) ≡ f q
-live-if f true p q is = is
-live-if f false p q is = refl
-
--- messages that are made don't alter what is kept
-pub prepared-keeps : (s : State) (c : Change_) (o : Option PreparedSlot)
-    → kept_slot (option_map (prepared_slot s c) o) ≡ kept_slot o
-prepared-keeps s c None = refl
-prepared-keeps s c (Some p) = ap (λ k. Some k) (live-if slot_of (is_live p.sub.held) _ p refl)
-
--- and don't alter what is kept of a slot
-pub slot-prepared : (s : State) (c : Change_) (p : PreparedSlot)
-    → slot_of (prepared_slot s c p) ≡ slot_of p
-slot-prepared s c p = live-if slot_of (is_live p.sub.held) _ p refl
-
--- messages made and then told leave the slot after the change
-pub committed-after : (s : State) (c : Change_) (p : PreparedSlot)
-    → slot_of (committed_slot (prepared_slot s c p)) ≡ slot_after s c (slot_of p)
-committed-after s c p = by (is_live p.sub.held) refl
-  where
-    by : (x : Bool) → is_live p.sub.held ≡ x
-        → slot_of (committed_slot (prepared_slot s c p)) ≡ slot_after s c (slot_of p)
-    by true is = rw (is, is) refl
-    by false is = rw (is, is) refl
-
--- a slot written at its place leaves what is kept, if it keeps the same
-map-same_here : (ys : List (Option PreparedSlot)) (i : ℕ) (x z : Option PreparedSlot)
-    → kept_slot x ≡ kept_slot z → z ≡ get_or ys i z
-    → map kept_slot (slice_set ys i x) ≡ map kept_slot ys
-map-same_here [] i x z same at = refl
-map-same_here (y ∷ ys) zero x z same at = ap (λ k. k ∷ map kept_slot ys) (same ∙ ap kept_slot at)
-map-same_here (y ∷ ys) (suc i) x z same at =
-    ap (λ ks. kept_slot y ∷ ks) (map-same_here ys i x z same at)
-
--- messages made in a front of the slots leave what is kept
-map-front : (s : State) (c : Change_) (i : ℕ) (xs : List (Option PreparedSlot))
-    → map kept_slot (map (option_map (prepared_slot s c)) (take i xs) ++ drop i xs)
-    ≡ map kept_slot xs
-map-front s c zero xs = refl
-map-front s c (suc i) [] = refl
-map-front s c (suc i) (x ∷ xs) =
-    let here = prepared-keeps s c x in
-    let rest = map-front s c i xs in
-    cc
-
 -- ---- slots with nothing to do
 
 -- a noticing leaves a slot whose end wasn't asked for, or that has ended
@@ -190,34 +139,15 @@ held-none h sent messages p q = ap (λ n. record h { sent = n; messages = messag
     ∙ ap (λ ms. record h { messages = ms }) q
 
 -- where there are no messages, none are told
-told-none : (h : Held) (ready : List Message) (before : ℕ) → ready ≡ []
+pub told-none : (h : Held) (ready : List Message) (before : ℕ) → ready ≡ []
     → after_messages h ready before ≡ h
 told-none h ready before none = ap (λ ms. after_messages h ms before) none
     ∙ held-none h (h.sent + 0) (h.messages ++ []) (omega arith) (append-nil h.messages)
-
--- and the slot is as before
-committed-none : (p : PreparedSlot) → p.sub.ready ≡ [] → record p { sub = committed p.sub } ≡ p
-committed-none p none = same (after_messages p.sub.held p.sub.ready p.sub.before) []
-    (told-none p.sub.held p.sub.ready p.sub.before none) (sym none)
-  where
-    same : (h : Held) (ms : List Message) → h ≡ p.sub.held → ms ≡ p.sub.ready
-        → record p { sub = record p.sub { held = h; ready = ms } } ≡ p
-    same h ms a b = ap (λ g. record p { sub = record p.sub { held = g; ready = ms } }) a
-        ∙ ap (λ ns. record p { sub = record p.sub { ready = ns } }) b
 
 -- messages whose number isn't above zero are none
 pub no-messages : (ms : List Message) → nat_lt 0 (length ms) ≡ false → ms ≡ []
 no-messages [] none = refl
 no-messages (m ∷ ms) none = absurd (grind (arith, nat_tests, none))
-
--- telling leaves a slot that has no messages ready
-pub committed-quiet : (p : PreparedSlot) → has_ready p ≡ false → committed_slot p ≡ p
-committed-quiet p is = by (is_live p.sub.held) is
-  where
-    by : (x : Bool) → (x && nat_lt 0 (length p.sub.ready)) ≡ false
-        → (if x then record p { sub = committed p.sub } else p) ≡ p
-    by true none = committed-none p (no-messages p.sub.ready none)
-    by false none = refl
 
 -- telling messages makes no slot ending
 pub committed-ends : (p : PreparedSlot) → is_ending (slot_of (committed_slot p)) ≡ true

@@ -8,7 +8,7 @@ use Rattle.lq_volume.specs.State.{State}
 use Rattle.lq_update.specs.declared.parcel.Parcel.{Parcel}
 use Rattle.lq_update.specs.declared.mark.Cause.TheVariants.{Closed, HungUp}
 use Rattle.lq_desk_world.specs.Events.{Answer, Moved, Took, Empty, Ended, Asked, Noticed, Shut, Finished, Refused}
-use Rattle.lq_desk_sub.specs.Held.{Held, Prepared, opened_with, is_live, held_after, prepared, committed, ended_by, next_parcel, without}
+use Rattle.lq_desk_sub.specs.Held.{Held, Prepared, opened_with, is_live, held_after, committed, ended_by, next_parcel, without}
 
 -- the subscription, the number of places of its port, the parcels in it, and whether its end was
 -- asked for
@@ -49,11 +49,7 @@ fresh_slot q moved at port backlog =
 abbrev pub slot_after : State → Change → KeptSlot → KeptSlot
 slot_after s c k = if is_live k.held then record k { held = held_after s c k.held } else k
 
--- a slot with the messages of a change made
-abbrev pub prepared_slot : State → Change → PreparedSlot → PreparedSlot
-prepared_slot s c p = if is_live p.sub.held then record p { sub = prepared s c p.sub } else p
-
--- a slot with those messages committed
+-- a slot with the messages committed that were made in it
 abbrev pub committed_slot : PreparedSlot → PreparedSlot
 committed_slot p = if is_live p.sub.held then record p { sub = committed p.sub } else p
 
@@ -120,10 +116,6 @@ finish_slot k = finish_if k (is_read k)
 abbrev pub passes : {T : Type 0} → (T → Bool) → Option T → Bool
 passes test None = false
 passes test (Some x) = test x
-
--- a live subscription whose messages of a change aren't committed yet
-abbrev pub has_ready : PreparedSlot → Bool
-has_ready p = is_live p.sub.held && nat_lt 0 (length p.sub.ready)
 
 -- a live subscription whose end was asked for
 abbrev pub is_ending : KeptSlot → Bool

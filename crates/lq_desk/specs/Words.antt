@@ -1,12 +1,11 @@
 -- Words with a bit for each slot: a slot whose bit is clear has no work to do.
-use Rattle.std.specs.Prelude.{◌≡◌, ◌≢◌, ◌⊎◌, ℕ, ◌+◌, List, [], Bool, true, Option, Some, slice_get}
+use Rattle.std.specs.Prelude.{◌≡◌, ◌≢◌, ◌⊎◌, ℕ, List, [], Bool, true, false, Option, Some, slice_get}
 use Rattle.std.specs.Int.{bit_at}
 use Rattle.std.specs.Option.{option_map}
 use Rattle.lq_volume.specs.declared.change.Change.{Change}
 use Rattle.lq_volume.specs.State.{State}
-use Rattle.lq_update.specs.Updates.{step_of}
 use Rattle.lq_desk_sub.specs.declared.watch.Watch.{Watch}
-use Rattle.lq_desk_sub.specs.Held.{is_live, prepared}
+use Rattle.lq_desk_sub.specs.Held.{is_live, messages_of}
 use Rattle.lq_desk_sub.specs.Passing.{TellsNothing}
 use Rattle.lq_desk_sub.specs.Watch.{asked}
 use Rattle.lq_desk.specs.Slot.{KeptSlot, PreparedSlot, can_move, committed_slot, is_ending}
@@ -24,6 +23,7 @@ pub record AreMarked (ending movable : ℕ) (ks : List (Option KeptSlot)) : Type
 -- the bit at an index is also set, if `is_set`; the bits set before stay set, and the others clear
 pub record SetsBit (old : ℕ) (place : ℕ) (is_set : Bool) (new : ℕ) : Type 0 where
   pub here : is_set ≡ true → bit_at new place ≡ 1
+  pub none : is_set ≡ false → new ≡ old
   pub others : (i : ℕ) → bit_at old i ≡ 1 → bit_at new i ≡ 1
   pub same : (i : ℕ) → i ≢ place → bit_at new i ≡ bit_at old i
 
@@ -41,14 +41,25 @@ PassOver c word ks = (i : ℕ) (k : KeptSlot) → slice_get ks i ≡ Some (Some 
 abbrev pub AreWatched : Watch → List (Option KeptSlot) → Type 0
 AreWatched w ks = (c : Change) → PassOver c (asked w c) ks
 
--- the messages of the change are made in each live slot whose bit is set, and it has none for the
--- others
+-- the messages of a change are made in the slot
+pub record AreMadeIn (s : State) (c : Change) (p : PreparedSlot) : Type 0 where
+  pub ready : p.sub.ready ≡ messages_of s c p.sub.held
+  pub before : p.sub.before ≡ s.number
+
+-- a slot that was asked for the messages of a change: whether it has some, which are made then
+pub record IsAsked (s : State) (c : Change) (any : Bool) (slot : Option PreparedSlot) : Type 0 where
+  pub some : (p : PreparedSlot) → slot ≡ Some p → any ≡ true → AreMadeIn s c p
+  pub none : (p : PreparedSlot) → slot ≡ Some p → is_live p.sub.held ≡ true → any ≡ false
+      → messages_of s c p.sub.held ≡ []
+
+-- the messages of a change are made in the slot, if its bit is set; else the change has none for it
+abbrev pub IsReady : State → Change → ℕ → PreparedSlot → Type 0
+IsReady s c bit p = ((bit ≡ 1) × AreMadeIn s c p) ⊎ ((bit ≡ 0) × (messages_of s c p.sub.held ≡ []))
+
+-- that of each live slot
 abbrev pub AreReady : State → Change → ℕ → List (Option PreparedSlot) → Type 0
 AreReady s c told slots = (i : ℕ) (p : PreparedSlot) → slice_get slots i ≡ Some (Some p)
-    → is_live p.sub.held ≡ true
-    → ((bit_at told i ≡ 1) × (p.sub ≡ prepared s c p.sub))
-    ⊎ ((bit_at told i ≡ 0)
-    × (step_of p.sub.held.query p.sub.held.moved s c (p.sub.held.sent + 1) ≡ []))
+    → is_live p.sub.held ≡ true → IsReady s c (bit_at told i) p
 
 -- the slots whose bit is set are committed, and the others are as they were
 abbrev pub AreCommitted : ℕ → List (Option PreparedSlot) → List (Option PreparedSlot) → Type 0

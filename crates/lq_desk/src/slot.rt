@@ -2,7 +2,8 @@
 ghost use Rattle.std.specs.Prelude.{◌≡◌, ◌<◌, ◌≤◌, ◌^◌, ◌-◌, true, if◌then◌else◌, None, Some, IfOk, OnOk, OnErr};
 ghost use Rattle.lq_value.specs.Refusal.{IsRefusedBy};
 ghost use Rattle.std.specs.Option.{option_map};
-ghost use Rattle.lq_desk.specs.Slot.{slot_of, prepared_slot, committed_slot, can_move, close_slot, filled, has_ready, is_ending, noticed, passes};
+ghost use Rattle.lq_desk.specs.Slot.{slot_of, committed_slot, can_move, close_slot, filled, is_ending, noticed, passes};
+ghost use Rattle.lq_desk.specs.Words.{IsAsked};
 ghost use Rattle.lq_desk.specs.Kept.{IsFew};
 ghost use Rattle.lq_desk.specs.Act.{act_of, outcome_at};
 ghost use Rattle.lq_desk.specs.Reply.{answer_of};
@@ -14,7 +15,7 @@ use lq_predicate::Predicate;
 use lq_update::{Cause, Parcel};
 use lq_value::Refusal;
 use lq_volume::Planned;
-use std::alloc::Global;
+use std::alloc::{AllocError, Global};
 use std::collections::VecDeque;
 use std::marker::Model;
 
@@ -235,16 +236,14 @@ pub fn notice_at(slot: &mut Option<Slot>, may_end: bool, number: u64)
     }
 }
 
-/// Makes the messages of a change for a slot, if a live subscription is there; answers whether
-/// there are any.
+/// Makes the messages of a change for a slot, if a live subscription is there and the change has
+/// some for it; answers whether it has. What the slot keeps stays.
 #[inline(always)]
-pub fn ready_at(slot: &mut Option<Slot>, planned: &Planned<'_>) -> Result<bool, Refusal>
+pub fn ready_at(slot: &mut Option<Slot>, planned: &Planned<'_>) -> Result<bool, AllocError>
     requires few { IsFew (2 ^ 63 - 1) (option_map slot_of slot.old) }
-    ensures refused { IsRefusedBy result None }
-    ensures any { IfOk result (λ any. any ≡ passes has_ready slot.new) }
-    ensures ok { OnOk result
-        (slot.new ≡ option_map (prepared_slot planned.now.before planned.now.change) slot.old) }
-    ensures err { OnErr result (option_map slot_of slot.new ≡ option_map slot_of slot.old) }
+    ensures asked { IfOk result (λ any.
+        IsAsked planned.now.before planned.now.change any slot.new) }
+    ensures kept { option_map slot_of slot.new ≡ option_map slot_of slot.old }
 {
     let Some(there) = slot else {
         return Ok(false);
@@ -252,5 +251,6 @@ pub fn ready_at(slot: &mut Option<Slot>, planned: &Planned<'_>) -> Result<bool, 
     if !there.sub.is_live() {
         return Ok(false);
     }
-    there.sub.ready_planned(planned)
+    let any = there.sub.ready_if_told(planned)?;
+    Ok(any)
 }

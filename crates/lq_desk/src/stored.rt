@@ -4,7 +4,7 @@ ghost use Rattle.std.specs.Vec.{vec_capacity};
 ghost use Rattle.std.specs.List.{AllByRecursion};
 ghost use Rattle.std.specs.Option.{option_map, option_flatten};
 ghost use Rattle.lq_value.specs.Refusal.{IsRefusedBy};
-ghost use Rattle.lq_desk.specs.Slot.{slot_of, prepared_slot, committed_slot, can_move, done_at, filled, has_ready, has_work, is_ending, noticed, passes};
+ghost use Rattle.lq_desk.specs.Slot.{slot_of, committed_slot, can_move, done_at, filled, has_work, is_ending, noticed, passes};
 ghost use Rattle.lq_desk.specs.Words.{AreCommitted, AreReady, IsMarked, PassOver};
 ghost use Rattle.lq_desk.specs.Kept.{IsFew, first_free};
 ghost use Rattle.lq_desk.specs.Act.{act_of, close_turn, outcome_in, read_turn};
@@ -17,6 +17,7 @@ use crate::word::{has_bit, lowest_bit, with_bit, without_bit};
 use lq_desk_world::Act;
 use lq_value::Refusal;
 use lq_volume::Planned;
+use std::alloc::AllocError;
 
 /// The index of the first free slot, or the number of slots.
 pub fn first_free(slots: &[Option<Slot>]) -> usize
@@ -48,10 +49,9 @@ pub fn ready_all(
     slots: &mut Vec<Option<Slot>>,
     asked: u64,
     planned: &Planned<'_>,
-) -> Result<u64, Refusal>
+) -> Result<u64, AllocError>
     requires few { AllByRecursion (IsFew (2 ^ 63 - 1)) (map (option_map slot_of) slots.old.items) }
     requires others { PassOver planned.now.change asked (map (option_map slot_of) slots.old.items) }
-    ensures refused { IsRefusedBy result None }
     ensures told { IfOk result (λ told.
         AreReady planned.now.before planned.now.change told slots.new.items) }
     ensures kept { map (option_map slot_of) slots.new.items ≡
@@ -68,38 +68,13 @@ pub fn ready_all(
             return Ok(told);
         }
         let place = lowest_bit(rest);
-        let any = ready_in(slots, place, planned)?;
-        told = with_bit(told, place, any);
         rest = without_bit(rest, place);
+        if place < slots.len() {
+            let any = ready_at(&mut slots[place], planned)?;
+            told = with_bit(told, place, any);
+        }
     }
     Ok(told)
-}
-
-// Makes the messages of a change for the slot at an index, if a live subscription is there; answers
-// whether there are any.
-#[inline(always)]
-fn ready_in(
-    slots: &mut Vec<Option<Slot>>,
-    place: usize,
-    planned: &Planned<'_>,
-) -> Result<bool, Refusal>
-    requires { IsFew (2 ^ 63 - 1)
-        (option_map slot_of (option_flatten (slice_get slots.old.items place))) }
-    ensures refused { IsRefusedBy result None }
-    ensures any { IfOk result (λ any. any
-        ≡ passes has_ready (option_flatten (slice_get slots.new.items place))) }
-    ensures ok { OnOk result (slots.new.items ≡ slice_set slots.old.items place (option_map
-        (prepared_slot planned.now.before planned.now.change)
-        (option_flatten (slice_get slots.old.items place)))) }
-    ensures err { OnErr result (map (option_map slot_of) slots.new.items ≡
-        map (option_map slot_of) slots.old.items) }
-    ensures len { vec_len slots.new ≡ vec_len slots.old }
-    ensures room { vec_capacity slots.new ≡ vec_capacity slots.old }
-{
-    if place >= slots.len() {
-        return Ok(false);
-    }
-    ready_at(&mut slots[place], planned)
 }
 
 /// Commits the messages of each subscription that the word has a bit for.

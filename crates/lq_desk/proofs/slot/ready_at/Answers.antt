@@ -1,19 +1,12 @@
-use Rattle.std.proofs.Common.{◌≡◌, ◌∙◌, ap, sym, true, Some}
-use Rattle.std.proofs.lemmas.Result.{on_ok_weaker}
-use Rattle.lq_desk_sub.specs.Held.{Prepared, is_live}
-use Rattle.lq_desk.specs.Slot.{PreparedSlot}
+use Rattle.std.proofs.Common.{refl}
+use Rattle.lq_desk.proofs.ReadyLemmas.{asked-is}
 use Rattle.lq_desk.proofs.slot.ready_at.Goals as goal
 
-pub returns-clause-ok : goal.returns-clause-ok
-returns-clause-ok c =
-    let live : is_live c.there.inside.sub.held ≡ true = sym c.is_live.ensures
-    ∙ c.if-not-is_live.false in
-    let with_sub : Prepared → PreparedSlot = λ sub. record {
-      sub = sub;
-      port = c.there.inside.port;
-      queue = c.there.inside.queue.items;
-      hang_up_asked = c.there.inside.hang_up_asked;
-    } in
-    rw (c.in-Some.is, ← c.there.view_is, live)
-    (on_ok_weaker c.ready_planned.result (ap (λ sub. Some (with_sub sub)))
-    c.ready_planned.ensures.ok)
+pub returns-clause-asked : goal.returns-clause-asked
+returns-clause-asked c =
+    let is = asked-is c.args.planned.now.before c.args.planned.now.change c.in_ok-any.any
+    c.there.inside.sub c.ready_if_told.new.self in
+    record {
+      some = λ p at any. (is p _ c.in_ok-any.ensures.ok refl at).0 any;
+      none = λ p at live any. (is p _ c.in_ok-any.ensures.ok refl at).1 any;
+    }

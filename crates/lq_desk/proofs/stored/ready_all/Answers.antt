@@ -1,13 +1,12 @@
-use Rattle.std.proofs.Common.{◌^◌, ◌-◌, ◌∙◌, ap, subst, refl, arith, map}
-use Rattle.std.specs.Option.{option_flatten}
-use Rattle.std.specs.Prelude.{slice_get}
+use Rattle.std.proofs.Common.{◌^◌, ◌-◌, ◌∙◌, ap, refl, subst, arith}
 use Rattle.std.specs.Int.{bit_at}
+use Rattle.std.specs.Option.{option_flatten}
 use Rattle.std.proofs.lemmas.Nat.Bits.{bit_at-zero}
-use Rattle.lq_desk.specs.Slot.{has_ready, passes}
-use Rattle.lq_desk.specs.Words.{SetsBit}
+use Rattle.lq_desk.specs.Kept.{IsFew}
 use Rattle.lq_desk.proofs.BitLemmas.{clear-more, no-bits}
-use Rattle.lq_desk.proofs.ReadyLemmas.{few-kept, kept-prepared, made-all, made-first, made-more}
-use Rattle.lq_desk.proofs.SlotsLemmas.{kept_slot}
+use Rattle.lq_desk.proofs.ReadyLemmas.{few-kept, made-all, made-first, made-more, made-past}
+use Rattle.lq_desk.proofs.SlotsLemmas.{kept_slot, kept-written, one-get}
+use Rattle.lq_desk.proofs.stored.ready_all.Goals.{then-place-len+in_ok-any, else-place-len}
 use Rattle.lq_desk.proofs.stored.ready_all.Goals as goal
 
 pub loop-init : goal.loop-init
@@ -21,10 +20,17 @@ loop-init c = record {
   room = refl;
 }
 
-pub ready_in-requires : goal.ready_in-requires
-ready_in-requires c =
-    few-kept (2 ^ 63 - 1) c.args.slots.now.items c.loop.slots.items c.lowest_bit-place.result
-    c.loop.invariant.kept c.requires.few
+pub ready_at-requires : goal.ready_at-requires
+ready_at-requires c =
+    let xs = c.loop.slots.items in
+    let place = c.lowest_bit-place.result in
+    record {
+      few = subst (λ o. IsFew (2 ^ 63 - 1) (kept_slot (option_flatten o)))
+          (one-get xs place c.index_mut.result.now
+          (omega (arith, c.if-place-len.true, c.len.ensures)) c.index_mut.ensures.value)
+          (few-kept (2 ^ 63 - 1) c.args.slots.now.items xs place c.loop.invariant.kept
+          c.requires.few);
+    }
 
 pub loop-preserved : goal.loop-preserved
 loop-preserved c =
@@ -32,23 +38,38 @@ loop-preserved c =
     let place = c.lowest_bit-place.result in
     let s = c.args.planned.now.before in
     let change = c.args.planned.now.change in
-    let is = c.in_ok-any.ensures.ok in
+    let set = c.lowest_bit-place.ensures.set in
+    let clears = c.without_bit-rest.ensures in
     record {
-      made = rw is (made-more s change c.args.asked l.rest l.told c.without_bit-rest.result
-          c.with_bit-told.result l.slots.items place c.lowest_bit-place.ensures.set
-          c.without_bit-rest.ensures
-          (subst (λ ys. SetsBit l.told place
-          (passes has_ready (option_flatten (slice_get ys place))) c.with_bit-told.result) is
-          (subst (λ b. SetsBit l.told place b c.with_bit-told.result)
-          c.in_ok-any.ensures.any c.with_bit-told.ensures)) l.invariant.made);
-      kept = ap (map kept_slot) is
-          ∙ (kept-prepared s change l.slots.items place ∙ l.invariant.kept);
-      clear = clear-more l.rest c.without_bit-rest.result place l.counter
-          c.lowest_bit-place.ensures.set c.lowest_bit-place.ensures.lowest
-          c.without_bit-rest.ensures l.invariant.clear;
+      made = elim c.if-place-len.branch [
+        | then-place-len+in_ok-any w ↦ rw (w.slots-is, w.told-is)
+            (made-more s change c.args.asked l.rest l.told c.without_bit-rest.result
+            w.with_bit-told.result l.slots.items place w.in_ok-any.any w.ready_at.new.slot
+            (omega (arith, w.if-place-len.true, c.len.ensures)) set clears
+            w.with_bit-told.ensures w.in_ok-any.ensures.asked l.invariant.made)
+        | else-place-len w ↦ rw (w.slots-is, w.told-is)
+            (made-past s change c.args.asked l.rest l.told c.without_bit-rest.result
+            l.slots.items place (omega (arith, w.if-place-len.false, c.len.ensures)) set clears
+            l.invariant.made)
+      ];
+      kept = elim c.if-place-len.branch [
+        | then-place-len+in_ok-any w ↦ rw w.slots-is
+            (kept-written l.slots.items place w.ready_at.new.slot w.index_mut.result.now
+            (omega (arith, w.if-place-len.true, c.len.ensures)) w.index_mut.ensures.value
+            w.ready_at.ensures.kept ∙ l.invariant.kept)
+        | else-place-len w ↦ rw w.slots-is l.invariant.kept
+      ];
+      clear = clear-more l.rest c.without_bit-rest.result place l.counter set
+          c.lowest_bit-place.ensures.lowest clears l.invariant.clear;
       fits = c.without_bit-rest.type_inv;
-      len = c.ready_in.ensures.len ∙ l.invariant.len;
-      room = c.ready_in.ensures.room ∙ l.invariant.room;
+      len = elim c.if-place-len.branch [
+        | then-place-len+in_ok-any w ↦ rw w.slots-is l.invariant.len
+        | else-place-len w ↦ rw w.slots-is l.invariant.len
+      ];
+      room = elim c.if-place-len.branch [
+        | then-place-len+in_ok-any w ↦ rw w.slots-is l.invariant.room
+        | else-place-len w ↦ rw w.slots-is l.invariant.room
+      ];
     }
 
 pub returns-then-rest-eq0-clause-told : goal.returns-then-rest-eq0-clause-told
@@ -70,4 +91,7 @@ returns-clause-told c =
     c.requires.others c.loop.invariant.made
 
 pub returns-in_err-any-clause-kept : goal.returns-in_err-any-clause-kept
-returns-in_err-any-clause-kept c = c.in_err-any.ensures.err ∙ c.loop.invariant.kept
+returns-in_err-any-clause-kept c =
+    kept-written c.loop.slots.items c.lowest_bit-place.result c.ready_at.new.slot
+    c.index_mut.result.now (omega (arith, c.if-place-len.true, c.len.ensures))
+    c.index_mut.ensures.value c.ready_at.ensures.kept ∙ c.loop.invariant.kept
