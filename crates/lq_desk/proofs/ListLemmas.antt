@@ -36,12 +36,6 @@ all-set P (x ∷ xs) (suc i) y h p = (h.0, all-set P xs i y h.1 p)
 -- ---- tests
 -- ---- a part of a list
 
--- one element dropped after others
-drop-suc : {A : Type 0} (n : ℕ) (xs : List A) → drop 1 (drop n xs) ≡ drop (suc n) xs
-drop-suc zero xs = refl
-drop-suc (suc n) [] = refl
-drop-suc (suc n) (x ∷ xs) = drop-suc n xs
-
 -- the first of the rest is the one at that place
 get-drop : {A : Type 0} (n : ℕ) (xs : List A) → slice_get (drop n xs) 0 ≡ slice_get xs n
 get-drop zero xs = refl

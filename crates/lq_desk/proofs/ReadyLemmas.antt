@@ -101,10 +101,13 @@ made-more s c asked rest told rest' told' xs place any x lt set clears sets is a
   where
     there : (i : ℕ) (p : PreparedSlot) → i ≡ place → Some x ≡ Some (Some p)
         → is_live p.sub.held ≡ true → (b : Bool) → any ≡ b → IsReady s c (bit_at told' i) p
-    there i p here at live true has =
-        inl (ap (bit_at told') here ∙ sets.here has, is.some p (let same : x ≡ Some p = cc in same) has)
+    there i p here at live true has = inl (
+      ap (bit_at told') here ∙ sets.here has,
+      is.some p (let same : x ≡ Some p = cc in same) has,
+    )
     there i p here at live false has = inr (
-      ap (bit_at told') here ∙ (ap (λ word. bit_at word place) (sets.none has) ∙ all.left place set),
+      ap (bit_at told') here
+          ∙ (ap (λ word. bit_at word place) (sets.none has) ∙ all.left place set),
       is.none p (let same : x ≡ Some p = cc in same) live has,
     )
 
