@@ -57,7 +57,7 @@ sub_send =
       found_attr.the_send,
       found_message.the_send,
       found_mark.the_send,
-    ) depth 30
+    ) depth 20
 
 -- the end of a port that puts may go to another thread
 in_send : IsSend (port_in.the_row delivery.the_row opening_at.the_row ghosts)
