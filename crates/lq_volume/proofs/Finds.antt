@@ -54,11 +54,6 @@ finds-same test ys y finds so fails =
     let none = with-none finds in
     rw (last-mapped deref_pair ys y, last, fails, ← so) none
 
--- what was taken is all, where nothing is left
-pub list-ends : {X : Type 0} (es rest all : List X) → length rest ≡ 0 → es ++ rest ≡ all → es ≡ all
-list-ends es [] all h k = with-none es ∙ k
-list-ends es (x ∷ rest) all h k = absurd (omega arith)
-
 -- what was copied is all, where nothing is left
 pub walk-ends : (es : List (ℕ × Record)) (rest : List (ℕ × Bor Record)) (all : List (ℕ × Record))
     → length rest ≡ 0 → es ++ map shown_pair rest ≡ all → es ≡ all

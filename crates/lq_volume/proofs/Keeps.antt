@@ -10,14 +10,14 @@ use Rattle.lq_value.specs.declared.kind.Kind.{Kind}
 use Rattle.lq_value.specs.declared.kind.Kind.TheVariants.{File, Folder}
 use Rattle.lq_volume.specs.declared.change.Change.{Change}
 use Rattle.lq_volume.specs.declared.change.Change.TheVariants.{Create, Remove, Move, Write, SetAttr, RemoveAttr}
-use Rattle.lq_volume.specs.Attributes.{Attributes, HasOwnNames, with_attr, without_attr}
+use Rattle.lq_volume_attributes.specs.Attributes.{Attributes, HasOwnNames, with_attr, without_attr}
+use Rattle.lq_volume_attributes.specs.Laws.{NamesStayApart}
 use Rattle.lq_volume.specs.Kind.{is_folder}
 use Rattle.lq_volume.specs.State.{State, Record, root, record_at, kind_at, is_folder_at, dir_of, reaches, node_in, has_entries, IsTree, IsVolume}
 use Rattle.lq_volume.specs.Change.{refused, refusals, after, node_of, record_left, at_place, written, set_attr, remove_attr, with_attrs, changed, altered, without, other_at, other_than, is_other}
 use Rattle.lq_volume.specs.Places.{CanMove}
 use Rattle.lq_volume.specs.Laws.{ChangesKeepTrees, UntouchedStay, ClobberedGo}
 use Rattle.lq_volume.proofs.RecordLemmas.{Entries, All-push, All-filter, All-without, All-kept, lookup-filter, lookup-push, lookup-altered, node_in-some, node_in-none, is_taken-node_in, length-filter_le}
-use Rattle.lq_volume.proofs.AttributeLemmas.{HasOwnNames-with, HasOwnNames-without}
 use Rattle.lq_volume.proofs.Climbs.{climbs-sound, climbs-complete, Climb-more}
 use Rattle.lq_volume.proofs.Changes.{none_holds, accepted_number, IsNumbered-create, IsNumbered-filter, IsNumbered-altered}
 use Rattle.lq_volume.proofs.Tree.{IsChildless, childless-from_test, less-folder, IsTree-less, IsTree-moved, IsTree-kept, IsTree-more, dir_of-is, record-of}
@@ -264,16 +264,16 @@ can-move s node dir name clobber v h =
     some (Some r) is k l = rw is refl
 
 -- each accepted change leaves a volume
-pub keeps-all : ChangesKeepTrees
-keeps-all s (Create dir name kind size time) v h = keeps-create s
+pub keeps-all : NamesStayApart → ChangesKeepTrees
+keeps-all own s (Create dir name kind size time) v h = keeps-create s
     (record { dir = dir; name = name; kind = kind; size = size; time = time; attrs = [] }) refl v h
-keeps-all s (Remove node) v h = keeps-remove s node v h
-keeps-all s (Move node dir name clobber) v h = keeps-move s node dir name clobber v h
-keeps-all s (Write node size time) v h = keeps-write s node size time v h
-keeps-all s (SetAttr node attr value) v h = keeps-attrs s node (λ r. with_attr r.attrs attr value)
-    (λ r h. HasOwnNames-with r.attrs attr value h) v (accepted_number s (SetAttr node attr value) h)
-keeps-all s (RemoveAttr node attr) v h = keeps-attrs s node (λ r. without_attr r.attrs attr)
-    (λ r h. HasOwnNames-without r.attrs attr h) v (accepted_number s (RemoveAttr node attr) h)
+keeps-all own s (Remove node) v h = keeps-remove s node v h
+keeps-all own s (Move node dir name clobber) v h = keeps-move s node dir name clobber v h
+keeps-all own s (Write node size time) v h = keeps-write s node size time v h
+keeps-all own s (SetAttr node attr value) v h = keeps-attrs s node (λ r. with_attr r.attrs attr value)
+    (λ r h. own.set r.attrs attr value h) v (accepted_number s (SetAttr node attr value) h)
+keeps-all own s (RemoveAttr node attr) v h = keeps-attrs s node (λ r. without_attr r.attrs attr)
+    (λ r h. own.removed r.attrs attr h) v (accepted_number s (RemoveAttr node attr) h)
 
 -- the record of a node that isn't the one taken away
 look-without : (es : Entries) (p : Option ℕ) (x : ℕ) → (p ≡ Some x → ⊥)

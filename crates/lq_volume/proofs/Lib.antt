@@ -3,9 +3,8 @@
 -- Walks up, and what keeps the tree: Climbs, Tree. What each accepted change keeps: Changes, Keeps,
 -- Touches; that the numbers fit: Fits; why a move is refused: Rows. The places of the records:
 -- PlaceLemmas. The index of places, with a record more, less or altered: IndexLemmas; after a move:
--- IndexMoves; the steps of a put: Puts; and the folders that have names: IndexFolders. Attributes
--- in a list and in a map: AttributeLemmas. The entries in a folder: Folders; the walk up that makes
--- a path: Paths.
+-- IndexMoves; the steps of a put: Puts; and the folders that have names: IndexFolders. The entries
+-- in a folder: Folders; the walk up that makes a path: Paths.
 pub mod Options
 pub mod OrderLemmas
 pub mod RecordLemmas
@@ -22,7 +21,6 @@ pub mod IndexMoves
 pub mod IndexFolders
 pub mod Puts
 pub mod Finds
-pub mod AttributeLemmas
 pub mod Touches
 pub mod Folders
 pub mod Paths

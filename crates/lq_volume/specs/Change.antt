@@ -8,7 +8,7 @@ use Rattle.lq_value.specs.Refusal.{first_refusal}
 use Rattle.lq_volume.specs.declared.change.Change.{Change}
 use Rattle.lq_volume.specs.declared.change.Change.TheVariants.{Create, Remove, Move, Write, SetAttr, RemoveAttr}
 use Rattle.lq_value.specs.declared.value.Value.{Value}
-use Rattle.lq_volume.specs.Attributes.{Attributes, value_of, with_attr, without_attr, is_reserved}
+use Rattle.lq_volume_attributes.specs.Attributes.{Attributes, value_of, with_attr, without_attr, is_reserved}
 use Rattle.lq_volume.specs.Kind.{is_folder}
 use Rattle.lq_volume.specs.State.{State, Record, root, record_at, kind_at, is_folder_at, has_entries, is_taken, node_in, reaches}
 

@@ -1,4 +1,3 @@
-pub mod Attributes
 pub mod Kind
 pub mod State
 pub mod Walk
@@ -13,3 +12,4 @@ pub mod Book
 pub mod Laws
 pub mod Folder
 pub mod NodeHash
+pub use Rattle.lq_volume_attributes.specs.Attributes

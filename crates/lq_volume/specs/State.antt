@@ -7,7 +7,7 @@ use Rattle.std.specs.Map.{lookup, values_of}
 use Rattle.std.specs.Str.{bytes_eq}
 use Rattle.lq_value.specs.declared.kind.Kind.{Kind}
 use Rattle.lq_value.specs.declared.kind.Kind.TheVariants.{Folder}
-use Rattle.lq_volume.specs.Attributes.{Attributes, HasOwnNames}
+use Rattle.lq_volume_attributes.specs.Attributes.{Attributes, HasOwnNames}
 use Rattle.lq_volume.specs.Kind.{is_folder}
 
 -- an entry, under its node

@@ -2,6 +2,8 @@
 ghost use Rattle.lq_volume.specs.Laws.{ChangesCount, ChangesKeepTrees, UntouchedStay, ClobberedGo};
 ghost use Rattle.lq_volume.specs.Walk.{ReachesAll};
 
+use lq_volume_attributes::names_stay_apart;
+
 /// The test whether a node is within another is true exactly where some walk up leads there.
 pub fn walks_are_bounded()
     ensures { ReachesAll }
@@ -10,7 +12,9 @@ pub fn walks_are_bounded()
 /// The state after an accepted change is again a tree within its limit.
 pub fn accepted_changes_keep_trees()
     ensures { ChangesKeepTrees }
-{}
+{
+    names_stay_apart();
+}
 
 /// A node that an accepted change doesn't touch keeps its record.
 pub fn untouched_nodes_stay()

@@ -6,8 +6,6 @@
 //! `change`, then `volume`.
 #![tactic(auto)]
 
-mod attr_table;
-mod attributes;
 mod change;
 mod checks;
 mod entries;

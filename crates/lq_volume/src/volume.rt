@@ -6,6 +6,7 @@ use crate::change::{Applied, Change};
 use crate::checks::check_folder;
 use crate::entries::Entries;
 use crate::entry_ref::{EntryRef, Listing};
+use crate::laws::accepted_changes_keep_trees;
 use crate::planned::Planned;
 use crate::stored::Stored;
 use lq_predicate::Predicate;
@@ -245,6 +246,7 @@ impl Volume {
         ensures ok { OnOk result (self.new ≡ after self.old change.now) }
         ensures err { OnErr result (self.new ≡ self.old) }
     {
+        accepted_changes_keep_trees();
         let applied = Applied {
             change: self.changes + 1,
             node: self.node_of(change),

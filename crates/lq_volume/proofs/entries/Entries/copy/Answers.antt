@@ -1,8 +1,7 @@
-use Rattle.std.proofs.Common.{◌≡◌, ℕ, ◌∷◌, ◌++◌, ◌∙◌, ap, arith, length, map, sym}
+use Rattle.std.proofs.Common.{◌≡◌, ℕ, [], ◌∷◌, ◌++◌, ◌∙◌, ap, append_assoc, arith, length, map, sym}
 use Rattle.std.specs.Vec.Iter.{into_iter_items}
 use Rattle.lq_volume.specs.Order.{shown_pair}
 use Rattle.lq_volume.specs.State.{Record}
-use Rattle.lq_volume.proofs.AttributeLemmas.{append-one}
 use Rattle.lq_volume.proofs.RecordLemmas.{Entries, Rises-front, Rises-start}
 use Rattle.lq_volume.proofs.Finds.{walk-ends}
 use Rattle.lq_volume.proofs.PlaceLemmas.{node_in-next}
@@ -30,7 +29,7 @@ loop-node-preserved c =
     ap (λ rest. c.loop-node.copy ++ map shown_pair rest) (sym c.in-Some.ensures.steps.0)
     ∙ c.loop-node.invariant in
     rw (c.in_ok-add.ensures.ok, c.in_ok-copy.ensures.value)
-    (append-one c.loop-node.copy left e ∙ all)
+    (append_assoc c.loop-node.copy (e ∷ []) left ∙ all)
 
 pub returns-clause-value : goal.returns-clause-value
 returns-clause-value c =
