@@ -2,40 +2,25 @@
 -- include these are all of them.
 use Rattle.std.proofs.Common.{◌≡◌, subst, ℕ, suc, ◌+◌, ◌<◌, List, [], ◌∷◌, ◌++◌, refl, sym, arith, eqb, ap, ◌∙◌, Bool, true, false, cond, map, filter, get_or, length, take}
 use Rattle.std.specs.Prelude.{nat_eq, slice_index, slice_index_or, Option, Some, None, option_and_then}
-use Rattle.std.specs.BTreeMap.{get}
-use Rattle.std.specs.Cmp.Lexicographic.{slice_cmp}
 use Rattle.std.specs.List.{AllByRecursion, Contains, cons_option, filter_map}
 use Rattle.std.specs.List.Sorted.{IsStrictlyIncreasing}
 use Rattle.std.specs.Map.{lookup, values_of}
-use Rattle.std.specs.Ordering.{nat_cmp}
 use Rattle.std.proofs.lemmas.Bool.Decides.{nat_tests}
 use Rattle.std.proofs.lemmas.List.{append-nil, take_more}
 use Rattle.std.proofs.lemmas.List.Elements.{All-contains, All-contains_itself, All-from_recursion, Contains-append_left, Contains-append_right, filter_map-append, recursion_from_All}
-use Rattle.std.proofs.lemmas.Cmp.{nat_cmp_total, nat_list_cmp_total}
 use Rattle.std.proofs.lemmas.List.Kept.{AllPairs-from_increasing}
-use Rattle.std.proofs.lemmas.Map.Lookups.{exact_bytes, exact_unsigned}
-use Rattle.std.proofs.lemmas.Map.Views.{IfSome-get}
-use Rattle.std.proofs.lemmas.Option.{MatchOption-at_some}
-use Rattle.lq_volume.specs.declared.places.Names.{Names}
 use Rattle.lq_value.specs.NameHash.{hash_of}
 use Rattle.lq_value.specs.declared.entry.Entry.{Entry}
 use Rattle.lq_volume.specs.Folder.{HasNodesIn, entries_in, entry_in, with_entry}
 use Rattle.lq_volume.specs.Order.{RisesBy}
-use Rattle.lq_volume.specs.Places.{Places, first_in, other_in, found, is_named, IsApart, IsIndex}
+use Rattle.lq_volume.specs.Places.{found, is_named, IsApart, IsIndex}
+use Rattle.lq_volume_places.specs.declared.places.Places.{Places}
+use Rattle.lq_volume_places.specs.Places.{first_in, other_in}
 use Rattle.lq_volume.specs.Result.{entry_of}
 use Rattle.lq_volume.specs.State.{Record, Rises, node_in}
 use Rattle.lq_volume.proofs.OrderLemmas.{all_both, all_map, all_weaker, same_items}
 use Rattle.lq_volume.proofs.PlaceLemmas.{uniq}
 use Rattle.lq_volume.proofs.RecordLemmas.{Entries}
-
--- a value under a key of a map is among its values
-pub Contains-values : {K : Type 0} (es : List (K × ℕ)) (e : K × ℕ) → Contains es e
-    → Contains (values_of es) e.1
-Contains-values es e has = All-contains (λ f. Contains (values_of es) f.1) es e
-    (All-from_recursion (λ f. Contains (values_of es) f.1) es
-    (all_map (λ f. f.1) (Contains (values_of es)) es
-    (recursion_from_All (Contains (values_of es)) (values_of es)
-    (All-contains_itself (values_of es))))) has
 
 -- the index has the node of each record in a folder, under its hash or its name
 pub has-nodes : (p : Places) (es : Entries) (dir : ℕ) (ns : List ℕ) → IsIndex p es → Rises es
@@ -71,34 +56,6 @@ found-more es dir ns i below =
         → with_entry found e ≡ found ++ cons_option e []
     at found None = sym (append-nil found)
     at found (Some e) = refl
-
--- a node under a hash of a folder is among its names' nodes
-pub first-among : (p : Places) (dir h x : ℕ) (names : Names) (ns : List ℕ)
-    → Some names ≡ get nat_cmp p dir
-    → ns ≡ values_of names.first.entries ++ values_of names.others.entries
-    → first_in p dir h ≡ Some x → Contains ns x
-first-among p dir h x names ns is all there =
-    let found : get nat_cmp names.first h ≡ Some x =
-    ap (option_and_then (λ (n : Names). get nat_cmp n.first h)) is ∙ there in
-    subst (λ (l : List ℕ). Contains l x) (sym all)
-    (Contains-append_left (values_of names.first.entries) (values_of names.others.entries) x
-    (Contains-values names.first.entries (h, x)
-    (MatchOption-at_some _ (λ v. Contains names.first.entries (h, v)) x found
-    (IfSome-get nat_cmp_total exact_unsigned names.first h))))
-
--- so is one under a name
-pub other-among : (p : Places) (dir : ℕ) (n : List ℕ) (x : ℕ) (names : Names) (ns : List ℕ)
-    → Some names ≡ get nat_cmp p dir
-    → ns ≡ values_of names.first.entries ++ values_of names.others.entries
-    → other_in p dir n ≡ Some x → Contains ns x
-other-among p dir n x names ns is all there =
-    let found : get (slice_cmp nat_cmp) names.others n ≡ Some x =
-    ap (option_and_then (λ (m : Names). get (slice_cmp nat_cmp) m.others n)) is ∙ there in
-    subst (λ (l : List ℕ). Contains l x) (sym all)
-    (Contains-append_right (values_of names.first.entries) (values_of names.others.entries) x
-    (Contains-values names.others.entries (n, x)
-    (MatchOption-at_some _ (λ v. Contains names.others.entries (n, v)) x found
-    (IfSome-get nat_list_cmp_total exact_bytes names.others n))))
 
 -- rising numbers, each below all after it
 rises_by_recursion : (ns : List ℕ) → IsStrictlyIncreasing ns → RisesBy (λ n. n) ns

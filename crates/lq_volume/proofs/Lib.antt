@@ -1,11 +1,10 @@
--- Read in this order. What is none: Options. Records by rising node: RecordLemmas. Lists in order,
+-- Read in this order. Records by rising node: RecordLemmas. Lists in order,
 -- and the records of a map in order: OrderLemmas, ByNode; what a walk over a map finds: Finds.
 -- Walks up, and what keeps the tree: Climbs, Tree. What each accepted change keeps: Changes, Keeps,
 -- Touches; that the numbers fit: Fits; why a move is refused: Rows. The places of the records:
 -- PlaceLemmas. The index of places, with a record more, less or altered: IndexLemmas; after a move:
--- IndexMoves; the steps of a put: Puts; and the folders that have names: IndexFolders. The entries
+-- IndexMoves; and the folders that have names: IndexFolders. The entries
 -- in a folder: Folders; the walk up that makes a path: Paths.
-pub mod Options
 pub mod OrderLemmas
 pub mod RecordLemmas
 pub mod ByNode
@@ -19,7 +18,6 @@ pub mod PlaceLemmas
 pub mod IndexLemmas
 pub mod IndexMoves
 pub mod IndexFolders
-pub mod Puts
 pub mod Finds
 pub mod Touches
 pub mod Folders

@@ -6,11 +6,11 @@ ghost use Rattle.std.specs.Option.{option_copied};
 ghost use Rattle.lq_predicate.specs.Truth.{truth};
 ghost use Rattle.lq_value.specs.Refusal.{IsRefusedBy};
 
-use crate::places::Places;
 use crate::records::Records;
 use crate::stored::Stored;
 use lq_predicate::Predicate;
 use lq_value::{AttrName, Entry, Name, Refusal, Value};
+use lq_volume_places::Places;
 use std::alloc::Global;
 use std::marker::Model;
 
@@ -46,7 +46,7 @@ impl Model for Entries {
 
     ghost view = { λ e. e.records };
 
-    ghost invariant = { λ e. IsIndex e.places.folders e.records };
+    ghost invariant = { λ e. IsIndex e.places e.records };
 }
 
 impl Entries {

@@ -12,7 +12,6 @@ mod entries;
 mod entry_ref;
 mod laws;
 mod node_hash;
-mod places;
 mod planned;
 mod records;
 mod seen;

@@ -32,7 +32,7 @@ entries_in-requires-clause-all c = λ n r found same.
     let left = dedup_is eqb _ _ c.dedup.ensures.filtered in
     let all = c.deref.ensures.value in
     let is : dedup eqb c.sort_unstable.new.self.items ≡ c.deref.result.now = cc in
-    let has = has-nodes c.self.inside.places.folders c.self.inside.records c.args.dir
+    let has = has-nodes c.self.inside.places c.self.inside.records c.args.dir
     c.in_ok-nodes.nodes.items c.self.invariant (subst Rises (sym c.self.view_is) c.requires.rise)
     (subst IsApart (sym c.self.view_is) c.requires.apart) c.in_ok-nodes.ensures.first
     c.in_ok-nodes.ensures.others n r found same in

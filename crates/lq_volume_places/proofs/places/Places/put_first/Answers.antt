@@ -1,8 +1,8 @@
 use Rattle.std.proofs.Common.{arith, sym}
 use Rattle.std.proofs.lemmas.Grind.{common_steps}
 use Rattle.std.proofs.lemmas.Bool.Decides.{nat_tests}
-use Rattle.lq_volume.proofs.Options.{not-there}
-use Rattle.lq_volume.proofs.places.Places.put_first.Goals as goal
+use Rattle.lq_volume_places.proofs.Options.{not-there}
+use Rattle.lq_volume_places.proofs.places.Places.put_first.Goals as goal
 
 pub returns-in_ok-insert-in-Some-clause-ok : goal.returns-in_ok-insert-in-Some-clause-ok
 returns-in_ok-insert-in-Some-clause-ok c = record {

@@ -2,8 +2,8 @@ use Rattle.std.proofs.Common.{arith}
 use Rattle.std.proofs.lemmas.Grind.{common_steps}
 use Rattle.std.proofs.lemmas.Bool.Decides.{nat_tests}
 use Rattle.std.proofs.lemmas.Map.Text.{is_eq-slice_cmp}
-use Rattle.lq_volume.proofs.places.Places.take_name.Goals as goal
-use Rattle.lq_volume.proofs.places.Places.take_name.Goals.{then-was_first, else-was_first}
+use Rattle.lq_volume_places.proofs.places.Places.take_name.Goals as goal
+use Rattle.lq_volume_places.proofs.places.Places.take_name.Goals.{then-was_first, else-was_first}
 
 pub returns-after-was_first-clause-takes : goal.returns-after-was_first-clause-takes
 returns-after-was_first-clause-takes c = elim c.if-was_first.branch [

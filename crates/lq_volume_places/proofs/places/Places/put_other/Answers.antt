@@ -2,8 +2,8 @@ use Rattle.std.proofs.Common.{arith, sym}
 use Rattle.std.proofs.lemmas.Grind.{common_steps}
 use Rattle.std.proofs.lemmas.Bool.Decides.{nat_tests}
 use Rattle.std.proofs.lemmas.Map.Text.{is_eq-slice_cmp}
-use Rattle.lq_volume.proofs.Options.{not-there}
-use Rattle.lq_volume.proofs.places.Places.put_other.Goals as goal
+use Rattle.lq_volume_places.proofs.Options.{not-there}
+use Rattle.lq_volume_places.proofs.places.Places.put_other.Goals as goal
 
 pub returns-in_ok-insert-clause-ok : goal.returns-in_ok-insert-clause-ok
 returns-in_ok-insert-clause-ok c = record {

@@ -1,7 +1,7 @@
 use Rattle.std.proofs.Common.{◌≡◌, ◌++◌, map}
 use Rattle.std.specs.Map.{values_of}
 use Rattle.std.specs.Map.Iter.{deref}
-use Rattle.lq_volume.proofs.places.Names.nodes.Given as goal
+use Rattle.lq_volume_places.proofs.places.Names.nodes.Given as goal
 
 -- the nodes under hashes so far
 abbrev pub invariant-loop-node : goal.invariant-loop-node

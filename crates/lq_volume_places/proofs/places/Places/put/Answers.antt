@@ -1,7 +1,7 @@
 use Rattle.std.proofs.Common.{◌∙◌, refl, sym, true, false, None, Some}
 use Rattle.std.proofs.lemmas.Result.{on_ok_weaker, on_err_weaker}
-use Rattle.lq_volume.proofs.Puts.{goes-is, open-is, puts-first, puts-back, puts-other, same-twice}
-use Rattle.lq_volume.proofs.places.Places.put.Goals as goal
+use Rattle.lq_volume_places.proofs.Puts.{goes-is, open-is, puts-first, puts-back, puts-other, same-twice}
+use Rattle.lq_volume_places.proofs.places.Places.put.Goals as goal
 
 pub returns-in-None-clause-ok : goal.returns-in-None-clause-ok
 returns-in-None-clause-ok c =

@@ -1,9 +1,7 @@
 //! The node at each place of a volume.
-ghost use Rattle.std.specs.Prelude.{◌≡◌, ℕ, List, ◌==◌, ◌||◌, ◌++◌, not, length, false, OnOk, OnErr, IfOk, IsSome, Some, None};
-ghost use Rattle.std.specs.BTreeMap.{get};
+ghost use Rattle.std.specs.Prelude.{◌≡◌, ◌↔◌, ℕ, List, ◌==◌, ◌||◌, ◌++◌, not, length, false, OnOk, OnErr, IfOk, IsSome, Some, None};
 ghost use Rattle.std.specs.List.{Contains};
 ghost use Rattle.std.specs.Map.{values_of};
-ghost use Rattle.std.specs.Ordering.{nat_cmp};
 ghost use Rattle.lq_value.specs.Refusal.{IsRefusedBy};
 
 use lq_value::{Name, Refusal};
@@ -15,9 +13,9 @@ use std::collections::BTreeMap;
 /// A node stands under the hash of its name, and its record alone has the name. If another name had
 /// that hash before, the node stands among the others, under its name.
 #[derive(Debug, Drop)]
-pub(crate) struct Names {
-    pub(crate) first: BTreeMap<u64, u64>,
-    pub(crate) others: BTreeMap<Name, u64>,
+pub struct Names {
+    first: BTreeMap<u64, u64>,
+    others: BTreeMap<Name, u64>,
 }
 
 impl Names {
@@ -54,16 +52,16 @@ impl Names {
 #[derive(Debug, Drop)]
 pub struct Places {
     alloc: Global,
-    pub(crate) folders: BTreeMap<u64, Names>,
+    folders: BTreeMap<u64, Names>,
 }
 
 impl Places {
-    ghost use Rattle.lq_volume.specs.Places.{first_in, other_in, has_names, is_first, is_open, Puts, PutsFirst, PutsOther, Takes, SamePlaces};
+    ghost use Rattle.lq_volume_places.specs.Places.{first_in, other_in, has_names, is_first, HasFolder, IsNameless, Puts, PutsFirst, PutsOther, Takes, SamePlaces};
 
     /// No places. It takes no memory.
     pub fn new(alloc: Global) -> Places
-        ensures first { (d h : ℕ) → first_in result.folders d h ≡ None }
-        ensures others { (d : ℕ) (n : List ℕ) → other_in result.folders d n ≡ None }
+        ensures first { (d h : ℕ) → first_in result d h ≡ None }
+        ensures others { (d : ℕ) (n : List ℕ) → other_in result d n ≡ None }
     {
         Places {
             alloc,
@@ -73,7 +71,7 @@ impl Places {
 
     /// The node under a hash.
     pub fn first(&self, dir: u64, hash: u64) -> Option<u64>
-        ensures { result ≡ first_in self.now.folders dir hash }
+        ensures { result ≡ first_in self.now dir hash }
     {
         match self.folders.get(&dir) {
             None => None,
@@ -83,7 +81,7 @@ impl Places {
 
     /// The node under a name.
     pub fn other(&self, dir: u64, name: &Name) -> Option<u64>
-        ensures { result ≡ other_in self.now.folders dir name.now }
+        ensures { result ≡ other_in self.now dir name.now }
     {
         match self.folders.get(&dir) {
             None => None,
@@ -93,7 +91,7 @@ impl Places {
 
     /// Whether a folder contains a node.
     pub fn has_names(&self, dir: u64) -> bool
-        ensures { result ≡ has_names self.now.folders dir }
+        ensures { (result ≡ false) ↔ IsNameless self.now dir }
     {
         match self.folders.get(&dir) {
             None => false,
@@ -107,9 +105,9 @@ impl Places {
     pub fn nodes(&self, dir: u64) -> Result<Vec<u64>, Refusal>
         ensures refused { IsRefusedBy result None }
         ensures first { IfOk result (λ nodes. (h x : ℕ)
-            → first_in self.now.folders dir h ≡ Some x → Contains nodes.items x) }
+            → first_in self.now dir h ≡ Some x → Contains nodes.items x) }
         ensures others { IfOk result (λ nodes. (n : List ℕ) (x : ℕ)
-            → other_in self.now.folders dir n ≡ Some x → Contains nodes.items x) }
+            → other_in self.now dir n ≡ Some x → Contains nodes.items x) }
     {
         match self.folders.get(&dir) {
             None => Ok(Vec::new(self.alloc)),
@@ -119,7 +117,7 @@ impl Places {
 
     /// Whether this node is the one under the hash of a name.
     pub fn is_first(&self, dir: u64, name: &Name, node: u64) -> bool
-        ensures { result ≡ is_first self.now.folders dir name.now node }
+        ensures { result ≡ is_first self.now dir name.now node }
     {
         match self.first(dir, name.hash()) {
             None => false,
@@ -139,8 +137,8 @@ impl Places {
         over: Option<u64>,
     ) -> Result<(), Refusal>
         ensures refused { IsRefusedBy result None }
-        ensures ok { OnOk result (Puts self.old.folders self.new.folders dir name.now node over) }
-        ensures err { OnErr result (SamePlaces self.old.folders self.new.folders) }
+        ensures ok { OnOk result (Puts self.old self.new dir name.now node over) }
+        ensures err { OnErr result (SamePlaces self.old self.new) }
     {
         let hash = name.hash();
         self.open_folder(dir)?;
@@ -157,8 +155,8 @@ impl Places {
     // Makes the map of names for a folder that has none.
     fn open_folder(&mut self, dir: u64) -> Result<(), Refusal>
         ensures refused { IsRefusedBy result None }
-        ensures ok { OnOk result (IsSome (get nat_cmp self.new.folders dir)) }
-        ensures same { SamePlaces self.old.folders self.new.folders }
+        ensures ok { OnOk result (HasFolder self.new dir) }
+        ensures same { SamePlaces self.old self.new }
     {
         if !self.folders.contains_key(&dir) {
             let names = Names {
@@ -172,11 +170,11 @@ impl Places {
 
     // Puts a node under a hash, and gives the one that was there.
     fn put_first(&mut self, dir: u64, hash: u64, node: u64) -> Result<Option<u64>, Refusal>
-        requires { IsSome (get nat_cmp self.old.folders dir) }
+        requires { HasFolder self.old dir }
         ensures refused { IsRefusedBy result None }
-        ensures there { IfOk result (λ there. there ≡ first_in self.old.folders dir hash) }
-        ensures ok { OnOk result (PutsFirst self.old.folders self.new.folders dir hash node) }
-        ensures err { OnErr result (SamePlaces self.old.folders self.new.folders) }
+        ensures there { IfOk result (λ there. there ≡ first_in self.old dir hash) }
+        ensures ok { OnOk result (PutsFirst self.old self.new dir hash node) }
+        ensures err { OnErr result (SamePlaces self.old self.new) }
     {
         match self.folders.get_mut(&dir) {
             None => Ok(None),
@@ -186,8 +184,8 @@ impl Places {
 
     // Gives a hash back to the node that was there. It takes no memory.
     fn put_back(&mut self, dir: u64, hash: u64, node: u64)
-        requires { IsSome (first_in self.old.folders dir hash) }
-        ensures { PutsFirst self.old.folders self.new.folders dir hash node }
+        requires { IsSome (first_in self.old dir hash) }
+        ensures { PutsFirst self.old self.new dir hash node }
     {
         if let Some(names) = self.folders.get_mut(&dir) {
             if let Some(there) = names.first.get_mut(&hash) {
@@ -197,10 +195,10 @@ impl Places {
     }
 
     fn put_other(&mut self, dir: u64, name: Name, node: u64) -> Result<(), Refusal>
-        requires { IsSome (get nat_cmp self.old.folders dir) }
+        requires { HasFolder self.old dir }
         ensures refused { IsRefusedBy result None }
-        ensures ok { OnOk result (PutsOther self.old.folders self.new.folders dir name node) }
-        ensures err { OnErr result (SamePlaces self.old.folders self.new.folders) }
+        ensures ok { OnOk result (PutsOther self.old self.new dir name node) }
+        ensures err { OnErr result (SamePlaces self.old self.new) }
     {
         if let Some(names) = self.folders.get_mut(&dir) {
             names.others.insert(name, node)?;
@@ -210,7 +208,7 @@ impl Places {
 
     /// Empties a place, also under the hash if its node was the one there.
     pub fn take(&mut self, dir: u64, name: &Name, was_first: bool)
-        ensures { Takes self.old.folders self.new.folders dir name.now was_first }
+        ensures { Takes self.old self.new dir name.now was_first }
     {
         if !self.take_name(dir, name, was_first) {
             self.drop_names(dir);
@@ -219,8 +217,8 @@ impl Places {
 
     // Empties a place, and answers whether the folder has other names.
     fn take_name(&mut self, dir: u64, name: &Name, was_first: bool) -> bool
-        ensures has { result ≡ has_names self.new.folders dir }
-        ensures takes { Takes self.old.folders self.new.folders dir name.now was_first }
+        ensures has { result ≡ has_names self.new dir }
+        ensures takes { Takes self.old self.new dir name.now was_first }
     {
         match self.folders.get_mut(&dir) {
             None => false,
@@ -236,8 +234,8 @@ impl Places {
 
     // Drops a folder's map of names, if it is empty.
     fn drop_names(&mut self, dir: u64)
-        requires { has_names self.old.folders dir ≡ false }
-        ensures { SamePlaces self.old.folders self.new.folders }
+        requires { has_names self.old dir ≡ false }
+        ensures { SamePlaces self.old self.new }
     {
         self.folders.remove(&dir);
     }

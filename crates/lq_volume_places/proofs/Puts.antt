@@ -4,7 +4,8 @@ use Rattle.std.specs.Prelude.{Option, Some, None, nat_eq}
 use Rattle.std.specs.Option.{option_eq, option_map_or}
 use Rattle.std.proofs.lemmas.Bool.Decides.{nat_tests}
 use Rattle.lq_value.specs.NameHash.{hash_of}
-use Rattle.lq_volume.specs.Places.{Places, first_in, is_open, Puts, PutsFirst, PutsOther, SamePlaces}
+use Rattle.lq_volume_places.specs.declared.places.Places.{Places}
+use Rattle.lq_volume_places.specs.Places.{first_in, is_open, Puts, PutsFirst, PutsOther, SamePlaces}
 
 -- whether a place is open to a node, by the node that stands under the hash
 pub open-is : (a b : Places) (dir : ℕ) (name : List ℕ) (over first : Option ℕ) (is : Bool)
