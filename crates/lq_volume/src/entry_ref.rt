@@ -3,8 +3,8 @@ ghost use Rattle.std.specs.Prelude.{◌≡◌, None, IfOk, length, slice_get};
 ghost use Rattle.std.specs.Option.{option_map};
 ghost use Rattle.lq_value.specs.Refusal.{IsRefusedBy};
 
-use crate::stored::Stored;
 use lq_value::{AttrName, Kind, Name, Refusal, Value, View};
+use lq_volume_entries::Stored;
 use std::alloc::Global;
 use std::marker::Model;
 
@@ -37,7 +37,7 @@ pub struct Listing {
 
 impl<'a> EntryRef<'a> {
     ghost use Rattle.lq_value.specs.Value.{shown_by};
-    ghost use Rattle.lq_volume.specs.Attributes.{value_of};
+    ghost use Rattle.lq_volume_attributes.specs.Attributes.{value_of};
     ghost use Rattle.lq_volume.specs.Lookup.{listed};
 
     pub(crate) fn new(stored: &'a Stored) -> EntryRef<'a>

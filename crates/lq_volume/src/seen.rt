@@ -2,13 +2,14 @@
 ghost use Rattle.std.specs.Prelude.{◌≡◌, ◌<◌, ◌^◌, Some, None, IfOk, IsSome};
 ghost use Rattle.std.specs.Option.{option_copied};
 ghost use Rattle.lq_value.specs.Refusal.{IsRefusedBy};
-ghost use Rattle.lq_volume.specs.Attributes.{value_of};
+ghost use Rattle.lq_volume_attributes.specs.Attributes.{value_of};
 ghost use Rattle.lq_volume.specs.Seen.{seen_of, IsSeen};
 
 use crate::change::Change;
-use crate::stored::Stored;
 use lq_predicate::Row;
 use lq_value::{AttrName, Entry, Field, Name, Refusal, Value, View, same_text};
+use lq_volume_attributes::values_are_found;
+use lq_volume_entries::Stored;
 use std::alloc::Global;
 use std::marker::Model;
 
@@ -39,7 +40,7 @@ impl<'a> Model for Seen<'a> {
 }
 
 impl<'a> Seen<'a> {
-    ghost use Rattle.lq_volume.specs.Attributes.{value_of, held};
+    ghost use Rattle.lq_volume_attributes.specs.Attributes.{value_of, held};
     ghost use Rattle.lq_volume.specs.Change.{at_place};
     ghost use Rattle.lq_volume.specs.Result.{entry_of};
     ghost use Rattle.lq_volume.specs.Seen.{has_same_place, seen_of, IsSeen};
@@ -126,6 +127,7 @@ impl<'a> Seen<'a> {
     fn value(&self, asked: &AttrName) -> Option<&Value>
         ensures { option_copied result ≡ value_of self.now.attrs asked.now }
     {
+        values_are_found();
         if let Some(change) = self.change {
             match change {
                 Change::Create { .. } => return None,
