@@ -1,7 +1,7 @@
--- The parts of a query within the limits are within them; what a formula reads as is formed.
-use Rattle.std.proofs.Common.{◌≡◌, ◌≤◌, ◌<◌, ℕ, zero, suc, Bool, true, false, ◌&&◌, List, [], ◌∷◌, length, get_or, Some, refl, ap, ◌∙◌, subst, arith, inl, inr}
+-- What a formula reads as is formed, and is a predicate.
+use Rattle.std.proofs.Common.{◌≡◌, ◌≤◌, ℕ, zero, suc, Bool, true, false, ◌&&◌, List, [], ◌∷◌, length, Some, refl, ap, ◌∙◌, subst, arith, inl, inr}
 use Rattle.std.specs.Prelude.{nat_le}
-use Rattle.std.proofs.lemmas.Bool.{le-leb, and_parts}
+use Rattle.std.proofs.lemmas.Bool.{le-leb}
 use Rattle.lq_value.specs.Compare.{suits}
 use Rattle.lq_value.specs.declared.op.Op.{Op}
 use Rattle.lq_value.specs.declared.op.Op.TheVariants.{Eq, Ne, Lt, Le, Gt, Ge}
@@ -11,12 +11,12 @@ use Rattle.lq_value_pattern.specs.declared.element.Element.{Element}
 use Rattle.lq_value.specs.Source.{pattern_of}
 use Rattle.std.specs.Prelude.{Result, Ok, Err}
 use Rattle.lq_predicate_formula.specs.Tokens.{Token, bare}
-use Rattle.lq_predicate_formula.specs.Query.{Query, And, Or, Queries, queries, both_of, either_of}
+use Rattle.lq_predicate_formula.specs.Query.{Query, queries, both_of, either_of}
 use Rattle.lq_predicate_formula.specs.Literals.{literal_of, pattern_literal}
 use Rattle.lq_predicate_formula.specs.Grammar.{Reading, Follows, IsAnd, IsOr, IsComparison, IsNot, nesting}
 use Rattle.lq_predicate_formula.specs.Canonical.{canonical, depth, comparisons}
 use Rattle.lq_predicate_formula.specs.Faults.{Reads}
-use Rattle.lq_predicate.specs.Limits.{is_formed, are_formed, part_count, is_predicate}
+use Rattle.lq_predicate_tree.specs.Limits.{is_formed, are_formed, part_count, is_predicate}
 
 -- four tests that are true are true together
 four : (a b c d : Bool) → a ≡ true → b ≡ true → c ≡ true → d ≡ true → (a && (b && c && d)) ≡ true
@@ -33,27 +33,6 @@ within q formed shallow few brief =
     four (is_formed q) (nat_le (depth q) 64) (nat_le (comparisons q) 256)
     (nat_le (length (canonical q)) 4096) formed (le-leb _ _ shallow) (le-leb _ _ few)
     (le-leb _ _ brief)
-
--- the parts of a formed query are formed
-pub and_formed_parts : (qs : Queries) (q : Query) → And qs ≡ q → is_formed q ≡ true
-    → are_formed qs ≡ true
-and_formed_parts qs q is whole =
-    (and_parts (nat_le 2 (part_count qs)) (are_formed qs) (ap is_formed is ∙ whole)).1
-
--- the parts of an Or that is formed are formed
-pub or_formed_parts : (qs : Queries) (q : Query) → Or qs ≡ q → is_formed q ≡ true
-    → are_formed qs ≡ true
-or_formed_parts qs q is whole =
-    (and_parts (nat_le 2 (part_count qs)) (are_formed qs) (ap is_formed is ∙ whole)).1
-
--- each of some formed parts is formed
-pub part_formed : (qs : List Query) (i : ℕ) (q : Query)
-    → i < length qs → q ≡ get_or qs i q → are_formed (queries qs) ≡ true → is_formed q ≡ true
-part_formed [] i q below is all = absurd (let no : ⊥ = omega (arith, below) in no)
-part_formed (p ∷ qs) zero q below is all =
-    ap is_formed is ∙ (and_parts (is_formed p) (are_formed (queries qs)) all).0
-part_formed (p ∷ qs) (suc i) q below is all = part_formed qs i q (omega (arith, below)) is
-    (and_parts (is_formed p) (are_formed (queries qs)) all).1
 
 -- ---- what a formula reads as
 

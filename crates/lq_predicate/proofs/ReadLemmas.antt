@@ -12,7 +12,7 @@ use Rattle.lq_predicate_formula.specs.Laws.{FormulasAreRead}
 use Rattle.lq_predicate_formula.specs.Capped.{capped}
 use Rattle.lq_predicate.specs.declared.query_size.QuerySize.{QuerySize}
 use Rattle.lq_predicate.specs.Validator.{query_size}
-use Rattle.lq_predicate.specs.Limits.{is_predicate}
+use Rattle.lq_predicate_tree.specs.Limits.{is_predicate}
 use Rattle.lq_predicate.specs.Refusals.{fault_of}
 use Rattle.lq_predicate.specs.ParserView.{pattern_fault}
 use Rattle.lq_predicate.specs.PlainPlace.{plain_place}

@@ -7,9 +7,9 @@ ghost use Rattle.lq_predicate_formula.specs.TokenView.{token_of};
 ghost use Rattle.lq_value.specs.Refusal.{IsRefusedBy};
 ghost use Rattle.lq_predicate.specs.ParserView.{below_of, frame_of, state_at, state_of};
 
-use crate::tree::Tree;
 use crate::validator::NESTING;
 use lq_predicate_formula::{Token, read_literal, read_name};
+use lq_predicate_tree::Tree;
 use lq_value::{AttrName, Op, Refusal};
 use std::alloc::{AllocError, Global};
 

@@ -4,6 +4,8 @@ ghost use Rattle.lq_predicate_formula.specs.Machine.{Frame, empty_frame, negate,
 ghost use Rattle.lq_predicate_formula.specs.Query.{Query, both_of, either_of};
 ghost use Rattle.lq_predicate.specs.Validator.{query_size, size_frame, parts_of};
 
+use lq_predicate_tree::joined_texts_add;
+
 // A query's depth and the bytes of its canonical text; the greatest usize stands for more.
 #[derive(Clone, Copy)]
 pub(crate) struct QuerySize {
@@ -48,6 +50,7 @@ pub(crate) fn with_part(parts: Parts, part: QuerySize) -> Parts
     ensures { (qs : List Query) (q : Query) → parts ≡ parts_of qs → part ≡ query_size q
         → result ≡ parts_of (qs ++ q ∷ []) }
 {
+    joined_texts_add();
     match parts {
         Parts::Empty => Parts::One(part),
         Parts::One(only) => Parts::More(QuerySize {
@@ -67,6 +70,7 @@ pub(crate) fn together(parts: Parts) -> QuerySize
     ensures either { (qs : List Query) → parts ≡ parts_of qs
         → result ≡ query_size (either_of qs) }
 {
+    joined_texts_add();
     match parts {
         Parts::Empty => QuerySize { depth: 1, bytes: 2 },
         Parts::One(size) | Parts::More(size) => size,

@@ -12,8 +12,8 @@ ghost use Rattle.lq_predicate.specs.Refusals.{fault_of, refusal_of};
 use crate::fault_place::fault_place;
 use crate::parser::{end_of, new_parser, read_token};
 use crate::predicate::Predicate;
-use crate::tree::Tree;
 use lq_predicate_formula::{Cursor, faults_are_found, formulas_are_read, next_token, read_is_good};
+use lq_predicate_tree::Tree;
 use lq_value::Refusal;
 use std::alloc::Global;
 
