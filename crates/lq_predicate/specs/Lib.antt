@@ -1,8 +1,4 @@
 pub mod Spans
-pub mod ParserView
-pub mod PlainPlace
-pub mod Refusals
-pub mod Validator
 pub mod Operand
 pub mod Stacked
 pub mod Stack
@@ -13,3 +9,4 @@ pub use Rattle.lq_predicate_tree.specs.Names
 pub use Rattle.lq_predicate_tree.specs.Needs
 pub use Rattle.lq_predicate_tree.specs.Span
 pub use Rattle.lq_predicate_tree.specs.Laws
+pub use Rattle.lq_predicate_reader.specs.Refusals
