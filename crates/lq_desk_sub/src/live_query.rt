@@ -36,7 +36,7 @@ impl Model for LiveQuery {
     ghost use Rattle.std.specs.Prelude.{◌≡◌};
     ghost use Rattle.lq_predicate_formula.specs.Query.{Query};
     ghost use Rattle.lq_predicate.specs.Names.{names_of};
-    ghost use Rattle.lq_predicate.specs.Span.{spans_of};
+    ghost use Rattle.lq_predicate.specs.Spans.{spans_of};
     ghost use Rattle.lq_predicate.specs.QueryCode.{coded_query};
     ghost use Rattle.lq_desk_sub.specs.Passing.{HasEndings, are_written};
 

@@ -1,8 +1,8 @@
 //! The attributes of a predicate: their names, and whether it needs one.
 ghost use Rattle.std.specs.Prelude.{◌≡◌, None, IfOk};
 ghost use Rattle.lq_value.specs.Refusal.{IsRefusedBy};
-ghost use Rattle.lq_predicate.specs.Names.{names_of};
-ghost use Rattle.lq_predicate.specs.Needs.{needs_attribute};
+ghost use Rattle.lq_predicate_tree.specs.Names.{names_of};
+ghost use Rattle.lq_predicate_tree.specs.Needs.{needs_attribute};
 
 use crate::predicate::Predicate;
 use lq_value::{AttrName, Refusal};

@@ -1,40 +1,32 @@
 //! Predicates: read from formulas, built by pushes in postfix order or from other predicates,
 //! written as text, and evaluated for a row.
 //!
-//! Contracts see a predicate as a `Query` of lq_predicate_formula within the limits of
-//! `specs/Limits`, and a row as what it shows under each attribute's name (`specs/Truth`). They see
-//! a stack as its items and the number of pushes accepted (`specs/Stacked`; `specs/Stack` says what
-//! each push gives, and when it doesn't fit). Nothing here waits, and `holds` takes no memory.
-//! Begin with `predicate`, then `truth`, then `reader`, then `stack`.
+//! Contracts see a predicate as a `Query` of lq_predicate_formula within the limits of a predicate,
+//! and a row as what it shows under each attribute's name (`Limits` and `Truth` of
+//! lq_predicate_tree). They see a stack as its items and the number of pushes accepted
+//! (`specs/Stacked`; `specs/Stack` says what each push gives, and when it doesn't fit). Nothing
+//! here waits, and `holds` takes no memory. Begin with `predicate`, then `truth`, then `stack`.
 #![tactic(auto)]
 
 mod attributes;
 mod canonical;
-mod fault_place;
-mod fitting;
-mod laws;
 mod operand;
-mod parser;
 mod predicate;
-mod query_size;
 mod reader;
-mod span;
 mod spans;
 mod stack;
 mod stack_comparison;
 mod stack_fitting;
 mod stack_item;
 mod stack_op;
-mod tree;
 mod truth;
-mod validator;
 
 pub use attributes::{names, needs_attribute};
 pub use canonical::write;
-pub use laws::{bare_rows_fail, truth_goes_by_names, truth_stays_beside_spans};
+pub use lq_predicate_tree::{Row, bare_rows_fail, truth_goes_by_names, truth_stays_beside_spans};
 pub use predicate::Predicate;
 pub use reader::read;
 pub use spans::Spans;
 pub use stack::Stack;
 pub use stack_op::StackOp;
-pub use truth::{Row, holds};
+pub use truth::holds;

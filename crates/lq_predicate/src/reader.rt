@@ -1,19 +1,13 @@
 //! Reads a formula.
-ghost use Rattle.std.specs.Prelude.{◌≡◌, ℕ, None, Ok, IfOk, IfErr, OnOk};
-ghost use Rattle.std.specs.Str.{IsUtf8};
+ghost use Rattle.std.specs.Prelude.{◌≡◌, ℕ, Ok, IfOk, IfErr};
 ghost use Rattle.lq_predicate_formula.specs.Faults.{Reads, IsFaulty};
 ghost use Rattle.lq_predicate_formula.specs.Reading.{reading_of};
-ghost use Rattle.lq_predicate_formula.specs.Tokens.{bare, tokens_of};
-ghost use Rattle.lq_predicate_formula.specs.Words.{WordsAre};
 ghost use Rattle.lq_value.specs.declared.refusal.Refusal.TheVariants.{BadQuery};
 ghost use Rattle.lq_value.specs.Refusal.{IsRefusedBy};
-ghost use Rattle.lq_predicate.specs.Refusals.{fault_of, refusal_of};
+ghost use Rattle.lq_predicate_reader.specs.Refusals.{refusal_of};
 
-use crate::fault_place::fault_place;
-use crate::parser::{end_of, new_parser, read_token};
 use crate::predicate::Predicate;
-use crate::tree::Tree;
-use lq_predicate_formula::{Cursor, faults_are_found, formulas_are_read, next_token, read_is_good};
+use lq_predicate_reader::read_tree;
 use lq_value::Refusal;
 use std::alloc::Global;
 
@@ -32,32 +26,6 @@ pub fn read(alloc: Global, formula: &str) -> Result<Predicate, Refusal>
     ensures fault { IfErr result
         (λ e. (place : ℕ) → e ≡ BadQuery place → IsFaulty formula.now place) }
 {
-    formulas_are_read();
-    faults_are_found();
-    read_is_good();
-    if let Some(place) = fault_place(formula) {
-        return Err(Refusal::BadQuery { place });
-    }
-    let tree = build(alloc, formula)?;
+    let tree = read_tree(alloc, formula)?;
     Ok(Predicate::of(alloc, tree))
-}
-
-// The query of a text that reads as one.
-fn build(alloc: Global, text: &str) -> Result<Tree, Refusal>
-    requires { fault_of (reading_of text.now) ≡ None }
-    ensures value { IfOk result (λ tree. reading_of text.now ≡ Ok tree) }
-    ensures texts { OnOk result (WordsAre IsUtf8 (bare (tokens_of text.now))) }
-    ensures refused { IsRefusedBy result None }
-{
-    let mut parser = new_parser(alloc);
-    let mut cursor = Cursor {
-        place: 0,
-        rest: text,
-    };
-    while let Some((placed, behind)) = next_token(cursor) {
-        parser = read_token(alloc, parser, &placed.token)?;
-        cursor = behind;
-    }
-    let tree = end_of(parser)?;
-    Ok(tree)
 }

@@ -1,23 +1,9 @@
 //! When a predicate holds.
-ghost use Rattle.std.specs.Prelude.{◌≡◌, ℕ, List, Option};
-ghost use Rattle.std.specs.Option.{option_map};
-ghost use Rattle.lq_value.specs.Held.{held_of};
-ghost use Rattle.lq_predicate.specs.Truth.{truth};
+ghost use Rattle.std.specs.Prelude.{◌≡◌};
+ghost use Rattle.lq_predicate_tree.specs.Truth.{truth};
 
 use crate::predicate::Predicate;
-use lq_value::{AttrName, View};
-
-/// Something that has attributes: an entry, or any other row.
-pub trait Row {
-    ghost use Rattle.lq_value.specs.Held.{Held};
-
-    /// What the row shows under each name.
-    ghost looks: { Self → List ℕ → Option Held };
-
-    /// What the row shows under a name; `None` where it has no attribute of that name.
-    fn look(&self, attr: &AttrName) -> Option<View<'_>>
-        ensures { option_map held_of result ≡ looks self.now attr.now };
-}
+use lq_predicate_tree::Row;
 
 /// Whether the row matches the predicate. It takes no memory.
 ///

@@ -11,7 +11,7 @@ use Rattle.std.below.core.specs.contracts.marker.ClosureMark as mark
 use Rattle.lq_value.proofs.attr_name.AttrName.TheSendSync as found_attr
 use Rattle.lq_value.proofs.literal.Literal.TheSendSync as found_literal
 use Rattle.lq_value.proofs.op.Op.TheSendSync as found_op
-use Rattle.lq_predicate.proofs.tree.Tree.TheLaws.TheKnot.{crosses as tree_crosses}
+use Rattle.lq_predicate_tree.proofs.tree.Tree.TheLaws.TheKnot.{crosses as tree_crosses}
 use Rattle.lq_predicate.specs.contracts.predicate.Predicate as predicate
 use Rattle.lq_update.proofs.message.Message.TheSendSync as found_message
 use Rattle.lq_update.proofs.mark.Mark.TheSendSync as found_mark

@@ -1,7 +1,7 @@
 //! Writes that stay on one side of all numbers of a query.
 ghost use Rattle.std.specs.Prelude.{◌≡◌, ℕ, Bool, true, []};
 ghost use Rattle.lq_predicate_formula.specs.Query.{Query};
-ghost use Rattle.lq_predicate.specs.Span.{spans_of};
+ghost use Rattle.lq_predicate.specs.Spans.{spans_of};
 ghost use Rattle.lq_update.specs.Updates.{step_of};
 
 use crate::difference::changes_touch_few;

@@ -1,6 +1,6 @@
 use Rattle.std.proofs.Common.{◌≡◌, ap, sym, ◌∙◌, true}
 use Rattle.lq_predicate.specs.Names.{names_of}
-use Rattle.lq_predicate.specs.Span.{spans_of}
+use Rattle.lq_predicate.specs.Spans.{spans_of}
 use Rattle.lq_desk_sub.specs.Passing.{passes_over}
 use Rattle.lq_desk_sub.proofs.live_query.LiveQuery.passes_over.Goals as goal
 

@@ -1,0 +1,4 @@
+pub mod ParserView
+pub mod PlainPlace
+pub mod Refusals
+pub mod Validator

@@ -1,0 +1,10 @@
+pub mod QueryCode
+pub mod Limits
+pub mod Tree
+pub mod TreeFalls
+pub mod Truth
+pub mod Names
+pub mod Needs
+pub mod Span
+pub mod Size
+pub mod Laws
