@@ -45,7 +45,7 @@ pub fn put_one<R: Wait>(rt: &R, keeper: &Keeper<Identity>, slot: &mut Subscripti
 /// as the port has places.
 ///
 /// It may wait for a step of the other end, and takes no memory.
-pub fn pump<R: Wait>(rt: &R, keeper: &Keeper<Identity>, slot: &mut Subscription)
+pub fn fill<R: Wait>(rt: &R, keeper: &Keeper<Identity>, slot: &mut Subscription)
     requires { StandsAt slot.old keeper.now.book }
     ensures stands { StandsAt slot.new keeper.now.book }
     ensures alike { SameButPuts slot.old slot.new }
