@@ -5,14 +5,6 @@ use Rattle.lq_port.specs.Port.{known, put_of, Adds, IsLegal, Removes}
 use Rattle.lq_port.proofs.PortLemmas.{nil_is_legal, snoc_is_legal}
 
 module _ {T F : Type 0} (follows : List T → F → T → Type 0) where
-  -- an item that follows what one view knows follows what an equal one knows
-  pub follows-equal :
-      (v w : Known T F) (x y : T) → v ≡ w → x ≡ y
-      → follows (put_of w) w.floor y → follows (put_of v) v.floor x
-  follows-equal v w x y e d ok =
-      subst (λ (z : Known T F × T). follows (put_of z.0) z.0.floor z.1) (λ i. (sym e i, sym d i))
-      ok
-
   -- an end of a new port
   pub new_end :
       (v : Known T F) (f : F) (puts takes : Bool) → v ≡ known puts takes f [] []

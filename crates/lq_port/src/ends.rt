@@ -6,9 +6,9 @@ ghost use Rattle.lq_port.specs.End.{all_put, IsSamePort, IsFull, Gains, Loses};
 ghost use Rattle.lq_port.specs.Port.{IsLegal, port_refusal};
 
 use crate::follows::Follows;
-use crate::rule::{InOrder, Known, Take};
-use crate::steps::{PortPass, PortReceiver, PortSender, count_on, meet, put_on};
-use crossbeam_channel::bounded_with;
+use crate::rule::{InOrder, Known, Put, Take};
+use crate::steps::{PortPass, PortReceiver, PortSender, meet, wait_for_ever};
+use crossbeam_channel::{TrySendError, bounded_with};
 use lq_value::Refusal;
 use std::alloc::Global;
 use std::marker::{Brand, Model};
@@ -152,10 +152,18 @@ impl<T: Follows + Drop> PortIn<T> {
         ensures full { OnErr result (IsFull self.old) }
         ensures err { OnErr result (self.new ≡ self.old) }
     {
-        count_on(rt, self.count);
-        put_on(rt, &self.sender, &mut self.pass, item)?;
-        self.count += 1;
-        Ok(())
+        if self.count == u64::MAX {
+            wait_for_ever(rt);
+        }
+        match self.sender.try_send_as::<Put, R>(rt, &mut self.pass, item) {
+            Ok(()) => {
+                self.count += 1;
+                Ok(())
+            }
+            Err(TrySendError::Full(back)) => Err(back),
+            // This end keeps a receiving end, so the channel is never without one.
+            Err(_) => wait_for_ever(rt),
+        }
     }
 }
 
@@ -174,7 +182,9 @@ impl<T: Follows + Drop> PortOut<T> {
         ensures empty { IfNone result (self.old.ahead ≡ []) }
         ensures none { IfNone result (self.new ≡ self.old) }
     {
-        count_on(rt, self.count);
+        if self.count == u64::MAX {
+            wait_for_ever(rt);
+        }
         let Ok(item) = self.receiver.try_recv_as::<Take, R>(rt, &mut self.pass) else {
             return None;
         };
@@ -195,7 +205,9 @@ impl<T: Follows + Drop> PortOut<T> {
         ensures empty { IfNone result (self.old.ahead ≡ []) }
         ensures none { IfNone result (self.new ≡ self.old) }
     {
-        count_on(rt, self.count);
+        if self.count == u64::MAX {
+            wait_for_ever(rt);
+        }
         let Ok(item) = self.receiver.recv_as::<Take, R>(rt, &mut self.pass) else {
             return None;
         };

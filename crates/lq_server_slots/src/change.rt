@@ -10,7 +10,7 @@ ghost use Rattle.lq_server_slots.specs.Changing.{IsChangeMade, IsPrepared};
 ghost use Rattle.lq_server_slots.specs.Slots.{SlotsStand, StandsBeside, AllReady, IsNoticed, IsServed, SlotsAre};
 
 use crate::passes::{ready_all, tell_all};
-use crate::slots::{Slots, fill_all};
+use crate::slots::{Slots, serve_all};
 use lq_board::{Board, Seat};
 use lq_server_subscription::Identity;
 use lq_value::Refusal;
@@ -54,7 +54,7 @@ pub fn change_in<R: Wait>(
             Ok(applied)
         }
         Err(refusal) => {
-            fill_all(rt, board, slots, volume.changes());
+            serve_all(rt, board, slots, volume.changes());
             Err(refusal)
         }
     }

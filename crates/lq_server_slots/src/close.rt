@@ -9,7 +9,7 @@ ghost use Rattle.lq_server_slots.specs.Closing.{IsClosed};
 ghost use Rattle.lq_server_slots.specs.Slots.{IsTaken, SlotStands, SlotsStand, IsPlaceIn, IsDropped, IsPut, place_at, OnlyAt, asks_of, slot_in};
 ghost use Rattle.lq_server_slots.specs.Opening.{asks_after, name_or};
 
-use crate::slots::{Slots, pump_slot};
+use crate::slots::{Slots, fill_slot};
 use crate::sync::{meet_same, meet_under, notice_by};
 use lq_board::{Board, Keeper, Seat};
 use lq_server_subscription::{Identity, Subscription, close};
@@ -48,7 +48,7 @@ fn close_slot<R: Wait>(
     let place = seat.slot() as usize;
     notice_by(board, keeper, slot, seat, number);
     let closed = end_slot(board, keeper, slot, seat, number);
-    pump_slot(rt, keeper, slot, place);
+    fill_slot(rt, keeper, slot, place);
     closed
 }
 

@@ -5,7 +5,7 @@ ghost use Rattle.lq_volume.specs.Book.{state_of};
 ghost use Rattle.lq_board.specs.Slot.{slot_at};
 ghost use Rattle.lq_server_slots.specs.Slots.{IsTaken, IsToFill, SlotStands, asks_of, SlotsStand, OnlyAt, IsReadyAt, AllReady, before_of, IsGrown, IsNoticed, IsServed, SlotIs, SlotsAre};
 
-use crate::slots::{Slots, notice_slot, place_of, pump_slot};
+use crate::slots::{Slots, fill_slot, notice_slot, place_of};
 use lq_board::{Board, Keeper};
 use lq_server_subscription::{Identity, Subscription, commit, ready};
 use lq_value::Refusal;
@@ -103,7 +103,7 @@ fn tell_at<R: Wait>(
 {
     if let Some(taken) = slot {
         commit_slot(keeper, taken, place, change);
-        pump_slot(rt, keeper, taken, place);
+        fill_slot(rt, keeper, taken, place);
     }
 }
 

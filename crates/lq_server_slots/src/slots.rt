@@ -7,7 +7,7 @@ ghost use Rattle.lq_server_subscription.specs.Standing.{SameButHeld, SameButPuts
 ghost use Rattle.lq_server_slots.specs.Slots.{IsTaken, IsToFill, SlotStands, asks_of, SlotsStand, IsListed, place_at, OnlyAt, slot_in, IsNoticed, IsServed, SlotIs, SlotsAre};
 
 use lq_board::{Board, Keeper};
-use lq_server_subscription::{Identity, Subscription, notice, pump};
+use lq_server_subscription::{Identity, Subscription, fill, notice};
 use lq_value::Refusal;
 use std::alloc::Global;
 use std::sync::Wait;
@@ -103,7 +103,7 @@ pub(crate) fn place_of(slots: &Slots, index: usize) -> usize
 }
 
 // For a slot that may be free: ends the subscription where its reader asked, and fills its port.
-fn fill_at<R: Wait>(
+fn serve_at<R: Wait>(
     rt: &R,
     board: &Board<Identity>,
     keeper: &mut Keeper<Identity>,
@@ -126,12 +126,12 @@ fn fill_at<R: Wait>(
 {
     if let Some(taken) = slot {
         notice_slot(board, keeper, taken, place, number);
-        pump_slot(rt, keeper, taken, place);
+        fill_slot(rt, keeper, taken, place);
     }
 }
 
 /// Ends each subscription whose reader asked for that, and fills each port.
-pub(crate) fn fill_all<R: Wait>(rt: &R, board: &Board<Identity>, slots: &mut Slots, number: u64)
+pub(crate) fn serve_all<R: Wait>(rt: &R, board: &Board<Identity>, slots: &mut Slots, number: u64)
     requires board { slots.old.keeper.board ≡ board.now }
     requires number { number ≡ length slots.old.keeper.book.changes }
     requires holding { SlotsStand slots.old slots.old.keeper.book }
@@ -144,7 +144,7 @@ pub(crate) fn fill_all<R: Wait>(rt: &R, board: &Board<Identity>, slots: &mut Slo
     for index in 0..slots.taken.len() {
         let place = place_of(slots, index);
         let keeper = &mut slots.keeper;
-        fill_at(
+        serve_at(
             rt,
             board,
             keeper,
@@ -156,7 +156,7 @@ pub(crate) fn fill_all<R: Wait>(rt: &R, board: &Board<Identity>, slots: &mut Slo
 }
 
 /// Fills the port of a taken slot.
-pub(crate) fn pump_slot<R: Wait>(
+pub(crate) fn fill_slot<R: Wait>(
     rt: &R,
     keeper: &Keeper<Identity>,
     taken: &mut Subscription,
@@ -172,5 +172,5 @@ pub(crate) fn pump_slot<R: Wait>(
 {
     // For the contract alone, which names the slot.
     let _ = place;
-    pump(rt, keeper, taken);
+    fill(rt, keeper, taken);
 }

@@ -5,18 +5,15 @@ use Rattle.lq_volume.specs.State.{State}
 use Rattle.lq_volume.specs.Book.{Book, Extends}
 use Rattle.lq_volume.specs.declared.change.Change.{Change}
 use Rattle.lq_board.specs.Book.{IsFullBook}
-use Rattle.lq_board.specs.Token.{KeeperToken}
 use Rattle.lq_update.specs.declared.message.Message.{Message}
 use Rattle.lq_update.specs.declared.mark.Mark.{Mark}
 use Rattle.lq_update.specs.declared.mark.Cause.{Cause}
 use Rattle.lq_update.specs.declared.mark.Cause.TheVariants.{Closed, HungUp, Overrun}
-use Rattle.lq_update.specs.declared.parcel.Parcel.{Parcel}
 use Rattle.lq_update.specs.Updates.{step_of}
 use Rattle.lq_desk_sub.specs.Held.{Held, Prepared}
-use Rattle.lq_port.specs.End.{End, all_put, IsSamePort, Gains}
+use Rattle.lq_port.specs.End.{End, all_put, IsSamePort}
 use mathlib.Core.List.{IsPrefix}
 use Rattle.lq_port.specs.Port.{IsLegal}
-use Rattle.lq_server_subscription.specs.declared.identity.Identity.{Identity}
 use Rattle.lq_server_subscription.specs.declared.identity.Shut.{Shut}
 use Rattle.lq_server_subscription.specs.declared.identity.Shut.TheVariants.{Never, At, Late}
 use Rattle.lq_server_subscription.specs.declared.delivery.Delivery.{Delivery}
@@ -138,12 +135,6 @@ IsOut h = (h.messages ≡ []) × ((h.mark ≡ None) ⊎ (h.mark_out ≡ true))
 -- nothing is left to put, or the port was full
 abbrev pub IsStuck : Subscription → Type 0
 IsStuck s = IsOut s.sub.held ⊎ (s.places ≤ length s.input.ahead)
-
--- a parcel with this content and the keeper's book was put
-abbrev pub Offered :
-    Parcel → KeeperToken Identity → End Delivery Opening → End Delivery Opening → Type 0
-Offered what keeper d e =
-    (x : Delivery) × (x.what ≡ what) × (x.book.value ≡ keeper) × Gains d x e
 
 -- both ends of the port were seen together, and everything that could be put was put
 pub record SideBySide

@@ -20,6 +20,6 @@ pub use laws::{
     books_extend_on, books_extend_themselves, new_subscriptions_stand, states_stay,
     updates_are_update_lists,
 };
-pub use puts::{drain, pump, put_one};
+pub use puts::{drain, fill, put_one};
 pub use reading::Reading;
 pub use subscription::{Subscription, close, commit, notice, ready};

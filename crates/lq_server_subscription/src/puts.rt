@@ -1,10 +1,6 @@
 //! Puts: held messages and the mark move into the port.
-ghost use Rattle.std.specs.Prelude.{◌≡◌, ◌<◌, ◌≤◌, MatchBool, IfErr, OnOk, OnErr, Some, length};
-ghost use Rattle.lq_port.specs.End.{all_put, IsSamePort, IsFull};
-ghost use Rattle.lq_desk_sub.specs.Held.{next_parcel};
-ghost use Rattle.lq_server_subscription.specs.Rule.{MayFollow};
-ghost use Rattle.lq_server_subscription.specs.declared.delivery.Delivery.{Delivery};
-ghost use Rattle.lq_server_subscription.specs.Standing.{StandsAt, SameButPuts, left, IsStuck, Offered, SideBySide, IsDrained};
+ghost use Rattle.std.specs.Prelude.{◌≡◌, ◌<◌, MatchBool};
+ghost use Rattle.lq_server_subscription.specs.Standing.{StandsAt, SameButPuts, left, IsStuck, SideBySide, IsDrained};
 
 use crate::delivery::Delivery;
 use crate::identity::Identity;
@@ -12,9 +8,7 @@ use crate::reading::Reading;
 use crate::subscription::Subscription;
 use lq_board::Keeper;
 use lq_desk_sub::putting_back_undoes;
-use lq_port::PortIn;
 use lq_server_witness::Witness;
-use lq_update::Parcel;
 use std::sync::Wait;
 
 /// Puts the first held message, or the mark after the last one, and answers whether it did.
@@ -31,39 +25,19 @@ pub fn put_one<R: Wait>(rt: &R, keeper: &Keeper<Identity>, slot: &mut Subscripti
 {
     // For the proof: a parcel that goes out and is put back leaves the subscription as it was.
     putting_back_undoes();
-    let Some(parcel) = slot.sub.next() else {
+    let Some(what) = slot.sub.next() else {
         return false;
     };
-    match offer(rt, keeper, &mut slot.input, parcel) {
-        Ok(()) => true,
-        Err(back) => {
-            slot.sub.put_back(back);
-            false
-        }
-    }
-}
-
-// Puts a parcel with the keeper's book, or gives it back where the port was full.
-fn offer<R: Wait>(
-    rt: &R,
-    keeper: &Keeper<Identity>,
-    input: &mut PortIn<Delivery>,
-    what: Parcel,
-) -> Result<(), Parcel>
-    requires { (x : Delivery) → x.what ≡ what → x.book.value ≡ keeper.now
-        → MayFollow (all_put input.old) input.old.floor x }
-    ensures port { IsSamePort input.old input.new }
-    ensures ok { OnOk result (Offered what keeper.now input.old input.new) }
-    ensures back { IfErr result (λ back. back ≡ what) }
-    ensures err { OnErr result ((input.new ≡ input.old) × IsFull input.old) }
-{
     let item = Delivery {
         what,
         book: Witness::of(keeper),
     };
-    match input.put(rt, item) {
-        Ok(()) => Ok(()),
-        Err(back) => Err(back.what),
+    match slot.input.put(rt, item) {
+        Ok(()) => true,
+        Err(back) => {
+            slot.sub.put_back(back.what);
+            false
+        }
     }
 }
 
@@ -71,7 +45,7 @@ fn offer<R: Wait>(
 /// as the port has places.
 ///
 /// It may wait for a step of the other end, and takes no memory.
-pub fn pump<R: Wait>(rt: &R, keeper: &Keeper<Identity>, slot: &mut Subscription)
+pub fn fill<R: Wait>(rt: &R, keeper: &Keeper<Identity>, slot: &mut Subscription)
     requires { StandsAt slot.old keeper.now.book }
     ensures stands { StandsAt slot.new keeper.now.book }
     ensures alike { SameButPuts slot.old slot.new }
@@ -101,7 +75,8 @@ pub fn drain<R: Wait>(
 {
     loop {
         let waiting = reading.beside(&mut slot.input);
-        if waiting >= slot.places {
+        // Asked first, so that nothing is moved where nothing is left.
+        if waiting >= slot.places || !slot.sub.has_next() {
             return waiting;
         }
         if !put_one(rt, keeper, slot) {

@@ -29,13 +29,13 @@ tell_all-requires-clause-holding g c =
     subst (λ (b : Book). SlotsStand c.add.new.slots b) (sym (before_is
     c.args.slots.now.keeper.book c.add.new.slots.keeper.book c.args.change.now a.made.ok)) a.holding
 
-pub fill_all-requires-clause-number : goal.fill_all-requires-clause-number
-fill_all-requires-clause-number g c =
+pub serve_all-requires-clause-number : goal.serve_all-requires-clause-number
+serve_all-requires-clause-number g c =
     let a = c.in-Err.ensures in
     c.changes.ensures.number ∙ ap (λ (s : State). s.number) a.volume ∙ a.full.number
 
-pub fill_all-requires-clause-holding : goal.fill_all-requires-clause-holding
-fill_all-requires-clause-holding g c =
+pub serve_all-requires-clause-holding : goal.serve_all-requires-clause-holding
+serve_all-requires-clause-holding g c =
     let a = c.in-Err.ensures in
     subst (λ (b : Book). SlotsStand c.add.new.slots b) (sym a.made.err) a.holding
 
@@ -59,13 +59,13 @@ pub returns-in-Err-clause-made : goal.returns-in-Err-clause-made
 returns-in-Err-clause-made g c =
     subst (λ (b : Book). IsChangeMade c.args.change.now (Err c.in-Err.refusal)
     c.args.volume.now c.add.new.volume c.args.slots.now.keeper.book b c.args.seat.now
-    c.add.new.seat) (sym c.fill_all.ensures.book) c.in-Err.ensures.made
+    c.add.new.seat) (sym c.serve_all.ensures.book) c.in-Err.ensures.made
 
 pub returns-in-Err-clause-stands : goal.returns-in-Err-clause-stands
 returns-in-Err-clause-stands g c =
     let a = c.in-Err.ensures in
-    let same = sym c.fill_all.ensures.book in record {
+    let same = sym c.serve_all.ensures.book in record {
       state = a.volume ∙ ap state_of same;
       full = subst IsFullBook same a.full;
-      holding = c.fill_all.ensures.holding;
+      holding = c.serve_all.ensures.holding;
     }

@@ -2,7 +2,7 @@ use Rattle.std.proofs.Common.{inl, refl, sym, ◌∙◌}
 use Rattle.lq_desk_sub.specs.Held.{next_parcel}
 use Rattle.lq_server_subscription.proofs.PortLemmas.{none-of}
 use Rattle.lq_server_subscription.proofs.PutLemmas.{alike_held, alike_trans, none_next}
-use Rattle.lq_server_subscription.proofs.puts.pump.Goals as goal
+use Rattle.lq_server_subscription.proofs.puts.fill.Goals as goal
 
 pub loop-slot-init : goal.loop-slot-init
 loop-slot-init g c =

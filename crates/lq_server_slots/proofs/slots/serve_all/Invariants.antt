@@ -1,7 +1,7 @@
 use Rattle.std.proofs.Common.{◌≡◌, ℕ, ◌<◌, length}
 use Rattle.lq_board.specs.Slot.{slot_at}
 use Rattle.lq_server_slots.specs.Slots.{SlotsStand, SlotIs, IsServed, slot_in, place_at}
-use Rattle.lq_server_slots.proofs.slots.fill_all.Given as goal
+use Rattle.lq_server_slots.proofs.slots.serve_all.Given as goal
 
 abbrev pub invariant-loop-index : goal.invariant-loop-index
 invariant-loop-index g l =

@@ -1,5 +1,5 @@
 use Rattle.lq_server_subscription.specs.Standing.{StandsAt, SameButPuts, left}
-use Rattle.lq_server_subscription.proofs.puts.pump.Given as goal
+use Rattle.lq_server_subscription.proofs.puts.fill.Given as goal
 
 abbrev pub invariant-loop-slot : goal.invariant-loop-slot
 invariant-loop-slot g l = StandsAt l.slot l.keeper.book × SameButPuts l.initial.slot l.slot
