@@ -3,7 +3,7 @@
 //!
 //! Contracts see how it was opened, the messages that it holds and its mark (`specs/Held`). The
 //! desk puts its parcels into its own port, the server for threads into a shared one. Nothing here
-//! waits. Begin with `sub`, then `watch`.
+//! waits. Begin with `sub`, then `telling`, then `watch`.
 #![tactic(auto)]
 
 mod laws;
@@ -11,6 +11,7 @@ mod live_query;
 mod messages;
 mod read;
 mod sub;
+mod telling;
 mod watch;
 mod word;
 

@@ -3,12 +3,9 @@ ghost use Rattle.std.specs.Option.{option_copied};
 ghost use Rattle.std.specs.Prelude.{◌≡◌, ◌≤◌, ◌+◌, Some, None, IfOk, IfErr, OnErr, OnOk};
 
 use crate::change::{Applied, Change};
-use crate::checks::check_folder;
-use crate::entry_ref::{EntryRef, Listing};
 use crate::laws::accepted_changes_keep_trees;
 use crate::planned::Planned;
-use lq_predicate::Predicate;
-use lq_value::{Entry, Kind, Name, Refusal};
+use lq_value::{Kind, Name, Refusal};
 use lq_volume_entries::{Entries, Stored, records_are_kept};
 use std::alloc::Global;
 use std::marker::Model;
@@ -28,8 +25,8 @@ pub struct Volume {
     limit: u64,
     changes: u64,
     next: u64,
-    alloc: Global,
-    entries: Entries,
+    pub(crate) alloc: Global,
+    pub(crate) entries: Entries,
 }
 
 // Dropping one is a single call, instead of code at each place.
@@ -66,12 +63,9 @@ impl Model for Volume {
 }
 
 impl Volume {
-    ghost use Rattle.lq_value.specs.Refusal.{IsRefusedBy, first_refusal};
-    ghost use Rattle.lq_volume.specs.State.{empty_state, root, record_at, kind_at, has_entries, is_taken, node_in, reaches, IsVolume};
+    ghost use Rattle.lq_value.specs.Refusal.{IsRefusedBy};
+    ghost use Rattle.lq_volume.specs.State.{empty_state, record_at, kind_at, has_entries, is_taken, reaches, IsVolume};
     ghost use Rattle.lq_volume.specs.Change.{refused, after, node_of, other_at, is_full, IsLawful};
-    ghost use Rattle.lq_volume.specs.Lookup.{find_refusals, entry_refusals, children_refusals, path_refusals, listed};
-    ghost use Rattle.lq_volume_entries.specs.Folder.{AreChildren, Leads};
-    ghost use Rattle.lq_volume.specs.Result.{result_of};
 
     /// A volume with the root alone. It accepts at most `limit` changes, 1 to 1,000,000,000,000.
     ///
@@ -105,86 +99,6 @@ impl Volume {
         ensures { result ≡ self.now.limit }
     {
         self.limit
-    }
-
-    /// The node at a place. It takes no memory.
-    ///
-    /// Refused, the first that fits: `NoNode` where there is no node `dir`, `NotFolder` where `dir`
-    /// is a file, `NoEntry` where the folder has no entry of that name.
-    pub fn find(&self, dir: u64, name: &Name) -> Result<u64, Refusal>
-        ensures value { IfOk result (λ node. node_in self.now.records dir name.now ≡ Some node) }
-        ensures ok { OnOk result (first_refusal (find_refusals self.now dir name.now) ≡ None) }
-        ensures err { IfErr result (λ e.
-            first_refusal (find_refusals self.now dir name.now) ≡ Some e) }
-    {
-        match self.kind(dir) {
-            None => return Err(Refusal::NoNode),
-            Some(Kind::File) => return Err(Refusal::NotFolder),
-            Some(Kind::Folder) => {}
-        }
-        match self.entries.node_in(dir, name) {
-            None => Err(Refusal::NoEntry),
-            Some(node) => Ok(node),
-        }
-    }
-
-    /// The entry of a node. It takes no memory.
-    ///
-    /// Refused, the first that fits: `NoNode` where there is no such node, `NoEntry` for the root,
-    /// which is not an entry.
-    pub fn entry(&self, node: u64) -> Result<EntryRef<'_>, Refusal>
-        ensures value { IfOk result (λ entry. record_at self.now node ≡ Some entry) }
-        ensures ok { OnOk result (first_refusal (entry_refusals self.now node) ≡ None) }
-        ensures err { IfErr result (λ e. first_refusal (entry_refusals self.now node) ≡ Some e) }
-    {
-        if node == ROOT {
-            return Err(Refusal::NoEntry);
-        }
-        match self.entries.get(node) {
-            None => Err(Refusal::NoNode),
-            Some(stored) => Ok(EntryRef::new(stored)),
-        }
-    }
-
-    /// A copy of the whole entry of a node.
-    ///
-    /// Refused, the first that fits: `NoNode` where there is no such node, `NoEntry` for the root,
-    /// `NoMemory`.
-    pub fn listing(&self, node: u64) -> Result<Listing, Refusal>
-        ensures value { IfOk result (λ listing. record_at self.now node ≡ Some (listed listing)) }
-        ensures refused { IsRefusedBy result (first_refusal (entry_refusals self.now node)) }
-    {
-        let entry = self.entry(node)?;
-        Ok(entry.listing(self.alloc)?)
-    }
-
-    /// The entries in a folder, also in the root, by rising name: a directory's listing.
-    ///
-    /// The time is that of sorting them, and doesn't depend on the entries in other folders.
-    /// Refused, the first that fits: `NoNode` where there is no node `dir`, `NotFolder` where `dir`
-    /// is a file, `NoMemory`.
-    pub fn children(&self, dir: u64) -> Result<Vec<Entry>, Refusal>
-        ensures refused { IsRefusedBy result (first_refusal (children_refusals self.now dir)) }
-        ensures children { IfOk result (λ entries.
-            AreChildren self.now.records dir entries.items) }
-    {
-        check_folder(self, dir)?;
-        Ok(self.entries.children(dir)?)
-    }
-
-    /// The path of a node: the names that lead from the root down to it. The root's is empty.
-    ///
-    /// Looked up one after another by `find`, the names lead to the node. The time is linear in
-    /// their number. Refused, the first that fits: `NoNode` where there is no such node,
-    /// `NoMemory`.
-    pub fn path(&self, node: u64) -> Result<Vec<Name>, Refusal>
-        ensures refused { IsRefusedBy result (first_refusal (path_refusals self.now node)) }
-        ensures path { IfOk result (λ names. Leads self.now.records root names.items node) }
-    {
-        match self.kind(node) {
-            None => Err(Refusal::NoNode),
-            Some(_) => Ok(self.entries.path(node)?),
-        }
     }
 
     /// What `apply` would answer. It takes no memory and changes nothing.
@@ -300,18 +214,6 @@ impl Volume {
             alloc: self.alloc,
             entries: self.entries.copy()?,
         })
-    }
-
-    /// The entries that match the predicate, by rising node: the static query, as a BQuery that
-    /// isn't live.
-    ///
-    /// Refused: `NoMemory`. It changes nothing.
-    pub fn fetch(&self, predicate: &Predicate) -> Result<Vec<Entry>, Refusal>
-        ensures refused { IsRefusedBy result None }
-        ensures entries { IfOk result (λ entries.
-            entries.items ≡ result_of predicate.now self.now) }
-    {
-        self.entries.fetch(predicate)
     }
 
     /// The node that an accepted change creates or names.
