@@ -1,14 +1,16 @@
 -- An accepted change keeps the numbers and nodes of a volume.
-use Rattle.std.proofs.Common.{◌≡◌, ℕ, ◌+◌, ◌≤◌, List, [], ◌∷◌, arith, Bool, false, None, Option, ◌++◌, ◌<◌, filter}
+use Rattle.std.proofs.Common.{◌≡◌, ℕ, ◌+◌, ◌≤◌, List, [], ◌∷◌, arith, eqb, Bool, false, None, Option, ◌++◌, ◌<◌, filter}
+use Rattle.std.specs.Prelude.{not, Some}
 use Rattle.std.specs.List.{AllByRecursion}
 use Rattle.std.proofs.lemmas.Bool.Decides.{nat_tests}
 use Rattle.lq_value.specs.declared.refusal.Refusal.{Refusal}
 use Rattle.lq_value.specs.Refusal.{first_refusal}
 use Rattle.lq_volume.specs.declared.change.Change.{Change}
 use Rattle.lq_volume.specs.declared.change.Change.TheVariants.{Create, Remove, Move, Write, SetAttr, RemoveAttr}
-use Rattle.lq_volume.specs.State.{State, Record, IsNumbered}
+use Rattle.lq_volume.specs.State.{State, Record, Rises, IsNumbered}
 use Rattle.lq_volume.specs.Change.{refused, refusals, changed, altered, without}
-use Rattle.lq_volume.proofs.RecordLemmas.{All-push, All-weaker, All-filter, Rises-push, Rises-filter, All-without, Rises-without, All-altered, Rises-altered}
+use Rattle.lq_volume_entries.specs.Laws.{RecordsAreKept}
+use Rattle.lq_volume.proofs.RecordLemmas.{Entries, All-push, All-weaker, All-filter, All-without, All-kept}
 
 -- where nothing refuses, no row's test holds
 pub none_holds : (rows : List (Bool × Refusal)) → first_refusal rows ≡ None
@@ -37,55 +39,65 @@ accepted_number s (RemoveAttr node attr) h =
     let rows = none_holds (refusals s (RemoveAttr node attr)) h in
     grind (arith, nat_tests)
 
+-- the nodes still rise without one
+Rises-without : RecordsAreKept → (other : Option ℕ) (es : Entries) → Rises es
+    → Rises (without other es)
+Rises-without laws None es h = h
+Rises-without laws (Some k) es h = laws.rise.filtered (λ e. not (eqb e.0 k)) es h
+
 -- one more change, with a record under the next node
-pub IsNumbered-create : (s : State) (v : Record) → IsNumbered s → s.number < s.limit
+pub IsNumbered-create : RecordsAreKept → (s : State) (v : Record) → IsNumbered s
+    → s.number < s.limit
     → IsNumbered (record {
       limit = s.limit;
       number = s.number + 1;
       next = s.next + 1;
       records = s.records ++ (s.next, v) ∷ [];
     })
-IsNumbered-create s v n more = record {
+IsNumbered-create laws s v n more = record {
   limit = n.limit;
   number = omega arith;
   next = omega (arith, n.next);
   few = omega (arith, n.few);
-  rise = Rises-push s.records s.next v n.rise n.below;
+  rise = laws.rise.added s.records s.next v n.rise n.below;
   above = All-push (λ e. 2 ≤ e.0) s.records (s.next, v) n.above n.next;
   below = All-push (λ e. e.0 < s.next + 1) s.records (s.next, v) (All-weaker (λ e. e.0 < s.next)
       (λ e. e.0 < s.next + 1) s.records (λ e lt. omega arith) n.below) (omega arith);
 }
 
 -- one more change, with fewer records
-pub IsNumbered-filter : (s : State) (test : ℕ × Record → Bool) → IsNumbered s → s.number < s.limit
+pub IsNumbered-filter : RecordsAreKept → (s : State) (test : ℕ × Record → Bool) → IsNumbered s
+    → s.number < s.limit
     → IsNumbered (record {
       limit = s.limit;
       number = s.number + 1;
       next = s.next;
       records = filter test s.records;
     })
-IsNumbered-filter s test n more = record {
+IsNumbered-filter laws s test n more = record {
   limit = n.limit;
   number = omega arith;
   next = n.next;
   few = omega (arith, n.few);
-  rise = Rises-filter test s.records n.rise;
+  rise = laws.rise.filtered test s.records n.rise;
   above = All-filter (λ e. 2 ≤ e.0) test s.records n.above;
   below = All-filter (λ e. e.0 < s.next) test s.records n.below;
 }
 
 -- one more change, with a record altered, and perhaps one node less
-pub IsNumbered-altered : (s : State) (other : Option ℕ) (node : ℕ) (f : Record → Record)
+pub IsNumbered-altered : RecordsAreKept → (s : State) (other : Option ℕ) (node : ℕ)
+    (f : Record → Record)
     → IsNumbered s → s.number < s.limit
     → IsNumbered (changed s (altered node f (without other s.records)))
-IsNumbered-altered s other node f n more = record {
+IsNumbered-altered laws s other node f n more = record {
   limit = n.limit;
   number = omega arith;
   next = n.next;
   few = omega (arith, n.few);
-  rise = Rises-altered node f (without other s.records) (Rises-without other s.records n.rise);
-  above = All-altered (λ k. 2 ≤ k) node f (without other s.records)
+  rise = laws.rise.altered node f (without other s.records)
+      (Rises-without laws other s.records n.rise);
+  above = All-kept (λ e. 2 ≤ e.0) node f (without other s.records) (λ e h. h)
       (All-without (λ e. 2 ≤ e.0) other s.records n.above);
-  below = All-altered (λ k. k < s.next) node f (without other s.records)
+  below = All-kept (λ e. e.0 < s.next) node f (without other s.records) (λ e h. h)
       (All-without (λ e. e.0 < s.next) other s.records n.below);
 }

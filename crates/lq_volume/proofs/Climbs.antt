@@ -1,6 +1,6 @@
 -- Walks up a tree: what a bounded walk finds, that it needs no more steps than there are records,
 -- and what an edit leaves of it.
-use Rattle.std.proofs.Common.{◌≡◌, subst, ℕ, zero, suc, ◌<◌, ◌≤◌, refl, sym, arith, eqb, ap, ◌∙◌, true, false, Some, None, length, inl, inr}
+use Rattle.std.proofs.Common.{◌≡◌, subst, ℕ, zero, suc, ◌<◌, ◌≤◌, refl, arith, eqb, ap, ◌∙◌, true, false, Some, None, length, inl, inr}
 use Rattle.std.specs.Prelude.{not, filter, nat_eq, Option}
 use Rattle.std.specs.Option.{option_map, option_map_or}
 use Rattle.std.specs.Map.{lookup}
@@ -8,7 +8,8 @@ use Rattle.std.proofs.lemmas.Bool.Decides.{nat_tests}
 use Rattle.std.proofs.lemmas.Bool.{cases_eq}
 use Rattle.lq_volume.specs.State.{Record, climbs, dir_of}
 use Rattle.lq_volume.specs.Walk.{Climb}
-use Rattle.lq_volume.proofs.RecordLemmas.{Entries, lookup-filter, length-filter_lt}
+use Rattle.lq_volume_entries.specs.Laws.{RecordsAreKept}
+use Rattle.lq_volume.proofs.RecordLemmas.{Entries, length-filter_lt}
 
 -- what a bounded walk finds, some number of steps within the bound comes to
 pub climbs-sound : (f : ℕ) (up : ℕ → Option ℕ) (to at : ℕ) → climbs f up to at ≡ true
@@ -77,17 +78,17 @@ abbrev rest_of : Entries → ℕ → Entries
 rest_of es at = filter (λ e. not (eqb e.0 at)) es
 
 -- a walk to the top has no more steps than there are records
-pub Climb-short : (k : ℕ) (es : Entries) (to at : ℕ) → dir_of es to ≡ None
+pub Climb-short : RecordsAreKept → (k : ℕ) (es : Entries) (to at : ℕ) → dir_of es to ≡ None
     → Climb (dir_of es) to k at → k ≤ length es
-Climb-short zero es to at none c = omega arith
-Climb-short (suc k) es to at none c =
-    fewer (Climb-short k (rest_of es at) to c.0 top less) (lookup (nat_eq at) es) refl
+Climb-short laws zero es to at none c = omega arith
+Climb-short laws (suc k) es to at none c =
+    fewer (Climb-short laws k (rest_of es at) to c.0 top less) (lookup (nat_eq at) es) refl
   where
     off : (n : ℕ) → (n ≡ at → ⊥) → dir_of (rest_of es at) n ≡ dir_of es n
-    off n differs = let l = lookup-filter es at n in grind (arith, nat_tests)
+    off n differs = let l = laws.found.removed es at n in grind (arith, nat_tests)
 
     top : dir_of (rest_of es at) to ≡ None
-    top = let l = lookup-filter es at to in grind (arith, nat_tests)
+    top = let l = laws.found.removed es at to in grind (arith, nat_tests)
 
     less : Climb (dir_of (rest_of es at)) to k c.0
     less = Climb-avoid (dir_of es) (dir_of (rest_of es at)) to at k c.0 off
@@ -100,31 +101,6 @@ Climb-short (suc k) es to at none c =
         let f : dir_of es at ≡ None = ap (option_map (λ (r : Record). r.dir)) is in
         cc
     fewer short (Some r) is = let lt = length-filter_lt es at r is in omega arith
-
--- a bounded walk finds the node that it begins at
-pub climbs-here : (n : ℕ) (up : ℕ → Option ℕ) (to at : ℕ) → at ≡ to → climbs n up to at ≡ true
-climbs-here zero up to at h = grind (arith, nat_tests)
-climbs-here (suc n) up to at h = grind (arith, nat_tests)
-
--- a bounded walk from another node that is in no folder finds nothing
-pub climbs-top : (n : ℕ) (up : ℕ → Option ℕ) (to at : ℕ) → (at ≡ to → ⊥) → up at ≡ None
-    → climbs n up to at ≡ false
-climbs-top zero up to at h is = grind (arith, nat_tests)
-climbs-top (suc n) up to at h is = grind (arith, nat_tests)
-
--- a bounded walk goes on from the folder that the node is in
-pub climbs-on : (n : ℕ) (up : ℕ → Option ℕ) (to at d : ℕ) → (at ≡ to → ⊥) → up at ≡ Some d
-    → climbs (suc n) up to at ≡ climbs n up to d
-climbs-on n up to at d h is = grind (arith, nat_tests)
-
--- a folder as a map's look-up gives it
-pub dir_of-some : (es : Entries) (k : ℕ) (r : Record) → Some r ≡ lookup (nat_eq k) es
-    → dir_of es k ≡ Some r.dir
-dir_of-some es k r h = sym (ap (option_map (λ (v : Record). v.dir)) h)
-
--- a node that the map doesn't have is in no folder
-pub dir_of-none : (es : Entries) (k : ℕ) → None ≡ lookup (nat_eq k) es → dir_of es k ≡ None
-dir_of-none es k h = sym (ap (option_map (λ (v : Record). v.dir)) h)
 
 -- a walk that was there stays, where nodes only come
 pub Climb-more : (up new : ℕ → Option ℕ) (to k at : ℕ)

@@ -12,12 +12,13 @@ use Rattle.lq_volume.specs.declared.change.Change.{Change}
 use Rattle.lq_volume.specs.declared.change.Change.TheVariants.{Create, Remove, Move, Write, SetAttr, RemoveAttr}
 use Rattle.lq_volume_attributes.specs.Attributes.{Attributes, HasOwnNames, with_attr, without_attr}
 use Rattle.lq_volume_attributes.specs.Laws.{NamesStayApart}
-use Rattle.lq_volume.specs.Kind.{is_folder}
+use Rattle.lq_volume_entries.specs.Kind.{is_folder}
 use Rattle.lq_volume.specs.State.{State, Record, root, record_at, kind_at, is_folder_at, dir_of, reaches, node_in, has_entries, IsTree, IsVolume}
 use Rattle.lq_volume.specs.Change.{refused, refusals, after, node_of, record_left, at_place, written, set_attr, remove_attr, with_attrs, changed, altered, without, other_at, other_than, is_other}
-use Rattle.lq_volume.specs.Places.{CanMove}
+use Rattle.lq_volume_entries.specs.Places.{CanMove}
 use Rattle.lq_volume.specs.Laws.{ChangesKeepTrees, UntouchedStay, ClobberedGo}
-use Rattle.lq_volume.proofs.RecordLemmas.{Entries, All-push, All-filter, All-without, All-kept, lookup-filter, lookup-push, lookup-altered, node_in-some, node_in-none, is_taken-node_in, length-filter_le}
+use Rattle.lq_volume_entries.specs.Laws.{RecordsAreKept}
+use Rattle.lq_volume.proofs.RecordLemmas.{Entries, All-push, All-filter, All-without, All-kept, is_taken-node_in, length-filter_le}
 use Rattle.lq_volume.proofs.Climbs.{climbs-sound, climbs-complete, Climb-more}
 use Rattle.lq_volume.proofs.Changes.{none_holds, accepted_number, IsNumbered-create, IsNumbered-filter, IsNumbered-altered}
 use Rattle.lq_volume.proofs.Tree.{IsChildless, childless-from_test, less-folder, IsTree-less, IsTree-moved, IsTree-kept, IsTree-more, dir_of-is, record-of}
@@ -31,7 +32,7 @@ is_folder-from_tests (Some File) h k = cc
 is_folder-from_tests (Some Folder) h k = refl
 
 -- one record more
-pub keeps-create : (s : State) (new : Record) → new.attrs ≡ []
+pub keeps-create : RecordsAreKept → (s : State) (new : Record) → new.attrs ≡ []
     → IsVolume s → refused s (Create new.dir new.name new.kind new.size new.time) ≡ None
     → IsVolume (record {
       limit = s.limit;
@@ -39,33 +40,34 @@ pub keeps-create : (s : State) (new : Record) → new.attrs ≡ []
       next = s.next + 1;
       records = s.records ++ (s.next, new) ∷ [];
     })
-keeps-create s new bare v h =
+keeps-create laws s new bare v h =
     let rows = none_holds (refusals s (Create new.dir new.name new.kind new.size new.time)) h in
     record {
-      numbered = IsNumbered-create s new v.numbered
+      numbered = IsNumbered-create laws s new v.numbered
           (accepted_number s (Create new.dir new.name new.kind new.size new.time) h);
-      tree = IsTree-more s s.limit (s.number + 1) (s.next + 1) new v.numbered v.tree
+      tree = IsTree-more laws s s.limit (s.number + 1) (s.next + 1) new v.numbered v.tree
           (is_folder-from_tests (kind_at s new.dir) rows.0 rows.1.0) rows.1.1.0
           (λ is. let r = rows.1.1.1.0 in grind (arith, nat_tests));
       named = All-push (λ e. HasOwnNames e.1.attrs) s.records (s.next, new) v.named (rw bare tt);
     }
 
 -- an accepted removal leaves a volume
-pub keeps-remove : (s : State) (node : ℕ) → IsVolume s → refused s (Remove node) ≡ None
+pub keeps-remove : RecordsAreKept → (s : State) (node : ℕ) → IsVolume s
+    → refused s (Remove node) ≡ None
     → IsVolume (after s (Remove node))
-keeps-remove s node v h =
+keeps-remove laws s node v h =
     let rows = none_holds (refusals s (Remove node)) h in
     let differs : node ≡ root → ⊥ = let r = rows.1.0 in grind (arith, nat_tests) in
     record {
-      numbered = IsNumbered-filter s (λ e. not (eqb e.0 node)) v.numbered
+      numbered = IsNumbered-filter laws s (λ e. not (eqb e.0 node)) v.numbered
           (accepted_number s (Remove node) h);
-      tree = IsTree-less s s.limit (s.number + 1) s.next node v.tree
-          (childless-from_test s node v.tree rows.1.1.0) differs;
+      tree = IsTree-less laws s s.limit (s.number + 1) s.next node v.tree
+          (childless-from_test laws s node v.tree rows.1.1.0) differs;
       named = All-filter (λ e. HasOwnNames e.1.attrs) (λ e. not (eqb e.0 node)) s.records v.named;
     }
 
 -- a move takes no other node away
-keeps-move_none : (s : State) (node dir : ℕ) (name : List ℕ) → IsVolume s
+keeps-move_none : RecordsAreKept → (s : State) (node dir : ℕ) (name : List ℕ) → IsVolume s
     → other_at s node dir name ≡ None
     → (node ≡ root → ⊥) → is_folder_at s dir ≡ true → reaches s dir node ≡ false
     → IsTree (record {
@@ -74,22 +76,22 @@ keeps-move_none : (s : State) (node dir : ℕ) (name : List ℕ) → IsVolume s
       next = s.next;
       records = altered node (at_place dir name) s.records;
     })
-keeps-move_none s node dir name v is no_root folder below =
-    IsTree-moved s s.limit (s.number + 1) s.next node dir name v.tree no_root folder below
+keeps-move_none laws s node dir name v is no_root folder below =
+    IsTree-moved laws s s.limit (s.number + 1) s.next node dir name v.tree no_root folder below
     (λ n r at e f. alone n r at e f (node_in s.records dir name) refl)
   where
     alone : (n : ℕ) (r : Record) → record_at s n ≡ Some r → r.dir ≡ dir → r.name ≡ name
         → (o : Option ℕ) → node_in s.records dir name ≡ o → n ≡ node
-    alone n r at e f None found = absurd (node_in-none s.records dir name n r found at e f)
+    alone n r at e f None found = absurd (laws.places.none s.records dir name n r found at e f)
     alone n r at e f (Some x) found =
-        let there = node_in-some s.records dir name x v.numbered.rise found in
+        let there = laws.places.some s.records dir name x v.numbered.rise found in
         let same : n ≡ x =
         v.tree.apart n x r there.0 at there.1 (e ∙ sym there.2) (f ∙ sym there.3) in
         let clash : other_than node (Some x) ≡ None = rw found at is in
         grind (arith, nat_tests)
 
 -- a move takes another node away: it is at that place, and nothing is in it
-module _ (s : State) (x node dir : ℕ) (name : List ℕ)
+module _ (laws : RecordsAreKept) (s : State) (x node dir : ℕ) (name : List ℕ)
     (v : IsVolume s) (is : other_at s node dir name ≡ Some x) (folder : is_folder_at s dir ≡ true)
     (empty : (is_folder_at s x && has_entries s x) ≡ false) where
   -- if another node than this is found, it is the one found, and it is another
@@ -103,11 +105,11 @@ module _ (s : State) (x node dir : ℕ) (name : List ℕ)
 
   -- it has a record, with that place
   there : (r : Record) × (record_at s x ≡ Some r) × (r.dir ≡ dir) × (r.name ≡ name)
-  there = node_in-some s.records dir name x v.numbered.rise found.0
+  there = laws.places.some s.records dir name x v.numbered.rise found.0
 
   -- nothing is in it
   childless : IsChildless s x
-  childless = childless-from_test s x v.tree empty
+  childless = childless-from_test laws s x v.tree empty
 
   -- it isn't the root
   no_root : x ≡ root → ⊥
@@ -131,13 +133,13 @@ module _ (s : State) (x node dir : ℕ) (name : List ℕ)
 
   -- it is a tree
   tree : IsTree without_x
-  tree = IsTree-less s s.limit s.number s.next x v.tree childless no_root
+  tree = IsTree-less laws s s.limit s.number s.next x v.tree childless no_root
 
   -- a record there is one that was there, of another node
   was : (n : ℕ) (r : Record) → record_at without_x n ≡ Some r
       → (record_at s n ≡ Some r) × (n ≡ x → ⊥)
   was n r e =
-      let l = lookup-filter s.records x n in
+      let l = laws.found.removed s.records x n in
       (grind (arith, nat_tests), grind (arith, nat_tests))
 
   -- the folder that is moved into isn't below the node that moves, there either
@@ -163,14 +165,15 @@ module _ (s : State) (x node dir : ℕ) (name : List ℕ)
         records = altered node (at_place dir name) (filter (λ e. not (eqb e.0 x)) s.records);
       })
   keeps-move_some root_no off =
-      IsTree-moved without_x s.limit (s.number + 1) s.next node dir name tree root_no
-      (less-folder s s.limit s.number s.next x v.tree childless no_root dir dir_stays folder)
+      IsTree-moved laws without_x s.limit (s.number + 1) s.next node dir name tree root_no
+      (less-folder laws s s.limit s.number s.next x v.tree childless no_root dir dir_stays folder)
       (below off (reaches without_x dir node) refl)
       (λ n r at e f. let w = was n r at in
       absurd (w.1 (v.tree.apart n x r there.0 w.0 there.1 (e ∙ sym there.2) (f ∙ sym there.3))))
 
 -- a move leaves a tree, whether or not it takes a node away
-keeps-moved : (s : State) (node dir : ℕ) (name : List ℕ) (other : Option ℕ) → IsVolume s
+keeps-moved : RecordsAreKept → (s : State) (node dir : ℕ) (name : List ℕ) (other : Option ℕ)
+    → IsVolume s
     → other_at s node dir name ≡ other
     → (node ≡ root → ⊥) → is_folder_at s dir ≡ true → reaches s dir node ≡ false
     → is_other other (λ x. is_folder_at s x && has_entries s x) ≡ false
@@ -180,22 +183,22 @@ keeps-moved : (s : State) (node dir : ℕ) (name : List ℕ) (other : Option ℕ
       next = s.next;
       records = altered node (at_place dir name) (without other s.records);
     })
-keeps-moved s node dir name None v is not_root folder off empty =
-    keeps-move_none s node dir name v is not_root folder off
-keeps-moved s node dir name (Some x) v is not_root folder off empty =
-    keeps-move_some s x node dir name v is folder empty not_root off
+keeps-moved laws s node dir name None v is not_root folder off empty =
+    keeps-move_none laws s node dir name v is not_root folder off
+keeps-moved laws s node dir name (Some x) v is not_root folder off empty =
+    keeps-move_some laws s x node dir name v is folder empty not_root off
 
 -- an accepted move leaves a volume
-pub keeps-move : (s : State) (node dir : ℕ) (name : List ℕ) (clobber : Bool)
+pub keeps-move : RecordsAreKept → (s : State) (node dir : ℕ) (name : List ℕ) (clobber : Bool)
     → IsVolume s → refused s (Move node dir name clobber) ≡ None
     → IsVolume (after s (Move node dir name clobber))
-keeps-move s node dir name clobber v h =
+keeps-move laws s node dir name clobber v h =
     let rows = none_holds (refusals s (Move node dir name clobber)) h in
     let differs : node ≡ root → ⊥ = let r = rows.1.0 in grind (arith, nat_tests) in
     record {
-      numbered = IsNumbered-altered s (other_at s node dir name) node (at_place dir name) v.numbered
-          (accepted_number s (Move node dir name clobber) h);
-      tree = keeps-moved s node dir name (other_at s node dir name) v refl differs
+      numbered = IsNumbered-altered laws s (other_at s node dir name) node (at_place dir name)
+          v.numbered (accepted_number s (Move node dir name clobber) h);
+      tree = keeps-moved laws s node dir name (other_at s node dir name) v refl differs
           (is_folder-from_tests (kind_at s dir) rows.1.1.0 rows.1.1.1.0) rows.1.1.1.1.0
           rows.1.1.1.1.1.1.1.0;
       named = All-kept (λ e. HasOwnNames e.1.attrs) node
@@ -204,29 +207,30 @@ keeps-move s node dir name clobber v h =
     }
 
 -- an accepted write leaves a volume
-pub keeps-write : (s : State) (node size : ℕ) (time : ℤ) → IsVolume s
+pub keeps-write : RecordsAreKept → (s : State) (node size : ℕ) (time : ℤ) → IsVolume s
     → refused s (Write node size time) ≡ None → IsVolume (after s (Write node size time))
-keeps-write s node size time v h =
+keeps-write laws s node size time v h =
     let rows = none_holds (refusals s (Write node size time)) h in
     let file = rows.1.1.0 in
     let differs : eqb node root ≡ false = rows.1.0 in
     record {
-      numbered = IsNumbered-altered s None node (written size time) v.numbered
+      numbered = IsNumbered-altered laws s None node (written size time) v.numbered
           (accepted_number s (Write node size time) h);
-      tree = IsTree-kept s s.limit (s.number + 1) s.next node (written size time) v.tree (λ r. refl)
-          (λ r. refl) (λ r. refl) (λ r is folder. absurd (let clash : is_folder_at s node ≡ true =
+      tree = IsTree-kept laws s s.limit (s.number + 1) s.next node (written size time) v.tree
+          (λ r. refl) (λ r. refl) (λ r. refl)
+          (λ r is folder. absurd (let clash : is_folder_at s node ≡ true =
           grind (arith, nat_tests) in let no : ⊥ = cc in no));
       named = All-kept (λ e. HasOwnNames e.1.attrs) node (written size time) s.records
           (λ e h. h) v.named;
     }
 
 -- attributes are no part of a tree
-pub keeps-attrs : (s : State) (node : ℕ) (f : Record → Attributes)
+pub keeps-attrs : RecordsAreKept → (s : State) (node : ℕ) (f : Record → Attributes)
     → ((r : Record) → HasOwnNames r.attrs → HasOwnNames (f r)) → IsVolume s → s.number < s.limit
     → IsVolume (changed s (altered node (λ r. with_attrs (f r) r) s.records))
-keeps-attrs s node f own v more = record {
-  numbered = IsNumbered-altered s None node (λ r. with_attrs (f r) r) v.numbered more;
-  tree = IsTree-kept s s.limit (s.number + 1) s.next node (λ r. with_attrs (f r) r) v.tree
+keeps-attrs laws s node f own v more = record {
+  numbered = IsNumbered-altered laws s None node (λ r. with_attrs (f r) r) v.numbered more;
+  tree = IsTree-kept laws s s.limit (s.number + 1) s.next node (λ r. with_attrs (f r) r) v.tree
       (λ r. refl) (λ r. refl) (λ r. refl) (λ r is folder. v.tree.sizes node r is folder);
   named = All-kept (λ e. HasOwnNames e.1.attrs) node (λ r. with_attrs (f r) r) s.records
       (λ e h. own e.1 h) v.named;
@@ -246,16 +250,16 @@ free-create s new h =
     none (Some x) e = cc
 
 -- an accepted move finds what the entries need of it
-pub can-move : (s : State) (node dir : ℕ) (name : List ℕ) (clobber : Bool)
+pub can-move : RecordsAreKept → (s : State) (node dir : ℕ) (name : List ℕ) (clobber : Bool)
     → IsVolume s → refused s (Move node dir name clobber) ≡ None
     → CanMove s.records node dir name (other_at s node dir name)
-can-move s node dir name clobber v h =
+can-move laws s node dir name clobber v h =
     let rows = none_holds (refusals s (Move node dir name clobber)) h in
     record {
       apart = v.tree.apart;
       there = some (record_at s node) refl rows.0 rows.1.0;
       other_is = refl;
-      stays_apart = (keeps-move s node dir name clobber v h).tree.apart;
+      stays_apart = (keeps-move laws s node dir name clobber v h).tree.apart;
     }
   where
     some : (o : Option Record) → record_at s node ≡ o → is_none (kind_at s node) ≡ false
@@ -264,23 +268,25 @@ can-move s node dir name clobber v h =
     some (Some r) is k l = rw is refl
 
 -- each accepted change leaves a volume
-pub keeps-all : NamesStayApart → ChangesKeepTrees
-keeps-all own s (Create dir name kind size time) v h = keeps-create s
+pub keeps-all : NamesStayApart → RecordsAreKept → ChangesKeepTrees
+keeps-all own laws s (Create dir name kind size time) v h = keeps-create laws s
     (record { dir = dir; name = name; kind = kind; size = size; time = time; attrs = [] }) refl v h
-keeps-all own s (Remove node) v h = keeps-remove s node v h
-keeps-all own s (Move node dir name clobber) v h = keeps-move s node dir name clobber v h
-keeps-all own s (Write node size time) v h = keeps-write s node size time v h
-keeps-all own s (SetAttr node attr value) v h = keeps-attrs s node (λ r. with_attr r.attrs attr value)
+keeps-all own laws s (Remove node) v h = keeps-remove laws s node v h
+keeps-all own laws s (Move node dir name clobber) v h = keeps-move laws s node dir name clobber v h
+keeps-all own laws s (Write node size time) v h = keeps-write laws s node size time v h
+keeps-all own laws s (SetAttr node attr value) v h =
+    keeps-attrs laws s node (λ r. with_attr r.attrs attr value)
     (λ r h. own.set r.attrs attr value h) v (accepted_number s (SetAttr node attr value) h)
-keeps-all own s (RemoveAttr node attr) v h = keeps-attrs s node (λ r. without_attr r.attrs attr)
+keeps-all own laws s (RemoveAttr node attr) v h =
+    keeps-attrs laws s node (λ r. without_attr r.attrs attr)
     (λ r h. own.removed r.attrs attr h) v (accepted_number s (RemoveAttr node attr) h)
 
 -- the record of a node that isn't the one taken away
-look-without : (es : Entries) (p : Option ℕ) (x : ℕ) → (p ≡ Some x → ⊥)
+look-without : RecordsAreKept → (es : Entries) (p : Option ℕ) (x : ℕ) → (p ≡ Some x → ⊥)
     → lookup (nat_eq x) (without p es) ≡ lookup (nat_eq x) es
-look-without es None x off = refl
-look-without es (Some y) x off =
-    let l = lookup-filter es y x in
+look-without laws es None x off = refl
+look-without laws es (Some y) x off =
+    let l = laws.found.removed es y x in
     let differs : x ≡ y → ⊥ = λ e. off (ap Some (sym e)) in
     grind (arith, nat_tests)
 
@@ -296,9 +302,9 @@ other-differs node None h = cc
 other-differs node (Some x) h = grind (arith, nat_tests)
 
 -- a node that a change doesn't touch keeps its record
-pub untouched-all : UntouchedStay
-untouched-all s (Create dir name kind size time) n v h off =
-    let l = lookup-push s.records s.next (record {
+pub untouched-all : RecordsAreKept → UntouchedStay
+untouched-all laws s (Create dir name kind size time) n v h off =
+    let l = laws.found.added s.records s.next (record {
       dir = dir;
       name = name;
       kind = kind;
@@ -307,54 +313,55 @@ untouched-all s (Create dir name kind size time) n v h off =
       attrs = [];
     }) n v.numbered.below in
     let differs = off.0 in grind (arith, nat_tests)
-untouched-all s (Remove node) n v h off =
-    let l = lookup-filter s.records node n in
+untouched-all laws s (Remove node) n v h off =
+    let l = laws.found.removed s.records node n in
     let differs = off.0 in
     grind (arith, nat_tests)
-untouched-all s (Move node dir name clobber) n v h off =
-    let l = lookup-altered (without (other_at s node dir name) s.records) node
+untouched-all laws s (Move node dir name clobber) n v h off =
+    let l = laws.found.altered (without (other_at s node dir name) s.records) node
     (at_place dir name) n in
-    let k = look-without s.records (other_at s node dir name) n
+    let k = look-without laws s.records (other_at s node dir name) n
     (off-option (other_at s node dir name) n off.1) in
     let differs = off.0 in grind (arith, nat_tests)
-untouched-all s (Write node size time) n v h off =
-    let l = lookup-altered s.records node (written size time) n in
+untouched-all laws s (Write node size time) n v h off =
+    let l = laws.found.altered s.records node (written size time) n in
     let differs = off.0 in
     grind (arith, nat_tests)
-untouched-all s (SetAttr node attr value) n v h off =
-    let l = lookup-altered s.records node (set_attr attr value) n in
+untouched-all laws s (SetAttr node attr value) n v h off =
+    let l = laws.found.altered s.records node (set_attr attr value) n in
     let differs = off.0 in
     grind (arith, nat_tests)
-untouched-all s (RemoveAttr node attr) n v h off =
-    let l = lookup-altered s.records node (remove_attr attr) n in
+untouched-all laws s (RemoveAttr node attr) n v h off =
+    let l = laws.found.altered s.records node (remove_attr attr) n in
     let differs = off.0 in
     grind (arith, nat_tests)
 
 -- the record that is at the node of a change afterwards
-pub record-left : (s : State) (c : Change) → IsVolume s
+pub record-left : RecordsAreKept → (s : State) (c : Change) → IsVolume s
     → record_at (after s c) (node_of s c) ≡ record_left s c
-record-left s (Create dir name kind size time) v =
+record-left laws s (Create dir name kind size time) v =
     let new : Record =
     record { dir = dir; name = name; kind = kind; size = size; time = time; attrs = [] } in
-    let l = lookup-push s.records s.next new s.next v.numbered.below in grind (arith, nat_tests)
-record-left s (Remove node) v =
-    let l = lookup-filter s.records node node in
+    let l = laws.found.added s.records s.next new s.next v.numbered.below in
     grind (arith, nat_tests)
-record-left s (Move node dir name clobber) v =
-    let l = lookup-altered (without (other_at s node dir name) s.records) node
+record-left laws s (Remove node) v =
+    let l = laws.found.removed s.records node node in
+    grind (arith, nat_tests)
+record-left laws s (Move node dir name clobber) v =
+    let l = laws.found.altered (without (other_at s node dir name) s.records) node
     (at_place dir name) node in
-    let k = look-without s.records (other_at s node dir name) node
+    let k = look-without laws s.records (other_at s node dir name) node
     (other-differs node (node_in s.records dir name)) in
     let j = ap (option_map (at_place dir name)) k in
     grind (arith, nat_tests)
-record-left s (Write node size time) v =
-    let l = lookup-altered s.records node (written size time) node in
+record-left laws s (Write node size time) v =
+    let l = laws.found.altered s.records node (written size time) node in
     grind (arith, nat_tests)
-record-left s (SetAttr node attr value) v =
-    let l = lookup-altered s.records node (set_attr attr value) node in
+record-left laws s (SetAttr node attr value) v =
+    let l = laws.found.altered s.records node (set_attr attr value) node in
     grind (arith, nat_tests)
-record-left s (RemoveAttr node attr) v =
-    let l = lookup-altered s.records node (remove_attr attr) node in
+record-left laws s (RemoveAttr node attr) v =
+    let l = laws.found.altered s.records node (remove_attr attr) node in
     grind (arith, nat_tests)
 
 -- the other node at a place is not the node itself
@@ -363,17 +370,18 @@ gone-from node None n h e = cc
 gone-from node (Some x) n h e = grind (arith, nat_tests)
 
 -- the node that a move takes away is another one, and has no record afterwards
-pub clobbered-go : ClobberedGo
-clobbered-go s (Create dir name kind size time) n v is = cc
-clobbered-go s (Remove node) n v is = cc
-clobbered-go s (Write node size time) n v is = cc
-clobbered-go s (SetAttr node attr value) n v is = cc
-clobbered-go s (RemoveAttr node attr) n v is = cc
-clobbered-go s (Move node dir name clobber) n v is =
+pub clobbered-go : RecordsAreKept → ClobberedGo
+clobbered-go laws s (Create dir name kind size time) n v is = cc
+clobbered-go laws s (Remove node) n v is = cc
+clobbered-go laws s (Write node size time) n v is = cc
+clobbered-go laws s (SetAttr node attr value) n v is = cc
+clobbered-go laws s (RemoveAttr node attr) n v is = cc
+clobbered-go laws s (Move node dir name clobber) n v is =
     let differs = gone-from node (node_in s.records dir name) n is in (
       differs,
-      rw is (let l = lookup-altered (filter (λ e. not (eqb e.0 n)) s.records) node
-          (at_place dir name) n in let k = lookup-filter s.records n n in grind (arith, nat_tests)),
+      rw is (let l = laws.found.altered (filter (λ e. not (eqb e.0 n)) s.records) node
+          (at_place dir name) n in let k = laws.found.removed s.records n n in
+          grind (arith, nat_tests)),
     )
 
 -- the other node at a place is the one that was found there
@@ -382,10 +390,10 @@ found-at node None x e = cc
 found-at node (Some y) x e = grind (arith, nat_tests)
 
 -- the other node at a place has a record
-pub other-there : (s : State) (node dir : ℕ) (name : List ℕ) (x : ℕ) → IsVolume s
+pub other-there : RecordsAreKept → (s : State) (node dir : ℕ) (name : List ℕ) (x : ℕ) → IsVolume s
     → other_at s node dir name ≡ Some x → record_at s x ≡ None → ⊥
-other-there s node dir name x v is none =
-    let there = node_in-some s.records dir name x v.numbered.rise
+other-there laws s node dir name x v is none =
+    let there = laws.places.some s.records dir name x v.numbered.rise
     (found-at node (node_in s.records dir name) x is) in
     let at = there.1 in
     cc

@@ -8,7 +8,7 @@ use Rattle.lq_value.specs.declared.refusal.Refusal.{Refusal}
 use Rattle.lq_value.specs.declared.refusal.Refusal.TheVariants.{NoNode, NotFolder, Reserved, WouldLoop, Exists, KindClash, NotEmpty, Exhausted}
 use Rattle.lq_value.specs.Refusal.{first_refusal}
 use Rattle.lq_volume.specs.declared.change.Change.TheVariants.{Move}
-use Rattle.lq_volume.specs.Kind.{is_folder}
+use Rattle.lq_volume_entries.specs.Kind.{is_folder}
 use Rattle.lq_volume.specs.State.{State, root, kind_at, is_folder_at, has_entries, reaches}
 use Rattle.lq_volume.specs.Change.{differ, is_file_at, is_full, is_other, other_at, refused}
 

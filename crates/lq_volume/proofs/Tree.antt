@@ -8,10 +8,10 @@ use Rattle.std.proofs.lemmas.Bool.{cases_eq}
 use Rattle.std.proofs.lemmas.Slice.Eq.{bytes_eq-Decides}
 use Rattle.lq_value.specs.declared.kind.Kind.{Kind}
 use Rattle.lq_value.specs.declared.kind.Kind.TheVariants.{Folder}
-use Rattle.lq_volume.specs.Kind.{is_folder}
+use Rattle.lq_volume_entries.specs.Kind.{is_folder}
 use Rattle.lq_volume.specs.State.{State, Record, root, record_at, is_folder_at, dir_of, reaches, has_entries, is_taken, IsNumbered, IsTree}
 use Rattle.lq_volume.specs.Change.{at_place, altered}
-use Rattle.lq_volume.proofs.RecordLemmas.{lookup-filter, lookup-altered, lookup-push, lookup-above, fails-lookup}
+use Rattle.lq_volume_entries.specs.Laws.{RecordsAreKept}
 use Rattle.lq_volume.proofs.Climbs.{climbs-sound, climbs-complete, Climb-short, Climb-avoid, Climb-more, Climb-childless, Climb-moved, Climb-within}
 use Rattle.lq_volume.specs.Walk.{Climb, ReachesAll}
 
@@ -40,12 +40,13 @@ node-climb s n r t is =
     (c.0, c.2)
 
 -- and a walk is found
-climb-reaches : (s : State) (n k : ℕ) → record_at s root ≡ None → Climb (dir_of s.records) root k n
+climb-reaches : RecordsAreKept → (s : State) (n k : ℕ) → record_at s root ≡ None
+    → Climb (dir_of s.records) root k n
     → reaches s n root ≡ true
-climb-reaches s n k none c =
+climb-reaches laws s n k none c =
     let top : dir_of s.records root ≡ None = ap (option_map (λ (r : Record). r.dir)) none in
     climbs-complete (length s.records) k (dir_of s.records) root n
-    (Climb-short k s.records root n top c) c
+    (Climb-short laws k s.records root n top c) c
 
 -- a node with a record is in that record's folder
 pub dir_of-is : (s : State) (n : ℕ) (r : Record) → record_at s n ≡ Some r
@@ -67,17 +68,17 @@ abbrev pub IsChildless : State → ℕ → Type 0
 IsChildless s x = (n : ℕ) (r : Record) → record_at s n ≡ Some r → r.dir ≡ x → ⊥
 
 -- where the test of a removal and a move fails, nothing is in the node
-pub childless-from_test : (s : State) (x : ℕ) → IsTree s
+pub childless-from_test : RecordsAreKept → (s : State) (x : ℕ) → IsTree s
     → (is_folder_at s x && has_entries s x) ≡ false → IsChildless s x
-childless-from_test s x t h n r is e =
+childless-from_test laws s x t h n r is e =
     let folder : is_folder_at s x ≡ true = rw (← e) (t.folders n r is) in
     let none : has_entries s x ≡ false = cc in
-    let fails = fails-lookup (λ v. v.dir == x) s.records n r none is in
+    let fails = laws.found.failing (λ v. v.dir == x) s.records n r none is in
     grind (arith, nat_tests)
 
 -- one node less
-module _ (s : State) (limit number next x : ℕ) (t : IsTree s) (childless : IsChildless s x)
-    (no_root : x ≡ root → ⊥) where
+module _ (laws : RecordsAreKept) (s : State) (limit number next x : ℕ) (t : IsTree s)
+    (childless : IsChildless s x) (no_root : x ≡ root → ⊥) where
   -- the state without the node
   abbrev less : State
   less = record {
@@ -89,11 +90,11 @@ module _ (s : State) (limit number next x : ℕ) (t : IsTree s) (childless : IsC
 
   -- a record there is another node's
   less-other : (n : ℕ) (r : Record) → record_at less n ≡ Some r → n ≡ x → ⊥
-  less-other n r is e = let l = lookup-filter s.records x n in grind (arith, nat_tests)
+  less-other n r is e = let l = laws.found.removed s.records x n in grind (arith, nat_tests)
 
   -- each other node has its record
   less-same : (n : ℕ) → (n ≡ x → ⊥) → record_at less n ≡ record_at s n
-  less-same n differs = let l = lookup-filter s.records x n in grind (arith, nat_tests)
+  less-same n differs = let l = laws.found.removed s.records x n in grind (arith, nat_tests)
 
   -- a record there was there before
   less-old : (n : ℕ) (r : Record) → record_at less n ≡ Some r → record_at s n ≡ Some r
@@ -122,7 +123,7 @@ module _ (s : State) (limit number next x : ℕ) (t : IsTree s) (childless : IsC
         (t.folders n r (less-old n r is));
     climb = λ n r is.
         let c = node-climb s n r t (less-old n r is) in
-        climb-reaches less n c.0 less-top
+        climb-reaches laws less n c.0 less-top
         (Climb-avoid (dir_of s.records) (dir_of less.records) root x c.0 n less-dir
         (λ j lt d. Climb-childless (dir_of s.records) x j n less-none (less-other n r is) d) c.1);
     apart = λ m n q r a b e f. t.apart m n q r (less-old m q a) (less-old n r b) e f;
@@ -131,8 +132,8 @@ module _ (s : State) (limit number next x : ℕ) (t : IsTree s) (childless : IsC
   }
 
 -- one node at another place
-module _ (s : State) (limit number next node dir : ℕ) (name : List ℕ) (t : IsTree s)
-    (no_root : node ≡ root → ⊥) where
+module _ (laws : RecordsAreKept) (s : State) (limit number next node dir : ℕ) (name : List ℕ)
+    (t : IsTree s) (no_root : node ≡ root → ⊥) where
   -- the state with the node at its new place
   abbrev moved : State
   moved = record {
@@ -145,7 +146,7 @@ module _ (s : State) (limit number next node dir : ℕ) (name : List ℕ) (t : I
   -- each other node has its record
   moved-same : (n : ℕ) → (n ≡ node → ⊥) → record_at moved n ≡ record_at s n
   moved-same n differs =
-      let l = lookup-altered s.records node (at_place dir name) n in
+      let l = laws.found.altered s.records node (at_place dir name) n in
       grind (arith, nat_tests)
 
   -- a record as it was
@@ -153,7 +154,7 @@ module _ (s : State) (limit number next node dir : ℕ) (name : List ℕ) (t : I
       → (v : Record) × (record_at s n ≡ Some v) × (v.kind ≡ r.kind) × (v.size ≡ r.size)
       × (n ≡ node → (r.dir ≡ dir) × (r.name ≡ name)) × ((n ≡ node → ⊥) → v ≡ r)
   moved-old n r is =
-      at (record_at s n) refl (sym (lookup-altered s.records node (at_place dir name) n) ∙ is)
+      at (record_at s n) refl (sym (laws.found.altered s.records node (at_place dir name) n) ∙ is)
     where
       at : (o : Option Record) → record_at s n ≡ o
           → cond (eqb n node) (option_map (at_place dir name) (record_at s n)) (record_at s n)
@@ -195,10 +196,10 @@ module _ (s : State) (limit number next node dir : ℕ) (name : List ℕ) (t : I
       kinds : (o : Option Record) → record_at s d ≡ o
           → option_map (λ r. r.kind) (record_at moved d) ≡ option_map (λ r. r.kind) (record_at s d)
       kinds None e =
-          let l = lookup-altered s.records node (at_place dir name) d in
+          let l = laws.found.altered s.records node (at_place dir name) d in
           grind (arith, nat_tests)
       kinds (Some v) e =
-          let l = lookup-altered s.records node (at_place dir name) d in
+          let l = laws.found.altered s.records node (at_place dir name) d in
           grind (arith, nat_tests)
 
   -- the root has no record
@@ -219,7 +220,7 @@ module _ (s : State) (limit number next node dir : ℕ) (name : List ℕ) (t : I
   moved-climb folder below r is =
       let c = folder-climb s dir t folder in
       let top : dir_of s.records root ≡ None = ap (option_map (λ (v : Record). v.dir)) t.no_root in
-      let short = Climb-short c.0 s.records root dir top c.1 in
+      let short = Climb-short laws c.0 s.records root dir top c.1 in
       let off = λ (j : ℕ) (lt : j < c.0) (d : Climb (dir_of s.records) node j dir). let hit =
       climbs-complete (length s.records) j (dir_of s.records) node dir (omega arith) d in
       let clash : true ≡ false = sym hit ∙ below in
@@ -250,7 +251,7 @@ module _ (s : State) (limit number next node dir : ℕ) (name : List ℕ) (t : I
       gone e d is =
           let v = record-of s node d is in
           let w = v.1 in
-          let l = lookup-altered s.records node (at_place dir name) node in
+          let l = laws.found.altered s.records node (at_place dir name) node in
           grind (arith, nat_tests)
 
       there : (o : Option Record)
@@ -278,7 +279,7 @@ module _ (s : State) (limit number next node dir : ℕ) (name : List ℕ) (t : I
       | inr differs ↦ rw (moved-kind r.dir, ← o.5 differs) (t.folders n o.0 o.1)
     ];
     climb = λ n r is. let c = moved-any folder below n r is in
-        climb-reaches moved n c.0 moved-top c.1;
+        climb-reaches laws moved n c.0 moved-top c.1;
     apart = λ m n q r a b e f. let o = moved-old m q a in
         let p = moved-old n r b in
         elim (cases_eq m node) [
@@ -305,8 +306,9 @@ module _ (s : State) (limit number next node dir : ℕ) (name : List ℕ) (t : I
   }
 
 -- one node's record altered, which keeps its place and kind
-module _ (s : State) (limit number next node : ℕ) (f : Record → Record) (t : IsTree s)
-    (dirs : (r : Record) → (f r).dir ≡ r.dir) (names : (r : Record) → (f r).name ≡ r.name)
+module _ (laws : RecordsAreKept) (s : State) (limit number next node : ℕ) (f : Record → Record)
+    (t : IsTree s) (dirs : (r : Record) → (f r).dir ≡ r.dir)
+    (names : (r : Record) → (f r).name ≡ r.name)
     (kinds : (r : Record) → (f r).kind ≡ r.kind) (empty : (r : Record) → record_at s node ≡ Some r
     → is_folder r.kind ≡ true → (f r).size ≡ 0) where
   -- the state with one record altered
@@ -317,7 +319,7 @@ module _ (s : State) (limit number next node : ℕ) (f : Record → Record) (t :
   kept-old : (n : ℕ) (r : Record) → record_at kept n ≡ Some r
       → (v : Record) × (record_at s n ≡ Some v) × (v.dir ≡ r.dir) × (v.name ≡ r.name)
       × (v.kind ≡ r.kind) × (is_folder r.kind ≡ true → r.size ≡ 0)
-  kept-old n r is = at (record_at s n) refl (sym (lookup-altered s.records node f n) ∙ is)
+  kept-old n r is = at (record_at s n) refl (sym (laws.found.altered s.records node f n) ∙ is)
     where
       at : (o : Option Record) → record_at s n ≡ o
           → cond (eqb n node) (option_map f (record_at s n)) (record_at s n) ≡ Some r
@@ -360,9 +362,9 @@ module _ (s : State) (limit number next node : ℕ) (f : Record → Record) (t :
     where
       same : (o : Option Record) → record_at s d ≡ o
           → option_map (λ r. r.kind) (record_at kept d) ≡ option_map (λ r. r.kind) (record_at s d)
-      same None e = let l = lookup-altered s.records node f d in grind (arith, nat_tests)
+      same None e = let l = laws.found.altered s.records node f d in grind (arith, nat_tests)
       same (Some v) e =
-          let l = lookup-altered s.records node f d in
+          let l = laws.found.altered s.records node f d in
           let k = kinds v in
           grind (arith, nat_tests)
 
@@ -370,7 +372,7 @@ module _ (s : State) (limit number next node : ℕ) (f : Record → Record) (t :
   kept-dir : (n d : ℕ) → dir_of s.records n ≡ Some d → dir_of kept.records n ≡ Some d
   kept-dir n d is =
       let v = record-of s n d is in
-      let l = lookup-altered s.records node f n in
+      let l = laws.found.altered s.records node f n in
       let e = v.1 in
       let k = dirs v.0 in
       let there : option_map (λ (r : Record). r.dir) (record_at kept n) ≡ Some v.0.dir =
@@ -380,7 +382,7 @@ module _ (s : State) (limit number next node : ℕ) (f : Record → Record) (t :
   -- the root has no record
   kept-top : record_at kept root ≡ None
   kept-top =
-      let l = lookup-altered s.records node f root in
+      let l = laws.found.altered s.records node f root in
       let none = t.no_root in
       grind (arith, nat_tests)
 
@@ -392,7 +394,7 @@ module _ (s : State) (limit number next node : ℕ) (f : Record → Record) (t :
     climb = λ n r is.
         let o = kept-old n r is in
         let c = node-climb s n o.0 t o.1 in
-        climb-reaches kept n c.0 kept-top
+        climb-reaches laws kept n c.0 kept-top
         (Climb-more (dir_of s.records) (dir_of kept.records) root c.0 n kept-dir c.1);
     apart = λ m n q r a b e f.
         let o = kept-old m q a in
@@ -403,7 +405,8 @@ module _ (s : State) (limit number next node : ℕ) (f : Record → Record) (t :
   }
 
 -- one node more
-module _ (s : State) (limit number next : ℕ) (v : Record) (n : IsNumbered s) (t : IsTree s) where
+module _ (laws : RecordsAreKept) (s : State) (limit number next : ℕ) (v : Record)
+    (n : IsNumbered s) (t : IsTree s) where
   -- the state with one record more, under the next node
   abbrev more : State
   more = record {
@@ -415,15 +418,17 @@ module _ (s : State) (limit number next : ℕ) (v : Record) (n : IsNumbered s) (
 
   -- the new node has its record
   more-here : record_at more s.next ≡ Some v
-  more-here = let l = lookup-push s.records s.next v s.next n.below in grind (arith, nat_tests)
+  more-here = let l = laws.found.added s.records s.next v s.next n.below in grind (arith, nat_tests)
 
   -- it had none before
   more-was : record_at s s.next ≡ None
-  more-was = lookup-above s.records s.next n.below
+  more-was = laws.found.above s.records s.next n.below
 
   -- each other node has its record
   more-same : (k : ℕ) → (k ≡ s.next → ⊥) → record_at more k ≡ record_at s k
-  more-same k differs = let l = lookup-push s.records s.next v k n.below in grind (arith, nat_tests)
+  more-same k differs =
+      let l = laws.found.added s.records s.next v k n.below in
+      grind (arith, nat_tests)
 
   -- each record that was there is there
   more-at : (k : ℕ) (r : Record) → record_at s k ≡ Some r → record_at more k ≡ Some r
@@ -461,11 +466,11 @@ module _ (s : State) (limit number next : ℕ) (v : Record) (n : IsNumbered s) (
     climb = λ k r is. elim (cases_eq k s.next) [
       | inl same ↦
           let c = folder-climb s v.dir t folder in
-          climb-reaches more k (suc c.0) more-top
+          climb-reaches laws more k (suc c.0) more-top
           (v.dir, rw same (dir_of-is more s.next v more-here), more-climb v.dir c.0 c.1)
       | inr differs ↦
           let c = node-climb s k r t (old k r differs is) in
-          climb-reaches more k c.0 more-top (more-climb k c.0 c.1)
+          climb-reaches laws more k c.0 more-top (more-climb k c.0 c.1)
     ];
     apart = λ m k q r a b e f. elim (cases_eq m s.next) [
       | inl x ↦ elim (cases_eq k s.next) [
@@ -501,19 +506,19 @@ module _ (s : State) (limit number next : ℕ) (v : Record) (n : IsNumbered s) (
 
       taken : (k : ℕ) (r : Record) → record_at s k ≡ Some r → r.dir ≡ v.dir → r.name ≡ v.name → ⊥
       taken k r is e f =
-          let fails = fails-lookup
+          let fails = laws.found.failing
           (λ u. (u.dir == v.dir) && bytes_eq u.name v.name) s.records k r free is in
           let same = (bytes_eq-Decides r.name v.name).1 f in
           grind (arith, nat_tests)
 
 -- in a tree the bounded walk from a folder finds all that any walk does
-pub reaches-all : ReachesAll
-reaches-all s at to t folder = (
+pub reaches-all : RecordsAreKept → ReachesAll
+reaches-all laws s at to t folder = (
   (λ h. let c = climbs-sound (length s.records) (dir_of s.records) to at h in (c.0, c.2)),
   (λ w.
       let c = folder-climb s at t folder in
       let top : dir_of s.records root ≡ None = ap (option_map (λ (r : Record). r.dir)) t.no_root in
-      let short = Climb-short c.0 s.records root at top c.1 in
+      let short = Climb-short laws c.0 s.records root at top c.1 in
       let less = Climb-within (dir_of s.records) root to c.0 w.0 at top c.1 w.1 in
       climbs-complete (length s.records) w.0 (dir_of s.records) to at (omega arith) w.1),
 )

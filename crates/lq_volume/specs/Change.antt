@@ -1,5 +1,5 @@
 -- When a change is refused, and the state after an accepted one.
-use Rattle.std.specs.Prelude.{◌≡◌, ℕ, ℤ, ◌+◌, List, [], ◌∷◌, ◌++◌, Bool, false, not, ◌&&◌, ◌==◌, nat_le, nat_lt, Option, Some, None, is_none, filter, map, option_and_then, if◌then◌else◌}
+use Rattle.std.specs.Prelude.{◌≡◌, ℕ, ◌+◌, List, [], ◌∷◌, ◌++◌, Bool, false, not, ◌&&◌, ◌==◌, nat_le, nat_lt, Option, Some, None, is_none, filter, option_and_then, if◌then◌else◌}
 use Rattle.std.specs.Option.{option_map, option_map_or, option_to_list}
 use Rattle.lq_value.specs.declared.kind.Kind.{Kind}
 use Rattle.lq_value.specs.declared.refusal.Refusal.{Refusal}
@@ -8,8 +8,9 @@ use Rattle.lq_value.specs.Refusal.{first_refusal}
 use Rattle.lq_volume.specs.declared.change.Change.{Change}
 use Rattle.lq_volume.specs.declared.change.Change.TheVariants.{Create, Remove, Move, Write, SetAttr, RemoveAttr}
 use Rattle.lq_value.specs.declared.value.Value.{Value}
-use Rattle.lq_volume_attributes.specs.Attributes.{Attributes, value_of, with_attr, without_attr, is_reserved}
-use Rattle.lq_volume.specs.Kind.{is_folder}
+use Rattle.lq_volume_attributes.specs.Attributes.{value_of, is_reserved}
+use Rattle.lq_volume_entries.specs.Kind.{is_folder}
+pub use Rattle.lq_volume_entries.specs.Edits.{other_than, without, altered_at, altered, at_place, written, with_attrs, set_attr, remove_attr}
 use Rattle.lq_volume.specs.State.{State, Record, root, record_at, kind_at, is_folder_at, has_entries, is_taken, node_in, reaches}
 
 -- whether the node is there and isn't a folder
@@ -19,11 +20,6 @@ is_file_at s node = option_map_or (λ k. not (is_folder k)) (kind_at s node) fal
 -- whether the volume accepts no further change
 abbrev pub is_full : State → Bool
 is_full s = nat_le s.limit s.number
-
--- the node at a place, if it is another one
-abbrev pub other_than : ℕ → Option ℕ → Option ℕ
-other_than node None = None
-other_than node (Some there) = if there == node then None else Some there
 
 -- the node at this place, if it is another than this one
 abbrev pub other_at : State → ℕ → ℕ → List ℕ → Option ℕ
@@ -127,48 +123,6 @@ refused s c = first_refusal (refusals s c)
 -- no test of the change holds
 abbrev pub IsLawful : State → Change → Type 0
 IsLawful s c = refused s c ≡ None
-
--- the records without a node
-abbrev pub without : Option ℕ → List (ℕ × Record) → List (ℕ × Record)
-without None es = es
-without (Some node) es = filter (λ e. not (e.0 == node)) es
-
--- an entry, with its record altered if it is the entry of this node
-abbrev pub altered_at : ℕ → (Record → Record) → ℕ × Record → ℕ × Record
-altered_at node f e = (e.0, if e.0 == node then f e.1 else e.1)
-
--- the entries, with the record of one node altered
-abbrev pub altered : ℕ → (Record → Record) → List (ℕ × Record) → List (ℕ × Record)
-altered node f es = map (altered_at node f) es
-
--- a record with another place
-abbrev pub at_place : ℕ → List ℕ → Record → Record
-at_place dir name r =
-    record { dir = dir; name = name; kind = r.kind; size = r.size; time = r.time; attrs = r.attrs }
-
--- a record with another size and time
-abbrev pub written : ℕ → ℤ → Record → Record
-written size time r =
-    record { dir = r.dir; name = r.name; kind = r.kind; size = size; time = time; attrs = r.attrs }
-
--- a record with other attributes
-abbrev pub with_attrs : Attributes → Record → Record
-with_attrs attrs r = record {
-  dir = r.dir;
-  name = r.name;
-  kind = r.kind;
-  size = r.size;
-  time = r.time;
-  attrs = attrs;
-}
-
--- a record with one attribute set
-abbrev pub set_attr : List ℕ → Value → Record → Record
-set_attr attr value r = with_attrs (with_attr r.attrs attr value) r
-
--- a record with one attribute removed
-abbrev pub remove_attr : List ℕ → Record → Record
-remove_attr attr r = with_attrs (without_attr r.attrs attr) r
 
 -- the state with one more change counted, and these records
 abbrev pub changed : State → List (ℕ × Record) → State

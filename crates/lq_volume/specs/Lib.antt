@@ -1,15 +1,12 @@
-pub mod Kind
 pub mod State
 pub mod Walk
 pub mod Change
 pub mod Plan
-pub mod Order
-pub mod Places
 pub mod Lookup
 pub mod Seen
 pub mod Result
 pub mod Book
 pub mod Laws
-pub mod Folder
-pub mod NodeHash
 pub use Rattle.lq_volume_attributes.specs.Attributes
+pub use Rattle.lq_volume_entries.specs.Kind
+pub use Rattle.lq_volume_entries.specs.Folder

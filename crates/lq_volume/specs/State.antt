@@ -1,23 +1,15 @@
 -- What a volume holds: its limit, the number of accepted changes, the next node, and the records by
 -- rising node.
-use Rattle.std.specs.Prelude.{ℕ, ℤ, zero, suc, ◌≡◌, ◌+◌, ◌≤◌, ◌<◌, List, [], ◌∷◌, length, Bool, true, false, ◌&&◌, ◌||◌, ◌==◌, nat_eq, Option, Some, None, if◌then◌else◌}
+use Rattle.std.specs.Prelude.{ℕ, ◌≡◌, ◌+◌, ◌≤◌, ◌<◌, List, [], length, Bool, true, false, ◌&&◌, ◌==◌, nat_eq, Option, Some, None, if◌then◌else◌}
 use Rattle.std.specs.Option.{option_map, option_map_or}
 use Rattle.std.specs.List.{list_any, AllByRecursion}
 use Rattle.std.specs.Map.{lookup, values_of}
 use Rattle.std.specs.Str.{bytes_eq}
 use Rattle.lq_value.specs.declared.kind.Kind.{Kind}
 use Rattle.lq_value.specs.declared.kind.Kind.TheVariants.{Folder}
-use Rattle.lq_volume_attributes.specs.Attributes.{Attributes, HasOwnNames}
-use Rattle.lq_volume.specs.Kind.{is_folder}
-
--- an entry, under its node
-pub record Record : Type 0 where
-  pub dir : ℕ
-  pub name : List ℕ
-  pub kind : Kind
-  pub size : ℕ
-  pub time : ℤ
-  pub attrs : Attributes
+use Rattle.lq_volume_attributes.specs.Attributes.{HasOwnNames}
+use Rattle.lq_volume_entries.specs.Kind.{is_folder}
+pub use Rattle.lq_volume_entries.specs.Record.{Record, root, dir_of, climbs, node_in, Rises}
 
 -- what a volume holds
 pub record State : Type 0 where
@@ -25,10 +17,6 @@ pub record State : Type 0 where
   pub number : ℕ
   pub next : ℕ
   pub records : List (ℕ × Record)
-
--- the root has no record
-abbrev pub root : ℕ
-root = 1
 
 -- the record of a node
 abbrev pub record_at : State → ℕ → Option Record
@@ -42,25 +30,9 @@ kind_at s node = if node == root then Some Folder else option_map (λ r. r.kind)
 abbrev pub is_folder_at : State → ℕ → Bool
 is_folder_at s node = option_map_or is_folder (kind_at s node) false
 
--- the folder that contains a node; none for the root
-abbrev pub dir_of : List (ℕ × Record) → ℕ → Option ℕ
-dir_of es node = option_map (λ r. r.dir) (lookup (nat_eq node) es)
-
--- whether a walk up from a node, of at most this many steps, reaches another
-abbrev pub climbs : ℕ → (ℕ → Option ℕ) → ℕ → ℕ → Bool
-climbs zero up to at = at == to
-climbs (suc steps) up to at = (at == to) || option_map_or (climbs steps up to) (up at) false
-
 -- whether a walk up, folder by folder, leads from one node to another: the same node or one above
 abbrev pub reaches : State → ℕ → ℕ → Bool
 reaches s at to = climbs (length s.records) (dir_of s.records) to at
-
--- the node at a place
-abbrev pub node_in : List (ℕ × Record) → ℕ → List ℕ → Option ℕ
-node_in [] dir name = None
-node_in (e ∷ es) dir name =
-    if (e.1.dir == dir) && bytes_eq e.1.name name then Some e.0
-    else node_in es dir name
 
 -- whether the folder contains an entry
 abbrev pub has_entries : State → ℕ → Bool
@@ -73,11 +45,6 @@ is_taken s dir name = list_any (λ r. (r.dir == dir) && bytes_eq r.name name) (v
 -- the volume before any change
 abbrev pub empty_state : ℕ → State
 empty_state limit = record { limit = limit; number = 0; next = 2; records = [] }
-
--- the nodes rise, so none occurs twice
-abbrev pub Rises : List (ℕ × Record) → Type 0
-Rises [] = Unit {0}
-Rises (e ∷ es) = AllByRecursion (λ f. e.0 < f.0) es × Rises es
 
 -- the invariants of a volume's numbers and nodes
 pub record IsNumbered (s : State) : Type 0 where

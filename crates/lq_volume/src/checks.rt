@@ -5,16 +5,16 @@ ghost use Rattle.lq_value.specs.declared.refusal.Refusal.TheVariants.{NoNode, No
 ghost use Rattle.lq_value.specs.Refusal.{first_refusal};
 ghost use Rattle.lq_volume.specs.declared.change.Change.TheVariants.{Remove, Move, Write, SetAttr, RemoveAttr};
 ghost use Rattle.lq_volume_attributes.specs.Attributes.{is_reserved};
-ghost use Rattle.lq_volume.specs.Kind.{is_folder};
+ghost use Rattle.lq_volume_entries.specs.Kind.{is_folder};
 ghost use Rattle.lq_volume.specs.State.{root, record_at, kind_at, is_folder_at, has_entries, reaches, IsVolume};
 ghost use Rattle.lq_volume.specs.Change.{create_refusals, refused, is_file_at, other_at};
 ghost use Rattle.lq_volume.specs.Lookup.{children_refusals};
 ghost use Rattle.lq_volume.specs.Plan.{IsFound};
 
 use crate::planned::Found;
-use crate::stored::Stored;
 use crate::volume::{ROOT, Volume};
 use lq_value::{AttrName, Kind, Name, Refusal, Value};
+use lq_volume_entries::{Stored, records_are_kept};
 
 /// The most bytes of a file: the size is shown as an `i64`.
 const MAX_SIZE: u64 = 9_223_372_036_854_775_807;
@@ -216,6 +216,7 @@ fn other_in<'a>(volume: &'a Volume, moved: u64, dir: u64, name: &Name) -> Option
 {
     // For its clause `volume`.
     let _ = volume.changes();
+    records_are_kept();
     match volume.other_at(moved, dir, name) {
         None => None,
         Some(other) => match volume.record(other) {

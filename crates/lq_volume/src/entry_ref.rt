@@ -3,8 +3,8 @@ ghost use Rattle.std.specs.Prelude.{◌≡◌, None, IfOk, length, slice_get};
 ghost use Rattle.std.specs.Option.{option_map};
 ghost use Rattle.lq_value.specs.Refusal.{IsRefusedBy};
 
-use crate::stored::Stored;
 use lq_value::{AttrName, Kind, Name, Refusal, Value, View};
+use lq_volume_entries::Stored;
 use std::alloc::Global;
 use std::marker::Model;
 

@@ -3,28 +3,36 @@ ghost use Rattle.lq_volume.specs.Laws.{ChangesCount, ChangesKeepTrees, Untouched
 ghost use Rattle.lq_volume.specs.Walk.{ReachesAll};
 
 use lq_volume_attributes::names_stay_apart;
+use lq_volume_entries::records_are_kept;
 
 /// The test whether a node is within another is true exactly where some walk up leads there.
 pub fn walks_are_bounded()
     ensures { ReachesAll }
-{}
+{
+    records_are_kept();
+}
 
 /// The state after an accepted change is again a tree within its limit.
 pub fn accepted_changes_keep_trees()
     ensures { ChangesKeepTrees }
 {
     names_stay_apart();
+    records_are_kept();
 }
 
 /// A node that an accepted change doesn't touch keeps its record.
 pub fn untouched_nodes_stay()
     ensures { UntouchedStay }
-{}
+{
+    records_are_kept();
+}
 
 /// The other node that a move removes is gone afterwards.
 pub fn clobbered_nodes_go()
     ensures { ClobberedGo }
-{}
+{
+    records_are_kept();
+}
 
 /// A change adds one to the number of changes.
 pub fn changes_are_counted()

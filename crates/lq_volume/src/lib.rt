@@ -2,20 +2,16 @@
 //!
 //! Contracts see a volume as a `State` (`specs/State`), which is always a tree. `specs/Change` says
 //! when a change is refused and what the state is after an accepted one; `specs/Lookup` says when a
-//! look-up is refused; `specs/Result` gives the result of a query. Nothing here waits. Begin with
-//! `change`, then `volume`.
+//! look-up is refused; `specs/Result` gives the result of a query. The entries are kept by
+//! lq_volume_entries. Nothing here waits. Begin with `change`, then `volume`.
 #![tactic(auto)]
 
 mod change;
 mod checks;
-mod entries;
 mod entry_ref;
 mod laws;
-mod node_hash;
 mod planned;
-mod records;
 mod seen;
-mod stored;
 mod volume;
 
 pub use change::{Applied, Change};

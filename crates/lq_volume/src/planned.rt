@@ -10,9 +10,9 @@ use crate::checks::{
     check_create, check_move, check_remove, check_remove_attr, check_set_attr, check_write,
 };
 use crate::seen::{Seen, record_of};
-use crate::stored::Stored;
 use crate::volume::Volume;
 use lq_value::Refusal;
+use lq_volume_entries::{Stored, records_are_kept};
 use std::marker::Model;
 
 /// A change that a volume accepts, with the entries that it touches, each looked up once.
@@ -97,6 +97,7 @@ impl<'a> Planned<'a> {
         ensures { option_copied result ≡ record_at (after self.now.before self.now.change)
             (node_of self.now.before self.now.change) }
     {
+        records_are_kept();
         self.after.as_ref()
     }
 
@@ -129,6 +130,7 @@ fn found_by<'a>(volume: &'a Volume, change: &'a Change) -> Result<Found<'a>, Ref
 {
     // For its clause `volume`.
     let _ = volume.changes();
+    records_are_kept();
     match change {
         Change::Create {
             dir,

@@ -6,10 +6,10 @@ ghost use Rattle.lq_volume_attributes.specs.Attributes.{value_of};
 ghost use Rattle.lq_volume.specs.Seen.{seen_of, IsSeen};
 
 use crate::change::Change;
-use crate::stored::Stored;
 use lq_predicate::Row;
 use lq_value::{AttrName, Entry, Field, Name, Refusal, Value, View, same_text};
 use lq_volume_attributes::values_are_found;
+use lq_volume_entries::Stored;
 use std::alloc::Global;
 use std::marker::Model;
 

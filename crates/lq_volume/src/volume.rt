@@ -4,13 +4,12 @@ ghost use Rattle.std.specs.Prelude.{◌≡◌, ◌≤◌, ◌+◌, Some, None, I
 
 use crate::change::{Applied, Change};
 use crate::checks::check_folder;
-use crate::entries::Entries;
 use crate::entry_ref::{EntryRef, Listing};
 use crate::laws::accepted_changes_keep_trees;
 use crate::planned::Planned;
-use crate::stored::Stored;
 use lq_predicate::Predicate;
 use lq_value::{Entry, Kind, Name, Refusal};
+use lq_volume_entries::{Entries, Stored, records_are_kept};
 use std::alloc::Global;
 use std::marker::Model;
 
@@ -71,7 +70,7 @@ impl Volume {
     ghost use Rattle.lq_volume.specs.State.{empty_state, root, record_at, kind_at, has_entries, is_taken, node_in, reaches, IsVolume};
     ghost use Rattle.lq_volume.specs.Change.{refused, after, node_of, other_at, is_full, IsLawful};
     ghost use Rattle.lq_volume.specs.Lookup.{find_refusals, entry_refusals, children_refusals, path_refusals, listed};
-    ghost use Rattle.lq_volume.specs.Folder.{AreChildren, Leads};
+    ghost use Rattle.lq_volume_entries.specs.Folder.{AreChildren, Leads};
     ghost use Rattle.lq_volume.specs.Result.{result_of};
 
     /// A volume with the root alone. It accepts at most `limit` changes, 1 to 1,000,000,000,000.
@@ -247,6 +246,7 @@ impl Volume {
         ensures err { OnErr result (self.new ≡ self.old) }
     {
         accepted_changes_keep_trees();
+        records_are_kept();
         let applied = Applied {
             change: self.changes + 1,
             node: self.node_of(change),

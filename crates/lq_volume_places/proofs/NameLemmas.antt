@@ -86,7 +86,9 @@ named-in p d full = at (get nat_cmp p.folders d) refl full
 pub nameless-is : (p : Places) (d : ℕ) (has : Bool) → has ≡ has_names p d
     → (has ≡ false) ↔ IsNameless p d
 nameless-is p d has is = (
-  (λ h. let empty = sym is ∙ h in ((λ k. unnamed-first p d k empty), (λ n. unnamed-other p d n empty))),
+  (λ h.
+      let empty = sym is ∙ h in
+      ((λ k. unnamed-first p d k empty), (λ n. unnamed-other p d n empty))),
   (λ w. none w (has_names p d) refl),
 )
   where

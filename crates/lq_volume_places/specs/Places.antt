@@ -16,7 +16,8 @@ first_in places dir hash =
 -- the node under a name in a folder
 abbrev pub other_in : Places → ℕ → List ℕ → Option ℕ
 other_in places dir name =
-    option_and_then (λ names. get (slice_cmp nat_cmp) names.others name) (get nat_cmp places.folders dir)
+    option_and_then (λ names. get (slice_cmp nat_cmp) names.others name)
+    (get nat_cmp places.folders dir)
 
 -- whether a folder has a name
 abbrev pub has_names : Places → ℕ → Bool

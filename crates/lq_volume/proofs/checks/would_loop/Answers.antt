@@ -2,7 +2,7 @@ use Rattle.std.proofs.Common.{◌≡◌, ◌∙◌, sym, ap, false}
 use Rattle.std.specs.Prelude.{Option}
 use Rattle.std.specs.Option.{option_map_or}
 use Rattle.lq_value.specs.declared.kind.Kind.{Kind}
-use Rattle.lq_volume.specs.Kind.{is_folder}
+use Rattle.lq_volume_entries.specs.Kind.{is_folder}
 use Rattle.lq_volume.specs.State.{is_folder_at}
 use Rattle.lq_volume.proofs.Tree.{reaches-file}
 use Rattle.lq_volume.proofs.checks.would_loop.Goals as goal

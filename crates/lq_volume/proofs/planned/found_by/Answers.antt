@@ -1,5 +1,4 @@
 use Rattle.std.proofs.Common.{sym, refl}
-use Rattle.lq_volume.proofs.RecordLemmas.{lookup-above}
 use Rattle.lq_volume.proofs.planned.found_by.Goals as goal
 
 -- no record has the next node yet
@@ -11,7 +10,7 @@ returns-in_ok-check_create-in-Create-clause-found c =
     rw c.in-Create.is (record {
       volume = volume;
       lawful = c.in_ok-check_create-in-Create.ensures.ok;
-      stored = sym (lookup-above s.records s.next volume.numbered.below);
+      stored = sym (c.records_are_kept.ensures.found.above s.records s.next volume.numbered.below);
       other = refl;
       gone = tt;
     })

@@ -4,4 +4,5 @@ use Rattle.lq_volume.proofs.planned.Planned.seen_after.Goals as goal
 
 pub returns : goal.returns
 returns c = rw (← c.self.view_is) (c.as_ref.ensures.value
-    ∙ (c.self.invariant.after ∙ sym (record-left _ _ c.self.invariant.volume)))
+    ∙ (c.self.invariant.after
+    ∙ sym (record-left c.records_are_kept.ensures _ _ c.self.invariant.volume)))

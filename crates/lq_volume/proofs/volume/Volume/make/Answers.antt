@@ -36,13 +36,14 @@ shift-requires c =
     let may = subst (λ (s : State). refused s c.args.change.now ≡ None)
     (sym c.self.view_is) c.requires in
     rw (c.other_at-other.ensures, ← c.self.view_is)
-    (can-move _ _ _ _ _ c.self.invariant (rw c.in-Move.is at may))
+    (can-move c.records_are_kept.ensures _ _ _ _ _ c.self.invariant (rw c.in-Move.is at may))
 
 -- each change leaves the state that its definition says
 pub invariant_of-self-2 : goal.invariant_of-self-2
 invariant_of-self-2 c =
     let may = subst (λ (s : State). refused s c.args.change.now ≡ None)
     (sym c.self.view_is) c.requires in
+    let keeps = c.accepted_changes_keep_trees.ensures in
     elim c.match-change.branch [
       | in-Create+in_ok-copy-in-Create+in_ok-add-in-Create w ↦ rw (
         w.self-inside-is,
@@ -50,25 +51,25 @@ invariant_of-self-2 c =
         w.new-record.ensures,
         w.in_ok-copy-in-Create.ensures.value,
       )
-          (c.accepted_changes_keep_trees.ensures _ (Create _ _ _ _ _) c.self.invariant (rw w.in-Create.is at may))
+          (keeps _ (Create _ _ _ _ _) c.self.invariant (rw w.in-Create.is at may))
       | in-Remove w ↦ rw (w.self-inside-is, w.remove.ensures)
-          (c.accepted_changes_keep_trees.ensures _ (Remove _) c.self.invariant (rw w.in-Remove.is at may))
+          (keeps _ (Remove _) c.self.invariant (rw w.in-Remove.is at may))
       | in-Move+in_ok-shift-in-Move w ↦ rw (
         w.self-inside-is,
         w.in_ok-shift-in-Move.ensures.ok,
         w.other_at-other.ensures,
         ← c.self.view_is,
       )
-          (c.accepted_changes_keep_trees.ensures _ (Move _ _ _ _) c.self.invariant (rw w.in-Move.is at may))
+          (keeps _ (Move _ _ _ _) c.self.invariant (rw w.in-Move.is at may))
       | in-Write w ↦ rw (w.self-inside-is, w.write.ensures)
-          (c.accepted_changes_keep_trees.ensures _ (Write _ _ _) c.self.invariant (rw w.in-Write.is at may))
+          (keeps _ (Write _ _ _) c.self.invariant (rw w.in-Write.is at may))
       | in-SetAttr+in_ok-set_attr-in-SetAttr w ↦ rw (
         w.self-inside-is,
         w.in_ok-set_attr-in-SetAttr.ensures.ok,
       )
-          (c.accepted_changes_keep_trees.ensures _ (SetAttr _ _ _) c.self.invariant (rw w.in-SetAttr.is at may))
+          (keeps _ (SetAttr _ _ _) c.self.invariant (rw w.in-SetAttr.is at may))
       | in-RemoveAttr w ↦ rw (w.self-inside-is, w.remove_attr.ensures)
-          (c.accepted_changes_keep_trees.ensures _ (RemoveAttr _ _) c.self.invariant (rw w.in-RemoveAttr.is at may))
+          (keeps _ (RemoveAttr _ _) c.self.invariant (rw w.in-RemoveAttr.is at may))
     ]
 
 pub invariant_of-self : goal.invariant_of-self

@@ -1,8 +1,0 @@
-use Rattle.std.proofs.Common.{◌≡◌, ◌++◌, map}
-use Rattle.std.specs.Vec.Iter.{into_iter_items}
-use Rattle.lq_volume.specs.Order.{shown_pair}
-use Rattle.lq_volume.proofs.entries.Entries.copy.Given as goal
-
--- the records so far, with those that are left
-abbrev pub invariant-loop-node : goal.invariant-loop-node
-invariant-loop-node l = l.copy ++ map shown_pair (into_iter_items l.node-iterator) ≡ l.self

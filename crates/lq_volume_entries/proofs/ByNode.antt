@@ -1,0 +1,163 @@
+-- Records by rising node: each look-up finds the same as before they were ordered, and what is
+-- found in each is all of it.
+use Rattle.std.proofs.Common.{◌≡◌, ℕ, ◌<◌, List, [], ◌∷◌, ◌++◌, refl, sym, arith, eqb, ltb, ap, ◌∙◌, ◌≤◌, Bool, true, false, cond, map, filter, length, IsPermutation, inl, inr}
+use Rattle.std.specs.Prelude.{nat_eq, not, Some, None}
+use Rattle.std.specs.Borrow.{Bor}
+use Rattle.std.specs.List.{AllByRecursion, IsDistinct}
+use Rattle.std.specs.List.Sorted.{IsNonDecreasingBy}
+use Rattle.std.specs.Map.{lookup, keys_of}
+use Rattle.std.proofs.lemmas.Bool.{cases_eq}
+use Rattle.std.proofs.lemmas.Bool.Decides.{nat_tests}
+use Rattle.lq_value.specs.declared.entry.Entry.{Entry}
+use Rattle.lq_volume_entries.specs.Edits.{altered}
+use Rattle.lq_volume_entries.specs.Order.{insert_by, ordered_by, by_node, shown_pair, RisesBy}
+use Rattle.lq_volume_entries.specs.Shown.{entry_of}
+use Rattle.lq_volume_entries.specs.Record.{Record, Rises}
+use Rattle.lq_volume_entries.proofs.OrderLemmas.{rises_ordered, length-ordered, ordered-is, map-ordered, map-number, filter-ordered, own_filter}
+use Rattle.lq_volume_entries.proofs.RecordLemmas.{Entries, All-weaker, altered-absent, lookup-below, lookup-altered, lookup-filter, lookup-push, Rises-altered, Rises-filter, Rises-push}
+
+-- a look-up with one more record finds it, or what it found before
+lookup-insert_by : (n : ℕ) (e : ℕ × Record) (es : Entries)
+    → lookup (nat_eq n) (insert_by (λ f. f.0) e es)
+    ≡ cond (eqb n e.0) (Some e.1) (lookup (nat_eq n) es)
+lookup-insert_by n e [] = refl
+lookup-insert_by n e (f ∷ es) = grind (arith, nat_tests, lookup-insert_by n e es)
+
+-- a look-up finds the same in records by rising node
+pub lookup-by_node : (es : Entries) (n : ℕ)
+    → lookup (nat_eq n) (by_node es) ≡ lookup (nat_eq n) es
+lookup-by_node [] n = refl
+lookup-by_node (e ∷ es) n = lookup-insert_by n e (by_node es)
+    ∙ ap (cond (eqb n e.0) (Some e.1)) (lookup-by_node es n)
+
+-- nodes that rise as numbers rise
+Rises-from_numbers : (es : Entries) → RisesBy (λ e. e.0) es → Rises es
+Rises-from_numbers [] h = tt
+Rises-from_numbers (e ∷ es) h = (h.0, Rises-from_numbers es h.1)
+
+-- nodes that differ rise in order
+pub Rises-by_node : (es : Entries) → IsDistinct eqb (keys_of es) → Rises (by_node es)
+Rises-by_node es own = Rises-from_numbers (by_node es) (rises_ordered (λ e. e.0) es own)
+
+-- there are as many records in order
+pub length-by_node : (es : Entries) → length (by_node es) ≡ length es
+length-by_node es = length-ordered (λ e. e.0) es
+
+-- the first node isn't below that of records in which the same is found under it
+first-not_below : (e f : ℕ × Record) (es fs : Entries) → AllByRecursion (λ g. f.0 < g.0) fs
+    → lookup (nat_eq e.0) (e ∷ es) ≡ lookup (nat_eq e.0) (f ∷ fs) → f.0 ≤ e.0
+first-not_below e f es fs above same = at (ltb e.0 f.0) refl
+  where
+    at : (b : Bool) → ltb e.0 f.0 ≡ b → f.0 ≤ e.0
+    at true is =
+        let low : e.0 < f.0 = grind (arith, nat_tests) in
+        let off = lookup-below fs e.0 (All-weaker (λ g. f.0 < g.0) (λ g. e.0 < g.0) fs
+        (λ g l. omega arith) above) in
+        grind (arith, nat_tests)
+    at false is = grind (arith, nat_tests)
+
+-- records whose nodes rise are one where the same is found under each node
+pub same_records : (es fs : Entries) → Rises es → Rises fs
+    → ((n : ℕ) → lookup (nat_eq n) es ≡ lookup (nat_eq n) fs) → es ≡ fs
+same_records [] [] h k same = refl
+same_records [] (f ∷ fs) h k same = let found = same f.0 in grind (arith, nat_tests)
+same_records (e ∷ es) [] h k same = let found = same e.0 in grind (arith, nat_tests)
+same_records (e ∷ es) (f ∷ fs) h k same =
+    let low = first-not_below e f es fs k.0 (same e.0) in
+    let high = first-not_below f e fs es h.0 (sym (same f.0)) in
+    let node : e.0 ≡ f.0 = omega arith in
+    let here = same e.0 in
+    let value : e.1 ≡ f.1 = grind (arith, nat_tests) in
+    let rest : es ≡ fs = same_records es fs h.1 k.1 (λ n. elim (cases_eq n e.0) [
+      | inl is ↦ rw is (lookup-below es e.0 h.0
+          ∙ sym (rw node (lookup-below fs f.0 k.0)))
+      | inr off ↦ let there = same n in grind (arith, nat_tests)
+    ]) in
+    λ j. (node j, value j) ∷ rest j
+
+-- records in order are the list whose nodes rise and in which each look-up finds the same
+pub by_node-is : (es fs : Entries) → IsDistinct eqb (keys_of es) → Rises fs
+    → ((n : ℕ) → lookup (nat_eq n) es ≡ lookup (nat_eq n) fs) → by_node es ≡ fs
+by_node-is es fs own rise same = same_records (by_node es) fs (Rises-by_node es own) rise
+    (λ n. lookup-by_node es n ∙ same n)
+
+-- records in order where one that is above all others was added
+pub by_node-added : (es fs : Entries) (k : ℕ) (r : Record) → Rises (by_node es)
+    → AllByRecursion (λ e. e.0 < k) (by_node es) → IsDistinct eqb (keys_of fs)
+    → ((n : ℕ) → lookup (nat_eq n) fs ≡ cond (eqb k n) (Some r) (lookup (nat_eq n) es))
+    → by_node fs ≡ by_node es ++ (k, r) ∷ []
+by_node-added es fs k r rise last own found =
+    by_node-is fs (by_node es ++ (k, r) ∷ []) own (Rises-push (by_node es) k r rise last)
+    (λ n. let is = found n in let was = lookup-by_node es n in
+    let next = lookup-push (by_node es) k r n last in grind (arith, nat_tests))
+
+-- records in order where one was taken out
+pub by_node-removed : (es fs : Entries) (k : ℕ) → Rises (by_node es) → IsDistinct eqb (keys_of fs)
+    → ((n : ℕ) → lookup (nat_eq n) fs ≡ cond (eqb k n) None (lookup (nat_eq n) es))
+    → by_node fs ≡ filter (λ e. not (eqb e.0 k)) (by_node es)
+by_node-removed es fs k rise own found =
+    by_node-is fs (filter (λ e. not (eqb e.0 k)) (by_node es)) own
+    (Rises-filter (λ e. not (eqb e.0 k)) (by_node es) rise)
+    (λ n. let is = found n in let was = lookup-by_node es n in
+    let next = lookup-filter (by_node es) k n in grind (arith, nat_tests))
+
+-- records in order where one was altered
+pub by_node-altered : (es fs : Entries) (k : ℕ) (g : Record → Record) (r w : Record) → w ≡ g r
+    → Rises (by_node es) → IsDistinct eqb (keys_of fs) → Some r ≡ lookup (nat_eq k) es
+    → ((n : ℕ) → lookup (nat_eq n) fs ≡ cond (eqb k n) (Some w) (lookup (nat_eq n) es))
+    → by_node fs ≡ altered k g (by_node es)
+by_node-altered es fs k g r w value rise own there found =
+    by_node-is fs (altered k g (by_node es)) own (Rises-altered k g (by_node es) rise) (λ n.
+    let is = found n in let was = lookup-by_node es n in
+    let next = lookup-altered (by_node es) k g n in elim (cases_eq n k) [
+      | inl same ↦
+          let here : lookup (nat_eq n) es ≡ Some r = rw same (sym there) in
+          grind (arith, nat_tests)
+      | inr off ↦ grind (arith, nat_tests)
+    ])
+
+-- records in order where none was there to alter
+pub by_node-absent : (es : Entries) (k : ℕ) (g : Record → Record) → None ≡ lookup (nat_eq k) es
+    → by_node es ≡ altered k g (by_node es)
+by_node-absent es k g none = sym (altered-absent (by_node es) k g (lookup-by_node es k ∙ sym none))
+
+-- records in order where one was written as it was
+pub by_node-same : (es fs : Entries) (k : ℕ) (r w : Record) → w ≡ r → Rises (by_node es)
+    → IsDistinct eqb (keys_of fs) → Some r ≡ lookup (nat_eq k) es
+    → ((n : ℕ) → lookup (nat_eq n) fs ≡ cond (eqb k n) (Some w) (lookup (nat_eq n) es))
+    → by_node fs ≡ by_node es
+by_node-same es fs k r w value rise own there found = by_node-is fs (by_node es) own rise (λ n.
+    let is = found n in let was = lookup-by_node es n in elim (cases_eq n k) [
+      | inl same ↦
+          let here : lookup (nat_eq n) es ≡ Some r = rw same (sym there) in
+          grind (arith, nat_tests)
+      | inr off ↦ grind (arith, nat_tests)
+    ])
+
+-- records with their nodes, moved until these don't fall, are those in order
+pub pairs-ordered : (es : Entries) (pairs moved : List (ℕ × Bor Record))
+    → IsDistinct eqb (keys_of es) → map shown_pair pairs ≡ es → IsPermutation pairs moved
+    → IsNonDecreasingBy (λ (p : ℕ × Bor Record). p.0) moved → map shown_pair moved ≡ by_node es
+pairs-ordered es pairs moved own is moves up =
+    let number : ℕ × Bor Record → ℕ = λ p. p.0 in
+    let same = map-number number (λ (e : ℕ × Record). e.0) shown_pair (λ p. refl) pairs in
+    let theirs : IsDistinct eqb (map number pairs) = rw (← same, is) own in
+    ap (map shown_pair) (ordered-is number pairs moved moves up theirs)
+    ∙ (map-ordered number (λ (e : ℕ × Record). e.0) shown_pair (λ p. refl) pairs
+    ∙ ap by_node is)
+
+-- the entries that a query finds, moved until their nodes don't fall, are those of the records in
+-- order
+pub finds-ordered : (es : Entries) (test : ℕ × Record → Bool) (finds moved : List Entry)
+    → IsDistinct eqb (keys_of es) → finds ≡ map entry_of (filter test es)
+    → IsPermutation finds moved → IsNonDecreasingBy (λ (e : Entry). e.node) moved
+    → moved ≡ map entry_of (filter test (by_node es))
+finds-ordered es test finds moved own is moves up =
+    let kept = filter test es in
+    let theirs : IsDistinct eqb (map (λ (e : Entry). e.node) finds) =
+    rw (is, map-number (λ e. e.0) (λ (e : Entry). e.node) entry_of (λ e. refl) kept)
+    (own_filter (λ e. e.0) test es own) in
+    ordered-is (λ (e : Entry). e.node) finds moved moves up theirs
+    ∙ (ap (ordered_by (λ (e : Entry). e.node)) is
+    ∙ (sym (map-ordered (λ e. e.0) (λ (e : Entry). e.node) entry_of (λ e. refl) kept)
+    ∙ ap (map entry_of) (sym (filter-ordered (λ e. e.0) test es own))))

@@ -1,0 +1,16 @@
+-- Read in this order. Records by rising node: RecordLemmas. Lists in order, and the records of a
+-- map in order: OrderLemmas, ByNode; what a walk over a map finds: Finds. The places of the
+-- records: PlaceLemmas. The index of places, with a record more, less or altered: IndexLemmas;
+-- after a move: IndexMoves; and the folders that have names: IndexFolders. The entries in a folder:
+-- Folders. The steps of a walk up, and the path that it makes: Steps, Paths.
+pub mod RecordLemmas
+pub mod OrderLemmas
+pub mod ByNode
+pub mod Finds
+pub mod PlaceLemmas
+pub mod IndexLemmas
+pub mod IndexMoves
+pub mod IndexFolders
+pub mod Folders
+pub mod Steps
+pub mod Paths

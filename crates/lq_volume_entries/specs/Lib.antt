@@ -1,0 +1,9 @@
+pub mod Kind
+pub mod Record
+pub mod Edits
+pub mod Shown
+pub mod Order
+pub mod Places
+pub mod Folder
+pub mod NodeHash
+pub mod Laws
