@@ -80,30 +80,35 @@ impl Stored {
         }
     }
 
+    /// The node of the entry's folder. Only `set_attr`, `entry` and `copy` take memory.
     pub fn dir(&self) -> u64
         ensures { result ≡ self.now.dir }
     {
         self.dir
     }
 
+    /// The entry's name.
     pub fn name(&self) -> &Name
         ensures { result.now ≡ self.now.name }
     {
         &self.name
     }
 
+    /// Whether the entry is a file or a folder.
     pub fn kind(&self) -> Kind
         ensures { result ≡ self.now.kind }
     {
         self.kind
     }
 
+    /// Whether the entry is a folder.
     pub fn is_folder(&self) -> bool
         ensures { result ≡ is_folder self.now.kind }
     {
         self.kind == Kind::Folder
     }
 
+    /// The entry's size in bytes, which fits into an `i64`.
     pub fn size(&self) -> u64
         ensures value { result ≡ self.now.size }
         ensures small { result < 2 ^ 63 }
@@ -111,18 +116,21 @@ impl Stored {
         self.size
     }
 
+    /// The entry's `last_modified`, in seconds since 1970.
     pub fn time(&self) -> i64
         ensures { result ≡ self.now.time }
     {
         self.time
     }
 
+    /// The entry's attributes, in the order in which they were first set.
     pub fn attrs(&self) -> &Attributes
         ensures { result.now ≡ self.now.attrs }
     {
         &self.attrs
     }
 
+    /// Whether the entry is in this folder, under this name.
     pub fn is_at(&self, dir: u64, name: &Name) -> bool
         ensures { result ≡ ((self.now.dir == dir) && bytes_eq self.now.name name.now) }
     {
@@ -175,7 +183,7 @@ impl Stored {
         self.attrs.remove(attr);
     }
 
-    /// A copy of the record.
+    /// A copy of the record. Refused: `NoMemory`.
     pub fn copy(&self, alloc: Global) -> Result<Stored, Refusal>
         ensures refused { IsRefusedBy result None }
         ensures value { IfOk result (λ copy. copy ≡ self.now) }
