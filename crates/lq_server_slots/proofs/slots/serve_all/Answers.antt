@@ -15,8 +15,8 @@ loop-index-preserved g c =
       f.book ∙ i.1,
       i.2,
       i.3,
-      slots_stand-step was.keeper c.serve_at.new.keeper was.subscriptions.items was.taken.items place
-          place was.openings c.index_mut.result.now c.serve_at.new.slot was.keeper.book
+      slots_stand-step was.keeper c.serve_at.new.keeper was.subscriptions.items was.taken.items
+          place place was.openings c.index_mut.result.now c.serve_at.new.slot was.keeper.book
           c.serve_at.new.keeper.book i.4 p.low p.high refl f.book c.index_mut.ensures.value f.only
           f.fits f.asks f.kept,
       slots_are-more IsServed was.taken.items was.subscriptions.items was.keeper.slots
