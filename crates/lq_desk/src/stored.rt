@@ -68,11 +68,11 @@ pub fn ready_all(
             return Ok(told);
         }
         let place = lowest_bit(rest);
-        rest = without_bit(rest, place);
         if place < slots.len() {
             let any = ready_at(&mut slots[place], planned)?;
             told = with_bit(told, place, any);
         }
+        rest = without_bit(rest, place);
     }
     Ok(told)
 }

@@ -65,6 +65,7 @@ impl Literal {
 /// operators of order compare bytes. Numbers are compared as whole numbers; where the literal
 /// writes no number, the answer is false, for `Ne` too. It takes no memory. The operators are
 /// BQuery's.
+#[inline(always)]
 pub fn compare(view: View<'_>, op: Op, literal: &Literal) -> bool
     requires { IsTrue (suits literal.now op) }
     ensures { result ≡ compares (held_of view.entry) op literal.now }
