@@ -7,9 +7,10 @@ use crate::checks::check_folder;
 use crate::entry_ref::{EntryRef, Listing};
 use crate::laws::accepted_changes_keep_trees;
 use crate::planned::Planned;
-use lq_predicate::Predicate;
+use crate::seen::Seen;
+use lq_predicate::{Predicate, holds};
 use lq_value::{Entry, Kind, Name, Refusal};
-use lq_volume_entries::{Entries, Stored, records_are_kept};
+use lq_volume_entries::{Entries, Stored, Test, records_are_kept};
 use std::alloc::Global;
 use std::marker::Model;
 
@@ -311,7 +312,7 @@ impl Volume {
         ensures entries { IfOk result (λ entries.
             entries.items ≡ result_of predicate.now self.now) }
     {
-        self.entries.fetch(predicate)
+        self.entries.fetch(&Matching { predicate })
     }
 
     /// The node that an accepted change creates or names.
@@ -379,5 +380,22 @@ impl Volume {
         ensures { result ≡ is_full self.now }
     {
         self.limit <= self.changes
+    }
+}
+
+// The test whether a record matches a predicate.
+#[derive(Drop)]
+struct Matching<'a> {
+    predicate: &'a Predicate,
+}
+
+impl<'a> Test for Matching<'a> {
+    ghost use Rattle.lq_predicate.specs.Truth.{truth};
+    ghost use Rattle.lq_volume.specs.Result.{shown};
+
+    ghost picks = { λ matching r. truth matching.predicate.now (shown r) };
+
+    fn passes(&self, record: &Stored) -> bool {
+        holds(self.predicate, &Seen::stored(record))
     }
 }
