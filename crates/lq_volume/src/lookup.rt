@@ -3,9 +3,11 @@ ghost use Rattle.std.specs.Prelude.{◌≡◌, Some, None, IfOk, IfErr, OnOk};
 
 use crate::checks::check_folder;
 use crate::entry_ref::{EntryRef, Listing};
+use crate::seen::Seen;
 use crate::volume::{ROOT, Volume};
-use lq_predicate::Predicate;
+use lq_predicate::{Predicate, holds};
 use lq_value::{Entry, Kind, Name, Refusal};
+use lq_volume_entries::{Stored, Test};
 
 impl Volume {
     ghost use Rattle.lq_value.specs.Refusal.{IsRefusedBy, first_refusal};
@@ -103,6 +105,23 @@ impl Volume {
         ensures entries { IfOk result (λ entries.
             entries.items ≡ result_of predicate.now self.now) }
     {
-        self.entries.fetch(predicate)
+        self.entries.fetch(&Matching { predicate })
+    }
+}
+
+// The test whether a record matches a predicate.
+#[derive(Drop)]
+struct Matching<'a> {
+    predicate: &'a Predicate,
+}
+
+impl<'a> Test for Matching<'a> {
+    ghost use Rattle.lq_predicate.specs.Truth.{truth};
+    ghost use Rattle.lq_volume.specs.Result.{shown};
+
+    ghost picks = { λ matching r. truth matching.predicate.now (shown r) };
+
+    fn passes(&self, record: &Stored) -> bool {
+        holds(self.predicate, &Seen::stored(record))
     }
 }

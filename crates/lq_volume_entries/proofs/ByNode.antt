@@ -11,8 +11,7 @@ use Rattle.std.proofs.lemmas.Bool.Decides.{nat_tests}
 use Rattle.lq_value.specs.declared.entry.Entry.{Entry}
 use Rattle.lq_volume_entries.specs.Edits.{altered}
 use Rattle.lq_volume_entries.specs.Order.{insert_by, ordered_by, by_node, shown_pair, RisesBy}
-use Rattle.lq_volume_entries.specs.Shown.{entry_of}
-use Rattle.lq_volume_entries.specs.Record.{Record, Rises}
+use Rattle.lq_volume_entries.specs.Record.{Record, Rises, entry_of}
 use Rattle.lq_volume_entries.proofs.OrderLemmas.{rises_ordered, length-ordered, ordered-is, map-ordered, map-number, filter-ordered, own_filter}
 use Rattle.lq_volume_entries.proofs.RecordLemmas.{Entries, All-weaker, altered-absent, lookup-below, lookup-altered, lookup-filter, lookup-push, Rises-altered, Rises-filter, Rises-push}
 

@@ -5,8 +5,7 @@ use Rattle.std.specs.Map.Iter.{deref_pair}
 use Rattle.std.proofs.lemmas.Bool.Decides.{nat_tests}
 use Rattle.lq_value.specs.declared.entry.Entry.{Entry}
 use Rattle.lq_volume_entries.specs.Order.{shown_pair}
-use Rattle.lq_volume_entries.specs.Shown.{entry_of}
-use Rattle.lq_volume_entries.specs.Record.{Record}
+use Rattle.lq_volume_entries.specs.Record.{Record, entry_of}
 
 -- a map of one item more
 last-mapped : {X Z : Type 0} (f : X → Z) (xs : List X) (x : X)

@@ -1,7 +1,6 @@
 pub mod Kind
 pub mod Record
 pub mod Edits
-pub mod Shown
 pub mod Order
 pub mod Places
 pub mod Folder

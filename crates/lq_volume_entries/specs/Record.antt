@@ -4,6 +4,7 @@ use Rattle.std.specs.Option.{option_map, option_map_or}
 use Rattle.std.specs.List.{AllByRecursion}
 use Rattle.std.specs.Map.{lookup}
 use Rattle.std.specs.Str.{bytes_eq}
+use Rattle.lq_value.specs.declared.entry.Entry.{Entry}
 use Rattle.lq_value.specs.declared.kind.Kind.{Kind}
 use Rattle.lq_volume_attributes.specs.Attributes.{Attributes}
 
@@ -40,3 +41,7 @@ node_in (e ∷ es) dir name =
 abbrev pub Rises : List (ℕ × Record) → Type 0
 Rises [] = Unit {0}
 Rises (e ∷ es) = AllByRecursion (λ f. e.0 < f.0) es × Rises es
+
+-- what a result shows of a record: its place and its node
+abbrev pub entry_of : ℕ × Record → Entry
+entry_of e = record { dir = e.1.dir; name = e.1.name; node = e.0 }

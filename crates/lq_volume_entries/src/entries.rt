@@ -3,12 +3,11 @@ ghost use Rattle.std.specs.Prelude.{◌≡◌, ◌==◌, ◌<◌, ◌^◌, [], �
 ghost use Rattle.std.specs.List.{list_any, AllByRecursion};
 ghost use Rattle.std.specs.Map.{lookup, values_of};
 ghost use Rattle.std.specs.Option.{option_copied};
-ghost use Rattle.lq_predicate.specs.Truth.{truth};
 ghost use Rattle.lq_value.specs.Refusal.{IsRefusedBy};
 
 use crate::records::Records;
 use crate::stored::Stored;
-use lq_predicate::Predicate;
+use crate::test::Test;
 use lq_value::{AttrName, Entry, Name, Refusal, Value};
 use lq_volume_places::Places;
 use std::alloc::Global;
@@ -50,11 +49,10 @@ impl Model for Entries {
 }
 
 impl Entries {
-    ghost use Rattle.lq_volume_entries.specs.Record.{climbs, dir_of, node_in, root, Rises};
+    ghost use Rattle.lq_volume_entries.specs.Record.{climbs, dir_of, node_in, root, Rises, entry_of};
     ghost use Rattle.lq_volume_entries.specs.Folder.{AreChildren, CanClimb, Leads};
     ghost use Rattle.lq_volume_entries.specs.Edits.{without, altered, at_place, written, set_attr, remove_attr};
     ghost use Rattle.lq_volume_entries.specs.Places.{IsApart, CanMove};
-    ghost use Rattle.lq_volume_entries.specs.Shown.{shown, entry_of};
 
     /// No entries.
     pub fn new(alloc: Global) -> Entries
@@ -214,13 +212,13 @@ impl Entries {
         self.records.remove_attr(node, attr);
     }
 
-    /// The entries that match the predicate. Refused: `NoMemory`.
-    pub fn fetch(&self, predicate: &Predicate) -> Result<Vec<Entry>, Refusal>
+    /// The entries whose records pass the test, by rising node. Refused: `NoMemory`.
+    pub fn fetch<T: Test>(&self, test: &T) -> Result<Vec<Entry>, Refusal>
         ensures refused { IsRefusedBy result None }
         ensures entries { IfOk result (λ entries. entries.items
-            ≡ map entry_of (filter (λ e. truth predicate.now (shown e.1)) self.now)) }
+            ≡ map entry_of (filter (λ e. T.picks test.now e.1) self.now)) }
     {
-        self.records.fetch(self.alloc, predicate)
+        self.records.fetch(self.alloc, test)
     }
 
     /// A copy: the same records under the same nodes. Refused: `NoMemory`.

@@ -10,7 +10,9 @@ mod laws;
 mod node_hash;
 mod records;
 mod stored;
+mod test;
 
 pub use entries::Entries;
 pub use laws::records_are_kept;
 pub use stored::Stored;
+pub use test::Test;

@@ -4,15 +4,14 @@ ghost use Rattle.std.specs.List.{AllByRecursion, IsDistinct};
 ghost use Rattle.std.specs.List.Sorted.{IsStrictlyIncreasing};
 ghost use Rattle.std.specs.Map.{keys_of, lookup};
 ghost use Rattle.std.specs.Option.{option_copied};
-ghost use Rattle.lq_predicate.specs.Truth.{truth};
 ghost use Rattle.lq_value.specs.Refusal.{IsRefusedBy};
 ghost use Rattle.lq_volume_entries.specs.Order.{shown_pair};
-ghost use Rattle.lq_volume_entries.specs.Shown.{shown, entry_of};
+ghost use Rattle.lq_volume_entries.specs.Record.{entry_of};
 
 use crate::node_hash::NodeHashes;
 use crate::stored::Stored;
+use crate::test::Test;
 use indexmap::IndexMap;
-use lq_predicate::{Predicate, holds};
 use lq_value::{AttrName, Entry, Name, Refusal, Value};
 use std::alloc::Global;
 use std::marker::Model;
@@ -177,13 +176,13 @@ impl Records {
         Ok(records)
     }
 
-    /// The entries that match the predicate, by rising node. Refused: `NoMemory`.
-    pub fn fetch(&self, alloc: Global, predicate: &Predicate) -> Result<Vec<Entry>, Refusal>
+    /// The entries whose records pass the test, by rising node. Refused: `NoMemory`.
+    pub fn fetch<T: Test>(&self, alloc: Global, test: &T) -> Result<Vec<Entry>, Refusal>
         ensures refused { IsRefusedBy result None }
         ensures entries { IfOk result (λ entries. entries.items
-            ≡ map entry_of (filter (λ e. truth predicate.now (shown e.1)) self.now)) }
+            ≡ map entry_of (filter (λ e. T.picks test.now e.1) self.now)) }
     {
-        let mut entries = finds_in(&self.stored, alloc, predicate)?;
+        let mut entries = finds_in(&self.stored, alloc, test)?;
         // Linear where the nodes rise already, as long as nothing was ever removed.
         entries.sort_unstable_by_key(|entry| entry.node);
         Ok(entries)
@@ -277,20 +276,20 @@ fn pairs_of(
     Ok(pairs)
 }
 
-// The entries of a map that match the predicate, in its order. Refused: `NoMemory`.
-fn finds_in(
+// The entries of a map whose records pass the test, in its order. Refused: `NoMemory`.
+fn finds_in<T: Test>(
     stored: &IndexMap<u64, Stored, NodeHashes>,
     alloc: Global,
-    predicate: &Predicate,
+    test: &T,
 ) -> Result<Vec<Entry>, Refusal>
     ensures refused { IsRefusedBy result None }
     ensures finds { IfOk result (λ finds. finds.items
-        ≡ map entry_of (filter (λ e. truth predicate.now (shown e.1)) stored.now.entries)) }
+        ≡ map entry_of (filter (λ e. T.picks test.now e.1) stored.now.entries)) }
     ensures own { IsDistinct nat_eq (keys_of stored.now.entries) }
 {
     let mut finds = Vec::new(alloc);
     for (node, record) in stored.iter() {
-        if holds(predicate, record) {
+        if test.passes(record) {
             finds.push(record.entry(alloc, *node)?)?;
         }
     }

@@ -3,8 +3,7 @@ ghost use Rattle.std.specs.Prelude.{◌≡◌, ◌==◌, ◌&&◌, ◌<◌, ◌^
 ghost use Rattle.std.specs.Str.{bytes_eq};
 ghost use Rattle.lq_value.specs.Refusal.{IsRefusedBy};
 
-use lq_predicate::Row;
-use lq_value::{AttrName, Entry, Field, Kind, Name, Refusal, Value, View};
+use lq_value::{AttrName, Entry, Kind, Name, Refusal, Value};
 use lq_volume_attributes::Attributes;
 use std::alloc::Global;
 use std::marker::Model;
@@ -54,9 +53,8 @@ impl Model for Stored {
 
 impl Stored {
     ghost use Rattle.lq_volume_entries.specs.Kind.{is_folder};
-    ghost use Rattle.lq_volume_entries.specs.Record.{Record};
+    ghost use Rattle.lq_volume_entries.specs.Record.{Record, entry_of};
     ghost use Rattle.lq_volume_entries.specs.Edits.{at_place, written, set_attr, remove_attr};
-    ghost use Rattle.lq_volume_entries.specs.Shown.{entry_of};
 
     /// A record without attributes.
     pub fn new(alloc: Global, dir: u64, name: Name, kind: Kind, size: u64, time: i64) -> Stored
@@ -196,23 +194,5 @@ impl Stored {
             time: self.time,
             attrs: self.attrs.copy(alloc)?,
         })
-    }
-}
-
-impl Row for Stored {
-    ghost use Rattle.lq_volume_entries.specs.Shown.{shown};
-
-    ghost looks = { shown };
-
-    fn look(&self, attr: &AttrName) -> Option<View<'_>> {
-        match attr.field() {
-            Field::Name => Some(View::Text(self.name.as_str())),
-            Field::Size => Some(View::Int64(self.size as i64)),
-            Field::LastModified => Some(View::Int64(self.time)),
-            Field::Attribute => match self.attrs.get(attr) {
-                None => None,
-                Some(value) => Some(value.view()),
-            },
-        }
     }
 }

@@ -1,0 +1,15 @@
+//! A test of records.
+ghost use Rattle.std.specs.Prelude.{◌≡◌, Bool};
+ghost use Rattle.lq_volume_entries.specs.Record.{Record};
+
+use crate::stored::Stored;
+
+/// A test that each record passes or fails.
+pub trait Test {
+    /// Which records pass.
+    ghost picks: { Self → Record → Bool };
+
+    /// Whether a record passes. It takes no memory.
+    fn passes(&self, record: &Stored) -> bool
+        ensures { result ≡ picks self.now record.now };
+}
