@@ -121,7 +121,7 @@ impl<'a> Test for Matching<'a> {
 
     ghost picks = { λ matching r. truth matching.predicate.now (shown r) };
 
-    fn passes(&self, record: &Stored) -> bool {
-        holds(self.predicate, &Seen::stored(record))
+    fn passes(&self, stored: &Stored) -> bool {
+        holds(self.predicate, &Seen::stored(stored))
     }
 }

@@ -10,6 +10,6 @@ pub trait Test {
     ghost picks: { Self → Record → Bool };
 
     /// Whether a record passes. It takes no memory.
-    fn passes(&self, record: &Stored) -> bool
-        ensures { result ≡ picks self.now record.now };
+    fn passes(&self, stored: &Stored) -> bool
+        ensures { result ≡ picks self.now stored.now };
 }
