@@ -1,9 +1,12 @@
 //! Tests of lq_desk_sub, lq_script_reply, lq_board and lq_port, a module each. `plain` makes a
-//! reply as a JSON value first, to compare with the replies that are written piece by piece.
+//! reply as a JSON value first, of `members`, to compare with the replies that are written piece by
+//! piece.
 #![tactic(auto)]
 
 #[cfg(test)]
 mod boards;
+#[cfg(test)]
+mod members;
 #[cfg(test)]
 mod plain;
 #[cfg(test)]

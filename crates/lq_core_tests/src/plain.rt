@@ -1,19 +1,19 @@
 //! The plain way to a reply: its JSON value, and then the text of that.
-ghost use Rattle.std.specs.Prelude.{◌≡◌, ◌++◌, None, IfOk, OnOk, OnErr};
-ghost use Rattle.std.specs.Prelude.{codes, map, string_bytes};
-ghost use Rattle.serde_json.specs.View.{view, items_of, members_view};
-ghost use Rattle.serde_json.specs.Data.{array, object, no_members, put as with_member};
+ghost use Rattle.std.specs.Prelude.{◌≡◌, ◌++◌, None, IfOk, OnOk, OnErr, string_bytes};
+ghost use Rattle.serde_json.specs.View.{view, members_view};
+ghost use Rattle.serde_json.specs.Data.{object, no_members};
 ghost use Rattle.lq_value.specs.Refusal.{IsRefusedBy};
 ghost use Rattle.lq_desk.specs.Reply.{answer_of, answer_of_read};
 ghost use Rattle.lq_volume.specs.Lookup.{listed};
 ghost use Rattle.lq_script_reply.specs.Answer.{response_of};
 ghost use Rattle.lq_script_lines.specs.Lines.{Begins};
-ghost use Rattle.lq_script_reply.specs.Reply.{answer_data, attr_data, count, entry_data, listing_data, message_data, place_of, refusal_data, reply_text, response_data, type_name, value_data, word};
+ghost use Rattle.lq_script_reply.specs.Reply.{answer_data, listing_data, message_data, place_of, refusal_data, reply_text, response_data};
 
+use crate::members::{put_attrs, put_count, put_entry, put_result, put_step, put_word};
 use lq_desk::{Read, Reply};
 use lq_script_reply::Response;
 use lq_update::{Cause, Message, Opcode};
-use lq_value::{AttrName, Entry, Kind, Refusal};
+use lq_value::{Kind, Refusal};
 use lq_volume::Listing;
 use serde_json::{Map, Value, put};
 use std::alloc::{AllocError, Global};
@@ -229,151 +229,4 @@ fn put_listing(
         Kind::File => put_word(alloc, members, "kind", "file"),
         Kind::Folder => put_word(alloc, members, "kind", "folder"),
     }
-}
-
-// Puts a list of attributes.
-fn put_attrs(
-    alloc: Global,
-    members: &mut Map<String, Value>,
-    attrs: &[(AttrName, lq_value::Value)],
-) -> Result<(), AllocError>
-    ensures { OnOk result (members_view members.new.entries
-        ≡ with_member (codes "attrs") (array (items_of (map attr_data attrs.now)))
-        (members_view members.old.entries)) }
-{
-    let mut items = Vec::new(alloc);
-    for attr in attrs {
-        items.push(attr_value(alloc, &attr.0, &attr.1)?)?;
-    }
-    put(members, alloc, "attrs", Value::Array(items))
-}
-
-fn attr_value(alloc: Global, name: &AttrName, value: &lq_value::Value) -> Result<Value, AllocError>
-    ensures { IfOk result (λ v. view v ≡ attr_data (name.now, value.now)) }
-{
-    let mut map = Map::new(alloc);
-    put_word(alloc, &mut map, "name", name.as_str())?;
-    put_typed(alloc, &mut map, value)?;
-    Ok(Value::Object(map))
-}
-
-// Puts the type of a value, and the value.
-fn put_typed(
-    alloc: Global,
-    members: &mut Map<String, Value>,
-    value: &lq_value::Value,
-) -> Result<(), AllocError>
-    ensures { OnOk result (members_view members.new.entries
-        ≡ with_member (codes "value") (value_data value.now)
-        (with_member (codes "type") (word (type_name value.now))
-        (members_view members.old.entries))) }
-{
-    match value {
-        lq_value::Value::Text(text) => {
-            put_word(alloc, members, "type", "CSTR")?;
-            put_word(alloc, members, "value", text.as_str())
-        }
-        lq_value::Value::Int32(number) => {
-            put_word(alloc, members, "type", "LONG")?;
-            put(members, alloc, "value", Value::from(*number))
-        }
-        lq_value::Value::Int64(number) => {
-            put_word(alloc, members, "type", "LLNG")?;
-            put(members, alloc, "value", Value::from(*number))
-        }
-        lq_value::Value::UInt32(number) => {
-            put_word(alloc, members, "type", "ULNG")?;
-            put_count(alloc, members, "value", u64::from(*number))
-        }
-        lq_value::Value::UInt64(number) => {
-            put_word(alloc, members, "type", "ULLG")?;
-            put_count(alloc, members, "value", *number)
-        }
-    }
-}
-
-// Puts a list of entries.
-fn put_result(
-    alloc: Global,
-    members: &mut Map<String, Value>,
-    entries: &[Entry],
-) -> Result<(), AllocError>
-    ensures { OnOk result (members_view members.new.entries
-        ≡ with_member (codes "result") (array (items_of (map entry_data entries.now)))
-        (members_view members.old.entries)) }
-{
-    let mut items = Vec::new(alloc);
-    for entry in entries {
-        items.push(entry_value(alloc, entry)?)?;
-    }
-    put(members, alloc, "result", Value::Array(items))
-}
-
-fn entry_value(alloc: Global, entry: &Entry) -> Result<Value, AllocError>
-    ensures { IfOk result (λ v. view v ≡ entry_data entry.now) }
-{
-    let mut map = Map::new(alloc);
-    put_entry(alloc, &mut map, entry.dir, entry.name.as_str(), entry.node)?;
-    Ok(Value::Object(map))
-}
-
-// Puts where an entry stands, and its node.
-fn put_entry(
-    alloc: Global,
-    members: &mut Map<String, Value>,
-    dir: u64,
-    name: &str,
-    node: u64,
-) -> Result<(), AllocError>
-    ensures { OnOk result (members_view members.new.entries
-        ≡ with_member (codes "node") (count node) (with_member (codes "name") (word name.now)
-        (with_member (codes "dir") (count dir) (members_view members.old.entries)))) }
-{
-    put_count(alloc, members, "dir", dir)?;
-    put_word(alloc, members, "name", name)?;
-    put_count(alloc, members, "node", node)
-}
-
-// Puts the change and the number of what is read, and what that is.
-fn put_step(
-    alloc: Global,
-    members: &mut Map<String, Value>,
-    change: u64,
-    seq: u64,
-    what: &str,
-) -> Result<(), AllocError>
-    ensures { OnOk result (members_view members.new.entries
-        ≡ with_member (codes "what") (word what.now) (with_member (codes "seq") (count seq)
-        (with_member (codes "change") (count change) (members_view members.old.entries)))) }
-{
-    put_count(alloc, members, "change", change)?;
-    put_count(alloc, members, "seq", seq)?;
-    put_word(alloc, members, "what", what)
-}
-
-// Puts a number under a key.
-fn put_count(
-    alloc: Global,
-    members: &mut Map<String, Value>,
-    key: &str,
-    number: u64,
-) -> Result<(), AllocError>
-    ensures { OnOk result (members_view members.new.entries
-        ≡ with_member key.now (count number) (members_view members.old.entries)) }
-{
-    put(members, alloc, key, Value::from(number))
-}
-
-// Puts a text under a key.
-fn put_word(
-    alloc: Global,
-    members: &mut Map<String, Value>,
-    key: &str,
-    text: &str,
-) -> Result<(), AllocError>
-    ensures { OnOk result (members_view members.new.entries
-        ≡ with_member key.now (word text.now) (members_view members.old.entries)) }
-{
-    let text = Value::try_from_str(alloc, text)?;
-    put(members, alloc, key, text)
 }

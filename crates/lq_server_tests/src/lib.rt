@@ -1,29 +1,19 @@
-//! Tests of the threaded server.
+//! Tests of the threaded server: scenarios, a reader's seat, reads that wait, and the model.
 #![tactic(auto)]
 
 #[cfg(test)]
-mod acts;
-#[cfg(test)]
 mod again;
-#[cfg(test)]
-mod draws;
 #[cfg(test)]
 mod fills;
 #[cfg(test)]
 mod followed;
 #[cfg(test)]
-mod held;
+mod more_threads;
 #[cfg(test)]
-mod party;
-#[cfg(test)]
-mod reference;
+mod one_thread;
 #[cfg(test)]
 mod scenarios;
 #[cfg(test)]
 mod seats;
-#[cfg(test)]
-mod stage;
-#[cfg(test)]
-mod tables;
 #[cfg(test)]
 mod waits;

@@ -1,13 +1,13 @@
 //! The scenarios, played.
 ghost use Rattle.std.specs.Prelude.{◌≡◌};
 
-use crate::stage::{Scenario, base, stage};
-use crate::tables::{
-    DRAWN, EACH, HANG_UP_BESIDE_CHANGES, READERS_DROPPED, SEATS, SLOT_AFTER_CLOSE,
-    SLOT_AFTER_HANG_UP, SLOTS, WINDOW, WRITERS_CREATE, WRITERS_WRITE,
+use crate::more_threads::{DRAWN, HANG_UP_BESIDE_CHANGES, WINDOW, WRITERS_CREATE, WRITERS_WRITE};
+use crate::one_thread::{
+    EACH, READERS_DROPPED, SEATS, SLOT_AFTER_CLOSE, SLOT_AFTER_HANG_UP, SLOTS,
 };
 use lq_predicate::read;
 use lq_server::{Base, Named, Server};
+use lq_server_stage::{Scenario, base, stage};
 use lq_value::Refusal;
 use lq_volume::Volume;
 use std::alloc::Global;

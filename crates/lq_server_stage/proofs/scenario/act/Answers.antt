@@ -13,7 +13,7 @@ use Rattle.lq_server.specs.declared.named.Named.{Ghosts}
 use Rattle.lq_server.specs.contracts.server.Server as server
 use Rattle.std.proofs.Crossing.{crosses}
 use Rattle.lq_server.proofs.Crossing.{server_sync}
-use Rattle.lq_server_tests.proofs.stage.act.Goals as goal
+use Rattle.lq_server_stage.proofs.scenario.act.Goals as goal
 
 -- what it takes: the runtime, the allocator, the server
 taken : (ν : Sym) (ℓ ℓ₁ ℓ₂ : NamedLft) (N R : RattleType) (g : Ghosts N.Denot)

@@ -33,7 +33,7 @@ pub struct Done {
 impl Done {
     /// Whether the accepted changes have the numbers from 1 on, each once, and are answered by a
     /// volume alike, the one that is left is that after them, and each reader that was kept was
-    /// told what they tell.
+    /// told what they tell. Refused as `Volume::apply` is, or `NoMemory`.
     pub fn is_told(&mut self, alloc: Global) -> Result<bool, Refusal> {
         let acted = &mut self.acted;
         acted.taken.sort_by_key(|one| one.accepted.change)?;
@@ -63,7 +63,7 @@ impl Acted {
     }
 }
 
-/// A base of a server.
+/// A base of a server, whose volume takes 2,000 changes. Refused: `NoMemory`, met twice.
 pub fn base(alloc: Global) -> Result<Base, Refusal> {
     match Base::new(alloc, Volume::new(alloc, LIMIT)) {
         Err(Refusal::NoMemory) => Base::new(alloc, Volume::new(alloc, LIMIT)),
@@ -71,7 +71,12 @@ pub fn base(alloc: Global) -> Result<Base, Refusal> {
     }
 }
 
-/// Plays a scenario at a server, and then retires it.
+/// Plays a scenario at a new server, and then retires the server.
+///
+/// What is drawn is drawn from the seed. A call that is answered `NoMemory` is made again, up to
+/// `tries` times in all. A thread stops at the first call that isn't answered as is wanted, and
+/// `Acted` has its row. Refused as `Server::seat` is, `NoMemory`, or `OutOfStep` where the scenario
+/// has no thread.
 pub fn stage<N: Named + Send + Sync, R: Threads + Wait + Sync>(
     rt: &R,
     alloc: Global,
