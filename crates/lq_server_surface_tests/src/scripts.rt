@@ -12,10 +12,10 @@ const SCRIPT: &str = r#"{"do":"open","query":"size>100","port":4,"backlog":16}
 {"do":"read","slot":1}
 "#;
 
-const OUTPUT: &str = r#"{"at":0,"result":[],"slot":1}
-{"change":1,"node":2}
-{"change":1,"dir":1,"last":true,"name":"a","node":2,"op":"B_ENTRY_CREATED","seq":1,"what":"B_QUERY_UPDATE"}
-"#;
+const OUTPUT: &str = "{\"at\":0,\"result\":[],\"slot\":1}\n\
+    {\"change\":1,\"node\":2}\n\
+    {\"change\":1,\"dir\":1,\"last\":true,\"name\":\"a\",\"node\":2,\
+    \"op\":\"B_ENTRY_CREATED\",\"seq\":1,\"what\":\"B_QUERY_UPDATE\"}\n";
 
 #[test]
 fn a_script_is_run(rt: HostRuntime) -> Result<(), Fail> {
