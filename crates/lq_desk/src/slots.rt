@@ -14,8 +14,8 @@ ghost use Rattle.lq_desk.specs.Reply.{answer_of};
 use crate::reply::Reply;
 use crate::slot::Slot;
 use crate::stored::{
-    act_in, can_move_in, close_in, commit_all, fill, fill_all, first_free, is_ending_in,
-    notice_all, read_in, ready_all,
+    act_in, can_move_in, close_in, commit_all, fill_all, first_free, is_ending_in, notice_all,
+    occupy, read_in, ready_all,
 };
 use crate::word::{has_bit, with_bit};
 use lq_desk_sub::Watch;
@@ -93,7 +93,7 @@ impl Slots {
         self.movable = with_bit(self.movable, place, slot.can_move());
         self.watch.set(place, slot.sub());
         if place < self.stored.len() {
-            fill(&mut self.stored, place, slot);
+            occupy(&mut self.stored, place, slot);
         } else {
             self.stored.push_reserved(Some(slot));
         }

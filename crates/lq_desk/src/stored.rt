@@ -34,7 +34,7 @@ pub fn first_free(slots: &[Option<Slot>]) -> usize
 }
 
 /// Puts a subscription into the slot at an index.
-pub fn fill(slots: &mut Vec<Option<Slot>>, place: usize, slot: Slot)
+pub fn occupy(slots: &mut Vec<Option<Slot>>, place: usize, slot: Slot)
     requires { place < length slots.old.items }
     ensures items { slots.new.items ≡ slice_set slots.old.items place (Some slot) }
     ensures len { vec_len slots.new ≡ vec_len slots.old }

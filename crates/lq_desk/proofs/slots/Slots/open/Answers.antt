@@ -19,7 +19,7 @@ returns-then-place-len c =
     ∙ (ap (λ ys. first_free (map kept_slot ys)) c.deref.ensures.value ∙ sym (first-free xs)) in
     let within : c.first_free-place.result < length xs =
     omega (arith, c.if-place-len.true, c.len.ensures) in
-    ap with_free c.fill.ensures.items
+    ap with_free c.occupy.ensures.items
     ∙ (sym (set-stored xs c.first_free-place.result x within)
     ∙ (ap (λ i. slice_set (with_free xs) i x) place
     ∙ ap (λ ys. slice_set ys (first_free (map kept_slot ys)) x) c.self.view_is))
@@ -57,12 +57,12 @@ with_bit-self-inside-requires-2 c = free-place
 pub invariant_of-self : goal.invariant_of-self
 invariant_of-self c =
     let xs = c.self.inside.stored.items in (
-      omega (arith, c.self.invariant.0, c.fill.ensures.len),
-      omega (arith, c.self.invariant.1, c.fill.ensures.room),
+      omega (arith, c.self.invariant.0, c.occupy.ensures.len),
+      omega (arith, c.self.invariant.1, c.occupy.ensures.room),
       marks-set c.self.inside.ending c.self.inside.movable c.with_bit-self-inside.result
           c.with_bit-self-inside-2.result (map kept_slot xs) _ c.first_free-place.result
           (kept_slot (Some c.args.slot))
-          (ap (map kept_slot) c.fill.ensures.items
+          (ap (map kept_slot) c.occupy.ensures.items
           ∙ map-set kept_slot xs c.first_free-place.result (Some c.args.slot))
           (subst (λ b. SetsBit c.self.inside.ending c.first_free-place.result b
           c.with_bit-self-inside.result) c.is_ending.ensures c.with_bit-self-inside.ensures)
@@ -71,7 +71,7 @@ invariant_of-self c =
           c.self.invariant.2,
       watched-set c.self.inside.watch _ (map kept_slot xs) _ c.first_free-place.result
           (slot_of c.args.slot)
-          (ap (map kept_slot) c.fill.ensures.items
+          (ap (map kept_slot) c.occupy.ensures.items
           ∙ map-set kept_slot xs c.first_free-place.result (Some c.args.slot))
           (watches c.self.inside.watch _ c.first_free-place.result c.args.slot c.sub.result.now
           c.sub.ensures c.set.ensures.here c.set.ensures.others)
