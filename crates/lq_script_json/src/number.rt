@@ -1,6 +1,6 @@
 //! The number in a JSON text.
-ghost use Rattle.std.specs.Prelude.{◌≡◌, ◌==◌, ◌+◌, ◌*◌, ◌<◌, ◌≤◌, ◌^◌, IfSome, IsTrue, None, Some, false, length, option_map, slice_index, true, if◌then◌else◌};
-ghost use Rattle.std.specs.Char.{digit_value, is_ascii_digit};
+ghost use Rattle.std.specs.Prelude.{◌≡◌, ◌==◌, ◌<◌, ◌≤◌, IfSome, IsTrue, false, length, option_map, slice_index, true};
+ghost use Rattle.std.specs.Char.{is_ascii_digit};
 ghost use Rattle.std.specs.List.{list_all};
 ghost use Rattle.std.specs.Str.Parse.{digits_value};
 ghost use Rattle.serde_json.specs.Read.{float_of, number_from, number_of};
@@ -39,22 +39,12 @@ pub(crate) fn digits_in(bytes: &[u8]) -> Option<u64>
     }
     let mut value: u64 = 0;
     for byte in bytes {
-        value = with_digit(value, *byte as u32)?;
+        if *byte < b'0' || *byte > b'9' {
+            return None;
+        }
+        value = value * 10 + (*byte - b'0') as u64;
     }
     Some(value)
-}
-
-// The number with one more digit appended; `None` where the code isn't a digit's.
-#[inline(always)]
-fn with_digit(value: u64, code: u32) -> Option<u64>
-    requires { value < 10 ^ 18 }
-    ensures { result ≡
-        (if is_ascii_digit code then Some (value * 10 + digit_value code) else None) }
-{
-    if code < 48 || code > 57 {
-        return None;
-    }
-    Some(value * 10 + (code - 48) as u64)
 }
 
 fn has_minus(bytes: &[u8]) -> bool
