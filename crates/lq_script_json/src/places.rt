@@ -85,82 +85,37 @@ impl<'a> Places<'a> {
         ensures { self.new ≡ updated key.now found.entry self.old }
     {
         match key.len() {
-            2 => self.put_2(key, found),
-            3 => self.put_3(key, found),
-            4 => self.put_4(key, found),
-            5 => self.put_5(key, found),
-            7 => self.put_7(key, found),
-            _ => {}
-        }
-    }
-
-    // The same for a key of 2 bytes.
-    #[inline(always)]
-    fn put_2(&mut self, key: &str, found: Field<'a>)
-        requires { length key.now ≡ 2 }
-        ensures { self.new ≡ updated key.now found.entry self.old }
-    {
-        match key {
-            "do" => self.act = found,
-            _ => {}
-        }
-    }
-
-    // The same for a key of 3 bytes.
-    #[inline(always)]
-    fn put_3(&mut self, key: &str, found: Field<'a>)
-        requires { length key.now ≡ 3 }
-        ensures { self.new ≡ updated key.now found.entry self.old }
-    {
-        match key {
-            "dir" => self.dir = found,
-            _ => {}
-        }
-    }
-
-    // The same for a key of 4 bytes.
-    #[inline(always)]
-    fn put_4(&mut self, key: &str, found: Field<'a>)
-        requires { length key.now ≡ 4 }
-        ensures { self.new ≡ updated key.now found.entry self.old }
-    {
-        match key {
-            "name" => self.name = found,
-            "size" => self.size = found,
-            "time" => self.time = found,
-            "node" => self.node = found,
-            "attr" => self.attr = found,
-            "type" => self.value_type = found,
-            "slot" => self.slot = found,
-            "kind" => self.kind = found,
-            "port" => self.port = found,
-            _ => {}
-        }
-    }
-
-    // The same for a key of 5 bytes.
-    #[inline(always)]
-    fn put_5(&mut self, key: &str, found: Field<'a>)
-        requires { length key.now ≡ 5 }
-        ensures { self.new ≡ updated key.now found.entry self.old }
-    {
-        match key {
-            "value" => self.given = found,
-            "query" => self.query = found,
-            "moved" => self.moved = found,
-            _ => {}
-        }
-    }
-
-    // The same for a key of 7 bytes.
-    #[inline(always)]
-    fn put_7(&mut self, key: &str, found: Field<'a>)
-        requires { length key.now ≡ 7 }
-        ensures { self.new ≡ updated key.now found.entry self.old }
-    {
-        match key {
-            "clobber" => self.clobber = found,
-            "backlog" => self.backlog = found,
+            2 => match key {
+                "do" => self.act = found,
+                _ => {}
+            },
+            3 => match key {
+                "dir" => self.dir = found,
+                _ => {}
+            },
+            4 => match key {
+                "name" => self.name = found,
+                "size" => self.size = found,
+                "time" => self.time = found,
+                "node" => self.node = found,
+                "attr" => self.attr = found,
+                "type" => self.value_type = found,
+                "slot" => self.slot = found,
+                "kind" => self.kind = found,
+                "port" => self.port = found,
+                _ => {}
+            },
+            5 => match key {
+                "value" => self.given = found,
+                "query" => self.query = found,
+                "moved" => self.moved = found,
+                _ => {}
+            },
+            7 => match key {
+                "clobber" => self.clobber = found,
+                "backlog" => self.backlog = found,
+                _ => {}
+            },
             _ => {}
         }
     }
