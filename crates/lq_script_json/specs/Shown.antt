@@ -2,7 +2,7 @@
 use Rattle.std.specs.Prelude.{◌≡◌, List, Option, Some, None, true, false}
 use Rattle.json.specs.Json.{Json}
 use Rattle.json.specs.Token.{Token}
-use Rattle.serde_json.specs.Data.{Num, Data, null, boolean, number, string, array, object, no_items, no_members, unsigned}
+use Rattle.serde_json.specs.Data.{Data, null, boolean, number, string, array, object, no_items, no_members, unsigned}
 use Rattle.serde_json.specs.Read.{converted, of_json}
 use Rattle.serde_json.specs.View.{number_view}
 use Rattle.lq_script_json.specs.declared.field.Field.{Field}
@@ -37,7 +37,3 @@ IsReadUpTo {A} rest read = (x : A) × (read ≡ Some (x, rest))
 abbrev pub Shows : Field → Option (Json × List Token) → List Token → Type 0
 Shows field read rest =
     (d : Data) × (converted of_json read ≡ Some (d, rest)) × (data_in field ≡ Some (shown d))
-
--- a field shows a number
-abbrev pub ShowsNumber : Field → Option Num → Type 0
-ShowsNumber field o = (n : Num) × (o ≡ Some n) × (data_in field ≡ Some (number n))

@@ -1,10 +1,10 @@
 //! The value of a member, as far as a line's fields go, read from its tokens.
-ghost use Rattle.std.specs.Prelude.{◌≡◌, ◌<◌, ◌≤◌, ◌∷◌, length, None, IfNone, IfOk, IfErr, IfSome, OnOk};
+ghost use Rattle.std.specs.Prelude.{◌≡◌, ◌<◌, ◌≤◌, ◌∷◌, length, None, IfOk, IfErr, OnOk};
 ghost use Rattle.json.specs.Json.{items, members, value};
 ghost use Rattle.json.specs.Reads.{token_of};
 ghost use Rattle.serde_json.specs.Data.{no_members};
-ghost use Rattle.serde_json.specs.Read.{converted, number_of, of_items, of_json, of_members};
-ghost use Rattle.lq_script_json.specs.Shown.{IsReadUpTo, Shows, ShowsNumber};
+ghost use Rattle.serde_json.specs.Read.{converted, of_items, of_json, of_members};
+ghost use Rattle.lq_script_json.specs.Shown.{IsReadUpTo, Shows};
 
 use crate::number::{digits_in, number_in};
 use json::{Invalid, Reader, Token};
@@ -57,10 +57,15 @@ pub(crate) fn field_from<'a>(
 {
     match token {
         Token::String(text) => Ok(Field::Text(text)),
-        Token::Number(text) => match number_field(text) {
-            Some(field) => Ok(field),
-            None => Err(Invalid),
-        },
+        Token::Number(text) => {
+            if let Some(number) = digits_in(text.as_bytes()) {
+                return Ok(Field::Whole(number));
+            }
+            match number_in(text) {
+                Some(number) => Ok(Field::Number(number)),
+                None => Err(Invalid),
+            }
+        }
         Token::Bool(true) => Ok(Field::True),
         Token::Bool(false) => Ok(Field::False),
         Token::Null => Ok(Field::Null),
@@ -112,19 +117,4 @@ fn pass_members(reader: &mut Reader<'_>, depth: usize) -> Result<(), Invalid>
         let _ = read_field(reader, depth)?;
     }
     Ok(())
-}
-
-// The field that a number is, given its text; `None` where it rounds to an infinite double.
-#[inline(always)]
-fn number_field<'a>(text: &str) -> Option<Field<'a>>
-    ensures some { IfSome result (λ field. ShowsNumber field (number_of text.now)) }
-    ensures none { IfNone result (number_of text.now ≡ None) }
-{
-    if let Some(number) = digits_in(text.as_bytes()) {
-        return Some(Field::Whole(number));
-    }
-    match number_in(text) {
-        Some(number) => Some(Field::Number(number)),
-        None => None,
-    }
 }

@@ -1,9 +1,11 @@
-use Rattle.std.proofs.Common.{◌≡◌, ◌-◌, ◌<◌, [], ◌∷◌, length, Some, None, true, false, refl, ap, ap₂, ◌∙◌, arith, rules}
+use Rattle.std.proofs.Common.{◌≡◌, ◌-◌, ◌<◌, [], ◌∷◌, length, Some, None, true, false, refl, sym, ap, ap₂, ◌∙◌, arith, rules}
 use Rattle.json.specs.Json.{parse_map, after_end_array, read_key, items, members, value}
 use Rattle.json.specs.Reads.{token_of}
 use Rattle.json.proofs.Grammar.{value_is, value-begin_array, value-begin_object, read_key-shorter}
-use Rattle.serde_json.specs.Data.{null, boolean, number, string, array, item, object, put, no_members}
-use Rattle.serde_json.specs.Read.{of_json, converted}
+use Rattle.serde_json.specs.Data.{null, boolean, number, string, array, item, object, put, no_members, unsigned}
+use Rattle.serde_json.specs.Read.{of_json, converted, number_of}
+use Rattle.serde_json.specs.View.{number_view}
+use Rattle.lq_script_json.proofs.NumberLemmas.{all_digits, number_of-digits}
 use Rattle.lq_script_json.proofs.ReadingLemmas.{converted-array, converted-object, item_read, item_refused, items_over, member_read, member_refused, key_refused, members_over}
 use Rattle.lq_script_json.proofs.WalkLemmas.{GoesOn-all, GoesOn-map, on-err}
 use Rattle.lq_script_json.proofs.field.+read.Goals as goal
@@ -55,18 +57,34 @@ field_from-returns-in-String-clause-ok t c =
 pub field_from-returns-in-Some-clause-ok : goal.field_from-returns-in-Some-clause-ok
 field_from-returns-in-Some-clause-ok t c =
     let ts = c.args.reader.now in
-    let shows = c.in-Some.ensures.some in (
-      number shows.0,
+    let s = c.as_bytes.result.now in
+    let digits = c.in-Some.ensures in
+    let read : number_of c.in-Number.text.now ≡ Some (unsigned c.in-Some.number) =
+    ap number_of (sym c.as_bytes.ensures.value)
+    ∙ number_of-digits s digits.some (all_digits s digits.digits) digits.few
+    ∙ ap (λ n. Some (unsigned n)) (sym digits.value) in (
+      number (unsigned c.in-Some.number),
       ap (λ k. converted of_json (value c.args.depth (token_of k ∷ ts))) c.in-Number.is
-          ∙ ap (converted of_json) (value_is c.args.depth _) ∙ rw shows.1 refl,
-      shows.2,
+          ∙ ap (converted of_json) (value_is c.args.depth _) ∙ rw read refl,
+      refl,
+    )
+
+pub field_from-returns-in-Some-number_in-clause-ok :
+    goal.field_from-returns-in-Some-number_in-clause-ok
+field_from-returns-in-Some-number_in-clause-ok t c =
+    let ts = c.args.reader.now in (
+      number (number_view c.in-Some-number_in.number),
+      ap (λ k. converted of_json (value c.args.depth (token_of k ∷ ts))) c.in-Number.is
+          ∙ ap (converted of_json) (value_is c.args.depth _)
+          ∙ rw (← c.in-Some-number_in.ensures) refl,
+      refl,
     )
 
 pub field_from-returns-in-None-clause-err : goal.field_from-returns-in-None-clause-err
 field_from-returns-in-None-clause-err t c =
     let ts = c.args.reader.now in
     ap (λ k. converted of_json (value c.args.depth (token_of k ∷ ts))) c.in-Number.is
-    ∙ ap (converted of_json) (value_is c.args.depth _) ∙ rw c.in-None.ensures.none refl
+    ∙ ap (converted of_json) (value_is c.args.depth _) ∙ rw (← c.in-None.ensures) refl
 
 pub field_from-returns-in-Bool-true-clause-ok : goal.field_from-returns-in-Bool-true-clause-ok
 field_from-returns-in-Bool-true-clause-ok t c =
