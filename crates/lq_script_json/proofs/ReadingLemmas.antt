@@ -159,9 +159,10 @@ pub whole_read : (o : Option (json.Json × List Token)) (d : Data)
     → converted of_json o ≡ Some (d, []) → whole_of o ≡ Some d
 whole_read o d e = let j = converted_some of_json o d [] e in ap whole_of j.1 ∙ j.2
 
-pub whole_and_more : (o : Option (json.Json × List Token)) (d : Data) (t : Token) (r : List Token)
-    → converted of_json o ≡ Some (d, t ∷ r) → whole_of o ≡ None
-whole_and_more o d t r e = ap whole_of (converted_some of_json o d (t ∷ r) e).1
+pub whole_and_more : (o : Option (json.Json × List Token)) (d : Data) (rest : List Token)
+    → (rest ≡ [] → ⊥) → converted of_json o ≡ Some (d, rest) → whole_of o ≡ None
+whole_and_more o d [] not e = absurd (not refl)
+whole_and_more o d (t ∷ r) not e = ap whole_of (converted_some of_json o d (t ∷ r) e).1
 
 pub whole_refused : (o : Option (json.Json × List Token)) → converted of_json o ≡ None
     → whole_of o ≡ None

@@ -1,6 +1,6 @@
 -- What is read while values are passed.
 use Rattle.std.proofs.Common.{◌≡◌, ◌∙◌, ℕ, zero, suc, length, List, ◌∷◌, Option, Some, None, option_map, refl, sym, ap, subst}
-use Rattle.std.specs.Prelude.{Result, Ok, Err, IfErr, IfOk, ⊤}
+use Rattle.std.specs.Prelude.{Bool, MatchBool, Result, Ok, Err, IfErr, IfOk, is_ok, ⊤}
 use Rattle.json.specs.Token as token
 use Rattle.json.specs.Token.{Token}
 use Rattle.json.specs.Json as json
@@ -37,16 +37,12 @@ pub on-err : {T E P : Type 0} (r : Result T E) → P → IfErr r (λ e. P)
 on-err (Ok x) holds = tt
 on-err (Err e) holds = holds
 
--- the same of a value
-pub on-ok : {T E P Q : Type 0} (r : Result T E) → (P → Q) → IfOk r (λ x. P) → IfOk r (λ x. Q)
-on-ok (Ok x) go holds = go holds
-on-ok (Err e) go holds = tt
-
--- and of an error that something follows from
-pub on-err-then : {T E P Q : Type 0} (r : Result T E) → (P → Q) → IfErr r (λ e. P)
-    → IfErr r (λ e. Q)
-on-err-then (Ok x) go holds = tt
-on-err-then (Err e) go holds = go holds
+-- what follows from a value and from an error, where a truth value says which one it is
+pub on-is_ok : {T E R S : Type 0} {P : T → Type 0} {Q : E → Type 0} (r : Result T E) (b : Bool)
+    → b ≡ is_ok r → ((x : T) → P x → R) → ((e : E) → Q e → S) → IfOk r P → IfErr r Q
+    → MatchBool b R S
+on-is_ok (Ok x) b is ok err held none = rw is (ok x held)
+on-is_ok (Err e) b is ok err held none = rw is (err e none)
 
 -- what was read has no field of this key
 abbrev HasNone : List ℕ → Option (Data × List Token) → Type 0
