@@ -29,19 +29,8 @@ pub enum Field<'a> {
     Object,
 }
 
-// The next value of the reader. Arrays and objects may nest `depth` deep. It takes no memory.
-#[cycle(read)]
-#[inline(always)]
-pub(crate) fn read_field<'a>(reader: &mut Reader<'a>, depth: usize) -> Result<Field<'a>, Invalid>
-    ensures ok { IfOk result (λ field. Shows field (value depth reader.old) reader.new) }
-    ensures err { IfErr result (λ _. converted of_json (value depth reader.old) ≡ None) }
-    ensures shorter { OnOk result (length reader.new < length reader.old) }
-{
-    let token = reader.next().ok_or(Invalid)?;
-    field_from(reader, token, depth)
-}
-
-// The value that begins with a token, which the reader has passed.
+// The value that begins with a token, which the reader has passed. Arrays and objects may nest
+// `depth` deep. It takes no memory.
 #[cycle(read)]
 #[inline(always)]
 pub(crate) fn field_from<'a>(
@@ -98,7 +87,8 @@ fn pass_items(reader: &mut Reader<'_>, depth: usize) -> Result<(), Invalid>
     ensures shorter { OnOk result (length reader.new < length reader.old) }
 {
     'items: while !reader.take_end_array() {
-        let _ = read_field(reader, depth)?;
+        let token = reader.next().ok_or(Invalid)?;
+        let _ = field_from(reader, token, depth)?;
     }
     Ok(())
 }
@@ -114,7 +104,8 @@ fn pass_members(reader: &mut Reader<'_>, depth: usize) -> Result<(), Invalid>
     ensures shorter { OnOk result (length reader.new < length reader.old) }
 {
     'members: while let Some(_) = reader.next_key()? {
-        let _ = read_field(reader, depth)?;
+        let token = reader.next().ok_or(Invalid)?;
+        let _ = field_from(reader, token, depth)?;
     }
     Ok(())
 }

@@ -5,7 +5,7 @@ ghost use Rattle.serde_json.specs.Data.{no_members};
 ghost use Rattle.serde_json.specs.Read.{converted, of_members};
 ghost use Rattle.lq_script_json.specs.Fields.{AreAbsent, HoldsMembers, field_at, updated};
 
-use crate::field::{Field, read_field};
+use crate::field::{Field, field_from};
 use crate::key::Key;
 use json::{Invalid, Reader};
 
@@ -73,7 +73,8 @@ impl<'a> Places<'a> {
             (members (value depth) (length reader.old) reader.old) ≡ None) }
     {
         'members: while let Some(key) = reader.next_key()? {
-            let found = read_field(reader, depth)?;
+            let token = reader.next().ok_or(Invalid)?;
+            let found = field_from(reader, token, depth)?;
             self.put(key, found);
         }
         Ok(())

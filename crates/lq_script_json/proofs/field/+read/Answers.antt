@@ -145,39 +145,42 @@ field_from-returns-in_ok-pass_members-in-BeginObject-clause-ok t c =
     let passed = c.in_ok-pass_members-in-BeginObject.ensures.ok in
     (object passed.0, opened ∙ ap (parse_map object) passed.1, refl)
 
-pub read_field-returns-in_err-token-clause-err : goal.read_field-returns-in_err-token-clause-err
-read_field-returns-in_err-token-clause-err t c =
-    let empty : c.args.reader.now ≡ [] = grind arith in
-    on-err _ (ap (converted of_json) (ap (value c.args.depth) empty ∙ value_is c.args.depth []))
-
 pub pass_items-items-init : goal.pass_items-items-init
 pass_items-items-init t c =
     (length c.args.reader.now, omega arith, GoesOn-all _, omega arith)
 
-pub pass_items-returns-in_err-read_field-clause-err :
-    goal.pass_items-returns-in_err-read_field-clause-err
-pass_items-returns-in_err-read_field-clause-err t c =
+pub pass_items-returns-in_err-token-clause-err : goal.pass_items-returns-in_err-token-clause-err
+pass_items-returns-in_err-token-clause-err t c =
     let p = value c.args.depth in
     let l = c.items in
-    let n = l.invariant.0 in
-    let going : (after_end_array l.reader ≡ None) × (c.take_end_array.new.self ≡ l.reader) =
-    grind arith in
+    let empty : l.reader ≡ [] = grind arith in
+    let none = ap (converted of_json) (ap p empty ∙ value_is c.args.depth []) in
     on-err _ (l.invariant.2.refused
-    (item_refused p n l.reader going.0 (rw (← going.1) c.in_err-read_field.ensures.err)))
+    (item_refused p l.invariant.0 l.reader (ap after_end_array empty) none))
+
+pub pass_items-returns-in_err-field_from-clause-err :
+    goal.pass_items-returns-in_err-field_from-clause-err
+pass_items-returns-in_err-field_from-clause-err t c =
+    let p = value c.args.depth in
+    let l = c.items in
+    let going : (after_end_array l.reader ≡ None)
+    × (l.reader ≡ token_of c.in_ok-token.token ∷ c.next.new.self) = grind arith in
+    let none = ap (λ ts. converted of_json (p ts)) going.1 ∙ c.in_err-field_from.ensures.err in
+    on-err _ (l.invariant.2.refused (item_refused p l.invariant.0 l.reader going.0 none))
 
 pub pass_items-items-preserved : goal.pass_items-items-preserved
 pass_items-items-preserved t c =
     let p = value c.args.depth in
     let l = c.items in
     let n = l.invariant.0 in
-    let going : (after_end_array l.reader ≡ None) × (c.take_end_array.new.self ≡ l.reader) =
-    grind arith in
-    let done = c.in_ok-read_field.ensures in
+    let going : (after_end_array l.reader ≡ None)
+    × (l.reader ≡ token_of c.in_ok-token.token ∷ c.next.new.self) = grind arith in
+    let done = c.in_ok-field_from.ensures in
     let d = done.ok.0 in
-    let r = c.read_field.new.reader in
-    let less : length r < length l.reader = rw (← going.1) done.shorter in
+    let r = c.field_from.new.reader in
+    let less : length r < length l.reader = omega (arith, ap length going.1, done.no_longer) in
     let turn = item_read p n l.reader r d (omega (arith, l.invariant.1)) going.0
-    (rw (← going.1) done.ok.1) in (
+    (ap (λ ts. converted of_json (p ts)) going.1 ∙ done.ok.1) in (
       n - 1,
       omega (arith, l.invariant.1),
       GoesOn-map (item d) _ _ _ turn l.invariant.2,
@@ -203,16 +206,31 @@ pass_members-returns-in_err-next_key-clause-err t c =
     ∙ key_refused (value c.args.depth) l.invariant.1 l.invariant.0 l.reader
     c.in_err-next_key.ensures.value)
 
-pub pass_members-returns-in_err-read_field-clause-err :
-    goal.pass_members-returns-in_err-read_field-clause-err
-pass_members-returns-in_err-read_field-clause-err t c =
+pub pass_members-returns-in_err-token-clause-err :
+    goal.pass_members-returns-in_err-token-clause-err
+pass_members-returns-in_err-token-clause-err t c =
+    let p = value c.args.depth in
     let l = c.members in
     let k = c.in-Some.field-0.now in
     let s = c.next_key.new.self in
     let named : read_key l.reader ≡ Some (Some k, s) = grind arith in
+    let empty : s ≡ [] = grind arith in
+    let none = ap (converted of_json) (ap p empty ∙ value_is c.args.depth []) in
     on-err _ (l.invariant.3
-    ∙ member_refused (value c.args.depth) l.invariant.1 l.invariant.0 k l.reader s named
-    c.in_err-read_field.ensures.err)
+    ∙ member_refused p l.invariant.1 l.invariant.0 k l.reader s named none)
+
+pub pass_members-returns-in_err-field_from-clause-err :
+    goal.pass_members-returns-in_err-field_from-clause-err
+pass_members-returns-in_err-field_from-clause-err t c =
+    let p = value c.args.depth in
+    let l = c.members in
+    let k = c.in-Some.field-0.now in
+    let s = c.next_key.new.self in
+    let named : read_key l.reader ≡ Some (Some k, s) = grind arith in
+    let first : s ≡ token_of c.in_ok-token.token ∷ c.next.new.self = grind arith in
+    let none = ap (λ ts. converted of_json (p ts)) first ∙ c.in_err-field_from.ensures.err in
+    on-err _ (l.invariant.3
+    ∙ member_refused p l.invariant.1 l.invariant.0 k l.reader s named none)
 
 pub pass_members-members-preserved : goal.pass_members-members-preserved
 pass_members-members-preserved t c =
@@ -222,17 +240,18 @@ pass_members-members-preserved t c =
     let k = c.in-Some.field-0.now in
     let s = c.next_key.new.self in
     let named : read_key l.reader ≡ Some (Some k, s) = grind arith in
-    let done = c.in_ok-read_field.ensures in
+    let first : s ≡ token_of c.in_ok-token.token ∷ c.next.new.self = grind arith in
+    let done = c.in_ok-field_from.ensures in
     let d = done.ok.0 in
-    let r = c.read_field.new.reader in
+    let r = c.field_from.new.reader in
     let less = read_key-shorter l.reader (Some k) s named in
-    let lesser = done.shorter in (
+    let lesser : length r < length s = omega (arith, ap length first, done.no_longer) in (
       n - 1,
       put k d l.invariant.1,
       omega (arith, l.invariant.2),
       l.invariant.3
           ∙ member_read p l.invariant.1 n k l.reader s r d (omega (arith, l.invariant.2)) named
-          done.ok.1,
+          (ap (λ ts. converted of_json (p ts)) first ∙ done.ok.1),
       omega (arith, l.invariant.4),
     )
 

@@ -5,17 +5,14 @@ use Rattle.serde_json.specs.Read.{of_items, of_members, converted}
 use Rattle.lq_script_json.proofs.WalkLemmas.{GoesOn}
 use Rattle.lq_script_json.proofs.field.+read.Given as goal
 
-abbrev pub decreases-read_field : goal.decreases-read_field
-decreases-read_field l = 3 * l.depth + 1
-
 abbrev pub decreases-field_from : goal.decreases-field_from
-decreases-field_from l = 3 * l.depth
+decreases-field_from l = 2 * l.depth
 
 abbrev pub decreases-pass_items : goal.decreases-pass_items
-decreases-pass_items l = 3 * l.depth + 2
+decreases-pass_items l = 2 * l.depth + 1
 
 abbrev pub decreases-pass_members : goal.decreases-pass_members
-decreases-pass_members l = 3 * l.depth + 2
+decreases-pass_members l = 2 * l.depth + 1
 
 -- the rest of the items decides on all
 abbrev pub invariant-pass_items-items : goal.invariant-pass_items-items

@@ -1,7 +1,9 @@
-use Rattle.std.proofs.Common.{◌≡◌, ◌∙◌, ◌-◌, length, Some, refl, sym, ap, arith, subst}
+use Rattle.std.proofs.Common.{◌≡◌, ◌∙◌, ◌-◌, ◌<◌, [], ◌∷◌, length, Some, refl, sym, ap, arith, subst}
 use Rattle.json.specs.Json.{read_key, value}
-use Rattle.json.proofs.Grammar.{read_key-shorter}
+use Rattle.json.specs.Reads.{token_of}
+use Rattle.json.proofs.Grammar.{read_key-shorter, value_is}
 use Rattle.serde_json.specs.Data.{no_members, object, put}
+use Rattle.serde_json.specs.Read.{converted, of_json}
 use Rattle.lq_script_json.specs.Fields.{Show}
 use Rattle.lq_script_json.specs.Shown.{data_in}
 use Rattle.lq_script_json.proofs.FieldsLemmas.{Show-put}
@@ -20,15 +22,29 @@ returns-in_err-key-clause-err c =
     ∙ key_refused (value c.args.depth) l.invariant.1 l.invariant.0 l.reader
     c.in_err-key.ensures.value)
 
-pub returns-in_err-found-clause-err : goal.returns-in_err-found-clause-err
-returns-in_err-found-clause-err c =
+pub returns-in_err-token-clause-err : goal.returns-in_err-token-clause-err
+returns-in_err-token-clause-err c =
+    let p = value c.args.depth in
     let l = c.members in
     let k = c.in-Some.key.now in
     let s = c.next_key.new.self in
     let named : read_key l.reader ≡ Some (Some k, s) = grind arith in
+    let empty : s ≡ [] = grind arith in
+    let none = ap (converted of_json) (ap p empty ∙ value_is c.args.depth []) in
     on-err _ (l.invariant.3
-    ∙ member_refused (value c.args.depth) l.invariant.1 l.invariant.0 k l.reader s named
-    c.in_err-found.ensures.err)
+    ∙ member_refused p l.invariant.1 l.invariant.0 k l.reader s named none)
+
+pub returns-in_err-found-clause-err : goal.returns-in_err-found-clause-err
+returns-in_err-found-clause-err c =
+    let p = value c.args.depth in
+    let l = c.members in
+    let k = c.in-Some.key.now in
+    let s = c.next_key.new.self in
+    let named : read_key l.reader ≡ Some (Some k, s) = grind arith in
+    let first : s ≡ token_of c.in_ok-token.token ∷ c.next.new.self = grind arith in
+    let none = ap (λ ts. converted of_json (p ts)) first ∙ c.in_err-found.ensures.err in
+    on-err _ (l.invariant.3
+    ∙ member_refused p l.invariant.1 l.invariant.0 k l.reader s named none)
 
 pub members-preserved : goal.members-preserved
 members-preserved c =
@@ -38,17 +54,18 @@ members-preserved c =
     let k = c.in-Some.key.now in
     let s = c.next_key.new.self in
     let named : read_key l.reader ≡ Some (Some k, s) = grind arith in
+    let first : s ≡ token_of c.in_ok-token.token ∷ c.next.new.self = grind arith in
     let done = c.in_ok-found.ensures in
     let d = done.ok.0 in
-    let r = c.read_field.new.reader in
+    let r = c.field_from.new.reader in
     let less = read_key-shorter l.reader (Some k) s named in
-    let lesser = done.shorter in (
+    let lesser : length r < length s = omega (arith, ap length first, done.no_longer) in (
       n - 1,
       put k d l.invariant.1,
       omega (arith, l.invariant.2),
       l.invariant.3
           ∙ member_read p l.invariant.1 n k l.reader s r d (omega (arith, l.invariant.2)) named
-          done.ok.1,
+          (ap (λ ts. converted of_json (p ts)) first ∙ done.ok.1),
       subst (λ places. Show places (object (put k d l.invariant.1))) (sym c.put.ensures)
           (Show-put k c.in_ok-found.found l.self d l.invariant.1 done.ok.2 l.invariant.4),
     )
