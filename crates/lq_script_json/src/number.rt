@@ -39,10 +39,11 @@ pub(crate) fn digits_in(bytes: &[u8]) -> Option<u64>
     }
     let mut value: u64 = 0;
     for byte in bytes {
-        if *byte < b'0' || *byte > b'9' {
+        let code = *byte as u32;
+        if code < 48 || code > 57 {
             return None;
         }
-        value = value * 10 + (*byte - b'0') as u64;
+        value = value * 10 + (code - 48) as u64;
     }
     Some(value)
 }
