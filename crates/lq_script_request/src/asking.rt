@@ -1,6 +1,5 @@
 //! From the bytes of a line to its question.
-ghost use Rattle.std.specs.Prelude.{◌≡◌, ◌⊎◌, IfOk, IfErr, IfSome, IfNone, Ok, Err};
-ghost use Rattle.std.specs.Str.{IsUtf8};
+ghost use Rattle.std.specs.Prelude.{◌≡◌, ◌⊎◌, IfOk, IfErr, Ok, Err};
 ghost use Rattle.lq_value.specs.declared.refusal.Refusal.TheVariants.{NoMemory};
 ghost use Rattle.lq_script_request.specs.Asked.{asked, given};
 ghost use Rattle.lq_script_request.specs.Request.{asks_create, asks_fetch, asks_find, asks_move, asks_open, asks_set, asks_unset, value_for, question_for, question_in};
@@ -30,26 +29,16 @@ pub fn question_in(alloc: Global, scratch: &mut Scratch, line: &[u8]) -> Result<
     if let Some(slot) = plain_read(line) {
         return Ok(Question::Event(Event::Take(slot)));
     }
-    let Some(text) = text_of(line) else {
+    if !is_utf8(line) {
         return Err(Refusal::NotUtf8);
-    };
+    }
+    let text = unsafe { str::from_utf8_unchecked(line) };
     let mut fields = Fields::new();
     fields.read(&mut scratch.json, text)?;
     let Some(request) = request_in(&fields) else {
         return Err(Refusal::BadLine);
     };
     question_for(alloc, &mut scratch.attrs, &request)
-}
-
-// The text that a line is; `None` where its bytes aren't UTF-8.
-fn text_of(line: &[u8]) -> Option<&str>
-    ensures text { IfSome result (λ text. (text.now ≡ line.now) × IsUtf8 line.now) }
-    ensures other { IfNone result (¬ IsUtf8 line.now) }
-{
-    if !is_utf8(line) {
-        return None;
-    }
-    Some(unsafe { str::from_utf8_unchecked(line) })
 }
 
 /// The question of a request, with its values read.

@@ -1,4 +1,5 @@
 use Rattle.std.proofs.Common.{◌≡◌, ◌∙◌, ap, inr, rules, sym, Err}
+use Rattle.std.specs.Str.{IsUtf8}
 use Rattle.serde_json.specs.Read.{read}
 use Rattle.lq_script_json.specs.Fields.{whole}
 use Rattle.lq_script_request.specs.Request.{asked_from, asked_or, question_from, question_in}
@@ -10,30 +11,34 @@ pub returns-in-Some-clause-value : goal.returns-in-Some-clause-value
 returns-in-Some-clause-value c =
     ap question_in c.in-Some.ensures.line ∙ line-asks c.in-Some.slot c.in-Some.ensures.small
 
-pub returns-in_default-text_of-clause-refused : goal.returns-in_default-text_of-clause-refused
-returns-in_default-text_of-clause-refused c =
-    inr (ap question_from (asked-not_utf8 c.args.line.now c.in_default-text_of.ensures.other))
+pub returns-then-not-is_utf8-clause-refused : goal.returns-then-not-is_utf8-clause-refused
+returns-then-not-is_utf8-clause-refused c =
+    let other : ¬ IsUtf8 c.args.line.now = search rules in
+    inr (ap question_from (asked-not_utf8 c.args.line.now other))
 
 pub returns-in_err-read-clause-refused : goal.returns-in_err-read-clause-refused
 returns-in_err-read-clause-refused c =
-    let text = c.in-Some-text_of.ensures.text in
-    let asks = asked-utf8 c.args.line.now text.1 ∙ ap asked_from (ap read (sym text.0)) in
+    let utf8 : IsUtf8 c.args.line.now = search rules in
+    let asks = asked-utf8 c.args.line.now utf8
+    ∙ ap asked_from (ap read (sym c.from_utf8_unchecked-text.ensures)) in
     let is : c.from_residual.result ≡ Err c.in_err-read.field-0.0 = search rules in
     rw is (line-refused c.args.line.now _ _ asks c.in_err-read.ensures.refused)
 
 pub returns-in_default-request_in-clause-refused :
     goal.returns-in_default-request_in-clause-refused
 returns-in_default-request_in-clause-refused c =
-    let text = c.in-Some-text_of.ensures.text in
-    let asks = asked-utf8 c.args.line.now text.1 ∙ ap asked_from (ap read (sym text.0)) in
+    let utf8 : IsUtf8 c.args.line.now = search rules in
+    let asks = asked-utf8 c.args.line.now utf8
+    ∙ ap asked_from (ap read (sym c.from_utf8_unchecked-text.ensures)) in
     let found = line-asks-found c.args.line.now _ (whole c.read.new.self) asks
     c.in_ok-read.ensures.value in
     inr (ap question_from (found ∙ ap asked_or (sym c.in_default-request_in.ensures)))
 
 pub returns-clause-value : goal.returns-clause-value
 returns-clause-value c =
-    let text = c.in-Some-text_of.ensures.text in
-    let asks = asked-utf8 c.args.line.now text.1 ∙ ap asked_from (ap read (sym text.0)) in
+    let utf8 : IsUtf8 c.args.line.now = search rules in
+    let asks = asked-utf8 c.args.line.now utf8
+    ∙ ap asked_from (ap read (sym c.from_utf8_unchecked-text.ensures)) in
     let found = line-asks-found c.args.line.now _ (whole c.read.new.self) asks
     c.in_ok-read.ensures.value in
     let same = ap question_from (found ∙ ap asked_or (sym c.in-Some-request_in.ensures)) in
@@ -41,8 +46,9 @@ returns-clause-value c =
 
 pub returns-clause-refused : goal.returns-clause-refused
 returns-clause-refused c =
-    let text = c.in-Some-text_of.ensures.text in
-    let asks = asked-utf8 c.args.line.now text.1 ∙ ap asked_from (ap read (sym text.0)) in
+    let utf8 : IsUtf8 c.args.line.now = search rules in
+    let asks = asked-utf8 c.args.line.now utf8
+    ∙ ap asked_from (ap read (sym c.from_utf8_unchecked-text.ensures)) in
     let found = line-asks-found c.args.line.now _ (whole c.read.new.self) asks
     c.in_ok-read.ensures.value in
     let same = ap question_from (found ∙ ap asked_or (sym c.in-Some-request_in.ensures)) in
