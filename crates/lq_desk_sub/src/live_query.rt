@@ -113,7 +113,10 @@ impl LiveQuery {
             (record_at (after planned.now.before planned.now.change)
             (node_of planned.now.before planned.now.change))) }
     {
-        if self.passes_over(planned) {
+        passed_changes_tell_nothing();
+        // For its clauses `lawful` and `volume`.
+        let _ = planned.applied();
+        if self.looks_elsewhere(planned.change()) || writes_beside(&self.spans, planned) {
             return None;
         }
         let matches = matches_of(&self.predicate, planned);
@@ -122,19 +125,6 @@ impl LiveQuery {
         } else {
             None
         }
-    }
-
-    // Whether a change has no message for the query, by what the change alters alone: if false, it
-    // may have some.
-    #[inline(always)]
-    fn passes_over(&self, planned: &Planned<'_>) -> bool
-        ensures { (moved : Bool) → (seq : ℕ) → result ≡ true
-            → step_of self.now moved planned.now.before planned.now.change seq ≡ [] }
-    {
-        passed_changes_tell_nothing();
-        // For its clauses `lawful` and `volume`.
-        let _ = planned.applied();
-        self.looks_elsewhere(planned.change()) || writes_beside(&self.spans, planned)
     }
 
     // Whether a change has no message for the query, by the names that it alters.

@@ -1,9 +1,6 @@
 //! One subscription.
-ghost use Rattle.std.specs.Prelude.{◌≡◌, ◌+◌, ◌<◌, ◌^◌, [], length, not, is_some, false, None, Some, IfOk, IsTrue, IfSome};
+ghost use Rattle.std.specs.Prelude.{◌≡◌, ◌+◌, ◌<◌, ◌^◌, [], length, is_some, false, None, Some, IfOk, IsTrue, IfSome};
 ghost use Rattle.lq_value.specs.Refusal.{IsRefusedBy};
-ghost use Rattle.lq_predicate.specs.Names.{names_of};
-ghost use Rattle.lq_predicate.specs.Needs.{needs_attribute};
-ghost use Rattle.lq_desk_sub.specs.Passing.{HasEndings, are_written};
 
 use crate::live_query::LiveQuery;
 use crate::messages::Messages;
@@ -110,29 +107,6 @@ impl Sub {
         ensures { result ≡ is_live self.now.held }
     {
         self.mark.is_none()
-    }
-
-    // Whether a write alters what one of the query's names shows.
-    #[inline(always)]
-    pub(crate) fn sees_writes(&self) -> bool
-        ensures { result ≡ are_written (names_of self.now.held.query) }
-    {
-        self.query.sees_writes()
-    }
-
-    // Whether the query may match an entry without attributes, as each creation makes one.
-    pub(crate) fn sees_creates(&self) -> bool
-        ensures { result ≡ not (needs_attribute self.now.held.query) }
-    {
-        self.query.sees_creates()
-    }
-
-    // A word with a bit for the ending of each of the query's names.
-    #[inline(always)]
-    pub(crate) fn endings(&self) -> u64
-        ensures { HasEndings (names_of self.now.held.query) result }
-    {
-        self.query.endings()
     }
 
     /// Whether the mark went out. It takes no memory.

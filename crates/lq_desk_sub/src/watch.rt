@@ -53,10 +53,11 @@ impl Watch {
     {
         passed_changes_tell_nothing();
         bare_creates_tell_nothing();
+        let query = &sub.query;
         self.all = put_bit(self.all, place, true);
-        self.creates = put_bit(self.creates, place, sub.sees_creates());
-        self.writes = put_bit(self.writes, place, sub.sees_writes());
-        let endings = sub.endings();
+        self.creates = put_bit(self.creates, place, query.sees_creates());
+        self.writes = put_bit(self.writes, place, query.sees_writes());
+        let endings = query.endings();
         for ending in 0..64 {
             self.attrs[ending] = put_bit(self.attrs[ending], place, has_bit(endings, ending));
         }

@@ -1,7 +1,29 @@
-use Rattle.std.proofs.Common.{◌≡◌, ap, sym, ◌∙◌}
+use Rattle.std.proofs.Common.{◌≡◌, ap, sym, ◌∙◌, true}
+use Rattle.lq_predicate.specs.Names.{names_of}
+use Rattle.lq_predicate.specs.Spans.{spans_of}
 use Rattle.lq_volume.specs.Plan.{Plan}
 use Rattle.lq_update.specs.Updates.{step_of}
+use Rattle.lq_desk_sub.specs.Passing.{passes_over}
+use Rattle.lq_desk_sub.proofs.live_query.LiveQuery.asked.Goals.{then-looks_elsewhere-via-then-looks_elsewhere, then-looks_elsewhere-via-else-looks_elsewhere+then-writes_beside}
 use Rattle.lq_desk_sub.proofs.live_query.LiveQuery.asked.Goals as goal
+
+pub returns-then-looks_elsewhere-clause-none : goal.returns-then-looks_elsewhere-clause-none
+returns-then-looks_elsewhere-clause-none c moved seq =
+    let q = c.args.self.now in
+    let s = c.args.planned.now.before in
+    let change = c.args.planned.now.change in
+    elim c.then-looks_elsewhere.branch [
+      | then-looks_elsewhere-via-then-looks_elsewhere w ↦
+          let over : passes_over (names_of q) change ≡ true =
+          ap (passes_over (names_of q)) (sym c.change.ensures)
+          ∙ (sym c.looks_elsewhere.ensures ∙ w.if-looks_elsewhere.true) in
+          c.passed_changes_tell_nothing.ensures q change over moved s seq c.applied.ensures.volume
+          c.applied.ensures.lawful
+      | then-looks_elsewhere-via-else-looks_elsewhere+then-writes_beside w ↦
+          let spans : c.self.inside.spans ≡ spans_of q =
+          c.self.invariant.3 ∙ ap spans_of c.self.view_is in
+          w.writes_beside.ensures q moved seq w.if-writes_beside.true spans
+    ]
 
 pub returns-else-may_tell-clause-none : goal.returns-else-may_tell-clause-none
 returns-else-may_tell-clause-none c moved seq =

@@ -1,22 +1,31 @@
-use Rattle.std.proofs.Common.{arith, length-set, refl, subst}
-use Rattle.std.specs.Prelude.{slice_index}
+use Rattle.std.proofs.Common.{◌≡◌, arith, ap, ◌∙◌, length-set, refl, subst}
+use Rattle.std.specs.Prelude.{not, slice_index}
+use Rattle.lq_predicate.specs.Names.{names_of}
+use Rattle.lq_predicate.specs.Needs.{needs_attribute}
+use Rattle.lq_desk_sub.specs.Held.{Prepared}
+use Rattle.lq_desk_sub.specs.Passing.{HasEndings, are_written}
 use Rattle.lq_desk_sub.specs.Watch.{PutsBit}
 use Rattle.lq_desk_sub.proofs.WatchLemmas.{set-more, watch-here, watch-others}
 use Rattle.lq_desk_sub.proofs.watch.Watch.set.Goals as goal
 
 pub loop-ending-init : goal.loop-ending-init
-loop-ending-init c = record {
-  all = c.put_bit-self.ensures;
-  creates = subst (λ b. PutsBit c.args.self.now.creates c.args.place b c.put_bit-self-2.result)
-      c.sees_creates.ensures c.put_bit-self-2.ensures;
-  writes = subst (λ b. PutsBit c.args.self.now.writes c.args.place b c.put_bit-self-3.result)
-      c.sees_writes.ensures c.put_bit-self-3.ensures;
-  attrs = record {
-    done = λ e lt. absurd (omega (arith, lt));
-    left = λ e le. refl;
-    long = refl;
-  };
-}
+loop-ending-init c =
+    let query : c.sub.inside.query ≡ c.args.sub.now.held.query =
+    ap (λ (p : Prepared). p.held.query) c.sub.view_is in
+    record {
+      all = c.put_bit-self.ensures;
+      creates = subst (λ b. PutsBit c.args.self.now.creates c.args.place b c.put_bit-self-2.result)
+          (c.sees_creates.ensures ∙ ap (λ q. not (needs_attribute q)) query)
+          c.put_bit-self-2.ensures;
+      writes = subst (λ b. PutsBit c.args.self.now.writes c.args.place b c.put_bit-self-3.result)
+          (c.sees_writes.ensures ∙ ap (λ q. are_written (names_of q)) query)
+          c.put_bit-self-3.ensures;
+      attrs = record {
+        done = λ e lt. absurd (omega (arith, lt));
+        left = λ e le. refl;
+        long = refl;
+      };
+    }
 
 pub loop-ending-preserved : goal.loop-ending-preserved
 loop-ending-preserved c =
@@ -35,17 +44,21 @@ loop-ending-preserved c =
 pub returns-clause-here : goal.returns-clause-here
 returns-clause-here c =
     let i = c.loop-ending.invariant in
+    let query = ap (λ (p : Prepared). p.held.query) c.sub.view_is in
     watch-here c.passed_changes_tell_nothing.ensures c.bare_creates_tell_nothing.ensures
     c.args.sub.now.held.query c.args.self.now c.loop-ending.self
     c.args.place c.endings-endings.result c.loop-ending.ending
     (omega (arith, c.loop-ending-test.false)) i.all i.creates i.writes i.attrs
-    c.endings-endings.ensures
+    (subst (λ q. HasEndings (names_of q) c.endings-endings.result) query
+    c.endings-endings.ensures)
 
 pub returns-clause-others : goal.returns-clause-others
 returns-clause-others c =
     let i = c.loop-ending.invariant in
+    let query = ap (λ (p : Prepared). p.held.query) c.sub.view_is in
     watch-others c.passed_changes_tell_nothing.ensures c.bare_creates_tell_nothing.ensures
     c.args.sub.now.held.query c.args.self.now c.loop-ending.self
     c.args.place c.endings-endings.result c.loop-ending.ending
     (omega (arith, c.loop-ending-test.false)) i.all i.creates i.writes i.attrs
-    c.endings-endings.ensures
+    (subst (λ q. HasEndings (names_of q) c.endings-endings.result) query
+    c.endings-endings.ensures)
