@@ -3,7 +3,7 @@ use Rattle.std.proofs.Common.{◌≡◌, true, arith}
 use Rattle.std.specs.Prelude.{if◌then◌else◌, Some, None}
 use Rattle.std.proofs.lemmas.Bool.Decides.{nat_tests}
 use Rattle.lq_value.specs.Refusal.{first_refusal}
-use Rattle.lq_value.specs.declared.refusal.Refusal.TheVariants.{Mismatch, OutOfStep}
+use Rattle.lq_value.specs.declared.refusal.Refusal.TheVariants.{Mismatch}
 use Rattle.lq_update.specs.declared.message.Message.{Message}
 use Rattle.lq_update.specs.Fold.{Folding, fold_refusals, fits_in}
 use Rattle.lq_update.specs.Latest.{may_follow}

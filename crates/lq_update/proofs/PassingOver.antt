@@ -1,13 +1,12 @@
 -- A change under names that a predicate doesn't go by leaves its result as it was.
 use Rattle.std.proofs.Common.{◌≡◌, ◌⊎◌, inl, inr, ℕ, ℤ, pos, List, [], ◌∷◌, ◌++◌, ◌<◌, refl, sym, ap, subst, ◌∙◌, Bool, true, false, arith}
-use Rattle.std.specs.Prelude.{Option, Some, None, map, filter, codes, not, cond, ◌==◌, nat_eq, option_and_then}
+use Rattle.std.specs.Prelude.{Option, Some, None, map, filter, codes, cond, ◌==◌, nat_eq, option_and_then}
 use Rattle.std.specs.List.{AllByRecursion, list_any}
 use Rattle.std.specs.Map.{lookup}
 use Rattle.std.specs.Option.{option_map}
 use Rattle.std.specs.Str.{bytes_eq}
 use Rattle.std.proofs.lemmas.Bool.{cases_eq}
 use Rattle.std.proofs.lemmas.Bool.Decides.{nat_tests}
-use Rattle.std.proofs.lemmas.Map.Entries.{lookup-filter-keys}
 use Rattle.std.proofs.lemmas.Slice.Eq.{bytes_eq-Decides}
 use Rattle.lq_value.specs.declared.entry.Entry.{Entry}
 use Rattle.lq_value.specs.declared.field.Field.TheVariants.{Name, Size, LastModified, Attribute}
@@ -18,7 +17,7 @@ use Rattle.lq_predicate.specs.Laws.{BareRowsFail, TruthStaysBesideSpans}
 use Rattle.lq_predicate.specs.Span.{StaysBeside, is_beside, span_of}
 use Rattle.lq_predicate.specs.Truth.{truth}
 use Rattle.lq_volume.specs.declared.change.Change.TheVariants.{Create, Remove, Move, Write, SetAttr, RemoveAttr}
-use Rattle.lq_volume.specs.Attributes.{Attributes, value_of, with_attr, without_attr}
+use Rattle.lq_volume_attributes.specs.Laws.{ValuesAreFound}
 use Rattle.lq_volume.specs.State.{State, Record, IsVolume, record_at}
 use Rattle.lq_volume.specs.Change.{after, altered, written, set_attr, remove_attr}
 use Rattle.lq_volume.specs.Laws.{ChangesKeepTrees, ClobberedGo, UntouchedStay}
@@ -45,40 +44,6 @@ same-name names name other among not_among = at (bytes_eq name other) refl
         ap (λ n. list_any (bytes_eq n) names) (sym same) ∙ among in
         cc
 
--- a setting of an attribute leaves the value of every other
-value_of-with_other : (attrs : Attributes) (attr name : List ℕ) (value : Value)
-    → bytes_eq name attr ≡ false → value_of (with_attr attrs attr value) name ≡ value_of attrs name
-value_of-with_other [] attr name value off = rw off refl
-value_of-with_other (a ∷ attrs) attr name value off =
-    at (bytes_eq attr a.0) refl (value_of-with_other attrs attr name value off)
-  where
-    at : (b : Bool)
-        → bytes_eq attr a.0 ≡ b → value_of (with_attr attrs attr value) name ≡ value_of attrs name
-        → value_of (with_attr (a ∷ attrs) attr value) name ≡ value_of (a ∷ attrs) name
-    at true is rest =
-        let same : attr ≡ a.0 = (bytes_eq-Decides attr a.0).0 is in
-        let off_here : bytes_eq name a.0 ≡ false = ap (bytes_eq name) (sym same) ∙ off in
-        rw is (rw off_here refl)
-    at false is rest = rw is (ap (λ o. cond (bytes_eq name a.0) (Some a.1) o) rest)
-
--- a removal of an attribute leaves the value of every other
-value_of-without_other : (attrs : Attributes) (attr name : List ℕ) → bytes_eq name attr ≡ false
-    → value_of (without_attr attrs attr) name ≡ value_of attrs name
-value_of-without_other attrs attr name off =
-    lookup-filter-keys (bytes_eq name) (λ k. not (bytes_eq attr k)) true keeps attrs
-  where
-    keeps : (k : List ℕ) → bytes_eq name k ≡ true → not (bytes_eq attr k) ≡ true
-    keeps k is = at (bytes_eq attr k) refl
-      where
-        at : (b : Bool) → bytes_eq attr k ≡ b → not (bytes_eq attr k) ≡ true
-        at false there = rw there refl
-        at true there =
-            let same : name ≡ k = (bytes_eq-Decides name k).0 is in
-            let other : attr ≡ k = (bytes_eq-Decides attr k).0 there in
-            let on : bytes_eq name attr ≡ true =
-            (bytes_eq-Decides name attr).1 (same ∙ sym other) in
-            cc
-
 -- what an altered record shows under another name
 shown-written : (size : ℕ) (time : ℤ) (r : Record) (name : List ℕ)
     → bytes_eq name (codes "size") ≡ false → bytes_eq name (codes "last_modified") ≡ false
@@ -86,14 +51,14 @@ shown-written : (size : ℕ) (time : ℤ) (r : Record) (name : List ℕ)
 shown-written size time r name p q = rw (p, q) refl
 
 -- a setting leaves what a record shows under every other name
-shown-set_attr : (attr : List ℕ) (value : Value) (r : Record) (name : List ℕ)
+shown-set_attr : ValuesAreFound → (attr : List ℕ) (value : Value) (r : Record) (name : List ℕ)
     → bytes_eq name attr ≡ false → shown (set_attr attr value r) name ≡ shown r name
-shown-set_attr attr value r name off = rw (value_of-with_other r.attrs attr name value off) refl
+shown-set_attr found attr value r name off = rw (found.set r.attrs attr name value, off) refl
 
 -- and so does a removal
-shown-remove_attr : (attr : List ℕ) (r : Record) (name : List ℕ) → bytes_eq name attr ≡ false
-    → shown (remove_attr attr r) name ≡ shown r name
-shown-remove_attr attr r name off = rw (value_of-without_other r.attrs attr name off) refl
+shown-remove_attr : ValuesAreFound → (attr : List ℕ) (r : Record) (name : List ℕ)
+    → bytes_eq name attr ≡ false → shown (remove_attr attr r) name ≡ shown r name
+shown-remove_attr found attr r name off = rw (found.removed r.attrs attr name, off) refl
 
 -- a change of records that keeps their places and the truth of the query keeps the result
 module _ (test : Record → Bool) (node : ℕ) (f : Record → Record)
@@ -151,11 +116,11 @@ some-inside : {X : Type 0} {x y : X} → Some x ≡ Some y → x ≡ y
 some-inside {X} {x} is = ap (inside x) is
 
 -- a change under names that a query doesn't go by tells it nothing
-pub changes-pass : ChangesPassOver
-changes-pass q moved s (Create dir name kind size time) names altered v by is off = cc
-changes-pass q moved s (Remove node) names altered v by is off = cc
-changes-pass q moved s (Move node dir name clobber) names altered v by is off = cc
-changes-pass q moved s (Write node size time) names altered v by is off =
+pub changes-pass : ValuesAreFound → ChangesPassOver
+changes-pass found q moved s (Create dir name kind size time) names altered v by is off = cc
+changes-pass found q moved s (Remove node) names altered v by is off = cc
+changes-pass found q moved s (Move node dir name clobber) names altered v by is off = cc
+changes-pass found q moved s (Write node size time) names altered v by is off =
     let off_both = subst (AllByRecursion (λ name. list_any (bytes_eq name) names ≡ false))
     (sym (some-inside is)) off in
     diff-same q moved s (after s (Write node size time)) v
@@ -163,21 +128,21 @@ changes-pass q moved s (Write node size time) names altered v by is off =
     (λ r. by (shown (written size time r)) (shown r) (λ name among.
     shown-written size time r name (same-name names name (codes "size") among off_both.0)
     (same-name names name (codes "last_modified") among off_both.1.0))) (λ n r. refl) s.records)
-changes-pass q moved s (SetAttr node attr value) names altered v by is off =
+changes-pass found q moved s (SetAttr node attr value) names altered v by is off =
     let off_one = subst (AllByRecursion (λ name. list_any (bytes_eq name) names ≡ false))
     (sym (some-inside is)) off in
     diff-same q moved s (after s (SetAttr node attr value)) v
     (altered-passes (λ r. truth q (shown r)) node (set_attr attr value)
     (λ r. by (shown (set_attr attr value r)) (shown r) (λ name among.
-    shown-set_attr attr value r name (same-name names name attr among off_one.0)))
+    shown-set_attr found attr value r name (same-name names name attr among off_one.0)))
     (λ n r. refl) s.records)
-changes-pass q moved s (RemoveAttr node attr) names altered v by is off =
+changes-pass found q moved s (RemoveAttr node attr) names altered v by is off =
     let off_one = subst (AllByRecursion (λ name. list_any (bytes_eq name) names ≡ false))
     (sym (some-inside is)) off in
     diff-same q moved s (after s (RemoveAttr node attr)) v
     (altered-passes (λ r. truth q (shown r)) node (remove_attr attr)
     (λ r. by (shown (remove_attr attr r)) (shown r) (λ name among.
-    shown-remove_attr attr r name (same-name names name attr among off_one.0)))
+    shown-remove_attr found attr r name (same-name names name attr among off_one.0)))
     (λ n r. refl) s.records)
 
 -- ---- a write of numbers that stay beside those of the query

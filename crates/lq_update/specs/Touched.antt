@@ -4,9 +4,7 @@ use Rattle.std.specs.Option.{option_map, option_map_or}
 use Rattle.lq_value.specs.declared.entry.Entry.{Entry}
 use Rattle.lq_predicate_formula.specs.Query.{Query}
 use Rattle.lq_predicate.specs.Truth.{truth}
-use Rattle.lq_volume.specs.declared.change.Change.{Change}
-use Rattle.lq_volume.specs.State.{State, Record, record_at}
-use Rattle.lq_volume.specs.Change.{after, node_of}
+use Rattle.lq_volume.specs.State.{State, Record}
 use Rattle.lq_volume.specs.Result.{entry_of, match_at, shown}
 use Rattle.lq_update.specs.declared.message.Opcode.{Opcode}
 use Rattle.lq_update.specs.declared.message.Opcode.TheVariants.{Created, Moved}

@@ -1,15 +1,13 @@
 //! What a change takes from a query's result and brings into it at its own node.
-ghost use Rattle.std.specs.Prelude.{◌≡◌, ℕ, Bool, false, [], None, IfOk, option_and_then};
+ghost use Rattle.std.specs.Prelude.{◌≡◌, ℕ, Bool, false, [], None, IfOk};
 ghost use Rattle.std.specs.Option.{option_copied};
 ghost use Rattle.lq_value.specs.Refusal.{IsRefusedBy};
 ghost use Rattle.lq_volume.specs.Change.{after, node_of};
 ghost use Rattle.lq_volume.specs.Laws.{ChangesKeepTrees, ClobberedGo, UntouchedStay};
-ghost use Rattle.lq_volume.specs.Result.{entry_if};
-ghost use Rattle.lq_update.specs.Touched.{entry_at, is_match, left, left_at};
+ghost use Rattle.lq_update.specs.Touched.{entry_at, left_at};
 ghost use Rattle.lq_update.specs.Updates.{step_of};
 
 use crate::matches::Matches;
-use lq_predicate::{Predicate, holds};
 use lq_value::{Entry, Refusal};
 use lq_volume::{Seen, accepted_changes_keep_trees, clobbered_nodes_go, untouched_nodes_stay};
 use std::alloc::Global;
@@ -36,7 +34,8 @@ impl<'s, 'a> Matches<'s, 'a> {
         left.is_some() || came.is_some()
     }
 
-    // What left the result at the change's own node, and what came into it there.
+    // What left the result at the change's own node, and what came into it there: nothing where the
+    // entry matches before and after, at one place.
     #[inline(always)]
     pub(crate) fn difference(&self) -> (Option<&'s Seen<'a>>, Option<&'s Seen<'a>>)
         ensures removed { entry_at
@@ -51,10 +50,20 @@ impl<'s, 'a> Matches<'s, 'a> {
             self.now.planned.now.before
             (node_of self.now.planned.now.before self.now.planned.now.change) }
     {
-        let (predicate, planned) = (self.predicate, self.planned);
-        let old = if_matched(predicate, planned.seen_before(), self.matched_before);
-        let new = if_matched(predicate, planned.seen_after(), self.matches_after);
-        split(old, new)
+        let old = if self.matched_before {
+            self.planned.seen_before()
+        } else {
+            None
+        };
+        let new = if self.matches_after {
+            self.planned.seen_after()
+        } else {
+            None
+        };
+        match (old, new) {
+            (Some(left), Some(came)) if left.shares_place(came) => (None, None),
+            (old, new) => (old, new),
+        }
     }
 }
 
@@ -67,67 +76,6 @@ pub(crate) fn changes_touch_few()
     accepted_changes_keep_trees();
     untouched_nodes_stay();
     clobbered_nodes_go();
-}
-
-// What is seen of an entry, if it matches the predicate.
-#[inline(always)]
-fn if_matched<'s, 'a>(
-    predicate: &Predicate,
-    seen: Option<&'s Seen<'a>>,
-    matches: bool,
-) -> Option<&'s Seen<'a>>
-    requires { matches ≡ is_match predicate.now (option_copied seen) }
-    ensures { (node : ℕ) → entry_at node (option_copied result)
-        ≡ option_and_then (λ r. entry_if predicate.now (node, r)) (option_copied seen.entry) }
-{
-    match seen {
-        None => None,
-        Some(seen) => { if matches { Some(seen) } else { None } }
-    }
-}
-
-// What is seen of an entry, if it matches the predicate.
-pub(crate) fn matching<'s, 'a>(
-    predicate: &Predicate,
-    seen: Option<&'s Seen<'a>>,
-) -> Option<&'s Seen<'a>>
-    ensures { (node : ℕ) → entry_at node (option_copied result)
-        ≡ option_and_then (λ r. entry_if predicate.now (node, r)) (option_copied seen.entry) }
-{
-    match seen {
-        None => None,
-        Some(seen) => {
-            if holds(predicate, seen) {
-                Some(seen)
-            } else {
-                None
-            }
-        }
-    }
-}
-
-// What left at a node and what came, by what matched there before and after: nothing where both
-// matched at one place.
-#[inline(always)]
-fn split<'s, 'a>(
-    old: Option<&'s Seen<'a>>,
-    new: Option<&'s Seen<'a>>,
-) -> (Option<&'s Seen<'a>>, Option<&'s Seen<'a>>)
-    ensures removed { (node : ℕ) → entry_at node (option_copied result.0)
-        ≡ left (entry_at node (option_copied old.entry)) (entry_at node (option_copied new.entry)) }
-    ensures created { (node : ℕ) → entry_at node (option_copied result.1)
-        ≡ left (entry_at node (option_copied new.entry)) (entry_at node (option_copied old.entry)) }
-{
-    match (old, new) {
-        (Some(old), Some(new)) => {
-            if old.shares_place(new) {
-                (None, None)
-            } else {
-                (Some(old), Some(new))
-            }
-        }
-        (old, new) => (old, new),
-    }
 }
 
 // The entry at a node, from what is seen of it.

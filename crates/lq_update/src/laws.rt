@@ -6,6 +6,7 @@ use lq_predicate::bare_rows_fail;
 use lq_volume::{
     accepted_changes_keep_trees, changes_are_counted, clobbered_nodes_go, untouched_nodes_stay,
 };
+use lq_volume_attributes::values_are_found;
 
 /// A longer book only appends to an update list: the prefix law.
 pub fn updates_grow()
@@ -103,7 +104,9 @@ pub fn rebuilds_take_all()
 /// on its `names` (`truth_goes_by_names` of lq_predicate).
 pub fn changes_pass_over()
     ensures { ChangesPassOver }
-{}
+{
+    values_are_found();
+}
 
 /// A creation makes no message for a predicate that needs an attribute (`needs_attribute` of
 /// lq_predicate): a new entry has none until one is set.

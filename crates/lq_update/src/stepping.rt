@@ -1,18 +1,18 @@
 //! The messages of one change, by the node that it touches.
-ghost use Rattle.std.specs.Prelude.{◌≡◌, [], ◌∷◌, Bool, false, ◌+◌, ◌<◌, ◌≤◌, ◌^◌, ◌++◌, None, IfOk, OnOk, OnErr, option_and_then, vec_len, nat_lt, if◌then◌else◌};
-ghost use Rattle.std.specs.Option.{option_copied, option_map_or, option_to_list};
+ghost use Rattle.std.specs.Prelude.{◌≡◌, [], ◌∷◌, ◌+◌, ◌<◌, ◌≤◌, ◌^◌, ◌++◌, None, IfOk, OnOk, OnErr, vec_len};
+ghost use Rattle.std.specs.Option.{option_copied};
 ghost use Rattle.std.specs.VecDeque.{deque_len, deque_capacity};
 ghost use Rattle.lq_value.specs.Refusal.{IsRefusedBy};
 ghost use Rattle.lq_volume.specs.Change.{after, node_of, IsLawful};
 ghost use Rattle.lq_volume.specs.Result.{entry_if, entry_of};
 ghost use Rattle.lq_update.specs.Updates.{numbered, step_of};
-ghost use Rattle.lq_update.specs.Touched.{entry_at, left_at, told_first, told_last};
+ghost use Rattle.lq_update.specs.Touched.{entry_at, left_at};
 
-use crate::difference::{changes_touch_few, copied, matching};
+use crate::difference::{changes_touch_few, copied};
 use crate::matches::{Matches, matches_of};
 use crate::message::{Message, Opcode};
 use crate::telling::{join, message, put_all};
-use lq_predicate::Predicate;
+use lq_predicate::{Predicate, holds};
 use lq_value::{Entry, Refusal};
 use lq_volume::{Applied, Change, Planned, Seen, Volume};
 use std::alloc::Global;
@@ -145,56 +145,22 @@ impl<'s, 'a> Matches<'s, 'a> {
         ensures few { deque_len messages.new ≤ deque_len messages.old + 3 }
         ensures capacity { deque_capacity messages.new ≡ deque_capacity messages.old }
     {
+        changes_touch_few();
         let made = self.planned.applied();
         let left = copied(alloc, left, made.node)?;
         let came = copied(alloc, came, made.node)?;
         let (removed, last) = join(moved, left, came);
-        self.put_told(alloc, removed, last, first_seq, messages)
-    }
-
-    // Puts the messages for the change's own node, joined with those for the node that the change
-    // removes, if any.
-    #[inline(always)]
-    fn put_told(
-        &self,
-        alloc: Global,
-        removed: Option<Entry>,
-        last: Option<(Opcode, Entry)>,
-        first_seq: u64,
-        messages: &mut VecDeque<Message>,
-    ) -> Result<(), Refusal>
-        requires numbers { first_seq + 2 < 2 ^ 64 }
-        requires room { deque_len messages.old + 3 ≤ deque_capacity messages.old }
-        ensures refused { IsRefusedBy result None }
-        ensures ok { (moved : Bool)
-            → removed ≡ told_first moved
-            (left_at self.now.predicate.now self.now.planned.now.before
-            (after self.now.planned.now.before self.now.planned.now.change)
-            (node_of self.now.planned.now.before self.now.planned.now.change))
-            (left_at self.now.predicate.now
-            (after self.now.planned.now.before self.now.planned.now.change)
-            self.now.planned.now.before
-            (node_of self.now.planned.now.before self.now.planned.now.change))
-            → last ≡ told_last moved
-            (left_at self.now.predicate.now self.now.planned.now.before
-            (after self.now.planned.now.before self.now.planned.now.change)
-            (node_of self.now.planned.now.before self.now.planned.now.change))
-            (left_at self.now.predicate.now
-            (after self.now.planned.now.before self.now.planned.now.change)
-            self.now.planned.now.before
-            (node_of self.now.planned.now.before self.now.planned.now.change))
-            → OnOk result (messages.new.items ≡ messages.old.items ++ step_of
-            self.now.predicate.now moved self.now.planned.now.before self.now.planned.now.change
-            first_seq) }
-        ensures err { OnErr result (messages.new.items ≡ messages.old.items) }
-        ensures few { deque_len messages.new ≤ deque_len messages.old + 3 }
-        ensures capacity { deque_capacity messages.new ≡ deque_capacity messages.old }
-    {
-        changes_touch_few();
-        let made = self.planned.applied();
-        let taken = self.planned.clobbered();
-        let gone = gone_of(alloc, self.predicate, taken)?;
-        let (low, high) = by_node(removed, gone, is_below(taken, made.node));
+        let (low, high) = match self.planned.clobbered() {
+            None => (removed, None),
+            Some((node, seen)) => {
+                let gone = gone_of(alloc, self.predicate, seen, node)?;
+                if node < made.node {
+                    (gone, removed)
+                } else {
+                    (removed, gone)
+                }
+            }
+        };
         put_all(messages, low, high, last, made.change, first_seq);
         Ok(())
     }
@@ -228,43 +194,15 @@ fn put_one(
 fn gone_of(
     alloc: Global,
     predicate: &Predicate,
-    taken: Option<(u64, &Seen<'_>)>,
+    seen: &Seen<'_>,
+    node: u64,
 ) -> Result<Option<Entry>, Refusal>
     ensures refused { IsRefusedBy result None }
-    ensures value { IfOk result (λ gone. gone
-        ≡ option_and_then (λ e. entry_if predicate.now (e.0, e.1.now)) taken.entry) }
+    ensures value { IfOk result (λ gone. gone ≡ entry_if predicate.now (node, seen.now)) }
 {
-    match taken {
-        None => Ok(None),
-        Some((node, seen)) => copied(alloc, matching(predicate, Some(seen)), node),
-    }
-}
-
-// Whether a change removes another node that is lower than this one.
-#[inline(always)]
-fn is_below(taken: Option<(u64, &Seen<'_>)>, node: u64) -> bool
-    ensures { result ≡ option_map_or (λ e. nat_lt e.0 node) taken.entry false }
-{
-    match taken {
-        None => false,
-        Some((other, _)) => other < node,
-    }
-}
-
-// The entries that left, by rising node: at the change's own node and at the one that it removes.
-#[inline(always)]
-fn by_node(
-    removed: Option<Entry>,
-    gone: Option<Entry>,
-    gone_is_low: bool,
-) -> (Option<Entry>, Option<Entry>)
-    ensures { option_to_list result.0 ++ option_to_list result.1 ≡ (if gone_is_low
-        then option_to_list gone ++ option_to_list removed
-        else option_to_list removed ++ option_to_list gone) }
-{
-    if gone_is_low {
-        (gone, removed)
+    if holds(predicate, seen) {
+        Ok(Some(seen.entry(alloc, node)?))
     } else {
-        (removed, gone)
+        Ok(None)
     }
 }

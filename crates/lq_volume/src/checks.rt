@@ -7,7 +7,7 @@ ghost use Rattle.lq_volume.specs.declared.change.Change.TheVariants.{Remove, Mov
 ghost use Rattle.lq_volume_attributes.specs.Attributes.{is_reserved};
 ghost use Rattle.lq_volume_entries.specs.Kind.{is_folder};
 ghost use Rattle.lq_volume.specs.State.{root, record_at, kind_at, is_folder_at, has_entries, reaches, IsVolume};
-ghost use Rattle.lq_volume.specs.Change.{create_refusals, refused, is_file_at, other_at};
+ghost use Rattle.lq_volume.specs.Change.{create_refusals, refused, other_at};
 ghost use Rattle.lq_volume.specs.Lookup.{children_refusals};
 ghost use Rattle.lq_volume.specs.Plan.{IsFound};
 
@@ -184,7 +184,7 @@ fn entry_at(volume: &Volume, node: u64) -> Result<&Stored, Refusal>
     if node == ROOT {
         return Err(Refusal::Reserved);
     }
-    match volume.record(node) {
+    match volume.entries.get(node) {
         None => Err(Refusal::NoNode),
         Some(record) => Ok(record),
     }
@@ -194,7 +194,7 @@ fn entry_at(volume: &Volume, node: u64) -> Result<&Stored, Refusal>
 fn is_filled(volume: &Volume, node: u64, stored: &Stored) -> bool
     ensures { result ≡ (is_folder stored.now.kind && has_entries volume.now node) }
 {
-    stored.is_folder() && volume.has_entries(node)
+    stored.is_folder() && volume.entries.has_any(node)
 }
 
 // Whether an entry would move into itself: a file contains nothing, so only a folder needs a walk.
@@ -205,7 +205,7 @@ fn would_loop(volume: &Volume, moved: u64, stored: &Stored, dir: u64) -> bool
 {
     // For its clause `volume`.
     let _ = volume.changes();
-    stored.is_folder() && volume.reaches(dir, moved)
+    stored.is_folder() && volume.entries.reaches(dir, moved)
 }
 
 // The other node at the place, and its record.
@@ -214,12 +214,10 @@ fn other_in<'a>(volume: &'a Volume, moved: u64, dir: u64, name: &Name) -> Option
     ensures record { IfSome result (λ e. record_at volume.now e.0 ≡ Some e.1.now) }
     ensures kind { IfSome result (λ e. kind_at volume.now e.0 ≡ Some e.1.now.kind) }
 {
-    // For its clause `volume`.
-    let _ = volume.changes();
     records_are_kept();
     match volume.other_at(moved, dir, name) {
         None => None,
-        Some(other) => match volume.record(other) {
+        Some(other) => match volume.entries.get(other) {
             None => None,
             Some(record) => Some((other, record)),
         },

@@ -41,25 +41,32 @@ impl<'a> Model for Planned<'a> {
     ghost invariant = { λ p. IsPlanned p.volume.now p.change.now p.before p.after p.clobbered };
 }
 
-impl<'a> Planned<'a> {
-    // Looks up what a change touches, or is refused.
+impl Volume {
+    /// A plan of a change that would be accepted, with what it touches. It takes no memory and
+    /// changes nothing.
+    ///
+    /// Refused exactly as `check`.
     #[inline(always)]
-    pub(crate) fn new(volume: &'a Volume, change: &'a Change) -> Result<Planned<'a>, Refusal>
-        ensures ok { OnOk result (refused volume.now change.now ≡ None) }
-        ensures err { IfErr result (λ e. refused volume.now change.now ≡ Some e) }
+    pub fn plan<'a>(&'a self, change: &'a Change) -> Result<Planned<'a>, Refusal>
+        ensures ok { OnOk result (refused self.now change.now ≡ None) }
+        ensures err { IfErr result (λ e. refused self.now change.now ≡ Some e) }
         ensures value { IfOk result (λ planned.
-            planned ≡ record { before = volume.now; change = change.now }) }
+            planned ≡ record { before = self.now; change = change.now }) }
     {
-        let found = found_by(volume, change)?;
+        let found = found_by(self, change)?;
         Ok(Planned {
-            volume,
+            volume: self,
             change,
-            before: seen_before(found.stored),
-            after: seen_after(volume, change, found.stored),
-            clobbered: seen_other(found.other),
+            before: found.stored.map(Seen::stored),
+            after: seen_after(self, change, found.stored),
+            clobbered: found
+                .other
+                .map(|(node, stored)| (node, Seen::stored(stored))),
         })
     }
+}
 
+impl<'a> Planned<'a> {
     /// What `make` answers: the number of the change, and the node that it creates or names.
     ///
     /// The change is lawful, and the volume is a tree within its limit.
@@ -131,7 +138,7 @@ fn found_by<'a>(volume: &'a Volume, change: &'a Change) -> Result<Found<'a>, Ref
     // For its clause `volume`.
     let _ = volume.changes();
     records_are_kept();
-    match change {
+    let stored = match change {
         Change::Create {
             dir,
             name,
@@ -140,48 +147,23 @@ fn found_by<'a>(volume: &'a Volume, change: &'a Change) -> Result<Found<'a>, Ref
             ..
         } => {
             check_create(volume, *dir, name, *kind, *size)?;
-            Ok(Found {
-                stored: None,
-                other: None,
-            })
+            None
         }
-        Change::Remove { node } => Ok(found_record(check_remove(volume, *node)?)),
         Change::Move {
             node,
             dir,
             name,
             clobber,
-        } => check_move(volume, *node, *dir, name, *clobber),
-        Change::Write { node, size, time } => {
-            Ok(found_record(check_write(volume, *node, *size, *time)?))
-        }
-        Change::SetAttr { node, attr, value } => {
-            Ok(found_record(check_set_attr(volume, *node, attr, value)?))
-        }
-        Change::RemoveAttr { node, attr } => Ok(found_record(check_remove_attr(
-            volume, *node, attr,
-        )?)),
-    }
-}
-
-// What a check finds that looks up one node.
-fn found_record(stored: &Stored) -> Found<'_>
-    ensures { result ≡ record { stored = Some stored.entry; other = None } }
-{
-    Found {
-        stored: Some(stored),
+        } => return check_move(volume, *node, *dir, name, *clobber),
+        Change::Remove { node } => Some(check_remove(volume, *node)?),
+        Change::Write { node, size, time } => Some(check_write(volume, *node, *size, *time)?),
+        Change::SetAttr { node, attr, value } => Some(check_set_attr(volume, *node, attr, value)?),
+        Change::RemoveAttr { node, attr } => Some(check_remove_attr(volume, *node, attr)?),
+    };
+    Ok(Found {
+        stored,
         other: None,
-    }
-}
-
-// The entry of the change's own node before the change.
-fn seen_before(stored: Option<&Stored>) -> Option<Seen<'_>>
-    ensures { result ≡ option_copied stored.entry }
-{
-    match stored {
-        None => None,
-        Some(stored) => Some(Seen::stored(stored)),
-    }
+    })
 }
 
 // The entry of the change's own node after the change.
@@ -205,15 +187,5 @@ fn seen_after<'a>(
             let record = record_of(stored);
             Some(Seen::changed(record.dir(), record.name(), stored, change))
         }
-    }
-}
-
-// The other node and its entry, where there is one.
-fn seen_other<'a>(other: Option<(u64, &'a Stored)>) -> Option<(u64, Seen<'a>)>
-    ensures { result ≡ option_map (λ e. (e.0, e.1.now)) other.entry }
-{
-    match other {
-        None => None,
-        Some((node, stored)) => Some((node, Seen::stored(stored))),
     }
 }

@@ -40,7 +40,7 @@ impl<'a> Model for Seen<'a> {
 }
 
 impl<'a> Seen<'a> {
-    ghost use Rattle.lq_volume_attributes.specs.Attributes.{value_of, held};
+    ghost use Rattle.lq_volume_attributes.specs.Attributes.{value_of};
     ghost use Rattle.lq_volume.specs.Change.{at_place};
     ghost use Rattle.lq_volume.specs.Result.{entry_of};
     ghost use Rattle.lq_volume.specs.Seen.{has_same_place, seen_of, IsSeen};

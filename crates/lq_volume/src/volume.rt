@@ -1,10 +1,8 @@
 //! The volume.
-ghost use Rattle.std.specs.Option.{option_copied};
 ghost use Rattle.std.specs.Prelude.{◌≡◌, ◌≤◌, ◌+◌, Some, None, IfOk, IfErr, OnErr, OnOk};
 
 use crate::change::{Applied, Change};
 use crate::laws::accepted_changes_keep_trees;
-use crate::planned::Planned;
 use lq_value::{Kind, Name, Refusal};
 use lq_volume_entries::{Entries, Stored, records_are_kept};
 use std::alloc::Global;
@@ -64,7 +62,7 @@ impl Model for Volume {
 
 impl Volume {
     ghost use Rattle.lq_value.specs.Refusal.{IsRefusedBy};
-    ghost use Rattle.lq_volume.specs.State.{empty_state, record_at, kind_at, has_entries, is_taken, reaches, IsVolume};
+    ghost use Rattle.lq_volume.specs.State.{empty_state, kind_at, is_taken, IsVolume};
     ghost use Rattle.lq_volume.specs.Change.{refused, after, node_of, other_at, is_full, IsLawful};
 
     /// A volume with the root alone. It accepts at most `limit` changes, 1 to 1,000,000,000,000.
@@ -118,20 +116,6 @@ impl Volume {
     {
         let planned = self.plan(change)?;
         Ok(planned.applied())
-    }
-
-    /// A plan of a change that would be accepted, with what it touches. It takes no memory and
-    /// changes nothing.
-    ///
-    /// Refused exactly as `check`.
-    #[inline(always)]
-    pub fn plan<'a>(&'a self, change: &'a Change) -> Result<Planned<'a>, Refusal>
-        ensures ok { OnOk result (refused self.now change.now ≡ None) }
-        ensures err { IfErr result (λ e. refused self.now change.now ≡ Some e) }
-        ensures value { IfOk result (λ planned.
-            planned ≡ record { before = self.now; change = change.now }) }
-    {
-        Planned::new(self, change)
     }
 
     /// Makes a change. Refused: as `check` refuses it, or `NoMemory`.
@@ -230,13 +214,6 @@ impl Volume {
         }
     }
 
-    /// The record of a node.
-    pub(crate) fn record(&self, node: u64) -> Option<&Stored>
-        ensures { option_copied result ≡ record_at self.now node }
-    {
-        self.entries.get(node)
-    }
-
     pub(crate) fn kind(&self, node: u64) -> Option<Kind>
         ensures { result ≡ kind_at self.now node }
     {
@@ -247,12 +224,6 @@ impl Volume {
             Some(record) => Some(record.kind()),
             None => None,
         }
-    }
-
-    pub(crate) fn has_entries(&self, dir: u64) -> bool
-        ensures { result ≡ has_entries self.now dir }
-    {
-        self.entries.has_any(dir)
     }
 
     pub(crate) fn is_taken(&self, dir: u64, name: &Name) -> bool
@@ -269,12 +240,6 @@ impl Volume {
             None => None,
             Some(there) => { if there == node { None } else { Some(there) } }
         }
-    }
-
-    pub(crate) fn reaches(&self, from: u64, to: u64) -> bool
-        ensures { result ≡ reaches self.now from to }
-    {
-        self.entries.reaches(from, to)
     }
 
     pub(crate) fn is_full(&self) -> bool

@@ -1,4 +1,4 @@
-use Rattle.std.proofs.Common.{◌≡◌, Some, None, ap, refl, sym, ◌∙◌, true, false}
+use Rattle.std.proofs.Common.{◌≡◌, ap, refl, sym, ◌∙◌, true, false}
 use Rattle.std.specs.Prelude.{is_some}
 use Rattle.lq_update.specs.Diff.{has_node}
 use Rattle.lq_update.specs.Locations.{entries_of}
