@@ -15,3 +15,5 @@ mod ports;
 mod replies;
 #[cfg(test)]
 mod subs;
+#[cfg(test)]
+mod watches;

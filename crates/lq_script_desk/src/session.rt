@@ -7,7 +7,7 @@ ghost use Rattle.lq_volume.specs.Result.{result_of};
 ghost use Rattle.lq_script_lines.specs.Lines.{Begins};
 ghost use Rattle.lq_script_reply.specs.Response.{Fetched, Refuses};
 ghost use Rattle.lq_script_reply.specs.Reply.{reply_text};
-ghost use Rattle.lq_script_desk.specs.Answered.{found_in, noted, rebuilt, responds, shown_in, slot_of};
+ghost use Rattle.lq_script_desk.specs.Answered.{found_in, noted, rebuilt, shown_in, slot_of};
 ghost use Rattle.lq_script_desk.specs.Folds.{fold_at};
 ghost use Rattle.lq_script_desk.specs.Session.{session_with};
 ghost use Rattle.lq_script_desk.specs.Script.{kept_volume};
@@ -57,26 +57,6 @@ impl Session {
             desk,
             rebuilds,
             scratch: Scratch::new(alloc),
-        }
-    }
-
-    // Appends the reply to a question to `out`.
-    fn respond_to(&mut self, question: &Question, out: &mut Vec<u8>) -> Result<(), Refusal>
-        ensures ok { OnOk result (out.new.items ≡ out.old.items
-            ++ reply_text (responds kept_turn_outcome kept_volume
-            (session_with self.old.desk self.old.rebuilds.items) question.now).0) }
-        ensures after { OnOk result (session_with self.new.desk self.new.rebuilds.items ≡
-            (responds kept_turn_outcome kept_volume
-            (session_with self.old.desk self.old.rebuilds.items) question.now).1) }
-        ensures err { OnErr result (Begins out.new.items out.old.items) }
-        ensures memory { IfErr result (λ e. e ≡ NoMemory) }
-    {
-        match question {
-            Question::Event(event) => self.carry_out(event, out),
-            Question::Find { dir, name } => put_found(out, self.desk.volume(), *dir, name),
-            Question::Entry { node } => put_shown(out, self.desk.volume(), *node),
-            Question::Fetch { predicate } => put_fetched(out, self.desk.volume(), predicate),
-            Question::Rebuilt { slot } => put_rebuilt(out, &self.rebuilds, *slot),
         }
     }
 
@@ -210,7 +190,11 @@ impl Responder for Session {
     fn respond(&mut self, line: &[u8], out: &mut Vec<u8>) -> Result<(), Refusal> {
         let asked = question_in(self.alloc, &mut self.scratch, line);
         match &asked {
-            Ok(question) => self.respond_to(question, out),
+            Ok(Question::Event(event)) => self.carry_out(event, out),
+            Ok(Question::Find { dir, name }) => put_found(out, self.desk.volume(), *dir, name),
+            Ok(Question::Entry { node }) => put_shown(out, self.desk.volume(), *node),
+            Ok(Question::Fetch { predicate }) => put_fetched(out, self.desk.volume(), predicate),
+            Ok(Question::Rebuilt { slot }) => put_rebuilt(out, &self.rebuilds, *slot),
             Err(Refusal::NoMemory) => Err(Refusal::NoMemory),
             Err(refusal) => put_refusal(out, *refusal),
         }

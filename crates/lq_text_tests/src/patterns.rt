@@ -1,6 +1,8 @@
 //! Of lq_value: sources that a formula can't have, since a `\` ends them, and drawn patterns over
 //! long texts, of which a plain body tells the same.
 use lq_value::{Element, Elements, Item, Pattern, Refusal};
+use lq_value_match::Starred;
+use lq_value_pattern::read_elements;
 use std::alloc::{AllocError, Global};
 use std::test::Fail;
 
@@ -20,6 +22,28 @@ fn a_source_has_its_leftmost_fault(rt: HostRuntime) -> Result<(), Fail> {
         let refused = Pattern::read(rt.alloc(), source).err();
         if refused != Some(Refusal::BadQuery { place: *place }) {
             return Err(Fail::from(*source));
+        }
+    }
+    Ok(())
+}
+
+// sources that are plain text and stars, with whether a star stands before the text and behind it
+const STARRED: [(&str, bool, bool); 4] = [
+    ("*.txt", true, false),
+    ("draft*", false, true),
+    ("*é*", true, true),
+    (r"*a\*b", true, false),
+];
+
+#[test]
+fn a_text_with_stars_is_kept_as_text(rt: HostRuntime) -> Result<(), Fail> {
+    for (source, before, behind) in &STARRED {
+        let Ok(elements) = read_elements(rt.alloc(), source) else {
+            return Err(Fail::from(*source));
+        };
+        match Starred::of(rt.alloc(), elements.as_slice())? {
+            Some(starred) if starred.before == *before && starred.behind == *behind => {}
+            _ => return Err(Fail::from(*source)),
         }
     }
     Ok(())

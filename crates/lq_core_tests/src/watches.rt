@@ -1,0 +1,84 @@
+//! A watch leaves out the subscriptions that a change can't concern: no clause says how many.
+use lq_desk_sub::{Sub, Watch};
+use lq_predicate::read;
+use lq_value::{AttrName, Kind, Name, Refusal, Value};
+use lq_volume::Change;
+use std::alloc::Global;
+use std::test::Fail;
+
+// A subscription to a query.
+fn subscribed(alloc: Global, query: &str) -> Result<Sub, Refusal> {
+    Sub::new(alloc, &read(alloc, query)?, 0, 2, false)
+}
+
+// A change that sets an attribute.
+fn setting(alloc: Global, attr: &str) -> Result<Change, Refusal> {
+    Ok(Change::SetAttr {
+        node: 2,
+        attr: AttrName::read(alloc, attr)?,
+        value: Value::Int32(1),
+    })
+}
+
+// A change of each kind: a creation, a removal, a move, a write, and of the attributes
+// `MAIL:status` and `MAIL:when`.
+fn changes(alloc: Global) -> Result<[Change; 7], Refusal> {
+    Ok([
+        Change::Create {
+            dir: 1,
+            name: Name::read(alloc, "a")?,
+            kind: Kind::File,
+            size: 0,
+            time: 0,
+        },
+        Change::Remove { node: 2 },
+        Change::Move {
+            node: 2,
+            dir: 1,
+            name: Name::read(alloc, "a")?,
+            clobber: false,
+        },
+        Change::Write {
+            node: 2,
+            size: 1,
+            time: 0,
+        },
+        setting(alloc, "MAIL:status")?,
+        setting(alloc, "MAIL:when")?,
+        Change::RemoveAttr {
+            node: 2,
+            attr: AttrName::read(alloc, "MAIL:when")?,
+        },
+    ])
+}
+
+// To whom each of these changes is shown, as a word with a bit for each.
+fn shown(watch: &Watch, changes: &[Change; 7]) -> [u64; 7] {
+    let mut words = [0; 7];
+    for index in 0..7 {
+        words[index] = watch.asked(&changes[index]);
+    }
+    words
+}
+
+// To whom they are shown where index 3 looks at a status and index 5 at sizes, and then where both
+// look at sizes.
+fn asked(alloc: Global) -> Result<([u64; 7], [u64; 7]), Refusal> {
+    let changes = changes(alloc)?;
+    let status = subscribed(alloc, "MAIL:status==\"New\"")?;
+    let sizes = subscribed(alloc, "size>7")?;
+    let mut watch = Watch::new();
+    watch.set(3, &status);
+    watch.set(5, &sizes);
+    let first = shown(&watch, &changes);
+    watch.set(3, &sizes);
+    Ok((first, shown(&watch, &changes)))
+}
+
+#[test]
+fn a_watch_leaves_out_subscriptions(rt: HostRuntime) -> Result<(), Fail> {
+    let (first, then) = asked(rt.alloc())?;
+    assert!(rt; first == [32, 40, 40, 32, 8, 0, 0]);
+    assert!(rt; then == [40, 40, 40, 40, 0, 0, 0]);
+    Ok(())
+}
