@@ -75,21 +75,6 @@ impl Model for FieldName {
         IsTrue (is_attr_name known.text) × (known.field ≡ field_of known.text) };
 }
 
-impl FieldName {
-    fn as_str(&self) -> &str
-        ensures value { result.now ≡ self.now }
-        ensures valid { IsTrue (is_attr_name self.now) }
-    {
-        self.text.as_str()
-    }
-
-    fn field(&self) -> Field
-        ensures { result ≡ field_of self.now }
-    {
-        self.field
-    }
-}
-
 impl AttrName {
     /// The attribute's name with this text.
     ///
@@ -117,14 +102,14 @@ impl AttrName {
         ensures value { result.now ≡ self.now }
         ensures valid { IsTrue (is_attr_name self.now) }
     {
-        self.shared.as_str()
+        self.shared.text.as_str()
     }
 
     /// The field of an entry that the name stands for, or `Attribute`. It takes no memory.
     pub fn field(&self) -> Field
         ensures { result ≡ field_of self.now }
     {
-        self.shared.field()
+        self.shared.field
     }
 
     /// Another name that shares this one's text, which takes no memory.

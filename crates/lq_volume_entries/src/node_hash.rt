@@ -1,5 +1,5 @@
 //! The hash of a node, by which the map of records finds it.
-ghost use Rattle.std.specs.Prelude.{◌≡◌, ℕ, List};
+ghost use Rattle.std.specs.Prelude.{◌≡◌};
 ghost use Rattle.lq_volume_entries.specs.NodeHash.{hashed, node_hash, number_of};
 
 use std::hash::{BuildHasherDefault, Hasher};
