@@ -91,7 +91,7 @@ impl Slots {
         let place = first_free(&self.stored);
         self.ending = with_bit(self.ending, place, slot.is_ending());
         self.movable = with_bit(self.movable, place, slot.can_move());
-        self.watch.set(place, slot.sub());
+        self.watch.set(place, &slot.sub);
         if place < self.stored.len() {
             occupy(&mut self.stored, place, slot);
         } else {
