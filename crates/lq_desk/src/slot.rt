@@ -1,5 +1,5 @@
 //! A taken slot: a subscription with its port.
-ghost use Rattle.std.specs.Prelude.{◌≡◌, ◌<◌, ◌≤◌, ◌^◌, ◌-◌, true, if◌then◌else◌, None, Some, IfOk, OnOk, OnErr};
+ghost use Rattle.std.specs.Prelude.{◌≡◌, ◌<◌, ◌≤◌, ◌^◌, ◌-◌, true, None, Some, IfOk};
 ghost use Rattle.lq_value.specs.Refusal.{IsRefusedBy};
 ghost use Rattle.std.specs.Option.{option_map};
 ghost use Rattle.lq_desk.specs.Slot.{slot_of, committed_slot, can_move, close_slot, filled, is_ending, noticed, passes};
@@ -48,8 +48,8 @@ impl Model for Slot {
 }
 
 impl Slot {
-    ghost use Rattle.lq_desk_world.specs.Events.{Answer, Moved, Noticed};
-    ghost use Rattle.lq_desk.specs.Slot.{KeptSlot, PreparedSlot, fresh_slot, put_slot, read_slot, notice_slot, is_read};
+    ghost use Rattle.lq_desk_world.specs.Events.{Moved, Noticed};
+    ghost use Rattle.lq_desk.specs.Slot.{PreparedSlot, fresh_slot, put_slot, read_slot, notice_slot, is_read};
     ghost use Rattle.lq_desk.specs.Reply.{answer_of_read};
 
     /// A new subscription, with an empty port of `port` places.

@@ -1,9 +1,8 @@
 //! The slots that are stored: what is done at one of them, and in each.
-ghost use Rattle.std.specs.Prelude.{◌≡◌, ◌<◌, ◌≤◌, ◌^◌, ◌-◌, None, Some, true, IfOk, OnOk, OnErr, map, length, slice_get, slice_set, vec_len};
+ghost use Rattle.std.specs.Prelude.{◌≡◌, ◌<◌, ◌≤◌, ◌^◌, ◌-◌, None, Some, true, IfOk, map, length, slice_get, slice_set, vec_len};
 ghost use Rattle.std.specs.Vec.{vec_capacity};
 ghost use Rattle.std.specs.List.{AllByRecursion};
 ghost use Rattle.std.specs.Option.{option_map, option_flatten};
-ghost use Rattle.lq_value.specs.Refusal.{IsRefusedBy};
 ghost use Rattle.lq_desk.specs.Slot.{slot_of, can_move, filled, has_work, is_ending, noticed, passes};
 ghost use Rattle.lq_desk.specs.Words.{AreCommitted, AreReady, IsMarked, PassOver};
 ghost use Rattle.lq_desk.specs.Kept.{IsFew, first_free};
