@@ -10,7 +10,7 @@ use Rattle.std.specs.List.{AllByRecursion}
 use Rattle.lq_desk.specs.Kept.{IsFew}
 use Rattle.lq_desk.specs.Slot.{PreparedSlot}
 use Rattle.lq_desk.specs.Words.{ClearsBit, IsMarked}
-use Rattle.lq_desk.proofs.SlotsLemmas.{kept_slot}
+use Rattle.lq_desk.proofs.SlotsLemmas.{done_at, kept_slot}
 
 -- what is found at each place is the same
 pub same-slots : {A : Type 0} (xs ys : List A) → ((i : ℕ) → slice_get xs i ≡ slice_get ys i)
@@ -87,7 +87,7 @@ module _ {T : Type 0} (f : T → T) where
   -- one slot more is done, and its bit cleared
   pub done-more : (rest new : ℕ) (xs ys : List (Option T)) (place : ℕ) → bit_at rest place ≡ 1
       → ClearsBit rest place new → AreDone rest xs ys
-      → AreDone new xs (slice_set ys place (option_map f (option_flatten (slice_get ys place))))
+      → AreDone new xs (done_at f ys place)
   done-more rest new xs ys place set clears all = record {
     left = λ i is. left i is;
     done = λ i is. elim (which i place) [
@@ -98,7 +98,7 @@ module _ {T : Type 0} (f : T → T) where
   }
     where
       after : List (Option T)
-      after = slice_set ys place (option_map f (option_flatten (slice_get ys place)))
+      after = done_at f ys place
 
       left : (i : ℕ) → bit_at new i ≡ 1 → slice_get after i ≡ slice_get xs i
       left i is = elim (which i place) [

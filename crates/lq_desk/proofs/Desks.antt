@@ -17,10 +17,10 @@ use Rattle.lq_desk_world.specs.World.{first_world}
 use Rattle.lq_desk_world.specs.declared.event.Event.{Event}
 use Rattle.lq_desk_world.specs.declared.event.Event.TheVariants.{Change, Open, Take, Notice, Close}
 use Rattle.lq_desk_world.specs.Events.{Answer, event_at, next, outcome}
-use Rattle.lq_desk_world.specs.Turns.{after_all, places_at, puts}
+use Rattle.lq_desk_world.specs.Turns.{after_all, all_puts, notices, places_at, puts}
 use Rattle.lq_desk_world.specs.Laws.{FirstWorldsAreFair}
 use Rattle.lq_desk_world.specs.declared.event.Act.{Act}
-use Rattle.lq_desk.specs.Slot.{KeptSlot, PreparedSlot, slot_of, fresh_slot}
+use Rattle.lq_desk.specs.Slot.{KeptSlot, PreparedSlot, slot_of, filled, fresh_slot, noticed}
 use Rattle.lq_desk.specs.Act.{act_of, close_turn, outcome_of, read_turn}
 use Rattle.lq_desk.specs.Kept.{Kept, IsDesk, IsFew, Shows, first_free, opening_refusal, opened, open_if, changed, change_if, at_kept, kept_outcome, slot_for}
 use Rattle.lq_desk.specs.Turn.{kept_after, kept_ports, kept_turn}
@@ -28,9 +28,9 @@ use Rattle.lq_desk.specs.Laws.{KeptShowsWorlds}
 use Rattle.lq_desk.proofs.ListLemmas.{all-set}
 use Rattle.lq_desk.proofs.PlaceLemmas.{act-outcome, at-same}
 use Rattle.lq_desk.proofs.SlotsLemmas.{kept_slot}
-use Rattle.lq_desk.proofs.FewLemmas.{few-act, few-after, few-close_turn, few-outcome_of, few-read_turn, length-outcome_of, few-more}
+use Rattle.lq_desk.proofs.FewLemmas.{few-act, few-after, few-close_turn, few-filled_all, few-noticed_all, few-outcome_of, few-read_turn, length-outcome_of, few-more}
 use Rattle.lq_desk.proofs.EventLemmas.{after-join}
-use Rattle.lq_desk.proofs.TurnLemmas.{after-shows}
+use Rattle.lq_desk.proofs.TurnLemmas.{after-shows, filled-all, noticed-all}
 use Rattle.lq_desk.proofs.SlotTurnLemmas.{close-events, read-events}
 
 -- free slots have made no messages
@@ -130,6 +130,28 @@ module _ (alike : KeptShowsWorlds) where
       (subst (λ (js : List (Option KeptSlot)). AllByRecursion (IsFew (3 * k.volume.number)) js)
       (sym at) (few-outcome_of (3 * k.volume.number) does keeps k.slots slot d.few))
 
+  -- after the notices of all slots
+  pub IsDesk-noticed : (k : Kept) (n : ℕ) (ks : List (Option KeptSlot)) → IsDesk k
+      → n ≡ k.volume.number → ks ≡ map (option_map (noticed n)) k.slots
+      → IsDesk (record k { slots = ks })
+  IsDesk-noticed k n ks d same is =
+      let made : ks ≡ map (option_map (noticed k.volume.number)) k.slots =
+      is ∙ ap (λ m. map (option_map (noticed m)) k.slots) same in
+      subst (λ js. IsDesk (record k { slots = js })) (sym made)
+      (IsDesk-after k (notices (kept_ports k))
+      (map (option_map (noticed k.volume.number)) k.slots) d
+      (sym (noticed-all k)) (length-map k.slots _)
+      (few-noticed_all (3 * k.volume.number) k.volume.number k.slots d.few))
+
+  -- after each port was filled
+  pub IsDesk-filled : (k : Kept) (ks : List (Option KeptSlot)) → IsDesk k
+      → ks ≡ map (option_map filled) k.slots → IsDesk (record k { slots = ks })
+  IsDesk-filled k ks d is =
+      subst (λ js. IsDesk (record k { slots = js })) (sym is)
+      (IsDesk-after k (all_puts (kept_ports k)) (map (option_map filled) k.slots) d
+      (sym (filled-all k)) (length-map k.slots _)
+      (few-filled_all (3 * k.volume.number) k.slots d.few))
+
   -- after an act at a slot
   pub IsDesk-act : (k : Kept) (n : ℕ) (a : Act) (slot : ℕ) (r : Answer)
       (ks : List (Option KeptSlot)) → IsDesk k → n ≡ k.volume.number
@@ -172,6 +194,22 @@ at-view does k j n slot r ks view same is =
     at-same k (does n) slot r ks is
     ∙ (ap (λ m. at_kept k slot (does m)) same
     ∙ ap (λ (i : Kept). at_kept i slot (does i.volume.number)) view)
+
+-- the notices of all slots, by the desk as it was seen before
+pub noticed-view : (k j : Kept) (n : ℕ) (ks : List (Option KeptSlot)) → k ≡ j
+    → n ≡ k.volume.number → ks ≡ map (option_map (noticed n)) k.slots
+    → record k { slots = ks } ≡ kept_after j (notices (kept_ports j))
+noticed-view k j n ks view same is =
+    ap (λ js. record k { slots = js }) (is ∙ ap (λ m. map (option_map (noticed m)) k.slots) same)
+    ∙ (noticed-all k ∙ ap (λ (i : Kept). kept_after i (notices (kept_ports i))) view)
+
+-- each port filled, by the desk as it was seen before
+pub filled-view : (k j : Kept) (ks : List (Option KeptSlot)) → k ≡ j
+    → ks ≡ map (option_map filled) k.slots
+    → record k { slots = ks } ≡ kept_after j (all_puts (kept_ports j))
+filled-view k j ks view is =
+    ap (λ js. record k { slots = js }) is
+    ∙ (filled-all k ∙ ap (λ (i : Kept). kept_after i (all_puts (kept_ports i))) view)
 
 -- each slot of a desk has made few messages
 pub few-desk : (k : Kept) → IsVolume k.volume → IsDesk k

@@ -33,7 +33,6 @@ all-set P [] i y h p = tt
 all-set P (x ∷ xs) zero y h p = (p, h.1)
 all-set P (x ∷ xs) (suc i) y h p = (h.0, all-set P xs i y h.1 p)
 
--- ---- tests
 -- ---- a part of a list
 
 -- the first of the rest is the one at that place

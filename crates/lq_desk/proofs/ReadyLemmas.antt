@@ -1,6 +1,6 @@
 -- Messages of a change that are made in the slots that were asked, and committed in those that have
 -- some.
-use Rattle.std.proofs.Common.{◌≡◌, ◌≢◌, ℕ, zero, suc, ◌+◌, ◌<◌, ◌≤◌, List, [], refl, ap, map, length, ◌∙◌, sym, subst, arith, Some, None, Option, Bool, true, false, inl, inr}
+use Rattle.std.proofs.Common.{◌≡◌, ◌≢◌, ℕ, zero, suc, ◌+◌, ◌-◌, ◌<◌, ◌≤◌, ◌^◌, List, [], refl, ap, map, get_or, length, ◌∙◌, sym, subst, arith, Some, None, Option, Bool, true, false, inl, inr}
 use Rattle.std.specs.Prelude.{slice_get, slice_set, ◌⊎◌}
 use Rattle.std.specs.List.{AllByRecursion}
 use Rattle.std.specs.Option.{option_map, option_flatten}
@@ -15,7 +15,7 @@ use Rattle.lq_desk.specs.Kept.{IsFew}
 use Rattle.lq_desk.specs.Slot.{PreparedSlot, slot_of, committed_slot, slot_after}
 use Rattle.lq_desk.specs.Words.{AreCommitted, AreMadeIn, AreReady, ClearsBit, IsAsked, IsReady, PassOver, SetsBit}
 use Rattle.lq_desk.proofs.BitLemmas.{few-flat, same-slots, set-at, set-here, set-other, which}
-use Rattle.lq_desk.proofs.SlotsLemmas.{kept_slot, no-messages, told-none}
+use Rattle.lq_desk.proofs.SlotsLemmas.{done_at, kept_slot, no-messages, one-get, told-none}
 
 -- a bit is set, or it is clear
 pub bit-cases : (word i : ℕ) → (bit_at word i ≡ 0) ⊎ (bit_at word i ≡ 1)
@@ -29,7 +29,7 @@ bit-cases word i = by (bit_at word i) refl (bit_at-lt word i)
 -- ---- one slot
 
 -- a subscription that was made ready, in a slot that was asked
-pub asked-is : (s : State) (c : Change) (any : Bool) (old new : Prepared) (p q : PreparedSlot)
+asked-is : (s : State) (c : Change) (any : Bool) (old new : Prepared) (p q : PreparedSlot)
     → IsReadied s c any old new → q.sub ≡ new → Some q ≡ Some p
     → (any ≡ true → AreMadeIn s c p) × (any ≡ false → messages_of s c p.sub.held ≡ [])
 asked-is s c any old new p q readied is at = ((λ some. made some), (λ none. empty none))
@@ -51,6 +51,14 @@ asked-is s c any old new p q readied is at = ((λ some. made some), (λ none. em
     empty : any ≡ false → messages_of s c p.sub.held ≡ []
     empty none = ap (messages_of s c) held
         ∙ no-messages (messages_of s c old.held) (sym readied.any ∙ none)
+
+-- a slot that was asked
+pub asked-some : (s : State) (c : Change) (any : Bool) (old new : Prepared) (q : PreparedSlot)
+    → IsReadied s c any old new → q.sub ≡ new → IsAsked s c any (Some q)
+asked-some s c any old new q readied is = record {
+  some = λ p at. (asked-is s c any old new p q readied is at).0;
+  none = λ p at live. (asked-is s c any old new p q readied is at).1;
+}
 
 -- ---- the loop that makes them
 
@@ -111,6 +119,23 @@ made-more s c asked rest told rest' told' xs place any x lt set clears sets is a
       is.none p (let same : x ≡ Some p = cc in same) live has,
     )
 
+-- a place without a live subscription
+pub made-idle : (s : State) (c : Change) (asked rest told rest' : ℕ)
+    (xs : List (Option PreparedSlot)) (place : ℕ) (x : Option PreparedSlot) → place < length xs
+    → bit_at rest place ≡ 1 → ClearsBit rest place rest'
+    → ((p : PreparedSlot) → x ≡ Some p → is_live p.sub.held ≡ false)
+    → AreMade s c asked rest told xs → AreMade s c asked rest' told (slice_set xs place x)
+made-idle s c asked rest told rest' xs place x lt set clears idle all =
+    made-more s c asked rest told rest' told xs place false x lt set clears (record {
+      here = λ is. absurd (let no : ⊥ = cc in no);
+      none = λ is. refl;
+      others = λ i is. is;
+      same = λ i other. refl;
+    }) (record {
+      some = λ p at any. absurd (let no : ⊥ = cc in no);
+      none = λ p at live any. absurd (let ended = idle p at in let no : ⊥ = cc in no);
+    }) all
+
 -- a place beyond the slots
 pub made-past : (s : State) (c : Change) (asked rest told rest' : ℕ)
     (xs : List (Option PreparedSlot)) (place : ℕ) → length xs ≤ place → bit_at rest place ≡ 1
@@ -148,14 +173,20 @@ made-all s c asked rest told xs ys volume lawful none kept over all =
       | inr one ↦ all.made i p at live one (none i)
     ]
 
--- what is few of all slots is few of the one at a place, after others were prepared
-pub few-kept : (n : ℕ) (xs ys : List (Option PreparedSlot)) (i : ℕ)
-    → map kept_slot ys ≡ map kept_slot xs → AllByRecursion (IsFew n) (map kept_slot xs)
-    → IsFew n (kept_slot (option_flatten (slice_get ys i)))
-few-kept n xs ys i kept few =
-    few-flat n ys i (subst (AllByRecursion (IsFew n)) (sym kept) few)
-
 -- ---- the loop that commits them
+
+-- a slot that is as it was has made few messages, where all had
+pub sent-left : (xs ys : List (Option PreparedSlot)) (i : ℕ) (p : PreparedSlot)
+    (d : Option PreparedSlot) → slice_get ys i ≡ slice_get xs i → i < length ys → d ≡ get_or ys i d
+    → d ≡ Some p → AllByRecursion (IsFew (2 ^ 63 - 1)) (map kept_slot xs)
+    → p.sub.held.sent < 2 ^ 63
+sent-left xs ys i p d left lt at is few =
+    let there : slice_get xs i ≡ Some (Some p) =
+    sym left ∙ (one-get ys i d lt at ∙ ap (λ (o : Option PreparedSlot). Some o) is) in
+    let most : p.sub.held.sent ≤ 2 ^ 63 - 1 =
+    subst (λ o. IsFew (2 ^ 63 - 1) (kept_slot (option_flatten o))) there
+    (few-flat (2 ^ 63 - 1) xs i few) in
+    omega (arith, most)
 
 -- what the loop has done when some slots are still to be committed
 pub record AreCommittedTo (told rest : ℕ) (xs ys : List (Option PreparedSlot)) : Type 0 where
@@ -176,8 +207,7 @@ committed-first told xs = record {
 -- one slot more
 pub committed-more : (told rest rest' : ℕ) (xs ys : List (Option PreparedSlot)) (place : ℕ)
     → bit_at rest place ≡ 1 → ClearsBit rest place rest' → AreCommittedTo told rest xs ys
-    → AreCommittedTo told rest' xs
-    (slice_set ys place (option_map committed_slot (option_flatten (slice_get ys place))))
+    → AreCommittedTo told rest' xs (done_at committed_slot ys place)
 committed-more told rest rest' xs ys place set clears all = record {
   left = λ i is. elim (which i place) [
     | inl here ↦ absurd (omega (arith, is, clears.here, ap (bit_at rest') here))
@@ -197,7 +227,7 @@ committed-more told rest rest' xs ys place set clears all = record {
 }
   where
     zs : List (Option PreparedSlot)
-    zs = slice_set ys place (option_map committed_slot (option_flatten (slice_get ys place)))
+    zs = done_at committed_slot ys place
 
     apart : (i : ℕ) → i ≢ place → slice_get zs i ≡ slice_get ys i
     apart i other = set-other ys place i _ (λ same. other (sym same))

@@ -5,14 +5,14 @@ use Rattle.std.specs.Option.{option_map, option_flatten}
 use Rattle.std.specs.List.{AllByRecursion}
 use Rattle.std.proofs.lemmas.Bool.Decides.{nat_tests}
 use Rattle.std.proofs.lemmas.Bool.{and_parts}
-use Rattle.std.proofs.lemmas.List.{map-set}
+use Rattle.std.proofs.lemmas.List.{map-set, set_past}
 use Rattle.std.proofs.lemmas.Option.{slice_get-map}
 use Rattle.lq_update.specs.declared.mark.Cause.TheVariants.{HungUp}
 use Rattle.lq_update.specs.declared.message.Message.{Message}
 use Rattle.lq_desk_world.specs.Events.{Answer, Refused}
 use Rattle.lq_value.specs.declared.refusal.Refusal.TheVariants.{NotOpen}
-use Rattle.lq_desk_sub.specs.Held.{Held, is_live, committed, ended_by, after_messages}
-use Rattle.lq_desk.specs.Slot.{KeptSlot, PreparedSlot, slot_of, committed_slot, can_move, done_at, filled, has_work, is_ending, noticed, read_slot}
+use Rattle.lq_desk_sub.specs.Held.{Held, Prepared, is_live, committed, ended_by, after_messages}
+use Rattle.lq_desk.specs.Slot.{KeptSlot, PreparedSlot, slot_of, committed_slot, can_move, filled, has_work, is_ending, noticed, read_slot}
 use Rattle.lq_desk.specs.Act.{outcome_at, outcome_in, read_turn}
 use Rattle.lq_desk.specs.Kept.{IsFew}
 use Rattle.lq_desk.specs.Kept as kept
@@ -24,6 +24,10 @@ abbrev pub kept_slot : Option PreparedSlot → Option KeptSlot
 kept_slot = option_map slot_of
 
 -- ---- one of a list
+
+-- the list, with the one at an index changed in this way
+abbrev pub done_at : {T : Type 0} → (T → T) → List (Option T) → ℕ → List (Option T)
+done_at f xs i = slice_set xs i (option_map f (option_flatten (slice_get xs i)))
 
 -- a slot that was read has made few messages, where all have
 pub one-few : (n : ℕ) (ys : List (Option PreparedSlot)) (i : ℕ) (d : Option PreparedSlot)
@@ -97,6 +101,25 @@ pub done_in-same : (f : KeptSlot → KeptSlot) (xs : List (Option PreparedSlot))
 done_in-same f xs i x d lt at is =
     map-set kept_slot xs i x
     ∙ ap (slice_set (map kept_slot xs) i) (is ∙ ap (option_map f) (sym (kept-get xs i d lt at)))
+
+-- the list after something was done to one of them
+pub done-in : (f : PreparedSlot → PreparedSlot) (xs : List (Option PreparedSlot)) (i : ℕ)
+    (x d : Option PreparedSlot) → i < length xs → d ≡ get_or xs i d → x ≡ option_map f d
+    → slice_set xs i x ≡ done_at f xs i
+done-in f xs i x d lt at is = ap (slice_set xs i)
+    (is ∙ ap (λ o. option_map f (option_flatten o)) (sym (one-get xs i d lt at)))
+
+-- beyond the list nothing is done
+pub done-past : {T : Type 0} (f : T → T) (xs : List (Option T)) (i : ℕ) → length xs ≤ i
+    → xs ≡ done_at f xs i
+done-past f xs i past = sym (set_past xs i _ past)
+
+-- a slot with messages made ready is held as before
+pub kept-readied : (q p : PreparedSlot) (new : Prepared) → new.held ≡ q.sub.held → q ≡ p
+    → kept_slot (Some (record q { sub = new })) ≡ kept_slot (Some p)
+kept-readied q p new is same =
+    ap (λ (h : Held). Some (record (slot_of q) { held = h })) is
+    ∙ ap (λ (r : PreparedSlot). kept_slot (Some r)) same
 
 -- another subscription with the same contents is written at one of them
 pub kept-written : (xs : List (Option PreparedSlot)) (i : ℕ) (x d : Option PreparedSlot)

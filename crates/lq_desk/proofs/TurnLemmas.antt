@@ -1,21 +1,22 @@
 -- The turns of a desk.
 use Rattle.std.proofs.Common.{◌≡◌, ℕ, suc, ◌+◌, List, [], ◌∷◌, ◌++◌, refl, ap, map, length, ◌∙◌, sym, subst, arith, Some, None, Option, inl, inr}
-use Rattle.std.specs.Prelude.{slice_get}
+use Rattle.std.specs.Prelude.{slice_get, ◌⊎◌}
 use Rattle.std.specs.Option.{option_map}
 use Rattle.lq_value.specs.declared.refusal.Refusal.{Refusal}
+use Rattle.lq_value.specs.declared.refusal.Refusal.TheVariants.{NoMemory}
 use Rattle.lq_volume.specs.declared.change.Change.{Change as Change_}
 use Rattle.lq_volume.specs.Book.{Book}
 use Rattle.lq_volume.specs.Change.{refused}
 use Rattle.lq_desk_world.specs.World.{World, Subscribed}
 use Rattle.lq_desk_world.specs.declared.event.Event.{Event}
 use Rattle.lq_desk_world.specs.declared.event.Event.TheVariants.{Change, Open, Put, Take, HangUp, Notice, Close, Finish}
-use Rattle.lq_desk_world.specs.Events.{Answer, outcome, next}
+use Rattle.lq_desk_world.specs.Events.{Answer, Refused, outcome, next}
 use Rattle.lq_desk_world.specs.Turns.{Turn, turn_of, ports_of, at_slot_of, at_each, one_notice, puts, notices, all_puts, after_all, carried_out}
 use Rattle.lq_desk.specs.Slot.{KeptSlot, filled, noticed}
 use Rattle.lq_desk.specs.Act.{close_turn, read_turn}
 use Rattle.lq_desk.specs.Kept.{Kept, KeptStep, Shows, slot_for, at_kept, kept_outcome, change_if}
 use Rattle.lq_desk.specs.Reply.{Moves, Runs}
-use Rattle.lq_desk.specs.Turn.{slot_port, kept_ports, kept_turn, kept_after, TurnStep, TurnRuns}
+use Rattle.lq_desk.specs.Turn.{slot_port, kept_ports, kept_turn, kept_turn_outcome, kept_after, TurnStep, TurnRuns}
 use Rattle.lq_desk.specs.Laws.{KeptShowsWorlds, KeptTurnsShowWorlds}
 use Rattle.lq_desk.proofs.ListLemmas.{set-seam}
 use Rattle.lq_desk.proofs.RunLemmas.{runs-more}
@@ -246,6 +247,22 @@ turn-event k (HangUp slot) = refl
 turn-event k (Notice slot) = refl
 turn-event k (Close slot) = refl
 turn-event k (Finish slot) = refl
+
+-- a turn has its outcome, unless memory runs out
+pub turn-outcome : (k l : Kept) (e : Event) (a : Answer) → TurnStep k e a l
+    → (a ≡ Refused NoMemory) ⊎ ((a, l) ≡ kept_turn_outcome k e)
+turn-outcome k l e a t = elim t.step [
+  | inl does ↦
+      let turn = kept_turn k e in
+      let mid = kept_after k turn.before in
+      let same : l ≡ kept_after (kept_outcome mid e).1 turn.after =
+      t.after ∙ ap (λ (j : Kept). kept_after j turn.after) does.1 in
+      inr (ap (λ (b : Answer). (b, l)) does.0
+      ∙ (ap (λ (j : Kept). ((kept_outcome mid e).0, j)) same
+      ∙ ap (λ (f : Event). ((kept_outcome mid f).0, kept_after (kept_outcome mid f).1 turn.after))
+      (sym (ap (λ (u : Turn). u.event) (turn-event k e)))))
+  | inr ran ↦ inl ran.1
+]
 
 -- where what is kept shows a world, and both answer alike
 module _ (alike : KeptShowsWorlds) where

@@ -21,10 +21,6 @@ either-right a b i is = omega (arith, is, bit_at_or a b i, bit_at-lt a i)
 
 -- of slots that a test marks
 module _ {T : Type 0} (test : T → Bool) where
-  -- any word marks no slots
-  pub marked-none : (word : ℕ) → IsMarked test word []
-  marked-none word = λ i x at is. absurd (let no : ⊥ = cc in no)
-
   -- another thing in one of the slots
   pub marked-set : (old new : ℕ) (xs : List (Option T)) (place : ℕ) (o : Option T)
       → IsMarked test old xs → ((i : ℕ) → bit_at old i ≡ 1 → bit_at new i ≡ 1)

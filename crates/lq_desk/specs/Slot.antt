@@ -1,6 +1,5 @@
 -- The contents of a taken slot, a subscription and its port, and what each act does there.
-use Rattle.std.specs.Prelude.{ℕ, zero, suc, ◌-◌, List, [], ◌∷◌, ◌++◌, length, drop, replicate, Bool, true, false, ◌&&◌, ◌||◌, ◌==◌, nat_lt, Option, Some, None, is_some, unwrap_or, slice_get, slice_set, if◌then◌else◌}
-use Rattle.std.specs.Option.{option_map, option_flatten}
+use Rattle.std.specs.Prelude.{ℕ, zero, suc, ◌-◌, List, [], ◌∷◌, ◌++◌, length, drop, replicate, Bool, true, false, ◌&&◌, ◌||◌, ◌==◌, nat_lt, Option, Some, None, is_some, unwrap_or, slice_get, if◌then◌else◌}
 use Rattle.lq_value.specs.declared.refusal.Refusal.TheVariants.{NotOpen, StillOpen}
 use Rattle.lq_predicate_formula.specs.Query.{Query}
 use Rattle.lq_volume.specs.declared.change.Change.{Change}
@@ -145,7 +144,3 @@ after_puts (suc n) k = after_puts n (after_put k)
 -- a slot after as many puts as its port has places: nothing moves after them
 abbrev pub filled : KeptSlot → KeptSlot
 filled k = after_puts k.port k
-
--- the slots, with the one at an index changed in this way
-abbrev pub done_at : (KeptSlot → KeptSlot) → List (Option KeptSlot) → ℕ → List (Option KeptSlot)
-done_at f ks place = slice_set ks place (option_map f (option_flatten (slice_get ks place)))

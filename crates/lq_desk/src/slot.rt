@@ -1,9 +1,8 @@
 //! A taken slot: a subscription with its port.
-ghost use Rattle.std.specs.Prelude.{◌≡◌, ◌<◌, ◌≤◌, ◌^◌, ◌-◌, true, if◌then◌else◌, None, Some, IfOk, OnOk, OnErr};
+ghost use Rattle.std.specs.Prelude.{◌≡◌, ◌<◌, ◌≤◌, ◌^◌, ◌-◌, true, None, Some, IfOk};
 ghost use Rattle.lq_value.specs.Refusal.{IsRefusedBy};
 ghost use Rattle.std.specs.Option.{option_map};
 ghost use Rattle.lq_desk.specs.Slot.{slot_of, committed_slot, can_move, close_slot, filled, is_ending, noticed, passes};
-ghost use Rattle.lq_desk.specs.Words.{IsAsked};
 ghost use Rattle.lq_desk.specs.Kept.{IsFew};
 ghost use Rattle.lq_desk.specs.Act.{act_of, outcome_at};
 ghost use Rattle.lq_desk.specs.Reply.{answer_of};
@@ -14,15 +13,14 @@ use lq_desk_world::Act;
 use lq_predicate::Predicate;
 use lq_update::{Cause, Parcel};
 use lq_value::Refusal;
-use lq_volume::Planned;
-use std::alloc::{AllocError, Global};
+use std::alloc::Global;
 use std::collections::VecDeque;
 use std::marker::Model;
 
 /// A subscription, its port with room for all its places, and whether its end was asked for.
 #[derive(Drop)]
 pub struct Slot {
-    sub: Sub,
+    pub(crate) sub: Sub,
     port: u64,
     queue: VecDeque<Parcel>,
     hang_up_asked: bool,
@@ -50,8 +48,8 @@ impl Model for Slot {
 }
 
 impl Slot {
-    ghost use Rattle.lq_desk_world.specs.Events.{Answer, Moved, Noticed};
-    ghost use Rattle.lq_desk.specs.Slot.{KeptSlot, PreparedSlot, fresh_slot, put_slot, read_slot, notice_slot, is_read};
+    ghost use Rattle.lq_desk_world.specs.Events.{Moved, Noticed};
+    ghost use Rattle.lq_desk.specs.Slot.{PreparedSlot, fresh_slot, put_slot, read_slot, notice_slot, is_read};
     ghost use Rattle.lq_desk.specs.Reply.{answer_of_read};
 
     /// A new subscription, with an empty port of `port` places.
@@ -73,13 +71,6 @@ impl Slot {
             queue: VecDeque::with_capacity(alloc, port as usize)?,
             hang_up_asked: false,
         })
-    }
-
-    /// The subscription.
-    pub fn sub(&self) -> &Sub
-        ensures { result.now ≡ self.now.sub }
-    {
-        &self.sub
     }
 
     /// Commits the messages that were made, if the subscription is live.
@@ -234,23 +225,4 @@ pub fn notice_at(slot: &mut Option<Slot>, may_end: bool, number: u64)
     if let Some(there) = slot {
         let _ = there.notice(number);
     }
-}
-
-/// Makes the messages of a change for a slot, if a live subscription is there and the change has
-/// some for it; answers whether it has. What the slot keeps stays.
-#[inline(always)]
-pub fn ready_at(slot: &mut Option<Slot>, planned: &Planned<'_>) -> Result<bool, AllocError>
-    requires few { IsFew (2 ^ 63 - 1) (option_map slot_of slot.old) }
-    ensures asked { IfOk result (λ any.
-        IsAsked planned.now.before planned.now.change any slot.new) }
-    ensures kept { option_map slot_of slot.new ≡ option_map slot_of slot.old }
-{
-    let Some(there) = slot else {
-        return Ok(false);
-    };
-    if !there.sub.is_live() {
-        return Ok(false);
-    }
-    let any = there.sub.ready_if_told(planned)?;
-    Ok(any)
 }

@@ -1,5 +1,5 @@
 //! The slots of a desk: acts on all of them or on one.
-ghost use Rattle.std.specs.Prelude.{◌≡◌, ◌<◌, ◌^◌, ◌-◌, None, Some, IfOk, OnOk, OnErr, map, replicate, slice_set};
+ghost use Rattle.std.specs.Prelude.{◌≡◌, ◌<◌, ◌^◌, ◌-◌, None, Some, IfOk, map, replicate, slice_set};
 ghost use Rattle.std.specs.List.{AllByRecursion};
 ghost use Rattle.std.specs.Option.{option_map};
 ghost use Rattle.lq_value.specs.Refusal.{IsRefusedBy};
@@ -91,7 +91,7 @@ impl Slots {
         let place = first_free(&self.stored);
         self.ending = with_bit(self.ending, place, slot.is_ending());
         self.movable = with_bit(self.movable, place, slot.can_move());
-        self.watch.set(place, slot.sub());
+        self.watch.set(place, &slot.sub);
         if place < self.stored.len() {
             occupy(&mut self.stored, place, slot);
         } else {

@@ -1,17 +1,16 @@
 //! The slots that are stored: what is done at one of them, and in each.
-ghost use Rattle.std.specs.Prelude.{◌≡◌, ◌<◌, ◌≤◌, ◌^◌, ◌-◌, None, Some, true, IfOk, OnOk, OnErr, map, length, slice_get, slice_set, vec_len};
+ghost use Rattle.std.specs.Prelude.{◌≡◌, ◌<◌, ◌≤◌, ◌^◌, ◌-◌, None, Some, true, IfOk, map, length, slice_get, slice_set, vec_len};
 ghost use Rattle.std.specs.Vec.{vec_capacity};
 ghost use Rattle.std.specs.List.{AllByRecursion};
 ghost use Rattle.std.specs.Option.{option_map, option_flatten};
-ghost use Rattle.lq_value.specs.Refusal.{IsRefusedBy};
-ghost use Rattle.lq_desk.specs.Slot.{slot_of, committed_slot, can_move, done_at, filled, has_work, is_ending, noticed, passes};
+ghost use Rattle.lq_desk.specs.Slot.{slot_of, can_move, filled, has_work, is_ending, noticed, passes};
 ghost use Rattle.lq_desk.specs.Words.{AreCommitted, AreReady, IsMarked, PassOver};
 ghost use Rattle.lq_desk.specs.Kept.{IsFew, first_free};
 ghost use Rattle.lq_desk.specs.Act.{act_of, close_turn, outcome_in, read_turn};
 ghost use Rattle.lq_desk.specs.Reply.{answer_of};
 
 use crate::reply::Reply;
-use crate::slot::{Slot, act_at, notice_at, ready_at};
+use crate::slot::{Slot, act_at, notice_at};
 use crate::slots::SLOTS;
 use crate::word::{has_bit, lowest_bit, with_bit, without_bit};
 use lq_desk_world::Act;
@@ -68,8 +67,11 @@ pub fn ready_all(
             return Ok(told);
         }
         let place = lowest_bit(rest);
-        if place < slots.len() {
-            let any = ready_at(&mut slots[place], planned)?;
+        if place < slots.len()
+            && let Some(there) = &mut slots[place]
+            && there.sub.is_live()
+        {
+            let any = there.sub.ready_if_told(planned)?;
             told = with_bit(told, place, any);
         }
         rest = without_bit(rest, place);
@@ -90,25 +92,12 @@ pub fn commit_all(slots: &mut Vec<Option<Slot>>, told: u64)
             return;
         }
         let place = lowest_bit(rest);
-        commit_at(slots, place);
+        if place < slots.len()
+            && let Some(there) = &mut slots[place]
+        {
+            there.commit();
+        }
         rest = without_bit(rest, place);
-    }
-}
-
-// Commits the messages of the slot at an index, if a live subscription is there.
-fn commit_at(slots: &mut Vec<Option<Slot>>, place: usize)
-    requires { IsFew (2 ^ 63 - 1)
-        (option_map slot_of (option_flatten (slice_get slots.old.items place))) }
-    ensures items { slots.new.items ≡ slice_set slots.old.items place
-        (option_map committed_slot (option_flatten (slice_get slots.old.items place))) }
-    ensures len { vec_len slots.new ≡ vec_len slots.old }
-    ensures room { vec_capacity slots.new ≡ vec_capacity slots.old }
-{
-    if place >= slots.len() {
-        return;
-    }
-    if let Some(there) = &mut slots[place] {
-        there.commit();
     }
 }
 
@@ -144,23 +133,12 @@ pub fn fill_all(slots: &mut Vec<Option<Slot>>, movable: u64)
             return;
         }
         let place = lowest_bit(rest);
-        fill_at(slots, place);
+        if place < slots.len()
+            && let Some(there) = &mut slots[place]
+        {
+            there.fill();
+        }
         rest = without_bit(rest, place);
-    }
-}
-
-// Fills the port of the slot at an index, if a subscription is there.
-fn fill_at(slots: &mut Vec<Option<Slot>>, place: usize)
-    ensures items { map (option_map slot_of) slots.new.items ≡
-        done_at filled (map (option_map slot_of) slots.old.items) place }
-    ensures len { vec_len slots.new ≡ vec_len slots.old }
-    ensures room { vec_capacity slots.new ≡ vec_capacity slots.old }
-{
-    if place >= slots.len() {
-        return;
-    }
-    if let Some(there) = &mut slots[place] {
-        there.fill();
     }
 }
 

@@ -1,5 +1,5 @@
 //! The query of a subscription, and what is found of it once.
-ghost use Rattle.std.specs.Prelude.{◌≡◌, ◌<◌, ℕ, Bool, true, [], not, IfNone, IfOk, IfSome, None};
+ghost use Rattle.std.specs.Prelude.{◌≡◌, ◌<◌, ℕ, Bool, [], not, IfNone, IfOk, IfSome, None};
 ghost use Rattle.lq_value.specs.Refusal.{IsRefusedBy};
 ghost use Rattle.lq_predicate.specs.Names.{names_of};
 ghost use Rattle.lq_predicate.specs.Needs.{needs_attribute};

@@ -71,7 +71,7 @@ impl Model for Sub {
 }
 
 impl Sub {
-    ghost use Rattle.lq_desk_sub.specs.Held.{Held, Prepared, opened_with, is_live, ended_by, next_parcel, without, with_back, fits_back};
+    ghost use Rattle.lq_desk_sub.specs.Held.{Prepared, opened_with, is_live, ended_by, next_parcel, without, with_back, fits_back};
 
     /// A live subscription that holds no message, opened after `at` changes. Refused: `NoMemory`.
     pub fn new(

@@ -1,7 +1,7 @@
 use Rattle.std.proofs.Common.{◌≡◌, ◌<◌, ap, ◌∙◌, sym, subst, map, length, arith, [], ◌∷◌, Some}
 use Rattle.std.specs.Prelude.{slice_set}
 use Rattle.std.proofs.lemmas.List.{length-map, map-append, map-set}
-use Rattle.lq_desk.specs.Slot.{slot_of, with_free}
+use Rattle.lq_desk.specs.Slot.{PreparedSlot, slot_of, with_free}
 use Rattle.lq_desk.specs.Kept.{first_free}
 use Rattle.lq_desk.proofs.SlotsLemmas.{kept_slot, first_free-front}
 use Rattle.lq_desk.proofs.FreeLemmas.{first-free, free-place, set-stored, set-pushed}
@@ -73,8 +73,8 @@ invariant_of-self c =
           (slot_of c.args.slot)
           (ap (map kept_slot) c.occupy.ensures.items
           ∙ map-set kept_slot xs c.first_free-place.result (Some c.args.slot))
-          (watches c.self.inside.watch _ c.first_free-place.result c.args.slot c.sub.result.now
-          c.sub.ensures c.set.ensures.here c.set.ensures.others)
+          (watches c.self.inside.watch _ c.first_free-place.result c.args.slot
+          c.slot.inside.sub (ap (λ (p : PreparedSlot). p.sub) c.slot.view_is) c.set.ensures.here c.set.ensures.others)
           c.self.invariant.3,
     )
 
@@ -106,8 +106,8 @@ invariant_of-self-else-place-len c =
       watched-pushed c.self.inside.watch _ (map kept_slot xs) _ c.first_free-place.result
           (slot_of c.args.slot) last
           (ap (map kept_slot) c.push_reserved.ensures.items ∙ map-append kept_slot xs (x ∷ []))
-          (watches c.self.inside.watch _ c.first_free-place.result c.args.slot c.sub.result.now
-          c.sub.ensures c.set.ensures.here c.set.ensures.others)
+          (watches c.self.inside.watch _ c.first_free-place.result c.args.slot
+          c.slot.inside.sub (ap (λ (p : PreparedSlot). p.sub) c.slot.view_is) c.set.ensures.here c.set.ensures.others)
           c.self.invariant.3,
     )
 
