@@ -2,6 +2,11 @@
 use Rattle.std.proofs.Common.{◌≡◌, ℕ, List, ◌++◌, append_assoc, ap, ◌∙◌}
 use Rattle.lq_script_reply.specs.Front.{Extends}
 
+-- a text, and then the rest
+pub and_then : {middle new : List ℕ} (old text rest : List ℕ) → middle ≡ old ++ text
+    → new ≡ middle ++ rest → new ≡ old ++ (text ++ rest)
+and_then old text rest e f = f ∙ (ap (λ front. front ++ rest) e ∙ append_assoc old text rest)
+
 -- bytes and a value's text, and then the rest
 pub piece : {middle new : List ℕ} (old before text rest : List ℕ) → middle ≡ old ++ (before ++ text)
     → new ≡ middle ++ rest → new ≡ old ++ (before ++ (text ++ rest))

@@ -10,7 +10,7 @@ ghost use Rattle.lq_desk.specs.Reply.{answer_of};
 ghost use Rattle.lq_script_reply.specs.Answer.{response_of};
 ghost use Rattle.lq_script_reply.specs.Response.{Answers};
 ghost use Rattle.lq_script_lines.specs.Lines.{Begins};
-ghost use Rattle.lq_script_reply.specs.Reply.{answer_data, applied_data, entry_data, fetched_data, found_data, opened_data, place_of, rebuilt_data, refusal_data, reply_text, response_data, shut_data, slot_data};
+ghost use Rattle.lq_script_reply.specs.Reply.{applied_data, entry_data, fetched_data, found_data, opened_data, place_of, rebuilt_data, refusal_data, reply_text, shut_data, slot_data};
 
 use crate::listing::put_listing;
 use crate::message::put_read;
@@ -29,7 +29,21 @@ pub fn put_reply(out: &mut Vec<u8>, response: &Response) -> Result<(), Refusal>
         ≡ out.old.items ++ reply_text (response_of response.now)) }
     ensures err { OnErr result (Begins out.new.items out.old.items) }
 {
-    put_response(out, response)?;
+    match response {
+        Response::Reply { slot, reply } => return put_event_reply(out, *slot, reply),
+        Response::Refused(refusal) => put_refusal(out, *refusal)?,
+        Response::Found { node } => put_found(out, *node)?,
+        Response::Listed { node, listing } => put_listing(out, *node, listing)?,
+        Response::Fetched {
+            at,
+            result: entries,
+        } => put_fetched(out, *at, entries)?,
+        Response::Rebuilt {
+            change,
+            result: entries,
+            settled,
+        } => put_rebuilt(out, *change, entries, *settled)?,
+    }
     put_bytes(out, b"\n")?;
     Ok(())
 }
@@ -45,31 +59,22 @@ pub fn put_event_reply(out: &mut Vec<u8>, slot: u64, reply: &Reply) -> Result<()
         ≡ out.old.items ++ reply_text (Answers slot (answer_of reply.now))) }
     ensures err { OnErr result (Begins out.new.items out.old.items) }
 {
-    put_answer(out, slot, reply)?;
-    put_bytes(out, b"\n")?;
-    Ok(())
-}
-
-fn put_response(out: &mut Vec<u8>, response: &Response) -> Result<(), AllocError>
-    ensures ok { OnOk result (out.new.items
-        ≡ out.old.items ++ compact_text (response_data (response_of response.now))) }
-    ensures front { Extends out.new.items out.old.items }
-{
-    match response {
-        Response::Reply { slot, reply } => put_answer(out, *slot, reply),
-        Response::Refused(refusal) => put_refusal(out, *refusal),
-        Response::Found { node } => put_found(out, *node),
-        Response::Listed { node, listing } => put_listing(out, *node, listing),
-        Response::Fetched {
+    match reply {
+        Reply::Changed(applied) => put_applied(out, applied)?,
+        Reply::Opened {
+            slot: opened,
             at,
             result: entries,
-        } => put_fetched(out, *at, entries),
-        Response::Rebuilt {
-            change,
-            result: entries,
-            settled,
-        } => put_rebuilt(out, *change, entries, *settled),
+        } => put_opened(out, *opened, *at, entries)?,
+        Reply::Took(read) => put_read(out, read)?,
+        Reply::Shut(change) => put_shut(out, *change, slot)?,
+        Reply::Asked | Reply::Finished | Reply::Moved(_) | Reply::Noticed(_) => {
+            put_slot(out, slot)?
+        }
+        Reply::Refused(refusal) => put_refusal(out, *refusal)?,
     }
+    put_bytes(out, b"\n")?;
+    Ok(())
 }
 
 fn put_found(out: &mut Vec<u8>, node: u64) -> Result<(), AllocError>
@@ -104,26 +109,6 @@ fn put_rebuilt(
     put_entries(out, b",\"result\":[", entries)?;
     put_truth(out, b",\"settled\":", settled)?;
     put_bytes(out, b"}")
-}
-
-// Appends the reply to an event of this slot.
-fn put_answer(out: &mut Vec<u8>, slot: u64, reply: &Reply) -> Result<(), AllocError>
-    ensures ok { OnOk result (out.new.items
-        ≡ out.old.items ++ compact_text (answer_data slot (answer_of reply.now))) }
-    ensures front { Extends out.new.items out.old.items }
-{
-    match reply {
-        Reply::Changed(applied) => put_applied(out, applied),
-        Reply::Opened {
-            slot: opened,
-            at,
-            result: entries,
-        } => put_opened(out, *opened, *at, entries),
-        Reply::Took(read) => put_read(out, read),
-        Reply::Shut(change) => put_shut(out, *change, slot),
-        Reply::Asked | Reply::Finished | Reply::Moved(_) | Reply::Noticed(_) => put_slot(out, slot),
-        Reply::Refused(refusal) => put_refusal(out, *refusal),
-    }
 }
 
 fn put_applied(out: &mut Vec<u8>, applied: &Applied) -> Result<(), AllocError>
