@@ -14,10 +14,10 @@ ghost use Rattle.lq_desk.specs.Reply.{answer_of};
 use crate::reply::Reply;
 use crate::slot::Slot;
 use crate::stored::{
-    act_in, can_move_in, close_in, commit_all, fill_all, first_free, is_ending_in, notice_all,
-    occupy, read_in, ready_all,
+    act_in, can_move_in, close_in, commit_all, first_free, is_ending_in, notice_all, occupy,
+    read_in, ready_all,
 };
-use crate::word::{has_bit, with_bit};
+use crate::word::{has_bit, lowest_bit, with_bit, without_bit};
 use lq_desk_sub::Watch;
 use lq_desk_world::Act;
 use lq_value::Refusal;
@@ -148,7 +148,19 @@ impl Slots {
         if self.movable == 0 {
             return;
         }
-        fill_all(&mut self.stored, self.movable);
+        let mut rest = self.movable;
+        for _ in 0..SLOTS {
+            if rest == 0 {
+                break;
+            }
+            let place = lowest_bit(rest);
+            if place < self.stored.len()
+                && let Some(there) = &mut self.stored[place]
+            {
+                there.fill();
+            }
+            rest = without_bit(rest, place);
+        }
         self.movable = 0;
     }
 

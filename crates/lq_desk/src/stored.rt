@@ -3,7 +3,7 @@ ghost use Rattle.std.specs.Prelude.{◌≡◌, ◌<◌, ◌≤◌, ◌^◌, ◌-
 ghost use Rattle.std.specs.Vec.{vec_capacity};
 ghost use Rattle.std.specs.List.{AllByRecursion};
 ghost use Rattle.std.specs.Option.{option_map, option_flatten};
-ghost use Rattle.lq_desk.specs.Slot.{slot_of, can_move, filled, has_work, is_ending, noticed, passes};
+ghost use Rattle.lq_desk.specs.Slot.{slot_of, can_move, has_work, is_ending, noticed, passes};
 ghost use Rattle.lq_desk.specs.Words.{AreCommitted, AreReady, IsMarked, PassOver};
 ghost use Rattle.lq_desk.specs.Kept.{IsFew, first_free};
 ghost use Rattle.lq_desk.specs.Act.{act_of, close_turn, outcome_in, read_turn};
@@ -115,30 +115,6 @@ pub fn notice_all(slots: &mut Vec<Option<Slot>>, ending: u64, number: u64)
     for slot in slots.iter_mut() {
         notice_at(slot, has_bit(ending, index), number);
         index += 1;
-    }
-}
-
-/// Fills each port; the word has a bit for each that may take a parcel.
-pub fn fill_all(slots: &mut Vec<Option<Slot>>, movable: u64)
-    requires within { length slots.old.items ≤ 64 }
-    requires moves { IsMarked can_move movable (map (option_map slot_of) slots.old.items) }
-    ensures items { map (option_map slot_of) slots.new.items ≡
-        map (option_map filled) (map (option_map slot_of) slots.old.items) }
-    ensures len { vec_len slots.new ≡ vec_len slots.old }
-    ensures room { vec_capacity slots.new ≡ vec_capacity slots.old }
-{
-    let mut rest = movable;
-    for _ in 0..SLOTS {
-        if rest == 0 {
-            return;
-        }
-        let place = lowest_bit(rest);
-        if place < slots.len()
-            && let Some(there) = &mut slots[place]
-        {
-            there.fill();
-        }
-        rest = without_bit(rest, place);
     }
 }
 
