@@ -14,8 +14,7 @@ ghost use Rattle.lq_desk.specs.Reply.{answer_of};
 use crate::reply::Reply;
 use crate::slot::Slot;
 use crate::stored::{
-    act_in, can_move_in, close_in, commit_all, first_free, is_ending_in, notice_all, occupy,
-    read_in, ready_all,
+    act_in, can_move_in, close_in, first_free, is_ending_in, notice_all, occupy, read_in, ready_all,
 };
 use crate::word::{has_bit, lowest_bit, with_bit, without_bit};
 use lq_desk_sub::Watch;
@@ -122,7 +121,19 @@ impl Slots {
         if told == 0 {
             return;
         }
-        commit_all(&mut self.stored, told);
+        let mut rest = told;
+        for _ in 0..SLOTS {
+            if rest == 0 {
+                break;
+            }
+            let place = lowest_bit(rest);
+            if place < self.stored.len()
+                && let Some(there) = &mut self.stored[place]
+            {
+                there.commit();
+            }
+            rest = without_bit(rest, place);
+        }
         self.movable |= told;
     }
 

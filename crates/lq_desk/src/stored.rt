@@ -4,7 +4,7 @@ ghost use Rattle.std.specs.Vec.{vec_capacity};
 ghost use Rattle.std.specs.List.{AllByRecursion};
 ghost use Rattle.std.specs.Option.{option_map, option_flatten};
 ghost use Rattle.lq_desk.specs.Slot.{slot_of, can_move, has_work, is_ending, noticed, passes};
-ghost use Rattle.lq_desk.specs.Words.{AreCommitted, AreReady, IsMarked, PassOver};
+ghost use Rattle.lq_desk.specs.Words.{AreReady, IsMarked, PassOver};
 ghost use Rattle.lq_desk.specs.Kept.{IsFew, first_free};
 ghost use Rattle.lq_desk.specs.Act.{act_of, close_turn, outcome_in, read_turn};
 ghost use Rattle.lq_desk.specs.Reply.{answer_of};
@@ -77,28 +77,6 @@ pub fn ready_all(
         rest = without_bit(rest, place);
     }
     Ok(told)
-}
-
-/// Commits the messages of each subscription that the word has a bit for.
-pub fn commit_all(slots: &mut Vec<Option<Slot>>, told: u64)
-    requires few { AllByRecursion (IsFew (2 ^ 63 - 1)) (map (option_map slot_of) slots.old.items) }
-    ensures items { AreCommitted told slots.old.items slots.new.items }
-    ensures len { vec_len slots.new ≡ vec_len slots.old }
-    ensures room { vec_capacity slots.new ≡ vec_capacity slots.old }
-{
-    let mut rest = told;
-    for _ in 0..SLOTS {
-        if rest == 0 {
-            return;
-        }
-        let place = lowest_bit(rest);
-        if place < slots.len()
-            && let Some(there) = &mut slots[place]
-        {
-            there.commit();
-        }
-        rest = without_bit(rest, place);
-    }
 }
 
 /// Ends each live subscription whose end was asked for; the word has a bit for each of them.
