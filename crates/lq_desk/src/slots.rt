@@ -14,10 +14,9 @@ ghost use Rattle.lq_desk.specs.Reply.{answer_of};
 use crate::reply::Reply;
 use crate::slot::Slot;
 use crate::stored::{
-    act_in, can_move_in, close_in, commit_all, fill_all, first_free, is_ending_in, notice_all,
-    occupy, read_in, ready_all,
+    act_in, can_move_in, close_in, first_free, is_ending_in, notice_all, occupy, read_in,
 };
-use crate::word::{has_bit, with_bit};
+use crate::word::{has_bit, lowest_bit, with_bit, without_bit};
 use lq_desk_sub::Watch;
 use lq_desk_world::Act;
 use lq_value::Refusal;
@@ -108,8 +107,25 @@ impl Slots {
             AreReady planned.now.before planned.now.change told self.new) }
         ensures kept { map (option_map slot_of) self.new ≡ map (option_map slot_of) self.old }
     {
-        let asked = self.watch.asked(planned.change());
-        Ok(ready_all(&mut self.stored, asked, planned)?)
+        let mut rest = self.watch.asked(planned.change());
+        // For its clauses `lawful` and `volume`.
+        let _ = planned.applied();
+        let mut told = 0;
+        for _ in 0..SLOTS {
+            if rest == 0 {
+                break;
+            }
+            let place = lowest_bit(rest);
+            if place < self.stored.len()
+                && let Some(there) = &mut self.stored[place]
+                && there.sub.is_live()
+            {
+                let any = there.sub.ready_if_told(planned)?;
+                told = with_bit(told, place, any);
+            }
+            rest = without_bit(rest, place);
+        }
+        Ok(told)
     }
 
     /// Commits the messages of each subscription that the word has a bit for.
@@ -122,7 +138,19 @@ impl Slots {
         if told == 0 {
             return;
         }
-        commit_all(&mut self.stored, told);
+        let mut rest = told;
+        for _ in 0..SLOTS {
+            if rest == 0 {
+                break;
+            }
+            let place = lowest_bit(rest);
+            if place < self.stored.len()
+                && let Some(there) = &mut self.stored[place]
+            {
+                there.commit();
+            }
+            rest = without_bit(rest, place);
+        }
         self.movable |= told;
     }
 
@@ -148,7 +176,19 @@ impl Slots {
         if self.movable == 0 {
             return;
         }
-        fill_all(&mut self.stored, self.movable);
+        let mut rest = self.movable;
+        for _ in 0..SLOTS {
+            if rest == 0 {
+                break;
+            }
+            let place = lowest_bit(rest);
+            if place < self.stored.len()
+                && let Some(there) = &mut self.stored[place]
+            {
+                there.fill();
+            }
+            rest = without_bit(rest, place);
+        }
         self.movable = 0;
     }
 

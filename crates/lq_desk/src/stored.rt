@@ -1,22 +1,19 @@
 //! The slots that are stored: what is done at one of them, and in each.
-ghost use Rattle.std.specs.Prelude.{◌≡◌, ◌<◌, ◌≤◌, ◌^◌, ◌-◌, None, Some, true, IfOk, map, length, slice_get, slice_set, vec_len};
+ghost use Rattle.std.specs.Prelude.{◌≡◌, ◌<◌, ◌≤◌, ◌^◌, ◌-◌, None, Some, true, map, length, slice_get, slice_set, vec_len};
 ghost use Rattle.std.specs.Vec.{vec_capacity};
 ghost use Rattle.std.specs.List.{AllByRecursion};
 ghost use Rattle.std.specs.Option.{option_map, option_flatten};
-ghost use Rattle.lq_desk.specs.Slot.{slot_of, can_move, filled, has_work, is_ending, noticed, passes};
-ghost use Rattle.lq_desk.specs.Words.{AreCommitted, AreReady, IsMarked, PassOver};
+ghost use Rattle.lq_desk.specs.Slot.{slot_of, can_move, has_work, is_ending, noticed, passes};
+ghost use Rattle.lq_desk.specs.Words.{IsMarked};
 ghost use Rattle.lq_desk.specs.Kept.{IsFew, first_free};
 ghost use Rattle.lq_desk.specs.Act.{act_of, close_turn, outcome_in, read_turn};
 ghost use Rattle.lq_desk.specs.Reply.{answer_of};
 
 use crate::reply::Reply;
 use crate::slot::{Slot, act_at, notice_at};
-use crate::slots::SLOTS;
-use crate::word::{has_bit, lowest_bit, with_bit, without_bit};
+use crate::word::has_bit;
 use lq_desk_world::Act;
 use lq_value::Refusal;
-use lq_volume::Planned;
-use std::alloc::AllocError;
 
 /// The index of the first free slot, or the number of slots.
 pub fn first_free(slots: &[Option<Slot>]) -> usize
@@ -42,65 +39,6 @@ pub fn occupy(slots: &mut Vec<Option<Slot>>, place: usize, slot: Slot)
     slots[place] = Some(slot);
 }
 
-/// Makes the messages of a change for each subscription that the word `asked` has a bit for, where
-/// the change has none for the others; answers a word with a bit for each that has messages.
-pub fn ready_all(
-    slots: &mut Vec<Option<Slot>>,
-    asked: u64,
-    planned: &Planned<'_>,
-) -> Result<u64, AllocError>
-    requires few { AllByRecursion (IsFew (2 ^ 63 - 1)) (map (option_map slot_of) slots.old.items) }
-    requires others { PassOver planned.now.change asked (map (option_map slot_of) slots.old.items) }
-    ensures told { IfOk result (λ told.
-        AreReady planned.now.before planned.now.change told slots.new.items) }
-    ensures kept { map (option_map slot_of) slots.new.items ≡
-        map (option_map slot_of) slots.old.items }
-    ensures len { vec_len slots.new ≡ vec_len slots.old }
-    ensures room { vec_capacity slots.new ≡ vec_capacity slots.old }
-{
-    // For its clauses `lawful` and `volume`.
-    let _ = planned.applied();
-    let mut told = 0;
-    let mut rest = asked;
-    for _ in 0..SLOTS {
-        if rest == 0 {
-            return Ok(told);
-        }
-        let place = lowest_bit(rest);
-        if place < slots.len()
-            && let Some(there) = &mut slots[place]
-            && there.sub.is_live()
-        {
-            let any = there.sub.ready_if_told(planned)?;
-            told = with_bit(told, place, any);
-        }
-        rest = without_bit(rest, place);
-    }
-    Ok(told)
-}
-
-/// Commits the messages of each subscription that the word has a bit for.
-pub fn commit_all(slots: &mut Vec<Option<Slot>>, told: u64)
-    requires few { AllByRecursion (IsFew (2 ^ 63 - 1)) (map (option_map slot_of) slots.old.items) }
-    ensures items { AreCommitted told slots.old.items slots.new.items }
-    ensures len { vec_len slots.new ≡ vec_len slots.old }
-    ensures room { vec_capacity slots.new ≡ vec_capacity slots.old }
-{
-    let mut rest = told;
-    for _ in 0..SLOTS {
-        if rest == 0 {
-            return;
-        }
-        let place = lowest_bit(rest);
-        if place < slots.len()
-            && let Some(there) = &mut slots[place]
-        {
-            there.commit();
-        }
-        rest = without_bit(rest, place);
-    }
-}
-
 /// Ends each live subscription whose end was asked for; the word has a bit for each of them.
 pub fn notice_all(slots: &mut Vec<Option<Slot>>, ending: u64, number: u64)
     requires within { length slots.old.items ≤ 64 }
@@ -115,30 +53,6 @@ pub fn notice_all(slots: &mut Vec<Option<Slot>>, ending: u64, number: u64)
     for slot in slots.iter_mut() {
         notice_at(slot, has_bit(ending, index), number);
         index += 1;
-    }
-}
-
-/// Fills each port; the word has a bit for each that may take a parcel.
-pub fn fill_all(slots: &mut Vec<Option<Slot>>, movable: u64)
-    requires within { length slots.old.items ≤ 64 }
-    requires moves { IsMarked can_move movable (map (option_map slot_of) slots.old.items) }
-    ensures items { map (option_map slot_of) slots.new.items ≡
-        map (option_map filled) (map (option_map slot_of) slots.old.items) }
-    ensures len { vec_len slots.new ≡ vec_len slots.old }
-    ensures room { vec_capacity slots.new ≡ vec_capacity slots.old }
-{
-    let mut rest = movable;
-    for _ in 0..SLOTS {
-        if rest == 0 {
-            return;
-        }
-        let place = lowest_bit(rest);
-        if place < slots.len()
-            && let Some(there) = &mut slots[place]
-        {
-            there.fill();
-        }
-        rest = without_bit(rest, place);
     }
 }
 

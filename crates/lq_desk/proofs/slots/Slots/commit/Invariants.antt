@@ -1,0 +1,18 @@
+use Rattle.std.proofs.Common.{◌≡◌, ℕ, ◌<◌, ◌^◌}
+use Rattle.std.specs.Prelude.{vec_len}
+use Rattle.std.specs.Vec.{vec_capacity}
+use Rattle.std.specs.Int.{bit_at}
+use Rattle.lq_desk.proofs.ReadyLemmas.{AreCommittedTo}
+use Rattle.lq_desk.proofs.slots.Slots.commit.Given as goal
+
+abbrev pub invariant-loop : goal.invariant-loop
+invariant-loop l = record {
+  done : AreCommittedTo l.told l.rest l.initial.self-inside.stored.items l.self-inside.stored.items;
+  clear : (i : ℕ) → i < l.counter → bit_at l.rest i ≡ 0;
+  fits : l.rest < 2 ^ 64;
+  len : vec_len l.self-inside.stored ≡ vec_len l.initial.self-inside.stored;
+  room : vec_capacity l.self-inside.stored ≡ vec_capacity l.initial.self-inside.stored;
+  ending : l.self-inside.ending ≡ l.initial.self-inside.ending;
+  movable : l.self-inside.movable ≡ l.initial.self-inside.movable;
+  watch : l.self-inside.watch ≡ l.initial.self-inside.watch;
+}
