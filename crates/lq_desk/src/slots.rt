@@ -12,10 +12,8 @@ ghost use Rattle.lq_desk.specs.Act.{act_of, close_turn, outcome_of, read_turn};
 ghost use Rattle.lq_desk.specs.Reply.{answer_of};
 
 use crate::reply::Reply;
-use crate::slot::Slot;
-use crate::stored::{
-    act_in, can_move_in, close_in, first_free, is_ending_in, notice_all, occupy, read_in,
-};
+use crate::slot::{Slot, notice_at};
+use crate::stored::{act_in, can_move_in, close_in, first_free, is_ending_in, occupy, read_in};
 use crate::word::{has_bit, lowest_bit, with_bit, without_bit};
 use lq_desk_sub::Watch;
 use lq_desk_world::Act;
@@ -107,6 +105,7 @@ impl Slots {
             AreReady planned.now.before planned.now.change told self.new) }
         ensures kept { map (option_map slot_of) self.new ≡ map (option_map slot_of) self.old }
     {
+        // A slot without a bit here has no message of this change.
         let mut rest = self.watch.asked(planned.change());
         // For its clauses `lawful` and `volume`.
         let _ = planned.applied();
@@ -163,7 +162,11 @@ impl Slots {
         if self.ending == 0 {
             return;
         }
-        notice_all(&mut self.stored, self.ending, number);
+        let mut index = 0;
+        for slot in self.stored.iter_mut() {
+            notice_at(slot, has_bit(self.ending, index), number);
+            index += 1;
+        }
         self.movable |= self.ending;
         self.ending = 0;
     }

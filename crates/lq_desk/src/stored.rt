@@ -1,17 +1,15 @@
-//! The slots that are stored: what is done at one of them, and in each.
-ghost use Rattle.std.specs.Prelude.{◌≡◌, ◌<◌, ◌≤◌, ◌^◌, ◌-◌, None, Some, true, map, length, slice_get, slice_set, vec_len};
+//! The slots that are stored: the first that is free, and what is done at one of them.
+ghost use Rattle.std.specs.Prelude.{◌≡◌, ◌<◌, ◌^◌, ◌-◌, None, Some, true, map, length, slice_get, slice_set, vec_len};
 ghost use Rattle.std.specs.Vec.{vec_capacity};
 ghost use Rattle.std.specs.List.{AllByRecursion};
 ghost use Rattle.std.specs.Option.{option_map, option_flatten};
-ghost use Rattle.lq_desk.specs.Slot.{slot_of, can_move, has_work, is_ending, noticed, passes};
-ghost use Rattle.lq_desk.specs.Words.{IsMarked};
+ghost use Rattle.lq_desk.specs.Slot.{slot_of, can_move, has_work, is_ending, passes};
 ghost use Rattle.lq_desk.specs.Kept.{IsFew, first_free};
 ghost use Rattle.lq_desk.specs.Act.{act_of, close_turn, outcome_in, read_turn};
 ghost use Rattle.lq_desk.specs.Reply.{answer_of};
 
 use crate::reply::Reply;
-use crate::slot::{Slot, act_at, notice_at};
-use crate::word::has_bit;
+use crate::slot::{Slot, act_at};
 use lq_desk_world::Act;
 use lq_value::Refusal;
 
@@ -37,23 +35,6 @@ pub fn occupy(slots: &mut Vec<Option<Slot>>, place: usize, slot: Slot)
     ensures room { vec_capacity slots.new ≡ vec_capacity slots.old }
 {
     slots[place] = Some(slot);
-}
-
-/// Ends each live subscription whose end was asked for; the word has a bit for each of them.
-pub fn notice_all(slots: &mut Vec<Option<Slot>>, ending: u64, number: u64)
-    requires within { length slots.old.items ≤ 64 }
-    requires few { AllByRecursion (IsFew (2 ^ 63 - 1)) (map (option_map slot_of) slots.old.items) }
-    requires ends { IsMarked is_ending ending (map (option_map slot_of) slots.old.items) }
-    ensures items { map (option_map slot_of) slots.new.items ≡
-        map (option_map (noticed number)) (map (option_map slot_of) slots.old.items) }
-    ensures len { vec_len slots.new ≡ vec_len slots.old }
-    ensures room { vec_capacity slots.new ≡ vec_capacity slots.old }
-{
-    let mut index = 0;
-    for slot in slots.iter_mut() {
-        notice_at(slot, has_bit(ending, index), number);
-        index += 1;
-    }
 }
 
 /// Whether the subscription at an index is live and its end was asked for.

@@ -2,13 +2,13 @@ use Rattle.std.proofs.Common.{◌≡◌, ℕ, ◌-◌, ◌<◌, ◌≤◌, ◌^�
 use Rattle.std.specs.Option.{option_map}
 use Rattle.lq_desk.specs.Slot.{PreparedSlot, noticed, slot_of}
 use Rattle.lq_desk.specs.Kept.{IsFew}
-use Rattle.lq_desk.proofs.stored.notice_all.Given as goal
+use Rattle.lq_desk.proofs.slots.Slots.notice_all.Given as goal
 
 abbrev pub invariant-loop-slot : goal.invariant-loop-slot
 invariant-loop-slot l = record {
   done : map (option_map slot_of) l.slot-items ≡ map (option_map (noticed l.number))
-      (take l.slot-index (map (option_map slot_of) l.fn.slots.items))
-      ++ drop l.slot-index (map (option_map slot_of) l.fn.slots.items);
+      (take l.slot-index (map (option_map slot_of) l.initial.slot-items))
+      ++ drop l.slot-index (map (option_map slot_of) l.initial.slot-items);
   few : (k : ℕ) (d : Option PreparedSlot) → l.slot-index ≤ k → k < length l.slot-items
       → IsFew (2 ^ 63 - 1) (option_map slot_of (get_or l.slot-items k d));
   place : l.index ≡ l.slot-index;
