@@ -188,15 +188,16 @@ impl Responder for Session {
     ghost rules = { kept_rules };
 
     fn respond(&mut self, line: &[u8], out: &mut Vec<u8>) -> Result<(), Refusal> {
-        let asked = question_in(self.alloc, &mut self.scratch, line);
-        match &asked {
-            Ok(Question::Event(event)) => self.carry_out(event, out),
-            Ok(Question::Find { dir, name }) => put_found(out, self.desk.volume(), *dir, name),
-            Ok(Question::Entry { node }) => put_shown(out, self.desk.volume(), *node),
-            Ok(Question::Fetch { predicate }) => put_fetched(out, self.desk.volume(), predicate),
-            Ok(Question::Rebuilt { slot }) => put_rebuilt(out, &self.rebuilds, *slot),
+        match question_in(self.alloc, &mut self.scratch, line) {
+            Ok(question) => match &question {
+                Question::Event(event) => self.carry_out(event, out),
+                Question::Find { dir, name } => put_found(out, self.desk.volume(), *dir, name),
+                Question::Entry { node } => put_shown(out, self.desk.volume(), *node),
+                Question::Fetch { predicate } => put_fetched(out, self.desk.volume(), predicate),
+                Question::Rebuilt { slot } => put_rebuilt(out, &self.rebuilds, *slot),
+            },
             Err(Refusal::NoMemory) => Err(Refusal::NoMemory),
-            Err(refusal) => put_refusal(out, *refusal),
+            Err(refusal) => put_refusal(out, refusal),
         }
     }
 
