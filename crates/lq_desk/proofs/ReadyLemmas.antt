@@ -119,6 +119,19 @@ made-more s c asked rest told rest' told' xs place any x lt set clears sets is a
       is.none p (let same : x ≡ Some p = cc in same) live has,
     )
 
+-- a slot that has none
+pub made-none : (s : State) (c : Change) (asked rest told rest' : ℕ)
+    (xs : List (Option PreparedSlot)) (place : ℕ) (x : Option PreparedSlot) → place < length xs
+    → bit_at rest place ≡ 1 → ClearsBit rest place rest' → IsAsked s c false x
+    → AreMade s c asked rest told xs → AreMade s c asked rest' told (slice_set xs place x)
+made-none s c asked rest told rest' xs place x lt set clears is all =
+    made-more s c asked rest told rest' told xs place false x lt set clears (record {
+      here = λ is. absurd (let no : ⊥ = cc in no);
+      none = λ is. refl;
+      others = λ i is. is;
+      same = λ i other. refl;
+    }) is all
+
 -- a place without a live subscription
 pub made-idle : (s : State) (c : Change) (asked rest told rest' : ℕ)
     (xs : List (Option PreparedSlot)) (place : ℕ) (x : Option PreparedSlot) → place < length xs
@@ -126,12 +139,7 @@ pub made-idle : (s : State) (c : Change) (asked rest told rest' : ℕ)
     → ((p : PreparedSlot) → x ≡ Some p → is_live p.sub.held ≡ false)
     → AreMade s c asked rest told xs → AreMade s c asked rest' told (slice_set xs place x)
 made-idle s c asked rest told rest' xs place x lt set clears idle all =
-    made-more s c asked rest told rest' told xs place false x lt set clears (record {
-      here = λ is. absurd (let no : ⊥ = cc in no);
-      none = λ is. refl;
-      others = λ i is. is;
-      same = λ i other. refl;
-    }) (record {
+    made-none s c asked rest told rest' xs place x lt set clears (record {
       some = λ p at any. absurd (let no : ⊥ = cc in no);
       none = λ p at live any. absurd (let ended = idle p at in let no : ⊥ = cc in no);
     }) all

@@ -118,9 +118,9 @@ impl Slots {
             if place < self.stored.len()
                 && let Some(there) = &mut self.stored[place]
                 && there.sub.is_live()
+                && there.sub.ready_if_told(planned)?
             {
-                let any = there.sub.ready_if_told(planned)?;
-                told = with_bit(told, place, any);
+                told = with_bit(told, place, true);
             }
             rest = without_bit(rest, place);
         }

@@ -1,18 +1,18 @@
-use Rattle.std.proofs.Common.{◌≡◌, ◌<◌, ◌≤◌, ◌^◌, ◌-◌, ◌∙◌, ap, sym, refl, subst, arith, map, length, vec_len, Some, None, false}
+use Rattle.std.proofs.Common.{◌≡◌, ◌<◌, ◌≤◌, ◌^◌, ◌-◌, ◌∙◌, ap, sym, refl, subst, arith, map, length, vec_len, Some, None, true, false}
 use Rattle.std.specs.Int.{bit_at}
 use Rattle.std.specs.Prelude.{slice_set}
 use Rattle.std.specs.List.{AllByRecursion}
 use Rattle.std.specs.Vec.{vec_capacity}
 use Rattle.std.proofs.lemmas.Nat.Bits.{bit_at-zero}
-use Rattle.lq_desk_sub.specs.Held.{Prepared, is_live}
+use Rattle.lq_desk_sub.specs.Held.{IsReadied, Prepared, is_live}
 use Rattle.lq_desk.specs.Slot.{PreparedSlot}
 use Rattle.lq_desk.specs.Kept.{IsFew}
 use Rattle.lq_desk.specs.Words.{AreMarked, AreWatched}
 use Rattle.lq_desk.proofs.BitLemmas.{clear-more, no-bits}
 use Rattle.lq_desk.proofs.FreeLemmas.{few-stored, kept-free, stored-at}
-use Rattle.lq_desk.proofs.ReadyLemmas.{AreMade, asked-some, made-all, made-first, made-idle, made-more, made-past}
+use Rattle.lq_desk.proofs.ReadyLemmas.{AreMade, asked-some, made-all, made-first, made-idle, made-more, made-none, made-past}
 use Rattle.lq_desk.proofs.SlotsLemmas.{kept-readied, kept-written, kept_slot, sent-there}
-use Rattle.lq_desk.proofs.slots.Slots.ready.Goals.{then-place-len+in-Some+then-is_live+in_ok-any, else-place-len, else-place-len-via-else-place-len, else-place-len-via-then-place-len+in-None-1, else-place-len-via-then-place-len+in-Some+else-is_live}
+use Rattle.lq_desk.proofs.slots.Slots.ready.Goals.{then-place-len+in-Some+then-is_live+in_ok-ready_if_told+then-branch, else-place-len, else-place-len-via-else-place-len, else-place-len-via-then-place-len+in-None-1, else-place-len-via-then-place-len+in-Some+else-is_live, else-place-len-via-then-place-len+in-Some+then-is_live+in_ok-ready_if_told+else-branch, After-from_residual}
 use Rattle.lq_desk.proofs.slots.Slots.ready.Goals as goal
 
 pub loop-init : goal.loop-init
@@ -56,16 +56,17 @@ loop-preserved c =
     × (64 ≤ vec_capacity now.stored) × AreMarked now.ending now.movable (map kept_slot xs)
     × AreWatched now.watch (map kept_slot xs) =
     elim c.if-place-len.branch [
-      | then-place-len+in-Some+then-is_live+in_ok-any w ↦
+      | then-place-len+in-Some+then-is_live+in_ok-ready_if_told+then-branch w ↦
           let lt : place < length xs = omega (arith, w.if-place-len.true, c.len.ensures) in
           rw (w.self-inside-is, w.told-is) (
-            made-more s change asked l.rest l.told rest w.with_bit-told.result xs place
-                w.in_ok-any.any _ lt set clears w.with_bit-told.ensures
-                (asked-some s change w.in_ok-any.any w.there.inside.sub w.ready_if_told.new.self _
-                w.in_ok-any.ensures.ok refl) l.invariant.made,
+            made-more s change asked l.rest l.told rest w.with_bit-told.result xs place true _
+                lt set clears w.with_bit-told.ensures
+                (asked-some s change true w.there.inside.sub w.ready_if_told.new.self _
+                (subst (λ any. IsReadied s change any w.there.inside.sub w.ready_if_told.new.self)
+                w.if-branch.true w.in_ok-ready_if_told.ensures.ok) refl) l.invariant.made,
             kept-written xs place _ w.index_mut.result.now lt w.index_mut.ensures.value
                 (kept-readied _ w.in-Some.there w.ready_if_told.new.self
-                w.in_ok-any.ensures.ok.held w.there.view_is ∙ ap kept_slot (sym w.in-Some.is)),
+                w.in_ok-ready_if_told.ensures.ok.held w.there.view_is ∙ ap kept_slot (sym w.in-Some.is)),
             l.invariant.within,
             l.invariant.room,
             l.invariant.marked,
@@ -88,6 +89,23 @@ loop-preserved c =
               made-idle s change asked l.rest l.told rest xs place _ lt set clears
                   (λ p at. absurd (let no : ⊥ = cc in no)) l.invariant.made,
               kept-written xs place _ w'.index_mut.result.now lt w'.index_mut.ensures.value refl,
+              l.invariant.within,
+              l.invariant.room,
+              l.invariant.marked,
+              l.invariant.watched,
+            )
+        | else-place-len-via-then-place-len+in-Some+then-is_live+in_ok-ready_if_told+else-branch w' ↦
+            let lt : place < length xs = omega (arith, w'.if-place-len.true, c.len.ensures) in
+            rw w'.self-inside-is (
+              made-none s change asked l.rest l.told rest xs place _ lt set clears
+                  (asked-some s change false w'.there.inside.sub w'.ready_if_told.new.self _
+                  (subst (λ any. IsReadied s change any w'.there.inside.sub
+                  w'.ready_if_told.new.self) w'.if-branch.false
+                  w'.in_ok-ready_if_told.ensures.ok) refl) l.invariant.made,
+              kept-written xs place _ w'.index_mut.result.now lt w'.index_mut.ensures.value
+                  (kept-readied _ w'.in-Some.there w'.ready_if_told.new.self
+                  w'.in_ok-ready_if_told.ensures.ok.held w'.there.view_is
+                  ∙ ap kept_slot (sym w'.in-Some.is)),
               l.invariant.within,
               l.invariant.room,
               l.invariant.marked,
@@ -167,7 +185,7 @@ returns-then-rest-eq0-clause-kept c =
     ∙ ap (map kept_slot) c.self.view_is
 
 -- a slot whose messages weren't made is held as before
-kept-refused : (c : goal.After-from_residual) (q : PreparedSlot) → q ≡ c.in-Some.there
+kept-refused : (c : After-from_residual) (q : PreparedSlot) → q ≡ c.in-Some.there
     → map kept_slot (slice_set c.loop.self-inside.stored.items c.lowest_bit-place.result
     (Some (record q { sub = c.ready_if_told.new.self })))
     ≡ map kept_slot c.loop.self-inside.stored.items
@@ -175,16 +193,16 @@ kept-refused c q view =
     kept-written c.loop.self-inside.stored.items c.lowest_bit-place.result _ c.index_mut.result.now
     (omega (arith, c.if-place-len.true, c.len.ensures)) c.index_mut.ensures.value
     (kept-readied q c.in-Some.there c.ready_if_told.new.self
-    (ap (λ (s : Prepared). s.held) c.in_err-any.ensures.err ∙ ap (λ (p : PreparedSlot). p.sub.held)
+    (ap (λ (s : Prepared). s.held) c.in_err-ready_if_told.ensures.err ∙ ap (λ (p : PreparedSlot). p.sub.held)
     (c.there.view_is ∙ sym view)) view ∙ ap kept_slot (sym c.in-Some.is))
 
-pub invariant_of-self-in_err-any : goal.invariant_of-self-in_err-any
-invariant_of-self-in_err-any c =
+pub invariant_of-self-in_err-ready_if_told : goal.invariant_of-self-in_err-ready_if_told
+invariant_of-self-in_err-ready_if_told c =
     let kept = c.loop.invariant in
     let same = kept-refused c _ c.there.view_is in
     (kept.within, kept.room, rw same kept.marked, rw same kept.watched)
 
-pub returns-in_err-any-clause-kept : goal.returns-in_err-any-clause-kept
-returns-in_err-any-clause-kept c =
+pub returns-in_err-ready_if_told-clause-kept : goal.returns-in_err-ready_if_told-clause-kept
+returns-in_err-ready_if_told-clause-kept c =
     kept-free _ c.self.inside.stored.items
     (kept-refused c _ c.there.view_is ∙ c.loop.invariant.kept) ∙ ap (map kept_slot) c.self.view_is
