@@ -1,7 +1,11 @@
--- What is left after a query was followed.
-use Rattle.std.specs.Prelude.{◌≡◌, ◌+◌, ◌≤◌, true, false, length, Some, IsSome}
+-- What is left after a query was followed, or why it isn't.
+use Rattle.std.specs.Prelude.{◌≡◌, ◌⊎◌, ◌+◌, ◌≤◌, List, true, false, length, Some, IsSome, Contains}
+use Rattle.lq_value.specs.declared.refusal.Refusal.{Refusal}
+use Rattle.lq_value.specs.declared.refusal.Refusal.TheVariants.{NoSeat, NoMemory}
 use Rattle.lq_predicate_formula.specs.Query.{Query}
 use Rattle.lq_volume.specs.State.{State}
+use Rattle.lq_volume.specs.declared.change.Change.{Change}
+use Rattle.lq_volume.specs.Change.{refused}
 use Rattle.lq_volume.specs.Book.{Book, Extends, state_at}
 use Rattle.lq_volume.specs.Result.{result_of}
 use Rattle.lq_board.specs.Book.{IsFullBook}
@@ -9,6 +13,7 @@ use Rattle.lq_update.specs.declared.mark.Mark.{Mark}
 use Rattle.lq_update.specs.Updates.{updates_of}
 use Rattle.lq_server_subscription.specs.Rule.{query_of}
 use Rattle.lq_server_subscription.specs.Reading.{known, received, mark_read}
+use Rattle.lq_server_slots.specs.Opening.{IsOpeningRefused}
 use Rattle.lq_server.specs.Hold.{ReaderHold}
 use Rattle.lq_server.specs.Own.{IsOwn}
 use Rattle.lq_server.specs.Retired.{IsRetired}
@@ -52,3 +57,18 @@ pub record IsFollowed (start : State) (q : Query) (f : Followed) : Type 0 where
   pub entries : f.reader.reading.result.entries ≡ result_of q (state_at book mark.change)
   -- the volume is the state after the book and the changes added later, from the first volume on
   pub retired : IsRetired start book f.retired.volume f.retired.changes
+
+-- one of these changes is refused so, in some state
+pub record IsOneRefused (changes : List Change) (e : Refusal) : Type 0 where
+  pub change : Change
+  pub among : Contains changes change
+  pub before : State
+  pub refused : refused before change ≡ Some e
+
+-- memory is wanting, or one of these changes is refused so
+abbrev pub AreRefused : List Change → Refusal → Type 0
+AreRefused changes e = (e ≡ NoMemory) ⊎ IsOneRefused changes e
+
+-- no seat is left, the opening is refused, or one of these changes
+abbrev pub IsFollowRefused : List Change → Refusal → Type 0
+IsFollowRefused changes e = (e ≡ NoSeat) ⊎ IsOpeningRefused e ⊎ AreRefused changes e

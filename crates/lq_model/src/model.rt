@@ -1,8 +1,9 @@
 //! A server from its beginning to its end: one thread makes changes, another reads the updates.
-ghost use Rattle.std.specs.Prelude.{◌≡◌, IfOk};
+ghost use Rattle.std.specs.Prelude.{◌≡◌, IfOk, IfErr, None};
+ghost use Rattle.lq_value.specs.Refusal.{IsRefusedBy};
 ghost use Rattle.lq_server.specs.Own.{IsOwn};
 ghost use Rattle.lq_server.specs.Retired.{IsRetired};
-ghost use Rattle.lq_model.specs.Followed.{GoesOut, IsFollowed};
+ghost use Rattle.lq_model.specs.Followed.{AreRefused, GoesOut, IsFollowRefused, IsFollowed};
 
 use lq_board::Seat;
 use lq_desk_sub::Read;
@@ -28,8 +29,8 @@ pub struct Followed {
 /// The reader makes `reads` reads, hangs up, and reads on to its mark. Then there is one book of
 /// changes. The reader has received the query's whole update list over it up to the mark. Its
 /// entries are the query's result after the mark's change. The volume is the state after the book
-/// or after one that extends it, from the base's volume on. Refused as `Server::seat`, `open` and
-/// `apply` are, or `NoMemory`.
+/// or after one that extends it, from the base's volume on. Refused: `NoSeat`, `NoSlot`,
+/// `Exhausted`, `NoMemory`, or as the first change that the volume refuses.
 pub fn follow<N: Named + Send + Sync, R: Threads + Wait + Sync>(
     rt: &R,
     base: Base,
@@ -38,7 +39,8 @@ pub fn follow<N: Named + Send + Sync, R: Threads + Wait + Sync>(
     reads: u64,
 ) -> Result<Followed, Refusal>
     requires { (base.board ≡ N.board) × (base.volume ≡ N.start) }
-    ensures { IfOk result (IsFollowed N.start predicate.now) }
+    ensures followed { IfOk result (IsFollowed N.start predicate.now) }
+    ensures refused { IfErr result (IsFollowRefused changes.now) }
 {
     let server: Server<N> = Server::new(base);
     let mut seat = server.seat(rt)?;
@@ -91,7 +93,9 @@ impl<'a> Work for Applies<'a> {
 
     ghost can = { λ applies board. (applies.seat.board ≡ board) × (applies.seat.slot ≡ 0) };
 
-    ghost gives = { λ _ board given. IfOk given (λ seat. (seat.board ≡ board) × (seat.slot ≡ 0)) };
+    ghost gives = { λ applies board given.
+        IfOk given (λ seat. (seat.board ≡ board) × (seat.slot ≡ 0))
+        × IfErr given (AreRefused applies.changes.now) };
 
     fn work<N: Named, R: Wait>(
         self,
@@ -115,7 +119,7 @@ impl Work for Reads {
 
     ghost can = { λ reads board. (reads.reader.seat.board ≡ board) × IsOwn reads.reader };
 
-    ghost gives = { λ reads _ given. IfOk given (GoesOut reads.reader) };
+    ghost gives = { λ reads _ given. IfOk given (GoesOut reads.reader) × IsRefusedBy given None };
 
     fn work<N: Named, R: Wait>(self, rt: &R, server: &Server<N>) -> Result<Reader, Refusal> {
         let Reads { reader, reads } = self;
@@ -130,7 +134,8 @@ fn apply_all<N: Named, R: Wait>(
     changes: &[Change],
 ) -> Result<Seat<Identity>, Refusal>
     requires { (seat.board ≡ N.board) × (seat.slot ≡ 0) }
-    ensures { IfOk result (λ seat. (seat.board ≡ N.board) × (seat.slot ≡ 0)) }
+    ensures ok { IfOk result (λ seat. (seat.board ≡ N.board) × (seat.slot ≡ 0)) }
+    ensures refused { IfErr result (AreRefused changes.now) }
 {
     for change in changes {
         server.apply(rt, &mut seat, change)?;
@@ -146,7 +151,8 @@ fn read_out<N: Named, R: Wait>(
     reads: u64,
 ) -> Result<Reader, Refusal>
     requires { (reader.seat.board ≡ N.board) × IsOwn reader }
-    ensures { IfOk result (GoesOut reader) }
+    ensures ok { IfOk result (GoesOut reader) }
+    ensures refused { IsRefusedBy result None }
 {
     for _ in 0..reads {
         reader.read(rt)?;
