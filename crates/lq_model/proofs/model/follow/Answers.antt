@@ -7,11 +7,11 @@ use Rattle.lq_model.specs.Followed.{GoesOut, IsFollowed}
 use Rattle.lq_model.proofs.FollowLemmas.{Meets, followed}
 use Rattle.lq_model.proofs.model.follow.Goals as goal
 
-pub returns : goal.returns
-returns g c =
+pub returns-clause-followed : goal.returns-clause-followed
+returns-clause-followed g c =
     let begun = c.in_ok-reader.reader in
     let out = subst
-    (λ o. IfOk o (GoesOut begun)) c.in_ok-reader-2.was c.join_over-reader.ensures.first in
+    (λ o. IfOk o (GoesOut begun)) c.in_ok-reader-2.was c.join_over-reader.ensures.first.0 in
     let m = c.meet.ensures in
     let met = subst (λ (s : SeatToken Identity). Meets s c.meet.new.one) c.seat-3.ensures.now
     (record { seat = m.one; later = m.first }) in
