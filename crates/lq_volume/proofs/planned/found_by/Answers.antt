@@ -11,7 +11,8 @@ returns-clause-found c =
       | in-Create+in_ok-check_create-in-Create w ↦ rw (w.in-Create.is, w.stored-is) (record {
         volume = volume;
         lawful = w.in_ok-check_create-in-Create.ensures.ok;
-        stored = sym (c.records_are_kept.ensures.found.above s.records s.next volume.numbered.below);
+        stored = sym
+            (c.records_are_kept.ensures.found.above s.records s.next volume.numbered.below);
         other = refl;
         gone = tt;
       })

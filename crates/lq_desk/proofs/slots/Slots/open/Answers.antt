@@ -74,7 +74,8 @@ invariant_of-self c =
           (ap (map kept_slot) c.occupy.ensures.items
           ∙ map-set kept_slot xs c.first_free-place.result (Some c.args.slot))
           (watches c.self.inside.watch _ c.first_free-place.result c.args.slot
-          c.slot.inside.sub (ap (λ (p : PreparedSlot). p.sub) c.slot.view_is) c.set.ensures.here c.set.ensures.others)
+          c.slot.inside.sub (ap (λ (p : PreparedSlot). p.sub) c.slot.view_is) c.set.ensures.here
+          c.set.ensures.others)
           c.self.invariant.3,
     )
 
@@ -107,7 +108,8 @@ invariant_of-self-else-place-len c =
           (slot_of c.args.slot) last
           (ap (map kept_slot) c.push_reserved.ensures.items ∙ map-append kept_slot xs (x ∷ []))
           (watches c.self.inside.watch _ c.first_free-place.result c.args.slot
-          c.slot.inside.sub (ap (λ (p : PreparedSlot). p.sub) c.slot.view_is) c.set.ensures.here c.set.ensures.others)
+          c.slot.inside.sub (ap (λ (p : PreparedSlot). p.sub) c.slot.view_is) c.set.ensures.here
+          c.set.ensures.others)
           c.self.invariant.3,
     )
 

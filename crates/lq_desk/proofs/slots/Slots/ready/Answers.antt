@@ -66,7 +66,8 @@ loop-preserved c =
                 w.if-branch.true w.in_ok-ready_if_told.ensures.ok) refl) l.invariant.made,
             kept-written xs place _ w.index_mut.result.now lt w.index_mut.ensures.value
                 (kept-readied _ w.in-Some.there w.ready_if_told.new.self
-                w.in_ok-ready_if_told.ensures.ok.held w.there.view_is ∙ ap kept_slot (sym w.in-Some.is)),
+                w.in_ok-ready_if_told.ensures.ok.held w.there.view_is
+                ∙ ap kept_slot (sym w.in-Some.is)),
             l.invariant.within,
             l.invariant.room,
             l.invariant.marked,
@@ -94,34 +95,34 @@ loop-preserved c =
               l.invariant.marked,
               l.invariant.watched,
             )
-        | else-place-len-via-then-place-len+in-Some+then-is_live+in_ok-ready_if_told+else-branch w' ↦
-            let lt : place < length xs = omega (arith, w'.if-place-len.true, c.len.ensures) in
-            rw w'.self-inside-is (
+        | else-place-len-via-then-place-len+in-Some+then-is_live+in_ok-ready_if_told+else-branch v ↦
+            let lt : place < length xs = omega (arith, v.if-place-len.true, c.len.ensures) in
+            rw v.self-inside-is (
               made-none s change asked l.rest l.told rest xs place _ lt set clears
-                  (asked-some s change false w'.there.inside.sub w'.ready_if_told.new.self _
-                  (subst (λ any. IsReadied s change any w'.there.inside.sub
-                  w'.ready_if_told.new.self) w'.if-branch.false
-                  w'.in_ok-ready_if_told.ensures.ok) refl) l.invariant.made,
-              kept-written xs place _ w'.index_mut.result.now lt w'.index_mut.ensures.value
-                  (kept-readied _ w'.in-Some.there w'.ready_if_told.new.self
-                  w'.in_ok-ready_if_told.ensures.ok.held w'.there.view_is
-                  ∙ ap kept_slot (sym w'.in-Some.is)),
+                  (asked-some s change false v.there.inside.sub v.ready_if_told.new.self _
+                  (subst (λ any. IsReadied s change any v.there.inside.sub
+                  v.ready_if_told.new.self) v.if-branch.false
+                  v.in_ok-ready_if_told.ensures.ok) refl) l.invariant.made,
+              kept-written xs place _ v.index_mut.result.now lt v.index_mut.ensures.value
+                  (kept-readied _ v.in-Some.there v.ready_if_told.new.self
+                  v.in_ok-ready_if_told.ensures.ok.held v.there.view_is
+                  ∙ ap kept_slot (sym v.in-Some.is)),
               l.invariant.within,
               l.invariant.room,
               l.invariant.marked,
               l.invariant.watched,
             )
-        | else-place-len-via-then-place-len+in-Some+else-is_live w' ↦
-            let lt : place < length xs = omega (arith, w'.if-place-len.true, c.len.ensures) in
-            let ended : is_live w'.in-Some.there.sub.held ≡ false =
-            ap (λ (p : PreparedSlot). is_live p.sub.held) (sym w'.there.view_is)
-            ∙ (sym w'.is_live.ensures ∙ w'.if-is_live.false) in
-            rw w'.self-inside-is (
-              made-idle s change asked l.rest l.told rest xs place (Some w'.in-Some.there)
-                  lt set clears (λ p at. let same : p ≡ w'.in-Some.there = cc in
+        | else-place-len-via-then-place-len+in-Some+else-is_live v ↦
+            let lt : place < length xs = omega (arith, v.if-place-len.true, c.len.ensures) in
+            let ended : is_live v.in-Some.there.sub.held ≡ false =
+            ap (λ (p : PreparedSlot). is_live p.sub.held) (sym v.there.view_is)
+            ∙ (sym v.is_live.ensures ∙ v.if-is_live.false) in
+            rw v.self-inside-is (
+              made-idle s change asked l.rest l.told rest xs place (Some v.in-Some.there)
+                  lt set clears (λ p at. let same : p ≡ v.in-Some.there = cc in
                   ap (λ (q : PreparedSlot). is_live q.sub.held) same ∙ ended) l.invariant.made,
-              kept-written xs place _ w'.index_mut.result.now lt w'.index_mut.ensures.value
-                  (ap kept_slot (sym w'.in-Some.is)),
+              kept-written xs place _ v.index_mut.result.now lt v.index_mut.ensures.value
+                  (ap kept_slot (sym v.in-Some.is)),
               l.invariant.within,
               l.invariant.room,
               l.invariant.marked,
@@ -193,7 +194,8 @@ kept-refused c q view =
     kept-written c.loop.self-inside.stored.items c.lowest_bit-place.result _ c.index_mut.result.now
     (omega (arith, c.if-place-len.true, c.len.ensures)) c.index_mut.ensures.value
     (kept-readied q c.in-Some.there c.ready_if_told.new.self
-    (ap (λ (s : Prepared). s.held) c.in_err-ready_if_told.ensures.err ∙ ap (λ (p : PreparedSlot). p.sub.held)
+    (ap (λ (s : Prepared). s.held) c.in_err-ready_if_told.ensures.err
+    ∙ ap (λ (p : PreparedSlot). p.sub.held)
     (c.there.view_is ∙ sym view)) view ∙ ap kept_slot (sym c.in-Some.is))
 
 pub invariant_of-self-in_err-ready_if_told : goal.invariant_of-self-in_err-ready_if_told
