@@ -30,7 +30,7 @@ pub struct Followed {
 /// changes. The reader has received the query's whole update list over it up to the mark. Its
 /// entries are the query's result after the mark's change. The volume is the state after the book
 /// or after one that extends it, from the base's volume on. Refused: `NoSeat`, `NoSlot`,
-/// `Exhausted`, `NoMemory`, or as the first change that the volume refuses.
+/// `Exhausted`, `NoMemory`, or as one of the changes is refused.
 pub fn follow<N: Named + Send + Sync, R: Threads + Wait + Sync>(
     rt: &R,
     base: Base,
