@@ -11,7 +11,9 @@ ghost use Rattle.std.specs.List.{list_all};
 
 use crate::name_text::NameText;
 use crate::refusal::Refusal;
+use crate::shared_text::SharedText;
 use crate::text::same_text;
+use lq_value_short_text::ShortText;
 use std::alloc::Global;
 use std::cmp::Ordering;
 use std::fmt;
@@ -47,13 +49,14 @@ impl fmt::Debug for Name {
 
 impl Model for Name {
     ghost use Rattle.std.specs.Prelude.{ℕ, List, IsTrue};
+    ghost use Rattle.lq_value.specs.Kept.{name_bytes};
     ghost use Rattle.lq_value.specs.Name.{is_name};
 
     ghost Value = { List ℕ };
 
-    ghost view = { λ name. name.text };
+    ghost view = { λ name. name_bytes name.text };
 
-    ghost invariant = { λ name. IsTrue (is_name name.text) };
+    ghost invariant = { λ name. IsTrue (is_name (name_bytes name.text)) };
 }
 
 impl Name {
@@ -68,9 +71,11 @@ impl Name {
         if !is_name_text(text) {
             return Err(Refusal::BadName);
         }
-        Ok(Name {
-            text: NameText::new(alloc, text)?,
-        })
+        let text = match ShortText::new(text) {
+            Some(short) => NameText::Short(short),
+            None => NameText::Shared(SharedText::new(alloc, text)?),
+        };
+        Ok(Name { text })
     }
 
     /// The text of the name. It takes no memory.
@@ -78,7 +83,10 @@ impl Name {
         ensures value { result.now ≡ self.now }
         ensures valid { IsTrue (is_name self.now) }
     {
-        self.text.as_str()
+        match &self.text {
+            NameText::Short(text) => text.as_str(),
+            NameText::Shared(text) => text.as_str(),
+        }
     }
 
     /// A hash of the name, which differs for most names. Names with the same text have the same
@@ -89,7 +97,8 @@ impl Name {
         hash_of_bytes(self.as_str().as_bytes())
     }
 
-    /// Another name with the same text, which takes no memory.
+    /// Another name with the same text: up to 14 bytes are copied and a longer text is shared, so
+    /// this takes no memory.
     ///
     /// Only where 2^63 - 1 names share the text already, the new name has a text of its own.
     /// Refused: `NoMemory`.
@@ -97,9 +106,11 @@ impl Name {
         ensures refused { IsRefusedBy result None }
         ensures value { IfOk result (λ name. name ≡ self.now) }
     {
-        Ok(Name {
-            text: self.text.copy(alloc)?,
-        })
+        let text = match &self.text {
+            NameText::Short(text) => NameText::Short(text.copy()),
+            NameText::Shared(text) => NameText::Shared(text.copy(alloc)?),
+        };
+        Ok(Name { text })
     }
 }
 
