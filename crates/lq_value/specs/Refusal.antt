@@ -71,3 +71,7 @@ first_refusal (row ∷ rows) = if row.0 then Some row.1 else first_refusal rows
 abbrev pub IsRefusedBy : {T : Type 0} → Result T Refusal → Option Refusal → Type 0
 IsRefusedBy result refusal =
     OnOk result (refusal ≡ None) × IfErr result (λ e. e ≡ unwrap_or refusal NoMemory)
+
+-- The call fails only for want of memory.
+abbrev pub FailsOnlyForMemory : {T : Type 0} → Result T Refusal → Type 0
+FailsOnlyForMemory result = IsRefusedBy result None

@@ -7,7 +7,7 @@ ghost use Rattle.std.specs.Hash as fed;
 ghost use Rattle.std.specs.Cmp.Lexicographic.{pointwise, nat_list_eq_equiv};
 ghost use Rattle.std.specs.List.{list_all};
 ghost use Rattle.lq_value.specs.declared.refusal.Refusal.TheVariants.{BadName};
-ghost use Rattle.lq_value.specs.Refusal.{IsRefusedBy};
+ghost use Rattle.lq_value.specs.Refusal.{FailsOnlyForMemory, IsRefusedBy};
 ghost use Rattle.lq_value.specs.Name.{is_attr_name};
 ghost use Rattle.lq_value.specs.Field.{field_of};
 
@@ -117,7 +117,7 @@ impl AttrName {
     /// Only where 2^63 - 1 names share the text already, the new name has a text of its own.
     /// Refused: `NoMemory`.
     pub fn copy(&self, alloc: Global) -> Result<AttrName, Refusal>
-        ensures refused { IsRefusedBy result None }
+        ensures refused { FailsOnlyForMemory result }
         ensures value { IfOk result (λ name. name ≡ self.now) }
         ensures valid { IfOk result (λ name. IsTrue (is_attr_name name)) }
     {

@@ -1,6 +1,6 @@
 //! Literals, and the comparison of an attribute with one.
-ghost use Rattle.std.specs.Prelude.{◌≡◌, None, IfOk, IsTrue};
-ghost use Rattle.lq_value.specs.Refusal.{IsRefusedBy};
+ghost use Rattle.std.specs.Prelude.{◌≡◌, IfOk, IsTrue};
+ghost use Rattle.lq_value.specs.Refusal.{FailsOnlyForMemory};
 ghost use Rattle.lq_value.specs.Held.{held_of};
 ghost use Rattle.lq_value.specs.Compare.{compares, compares_number, compares_text, literal_number, suits};
 
@@ -43,7 +43,7 @@ impl Literal {
 
     /// A copy of the literal. Refused: `NoMemory`.
     pub fn copy(&self, alloc: Global) -> Result<Literal, Refusal>
-        ensures refused { IsRefusedBy result None }
+        ensures refused { FailsOnlyForMemory result }
         ensures value { IfOk result (λ literal. literal ≡ self.now) }
     {
         match self {

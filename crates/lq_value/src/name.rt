@@ -4,7 +4,7 @@ ghost use Rattle.std.specs.Cmp.Lexicographic.{pointwise, slice_cmp, nat_list_eq_
 ghost use Rattle.std.specs.Cmp.{partial_equiv_from_equiv};
 ghost use Rattle.std.specs.Ordering.{nat_cmp};
 ghost use Rattle.lq_value.specs.declared.refusal.Refusal.TheVariants.{BadName};
-ghost use Rattle.lq_value.specs.Refusal.{IsRefusedBy};
+ghost use Rattle.lq_value.specs.Refusal.{FailsOnlyForMemory, IsRefusedBy};
 ghost use Rattle.lq_value.specs.Name.{is_name, is_name_byte};
 ghost use Rattle.lq_value.specs.NameHash.{hash_of};
 ghost use Rattle.std.specs.List.{list_all};
@@ -103,7 +103,7 @@ impl Name {
     /// Only where 2^63 - 1 names share the text already, the new name has a text of its own.
     /// Refused: `NoMemory`.
     pub fn copy(&self, alloc: Global) -> Result<Name, Refusal>
-        ensures refused { IsRefusedBy result None }
+        ensures refused { FailsOnlyForMemory result }
         ensures value { IfOk result (λ name. name ≡ self.now) }
     {
         let text = match &self.text {

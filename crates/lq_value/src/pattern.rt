@@ -1,8 +1,8 @@
 //! Patterns, and the texts that they fit.
-ghost use Rattle.std.specs.Prelude.{◌≡◌, ◌↔◌, ℕ, None, Ok, IfOk, IfErr, IsTrue};
+ghost use Rattle.std.specs.Prelude.{◌≡◌, ◌↔◌, ℕ, Ok, IfOk, IfErr, IsTrue};
 ghost use Rattle.std.specs.Str.{chars};
 ghost use Rattle.std.specs.String.{string_bytes};
-ghost use Rattle.lq_value.specs.Refusal.{IsRefusedBy};
+ghost use Rattle.lq_value.specs.Refusal.{FailsOnlyForMemory, IsRefusedBy};
 ghost use Rattle.lq_value.specs.Form.{pattern_number};
 ghost use Rattle.lq_value.specs.SourceRefusal.{source_refusal};
 ghost use Rattle.lq_value_match.specs.Pattern.{Fits, fits, plain_elements};
@@ -93,7 +93,7 @@ impl Pattern {
 
     /// The pattern with these elements. Refused: `NoMemory`.
     pub fn of(alloc: Global, elements: Vec<Element>) -> Result<Pattern, Refusal>
-        ensures refused { IsRefusedBy result None }
+        ensures refused { FailsOnlyForMemory result }
         ensures value { IfOk result (λ pattern. pattern ≡ elements.items) }
     {
         if let Some(text) = plain_text(alloc, elements.as_slice())? {
@@ -151,7 +151,7 @@ impl Pattern {
 
     /// A copy of the pattern. Refused: `NoMemory`.
     pub fn copy(&self, alloc: Global) -> Result<Pattern, Refusal>
-        ensures refused { IsRefusedBy result None }
+        ensures refused { FailsOnlyForMemory result }
         ensures value { IfOk result (λ pattern. pattern ≡ self.now) }
     {
         match &self.form {

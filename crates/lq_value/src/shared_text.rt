@@ -1,6 +1,6 @@
 //! A text that is stored once for all its copies.
-ghost use Rattle.std.specs.Prelude.{◌≡◌, None, IfOk};
-ghost use Rattle.lq_value.specs.Refusal.{IsRefusedBy};
+ghost use Rattle.std.specs.Prelude.{◌≡◌, IfOk};
+ghost use Rattle.lq_value.specs.Refusal.{FailsOnlyForMemory};
 
 use crate::refusal::Refusal;
 use crate::small_text::SmallText;
@@ -28,7 +28,7 @@ impl Model for SharedText {
 impl SharedText {
     /// The text with these bytes. Refused: `NoMemory`.
     pub fn new(alloc: Global, text: &str) -> Result<SharedText, Refusal>
-        ensures refused { IsRefusedBy result None }
+        ensures refused { FailsOnlyForMemory result }
         ensures value { IfOk result (λ shared. shared ≡ text.now) }
     {
         let text = SmallText::new(alloc, text)?;
@@ -49,7 +49,7 @@ impl SharedText {
     /// Only where 2^63 - 1 share the text already, the new one has a text of its own. Refused:
     /// `NoMemory`.
     pub fn copy(&self, alloc: Global) -> Result<SharedText, Refusal>
-        ensures refused { IsRefusedBy result None }
+        ensures refused { FailsOnlyForMemory result }
         ensures value { IfOk result (λ shared. shared ≡ self.now) }
     {
         match self.text.clone() {

@@ -1,6 +1,6 @@
 //! A text that takes no memory of its own where it is short.
-ghost use Rattle.std.specs.Prelude.{◌≡◌, None, IfOk};
-ghost use Rattle.lq_value.specs.Refusal.{IsRefusedBy};
+ghost use Rattle.std.specs.Prelude.{◌≡◌, IfOk};
+ghost use Rattle.lq_value.specs.Refusal.{FailsOnlyForMemory};
 
 use crate::refusal::Refusal;
 use lq_value_short_text::ShortText;
@@ -36,7 +36,7 @@ impl Model for SmallText {
 impl SmallText {
     /// The text with these bytes. Refused: `NoMemory`.
     pub fn new(alloc: Global, text: &str) -> Result<SmallText, Refusal>
-        ensures refused { IsRefusedBy result None }
+        ensures refused { FailsOnlyForMemory result }
         ensures value { IfOk result (λ small. small ≡ text.now) }
     {
         let kept = match ShortText::new(text) {

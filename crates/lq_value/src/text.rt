@@ -1,7 +1,7 @@
 //! A text that contracts see as its bytes.
-ghost use Rattle.std.specs.Prelude.{◌≡◌, None, IfOk, length};
+ghost use Rattle.std.specs.Prelude.{◌≡◌, IfOk, length};
 ghost use Rattle.std.specs.Str.{bytes_eq};
-ghost use Rattle.lq_value.specs.Refusal.{IsRefusedBy};
+ghost use Rattle.lq_value.specs.Refusal.{FailsOnlyForMemory};
 ghost use Rattle.lq_value.specs.Number.{number_of};
 
 use crate::digits::number_of_bytes;
@@ -66,7 +66,7 @@ impl Text {
 
     /// A copy of the text. Refused: `NoMemory`.
     pub fn copy(&self, alloc: Global) -> Result<Text, Refusal>
-        ensures refused { IsRefusedBy result None }
+        ensures refused { FailsOnlyForMemory result }
         ensures value { IfOk result (λ text. text ≡ self.now) }
     {
         Ok(Text {

@@ -1,6 +1,6 @@
 //! The typed value of an attribute.
-ghost use Rattle.std.specs.Prelude.{◌≡◌, None, IfOk};
-ghost use Rattle.lq_value.specs.Refusal.{IsRefusedBy};
+ghost use Rattle.std.specs.Prelude.{◌≡◌, IfOk};
+ghost use Rattle.lq_value.specs.Refusal.{FailsOnlyForMemory, IsRefusedBy};
 ghost use Rattle.lq_value.specs.Held.{held_in, held_of};
 ghost use Rattle.lq_value.specs.Value.{text_refusal, shown_by};
 
@@ -56,7 +56,7 @@ impl Value {
 
     /// A copy of the value. Refused: `NoMemory`, for a text only.
     pub fn copy(&self, alloc: Global) -> Result<Value, Refusal>
-        ensures refused { IsRefusedBy result None }
+        ensures refused { FailsOnlyForMemory result }
         ensures value { IfOk result (λ value. value ≡ self.now) }
     {
         match self {

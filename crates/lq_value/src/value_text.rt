@@ -1,6 +1,6 @@
 //! The text of a value.
-ghost use Rattle.std.specs.Prelude.{◌≡◌, ◌≤◌, None, IfOk, length};
-ghost use Rattle.lq_value.specs.Refusal.{IsRefusedBy};
+ghost use Rattle.std.specs.Prelude.{◌≡◌, ◌≤◌, IfOk, length};
+ghost use Rattle.lq_value.specs.Refusal.{FailsOnlyForMemory, IsRefusedBy};
 ghost use Rattle.lq_value.specs.Value.{text_refusal};
 
 use crate::refusal::Refusal;
@@ -68,7 +68,7 @@ impl ValueText {
 
     /// A copy of the text. Refused: `NoMemory`.
     pub fn copy(&self, alloc: Global) -> Result<ValueText, Refusal>
-        ensures refused { IsRefusedBy result None }
+        ensures refused { FailsOnlyForMemory result }
         ensures value { IfOk result (λ value. value ≡ self.now) }
     {
         Ok(ValueText {
