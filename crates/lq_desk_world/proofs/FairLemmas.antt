@@ -20,7 +20,7 @@ use Rattle.lq_desk_world.specs.declared.event.Event.TheVariants.{Change, Open, P
 use Rattle.lq_desk_world.specs.Events.{Answer, changing, opening, opened_now, open_refusal, putting, reading, hanging_up, noticing, closing, finishing, finishing_if, at_slot, outcome}
 use Rattle.lq_desk_world.specs.Runs.{Step}
 use Rattle.lq_desk_world.specs.Fair.{IsFair, IsFairSlot, IsFairWorld}
-use Rattle.lq_desk_world.specs.Laws.{FirstWorldsAreFair, RunsKeepWorldsFair}
+use Rattle.lq_desk_world.specs.Laws.{RunsKeepWorldsFair}
 use Rattle.lq_desk_world.specs.World.{is_over}
 use Rattle.lq_desk_world.proofs.ListLemmas.{all-get, all-set, all-map}
 use Rattle.lq_desk_world.proofs.SubLemmas.{Leaves, keeps-change}
@@ -30,10 +30,6 @@ use Rattle.lq_desk_world.proofs.TakenLemmas.{putting-leaves, reading-leaves, han
 free_slots : (b : Book) (n : ℕ) → AllByRecursion (IsFairSlot b) (replicate n None)
 free_slots b zero = tt
 free_slots b (suc n) = (tt, free_slots b n)
-
--- the world that a run begins with is fair
-pub first-fair : FirstWorldsAreFair
-first-fair b = free_slots b 64
 
 -- a subscription that is opened
 nothing_told : (q : Query) (moved : Bool) (b : Book) (n : ℕ) → updates_of q moved b n n ≡ []

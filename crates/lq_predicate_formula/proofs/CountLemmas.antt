@@ -14,12 +14,6 @@ pub spaces_more : (bs : List ℕ) (n : ℕ) → n < length bs → is_space (get_
 spaces_more bs n h e =
     ap spaces (at_byte bs n h) ∙ ap (λ t. cond t (suc (spaces (drop (n + 1) bs))) 0) e
 
--- a byte that is no white space ends the count of white space
-pub spaces_end : (bs : List ℕ) (n : ℕ) → n < length bs → is_space (get_or bs n 0) ≡ false
-    → spaces (drop n bs) ≡ 0
-spaces_end bs n h e =
-    ap spaces (at_byte bs n h) ∙ ap (λ t. cond t (suc (spaces (drop (n + 1) bs))) 0) e
-
 -- a byte that ends words ends the count of a word's bytes
 pub word_end : (bs : List ℕ) (n : ℕ) → n < length bs → (get_or bs n 0 == 92) ≡ false
     → ends_word (get_or bs n 0) ≡ true → word_bytes false (drop n bs) ≡ 0

@@ -1,7 +1,5 @@
 -- What a parse says of the program's words.
-use Rattle.std.proofs.Common.{◌≡◌, ◌∙◌, inl, inr, true, false, refl, sym, ap, ap₂, subst, codes, List, [], Option, Some, None, option_map, ⊎_elim}
-use Rattle.std.specs.Prelude.{nat_eq}
-use Rattle.std.specs.List.{starts_with}
+use Rattle.std.proofs.Common.{◌≡◌, ◌∙◌, inl, inr, false, refl, sym, ap, ap₂, subst, codes, List, [], Option, Some, None, option_map, ⊎_elim}
 use Rattle.clap.specs.Walk.{Text, Row, first_of, rows_of}
 use Rattle.clap.specs.Simple.{subcommand_of, subcommand_rows_of}
 use Rattle.clap.specs.Kinds.{HasKind, Kinds}
@@ -55,21 +53,6 @@ refused_is_usage words e fails memory = record {
   where
     none : fault_of lq_app words ≡ [] → ⊥
     none is = ⊎_elim memory (λ among. among) (subst (λ (k : Kinds). HasKind k e) is fails)
-
--- and a stray `-`
-pub stray_is_usage : (words : List Text) → has_stray words ≡ true → IsUsage words
-stray_is_usage words stray = record {
-  not_run = λ run. no (subst (λ (w : List Text). has_stray w ≡ true) run stray);
-  not_check = λ formula check. by_check formula check;
-}
-  where
-    no : false ≡ true → ⊥
-    no e = absurd (cc)
-
-    by_check : (formula : Text) → IsCheckOf words formula → ⊥
-    by_check formula (inl h) = no (let s : starts_with nat_eq formula (codes "-") ≡ true =
-        subst (λ (w : List Text). has_stray w ≡ true) h.0 stray in cc)
-    by_check formula (inr h) = no (subst (λ (w : List Text). has_stray w ≡ true) h stray)
 
 -- the name of the subcommand and its formula, of words that clap takes
 abbrev name_in : Option (Text × Option Text) → Text

@@ -1,3 +1,1 @@
--- Read in this order: FoldLemmas, ScriptLemmas.
-pub mod FoldLemmas
 pub mod ScriptLemmas

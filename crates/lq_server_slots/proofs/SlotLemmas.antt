@@ -1,5 +1,5 @@
 -- The slots under the lock, one or all.
-use Rattle.std.proofs.Common.{◌≡◌, ◌≢◌, ℕ, zero, suc, ◌+◌, ◌-◌, ◌<◌, ◌≤◌, ◌^◌, ◌⊎◌, ⊎_elim, inr, Bool, true, false, true≢false, List, [], ◌∷◌, ◌++◌, length, take, Option, Some, None, refl, sym, ap, ◌∙◌, subst, arith, length-append, length-set, get_or-set_same, get_or-set_other, slice_set}
+use Rattle.std.proofs.Common.{◌≡◌, ◌≢◌, ℕ, zero, suc, ◌+◌, ◌-◌, ◌<◌, ◌≤◌, ◌⊎◌, ⊎_elim, inr, Bool, true, false, true≢false, List, [], ◌∷◌, ◌++◌, length, take, Option, Some, None, refl, sym, ap, ◌∙◌, subst, arith, length-append, length-set, get_or-set_same, get_or-set_other, slice_set}
 use Rattle.std.proofs.lemmas.List.{get_or-replicate, length-replicate, take-append-le, take_all}
 use mathlib.Core.Logic.{dite}
 use native.Mathlib.Decide.{ℕ_discrete}
@@ -28,15 +28,6 @@ use Rattle.lq_server_subscription.specs.Standing.{Stands, StandsAt, IsFilled, Is
 use Rattle.lq_server_slots.specs.Slots.{IsTaken, IsToFill, SlotStands, asks_of, slot_in, AllStand, OnlyAt, before_of, IsGrown}
 
 -- ---- one slot
-
--- fewer messages were sent than a number of 64 bits counts
-pub few_sent : (s : Subscription) (book : Book) → StandsAt s book → s.sub.held.sent < 2 ^ 63
-few_sent s book stands =
-    let few = stands.few in
-    let number = stands.full.number in
-    let most = stands.full.state.numbered.number in
-    let limit = stands.full.state.numbered.limit in
-    omega arith
 
 -- a message counts, and a mark doesn't come where none is
 one_more : (w : Parcel) (o : Option Mark) (l : List Message) (n : ℕ) → mark_or w o ≡ None

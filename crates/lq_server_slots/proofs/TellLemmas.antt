@@ -91,27 +91,6 @@ partly_told-step keeper slots taken openings c told place o m lt is fits asks ke
           (m.asks j pos within));
     }
 
--- all were told
-pub partly_told-last : (keeper : KeeperToken Identity) (slots : List (Option Subscription))
-    (taken : List ℕ) (openings : ℕ) (c : Change) (told : ℕ) → length taken ≤ told
-    → PartlyTold keeper slots taken openings c told → AllStand keeper slots openings keeper.book
-partly_told-last keeper slots taken openings c told most m =
-    record {
-      known = m.known;
-      wide = m.wide;
-      each = λ k pos within.
-          ⊎_elim
-          (λ (none : slot_in slots k ≡ None). subst (λ (z : Option Subscription). SlotStands z
-          (slot_at keeper.slots k) keeper.book) (sym none) (m.free k pos within none))
-          (λ (some : IsSome (slot_in slots k)).
-          let i = m.listed.each k pos within some in
-          let lt = i.1 in
-          subst (λ (p : ℕ). SlotStands (slot_in slots p) (slot_at keeper.slots p) keeper.book) i.2
-          (m.below i.0 (omega arith) lt))
-          (free_or_taken (slot_in slots k));
-      asks = m.asks;
-    }
-
 -- ---- a fact of each taken slot
 
 module _ (P : Subscription → Known Identity → Type 0) where

@@ -16,7 +16,7 @@ use Rattle.lq_update.specs.declared.parcel.Parcel.TheVariants.{Update as told_up
 use Rattle.lq_update.specs.Fold.{Folding, folded, last_change, settled_after, fold_refusals, folding_after, folding_after_all, opened_at}
 use Rattle.lq_update.specs.Laws.{RebuildsTakeAll, FoldsGiveResults, FoldingsFollow, SettledIsTested, WholeFoldsGiveResults}
 use Rattle.lq_update.specs.Updates.{IsSettled, IsPrefixOf, updates_of}
-use Rattle.lq_desk_sub.specs.declared.read.Read.TheVariants.{Update, Fin, Empty, Ended}
+use Rattle.lq_desk_sub.specs.declared.read.Read.TheVariants.{Update, Fin}
 use Rattle.lq_port.specs.End.{End, IsSamePort, IsFront, Loses}
 use Rattle.lq_server_subscription.specs.declared.delivery.Delivery.{Delivery}
 use Rattle.lq_server_subscription.specs.declared.delivery.Opening.{Opening}
@@ -340,35 +340,6 @@ hand_first e result hand m ended r is some =
 pub live_unmarked : (e : End Delivery Opening) (result : Folding) (hand : Option Message)
     (ended : Bool) → Reads e result hand ended → ended ≡ false → IsSome (mark_in e.taken) → ⊥
 live_unmarked e result hand ended r live some = true≢false (sym (r.over ∙ some) ∙ live)
-
--- there is no mark, where the test says so
-none_of : (o : Option Mark) → false ≡ is_some o → o ≡ None
-none_of (Some k) e = absurd (cc)
-none_of None e = refl
-
--- with nothing in hand and nothing known to wait, nothing is given
-pub gives_empty : (e : End Delivery Opening) (result : Folding) (hand : Option Message)
-    (ended : Bool) → hand ≡ None → ended ≡ false → Reads e result hand ended → e.ahead ≡ []
-    → Gives (hold e hand result) (hold e hand result) Empty
-gives_empty e result hand ended none live r empty = (
-  refl,
-  ap
-      (λ (o : Option Message). map (λ m. told_update m) (option_to_list o) ++ map what_of e.ahead)
-      none ∙ ap (map what_of) empty,
-  none_of (mark_in e.taken) (sym live ∙ r.over),
-)
-
--- after the mark nothing is given
-pub gives_ended : (e : End Delivery Opening) (result : Folding) (hand : Option Message)
-    (ended : Bool) → hand ≡ None → ended ≡ true → Reads e result hand ended
-    → Gives (hold e hand result) (hold e hand result) Ended
-gives_ended e result hand ended none over r = (
-  refl,
-  ap
-      (λ (o : Option Message). map (λ m. told_update m) (option_to_list o) ++ map what_of e.ahead)
-      none,
-  sym r.over ∙ over,
-)
 
 -- a new reading received nothing
 pub reads_new : (e : End Delivery Opening) (result : Folding) → e.taken ≡ []

@@ -50,10 +50,6 @@ has_node-at n (e ∷ es) = let rest = has_node-at n es in grind (arith, nat_test
 pub same-self : (e : Entry) → same_entry e e ≡ true
 same-self e = let name = (bytes_eq-Decides e.name e.name).1 refl in grind (arith, nat_tests)
 
--- the same entry has the same node
-pub same-node : (e f : Entry) → same_entry e f ≡ true → e.node ≡ f.node
-same-node e f is = grind (arith, nat_tests)
-
 -- an entry, made of its parts again
 abbrev same_parts : Entry → Entry
 same_parts e = record { dir = e.dir; name = e.name; node = e.node }

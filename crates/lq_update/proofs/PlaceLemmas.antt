@@ -215,11 +215,6 @@ has_node-search [] n (Ok i) h found absent = absurd (omega (arith, found.within)
 has_node-search (e ∷ es) n (Ok i) h found absent = has_node-place (e ∷ es) n i e h found
 has_node-search es n (Err i) h found absent = has_node-gap es n i absent
 
--- a triple at a place is there
-pub has_entry-triple : (es : List Entry) (e : Entry) (i : ℕ) → EntriesRise es → IsTripleAt es e i
-    → has_entry e es ≡ true
-has_entry-triple es e i h g = has_entry-at e es h ∙ rw (at-triple es e i h g) (same-self e)
-
 -- the nodes still rise after an insertion at the gap
 pub rises-insert : (e : Entry) (es : List Entry) (i : ℕ) → EntriesRise es → IsGapFor es e.node i
     → EntriesRise (insert es i e)

@@ -38,11 +38,6 @@ pub AreSingle-push : (piece : List Element) (e : Element) → AreSingle piece �
 AreSingle-push [] e s t = (t, tt)
 AreSingle-push (p ∷ piece) e s t = (s.0, AreSingle-push piece e s.1 t)
 
--- no elements pass no text
-pub passes_none : (es : List Element) (cs : List ℕ) → Passes es cs es cs
-passes_none es cs = record
-    { piece = []; run = []; elements = refl; text = refl; same = refl; single = tt; fit = refl }
-
 -- a text that some elements pass, and one element more that takes its next character
 pub passes_more : (es : List Element) (cs : List ℕ) (es' : List Element) (cs' : List ℕ)
     (es'' : List Element) (cs'' : List ℕ) → Passes es cs es' cs' → TakesOne es' cs' es'' cs''

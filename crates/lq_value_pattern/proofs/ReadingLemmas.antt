@@ -1,5 +1,5 @@
 -- That each item and each element has a sign at least, and what the reader knows at each step.
-use Rattle.std.proofs.Common.{◌≡◌, ◌<◌, ℕ, suc, List, [], ◌∷◌, ◌++◌, length, refl, sym, ap, ◌∙◌, arith, Bool, true, false, subst}
+use Rattle.std.proofs.Common.{◌≡◌, ◌<◌, ℕ, suc, List, [], ◌∷◌, ◌++◌, length, sym, ap, ◌∙◌, arith, Bool, true, false, subst}
 use Rattle.std.specs.Prelude.{Result, Ok, Err, nat_le, ◌==◌, if◌then◌else◌}
 use Rattle.lq_value_pattern.specs.declared.element.Item.{Item}
 use Rattle.lq_value_pattern.specs.declared.element.Item.TheVariants.{One, Range}
@@ -59,12 +59,6 @@ item_shrinks ss x rest e =
     let P : First Item → Type 0 = λ r. Leaves r (length ss) in
     subst P e (item_leaves ss)
 
--- the end of a set has a sign at least
-pub item_ends : (ss rest : List Sign) → item_at ss ≡ ends rest → length rest < length ss
-item_ends ss rest e =
-    let P : First Item → Type 0 = λ r. Leaves r (length ss) in
-    subst P e (item_leaves ss)
-
 -- ---- what is known of a set's items at each step
 
 -- the items of a set that were read so far, and what was gathered of them
@@ -73,10 +67,6 @@ pub record ItemsSoFar (start : List Sign) (gathered : Result (List Item) SourceE
   pub items : List Item
   pub pieces : SoFar Item item_at start items left
   pub are : AreGathered items gathered
-
--- before the first item nothing is gathered
-pub items_none : (start : List Sign) → ItemsSoFar start (Ok []) start
-items_none start = record { items = []; pieces = refl; are = refl }
 
 -- a list with a member at its end is not empty
 not_none : (items : List Item) (item : Item) → items ++ item ∷ [] ≡ [] → ⊥

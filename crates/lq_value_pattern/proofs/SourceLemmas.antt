@@ -96,11 +96,6 @@ pub record ElementsSoFar (start : List Sign) (gathered : Result (Vec Element) So
   pub split : start ≡ front ++ left
   pub are : AreFound elements gathered
 
--- before the first element nothing is found
-pub elements_none : (start : List Sign) (v : Vec Element) → v.items ≡ []
-    → ElementsSoFar start (Ok v) start
-elements_none start v e = record { elements = []; front = []; pieces = refl; split = refl; are = e }
-
 -- one element more is found, unless memory runs out
 found_more : (es : List Element) (e : Element) (g : Result (Vec Element) SourceError)
     (x : Result Element SourceError) (g' : Result (Vec Element) SourceError)
