@@ -12,7 +12,7 @@ use crate::checks::{
 use crate::seen::{Seen, record_of};
 use crate::volume::Volume;
 use lq_value::Refusal;
-use lq_volume_entries::{Stored, records_are_kept};
+use lq_volume_entries::{StoredRecord, records_are_kept};
 use std::marker::Model;
 
 /// A change that a volume accepts, with the entries that it touches, each looked up once.
@@ -124,8 +124,8 @@ impl<'a> Planned<'a> {
 // place of a move, with its record.
 #[derive(Drop)]
 pub struct Found<'a> {
-    pub stored: Option<&'a Stored>,
-    pub other: Option<(u64, &'a Stored)>,
+    pub stored: Option<&'a StoredRecord>,
+    pub other: Option<(u64, &'a StoredRecord)>,
 }
 
 // Checks a change, and gives what that finds.
@@ -170,7 +170,7 @@ fn found_by<'a>(volume: &'a Volume, change: &'a Change) -> Result<Found<'a>, Ref
 fn seen_after<'a>(
     volume: &Volume,
     change: &'a Change,
-    stored: Option<&'a Stored>,
+    stored: Option<&'a StoredRecord>,
 ) -> Option<Seen<'a>>
     requires volume { IsVolume volume.now }
     requires lawful { IsLawful volume.now change.now }

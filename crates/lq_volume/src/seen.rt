@@ -9,7 +9,7 @@ use crate::change::Change;
 use lq_predicate::Row;
 use lq_value::{AttrName, Entry, Field, Name, Refusal, Value, View, same_text};
 use lq_volume_attributes::values_are_found;
-use lq_volume_entries::Stored;
+use lq_volume_entries::StoredRecord;
 use std::alloc::Global;
 use std::marker::Model;
 
@@ -22,7 +22,7 @@ pub struct Seen<'a> {
     dir: u64,
     name: &'a Name,
     // The entry's record; none where the change creates the entry.
-    stored: Option<&'a Stored>,
+    stored: Option<&'a StoredRecord>,
     // The change; none where the entry is seen as it is.
     change: Option<&'a Change>,
 }
@@ -46,7 +46,7 @@ impl<'a> Seen<'a> {
     ghost use Rattle.lq_volume.specs.Seen.{has_same_place, seen_of, IsSeen};
 
     /// An entry as it is.
-    pub(crate) fn stored(stored: &'a Stored) -> Seen<'a>
+    pub(crate) fn stored(stored: &'a StoredRecord) -> Seen<'a>
         ensures { result ≡ stored.now }
     {
         Seen {
@@ -62,7 +62,7 @@ impl<'a> Seen<'a> {
     pub(crate) fn changed(
         dir: u64,
         name: &'a Name,
-        stored: Option<&'a Stored>,
+        stored: Option<&'a StoredRecord>,
         change: &'a Change,
     ) -> Seen<'a>
         requires { IsSeen stored (Some change) }
@@ -149,7 +149,7 @@ impl<'a> Seen<'a> {
 }
 
 // The record of an entry that no change creates.
-pub(crate) fn record_of<'a>(stored: Option<&'a Stored>) -> &'a Stored
+pub(crate) fn record_of<'a>(stored: Option<&'a StoredRecord>) -> &'a StoredRecord
     requires { IsSome stored }
     ensures { stored.entry ≡ Some result }
 {

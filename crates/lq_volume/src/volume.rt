@@ -4,7 +4,7 @@ ghost use Rattle.std.specs.Prelude.{◌≡◌, ◌≤◌, ◌+◌, Some, None, I
 use crate::change::{Applied, Change};
 use crate::laws::accepted_changes_keep_trees;
 use lq_value::{Kind, Name, Refusal};
-use lq_volume_entries::{Entries, Stored, records_are_kept};
+use lq_volume_entries::{Entries, StoredRecord, records_are_kept};
 use std::alloc::Global;
 use std::marker::Model;
 
@@ -157,7 +157,7 @@ impl Volume {
                 size,
                 time,
             } => {
-                let record = Stored::new(
+                let record = StoredRecord::new(
                     self.alloc,
                     *dir,
                     name.copy(self.alloc)?,
