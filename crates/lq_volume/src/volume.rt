@@ -176,7 +176,7 @@ impl Volume {
                 ..
             } => {
                 let other = self.other_at(*node, *dir, name);
-                self.entries.shift(*node, *dir, name, other)?;
+                self.entries.move_entry(*node, *dir, name, other)?;
             }
             Change::Write { node, size, time } => self.entries.write(*node, *size, *time),
             Change::SetAttr { node, attr, value } => self.entries.set_attr(*node, attr, value)?,

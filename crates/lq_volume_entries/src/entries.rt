@@ -157,7 +157,7 @@ impl Entries {
     }
 
     /// Moves a node to another place and removes the other node there, if any. Refused: `NoMemory`.
-    pub fn shift(
+    pub fn move_entry(
         &mut self,
         node: u64,
         dir: u64,
