@@ -6,7 +6,7 @@ ghost use Rattle.lq_volume.specs.Change.{after, node_of};
 ghost use Rattle.lq_update.specs.Touched.{is_match};
 
 use lq_predicate::{Predicate, holds};
-use lq_volume::{Planned, Seen};
+use lq_volume::{EntryView, Planned};
 
 /// A query that was asked of a planned change: whether it matches the entry of the change's own
 /// node before the change, and after it.
@@ -40,18 +40,18 @@ pub fn matches_of<'s, 'a>(predicate: &'s Predicate, planned: &'s Planned<'a>) ->
     Matches {
         predicate,
         planned,
-        matched_before: is_match(predicate, planned.seen_before()),
-        matches_after: is_match(predicate, planned.seen_after()),
+        matched_before: is_match(predicate, planned.entry_before()),
+        matches_after: is_match(predicate, planned.entry_after()),
     }
 }
 
 // Whether there is an entry, and it matches.
 #[inline(always)]
-fn is_match(predicate: &Predicate, seen: Option<&Seen<'_>>) -> bool
-    ensures { result ≡ is_match predicate.now (option_copied seen.entry) }
+fn is_match(predicate: &Predicate, view: Option<&EntryView<'_>>) -> bool
+    ensures { result ≡ is_match predicate.now (option_copied view.entry) }
 {
-    match seen {
+    match view {
         None => false,
-        Some(seen) => holds(predicate, seen),
+        Some(view) => holds(predicate, view),
     }
 }

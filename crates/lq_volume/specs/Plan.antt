@@ -22,13 +22,13 @@ pub record IsFound (s : State) (c : Change) (found : Found) : Type 0 where
   pub gone : IfSome found.other (λ e. record_at s e.0 ≡ Some e.1.now)
 
 -- the change is lawful, and this is what it touches
-pub record IsPlanned (s : State) (c : Change) (seen_before seen_after : Option Record)
+pub record IsPlanned (s : State) (c : Change) (entry_before entry_after : Option Record)
     (other : Option (ℕ × Record)) : Type 0 where
   pub volume : IsVolume s
   pub lawful : IsLawful s c
   -- the record of the change's own node, before and after
-  pub before : seen_before ≡ record_at s (node_of s c)
-  pub after : seen_after ≡ record_left s c
+  pub before : entry_before ≡ record_at s (node_of s c)
+  pub after : entry_after ≡ record_left s c
   -- the other node that is removed, with its record
   pub clobbered : option_map (λ e. e.0) other ≡ clobbered s c
   pub gone : IfSome other (λ e. record_at s e.0 ≡ Some e.1)

@@ -3,7 +3,7 @@ ghost use Rattle.std.specs.Prelude.{◌≡◌, Some, None, IfOk, IfErr, OnOk};
 
 use crate::checks::check_folder;
 use crate::entry_ref::{EntryRef, Listing};
-use crate::seen::Seen;
+use crate::entry_view::EntryView;
 use crate::volume::{ROOT, Volume};
 use lq_predicate::{Predicate, holds};
 use lq_value::{Entry, Kind, Name, Refusal};
@@ -122,6 +122,6 @@ impl<'a> Test for Matching<'a> {
     ghost picks = { λ matching r. truth matching.predicate.now (shown r) };
 
     fn passes(&self, stored: &StoredRecord) -> bool {
-        holds(self.predicate, &Seen::stored(stored))
+        holds(self.predicate, &EntryView::stored(stored))
     }
 }
