@@ -21,8 +21,10 @@ use std::marker::Model;
 /// there. It borrows the volume and the change. No call here takes memory.
 #[derive(Drop)]
 pub struct Planned<'a> {
+    // For contracts alone, which see the state before the change.
     volume: &'a Volume,
     change: &'a Change,
+    applied: Applied,
     before: Option<EntryView<'a>>,
     after: Option<EntryView<'a>>,
     clobbered: Option<(u64, EntryView<'a>)>,
@@ -38,7 +40,8 @@ impl<'a> Model for Planned<'a> {
       change = p.change.now;
     } };
 
-    ghost invariant = { λ p. IsPlanned p.volume.now p.change.now p.before p.after p.clobbered };
+    ghost invariant = { λ p.
+        IsPlanned p.volume.now p.change.now p.applied p.before p.after p.clobbered };
 }
 
 impl Volume {
@@ -57,6 +60,7 @@ impl Volume {
         Ok(Planned {
             volume: self,
             change,
+            applied: self.applied_by(change),
             before: found.stored.map(EntryView::stored),
             after: view_after(self, change, found.stored),
             clobbered: found
@@ -78,10 +82,7 @@ impl<'a> Planned<'a> {
         ensures lawful { IsLawful self.now.before self.now.change }
         ensures volume { IsVolume self.now.before }
     {
-        Applied {
-            change: self.volume.changes() + 1,
-            node: self.volume.node_of(self.change),
-        }
+        self.applied
     }
 
     /// The change.

@@ -145,10 +145,7 @@ impl Volume {
     {
         accepted_changes_keep_trees();
         records_are_kept();
-        let applied = Applied {
-            change: self.changes + 1,
-            node: self.node_of(change),
-        };
+        let applied = self.applied_by(change);
         match change {
             Change::Create {
                 dir,
@@ -200,17 +197,25 @@ impl Volume {
         })
     }
 
-    /// The node that an accepted change creates or names.
-    pub(crate) fn node_of(&self, change: &Change) -> u64
-        ensures { result ≡ node_of self.now change.now }
+    /// What an accepted change answers: its number, and the node that it creates or names.
+    #[inline]
+    pub(crate) fn applied_by(&self, change: &Change) -> Applied
+        ensures { result ≡ record {
+          change = self.now.number + 1;
+          node = node_of self.now change.now;
+        } }
     {
-        match change {
+        let node = match change {
             Change::Create { .. } => self.next,
             Change::Remove { node }
             | Change::Move { node, .. }
             | Change::Write { node, .. }
             | Change::SetAttr { node, .. }
             | Change::RemoveAttr { node, .. } => *node,
+        };
+        Applied {
+            change: self.changes + 1,
+            node,
         }
     }
 

@@ -79,9 +79,6 @@ pub invariant_of-self-in_err-move_entry-in-Move : goal.invariant_of-self-in_err-
 invariant_of-self-in_err-move_entry-in-Move c =
     rw c.in_err-move_entry-in-Move.ensures.err c.self.invariant
 
-pub overflow_add-applied : goal.overflow_add-applied
-overflow_add-applied c = number-fits _ c.self.invariant.numbered
-
 pub overflow_add-self : goal.overflow_add-self
 overflow_add-self c = next-fits _ c.self.invariant.numbered
 
@@ -99,7 +96,7 @@ overflow_add-self-2 c =
     ]
 
 pub returns-clause-value : goal.returns-clause-value
-returns-clause-value c = rw (c.node_of.ensures, ← c.self.view_is) refl
+returns-clause-value c = rw (c.applied_by-applied.ensures, ← c.self.view_is) refl
 
 pub returns-clause-ok : goal.returns-clause-ok
 returns-clause-ok c =
