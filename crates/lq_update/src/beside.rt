@@ -25,8 +25,8 @@ pub fn writes_beside(spans: &Spans, planned: &Planned<'_>) -> bool
     let Change::Write { size, time, .. } = planned.change() else {
         return false;
     };
-    let Some(seen) = planned.seen_before() else {
+    let Some(view) = planned.entry_before() else {
         return false;
     };
-    spans.is_beside_sizes(seen.size(), *size) && spans.is_beside_times(seen.time(), *time)
+    spans.is_beside_sizes(view.size(), *size) && spans.is_beside_times(view.time(), *time)
 }

@@ -9,7 +9,7 @@ ghost use Rattle.lq_update.specs.Updates.{step_of};
 
 use crate::matches::Matches;
 use lq_value::{Entry, Refusal};
-use lq_volume::{Seen, accepted_changes_keep_trees, clobbered_nodes_go, untouched_nodes_stay};
+use lq_volume::{EntryView, accepted_changes_keep_trees, clobbered_nodes_go, untouched_nodes_stay};
 use std::alloc::Global;
 
 impl<'s, 'a> Matches<'s, 'a> {
@@ -37,7 +37,7 @@ impl<'s, 'a> Matches<'s, 'a> {
     // What left the result at the change's own node, and what came into it there: nothing where the
     // entry matches before and after, at one place.
     #[inline(always)]
-    pub(crate) fn difference(&self) -> (Option<&'s Seen<'a>>, Option<&'s Seen<'a>>)
+    pub(crate) fn difference(&self) -> (Option<&'s EntryView<'a>>, Option<&'s EntryView<'a>>)
         ensures removed { entry_at
             (node_of self.now.planned.now.before self.now.planned.now.change)
             (option_copied result.0) ≡ left_at self.now.predicate.now self.now.planned.now.before
@@ -51,12 +51,12 @@ impl<'s, 'a> Matches<'s, 'a> {
             (node_of self.now.planned.now.before self.now.planned.now.change) }
     {
         let old = if self.matched_before {
-            self.planned.seen_before()
+            self.planned.entry_before()
         } else {
             None
         };
         let new = if self.matches_after {
-            self.planned.seen_after()
+            self.planned.entry_after()
         } else {
             None
         };
@@ -78,17 +78,17 @@ pub(crate) fn changes_touch_few()
     clobbered_nodes_go();
 }
 
-// The entry at a node, from what is seen of it.
+// The entry at a node, from a view of it.
 pub(crate) fn copied(
     alloc: Global,
-    seen: Option<&Seen<'_>>,
+    view: Option<&EntryView<'_>>,
     node: u64,
 ) -> Result<Option<Entry>, Refusal>
     ensures refused { IsRefusedBy result None }
-    ensures value { IfOk result (λ entry. entry ≡ entry_at node (option_copied seen.entry)) }
+    ensures value { IfOk result (λ entry. entry ≡ entry_at node (option_copied view.entry)) }
 {
-    match seen {
+    match view {
         None => Ok(None),
-        Some(seen) => Ok(Some(seen.entry(alloc, node)?)),
+        Some(view) => Ok(Some(view.entry(alloc, node)?)),
     }
 }

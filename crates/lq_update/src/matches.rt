@@ -1,12 +1,11 @@
 //! A query that was asked of a planned change.
 ghost use Rattle.std.specs.Prelude.{◌≡◌};
-ghost use Rattle.std.specs.Option.{option_copied};
 ghost use Rattle.lq_volume.specs.State.{record_at};
 ghost use Rattle.lq_volume.specs.Change.{after, node_of};
 ghost use Rattle.lq_update.specs.Touched.{is_match};
 
 use lq_predicate::{Predicate, holds};
-use lq_volume::{Planned, Seen};
+use lq_volume::Planned;
 
 /// A query that was asked of a planned change: whether it matches the entry of the change's own
 /// node before the change, and after it.
@@ -37,21 +36,18 @@ pub fn matches_of<'s, 'a>(predicate: &'s Predicate, planned: &'s Planned<'a>) ->
     ensures query { result.predicate.now ≡ predicate.now }
     ensures plan { result.planned.now ≡ planned.entry.now }
 {
+    let matched_before = match planned.entry_before() {
+        None => false,
+        Some(view) => holds(predicate, view),
+    };
+    let matches_after = match planned.entry_after() {
+        None => false,
+        Some(view) => holds(predicate, view),
+    };
     Matches {
         predicate,
         planned,
-        matched_before: is_match(predicate, planned.seen_before()),
-        matches_after: is_match(predicate, planned.seen_after()),
-    }
-}
-
-// Whether there is an entry, and it matches.
-#[inline(always)]
-fn is_match(predicate: &Predicate, seen: Option<&Seen<'_>>) -> bool
-    ensures { result ≡ is_match predicate.now (option_copied seen.entry) }
-{
-    match seen {
-        None => false,
-        Some(seen) => holds(predicate, seen),
+        matched_before,
+        matches_after,
     }
 }

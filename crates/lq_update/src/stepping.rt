@@ -14,7 +14,7 @@ use crate::message::{Message, Opcode};
 use crate::telling::{join, message, put_all};
 use lq_predicate::{Predicate, holds};
 use lq_value::{Entry, Refusal};
-use lq_volume::{Applied, Change, Planned, Seen, Volume};
+use lq_volume::{Applied, Change, EntryView, Planned, Volume};
 use std::alloc::Global;
 use std::collections::VecDeque;
 
@@ -118,8 +118,8 @@ impl<'s, 'a> Matches<'s, 'a> {
     fn put_joined(
         &self,
         alloc: Global,
-        left: Option<&Seen<'_>>,
-        came: Option<&Seen<'_>>,
+        left: Option<&EntryView<'_>>,
+        came: Option<&EntryView<'_>>,
         first_seq: u64,
         moved: bool,
         messages: &mut VecDeque<Message>,
@@ -152,8 +152,8 @@ impl<'s, 'a> Matches<'s, 'a> {
         let (removed, last) = join(moved, left, came);
         let (low, high) = match self.planned.clobbered() {
             None => (removed, None),
-            Some((node, seen)) => {
-                let gone = gone_of(alloc, self.predicate, seen, node)?;
+            Some((node, view)) => {
+                let gone = gone_of(alloc, self.predicate, view, node)?;
                 if node < made.node {
                     (gone, removed)
                 } else {
@@ -172,19 +172,19 @@ fn put_one(
     alloc: Global,
     messages: &mut VecDeque<Message>,
     op: Opcode,
-    seen: &Seen<'_>,
+    view: &EntryView<'_>,
     made: Applied,
     seq: u64,
 ) -> Result<(), Refusal>
     requires { deque_len messages.old < deque_capacity messages.old }
     ensures refused { IsRefusedBy result None }
     ensures ok { OnOk result (messages.new.items ≡ messages.old.items
-        ++ numbered seq made.change ((op, entry_of (made.node, seen.now)) ∷ [])) }
+        ++ numbered seq made.change ((op, entry_of (made.node, view.now)) ∷ [])) }
     ensures err { OnErr result (messages.new.items ≡ messages.old.items) }
     ensures few { deque_len messages.new ≤ deque_len messages.old + 1 }
     ensures capacity { deque_capacity messages.new ≡ deque_capacity messages.old }
 {
-    let entry = seen.entry(alloc, made.node)?;
+    let entry = view.entry(alloc, made.node)?;
     messages.push_back_reserved(message(op, entry, made.change, seq, true));
     Ok(())
 }
@@ -194,14 +194,14 @@ fn put_one(
 fn gone_of(
     alloc: Global,
     predicate: &Predicate,
-    seen: &Seen<'_>,
+    view: &EntryView<'_>,
     node: u64,
 ) -> Result<Option<Entry>, Refusal>
     ensures refused { IsRefusedBy result None }
-    ensures value { IfOk result (λ gone. gone ≡ entry_if predicate.now (node, seen.now)) }
+    ensures value { IfOk result (λ gone. gone ≡ entry_if predicate.now (node, view.now)) }
 {
-    if holds(predicate, seen) {
-        Ok(Some(seen.entry(alloc, node)?))
+    if holds(predicate, view) {
+        Ok(Some(view.entry(alloc, node)?))
     } else {
         Ok(None)
     }

@@ -1,6 +1,7 @@
 -- A lawful change to a state, with what it touches.
-use Rattle.std.specs.Prelude.{◌≡◌, ℕ, Option, Some, IfSome}
+use Rattle.std.specs.Prelude.{◌≡◌, ℕ, ◌+◌, Option, Some, IfSome}
 use Rattle.std.specs.Option.{option_copied, option_map}
+use Rattle.lq_volume.specs.declared.change.Applied.{Applied}
 use Rattle.lq_volume.specs.declared.change.Change.{Change}
 use Rattle.lq_volume.specs.declared.planned.Found.{Found}
 use Rattle.lq_volume.specs.State.{State, Record, record_at, IsVolume}
@@ -21,14 +22,16 @@ pub record IsFound (s : State) (c : Change) (found : Found) : Type 0 where
   pub other : option_map (λ e. e.0) found.other ≡ clobbered s c
   pub gone : IfSome found.other (λ e. record_at s e.0 ≡ Some e.1.now)
 
--- the change is lawful, and this is what it touches
-pub record IsPlanned (s : State) (c : Change) (seen_before seen_after : Option Record)
-    (other : Option (ℕ × Record)) : Type 0 where
+-- the change is lawful, and this is what it answers and what it touches
+pub record IsPlanned (s : State) (c : Change) (made : Applied)
+    (entry_before entry_after : Option Record) (other : Option (ℕ × Record)) : Type 0 where
   pub volume : IsVolume s
   pub lawful : IsLawful s c
+  -- its number, and the node that it creates or names
+  pub applied : made ≡ record { change = s.number + 1; node = node_of s c }
   -- the record of the change's own node, before and after
-  pub before : seen_before ≡ record_at s (node_of s c)
-  pub after : seen_after ≡ record_left s c
+  pub before : entry_before ≡ record_at s (node_of s c)
+  pub after : entry_after ≡ record_left s c
   -- the other node that is removed, with its record
   pub clobbered : option_map (λ e. e.0) other ≡ clobbered s c
   pub gone : IfSome other (λ e. record_at s e.0 ≡ Some e.1)

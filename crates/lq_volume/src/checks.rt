@@ -14,7 +14,7 @@ ghost use Rattle.lq_volume.specs.Plan.{IsFound};
 use crate::planned::Found;
 use crate::volume::{ROOT, Volume};
 use lq_value::{AttrName, Kind, Name, Refusal, Value};
-use lq_volume_entries::{Stored, records_are_kept};
+use lq_volume_entries::{StoredRecord, records_are_kept};
 
 /// The most bytes of a file: the size is shown as an `i64`.
 const MAX_SIZE: u64 = 9_223_372_036_854_775_807;
@@ -49,7 +49,7 @@ pub fn check_create(
 }
 
 #[inline(always)]
-pub fn check_remove(volume: &Volume, node: u64) -> Result<&Stored, Refusal>
+pub fn check_remove(volume: &Volume, node: u64) -> Result<&StoredRecord, Refusal>
     requires { IsVolume volume.now }
     ensures ok { OnOk result (refused volume.now (Remove node) ≡ None) }
     ensures err { IfErr result (λ e. refused volume.now (Remove node) ≡ Some e) }
@@ -106,7 +106,12 @@ pub fn check_move<'a>(
 }
 
 #[inline(always)]
-pub fn check_write(volume: &Volume, file: u64, size: u64, time: i64) -> Result<&Stored, Refusal>
+pub fn check_write(
+    volume: &Volume,
+    file: u64,
+    size: u64,
+    time: i64,
+) -> Result<&StoredRecord, Refusal>
     requires { IsVolume volume.now }
     ensures ok { OnOk result (refused volume.now (Write file size time) ≡ None) }
     ensures err { IfErr result (λ e. refused volume.now (Write file size time) ≡ Some e) }
@@ -131,7 +136,7 @@ pub fn check_set_attr<'a>(
     entry: u64,
     attr: &AttrName,
     value: &Value,
-) -> Result<&'a Stored, Refusal>
+) -> Result<&'a StoredRecord, Refusal>
     requires { IsVolume volume.now }
     ensures ok { OnOk result (refused volume.now (SetAttr entry attr.now value.now) ≡ None) }
     ensures err { IfErr result (λ e.
@@ -153,7 +158,7 @@ pub fn check_remove_attr<'a>(
     volume: &'a Volume,
     owner: u64,
     attr: &AttrName,
-) -> Result<&'a Stored, Refusal>
+) -> Result<&'a StoredRecord, Refusal>
     requires { IsVolume volume.now }
     ensures ok { OnOk result (refused volume.now (RemoveAttr owner attr.now) ≡ None) }
     ensures err { IfErr result (λ e. refused volume.now (RemoveAttr owner attr.now) ≡ Some e) }
@@ -173,7 +178,7 @@ pub fn check_remove_attr<'a>(
 }
 
 // The record of a node that is there and is not the root.
-fn entry_at(volume: &Volume, node: u64) -> Result<&Stored, Refusal>
+fn entry_at(volume: &Volume, node: u64) -> Result<&StoredRecord, Refusal>
     ensures ok { OnOk result (first_refusal
         ((is_none (kind_at volume.now node), NoNode) ∷ (node == root, Reserved) ∷ []) ≡ None) }
     ensures err { IfErr result (λ e. first_refusal
@@ -191,14 +196,14 @@ fn entry_at(volume: &Volume, node: u64) -> Result<&Stored, Refusal>
 }
 
 // Whether a node is a folder with an entry.
-fn is_filled(volume: &Volume, node: u64, stored: &Stored) -> bool
+fn is_filled(volume: &Volume, node: u64, stored: &StoredRecord) -> bool
     ensures { result ≡ (is_folder stored.now.kind && has_entries volume.now node) }
 {
     stored.is_folder() && volume.entries.has_any(node)
 }
 
 // Whether an entry would move into itself: a file contains nothing, so only a folder needs a walk.
-fn would_loop(volume: &Volume, moved: u64, stored: &Stored, dir: u64) -> bool
+fn would_loop(volume: &Volume, moved: u64, stored: &StoredRecord, dir: u64) -> bool
     requires kind { kind_at volume.now moved ≡ Some stored.now.kind }
     requires dir { is_folder_at volume.now dir ≡ true }
     ensures { result ≡ reaches volume.now dir moved }
@@ -209,7 +214,12 @@ fn would_loop(volume: &Volume, moved: u64, stored: &Stored, dir: u64) -> bool
 }
 
 // The other node at the place, and its record.
-fn other_in<'a>(volume: &'a Volume, moved: u64, dir: u64, name: &Name) -> Option<(u64, &'a Stored)>
+fn other_in<'a>(
+    volume: &'a Volume,
+    moved: u64,
+    dir: u64,
+    name: &Name,
+) -> Option<(u64, &'a StoredRecord)>
     ensures node { option_map (λ e. e.0) result ≡ other_at volume.now moved dir name.now }
     ensures record { IfSome result (λ e. record_at volume.now e.0 ≡ Some e.1.now) }
     ensures kind { IfSome result (λ e. kind_at volume.now e.0 ≡ Some e.1.now.kind) }

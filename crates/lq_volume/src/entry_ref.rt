@@ -4,14 +4,14 @@ ghost use Rattle.std.specs.Option.{option_map};
 ghost use Rattle.lq_value.specs.Refusal.{IsRefusedBy};
 
 use lq_value::{AttrName, Kind, Name, Refusal, Value, View};
-use lq_volume_entries::Stored;
+use lq_volume_entries::StoredRecord;
 use std::alloc::Global;
 use std::marker::Model;
 
 /// One entry of a volume, borrowed. Contracts see it as its `Record`.
 #[derive(Drop)]
 pub struct EntryRef<'a> {
-    stored: &'a Stored,
+    stored: &'a StoredRecord,
 }
 
 impl<'a> Model for EntryRef<'a> {
@@ -40,7 +40,7 @@ impl<'a> EntryRef<'a> {
     ghost use Rattle.lq_volume_attributes.specs.Attributes.{value_of};
     ghost use Rattle.lq_volume.specs.Lookup.{listed};
 
-    pub(crate) fn new(stored: &'a Stored) -> EntryRef<'a>
+    pub(crate) fn new(stored: &'a StoredRecord) -> EntryRef<'a>
         ensures { result ≡ stored.now }
     {
         EntryRef { stored }

@@ -9,17 +9,17 @@
 mod change;
 mod checks;
 mod entry_ref;
+mod entry_view;
 mod laws;
 mod lookup;
 mod planned;
-mod seen;
 mod volume;
 
 pub use change::{Applied, Change};
 pub use entry_ref::{EntryRef, Listing};
+pub use entry_view::EntryView;
 pub use laws::{
     accepted_changes_keep_trees, changes_are_counted, clobbered_nodes_go, untouched_nodes_stay,
 };
 pub use planned::Planned;
-pub use seen::Seen;
 pub use volume::{MAX_CHANGES, Volume};

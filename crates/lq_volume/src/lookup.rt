@@ -3,11 +3,11 @@ ghost use Rattle.std.specs.Prelude.{◌≡◌, Some, None, IfOk, IfErr, OnOk};
 
 use crate::checks::check_folder;
 use crate::entry_ref::{EntryRef, Listing};
-use crate::seen::Seen;
+use crate::entry_view::EntryView;
 use crate::volume::{ROOT, Volume};
 use lq_predicate::{Predicate, holds};
 use lq_value::{Entry, Kind, Name, Refusal};
-use lq_volume_entries::{Stored, Test};
+use lq_volume_entries::{StoredRecord, Test};
 
 impl Volume {
     ghost use Rattle.lq_value.specs.Refusal.{IsRefusedBy, first_refusal};
@@ -121,7 +121,7 @@ impl<'a> Test for Matching<'a> {
 
     ghost picks = { λ matching r. truth matching.predicate.now (shown r) };
 
-    fn passes(&self, stored: &Stored) -> bool {
-        holds(self.predicate, &Seen::stored(stored))
+    fn passes(&self, stored: &StoredRecord) -> bool {
+        holds(self.predicate, &EntryView::stored(stored))
     }
 }

@@ -9,10 +9,10 @@ use crate::change::{Applied, Change};
 use crate::checks::{
     check_create, check_move, check_remove, check_remove_attr, check_set_attr, check_write,
 };
-use crate::seen::{Seen, record_of};
+use crate::entry_view::{EntryView, record_of};
 use crate::volume::Volume;
 use lq_value::Refusal;
-use lq_volume_entries::{Stored, records_are_kept};
+use lq_volume_entries::{StoredRecord, records_are_kept};
 use std::marker::Model;
 
 /// A change that a volume accepts, with the entries that it touches, each looked up once.
@@ -21,11 +21,13 @@ use std::marker::Model;
 /// there. It borrows the volume and the change. No call here takes memory.
 #[derive(Drop)]
 pub struct Planned<'a> {
+    // For contracts alone, which see the state before the change.
     volume: &'a Volume,
     change: &'a Change,
-    before: Option<Seen<'a>>,
-    after: Option<Seen<'a>>,
-    clobbered: Option<(u64, Seen<'a>)>,
+    applied: Applied,
+    before: Option<EntryView<'a>>,
+    after: Option<EntryView<'a>>,
+    clobbered: Option<(u64, EntryView<'a>)>,
 }
 
 impl<'a> Model for Planned<'a> {
@@ -38,7 +40,8 @@ impl<'a> Model for Planned<'a> {
       change = p.change.now;
     } };
 
-    ghost invariant = { λ p. IsPlanned p.volume.now p.change.now p.before p.after p.clobbered };
+    ghost invariant = { λ p.
+        IsPlanned p.volume.now p.change.now p.applied p.before p.after p.clobbered };
 }
 
 impl Volume {
@@ -57,11 +60,12 @@ impl Volume {
         Ok(Planned {
             volume: self,
             change,
-            before: found.stored.map(Seen::stored),
-            after: seen_after(self, change, found.stored),
+            applied: self.applied_by(change),
+            before: found.stored.map(EntryView::stored),
+            after: view_after(self, change, found.stored),
             clobbered: found
                 .other
-                .map(|(node, stored)| (node, Seen::stored(stored))),
+                .map(|(node, stored)| (node, EntryView::stored(stored))),
         })
     }
 }
@@ -78,10 +82,7 @@ impl<'a> Planned<'a> {
         ensures lawful { IsLawful self.now.before self.now.change }
         ensures volume { IsVolume self.now.before }
     {
-        Applied {
-            change: self.volume.changes() + 1,
-            node: self.volume.node_of(self.change),
-        }
+        self.applied
     }
 
     /// The change.
@@ -92,7 +93,7 @@ impl<'a> Planned<'a> {
     }
 
     /// The entry of the change's own node before the change; `None` where the change creates it.
-    pub fn seen_before(&self) -> Option<&Seen<'a>>
+    pub fn entry_before(&self) -> Option<&EntryView<'a>>
         ensures { option_copied result
             ≡ record_at self.now.before (node_of self.now.before self.now.change) }
     {
@@ -100,7 +101,7 @@ impl<'a> Planned<'a> {
     }
 
     /// The entry of the change's own node after the change; `None` where the change removes it.
-    pub fn seen_after(&self) -> Option<&Seen<'a>>
+    pub fn entry_after(&self) -> Option<&EntryView<'a>>
         ensures { option_copied result ≡ record_at (after self.now.before self.now.change)
             (node_of self.now.before self.now.change) }
     {
@@ -109,13 +110,13 @@ impl<'a> Planned<'a> {
     }
 
     /// The other node that a move removes, and its entry.
-    pub fn clobbered(&self) -> Option<(u64, &Seen<'a>)>
+    pub fn clobbered(&self) -> Option<(u64, &EntryView<'a>)>
         ensures node { option_map (λ e. e.0) result ≡ clobbered self.now.before self.now.change }
         ensures entry { IfSome result (λ e. record_at self.now.before e.0 ≡ Some e.1.now) }
     {
         match &self.clobbered {
             None => None,
-            Some((node, seen)) => Some((*node, seen)),
+            Some((node, view)) => Some((*node, view)),
         }
     }
 }
@@ -124,8 +125,8 @@ impl<'a> Planned<'a> {
 // place of a move, with its record.
 #[derive(Drop)]
 pub struct Found<'a> {
-    pub stored: Option<&'a Stored>,
-    pub other: Option<(u64, &'a Stored)>,
+    pub stored: Option<&'a StoredRecord>,
+    pub other: Option<(u64, &'a StoredRecord)>,
 }
 
 // Checks a change, and gives what that finds.
@@ -167,11 +168,11 @@ fn found_by<'a>(volume: &'a Volume, change: &'a Change) -> Result<Found<'a>, Ref
 }
 
 // The entry of the change's own node after the change.
-fn seen_after<'a>(
+fn view_after<'a>(
     volume: &Volume,
     change: &'a Change,
-    stored: Option<&'a Stored>,
-) -> Option<Seen<'a>>
+    stored: Option<&'a StoredRecord>,
+) -> Option<EntryView<'a>>
     requires volume { IsVolume volume.now }
     requires lawful { IsLawful volume.now change.now }
     requires stored { option_copied stored
@@ -181,11 +182,11 @@ fn seen_after<'a>(
     match change {
         Change::Remove { .. } => None,
         Change::Create { dir, name, .. } | Change::Move { dir, name, .. } => {
-            Some(Seen::changed(*dir, name, stored, change))
+            Some(EntryView::changed(*dir, name, stored, change))
         }
         Change::Write { .. } | Change::SetAttr { .. } | Change::RemoveAttr { .. } => {
             let record = record_of(stored);
-            Some(Seen::changed(record.dir(), record.name(), stored, change))
+            Some(EntryView::changed(record.dir(), record.name(), stored, change))
         }
     }
 }

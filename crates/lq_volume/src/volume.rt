@@ -4,7 +4,7 @@ ghost use Rattle.std.specs.Prelude.{◌≡◌, ◌≤◌, ◌+◌, Some, None, I
 use crate::change::{Applied, Change};
 use crate::laws::accepted_changes_keep_trees;
 use lq_value::{Kind, Name, Refusal};
-use lq_volume_entries::{Entries, Stored, records_are_kept};
+use lq_volume_entries::{Entries, StoredRecord, records_are_kept};
 use std::alloc::Global;
 use std::marker::Model;
 
@@ -145,10 +145,7 @@ impl Volume {
     {
         accepted_changes_keep_trees();
         records_are_kept();
-        let applied = Applied {
-            change: self.changes + 1,
-            node: self.node_of(change),
-        };
+        let applied = self.applied_by(change);
         match change {
             Change::Create {
                 dir,
@@ -157,7 +154,7 @@ impl Volume {
                 size,
                 time,
             } => {
-                let record = Stored::new(
+                let record = StoredRecord::new(
                     self.alloc,
                     *dir,
                     name.copy(self.alloc)?,
@@ -176,7 +173,7 @@ impl Volume {
                 ..
             } => {
                 let other = self.other_at(*node, *dir, name);
-                self.entries.shift(*node, *dir, name, other)?;
+                self.entries.move_entry(*node, *dir, name, other)?;
             }
             Change::Write { node, size, time } => self.entries.write(*node, *size, *time),
             Change::SetAttr { node, attr, value } => self.entries.set_attr(*node, attr, value)?,
@@ -200,17 +197,25 @@ impl Volume {
         })
     }
 
-    /// The node that an accepted change creates or names.
-    pub(crate) fn node_of(&self, change: &Change) -> u64
-        ensures { result ≡ node_of self.now change.now }
+    /// What an accepted change answers: its number, and the node that it creates or names.
+    #[inline]
+    pub(crate) fn applied_by(&self, change: &Change) -> Applied
+        ensures { result ≡ record {
+          change = self.now.number + 1;
+          node = node_of self.now change.now;
+        } }
     {
-        match change {
+        let node = match change {
             Change::Create { .. } => self.next,
             Change::Remove { node }
             | Change::Move { node, .. }
             | Change::Write { node, .. }
             | Change::SetAttr { node, .. }
             | Change::RemoveAttr { node, .. } => *node,
+        };
+        Applied {
+            change: self.changes + 1,
+            node,
         }
     }
 

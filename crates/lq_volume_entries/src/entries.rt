@@ -6,7 +6,7 @@ ghost use Rattle.std.specs.Option.{option_copied};
 ghost use Rattle.lq_value.specs.Refusal.{IsRefusedBy};
 
 use crate::records::Records;
-use crate::stored::Stored;
+use crate::stored_record::StoredRecord;
 use crate::test::Test;
 use lq_value::{AttrName, Entry, Name, Refusal, Value};
 use lq_volume_places::Places;
@@ -66,7 +66,7 @@ impl Entries {
     }
 
     /// The record of a node.
-    pub fn get(&self, node: u64) -> Option<&Stored>
+    pub fn get(&self, node: u64) -> Option<&StoredRecord>
         ensures { option_copied result ≡ lookup (nat_eq node) self.now }
     {
         self.records.get(node)
@@ -122,7 +122,7 @@ impl Entries {
     }
 
     /// Adds a record under a node above all others, at a free place. Refused: `NoMemory`.
-    pub fn add(&mut self, node: u64, stored: Stored) -> Result<(), Refusal>
+    pub fn add(&mut self, node: u64, stored: StoredRecord) -> Result<(), Refusal>
         requires last { AllByRecursion (λ e. e.0 < node) self.old }
         requires free { node_in self.old stored.dir stored.name ≡ None }
         ensures refused { IsRefusedBy result None }
@@ -157,7 +157,7 @@ impl Entries {
     }
 
     /// Moves a node to another place and removes the other node there, if any. Refused: `NoMemory`.
-    pub fn shift(
+    pub fn move_entry(
         &mut self,
         node: u64,
         dir: u64,

@@ -9,7 +9,7 @@ ghost use Rattle.lq_volume_entries.specs.Order.{shown_pair};
 ghost use Rattle.lq_volume_entries.specs.Record.{entry_of};
 
 use crate::node_hash::NodeHashes;
-use crate::stored::Stored;
+use crate::stored_record::StoredRecord;
 use crate::test::Test;
 use indexmap::IndexMap;
 use lq_value::{AttrName, Entry, Name, Refusal, Value};
@@ -22,7 +22,7 @@ use std::marker::Model;
 /// except when the map grows. Contracts see a list by rising node.
 #[derive(Debug, Drop)]
 pub struct Records {
-    stored: IndexMap<u64, Stored, NodeHashes>,
+    stored: IndexMap<u64, StoredRecord, NodeHashes>,
 }
 
 impl Model for Records {
@@ -53,7 +53,7 @@ impl Records {
     }
 
     /// The record of a node.
-    pub fn get(&self, node: u64) -> Option<&Stored>
+    pub fn get(&self, node: u64) -> Option<&StoredRecord>
         ensures record { option_copied result ≡ lookup (nat_eq node) self.now }
         ensures rise { Rises self.now }
     {
@@ -166,7 +166,7 @@ impl Records {
     }
 
     /// The records with their nodes, by rising node. Refused: `NoMemory`.
-    pub fn in_order(&self, alloc: Global) -> Result<Vec<(u64, &Stored)>, Refusal>
+    pub fn in_order(&self, alloc: Global) -> Result<Vec<(u64, &StoredRecord)>, Refusal>
         ensures refused { IsRefusedBy result None }
         ensures records { IfOk result (λ records. map shown_pair records.items ≡ self.now) }
         ensures rise { Rises self.now }
@@ -189,7 +189,7 @@ impl Records {
     }
 
     /// Adds a record under a node above all others, or gives it back where there is no memory.
-    pub fn add(&mut self, node: u64, stored: Stored) -> Result<(), Stored>
+    pub fn add(&mut self, node: u64, stored: StoredRecord) -> Result<(), StoredRecord>
         requires { AllByRecursion (λ e. e.0 < node) self.old }
         ensures ok { OnOk result (self.new ≡ self.old ++ (node, stored) ∷ []) }
         ensures err { OnErr result (self.new ≡ self.old) }
@@ -202,7 +202,7 @@ impl Records {
     }
 
     /// Removes a node's record, and gives it.
-    pub fn remove(&mut self, node: u64) -> Option<Stored>
+    pub fn remove(&mut self, node: u64) -> Option<StoredRecord>
         ensures record { result ≡ lookup (nat_eq node) self.old }
         ensures rise { Rises self.old }
         ensures left { self.new ≡ filter (λ e. not (e.0 == node)) self.old }
@@ -262,9 +262,9 @@ impl Records {
 
 // The nodes and records of a map, in its order. Refused: `NoMemory`.
 fn pairs_of(
-    stored: &IndexMap<u64, Stored, NodeHashes>,
+    stored: &IndexMap<u64, StoredRecord, NodeHashes>,
     alloc: Global,
-) -> Result<Vec<(u64, &Stored)>, Refusal>
+) -> Result<Vec<(u64, &StoredRecord)>, Refusal>
     ensures refused { IsRefusedBy result None }
     ensures pairs { IfOk result (λ pairs. map shown_pair pairs.items ≡ stored.now.entries) }
     ensures own { IsDistinct nat_eq (keys_of stored.now.entries) }
@@ -278,7 +278,7 @@ fn pairs_of(
 
 // The entries of a map whose records pass the test, in its order. Refused: `NoMemory`.
 fn finds_in<T: Test>(
-    stored: &IndexMap<u64, Stored, NodeHashes>,
+    stored: &IndexMap<u64, StoredRecord, NodeHashes>,
     alloc: Global,
     test: &T,
 ) -> Result<Vec<Entry>, Refusal>

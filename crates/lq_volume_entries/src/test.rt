@@ -2,7 +2,7 @@
 ghost use Rattle.std.specs.Prelude.{◌≡◌, Bool};
 ghost use Rattle.lq_volume_entries.specs.Record.{Record};
 
-use crate::stored::Stored;
+use crate::stored_record::StoredRecord;
 
 /// A test that each record passes or fails.
 pub trait Test {
@@ -10,6 +10,6 @@ pub trait Test {
     ghost picks: { Self → Record → Bool };
 
     /// Whether a record passes. It takes no memory.
-    fn passes(&self, stored: &Stored) -> bool
+    fn passes(&self, stored: &StoredRecord) -> bool
         ensures { result ≡ picks self.now stored.now };
 }

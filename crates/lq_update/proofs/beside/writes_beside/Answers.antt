@@ -18,22 +18,22 @@ returns-then-is_beside_sizes c q moved seq is spans_are =
     let s = c.args.planned.now.before in
     let change = c.args.planned.now.change in
     let node = node_of s change in
-    let seen = c.in-Some.seen.now in
+    let view = c.in-Some.view.now in
     let size = c.in-Write.size in
     let time = c.in-Write.time in
     let write : change ≡ Write c.in-Write.node size time = cc in
-    let there : record_at s node ≡ Some seen =
-    sym c.seen_before.ensures ∙ ap option_copied c.in-Some.is in
-    let here : record_at s c.in-Write.node ≡ Some seen =
+    let there : record_at s node ≡ Some view =
+    sym c.entry_before.ensures ∙ ap option_copied c.in-Some.is in
+    let here : record_at s c.in-Write.node ≡ Some view =
     ap (λ d. record_at s (node_of s d)) (sym write) ∙ there in
-    let sizes : is_beside (span_of (codes "size") q) (pos seen.size) (pos size) ≡ true =
-    ap (λ (x : Spans). is_beside x.sizes (pos seen.size) (pos size)) (sym spans_are)
+    let sizes : is_beside (span_of (codes "size") q) (pos view.size) (pos size) ≡ true =
+    ap (λ (x : Spans). is_beside x.sizes (pos view.size) (pos size)) (sym spans_are)
     ∙ ap (λ n. is_beside c.args.spans.now.sizes (pos n) (pos size)) (sym c.size.ensures)
     ∙ sym c.is_beside_sizes.ensures ∙ c.if-is_beside_sizes.true in
     let from_fits : FitsSigned w64 c.time.result = search rules in
     let to_fits : FitsSigned w64 time = search rules in
-    let times : is_beside (span_of (codes "last_modified") q) seen.time time ≡ true =
-    ap (λ (x : Spans). is_beside x.times seen.time time) (sym spans_are)
+    let times : is_beside (span_of (codes "last_modified") q) view.time time ≡ true =
+    ap (λ (x : Spans). is_beside x.times view.time time) (sym spans_are)
     ∙ ap (λ t. is_beside c.args.spans.now.times t time) (sym c.time.ensures)
     ∙ sym (ap (λ t. is_beside c.args.spans.now.times t time)
     (to_z-of_z w64 c.time.result from_fits))
@@ -42,7 +42,7 @@ returns-then-is_beside_sizes c q moved seq is spans_are =
     ∙ sym c.is_beside_times.ensures ∙ is in
     let same : match_at q (after s change) node ≡ match_at q s node =
     ap (λ d. match_at q (after s d) (node_of s d)) write
-    ∙ match-written c.truth_stays_beside_spans.ensures q s seen c.in-Write.node size time here
+    ∙ match-written c.truth_stays_beside_spans.ensures q s view c.in-Write.node size time here
     sizes times
     ∙ sym (ap (λ d. match_at q s (node_of s d)) write) in
     let left_is : left_at q s (after s change) node ≡ None =

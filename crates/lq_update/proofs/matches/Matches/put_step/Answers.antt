@@ -13,12 +13,12 @@ returns-in-Some-None-None-clause-ok c =
     let q = c.args.self.now.predicate.now in
     let node = node_of s change in
     let made = c.applied-made.result in
-    let seen = c.in-Some-None-None.left in
+    let view = c.in-Some-None-None.left in
     let volume = c.applied-made.ensures.volume in
     let lawful = c.applied-made.ensures.lawful in
-    let at_node : Some (entry_of (node, seen.now)) ≡ Some (entry_of (made.node, seen.now)) =
-    ap (λ n. Some (entry_of (n, seen.now))) (sym (ap (λ m. m.node) c.applied-made.ensures.value)) in
-    let left_is : left_at q s (after s change) node ≡ Some (entry_of (made.node, seen.now)) =
+    let at_node : Some (entry_of (node, view.now)) ≡ Some (entry_of (made.node, view.now)) =
+    ap (λ n. Some (entry_of (n, view.now))) (sym (ap (λ m. m.node) c.applied-made.ensures.value)) in
+    let left_is : left_at q s (after s change) node ≡ Some (entry_of (made.node, view.now)) =
     sym c.difference.ensures.removed
     ∙ ap (λ o. entry_at node (option_copied o)) c.in-Some-None-None.is-0 ∙ at_node in
     let came_is : left_at q (after s change) s node ≡ None =
@@ -40,15 +40,15 @@ returns-in-None-Some-None-clause-ok c =
     let q = c.args.self.now.predicate.now in
     let node = node_of s change in
     let made = c.applied-made.result in
-    let seen = c.in-None-Some-None.came in
+    let view = c.in-None-Some-None.came in
     let volume = c.applied-made.ensures.volume in
     let lawful = c.applied-made.ensures.lawful in
-    let at_node : Some (entry_of (node, seen.now)) ≡ Some (entry_of (made.node, seen.now)) =
-    ap (λ n. Some (entry_of (n, seen.now))) (sym (ap (λ m. m.node) c.applied-made.ensures.value)) in
+    let at_node : Some (entry_of (node, view.now)) ≡ Some (entry_of (made.node, view.now)) =
+    ap (λ n. Some (entry_of (n, view.now))) (sym (ap (λ m. m.node) c.applied-made.ensures.value)) in
     let left_is : left_at q s (after s change) node ≡ None =
     sym c.difference.ensures.removed
     ∙ ap (λ o. entry_at node (option_copied o)) c.in-None-Some-None.is-0 in
-    let came_is : left_at q (after s change) s node ≡ Some (entry_of (made.node, seen.now)) =
+    let came_is : left_at q (after s change) s node ≡ Some (entry_of (made.node, view.now)) =
     sym c.difference.ensures.created
     ∙ ap (λ o. entry_at node (option_copied o)) c.in-None-Some-None.is-1 ∙ at_node in
     let none : clobbered s change ≡ None = sym c.clobbered.ensures.node

@@ -8,7 +8,7 @@ use Rattle.lq_volume.specs.declared.change.Change.TheVariants.{Create, Remove, M
 use Rattle.lq_volume.proofs.Fits.{number-fits, next-fits}
 use Rattle.lq_volume.proofs.Keeps.{can-move, free-create}
 use Rattle.lq_volume.proofs.volume.Volume.make.Goals as goal
-use Rattle.lq_volume.proofs.volume.Volume.make.Goals.{in-Create+in_ok-copy-in-Create+in_ok-add-in-Create, in-Remove, in-Move+in_ok-shift-in-Move, in-Write, in-SetAttr+in_ok-set_attr-in-SetAttr, in-RemoveAttr}
+use Rattle.lq_volume.proofs.volume.Volume.make.Goals.{in-Create+in_ok-copy-in-Create+in_ok-add-in-Create, in-Remove, in-Move+in_ok-move_entry-in-Move, in-Write, in-SetAttr+in_ok-set_attr-in-SetAttr, in-RemoveAttr}
 
 pub add-requires-clause-free : goal.add-requires-clause-free
 add-requires-clause-free c =
@@ -31,8 +31,8 @@ add-requires-clause-free c =
     rw (c.new-record.ensures, c.in_ok-copy-in-Create.ensures.value)
     (free-create s new (rw c.in-Create.is at may))
 
-pub shift-requires : goal.shift-requires
-shift-requires c =
+pub move_entry-requires : goal.move_entry-requires
+move_entry-requires c =
     let may = subst (λ (s : State). refused s c.args.change.now ≡ None)
     (sym c.self.view_is) c.requires in
     rw (c.other_at-other.ensures, ← c.self.view_is)
@@ -54,9 +54,9 @@ invariant_of-self-2 c =
           (keeps _ (Create _ _ _ _ _) c.self.invariant (rw w.in-Create.is at may))
       | in-Remove w ↦ rw (w.self-inside-is, w.remove.ensures)
           (keeps _ (Remove _) c.self.invariant (rw w.in-Remove.is at may))
-      | in-Move+in_ok-shift-in-Move w ↦ rw (
+      | in-Move+in_ok-move_entry-in-Move w ↦ rw (
         w.self-inside-is,
-        w.in_ok-shift-in-Move.ensures.ok,
+        w.in_ok-move_entry-in-Move.ensures.ok,
         w.other_at-other.ensures,
         ← c.self.view_is,
       )
@@ -75,12 +75,9 @@ invariant_of-self-2 c =
 pub invariant_of-self : goal.invariant_of-self
 invariant_of-self c = rw c.in_err-add-in-Create.ensures.err c.self.invariant
 
-pub invariant_of-self-in_err-shift-in-Move : goal.invariant_of-self-in_err-shift-in-Move
-invariant_of-self-in_err-shift-in-Move c =
-    rw c.in_err-shift-in-Move.ensures.err c.self.invariant
-
-pub overflow_add-applied : goal.overflow_add-applied
-overflow_add-applied c = number-fits _ c.self.invariant.numbered
+pub invariant_of-self-in_err-move_entry-in-Move : goal.invariant_of-self-in_err-move_entry-in-Move
+invariant_of-self-in_err-move_entry-in-Move c =
+    rw c.in_err-move_entry-in-Move.ensures.err c.self.invariant
 
 pub overflow_add-self : goal.overflow_add-self
 overflow_add-self c = next-fits _ c.self.invariant.numbered
@@ -92,14 +89,14 @@ overflow_add-self-2 c =
     elim c.match-change.branch [
       | in-Create+in_ok-copy-in-Create+in_ok-add-in-Create w ↦ rw w.self-inside-is fits
       | in-Remove w ↦ rw w.self-inside-is fits
-      | in-Move+in_ok-shift-in-Move w ↦ rw w.self-inside-is fits
+      | in-Move+in_ok-move_entry-in-Move w ↦ rw w.self-inside-is fits
       | in-Write w ↦ rw w.self-inside-is fits
       | in-SetAttr+in_ok-set_attr-in-SetAttr w ↦ rw w.self-inside-is fits
       | in-RemoveAttr w ↦ rw w.self-inside-is fits
     ]
 
 pub returns-clause-value : goal.returns-clause-value
-returns-clause-value c = rw (c.node_of.ensures, ← c.self.view_is) refl
+returns-clause-value c = rw (c.applied_by-applied.ensures, ← c.self.view_is) refl
 
 pub returns-clause-ok : goal.returns-clause-ok
 returns-clause-ok c =
@@ -126,9 +123,9 @@ returns-clause-ok c =
       | in-Remove w ↦
           rw (w.self-inside-is, w.remove.ensures, w.in-Remove.is, ← c.self.view_is)
           (refl {a = after s (Remove w.in-Remove.node)})
-      | in-Move+in_ok-shift-in-Move w ↦ rw (
+      | in-Move+in_ok-move_entry-in-Move w ↦ rw (
         w.self-inside-is,
-        w.in_ok-shift-in-Move.ensures.ok,
+        w.in_ok-move_entry-in-Move.ensures.ok,
         w.other_at-other.ensures,
         w.in-Move.is,
         ← c.self.view_is,

@@ -10,7 +10,7 @@ use std::marker::Model;
 
 /// An entry as it is stored under its node. Its size fits into an `i64`.
 #[derive(Debug)]
-pub struct Stored {
+pub struct StoredRecord {
     dir: u64,
     name: Name,
     kind: Kind,
@@ -20,9 +20,9 @@ pub struct Stored {
 }
 
 // Dropping one is a single call, instead of code at each place.
-impl Drop for Stored {
+impl Drop for StoredRecord {
     fn drop(self) {
-        let Stored {
+        let StoredRecord {
             dir: _,
             name: _,
             kind: _,
@@ -33,7 +33,7 @@ impl Drop for Stored {
     }
 }
 
-impl Model for Stored {
+impl Model for StoredRecord {
     ghost use Rattle.std.specs.Prelude.{◌<◌, ◌^◌};
     ghost use Rattle.lq_volume_entries.specs.Record.{Record};
 
@@ -51,13 +51,20 @@ impl Model for Stored {
     ghost invariant = { λ r. r.size < 2 ^ 63 };
 }
 
-impl Stored {
+impl StoredRecord {
     ghost use Rattle.lq_volume_entries.specs.Kind.{is_folder};
     ghost use Rattle.lq_volume_entries.specs.Record.{Record, entry_of};
     ghost use Rattle.lq_volume_entries.specs.Edits.{at_place, written, set_attr, remove_attr};
 
     /// A record without attributes.
-    pub fn new(alloc: Global, dir: u64, name: Name, kind: Kind, size: u64, time: i64) -> Stored
+    pub fn new(
+        alloc: Global,
+        dir: u64,
+        name: Name,
+        kind: Kind,
+        size: u64,
+        time: i64,
+    ) -> StoredRecord
         requires { size < 2 ^ 63 }
         ensures { result ≡ record {
           dir = dir;
@@ -68,7 +75,7 @@ impl Stored {
           attrs = [];
         } }
     {
-        Stored {
+        StoredRecord {
             dir,
             name,
             kind,
@@ -182,11 +189,11 @@ impl Stored {
     }
 
     /// A copy of the record. Refused: `NoMemory`.
-    pub fn copy(&self, alloc: Global) -> Result<Stored, Refusal>
+    pub fn copy(&self, alloc: Global) -> Result<StoredRecord, Refusal>
         ensures refused { IsRefusedBy result None }
         ensures value { IfOk result (λ copy. copy ≡ self.now) }
     {
-        Ok(Stored {
+        Ok(StoredRecord {
             dir: self.dir,
             name: self.name.copy(alloc)?,
             kind: self.kind,

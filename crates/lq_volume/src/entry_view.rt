@@ -3,13 +3,13 @@ ghost use Rattle.std.specs.Prelude.{◌≡◌, ◌<◌, ◌^◌, Some, None, IfO
 ghost use Rattle.std.specs.Option.{option_copied};
 ghost use Rattle.lq_value.specs.Refusal.{IsRefusedBy};
 ghost use Rattle.lq_volume_attributes.specs.Attributes.{value_of};
-ghost use Rattle.lq_volume.specs.Seen.{seen_of, IsSeen};
+ghost use Rattle.lq_volume.specs.EntryView.{view_of, IsEntryView};
 
 use crate::change::Change;
 use lq_predicate::Row;
 use lq_value::{AttrName, Entry, Field, Name, Refusal, Value, View, same_text};
 use lq_volume_attributes::values_are_found;
-use lq_volume_entries::Stored;
+use lq_volume_entries::StoredRecord;
 use std::alloc::Global;
 use std::marker::Model;
 
@@ -18,38 +18,38 @@ use std::marker::Model;
 /// What it shows beside its place is in the change, where that says it, else in the record.
 /// Contracts see it as its `Record`. Its size fits into an `i64`.
 #[derive(Drop)]
-pub struct Seen<'a> {
+pub struct EntryView<'a> {
     dir: u64,
     name: &'a Name,
     // The entry's record; none where the change creates the entry.
-    stored: Option<&'a Stored>,
+    stored: Option<&'a StoredRecord>,
     // The change; none where the entry is seen as it is.
     change: Option<&'a Change>,
 }
 
-impl<'a> Model for Seen<'a> {
+impl<'a> Model for EntryView<'a> {
     ghost use Rattle.lq_volume.specs.Change.{at_place};
-    ghost use Rattle.lq_volume.specs.Seen.{seen_of, IsSeen};
+    ghost use Rattle.lq_volume.specs.EntryView.{view_of, IsEntryView};
     ghost use Rattle.lq_volume.specs.State.{Record};
 
     ghost Value = { Record };
 
-    ghost view = { λ s. at_place s.dir s.name.now (seen_of s.stored s.change) };
+    ghost view = { λ v. at_place v.dir v.name.now (view_of v.stored v.change) };
 
-    ghost invariant = { λ s. IsSeen s.stored s.change };
+    ghost invariant = { λ v. IsEntryView v.stored v.change };
 }
 
-impl<'a> Seen<'a> {
+impl<'a> EntryView<'a> {
     ghost use Rattle.lq_volume_attributes.specs.Attributes.{value_of};
     ghost use Rattle.lq_volume.specs.Change.{at_place};
     ghost use Rattle.lq_volume.specs.Result.{entry_of};
-    ghost use Rattle.lq_volume.specs.Seen.{has_same_place, seen_of, IsSeen};
+    ghost use Rattle.lq_volume.specs.EntryView.{has_same_place, view_of, IsEntryView};
 
     /// An entry as it is.
-    pub(crate) fn stored(stored: &'a Stored) -> Seen<'a>
+    pub(crate) fn stored(stored: &'a StoredRecord) -> EntryView<'a>
         ensures { result ≡ stored.now }
     {
-        Seen {
+        EntryView {
             dir: stored.dir(),
             name: stored.name(),
             stored: Some(stored),
@@ -62,13 +62,13 @@ impl<'a> Seen<'a> {
     pub(crate) fn changed(
         dir: u64,
         name: &'a Name,
-        stored: Option<&'a Stored>,
+        stored: Option<&'a StoredRecord>,
         change: &'a Change,
-    ) -> Seen<'a>
-        requires { IsSeen stored (Some change) }
-        ensures { result ≡ at_place dir name.now (seen_of stored.entry (Some change.entry)) }
+    ) -> EntryView<'a>
+        requires { IsEntryView stored (Some change) }
+        ensures { result ≡ at_place dir name.now (view_of stored.entry (Some change.entry)) }
     {
-        Seen {
+        EntryView {
             dir,
             name,
             stored,
@@ -105,7 +105,7 @@ impl<'a> Seen<'a> {
     }
 
     /// Whether another entry has the same place: the same folder and name. It takes no memory.
-    pub fn shares_place(&self, other: &Seen<'_>) -> bool
+    pub fn shares_place(&self, other: &EntryView<'_>) -> bool
         ensures { result ≡ has_same_place self.now other.now }
     {
         self.dir == other.dir && *self.name == *other.name
@@ -149,7 +149,7 @@ impl<'a> Seen<'a> {
 }
 
 // The record of an entry that no change creates.
-pub(crate) fn record_of<'a>(stored: Option<&'a Stored>) -> &'a Stored
+pub(crate) fn record_of<'a>(stored: Option<&'a StoredRecord>) -> &'a StoredRecord
     requires { IsSome stored }
     ensures { stored.entry ≡ Some result }
 {
@@ -159,7 +159,7 @@ pub(crate) fn record_of<'a>(stored: Option<&'a Stored>) -> &'a Stored
     }
 }
 
-impl<'a> Row for Seen<'a> {
+impl<'a> Row for EntryView<'a> {
     ghost use Rattle.lq_volume.specs.Result.{shown};
 
     ghost looks = { shown };

@@ -4,8 +4,8 @@ use Rattle.lq_volume_entries.specs.Record.{Record}
 use Rattle.lq_volume_entries.specs.Places.{CanMove}
 use Rattle.lq_volume_entries.proofs.IndexLemmas.{index-same}
 use Rattle.lq_volume_entries.proofs.IndexMoves.{index-moved, index-stays}
-use Rattle.lq_volume_entries.proofs.entries.Entries.shift.Goals as goal
-use Rattle.lq_volume_entries.proofs.entries.Entries.shift.Goals.{in-Some+then-not-is_at+in_ok-put, in-Some+else-not-is_at, in_default}
+use Rattle.lq_volume_entries.proofs.entries.Entries.move_entry.Goals as goal
+use Rattle.lq_volume_entries.proofs.entries.Entries.move_entry.Goals.{in-Some+then-not-is_at+in_ok-put, in-Some+else-not-is_at, in_default}
 
 pub invariant_of-self-2 : goal.invariant_of-self-2
 invariant_of-self-2 c =

@@ -27,9 +27,9 @@ no_record = record { dir = 0; name = []; kind = File; size = 0; time = pos 0; at
 abbrev pub record_before : Option (Bor Record) → Record
 record_before stored = option_map_or (λ r. r.now) stored no_record
 
--- what is seen of an entry: its record, as it is or as a change leaves it
-abbrev pub seen_of : Option (Bor Record) → Option (Bor Change) → Record
-seen_of stored change =
+-- what a view of an entry shows: its record, as it is or as a change leaves it
+abbrev pub view_of : Option (Bor Record) → Option (Bor Change) → Record
+view_of stored change =
     option_map_or (λ c. changed_record c.now) change (λ r. r) (record_before stored)
 
 -- whether the change creates an entry
@@ -51,7 +51,7 @@ size_given (SetAttr node attr value) = 0
 size_given (RemoveAttr node attr) = 0
 
 -- the entry has a record or the change creates it, and its size fits into an i64
-pub record IsSeen (stored : Option (Bor Record)) (change : Option (Bor Change)) : Type 0 where
+pub record IsEntryView (stored : Option (Bor Record)) (change : Option (Bor Change)) : Type 0 where
   pub there : (is_some stored || option_map_or (λ c. creates c.now) change false) ≡ true
   pub fits : option_map_or (λ c. size_given c.now) change 0 < 2 ^ 63
 
