@@ -18,7 +18,7 @@ use Rattle.lq_desk_sub.specs.declared.read.Read.{Read}
 use Rattle.lq_server_subscription.specs.declared.delivery.Delivery.{Delivery}
 use Rattle.lq_server_subscription.specs.declared.delivery.Opening.{Opening}
 use Rattle.lq_server_subscription.specs.declared.identity.Identity.{Identity}
-use Rattle.lq_server_subscription.specs.declared.identity.Shut.{Shut}
+use Rattle.lq_server_subscription.specs.declared.identity.FirstClose.{FirstClose}
 use Rattle.lq_server_subscription.specs.Identity.{port_id}
 use Rattle.lq_server_subscription.specs.Rule.{query_of, whole}
 use Rattle.lq_server_subscription.specs.Reading.{ReadingHold, Gives, Fails, IsTold, known, received, is_marked}
@@ -120,13 +120,14 @@ own_reads r reading port own = record {
 }
 
 -- a reader whose seat's name tells of a close stays own
-pub own_closed : (r : ReaderHold) (seat : SeatToken Identity) (book : Book) (shut : Shut)
+pub own_closed : (r : ReaderHold) (seat : SeatToken Identity) (book : Book)
+    (first_close : FirstClose)
     → seat ≡ record r.seat { book = book; name = seat.name }
-    → seat.name ≡ Some (record (name_or r.seat.name) { shut = shut })
+    → seat.name ≡ Some (record (name_or r.seat.name) { first_close = first_close })
     → IsOwn r → IsOwn (record r { seat = seat })
-own_closed r seat book shut same name own =
+own_closed r seat book first_close same name own =
     let n = and_name r.seat.name (IsNameOf r) own.name in
-    let named : IsNameOf r (record (name_or r.seat.name) { shut = shut }) = (
+    let named : IsNameOf r (record (name_or r.seat.name) { first_close = first_close }) = (
       record {
         query = n.0.query;
         moved = n.0.moved;
@@ -158,7 +159,7 @@ closed_answer r seat (Some n) own closed = record {
   later = closed.later;
   put = closed.put;
   seat = closed.seat;
-  shut = closed.name;
+  first_close = closed.name;
   rest = refl;
 }
 closed_answer r seat None own closed = record {
@@ -170,7 +171,7 @@ closed_answer r seat None own closed = record {
   later = closed.later;
   put = closed.put;
   seat = closed.seat;
-  shut = closed.name;
+  first_close = closed.name;
   rest = refl;
 }
 

@@ -20,8 +20,8 @@ use Rattle.lq_port.specs.End.{End}
 use Rattle.lq_server_subscription.specs.declared.delivery.Delivery.{Delivery}
 use Rattle.lq_server_subscription.specs.declared.delivery.Opening.{Opening}
 use Rattle.lq_server_subscription.specs.declared.identity.Identity.{Identity}
-use Rattle.lq_server_subscription.specs.declared.identity.Shut.{Shut}
-use Rattle.lq_server_subscription.specs.declared.identity.Shut.TheVariants.{Never}
+use Rattle.lq_server_subscription.specs.declared.identity.FirstClose.{FirstClose}
+use Rattle.lq_server_subscription.specs.declared.identity.FirstClose.TheVariants.{Never}
 use Rattle.lq_server_subscription.specs.declared.subscription.Subscription.{Subscription}
 use Rattle.lq_server_subscription.specs.Rule.{floor_of, query_of}
 use Rattle.lq_server_subscription.specs.Marking.{hung_mark}
@@ -40,13 +40,13 @@ use Rattle.lq_server_slots.proofs.SyncLemmas.{only_trans}
 pub begun_new : NewSubscriptionsStand → (s : Subscription) (r : ReadingHold) (book : Book)
     (q : Query) (mv : Bool) (port backlog at : ℕ) (g : Opening)
     → s.sub.held ≡ opened_with q mv at backlog
-    → at ≡ length book.changes → s.places ≡ port → s.shut ≡ Never
+    → at ≡ length book.changes → s.places ≡ port → s.first_close ≡ Never
     → s.input.places ≡ port → s.input.floor ≡ g → query_of g ≡ q → g.moved ≡ mv → g.opened ≡ at
     → floor_of g ≡ book → s.input.taken ≡ [] → s.input.ahead ≡ [] → IsFullBook book
     → r.port ≡ s.input → r.hand ≡ None → r.result ≡ opened_at at (result_of q (state_of book))
     → IsBegun s r book q mv port backlog
-begun_new stand s r book q mv port backlog at g held number places shut ports opening_at query moved
-    opened floor taken ahead full end hand result =
+begun_new stand s r book q mv port backlog at g held number places first_close ports opening_at
+    query moved opened floor taken ahead full end hand result =
     let now : s.sub.held ≡ opened_with q mv (length book.changes) backlog = held
     ∙ ap (λ (n : ℕ). opened_with q mv n backlog) number in
     let stands : Stands (opened_with q mv (length book.changes) backlog) s.input s.places Never book
@@ -55,8 +55,8 @@ begun_new stand s r book q mv port backlog at g held number places shut ports op
     (ap query_of opening_at ∙ query) (ap (λ (f : Opening). f.moved) opening_at ∙ moved)
     (ap (λ (f : Opening). f.opened) opening_at ∙ opened ∙ number) (ports ∙ sym places) full in
     record {
-      stands = subst (λ (z : Held × Shut). Stands z.0 s.input s.places z.1 book)
-          (λ i. (sym now i, sym shut i)) stands;
+      stands = subst (λ (z : Held × FirstClose). Stands z.0 s.input s.places z.1 book)
+          (λ i. (sym now i, sym first_close i)) stands;
       messages = ap (λ (h : Held). h.messages) now;
       live = ap (λ (h : Held). h.mark) now;
       query = ap (λ (h : Held). h.query) now;
@@ -64,7 +64,7 @@ begun_new stand s r book q mv port backlog at g held number places shut ports op
       opened = ap (λ (h : Held). h.opened) now;
       backlog_is = ap (λ (h : Held). h.backlog) now;
       places = places;
-      shut = shut;
+      first_close = first_close;
       end = end;
       floor = ap (λ (e : End Delivery Opening). floor_of e.floor) end ∙ ap floor_of opening_at
           ∙ floor;
@@ -87,7 +87,7 @@ begun_own s r book q mv port backlog b = record {
   opened = b.opened;
   backlog_is = refl;
   places = refl;
-  shut = b.shut;
+  first_close = b.first_close;
   end = b.end;
   floor = b.floor;
   taken = b.taken;

@@ -19,7 +19,7 @@ use Rattle.lq_port.specs.End.{End, all_put}
 use Rattle.lq_server_subscription.specs.declared.delivery.Delivery.{Delivery}
 use Rattle.lq_server_subscription.specs.declared.delivery.Opening.{Opening}
 use Rattle.lq_server_subscription.specs.declared.identity.Identity.{Identity}
-use Rattle.lq_server_subscription.specs.declared.identity.Shut.{Shut}
+use Rattle.lq_server_subscription.specs.declared.identity.FirstClose.{FirstClose}
 use Rattle.lq_server_subscription.specs.declared.subscription.Subscription.{Subscription}
 use Rattle.lq_server_subscription.specs.Rule.{message_of, mark_or, messages_in, mark_in}
 use Rattle.lq_server_subscription.specs.Marking.{hung_mark}
@@ -83,21 +83,21 @@ identity_alike s t a = λ i. record {
   places = a.places i;
   backlog = a.held.backlog i;
   asks = a.asks i;
-  shut = a.shut i;
+  first_close = a.first_close i;
   port = port_id (a.port.0 i);
 }
 
 -- and so does a new mark
-pub identity_others : (s t : Subscription) → SameButHeld s t → t.shut ≡ s.shut
+pub identity_others : (s t : Subscription) → SameButHeld s t → t.first_close ≡ s.first_close
     → identity_of t ≡ identity_of s
-identity_others s t a shut = λ i. record {
+identity_others s t a first_close = λ i. record {
   query = a.query i;
   moved = a.moved i;
   opened = a.opened i;
   places = a.places i;
   backlog = a.backlog i;
   asks = a.asks i;
-  shut = shut i;
+  first_close = first_close i;
   port = port_id (a.input i).port;
 }
 
@@ -143,8 +143,8 @@ taken_filled s t p book was stands stuck alike =
 
 -- the keeper knows more of a taken slot's asks, and the subscription may have ended
 pub taken_noticed : (s t : Subscription) (p q : Known Identity) (n : ℕ) (asked : Bool) (book : Book)
-    → IsTaken s p book → StandsAt t book → SameButHeld s t → t.shut ≡ s.shut → t.sub.held.messages ≡
-    s.sub.held.messages
+    → IsTaken s p book → StandsAt t book → SameButHeld s t → t.first_close ≡ s.first_close
+    → t.sub.held.messages ≡ s.sub.held.messages
     → (hung_mark t.sub.held.mark → (asked ≡ true) ⊎ hung_mark s.sub.held.mark)
     → (asked ≡ true → s.asks < n) → p.asks ≤ n → q ≡ record {
       out = p.out;
@@ -152,8 +152,8 @@ pub taken_noticed : (s t : Subscription) (p q : Known Identity) (n : ℕ) (asked
       name =
           p.name;
     } → IsTaken t q book
-taken_noticed s t p q n asked book taken stands others shut messages hung test le is =
-    let identity = identity_others s t others shut in
+taken_noticed s t p q n asked book taken stands others first_close messages hung test le is =
+    let identity = identity_others s t others first_close in
     let asks = others.asks in
     let known : q.asks ≡ n = ap (λ (x : Known Identity). x.asks) is in
     record {
@@ -170,13 +170,13 @@ taken_noticed s t p q n asked book taken stands others shut messages hung test l
 
 -- a taken slot stands on where all that is held, and whether it was closed, stay
 pub taken_alike : (s t : Subscription) (p : Known Identity) (book : Book) → IsTaken s p book
-    → t.sub.held ≡ s.sub.held → SameButHeld s t → t.shut ≡ s.shut → IsTaken t p book
-taken_alike s t p book taken held others shut =
+    → t.sub.held ≡ s.sub.held → SameButHeld s t → t.first_close ≡ s.first_close → IsTaken t p book
+taken_alike s t p book taken held others first_close =
     let mark = ap (λ (h : Held). h.mark) held in
     let stands : StandsAt t book =
-    subst (λ (z : Held × End Delivery Opening × ℕ × Shut). Stands z.0 z.1 z.2 z.3 book)
-    (λ i. (sym held i, sym others.input i, sym others.places i, sym shut i)) taken.stands in
-    taken_noticed s t p p p.asks false book taken stands others shut
+    subst (λ (z : Held × End Delivery Opening × ℕ × FirstClose). Stands z.0 z.1 z.2 z.3 book)
+    (λ i. (sym held i, sym others.input i, sym others.places i, sym first_close i)) taken.stands in
+    taken_noticed s t p p p.asks false book taken stands others first_close
     (ap (λ (h : Held). h.messages) held) (λ h. inr (subst hung_mark mark h))
     (λ e. absurd (true≢false (sym e))) (omega arith) refl
 

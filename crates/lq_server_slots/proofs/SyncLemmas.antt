@@ -13,14 +13,14 @@ use Rattle.lq_port.specs.End.{End, all_put}
 use Rattle.lq_server_subscription.specs.declared.delivery.Delivery.{Delivery}
 use Rattle.lq_server_subscription.specs.declared.delivery.Opening.{Opening}
 use Rattle.lq_server_subscription.specs.declared.identity.Identity.{Identity}
-use Rattle.lq_server_subscription.specs.declared.identity.Shut.{Shut}
-use Rattle.lq_server_subscription.specs.declared.identity.Shut.TheVariants.{Never, At, Late}
+use Rattle.lq_server_subscription.specs.declared.identity.FirstClose.{FirstClose}
+use Rattle.lq_server_subscription.specs.declared.identity.FirstClose.TheVariants.{Never, At, Late}
 use Rattle.lq_server_subscription.specs.declared.subscription.Subscription.{Subscription}
 use Rattle.lq_server_subscription.specs.Rule.{messages_in}
-use Rattle.lq_server_subscription.specs.Marking.{hung_mark, first_close}
+use Rattle.lq_server_subscription.specs.Marking.{hung_mark, after_close}
 use Rattle.lq_server_subscription.specs.Identity.{identity_of, port_id, port_id_inj}
 use Rattle.lq_server_subscription.specs.Reading.{ReadingHold}
-use Rattle.lq_server_subscription.specs.Standing.{StandsAt, IsDrained, SameButPuts, SameButHeld, ShutFits}
+use Rattle.lq_server_subscription.specs.Standing.{StandsAt, IsDrained, SameButPuts, SameButHeld, FirstCloseFits}
 use Rattle.lq_server_slots.specs.Slots.{IsTaken, SlotStands, asks_of, OnlyAt}
 use Rattle.lq_server_slots.specs.Opening.{IdentityFits, asks_after, name_or}
 use Rattle.lq_server_slots.specs.Progress.{ShowsProgress}
@@ -110,11 +110,11 @@ seat_then old mid new b c is same then = then
 
 -- the name after a close, by an equal name before, and an equal number of changes
 pub close_then : (o p q : Option Identity) (asked : Bool) (m n : ℕ) → p ≡ q → m ≡ n
-    → o ≡ Some (record (name_or p) { shut = first_close (name_or p).shut asked m })
-    → o ≡ Some (record (name_or q) { shut = first_close (name_or q).shut asked n })
+    → o ≡ Some (record (name_or p) { first_close = after_close (name_or p).first_close asked m })
+    → o ≡ Some (record (name_or q) { first_close = after_close (name_or q).first_close asked n })
 close_then o p q asked m n same number is = is
     ∙ (λ i. Some (record (name_or (same i)) {
-      shut = first_close (name_or (same i)).shut asked (number i);
+      first_close = after_close (name_or (same i)).first_close asked (number i);
     }))
 
 -- a taken slot stands on once its seat has met the keeper
@@ -163,7 +163,7 @@ taken_closed s t p q n book taken stands others messages hung le is =
 
 -- a close changes what its name says of closes
 pub identity_closed : (s t : Subscription) → SameButHeld s t → identity_of t ≡ record
-    (identity_of s) { shut = t.shut }
+    (identity_of s) { first_close = t.first_close }
 identity_closed s t a = λ i. record {
   query = a.query i;
   moved = a.moved i;
@@ -171,7 +171,7 @@ identity_closed s t a = λ i. record {
   places = a.places i;
   backlog = a.backlog i;
   asks = a.asks i;
-  shut = t.shut;
+  first_close = t.first_close;
   port = port_id (a.input i).port;
 }
 
@@ -217,10 +217,10 @@ shows_from s old mid new d e x book is later l = record {
 }
 
 -- only a subscription that wasn't closed is live
-pub live_never : (u : Shut) (o : Option Mark) → o ≡ None → ShutFits u o → u ≡ Never
-live_never u o e f = at u (subst (ShutFits u) e f)
+pub live_never : (u : FirstClose) (o : Option Mark) → o ≡ None → FirstCloseFits u o → u ≡ Never
+live_never u o e f = at u (subst (FirstCloseFits u) e f)
   where
-    at : (u : Shut) → ShutFits u None → u ≡ Never
+    at : (u : FirstClose) → FirstCloseFits u None → u ≡ Never
     at Never f = refl
     at (At m) f = absurd f
     at Late f = absurd f

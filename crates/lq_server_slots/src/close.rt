@@ -2,8 +2,8 @@
 ghost use Rattle.std.specs.Prelude.{◌≡◌, ◌+◌, ◌<◌, ◌≤◌, ◌≢◌, ℕ, length, IfNone, IsSome, IsSomeAnd, IfSome, is_some, Some, None, true, false};
 ghost use Rattle.lq_volume.specs.Book.{Extends};
 ghost use Rattle.lq_board.specs.Slot.{slot_at};
-ghost use Rattle.lq_server_subscription.specs.declared.identity.Shut.TheVariants.{Never};
-ghost use Rattle.lq_server_subscription.specs.Marking.{first_close};
+ghost use Rattle.lq_server_subscription.specs.declared.identity.FirstClose.TheVariants.{Never};
+ghost use Rattle.lq_server_subscription.specs.Marking.{after_close};
 ghost use Rattle.lq_server_subscription.specs.Identity.{identity_of};
 ghost use Rattle.lq_server_slots.specs.Closing.{IsClosed};
 ghost use Rattle.lq_server_slots.specs.Slots.{IsTaken, SlotStands, SlotsStand, IsPlaceIn, IsDropped, IsPut, place_at, OnlyAt, asks_of, slot_in};
@@ -32,7 +32,7 @@ fn close_slot<R: Wait>(
         ≡ record { out = true; asks = seat.old.asks; name = seat.old.name } }
     requires number { number ≡ length keeper.old.book.changes }
     requires taken { IsTaken slot.old (slot_at keeper.old.slots seat.old.slot) keeper.old.book }
-    ensures closes { result ≡ true → (name_or seat.old.name).shut ≡ Never }
+    ensures closes { result ≡ true → (name_or seat.old.name).first_close ≡ Never }
     ensures late { slot.old.asks < seat.old.asks → result ≡ false }
     ensures put { IsPut slot.new seat.new.name keeper.new.book }
     ensures board { keeper.new.board ≡ keeper.old.board }
@@ -42,7 +42,7 @@ fn close_slot<R: Wait>(
     ensures asks { slot.new.asks ≡ slot.old.asks }
     ensures seat { seat.new ≡ record seat.old { book = keeper.old.book; name = seat.new.name } }
     ensures name { seat.new.name ≡ Some (record (name_or seat.old.name) {
-      shut = first_close (name_or seat.old.name).shut result number;
+      first_close = after_close (name_or seat.old.name).first_close result number;
     }) }
 {
     let place = seat.slot() as usize;
@@ -66,7 +66,7 @@ fn end_slot(
         × (length keeper.old.slots ≡ 65) }
     requires number { number ≡ length keeper.old.book.changes }
     requires taken { IsTaken slot.old (slot_at keeper.old.slots seat.old.slot) keeper.old.book }
-    ensures closes { result ≡ true → (name_or seat.old.name).shut ≡ Never }
+    ensures closes { result ≡ true → (name_or seat.old.name).first_close ≡ Never }
     ensures late { IsSome slot.old.sub.held.mark → result ≡ false }
     ensures board { keeper.new.board ≡ keeper.old.board }
     ensures book { keeper.new.book ≡ keeper.old.book }
@@ -77,7 +77,7 @@ fn end_slot(
     ensures named { seat.new.name ≡ Some (identity_of slot.new) }
     ensures seat { seat.new ≡ record seat.old { book = keeper.old.book; name = seat.new.name } }
     ensures name { seat.new.name ≡ Some (record (name_or seat.old.name) {
-      shut = first_close (name_or seat.old.name).shut result number;
+      first_close = after_close (name_or seat.old.name).first_close result number;
     }) }
 {
     let closed = close(slot, number);

@@ -16,7 +16,7 @@ use lq_desk_sub::{MAX_BACKLOG, Sub};
 use lq_port::{MAX_PLACES, make};
 use lq_predicate::Predicate;
 use lq_server_subscription::{
-    Delivery, Identity, Opening, Reading, Shut, Subscription, new_subscriptions_stand,
+    Delivery, FirstClose, Identity, Opening, Reading, Subscription, new_subscriptions_stand,
 };
 use lq_server_witness::Witness;
 use lq_update::{Rebuild, results_rise};
@@ -90,7 +90,7 @@ fn begin(
         input,
         places: asked.port,
         asks: 0,
-        shut: Shut::Never,
+        first_close: FirstClose::Never,
     };
     let reading = Reading::new(output, Rebuild::new(alloc, at, entries));
     Ok((slot, reading))

@@ -81,7 +81,7 @@ pub(crate) fn notice_slot(
     ensures taken { IsTaken slot.new (slot_at keeper.new.slots place) keeper.new.book }
     ensures ended { slot.old.asks < result → IsSome slot.new.sub.held.mark }
     ensures noticed { IsNoticed slot.new (slot_at keeper.new.slots place) }
-    ensures others { SameButHeld slot.old slot.new × (slot.new.shut ≡ slot.old.shut) }
+    ensures others { SameButHeld slot.old slot.new × (slot.new.first_close ≡ slot.old.first_close) }
     ensures still { IsSome slot.old.sub.held.mark
         → slot.new.sub.held.mark ≡ slot.old.sub.held.mark }
 {

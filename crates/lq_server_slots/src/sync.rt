@@ -123,7 +123,7 @@ pub(crate) fn notice_by(
     ensures only { OnlyAt keeper.old.slots keeper.new.slots seat.now.slot }
     ensures taken { IsTaken slot.new (slot_at keeper.new.slots seat.now.slot) keeper.new.book }
     ensures ended { slot.old.asks < seat.now.asks → IsSome slot.new.sub.held.mark }
-    ensures others { SameButHeld slot.old slot.new × (slot.new.shut ≡ slot.old.shut) }
+    ensures others { SameButHeld slot.old slot.new × (slot.new.first_close ≡ slot.old.first_close) }
 {
     let place = seat.slot() as usize;
     notice_slot(board, keeper, slot, place, number);

@@ -18,7 +18,7 @@ returns-clause-taken c =
     (subst (StandsAt c.commit.new.slot) (sym grown.book)
     (m.stands (before_of book) t.stands c.requires.ready grown.lawful
     (subst IsFullBook grown.book grown.full)))
-    (identity_others was c.commit.new.slot m.others m.shut) m.hung
+    (identity_others was c.commit.new.slot m.others m.first_close) m.hung
 
 pub returns-clause-noticed : goal.returns-clause-noticed
 returns-clause-noticed c =

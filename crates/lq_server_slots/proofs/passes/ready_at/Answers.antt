@@ -9,7 +9,7 @@ pub returns-clause-fits : goal.returns-clause-fits
 returns-clause-fits c =
     let r = c.ready.ensures in
     taken_alike c.notice_slot.new.slot c.ready.new.slot _ _ c.notice_slot.ensures.taken r.held
-    r.others r.shut
+    r.others r.first_close
 
 pub returns-clause-noticed : goal.returns-clause-noticed
 returns-clause-noticed c =

@@ -20,7 +20,7 @@ returns-clause-taken c =
     (sym (ap (λ (k : KeeperToken Identity). k.book) a.keeper))
     (taken_noticed c.args.slot.now c.notice.new.slot (slot_at was.slots place)
     (slot_at c.asks-asks.new.keeper.slots place) c.asks-asks.result _ was.book t
-    (n.stands was.book t.stands c.requires.number) n.others n.shut n.messages n.hung
+    (n.stands was.book t.stands c.requires.number) n.others n.first_close n.messages n.hung
     (ltb-true c.args.slot.now.asks c.asks-asks.result) a.known
     (ap (λ (k : KeeperToken Identity). slot_at k.slots place) a.keeper
     ∙ counted_here was.slots place c.asks-asks.result within))
