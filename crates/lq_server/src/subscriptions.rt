@@ -76,7 +76,7 @@ impl<N: Named> Server<N> {
         ensures { IsSynced reader.old reader.new result }
     {
         // For the proof: the reading's invariant.
-        reader.reading.told();
+        reader.reading.update_facts();
         let progress = self
             .state
             .lock(rt)
