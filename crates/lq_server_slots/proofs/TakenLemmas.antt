@@ -241,11 +241,11 @@ listed-drop taken taken' slots k l wide d =
     (listed-remove taken slots k d.index l d.within d.place wide)
 
 -- each slot is ready where the listed ones are
-pub all_ready : (taken : List ℕ) (slots : List (Option Subscription)) (told : ℕ) (s : State)
-    (c : Change) → IsListed taken slots → length taken ≤ told
-    → ((j : ℕ) → j < told → j < length taken → IsReadyAt (slot_in slots (place_at taken j)) s c)
+pub all_ready : (taken : List ℕ) (slots : List (Option Subscription)) (count : ℕ) (s : State)
+    (c : Change) → IsListed taken slots → length taken ≤ count
+    → ((j : ℕ) → j < count → j < length taken → IsReadyAt (slot_in slots (place_at taken j)) s c)
     → AllReady slots s c
-all_ready taken slots told s c l most h k pos within =
+all_ready taken slots count s c l most h k pos within =
     ⊎_elim
     (λ (e : slot_in slots k ≡ None). subst (λ (z : Option Subscription). IsReadyAt z s c) (sym e)
     tt)
@@ -256,21 +256,21 @@ all_ready taken slots told s c l most h k pos within =
     (free_or_taken (slot_in slots k))
 
 -- one more of the listed slots is ready
-pub ready_more : (taken : List ℕ) (slots : List (Option Subscription)) (told place : ℕ)
+pub ready_more : (taken : List ℕ) (slots : List (Option Subscription)) (count place : ℕ)
     (o : Option Subscription) (s : State) (c : Change) → IsListed taken slots
-    → length slots ≡ 65 → told < length taken → place ≡ place_at taken told → IsReadyAt o s c
-    → ((j : ℕ) → j < told → j < length taken → IsReadyAt (slot_in slots (place_at taken j)) s c)
-    → (j : ℕ) → j < told + 1 → j < length taken
+    → length slots ≡ 65 → count < length taken → place ≡ place_at taken count → IsReadyAt o s c
+    → ((j : ℕ) → j < count → j < length taken → IsReadyAt (slot_in slots (place_at taken j)) s c)
+    → (j : ℕ) → j < count + 1 → j < length taken
     → IsReadyAt (slot_in (slice_set slots place o) (place_at taken j)) s c
-ready_more taken slots told place o s c l wide lt is ready h j under within =
-    let high = l.high told lt in
-    dite (ℕ_discrete j told)
-    (λ (e : j ≡ told). subst (λ (p : ℕ). IsReadyAt (slot_in (slice_set slots place o) p) s c)
+ready_more taken slots count place o s c l wide lt is ready h j under within =
+    let high = l.high count lt in
+    dite (ℕ_discrete j count)
+    (λ (e : j ≡ count). subst (λ (p : ℕ). IsReadyAt (slot_in (slice_set slots place o) p) s c)
     (is ∙ ap (place_at taken) (sym e))
     (subst (λ (z : Option Subscription). IsReadyAt z s c)
     (sym (in_here slots place o (omega arith))) ready))
-    (λ (ne : j ≢ told). subst (λ (z : Option Subscription). IsReadyAt z s c)
-    (sym (in_else slots place (place_at taken j) o (λ q. ne (l.once j told within lt (q ∙ is)))))
+    (λ (ne : j ≢ count). subst (λ (z : Option Subscription). IsReadyAt z s c)
+    (sym (in_else slots place (place_at taken j) o (λ q. ne (l.once j count within lt (q ∙ is)))))
     (h j (omega (arith, ne)) within))
 
 -- ---- whether a slot is free

@@ -167,17 +167,17 @@ pub record IsGrown (b : Book) (c : Change) : Type 0 where
   pub lawful : IsLawful (state_of (before_of b)) c
   pub full : IsFullBook b
 
--- the first `told` of the listed slots stand over the keeper's book, and the others over that book
--- without its last change
-pub record PartlyTold (keeper : KeeperToken Identity) (slots : List (Option Subscription))
-    (taken : List ℕ) (openings : ℕ) (c : Change) (told : ℕ) : Type 0 where
+-- the first `committed` of the listed slots stand over the keeper's book, and the others over that
+-- book without its last change
+pub record PartlyCommitted (keeper : KeeperToken Identity) (slots : List (Option Subscription))
+    (taken : List ℕ) (openings : ℕ) (c : Change) (committed : ℕ) : Type 0 where
   pub known : length keeper.slots ≡ 65
   pub wide : length slots ≡ 65
   pub listed : IsListed taken slots
-  pub below : (j : ℕ) → j < told → j < length taken
+  pub below : (j : ℕ) → j < committed → j < length taken
       → SlotStands (slot_in slots (place_at taken j)) (slot_at keeper.slots (place_at taken j))
       keeper.book
-  pub from : (j : ℕ) → told ≤ j → j < length taken
+  pub from : (j : ℕ) → committed ≤ j → j < length taken
       → SlotStands (slot_in slots (place_at taken j)) (slot_at keeper.slots (place_at taken j))
       (before_of keeper.book)
       × IsReadyAt (slot_in slots (place_at taken j)) (state_of (before_of keeper.book)) c

@@ -9,7 +9,7 @@ ghost use Rattle.lq_board.specs.Slot.{slot_at};
 ghost use Rattle.lq_server_slots.specs.Changing.{IsChangeMade, IsPrepared};
 ghost use Rattle.lq_server_slots.specs.Slots.{SlotsStand, StandsBeside, AllReady, IsNoticed, IsServed, SlotsAre};
 
-use crate::passes::{ready_all, tell_all};
+use crate::passes::{commit_all, ready_all};
 use crate::slots::{Slots, serve_all};
 use lq_board::{Board, Seat};
 use lq_server_subscription::Identity;
@@ -50,7 +50,7 @@ pub fn change_in<R: Wait>(
 {
     match add(board, slots, volume, seat, change) {
         Ok(applied) => {
-            tell_all(rt, slots, change);
+            commit_all(rt, slots, change);
             Ok(applied)
         }
         Err(refusal) => {

@@ -2,7 +2,7 @@ use Rattle.std.proofs.Common.{sym, subst, ◌∙◌}
 use Rattle.std.specs.Prelude.{IsSome}
 use Rattle.lq_desk_sub.specs.Held.{Held}
 use Rattle.lq_server_slots.proofs.SlotLemmas.{taken_alike}
-use Rattle.lq_server_slots.proofs.TellLemmas.{noticed_then, counted_more}
+use Rattle.lq_server_slots.proofs.CommitLemmas.{noticed_then, counted_more}
 use Rattle.lq_server_slots.proofs.passes.ready_at.Goals as goal
 
 pub returns-clause-fits : goal.returns-clause-fits

@@ -5,7 +5,7 @@ use Rattle.lq_board.specs.Token.{KeeperToken}
 use Rattle.lq_server_subscription.specs.declared.identity.Identity.{Identity}
 use Rattle.lq_server_slots.specs.Slots.{IsTaken}
 use Rattle.lq_server_slots.proofs.SlotLemmas.{taken_noticed, counted_here}
-use Rattle.lq_server_slots.proofs.TellLemmas.{noticed_then}
+use Rattle.lq_server_slots.proofs.CommitLemmas.{noticed_then}
 use Rattle.lq_server_slots.proofs.slots.notice_slot.Goals as goal
 
 pub returns-clause-taken : goal.returns-clause-taken

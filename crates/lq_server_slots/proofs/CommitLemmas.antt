@@ -1,4 +1,4 @@
--- A change, told to one slot after another.
+-- A change, committed in one slot after another.
 use Rattle.std.proofs.Common.{◌≡◌, ◌≢◌, ⊎_elim, ℕ, ◌+◌, ◌<◌, ◌≤◌, true, false, true≢false, List, length, Option, None, sym, ap, ◌∙◌, subst, arith, length-set, slice_set}
 use Rattle.std.specs.Prelude.{IsSome, is_some}
 use mathlib.Core.Logic.{dite}
@@ -11,17 +11,17 @@ use Rattle.lq_board.specs.Token.{KeeperToken}
 use Rattle.lq_update.specs.declared.mark.Mark.{Mark}
 use Rattle.lq_server_subscription.specs.declared.identity.Identity.{Identity}
 use Rattle.lq_server_subscription.specs.declared.subscription.Subscription.{Subscription}
-use Rattle.lq_server_slots.specs.Slots.{SlotStands, asks_of, slot_in, place_at, AllStand, IsListed, IsReadyAt, AllReady, before_of, PartlyTold, OnlyAt, SlotIs, SlotsAre, IsNoticed}
+use Rattle.lq_server_slots.specs.Slots.{SlotStands, asks_of, slot_in, place_at, AllStand, IsListed, IsReadyAt, AllReady, before_of, PartlyCommitted, OnlyAt, SlotIs, SlotsAre, IsNoticed}
 use Rattle.lq_server_slots.proofs.SlotLemmas.{in_here, in_else, counted_here}
 use Rattle.lq_server_slots.proofs.TakenLemmas.{free_or_taken, some_ap, listed-set}
 
--- none was told yet
-pub partly_told-first : (keeper : KeeperToken Identity) (slots : List (Option Subscription))
+-- it is committed in none yet
+pub partly_committed-first : (keeper : KeeperToken Identity) (slots : List (Option Subscription))
     (taken : List ℕ) (openings : ℕ) (c : Change)
     → AllStand keeper slots openings (before_of keeper.book) → IsListed taken slots
     → AllReady slots (state_of (before_of keeper.book)) c
-    → PartlyTold keeper slots taken openings c 0
-partly_told-first keeper slots taken openings c h l ready =
+    → PartlyCommitted keeper slots taken openings c 0
+partly_committed-first keeper slots taken openings c h l ready =
     record {
       known = h.known;
       wide = h.wide;
@@ -38,33 +38,33 @@ partly_told-first keeper slots taken openings c h l ready =
       asks = h.asks;
     }
 
--- one more was told
-pub partly_told-step : (keeper : KeeperToken Identity) (slots : List (Option Subscription))
-    (taken : List ℕ) (openings : ℕ) (c : Change) (told place : ℕ) (o : Option Subscription)
-    → PartlyTold keeper slots taken openings c told → told < length taken
-    → place ≡ place_at taken told → SlotStands o (slot_at keeper.slots place) keeper.book
+-- it is committed in one slot more
+pub partly_committed-step : (keeper : KeeperToken Identity) (slots : List (Option Subscription))
+    (taken : List ℕ) (openings : ℕ) (c : Change) (committed place : ℕ) (o : Option Subscription)
+    → PartlyCommitted keeper slots taken openings c committed → committed < length taken
+    → place ≡ place_at taken committed → SlotStands o (slot_at keeper.slots place) keeper.book
     → asks_of o (slot_at keeper.slots place)
     ≤ asks_of (slot_in slots place) (slot_at keeper.slots place)
     → is_some o ≡ is_some (slot_in slots place)
-    → PartlyTold keeper (slice_set slots place o) taken openings c (told + 1)
-partly_told-step keeper slots taken openings c told place o m lt is fits asks kept =
+    → PartlyCommitted keeper (slice_set slots place o) taken openings c (committed + 1)
+partly_committed-step keeper slots taken openings c committed place o m lt is fits asks kept =
     let l = m.listed in
     let wide = m.wide in
-    let low : 0 < place = subst (λ (p : ℕ). 0 < p) (sym is) (l.low told lt) in
-    let high : place < 65 = subst (λ (p : ℕ). p < 65) (sym is) (l.high told lt) in
+    let low : 0 < place = subst (λ (p : ℕ). 0 < p) (sym is) (l.low committed lt) in
+    let high : place < 65 = subst (λ (p : ℕ). p < 65) (sym is) (l.high committed lt) in
     let here : slot_in (slice_set slots place o) place ≡ o = in_here slots place o (omega arith) in
-    let apart : (j : ℕ) → j < length taken → j ≢ told → place_at taken j ≢ place =
-    λ j within ne q. ne (l.once j told within lt (q ∙ is)) in
+    let apart : (j : ℕ) → j < length taken → j ≢ committed → place_at taken j ≢ place =
+    λ j within ne q. ne (l.once j committed within lt (q ∙ is)) in
     record {
       known = m.known;
       wide = length-set slots place o ∙ m.wide;
       listed = listed-set taken slots place o l wide high kept;
-      below = λ j under within. dite (ℕ_discrete j told)
-          (λ (e : j ≡ told). subst (λ (p : ℕ). SlotStands (slot_in (slice_set slots place o) p)
+      below = λ j under within. dite (ℕ_discrete j committed)
+          (λ (e : j ≡ committed). subst (λ (p : ℕ). SlotStands (slot_in (slice_set slots place o) p)
           (slot_at keeper.slots p) keeper.book) (is ∙ ap (place_at taken) (sym e))
           (subst (λ (z : Option Subscription). SlotStands z (slot_at keeper.slots place)
           keeper.book) (sym here) fits))
-          (λ (ne : j ≢ told). subst (λ (z : Option Subscription). SlotStands z
+          (λ (ne : j ≢ committed). subst (λ (z : Option Subscription). SlotStands z
           (slot_at keeper.slots (place_at taken j)) keeper.book)
           (sym (in_else slots place (place_at taken j) o (apart j within ne)))
           (m.below j (omega (arith, ne)) within));
@@ -78,7 +78,7 @@ partly_told-step keeper slots taken openings c told place o m lt is fits asks ke
           let gone : is_some o ≡ false =
           some_ap _ _ (sym here ∙ ap (slot_in (slice_set slots place o)) (sym e) ∙ none) in
           let some : is_some (slot_in slots place) ≡ true =
-          subst (λ (p : ℕ). is_some (slot_in slots p) ≡ true) (sym is) (l.some told lt) in
+          subst (λ (p : ℕ). is_some (slot_in slots p) ≡ true) (sym is) (l.some committed lt) in
           absurd (true≢false (sym some ∙ sym kept ∙ gone)))
           (λ (ne : k ≢ place). m.free k pos within (sym (in_else slots place k o ne) ∙ none));
       asks = λ j pos within. dite (ℕ_discrete j place)
@@ -91,11 +91,12 @@ partly_told-step keeper slots taken openings c told place o m lt is fits asks ke
           (m.asks j pos within));
     }
 
--- all were told
-pub partly_told-last : (keeper : KeeperToken Identity) (slots : List (Option Subscription))
-    (taken : List ℕ) (openings : ℕ) (c : Change) (told : ℕ) → length taken ≤ told
-    → PartlyTold keeper slots taken openings c told → AllStand keeper slots openings keeper.book
-partly_told-last keeper slots taken openings c told most m =
+-- it is committed in all
+pub partly_committed-last : (keeper : KeeperToken Identity) (slots : List (Option Subscription))
+    (taken : List ℕ) (openings : ℕ) (c : Change) (committed : ℕ) → length taken ≤ committed
+    → PartlyCommitted keeper slots taken openings c committed
+    → AllStand keeper slots openings keeper.book
+partly_committed-last keeper slots taken openings c committed most m =
     record {
       known = m.known;
       wide = m.wide;
