@@ -24,7 +24,7 @@ use Rattle.lq_server_subscription.specs.Rule.{query_of, whole}
 use Rattle.lq_server_subscription.specs.Reading.{ReadingHold, Gives, Fails, IsTold, known, received, is_marked}
 use Rattle.lq_server_subscription.specs.declared.subscription.Subscription.{Subscription}
 use Rattle.lq_server_slots.specs.declared.open.Opened.{Opened}
-use Rattle.lq_server_slots.specs.declared.slots.Slots.{Slots}
+use Rattle.lq_server_slots.specs.declared.slots.ServerSlots.{ServerSlots}
 use Rattle.lq_server_slots.specs.Slots.{SameButKnown, SlotsStand, is_full, slot_in}
 use Rattle.lq_server_slots.specs.Closing.{IsClosed}
 use Rattle.lq_server_slots.specs.Opening.{IdentityFits, IsNamed, IsOpened, IsOpeningTabled, asks_after, name_or}
@@ -192,7 +192,7 @@ new_reader o board book q mv port backlog s = record {
 }
 
 -- what slots answered before a seat met the keeper, those after it answer as well
-pub answered_over : (old under : Slots) (start : State) (was now : SeatToken Identity)
+pub answered_over : (old under : ServerSlots) (start : State) (was now : SeatToken Identity)
     (port backlog : ℕ) (result : Result ReaderHold Refusal) → SameButKnown old under
     → SlotsStand under under.keeper.book → now ≡ record was { book = old.keeper.book }
     → old.openings ≤ start.limit → IsOpeningTabled old start.limit port backlog result

@@ -29,7 +29,7 @@ use Rattle.lq_server_subscription.specs.Identity.{identity_of}
 use Rattle.lq_server_subscription.specs.Reading.{ReadingHold}
 use Rattle.lq_server_subscription.specs.Standing.{Stands, StandsAt}
 use Rattle.lq_server_subscription.specs.Laws.{NewSubscriptionsStand}
-use Rattle.lq_server_slots.specs.declared.slots.Slots.{Slots}
+use Rattle.lq_server_slots.specs.declared.slots.ServerSlots.{ServerSlots}
 use Rattle.lq_server_slots.specs.declared.open.Opened.{Opened}
 use Rattle.lq_server_slots.specs.Slots.{AreUnchanged, SlotStands, asks_of, slot_in, AllStand, OnlyAt}
 use Rattle.lq_server_slots.specs.Opening.{IsBegun}
@@ -176,7 +176,7 @@ opening_fits full openings limit port backlog some high few free less =
     (λ i. (sym free i, lt-leb limit openings less i))
 
 -- an opening counts as one more, and where it is refused as none
-pub openings_within : (r : Result Opened Refusal) (old new : Slots) (limit : ℕ)
+pub openings_within : (r : Result Opened Refusal) (old new : ServerSlots) (limit : ℕ)
     → OnOk r (new.openings ≡ old.openings + 1) → OnErr r (AreUnchanged old new)
     → old.openings < limit → new.openings ≤ limit
 openings_within (Ok o) old new limit more same less = omega arith

@@ -21,7 +21,7 @@ use Rattle.lq_server_subscription.specs.Identity.{port_id}
 use Rattle.lq_server_subscription.specs.Reading.{ReadingHold}
 use Rattle.lq_server_subscription.specs.Standing.{StandsAt}
 use Rattle.lq_server_slots.specs.declared.open.Opened.{Opened}
-use Rattle.lq_server_slots.specs.declared.slots.Slots.{Slots}
+use Rattle.lq_server_slots.specs.declared.slots.ServerSlots.{ServerSlots}
 use Rattle.lq_server_slots.specs.Slots.{is_full, slot_in}
 
 -- the name belongs to the port
@@ -90,7 +90,7 @@ opening_refusal port backlog = first_refusal (size_refusals port backlog)
 
 -- an opening over these slots and with this limit on the openings is refused by the first test that
 -- fits, and by no other
-abbrev pub IsOpeningTabled : {T : Type 0} → Slots → ℕ → ℕ → ℕ → Result T Refusal → Type 0
+abbrev pub IsOpeningTabled : {T : Type 0} → ServerSlots → ℕ → ℕ → ℕ → Result T Refusal → Type 0
 IsOpeningTabled slots limit port backlog result =
     IsRefusedBy result
     (first_refusal
@@ -102,7 +102,7 @@ abbrev pub IsOpeningRefused : Refusal → Type 0
 IsOpeningRefused e = (e ≡ NoSlot) ⊎ (e ≡ Exhausted) ⊎ (e ≡ NoMemory)
 
 -- Over these slots and with this limit on the openings, an opening is answered so.
-pub record IsOpeningAnswer (slots : Slots) (limit port backlog : ℕ)
+pub record IsOpeningAnswer (slots : ServerSlots) (limit port backlog : ℕ)
     (result : Result Opened Refusal) : Type 0 where
   -- the first refusal that fits, and no other
   pub table : IsOpeningTabled slots limit port backlog result

@@ -17,7 +17,7 @@ use Rattle.lq_server_subscription.specs.declared.subscription.Subscription.{Subs
 use Rattle.lq_server_subscription.specs.Rule.{messages_in}
 use Rattle.lq_server_subscription.specs.Marking.{held_committed, held_noticed, held_closed}
 use Rattle.lq_server_subscription.specs.Standing.{StandsAt, IsReady}
-use Rattle.lq_server_slots.specs.declared.slots.Slots.{Slots}
+use Rattle.lq_server_slots.specs.declared.slots.ServerSlots.{ServerSlots}
 use Rattle.lq_server_slots.specs.Slots.{SlotsStand, slot_in}
 
 -- the end that a mark tells of
@@ -46,7 +46,7 @@ shown_in taken (Some s) p = Some (subscribed (nat_lt s.asks p.asks) taken s)
 
 -- the world that the slots show where this many parcels were taken from each port: slot k is at
 -- index k - 1
-abbrev pub shown : (ℕ → ℕ) → Slots → World
+abbrev pub shown : (ℕ → ℕ) → ServerSlots → World
 shown taken slots = record {
   book = slots.keeper.book;
   openings = slots.openings;
@@ -80,7 +80,7 @@ SlotPassesOn b (Some u) (Some s) = IsPassedOn b u s
 -- what that under the lock has.
 abbrev pub SlotsShowWorlds : Type 0
 SlotsShowWorlds =
-    (slots : Slots) (taken : ℕ → ℕ) → IsFullBook slots.keeper.book
+    (slots : ServerSlots) (taken : ℕ → ℕ) → IsFullBook slots.keeper.book
     → SlotsStand slots slots.keeper.book → (k : ℕ) → 0 < k → k < 65
     → SlotPassesOn slots.keeper.book (slice_index_or (shown taken slots).slots (k - 1) None)
     (slot_in slots.subscriptions.items k)

@@ -14,7 +14,7 @@ use Rattle.lq_server_subscription.specs.declared.subscription.Subscription.{Subs
 use Rattle.lq_server_subscription.specs.Marking.{hung_mark}
 use Rattle.lq_server_subscription.specs.Identity.{identity_of}
 use Rattle.lq_server_subscription.specs.Standing.{StandsAt, IsFilled, IsReady, IsStuck}
-use Rattle.lq_server_slots.specs.declared.slots.Slots.{Slots}
+use Rattle.lq_server_slots.specs.declared.slots.ServerSlots.{ServerSlots}
 
 -- a taken slot: its subscription, and what the keeper knows of its seat
 pub record IsTaken (s : Subscription) (p : Known Identity) (book : Book) : Type 0 where
@@ -79,13 +79,13 @@ pub record IsDropped (old new : List ℕ) (k : ℕ) : Type 0 where
   pub rest : new ≡ remove old index
 
 -- all slots stand over a book, and the list has exactly the taken ones
-abbrev pub SlotsStand : Slots → Book → Type 0
+abbrev pub SlotsStand : ServerSlots → Book → Type 0
 SlotsStand s book =
     AllStand s.keeper s.subscriptions.items s.openings book
     × IsListed s.taken.items s.subscriptions.items
 
 -- the keeper's book is lawful, the volume is the state after it, and all slots stand over it
-pub record StandsBeside (slots : Slots) (volume : State) : Type 0 where
+pub record StandsBeside (slots : ServerSlots) (volume : State) : Type 0 where
   pub state : volume ≡ state_of slots.keeper.book
   pub full : IsFullBook slots.keeper.book
   pub holding : SlotsStand slots slots.keeper.book
@@ -119,14 +119,14 @@ pub record IsPut (s : Subscription) (name : Option Identity) (book : Book) : Typ
   pub stuck : IsStuck s
 
 -- the keeper, the subscriptions, the taken places and the number of openings stay
-pub record AreUnchanged (old new : Slots) : Type 0 where
+pub record AreUnchanged (old new : ServerSlots) : Type 0 where
   pub keeper : new.keeper ≡ old.keeper
   pub subscriptions : new.subscriptions ≡ old.subscriptions
   pub taken : new.taken.items ≡ old.taken.items
   pub openings : new.openings ≡ old.openings
 
 -- only what the keeper knows of the slots may differ
-pub record SameButKnown (old new : Slots) : Type 0 where
+pub record SameButKnown (old new : ServerSlots) : Type 0 where
   pub board : new.keeper.board ≡ old.keeper.board
   pub book : new.keeper.book ≡ old.keeper.book
   pub subscriptions : new.subscriptions ≡ old.subscriptions

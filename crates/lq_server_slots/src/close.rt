@@ -9,7 +9,7 @@ ghost use Rattle.lq_server_slots.specs.Closing.{IsClosed};
 ghost use Rattle.lq_server_slots.specs.Slots.{IsTaken, SlotStands, SlotsStand, IsPlaceIn, IsDropped, IsPut, place_at, OnlyAt, asks_of, slot_in};
 ghost use Rattle.lq_server_slots.specs.Opening.{asks_after, name_or};
 
-use crate::slots::{Slots, fill_slot};
+use crate::slots::{ServerSlots, fill_slot};
 use crate::sync::{meet_same, meet_under, notice_by};
 use lq_board::{Board, Keeper, Seat};
 use lq_server_subscription::{Identity, Subscription, close};
@@ -122,7 +122,7 @@ fn close_at<R: Wait>(
 pub fn close_in<R: Wait>(
     rt: &R,
     board: &Board<Identity>,
-    slots: &mut Slots,
+    slots: &mut ServerSlots,
     seat: &mut Seat<Identity>,
 ) -> Option<u64>
     requires board { (slots.old.keeper.board ≡ board.now) × (seat.old.board ≡ board.now) }
@@ -192,7 +192,7 @@ fn take_out(taken: &mut Vec<usize>, place: usize)
 }
 
 /// Takes a slot's seat back and frees the slot. The other slots keep their subscriptions.
-pub fn free_in(board: &Board<Identity>, slots: &mut Slots, seat: Seat<Identity>, asked: bool)
+pub fn free_in(board: &Board<Identity>, slots: &mut ServerSlots, seat: Seat<Identity>, asked: bool)
     requires board { (slots.old.keeper.board ≡ board.now) × (seat.board ≡ board.now) }
     requires seat { (0 < seat.slot)
         × IsSomeAnd seat.name (λ t. seat.asks ≡ asks_after t.asks asked) }

@@ -10,7 +10,7 @@ ghost use Rattle.lq_server_subscription.specs.declared.identity.Identity.{Identi
 ghost use Rattle.lq_server_slots.specs.Slots.{AreUnchanged, SlotsStand, StandsBeside, is_full, slot_in};
 ghost use Rattle.lq_server_slots.specs.Opening.{IsBegun, IsOpened, IsOpeningAnswer};
 
-use crate::slots::{PLACES, Slots};
+use crate::slots::{PLACES, ServerSlots};
 use lq_board::{Board, Keeper, Seat};
 use lq_desk_sub::{MAX_BACKLOG, Sub};
 use lq_port::{MAX_PLACES, make};
@@ -156,7 +156,7 @@ fn sit(
 // memory comes first, so that the slots stay as they were where memory runs out.
 fn settle(
     board: &Board<Identity>,
-    slots: &mut Slots,
+    slots: &mut ServerSlots,
     place: usize,
     mut slot: Subscription,
     reading: Reading,
@@ -201,7 +201,7 @@ fn settle(
 pub fn open_in(
     alloc: Global,
     board: &Board<Identity>,
-    slots: &mut Slots,
+    slots: &mut ServerSlots,
     volume: &Volume,
     asked: &Asked,
 ) -> Result<Opened, Refusal>
