@@ -5,7 +5,7 @@ use mathlib.Core.Logic.{dite}
 use native.Mathlib.Decide.{ℕ_discrete}
 use Rattle.lq_volume.specs.declared.change.Change.{Change}
 use Rattle.lq_volume.specs.Book.{state_of}
-use Rattle.lq_board.specs.declared.views.Slot.{Slot as Known}
+use Rattle.lq_board.specs.declared.views.KnownSlot.{KnownSlot}
 use Rattle.lq_board.specs.Slot.{slot_at, counted}
 use Rattle.lq_board.specs.Token.{KeeperToken}
 use Rattle.lq_update.specs.declared.mark.Mark.{Mark}
@@ -115,10 +115,10 @@ partly_committed-last keeper slots taken openings c committed most m =
 
 -- ---- a fact of each taken slot
 
-module _ (P : Subscription → Known Identity → Type 0) where
+module _ (P : Subscription → KnownSlot Identity → Type 0) where
   -- one slot was set, and what the keeper knows of it: one more of the listed slots has the fact
   pub slots_are-more : (taken : List ℕ) (slots : List (Option Subscription))
-      (ps qs : List (Known Identity)) (index place : ℕ) (o : Option Subscription)
+      (ps qs : List (KnownSlot Identity)) (index place : ℕ) (o : Option Subscription)
       → IsListed taken slots → length slots ≡ 65 → index < length taken
       → place ≡ place_at taken index → OnlyAt ps qs place → SlotIs P o (slot_at qs place)
       → ((j : ℕ) → j < index → j < length taken
@@ -135,7 +135,7 @@ module _ (P : Subscription → Known Identity → Type 0) where
       (sym (in_here slots place o (omega arith))) here))
       (λ (ne : j ≢ index).
       let apart : place_at taken j ≢ place = λ q. ne (l.once j index within lt (q ∙ is)) in
-      subst (λ (z : Option Subscription × Known Identity). SlotIs P z.0 z.1)
+      subst (λ (z : Option Subscription × KnownSlot Identity). SlotIs P z.0 z.1)
       (λ i. (
         sym (in_else slots place (place_at taken j) o apart) i,
         sym (only.others (place_at taken j) apart) i,
@@ -144,7 +144,7 @@ module _ (P : Subscription → Known Identity → Type 0) where
 
   -- and those behind it keep it
   pub slots_are-left : (taken : List ℕ) (slots : List (Option Subscription))
-      (ps : List (Known Identity)) (index place : ℕ) (o : Option Subscription)
+      (ps : List (KnownSlot Identity)) (index place : ℕ) (o : Option Subscription)
       → IsListed taken slots → index < length taken → place ≡ place_at taken index
       → ((j : ℕ) → index ≤ j → j < length taken
       → SlotIs P (slot_in slots (place_at taken j)) (slot_at ps (place_at taken j)))
@@ -159,7 +159,7 @@ module _ (P : Subscription → Known Identity → Type 0) where
 
   -- what all listed slots have, each slot has
   pub slots_are-all : (taken : List ℕ) (slots : List (Option Subscription))
-      (ps : List (Known Identity)) (index : ℕ) → IsListed taken slots → length taken ≤ index
+      (ps : List (KnownSlot Identity)) (index : ℕ) → IsListed taken slots → length taken ≤ index
       → ((j : ℕ) → j < index → j < length taken
       → SlotIs P (slot_in slots (place_at taken j)) (slot_at ps (place_at taken j)))
       → SlotsAre P slots ps
@@ -175,14 +175,14 @@ module _ (P : Subscription → Known Identity → Type 0) where
       (free_or_taken (slot_in slots k))
 
 -- one that has its mark where its reader asked has it after a commit or puts
-pub noticed_still : (s t : Subscription) (p : Known Identity) → IsNoticed s p → t.asks ≡ s.asks
+pub noticed_still : (s t : Subscription) (p : KnownSlot Identity) → IsNoticed s p → t.asks ≡ s.asks
     → (IsSome s.sub.held.mark → t.sub.held.mark ≡ s.sub.held.mark) → IsNoticed t p
 noticed_still s t p noticed asks still = λ lt.
     let some = noticed (subst (λ (n : ℕ). n < p.asks) asks lt) in
     subst (λ (o : Option Mark). IsSome o) (sym (still some)) some
 
 -- after a notice the keeper knows just as many asks as were read
-pub noticed_then : (s t : Subscription) (ps qs : List (Known Identity)) (k n : ℕ)
+pub noticed_then : (s t : Subscription) (ps qs : List (KnownSlot Identity)) (k n : ℕ)
     → length ps ≡ 65 → k < 65 → qs ≡ counted ps k n → t.asks ≡ s.asks
     → (s.asks < n → IsSome t.sub.held.mark) → IsNoticed t (slot_at qs k)
 noticed_then s t ps qs k n wide within is asks ended = λ lt.
@@ -190,18 +190,18 @@ noticed_then s t ps qs k n wide within is asks ended = λ lt.
       out = (slot_at ps k).out;
       asks = n;
       name = (slot_at ps k).name;
-    } = ap (λ (l : List (Known Identity)). slot_at l k) is
+    } = ap (λ (l : List (KnownSlot Identity)). slot_at l k) is
     ∙ counted_here ps k n (omega arith) in
     ended (subst (λ (z : ℕ × ℕ). z.0 < z.1) (λ i. (asks i, (at i).asks)) lt)
 
 -- how often the slot's seats have asked, as the keeper knows, once it has read the count
-pub counted_more : (ps qs : List (Known Identity)) (k n : ℕ) → length ps ≡ 65 → k < 65
+pub counted_more : (ps qs : List (KnownSlot Identity)) (k n : ℕ) → length ps ≡ 65 → k < 65
     → qs ≡ counted ps k n → (slot_at ps k).asks ≤ n → (slot_at ps k).asks ≤ (slot_at qs k).asks
 counted_more ps qs k n wide within is most =
     let at : slot_at qs k ≡ record {
       out = (slot_at ps k).out;
       asks = n;
       name = (slot_at ps k).name;
-    } = ap (λ (l : List (Known Identity)). slot_at l k) is
+    } = ap (λ (l : List (KnownSlot Identity)). slot_at l k) is
     ∙ counted_here ps k n (omega arith) in
-    subst (λ (q : Known Identity). (slot_at ps k).asks ≤ q.asks) (sym at) most
+    subst (λ (q : KnownSlot Identity). (slot_at ps k).asks ≤ q.asks) (sym at) most

@@ -8,7 +8,7 @@ use Rattle.lq_value.specs.Refusal.{first_refusal}
 use Rattle.lq_predicate_formula.specs.Query.{Query}
 use Rattle.lq_volume.specs.Book.{Book, state_of}
 use Rattle.lq_volume.specs.Result.{result_of}
-use Rattle.lq_board.specs.declared.views.Slot.{Slot as Known}
+use Rattle.lq_board.specs.declared.views.KnownSlot.{KnownSlot}
 use Rattle.lq_board.specs.Book.{IsFullBook}
 use Rattle.lq_board.specs.Slot.{slot_at, unused, gone_out, counted}
 use Rattle.lq_board.specs.Token.{KeeperToken}
@@ -98,10 +98,10 @@ begun_own s r book q mv port backlog b = record {
 }
 
 -- a seat that goes out changes what is known of one slot
-only_gone : (ps : List (Known Identity)) (k : ℕ) (name : Option Identity)
+only_gone : (ps : List (KnownSlot Identity)) (k : ℕ) (name : Option Identity)
     → OnlyAt ps (gone_out ps k name) k
 only_gone ps k name =
-    let q : Known Identity = record { out = true; asks = (slot_at ps k).asks; name = name } in
+    let q : KnownSlot Identity = record { out = true; asks = (slot_at ps k).asks; name = name } in
     record { wide = length-set ps k q; others = λ j ne. get_or-set_other ps k j q unused ne }
 
 -- a subscription takes a free place
@@ -122,7 +122,7 @@ settled keeper one two slots place openings n s book h pos within free counts id
     subst (λ (z : Option Subscription). asks_of z (slot_at keeper.slots place) ≤ openings) free
     (h.asks place pos within) in
     let known = h.known in
-    let long : length one.slots ≡ 65 = ap (length {A = Known Identity}) counts
+    let long : length one.slots ≡ 65 = ap (length {A = KnownSlot Identity}) counts
     ∙ (only_counted keeper.slots place n).wide ∙ h.known in
     let here : slot_at one.slots place ≡ record {
       out = (slot_at keeper.slots place).out;
@@ -130,21 +130,23 @@ settled keeper one two slots place openings n s book h pos within free counts id
           n;
       name = (slot_at keeper.slots place).name;
     } =
-    ap (λ (ps : List (Known Identity)). slot_at ps place) counts ∙ counted_here keeper.slots place n
+    ap (λ (ps : List (KnownSlot Identity)). slot_at ps place) counts
+    ∙ counted_here keeper.slots place n
     (omega arith) in
-    let q : Known Identity = record {
+    let q : KnownSlot Identity = record {
       out = true;
       asks = (slot_at one.slots place).asks;
       name =
           Some (identity_of s);
     } in
-    let there : slot_at two.slots place ≡ q = ap (λ (ps : List (Known Identity)). slot_at ps place)
+    let there : slot_at two.slots place ≡ q =
+    ap (λ (ps : List (KnownSlot Identity)). slot_at ps place)
     gone ∙ get_or-set_same one.slots place q unused (omega arith) in
     let only : OnlyAt keeper.slots two.slots place =
     only_trans keeper.slots one.slots two.slots place
-    (subst (λ (ps : List (Known Identity)). OnlyAt keeper.slots ps place) (sym counts)
+    (subst (λ (ps : List (KnownSlot Identity)). OnlyAt keeper.slots ps place) (sym counts)
     (only_counted keeper.slots place n))
-    (subst (λ (ps : List (Known Identity)). OnlyAt one.slots ps place) (sym gone)
+    (subst (λ (ps : List (KnownSlot Identity)). OnlyAt one.slots ps place) (sym gone)
     (only_gone one.slots place (Some (identity_of s)))) in
     let count : n ≡ (slot_at keeper.slots place).asks = idle was in
     all_stand-set keeper two slots place openings (openings + 1) (Some s) book h (omega arith) only
@@ -152,8 +154,8 @@ settled keeper one two slots place openings n s book h pos within free counts id
       stands = stands;
       filled = λ some. let zero_ : length s.sub.held.messages ≡ 0 = ap (length {A = Message}) none
           in absurd (omega arith);
-      out = ap (λ (p : Known Identity). p.out) there;
-      name = ap (λ (p : Known Identity). p.name) there;
+      out = ap (λ (p : KnownSlot Identity). p.out) there;
+      name = ap (λ (p : KnownSlot Identity). p.name) there;
       hung = λ hu. absurd (subst hung_mark live hu);
     }) (omega arith)
 

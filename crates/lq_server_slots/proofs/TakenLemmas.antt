@@ -10,7 +10,7 @@ use mathlib.Core.Logic.{dite}
 use native.Mathlib.Decide.{ℕ_discrete}
 use Rattle.lq_volume.specs.State.{State}
 use Rattle.lq_volume.specs.declared.change.Change.{Change}
-use Rattle.lq_board.specs.declared.views.Slot.{Slot as Known}
+use Rattle.lq_board.specs.declared.views.KnownSlot.{KnownSlot}
 use Rattle.lq_volume.specs.Book.{Book}
 use Rattle.lq_board.specs.Slot.{slot_at}
 use Rattle.lq_board.specs.Token.{KeeperToken}
@@ -35,7 +35,7 @@ free_read slots k None e none = sym e
 free_read slots k (Some s) e none = absurd (true≢false none)
 
 -- a slot whose seat is out is taken
-pub taken_out : (o : Option Subscription) (p : Known Identity) (book : Book)
+pub taken_out : (o : Option Subscription) (p : KnownSlot Identity) (book : Book)
     → SlotStands o p book → p.out ≡ true → IsSome o
 taken_out None p book fits out = absurd (true≢false (sym out ∙ fits))
 taken_out (Some s) p book fits out = refl
@@ -305,7 +305,7 @@ full-each (o ∷ slots) n wide most h =
     sym (all_taken-each slots (λ k lt. h (suc k) (omega arith) (omega arith)))
 
 -- how often the slots' seats have asked, as the keeper knows, where one slot's count rises
-pub asks_rise : (first old new : List (Known Identity)) (place : ℕ) → OnlyAt old new place
+pub asks_rise : (first old new : List (KnownSlot Identity)) (place : ℕ) → OnlyAt old new place
     → (slot_at old place).asks ≤ (slot_at new place).asks
     → ((k : ℕ) → (slot_at first k).asks ≤ (slot_at old k).asks)
     → (k : ℕ) → (slot_at first k).asks ≤ (slot_at new k).asks
@@ -315,5 +315,5 @@ asks_rise first old new place only more before k =
     let was = before place in
     subst (λ (j : ℕ). (slot_at first j).asks ≤ (slot_at new j).asks) (sym e)
     (omega (arith, was, more)))
-    (λ ne. subst (λ (q : Known Identity). (slot_at first k).asks ≤ q.asks)
+    (λ ne. subst (λ (q : KnownSlot Identity). (slot_at first k).asks ≤ q.asks)
     (sym (only.others k ne)) (before k))

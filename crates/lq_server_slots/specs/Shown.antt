@@ -1,7 +1,7 @@
 -- What the lock keeps, as a world of the core.
 use Rattle.std.specs.Prelude.{◌≡◌, ℕ, ◌-◌, ◌<◌, Bool, true, false, List, [], ◌∷◌, ◌++◌, length, map, nat_lt, Option, Some, None, slice_index_or}
 use Rattle.std.specs.List.{range_with_len}
-use Rattle.lq_board.specs.declared.views.Slot.{Slot as Known}
+use Rattle.lq_board.specs.declared.views.KnownSlot.{KnownSlot}
 use Rattle.lq_board.specs.Book.{IsFullBook}
 use Rattle.lq_board.specs.Slot.{slot_at}
 use Rattle.lq_volume.specs.declared.change.Change.{Change}
@@ -40,7 +40,7 @@ subscribed asked taken s = record {
 }
 
 -- a slot that may be free; its end was asked for as far as the keeper knows
-abbrev pub shown_in : ℕ → Option Subscription → Known Identity → Option Subscribed
+abbrev pub shown_in : ℕ → Option Subscription → KnownSlot Identity → Option Subscribed
 shown_in taken None p = None
 shown_in taken (Some s) p = Some (subscribed (nat_lt s.asks p.asks) taken s)
 
