@@ -5,11 +5,11 @@ use mathlib.Core.Option.{some}
 use lib.ListN.{get_elem?}
 use Rattle.atomic_table.specs.Table.{Joins}
 use Rattle.atomic_table.proofs.Lists.{at_set}
-use Rattle.lq_board.specs.declared.views.Slot.{Slot}
+use Rattle.lq_board.specs.declared.views.KnownSlot.{KnownSlot}
 use Rattle.lq_board.specs.declared.views.Sitting.{Sitting}
 use Rattle.lq_board.specs.declared.views.Keeping.{Keeping}
-use Rattle.lq_board.specs.declared.views.View.{View}
-use Rattle.lq_board.specs.declared.views.View.TheVariants.{Keeper, Seat, Spent}
+use Rattle.lq_board.specs.declared.views.TokenView.{TokenView}
+use Rattle.lq_board.specs.declared.views.TokenView.TheVariants.{Keeper, Seat, Spent}
 use Rattle.lq_board.specs.Slot.{slot_at, come_back}
 use Rattle.lq_board.specs.View.{taken}
 use Rattle.lq_board.specs.Rule.{Fits, Signs, Kept, IsKept}
@@ -18,8 +18,8 @@ use Rattle.lq_board.proofs.ViewLemmas.{owner_set, owns_moved, owns_here, fits_se
 
 module _ {M : Type 0} where
   -- the view of the seat that comes back, where the keeper's changed already
-  theirs : (words : List ℕ) (views : List (View M)) (k : Kept words views) (id other : ℕ)
-      (x : View M) (w : Sitting M)
+  theirs : (words : List ℕ) (views : List (TokenView M)) (k : Kept words views) (id other : ℕ)
+      (x : TokenView M) (w : Sitting M)
       → other ≢ id → get_elem? (slice_set views id x) other ≡ some (Seat w)
       → Fits k.id k.book k.slots k.owner words other (Seat w)
   theirs words views k id other x w apart there =
@@ -29,8 +29,8 @@ module _ {M : Type 0} where
       (at_set views id other x (Seat w) there)
 
   -- its author
-  theirs_own : (words : List ℕ) (views : List (View M)) (k : Kept words views) (id other : ℕ)
-      (x : View M) (w : Sitting M)
+  theirs_own : (words : List ℕ) (views : List (TokenView M)) (k : Kept words views) (id other : ℕ)
+      (x : TokenView M) (w : Sitting M)
       → other ≢ id → get_elem? (slice_set views id x) other ≡ some (Seat w)
       → Signs k.id k.register k.who other (Seat w)
   theirs_own words views k id other x w apart there =
@@ -40,10 +40,10 @@ module _ {M : Type 0} where
       (at_set views id other x (Seat w) there)
 
   -- the keeper is now the author that the seat was
-  signs_back : (words : List ℕ) (views : List (View M)) (k : Kept words views) (id other : ℕ)
-      (v : Keeping M) (slots : List (Slot M)) (was : Slot M) (w : Sitting M)
+  signs_back : (words : List ℕ) (views : List (TokenView M)) (k : Kept words views) (id other : ℕ)
+      (v : Keeping M) (slots : List (KnownSlot M)) (was : KnownSlot M) (w : Sitting M)
       → get_elem? views id ≡ some (Keeper v) → Signs k.id k.register k.who other (Seat w)
-      → (by : ℕ) (u : View M)
+      → (by : ℕ) (u : TokenView M)
       → get_elem? (slice_set (slice_set views id (Keeper (record {
         book = v.book;
         slots = slots;
@@ -54,7 +54,7 @@ module _ {M : Type 0} where
       → Signs k.id k.register (owner_set k.who w.author.number id) by u
   signs_back words views k id other v slots was w at seat =
       let own = k.signs id (Keeper v) at in
-      let x : View M =
+      let x : TokenView M =
       Keeper (record {
         book = v.book;
         slots = slots;
@@ -88,8 +88,8 @@ module _ {M : Type 0} where
       }))
       Spent
   backs_at id v other w zero is s kept at apart there =
-      let p : Slot M = slot_at v.slots w.slot in
-      let x : View M =
+      let p : KnownSlot M = slot_at v.slots w.slot in
+      let x : TokenView M =
       Keeper (record {
         book = v.book;
         slots = v.slots;
@@ -120,9 +120,9 @@ module _ {M : Type 0} where
             (theirs_own s.words s.views kept id other x w apart there);
       }
   backs_at id v other w (suc k) is s kept at apart there =
-      let q : Slot M = record { out = false; asks = w.asks; name = w.name } in
-      let p : Slot M = slot_at v.slots w.slot in
-      let x : View M =
+      let q : KnownSlot M = record { out = false; asks = w.asks; name = w.name } in
+      let p : KnownSlot M = slot_at v.slots w.slot in
+      let x : TokenView M =
       Keeper (record {
         book = v.book;
         slots = slice_set v.slots (suc k) q;
@@ -135,7 +135,7 @@ module _ {M : Type 0} where
       let pos : 0 < w.slot = omega (arith, is) in
       let t = seat.1 pos in
       let same : p ≡ slot_at kept.slots w.slot =
-      ap (λ (l : List (Slot M)). slot_at l w.slot) mine.2 in
+      ap (λ (l : List (KnownSlot M)). slot_at l w.slot) mine.2 in
       let word : slice_index s.words (suc k) ≡ w.asks =
       ap (slice_index s.words) (sym is) ∙ t.word in
       let old : (slot_at kept.slots w.slot).asks ≤ slice_index s.words w.slot =
@@ -165,13 +165,14 @@ module _ {M : Type 0} where
             (λ _. (
               mine.0,
               mine.1,
-              ap (λ (l : List (Slot M)). slice_set l (suc k) q) mine.2,
+              ap (λ (l : List (KnownSlot M)). slice_set l (suc k) q) mine.2,
               (
                 seat.0,
                 λ _. (
-                  ap (λ (r : Slot M). r.name) same ∙ t.named,
-                  subst (λ (r : Slot M). r.asks ≤ w.asks) (sym same) (omega (arith, t.word, old)),
-                  ap (λ (r : Slot M). r.out) same ∙ t.out,
+                  ap (λ (r : KnownSlot M). r.name) same ∙ t.named,
+                  subst (λ (r : KnownSlot M). r.asks ≤ w.asks) (sym same)
+                      (omega (arith, t.word, old)),
+                  ap (λ (r : KnownSlot M). r.out) same ∙ t.out,
                 ),
               ),
             ))

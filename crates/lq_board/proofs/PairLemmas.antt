@@ -6,8 +6,8 @@ use lib.ListN.{get_elem?}
 use Rattle.atomic_table.specs.Table.{keeps, Me, step, Allows, Splits, Joins}
 use Rattle.atomic_table.proofs.Lists.{at_set}
 use Rattle.lq_board.specs.declared.views.Sitting.{Sitting}
-use Rattle.lq_board.specs.declared.views.View.{View}
-use Rattle.lq_board.specs.declared.views.View.TheVariants.{Seat, Pair, Spent}
+use Rattle.lq_board.specs.declared.views.TokenView.{TokenView}
+use Rattle.lq_board.specs.declared.views.TokenView.TheVariants.{Seat, Pair, Spent}
 use Rattle.lq_board.specs.View.{sitting_of, paired, of_no_slot, first_seat, second_seat}
 use Rattle.lq_board.specs.Rule.{Fits, Signs, IsKept}
 use Rattle.lq_board.specs.Step.{Compares}
@@ -20,7 +20,7 @@ module _ {M : Type 0} where
   pairs : (id : ℕ) (a : Sitting M) (other : ℕ) (b : Sitting M)
       → Joins IsKept id (Seat a) other (Seat b) (Pair a b) Spent
   pairs id a other b s kept at apart there =
-      let x : View M = Pair a b in
+      let x : TokenView M = Pair a b in
       let before : get_elem? s.views other ≡ some (Seat b) =
       ⊎_elim (λ (t : (other ≡ id) × (x ≡ Seat b)). absurd (apart t.0))
       (λ (t : (other ≢ id) × (get_elem? s.views other ≡ some (Seat b))). t.1)
@@ -88,8 +88,8 @@ module _ {M : Type 0} where
   unpairs : (id : ℕ) (a b : Sitting M)
       → Splits IsKept id (Pair a b) (first_seat (Pair a b)) (second_seat (Pair a b))
   unpairs id a b s kept at =
-      let w : View M = Seat (of_no_slot a) in
-      let new : View M = Seat (of_no_slot b) in
+      let w : TokenView M = Seat (of_no_slot a) in
+      let new : TokenView M = Seat (of_no_slot b) in
       let n : ℕ = length (slice_set s.views id w) in
       let here = kept.fits id (Pair a b) at in
       let own = kept.signs id (Pair a b) at in
@@ -131,33 +131,34 @@ module _ {M : Type 0} where
       }
 
   -- the same of tokens that are known
-  pub pairs_as : (id : ℕ) (me : Me ℕ (View M)) (other : ℕ) (you : Me ℕ (View M))
+  pub pairs_as : (id : ℕ) (me : Me ℕ (TokenView M)) (other : ℕ) (you : Me ℕ (TokenView M))
       → me ≡ (Seat (sitting_of me.0), []) → you ≡ (Seat (sitting_of you.0), [])
       → Joins IsKept id me.0 other you.0 (paired me.0 you.0) Spent
   pairs_as id me other you is are =
-      subst (λ (v : View M). Joins IsKept id v other you.0 (paired v you.0) Spent)
+      subst (λ (v : TokenView M). Joins IsKept id v other you.0 (paired v you.0) Spent)
       (sym (ap (λ m. m.0) is))
       (subst
-      (λ (u : View M).
+      (λ (u : TokenView M).
       Joins IsKept id (Seat (sitting_of me.0)) other u (paired (Seat (sitting_of me.0)) u) Spent)
       (sym (ap (λ m. m.0) are)) (pairs id (sitting_of me.0) other (sitting_of you.0)))
 
-  pub compares_after : (slots id : ℕ) (me you now : Me ℕ (View M))
+  pub compares_after : (slots id : ℕ) (me you now : Me ℕ (TokenView M))
       → me ≡ (Seat (sitting_of me.0), []) → now ≡ (paired me.0 you.0, me.1)
       → Allows IsKept slots id now 0 (λ n. n) (Compares (step slots 0 0 0 none) now)
   compares_after slots id me you now was is =
       let rest : me.1 ≡ [] = ap (λ m. m.1) was in
-      let both : Me ℕ (View M) = (paired me.0 you.0, []) in
+      let both : Me ℕ (TokenView M) = (paired me.0 you.0, []) in
       let at : now ≡ both =
-      is ∙ ap (λ (l : List (ℕ × ℕ)). let x : Me ℕ (View M) = (paired me.0 you.0, l) in x) rest in
+      is ∙ ap (λ (l : List (ℕ × ℕ)).
+      let x : Me ℕ (TokenView M) = (paired me.0 you.0, l) in x) rest in
       subst
-      (λ (m : Me ℕ (View M)).
+      (λ (m : Me ℕ (TokenView M)).
       Allows IsKept slots id m 0 (λ n. n) (Compares (step slots 0 0 0 none) m))
       (sym at) (compares slots id (sitting_of me.0) (sitting_of you.0))
 
-  pub unpairs_as : (id : ℕ) (now : Me ℕ (View M)) (a b : Sitting M) (more : List (ℕ × ℕ))
+  pub unpairs_as : (id : ℕ) (now : Me ℕ (TokenView M)) (a b : Sitting M) (more : List (ℕ × ℕ))
       → now ≡ (Pair a b, more)
       → Splits IsKept id now.0 (first_seat now.0) (second_seat now.0)
   unpairs_as id now a b more is =
-      subst (λ (u : View M). Splits IsKept id u (first_seat u) (second_seat u))
+      subst (λ (u : TokenView M). Splits IsKept id u (first_seat u) (second_seat u))
       (sym (ap (λ m. m.0) is)) (unpairs id a b)

@@ -14,11 +14,11 @@ use Rattle.lq_volume.specs.Laws.{ChangesKeepTrees}
 use Rattle.lq_volume.specs.Book.{Book, grown, state_of, Extends}
 use Rattle.lq_board.specs.declared.views.Author.{Author}
 use Rattle.lq_board.specs.declared.views.Register.{Register}
-use Rattle.lq_board.specs.declared.views.Slot.{Slot}
+use Rattle.lq_board.specs.declared.views.KnownSlot.{KnownSlot}
 use Rattle.lq_board.specs.declared.views.Sitting.{Sitting}
 use Rattle.lq_board.specs.declared.views.Keeping.{Keeping}
-use Rattle.lq_board.specs.declared.views.View.{View}
-use Rattle.lq_board.specs.declared.views.View.TheVariants.{Keeper, Seat, Pair, Spent}
+use Rattle.lq_board.specs.declared.views.TokenView.{TokenView}
+use Rattle.lq_board.specs.declared.views.TokenView.TheVariants.{Keeper, Seat, Pair, Spent}
 use Rattle.lq_board.specs.Book.{IsFullBook}
 use Rattle.lq_board.specs.Author.{IsSigned, IsAuthor, no_register, with_author, with_change}
 use Rattle.lq_board.specs.Slot.{unused, unused_slots, slot_at, counted}
@@ -56,14 +56,14 @@ module _ {M : Type 0} where
       lt : (n : ℕ) → n < 65 → n < 65
       lt n h = h
 
-      one : (by : ℕ) (v : View M) → get_elem? (newborn start ∷ []) by ≡ some v
+      one : (by : ℕ) (v : TokenView M) → get_elem? (newborn start ∷ []) by ≡ some v
           → Fits 0 book unused_slots (λ _. 0) (replicate 65 0) by v
       one zero v e =
           subst (Fits 0 book unused_slots (λ _. 0) (replicate 65 0) 0) (some-injective _ _ e)
           (refl, refl, refl, came_self book book refl)
       one (suc by) v e = absurd (some-ne-none v (sym e))
 
-      first : (by : ℕ) (v : View M) → get_elem? (newborn start ∷ []) by ≡ some v
+      first : (by : ℕ) (v : TokenView M) → get_elem? (newborn start ∷ []) by ≡ some v
           → Signs 0 no_register (λ _. 0) by v
       first zero v e =
           subst (Signs 0 no_register (λ _. 0) 0) (some-injective _ _ e)
@@ -86,7 +86,7 @@ module _ {M : Type 0} where
       let register : Register = with_author kept.register me.number in
       let w_register : Register = with_author v.register me.number in
       let made : Author = with_change me (length v.book.changes + 1) in
-      let w : View M =
+      let w : TokenView M =
       Keeper (record {
         book = w_book;
         slots = v.slots;
@@ -164,13 +164,14 @@ module _ {M : Type 0} where
       )
 
   -- a step that leaves its word
-  pub loaded : (words : List ℕ) (i : ℕ) (views : List (View M)) → Kept words views
+  pub loaded : (words : List ℕ) (i : ℕ) (views : List (TokenView M)) → Kept words views
       → Kept (slice_set words i (slice_index words i)) views
   loaded words i views k =
       subst (λ (l : List ℕ). Kept l views) (sym (set-get_or words i 0)) k
 
   -- one view changes, and no word, book or slot
-  pub viewed : (words : List ℕ) (views : List (View M)) (id : ℕ) (w : View M) (k : Kept words views)
+  pub viewed : (words : List ℕ) (views : List (TokenView M)) (id : ℕ) (w : TokenView M)
+      (k : Kept words views)
       → Fits k.id k.book k.slots k.owner words id w
       → Signs k.id k.register k.who id w → Kept words (slice_set views id w)
   viewed words views id w k fits signs =
@@ -241,7 +242,8 @@ module _ {M : Type 0} where
       )
 
   -- a seat's slot, where another count of a slot is known
-  recounted : (slots : List (Slot M)) (owner : ℕ → ℕ) (words : List ℕ) (k : ℕ) (q : Slot M)
+  recounted : (slots : List (KnownSlot M)) (owner : ℕ → ℕ) (words : List ℕ) (k : ℕ)
+      (q : KnownSlot M)
       → k < length slots → q.out ≡ (slot_at slots k).out → q.name ≡ (slot_at slots k).name
       → (by slot asks : ℕ) (name : Option M) → Sits slots owner words by slot asks name
       → Sits (slice_set slots k q) owner words by slot asks name
@@ -253,9 +255,10 @@ module _ {M : Type 0} where
       let was : slot_at slots k ≡ slot_at slots slot = ap (slot_at slots) (sym e) in
       record {
         within = t.within;
-        out = ap (λ (r : Slot M). r.out) here ∙ out ∙ ap (λ (r : Slot M). r.out) was ∙ t.out;
+        out = ap (λ (r : KnownSlot M). r.out) here ∙ out ∙ ap (λ (r : KnownSlot M). r.out) was
+            ∙ t.out;
         named =
-            ap (λ (r : Slot M). r.name) here ∙ named ∙ ap (λ (r : Slot M). r.name) was
+            ap (λ (r : KnownSlot M). r.name) here ∙ named ∙ ap (λ (r : KnownSlot M). r.name) was
             ∙ t.named;
         word = t.word;
         only = t.only;
@@ -270,11 +273,11 @@ module _ {M : Type 0} where
       let mine = kept.fits id (Keeper v) at in
       let own = kept.signs id (Keeper v) at in
       let n : ℕ = slice_index s.words k in
-      let p : Slot M = slot_at v.slots k in
-      let q : Slot M = record { out = p.out; asks = n; name = p.name } in
-      let same : p ≡ slot_at kept.slots k = ap (λ (l : List (Slot M)). slot_at l k) mine.2 in
+      let p : KnownSlot M = slot_at v.slots k in
+      let q : KnownSlot M = record { out = p.out; asks = n; name = p.name } in
+      let same : p ≡ slot_at kept.slots k = ap (λ (l : List (KnownSlot M)). slot_at l k) mine.2 in
       let lt : k < length kept.slots = omega (arith, kept.agrees.places, within) in
-      let w : View M = keeper v.book (counted v.slots k n) v.register in (
+      let w : TokenView M = keeper v.book (counted v.slots k n) v.register in (
         w,
         keeps,
         tt,
@@ -293,12 +296,12 @@ module _ {M : Type 0} where
                   fits_other kept.id kept.book kept.book kept.slots (slice_set kept.slots k q)
                   kept.owner kept.owner s.words s.words by u (λ b p. p)
                   (λ slot asks name _. recounted kept.slots kept.owner s.words k q lt
-                  (ap (λ (r : Slot M). r.out) same) (ap (λ (r : Slot M). r.name) same)
+                  (ap (λ (r : KnownSlot M). r.out) same) (ap (λ (r : KnownSlot M). r.name) same)
                   by slot asks name)
                   (λ is. apart (is ∙ sym mine.0)) (kept.fits by u e)) (
                     mine.0,
                     mine.1,
-                    ap (λ (l : List (Slot M)). slice_set l k q) mine.2,
+                    ap (λ (l : List (KnownSlot M)). slice_set l k q) mine.2,
                     came_self kept.book v.book mine.1,
                   );
               register = kept.register;
@@ -310,15 +313,15 @@ module _ {M : Type 0} where
             },
         (
           refl,
-          subst (λ (r : Slot M). r.asks ≤ n) (sym same) (kept.agrees.known k pos within),
-          subst (λ (r : Slot M). r.out ≡ false → n ≡ r.asks) (sym same)
+          subst (λ (r : KnownSlot M). r.asks ≤ n) (sym same) (kept.agrees.known k pos within),
+          subst (λ (r : KnownSlot M). r.out ≡ false → n ≡ r.asks) (sym same)
               (kept.agrees.idle k pos within),
         ),
       )
 
   -- another token's view, where the word of a slot changes
-  fits_asked : (id : ℕ) (book : Book) (slots : List (Slot M)) (owner : ℕ → ℕ) (words : List ℕ)
-      (k n me by : ℕ) (u : View M) → me ≡ owner k → by ≢ me
+  fits_asked : (id : ℕ) (book : Book) (slots : List (KnownSlot M)) (owner : ℕ → ℕ) (words : List ℕ)
+      (k n me by : ℕ) (u : TokenView M) → me ≡ owner k → by ≢ me
       → Fits id book slots owner words by u → Fits id book slots owner (slice_set words k n) by u
   fits_asked id book slots owner words k n me by (Keeper u) mine apart f = f
   fits_asked id book slots owner words k n me by (Seat w) mine apart f = (

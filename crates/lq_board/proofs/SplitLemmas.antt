@@ -7,11 +7,11 @@ use Rattle.atomic_table.specs.Table.{State, Splits}
 use Rattle.lq_volume.specs.Book.{Book, Extends}
 use Rattle.lq_board.specs.declared.views.Author.{Author}
 use Rattle.lq_board.specs.declared.views.Register.{Register}
-use Rattle.lq_board.specs.declared.views.Slot.{Slot}
+use Rattle.lq_board.specs.declared.views.KnownSlot.{KnownSlot}
 use Rattle.lq_board.specs.declared.views.Sitting.{Sitting}
 use Rattle.lq_board.specs.declared.views.Keeping.{Keeping}
-use Rattle.lq_board.specs.declared.views.View.{View}
-use Rattle.lq_board.specs.declared.views.View.TheVariants.{Keeper, Seat}
+use Rattle.lq_board.specs.declared.views.TokenView.{TokenView}
+use Rattle.lq_board.specs.declared.views.TokenView.TheVariants.{Keeper, Seat}
 use Rattle.lq_board.specs.Author.{with_seat, new_author}
 use Rattle.lq_board.specs.Slot.{slot_at, go_out}
 use Rattle.lq_board.specs.View.{plain, keeper, numbered, copy_of, opened, seated, parted, again_of}
@@ -23,9 +23,9 @@ use Rattle.lq_board.proofs.ViewLemmas.{at_end, owner_set, owner_here, owner_else
 
 module _ {M : Type 0} where
   -- a seat of no slot is split off: the books and the slots
-  fits_plain : (id : ℕ) (v : Keeping M) (s : State ℕ (View M)) (kept : IsKept s)
+  fits_plain : (id : ℕ) (v : Keeping M) (s : State ℕ (TokenView M)) (kept : IsKept s)
       → get_elem? s.views id ≡ some (Keeper v) → (r : Register) (asks : ℕ) (name : Option M)
-      (author : Author) (by : ℕ) (u : View M)
+      (author : Author) (by : ℕ) (u : TokenView M)
       → get_elem? (slice_set s.views id (keeper v.book v.slots r)
       ++ Seat (record {
         slot = 0;
@@ -37,8 +37,8 @@ module _ {M : Type 0} where
       → Fits kept.id kept.book kept.slots kept.owner s.words by u
   fits_plain id v s kept at r asks name author by u e =
       let mine = kept.fits id (Keeper v) at in
-      let w : View M = keeper v.book v.slots r in
-      let new : View M =
+      let w : TokenView M = keeper v.book v.slots r in
+      let new : TokenView M =
       Seat (record { slot = 0; book = v.book; asks = asks; name = name; author = author }) in
       ⊎_elim
       (λ was. fits_set (Fits kept.id kept.book kept.slots kept.owner s.words) s.views id w
@@ -52,12 +52,13 @@ module _ {M : Type 0} where
       (at_end (slice_set s.views id w) new u by e)
 
   -- a slot's seat is split off: the books and the slots
-  fits_slot : (id k : ℕ) (name : Option M) (v : Keeping M) (s : State ℕ (View M))
+  fits_slot : (id k : ℕ) (name : Option M) (v : Keeping M) (s : State ℕ (TokenView M))
       (kept : IsKept s) → get_elem? s.views id ≡ some (Keeper v) → 0 < k → k < 65
       → (slot_at v.slots k).out ≡ false → (r : Register) (asks : ℕ)
-      → asks ≡ (slot_at v.slots k).asks → (author : Author) (by : ℕ) (u : View M)
-      → (let q : Slot M = record { out = true; asks = (slot_at v.slots k).asks; name = name } in
-      let w : View M = keeper v.book (slice_set v.slots k q) r in
+      → asks ≡ (slot_at v.slots k).asks → (author : Author) (by : ℕ) (u : TokenView M)
+      → (let q : KnownSlot M =
+      record { out = true; asks = (slot_at v.slots k).asks; name = name } in
+      let w : TokenView M = keeper v.book (slice_set v.slots k q) r in
       let new : Sitting M =
       record { slot = k; book = v.book; asks = asks; name = name; author = author } in
       get_elem? (slice_set s.views id w ++ Seat new ∷ []) by ≡ some u
@@ -65,14 +66,14 @@ module _ {M : Type 0} where
       (owner_set kept.owner k (length (slice_set s.views id w))) s.words by u)
   fits_slot id k name v s kept at pos within free r asks just author by u e =
       let mine = kept.fits id (Keeper v) at in
-      let p : Slot M = slot_at v.slots k in
-      let q : Slot M = record { out = true; asks = p.asks; name = name } in
-      let same : p ≡ slot_at kept.slots k = ap (λ (l : List (Slot M)). slot_at l k) mine.2 in
+      let p : KnownSlot M = slot_at v.slots k in
+      let q : KnownSlot M = record { out = true; asks = p.asks; name = name } in
+      let same : p ≡ slot_at kept.slots k = ap (λ (l : List (KnownSlot M)). slot_at l k) mine.2 in
       let was_free : (slot_at kept.slots k).out ≡ false =
-      sym (ap (λ (r : Slot M). r.out) same) ∙ free in
+      sym (ap (λ (r : KnownSlot M). r.out) same) ∙ free in
       let here : slot_at (slice_set kept.slots k q) k ≡ q =
       slot_here kept.slots k q (omega (arith, kept.agrees.places, within)) in
-      let w : View M = keeper v.book (slice_set v.slots k q) r in
+      let w : TokenView M = keeper v.book (slice_set v.slots k q) r in
       let new : Sitting M =
       record { slot = k; book = v.book; asks = asks; name = name; author = author } in
       let n : ℕ = length (slice_set s.views id w) in
@@ -93,7 +94,7 @@ module _ {M : Type 0} where
       (λ is. apart (is ∙ sym mine.0)) (kept.fits by' u' e')) (
         mine.0,
         mine.1,
-        ap (λ (l : List (Slot M)). slice_set l k q) mine.2,
+        ap (λ (l : List (KnownSlot M)). slice_set l k q) mine.2,
         came_self kept.book v.book mine.1,
       )
       by u was)
@@ -102,11 +103,11 @@ module _ {M : Type 0} where
         subst (λ (b : Book). Extends b v.book) mine.1 (extends_self v.book),
         λ _. record {
           within = within;
-          out = ap (λ (r : Slot M). r.out) here;
-          named = ap (λ (r : Slot M). r.name) here;
+          out = ap (λ (r : KnownSlot M). r.out) here;
+          named = ap (λ (r : KnownSlot M). r.name) here;
           word =
               kept.agrees.idle k pos within was_free
-              ∙ sym (ap (λ (r : Slot M). r.asks) same)
+              ∙ sym (ap (λ (r : KnownSlot M). r.asks) same)
               ∙ sym just;
           only = t.1 ∙ sym (owner_here kept.owner k n k refl);
         },
@@ -114,16 +115,16 @@ module _ {M : Type 0} where
       (at_end (slice_set s.views id w) (Seat new) u by e)
 
   -- a new seat is split off: the authors
-  signs_new : (id : ℕ) (v : Keeping M) (s : State ℕ (View M)) (kept : IsKept s)
-      → get_elem? s.views id ≡ some (Keeper v) → (slots : List (Slot M)) (new : Sitting M)
-      → new.author ≡ new_author v.register → (by : ℕ) (u : View M)
-      → (let w : View M = keeper v.book slots (with_seat v.register) in
+  signs_new : (id : ℕ) (v : Keeping M) (s : State ℕ (TokenView M)) (kept : IsKept s)
+      → get_elem? s.views id ≡ some (Keeper v) → (slots : List (KnownSlot M)) (new : Sitting M)
+      → new.author ≡ new_author v.register → (by : ℕ) (u : TokenView M)
+      → (let w : TokenView M = keeper v.book slots (with_seat v.register) in
       get_elem? (slice_set s.views id w ++ Seat new ∷ []) by ≡ some u
       → Signs kept.id (with_seat kept.register)
       (owner_set kept.who (kept.register.seats + 1) (length (slice_set s.views id w))) by u)
   signs_new id v s kept at slots new is by u e =
       let own = kept.signs id (Keeper v) at in
-      let w : View M = keeper v.book slots (with_seat v.register) in
+      let w : TokenView M = keeper v.book slots (with_seat v.register) in
       let n : ℕ = length (slice_set s.views id w) in
       let k : ℕ = kept.register.seats + 1 in
       let r : Register = with_seat kept.register in
@@ -148,18 +149,18 @@ module _ {M : Type 0} where
       (at_end (slice_set s.views id w) (Seat new) u by e)
 
   -- the latest seat that came back is split off: the authors
-  signs_again : (id : ℕ) (v : Keeping M) (s : State ℕ (View M)) (kept : IsKept s)
+  signs_again : (id : ℕ) (v : Keeping M) (s : State ℕ (TokenView M)) (kept : IsKept s)
       → get_elem? s.views id ≡ some (Keeper v) → 0 < v.back.author.number
-      → (slots : List (Slot M)) (new : Sitting M) → new.author ≡ v.back.author
-      → (by : ℕ) (u : View M)
-      → (let w : View M = keeper v.book slots v.register in
+      → (slots : List (KnownSlot M)) (new : Sitting M) → new.author ≡ v.back.author
+      → (by : ℕ) (u : TokenView M)
+      → (let w : TokenView M = keeper v.book slots v.register in
       get_elem? (slice_set s.views id w ++ Seat new ∷ []) by ≡ some u
       → Signs kept.id kept.register
       (owner_set kept.who v.back.author.number (length (slice_set s.views id w))) by u)
   signs_again id v s kept at pos slots new is by u e =
       let own = kept.signs id (Keeper v) at in
       let o = own.2 pos in
-      let w : View M = keeper v.book slots v.register in
+      let w : TokenView M = keeper v.book slots v.register in
       let n : ℕ = length (slice_set s.views id w) in
       let k : ℕ = v.back.author.number in
       let r : Register = kept.register in
@@ -208,9 +209,9 @@ module _ {M : Type 0} where
       → Splits IsKept id (Keeper v) (opened k name (Keeper v)) (seated k name (Keeper v))
   sits_down id k name v pos within free s kept at =
       let mine = kept.fits id (Keeper v) at in
-      let p : Slot M = slot_at v.slots k in
-      let q : Slot M = record { out = true; asks = p.asks; name = name } in
-      let same : p ≡ slot_at kept.slots k = ap (λ (l : List (Slot M)). slot_at l k) mine.2 in
+      let p : KnownSlot M = slot_at v.slots k in
+      let q : KnownSlot M = record { out = true; asks = p.asks; name = name } in
+      let same : p ≡ slot_at kept.slots k = ap (λ (l : List (KnownSlot M)). slot_at l k) mine.2 in
       let new : Sitting M =
       record {
         slot = k;
@@ -221,7 +222,7 @@ module _ {M : Type 0} where
       } in
       let n : ℕ = length (slice_set s.views id (opened k name (Keeper v))) in
       let most : q.asks ≤ slice_index s.words k =
-      subst (λ (r : Slot M). r.asks ≤ slice_index s.words k) (sym same)
+      subst (λ (r : KnownSlot M). r.asks ≤ slice_index s.words k) (sym same)
       (kept.agrees.known k pos within) in
       record {
         id = kept.id;
@@ -279,10 +280,10 @@ module _ {M : Type 0} where
       }
   again_at id name v (suc k) number within was s kept at =
       let mine = kept.fits id (Keeper v) at in
-      let p : Slot M = slot_at v.slots (suc k) in
-      let q : Slot M = record { out = true; asks = p.asks; name = name } in
+      let p : KnownSlot M = slot_at v.slots (suc k) in
+      let q : KnownSlot M = record { out = true; asks = p.asks; name = name } in
       let same : p ≡ slot_at kept.slots (suc k) =
-      ap (λ (l : List (Slot M)). slot_at l (suc k)) mine.2 in
+      ap (λ (l : List (KnownSlot M)). slot_at l (suc k)) mine.2 in
       let pos : 0 < suc k = omega arith in
       let new : Sitting M =
       record {
@@ -292,10 +293,10 @@ module _ {M : Type 0} where
         name = name;
         author = v.back.author;
       } in
-      let w : View M = keeper v.book (slice_set v.slots (suc k) q) v.register in
+      let w : TokenView M = keeper v.book (slice_set v.slots (suc k) q) v.register in
       let n : ℕ = length (slice_set s.views id w) in
       let most : q.asks ≤ slice_index s.words (suc k) =
-      subst (λ (r : Slot M). r.asks ≤ slice_index s.words (suc k)) (sym same)
+      subst (λ (r : KnownSlot M). r.asks ≤ slice_index s.words (suc k)) (sym same)
       (kept.agrees.known (suc k) pos within) in
       record {
         id = kept.id;

@@ -9,9 +9,9 @@ use Rattle.lq_volume.specs.Change.{IsLawful}
 use Rattle.lq_volume.specs.Laws.{ChangesKeepTrees}
 use Rattle.lq_volume.specs.Book.{Book, state_of}
 use Rattle.lq_board.specs.declared.views.Keeping.{Keeping}
-use Rattle.lq_board.specs.declared.views.Slot.{Slot}
-use Rattle.lq_board.specs.declared.views.View.{View}
-use Rattle.lq_board.specs.declared.views.View.TheVariants.{Keeper, Seat, Spent}
+use Rattle.lq_board.specs.declared.views.KnownSlot.{KnownSlot}
+use Rattle.lq_board.specs.declared.views.TokenView.{TokenView}
+use Rattle.lq_board.specs.declared.views.TokenView.TheVariants.{Keeper, Seat, Spent}
 use Rattle.lq_board.specs.Slot.{slot_at, come_back}
 use Rattle.lq_board.specs.Author.{IsAuthorIn}
 use Rattle.lq_board.specs.Book.{IsFullBook}
@@ -27,72 +27,75 @@ use Rattle.lq_board.proofs.JoinLemmas.{backs}
 
 module _ {M : Type 0} where
   -- a keeper between its steps, and a seat
-  abbrev Keeps : Me ℕ (View M) → Type 0
+  abbrev Keeps : Me ℕ (TokenView M) → Type 0
   Keeps me = me ≡ (Keeper (keeping_of me.0), [])
 
   -- a seat between its steps
-  abbrev SitsAt : Me ℕ (View M) → Type 0
+  abbrev SitsAt : Me ℕ (TokenView M) → Type 0
   SitsAt me = me ≡ (Seat (sitting_of me.0), [])
 
   -- what a keeper knows between its steps
-  abbrev at_rest : Me ℕ (View M) → Keeping M
+  abbrev at_rest : Me ℕ (TokenView M) → Keeping M
   at_rest me = keeping_of me.0
 
   -- the keeper may add one to the word of the changes, once the change's author came back
-  pub adds_after : (slots id : ℕ) (me you now : Me ℕ (View M)) (x : Change) (said : Option Change)
+  pub adds_after : (slots id : ℕ) (me you now : Me ℕ (TokenView M)) (x : Change)
+      (said : Option Change)
       → ChangesKeepTrees → said ≡ Some x → Keeps me → now ≡ (taken me.0 you.0, me.1)
       → 0 < (sitting_of you.0).author.number → IsLawful (state_of (keeping_of me.0).book) x
       → Allows IsKept slots id now 0 (λ n. (n + 1) % 2 ^ 64)
       (Adds said (step slots 0 1 0 none) now)
   adds_after slots id me you now x said keeps says was is pos lawful =
       let rest : me.1 ≡ [] = ap (λ m. m.1) was in
-      let back : Me ℕ (View M) = (taken me.0 you.0, []) in
+      let back : Me ℕ (TokenView M) = (taken me.0 you.0, []) in
       let at : now ≡ back =
-      is ∙ ap (λ (l : List (ℕ × ℕ)). let x : Me ℕ (View M) = (taken me.0 you.0, l) in x) rest in
+      is ∙ ap (λ (l : List (ℕ × ℕ)).
+      let x : Me ℕ (TokenView M) = (taken me.0 you.0, l) in x) rest in
       subst
       (λ (o : Option Change).
       Allows IsKept slots id now 0 (λ n. (n + 1) % 2 ^ 64) (Adds o (step slots 0 1 0 none) now))
       (sym says)
       (subst
-      (λ (m : Me ℕ (View M)).
+      (λ (m : Me ℕ (TokenView M)).
       Allows IsKept slots id m 0 (λ n. (n + 1) % 2 ^ 64)
       (Adds (Some x) (step slots 0 1 0 none) m))
       (sym at) (adds slots id (keeping_of (taken me.0 you.0)) x keeps pos lawful))
 
   -- a seat may read the word of the changes
-  pub sees_as : (slots id : ℕ) (me : Me ℕ (View M)) → SitsAt me
+  pub sees_as : (slots id : ℕ) (me : Me ℕ (TokenView M)) → SitsAt me
       → Allows IsKept slots id me 0 (λ n. n) (Sees (step slots 0 0 0 none) me)
   sees_as slots id me is =
       subst
-      (λ (m : Me ℕ (View M)).
+      (λ (m : Me ℕ (TokenView M)).
       Allows IsKept slots id m 0 (λ n. n) (Sees (step slots 0 0 0 none) m))
       (sym is) (sees slots id (sitting_of me.0))
 
   -- the keeper's look after a seat came back
-  pub checks_after : (slots id : ℕ) (me you now : Me ℕ (View M)) → Keeps me
+  pub checks_after : (slots id : ℕ) (me you now : Me ℕ (TokenView M)) → Keeps me
       → now ≡ (taken me.0 you.0, me.1)
       → Allows IsKept slots id now 0 (λ n. n) (Checks (step slots 0 0 0 none) now)
   checks_after slots id me you now was is =
       let rest : me.1 ≡ [] = ap (λ m. m.1) was in
-      let back : Me ℕ (View M) = (taken me.0 you.0, []) in
+      let back : Me ℕ (TokenView M) = (taken me.0 you.0, []) in
       let at : now ≡ back =
-      is ∙ ap (λ (l : List (ℕ × ℕ)). let x : Me ℕ (View M) = (taken me.0 you.0, l) in x) rest in
+      is ∙ ap (λ (l : List (ℕ × ℕ)).
+      let x : Me ℕ (TokenView M) = (taken me.0 you.0, l) in x) rest in
       subst
-      (λ (m : Me ℕ (View M)).
+      (λ (m : Me ℕ (TokenView M)).
       Allows IsKept slots id m 0 (λ n. n) (Checks (step slots 0 0 0 none) m))
       (sym at) (checks slots id (keeping_of (taken me.0 you.0)))
 
   -- the keeper may read a slot's word
-  pub counts_as : (slots id k : ℕ) (me : Me ℕ (View M)) → Keeps me → 0 < k → k < 65
+  pub counts_as : (slots id k : ℕ) (me : Me ℕ (TokenView M)) → Keeps me → 0 < k → k < 65
       → Allows IsKept slots id me k (λ n. n) (Counts (step slots k 0 0 none) me)
   counts_as slots id k me is pos within =
       subst
-      (λ (m : Me ℕ (View M)).
+      (λ (m : Me ℕ (TokenView M)).
       Allows IsKept slots id m k (λ n. n) (Counts (step slots k 0 0 none) m))
       (sym is) (counts slots id k (at_rest me) pos within)
 
   -- a seat may add one to its own slot's word, as a hang-up is asked
-  pub asks_as : (slots id k : ℕ) (me : Me ℕ (View M)) → SitsAt me → k ≡ (sitting_of me.0).slot
+  pub asks_as : (slots id k : ℕ) (me : Me ℕ (TokenView M)) → SitsAt me → k ≡ (sitting_of me.0).slot
       → 0 < (sitting_of me.0).slot → (sitting_of me.0).asks < 1000000000000
       → Allows IsKept slots id me k (λ n. (n + 1) % 2 ^ 64) (Asks (step slots k 1 0 none) me)
   asks_as slots id k me is here pos room =
@@ -101,26 +104,26 @@ module _ {M : Type 0} where
       Allows IsKept slots id me i (λ n. (n + 1) % 2 ^ 64) (Asks (step slots i 1 0 none) me))
       (sym here)
       (subst
-      (λ (m : Me ℕ (View M)).
+      (λ (m : Me ℕ (TokenView M)).
       Allows IsKept slots id m (sitting_of me.0).slot (λ n. (n + 1) % 2 ^ 64)
       (Asks (step slots (sitting_of me.0).slot 1 0 none) m))
       (sym is) (asks slots id (sitting_of me.0) pos room))
 
   -- the keeper may give out a new seat of no slot
-  pub copies_as : (id : ℕ) (me : Me ℕ (View M)) → Keeps me
+  pub copies_as : (id : ℕ) (me : Me ℕ (TokenView M)) → Keeps me
       → Splits IsKept id me.0 (numbered me.0) (copy_of me.0)
   copies_as id me is =
-      subst (λ (v : View M). Splits IsKept id v (numbered v) (copy_of v))
+      subst (λ (v : TokenView M). Splits IsKept id v (numbered v) (copy_of v))
       (sym (ap (λ m. m.0) is)) (copies id (at_rest me))
 
   -- a keeper after a new seat of no slot went out
-  pub is_numbered : (me now : Me ℕ (View M)) → IsKeeping me → now ≡ (numbered me.0, me.1)
+  pub is_numbered : (me now : Me ℕ (TokenView M)) → IsKeeping me → now ≡ (numbered me.0, me.1)
       → IsKeeping now
   is_numbered me now k is =
       let rest : me.1 ≡ [] = ap (λ m. m.1) k.0 in
-      let after : Me ℕ (View M) = (numbered me.0, []) in
+      let after : Me ℕ (TokenView M) = (numbered me.0, []) in
       let at : now ≡ after =
-      is ∙ ap (λ (l : List (ℕ × ℕ)). let x : Me ℕ (View M) = (numbered me.0, l) in x) rest in
+      is ∙ ap (λ (l : List (ℕ × ℕ)). let x : Me ℕ (TokenView M) = (numbered me.0, l) in x) rest in
       subst IsKeeping (sym at) (
         refl,
         k.1,
@@ -129,15 +132,16 @@ module _ {M : Type 0} where
       )
 
   -- and after a slot's new seat
-  pub is_opened : (k : ℕ) (name : Option M) (me now : Me ℕ (View M)) → IsKeeping me
+  pub is_opened : (k : ℕ) (name : Option M) (me now : Me ℕ (TokenView M)) → IsKeeping me
       → now ≡ (opened k name me.0, me.1) → IsKeeping now
   is_opened k name me now kept is =
       let rest : me.1 ≡ [] = ap (λ m. m.1) kept.0 in
-      let after : Me ℕ (View M) = (opened k name me.0, []) in
+      let after : Me ℕ (TokenView M) = (opened k name me.0, []) in
       let at : now ≡ after =
-      is ∙ ap (λ (l : List (ℕ × ℕ)). let x : Me ℕ (View M) = (opened k name me.0, l) in x) rest in
+      is ∙ ap (λ (l : List (ℕ × ℕ)).
+      let x : Me ℕ (TokenView M) = (opened k name me.0, l) in x) rest in
       let slots = (keeping_of me.0).slots in
-      let q : Slot M = record { out = true; asks = (slot_at slots k).asks; name = name } in
+      let q : KnownSlot M = record { out = true; asks = (slot_at slots k).asks; name = name } in
       subst IsKeeping (sym at) (
         refl,
         length-set slots k q ∙ kept.1,
@@ -146,7 +150,7 @@ module _ {M : Type 0} where
       )
 
   -- a seat that went out
-  pub is_sitting : (me : Me ℕ (View M)) (w : Sitting M) → me ≡ (Seat w, []) → IsFullBook w.book
+  pub is_sitting : (me : Me ℕ (TokenView M)) (w : Sitting M) → me ≡ (Seat w, []) → IsFullBook w.book
       → IsAuthorIn w.author w.book → IsSitting me
   is_sitting me w is full author =
       subst IsSitting (sym is) (refl, full, author)
@@ -161,22 +165,22 @@ module _ {M : Type 0} where
       × (v.back.asks ≡ (slot_at v.slots v.back.slot).asks))
 
   -- what is known of a slot whose seat came back
-  come_at : (slots : List (Slot M)) (k asks : ℕ) (name : Option M) → k < length slots → 0 < k
+  come_at : (slots : List (KnownSlot M)) (k asks : ℕ) (name : Option M) → k < length slots → 0 < k
       → ((slot_at (come_back slots k asks name) k).out ≡ false)
       × (asks ≡ (slot_at (come_back slots k asks name) k).asks)
   come_at slots zero asks name lt pos = absurd (omega (arith, pos))
   come_at slots (suc k) asks name lt pos =
-      let q : Slot M = record { out = false; asks = asks; name = name } in
+      let q : KnownSlot M = record { out = false; asks = asks; name = name } in
       let here = slot_here slots (suc k) q lt in
-      (ap (λ (r : Slot M). r.out) here, sym (ap (λ (r : Slot M). r.asks) here))
+      (ap (λ (r : KnownSlot M). r.out) here, sym (ap (λ (r : KnownSlot M). r.asks) here))
 
   -- once it came back
-  pub is_back : (me you now : Me ℕ (View M)) → now ≡ (taken me.0 you.0, me.1)
+  pub is_back : (me you now : Me ℕ (TokenView M)) → now ≡ (taken me.0 you.0, me.1)
       → length (keeping_of me.0).slots ≡ 65 → 0 < (sitting_of you.0).author.number
       → (sitting_of you.0).slot < 65 → IsBack (keeping_of now.0)
   is_back me you now is wide number within =
       let back = sitting_of you.0 in
-      subst (λ (m : Me ℕ (View M)). IsBack (keeping_of m.0)) (sym is) (
+      subst (λ (m : Me ℕ (TokenView M)). IsBack (keeping_of m.0)) (sym is) (
         number,
         within,
         come_at (keeping_of me.0).slots back.slot back.asks back.name
@@ -184,40 +188,41 @@ module _ {M : Type 0} where
       )
 
   -- the keeper may give it out again
-  pub again_as : (id : ℕ) (name : Option M) (now : Me ℕ (View M)) (v : Keeping M)
+  pub again_as : (id : ℕ) (name : Option M) (now : Me ℕ (TokenView M)) (v : Keeping M)
       (more : List (ℕ × ℕ)) → now ≡ (Keeper v, more) → IsBack v
       → Splits IsKept id now.0 (parted name now.0) (again_of name now.0)
   again_as id name now v more is back =
-      subst (λ (u : View M). Splits IsKept id u (parted name u) (again_of name u))
+      subst (λ (u : TokenView M). Splits IsKept id u (parted name u) (again_of name u))
       (sym (ap (λ m. m.0) is)) (again id name v back.0 back.1 back.2)
 
   -- the keeper may give out the seat of a slot whose seat is not out
-  pub sits_down_as : (id k : ℕ) (name : Option M) (me : Me ℕ (View M)) → Keeps me
+  pub sits_down_as : (id k : ℕ) (name : Option M) (me : Me ℕ (TokenView M)) → Keeps me
       → 0 < k → k < 65 → (slot_at (keeping_of me.0).slots k).out ≡ false
       → Splits IsKept id me.0 (opened k name me.0) (seated k name me.0)
   sits_down_as id k name me is pos within free =
-      subst (λ (v : View M). Splits IsKept id v (opened k name v) (seated k name v))
+      subst (λ (v : TokenView M). Splits IsKept id v (opened k name v) (seated k name v))
       (sym (ap (λ m. m.0) is)) (sits_down id k name (at_rest me) pos within free)
 
   -- the keeper may take a seat back
-  pub backs_as : (id : ℕ) (me : Me ℕ (View M)) (other : ℕ) (you : Me ℕ (View M)) → Keeps me
+  pub backs_as : (id : ℕ) (me : Me ℕ (TokenView M)) (other : ℕ) (you : Me ℕ (TokenView M))
+      → Keeps me
       → SitsAt you → Joins IsKept id me.0 other you.0 (taken me.0 you.0) Spent
   backs_as id me other you is are =
-      subst (λ (v : View M). Joins IsKept id v other you.0 (taken v you.0) Spent)
+      subst (λ (v : TokenView M). Joins IsKept id v other you.0 (taken v you.0) Spent)
       (sym (ap (λ m. m.0) is))
       (subst
-      (λ (u : View M).
+      (λ (u : TokenView M).
       Joins IsKept id (Keeper (at_rest me)) other u (taken (Keeper (at_rest me)) u) Spent)
       (sym (ap (λ m. m.0) are)) (backs id (at_rest me) other (sitting_of you.0)))
 
   -- the last number is the length of the keeper's book
-  pub closes : (id : ℕ) (me : Me ℕ (View M)) (words other : List ℕ) → Keeps me
+  pub closes : (id : ℕ) (me : Me ℕ (TokenView M)) (words other : List ℕ) → Keeps me
       → Final (Seen IsKept id me.0) words other
       → slice_index words 0 ≡ length (keeping_of me.0).book.changes
   closes id me words other is f =
       let kept : Kept f.0.words f.0.views = f.1.0 in
       let at : get_elem? f.0.views id ≡ some (Keeper (at_rest me)) =
-      f.1.1 ∙ ap (λ (m : Me ℕ (View M)). some m.0) is in
+      f.1.1 ∙ ap (λ (m : Me ℕ (TokenView M)). some m.0) is in
       let mine = kept.fits id (Keeper (at_rest me)) at in
       ap (λ (l : List ℕ). slice_index l 0) (sym f.2) ∙ kept.number
       ∙ ap (λ (b : Book). length b.changes) (sym mine.1)

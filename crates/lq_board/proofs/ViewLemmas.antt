@@ -7,9 +7,9 @@ use Rattle.atomic_table.proofs.Lists.{at_set}
 use Rattle.lq_volume.specs.Book.{Book, Extends}
 use Rattle.lq_board.specs.declared.views.Author.{Author}
 use Rattle.lq_board.specs.declared.views.Register.{Register}
-use Rattle.lq_board.specs.declared.views.Slot.{Slot}
-use Rattle.lq_board.specs.declared.views.View.{View}
-use Rattle.lq_board.specs.declared.views.View.TheVariants.{Keeper, Seat, Pair, Spent}
+use Rattle.lq_board.specs.declared.views.KnownSlot.{KnownSlot}
+use Rattle.lq_board.specs.declared.views.TokenView.{TokenView}
+use Rattle.lq_board.specs.declared.views.TokenView.TheVariants.{Keeper, Seat, Pair, Spent}
 use Rattle.lq_board.specs.Author.{no_author, with_seat, with_author}
 use Rattle.lq_board.specs.Slot.{unused}
 use Rattle.lq_board.specs.View.{plain}
@@ -70,13 +70,14 @@ owns_here r who by k a o =
 
 module _ {M : Type 0} where
   -- one view changes
-  pub fits_set : (P : ℕ → View M → Type 0) (views : List (View M)) (id : ℕ) (w : View M)
-      → ((by : ℕ) (v : View M) → by ≢ id → get_elem? views by ≡ some v → P by v) → P id w
-      → (by : ℕ) (v : View M) → get_elem? (slice_set views id w) by ≡ some v → P by v
+  pub fits_set : (P : ℕ → TokenView M → Type 0) (views : List (TokenView M)) (id : ℕ)
+      (w : TokenView M)
+      → ((by : ℕ) (v : TokenView M) → by ≢ id → get_elem? views by ≡ some v → P by v) → P id w
+      → (by : ℕ) (v : TokenView M) → get_elem? (slice_set views id w) by ≡ some v → P by v
   fits_set P views id w others mine by v e =
       ⊎_elim
       (λ (x : (by ≡ id) × (w ≡ v)).
-      subst (λ (y : ℕ × View M). P y.0 y.1) (λ i. (sym x.0 i, x.1 i)) mine)
+      subst (λ (y : ℕ × TokenView M). P y.0 y.1) (λ i. (sym x.0 i, x.1 i)) mine)
       (λ (x : (by ≢ id) × (get_elem? views by ≡ some v)). others by v x.0 x.1)
       (at_set views id by w v e)
 
@@ -87,7 +88,7 @@ module _ {M : Type 0} where
       (subst (Extends book) (sym e) (extends_self book), λ (lt : 0 < 0). absurd (omega arith))
 
   -- a seat's slot, where another word changed
-  pub sits_word : (slots : List (Slot M)) (owner : ℕ → ℕ) (words : List ℕ)
+  pub sits_word : (slots : List (KnownSlot M)) (owner : ℕ → ℕ) (words : List ℕ)
       (i n by slot asks : ℕ) (name : Option M) → slot ≢ i
       → Sits slots owner words by slot asks name
       → Sits slots owner (slice_set words i n) by slot asks name
@@ -101,23 +102,23 @@ module _ {M : Type 0} where
       }
 
   -- a seat's slot, where another changed, and another's owner
-  pub sits_slot : (slots : List (Slot M)) (owner owner' : ℕ → ℕ) (words : List ℕ)
-      (k by slot asks : ℕ) (name : Option M) (q : Slot M) → slot ≢ k → owner' slot ≡ owner slot
+  pub sits_slot : (slots : List (KnownSlot M)) (owner owner' : ℕ → ℕ) (words : List ℕ)
+      (k by slot asks : ℕ) (name : Option M) (q : KnownSlot M) → slot ≢ k → owner' slot ≡ owner slot
       → Sits slots owner words by slot asks name
       → Sits (slice_set slots k q) owner' words by slot asks name
   sits_slot slots owner owner' words k by slot asks name q ne same t =
       let here = slot_else slots k slot q ne in
       record {
         within = t.within;
-        out = ap (λ (r : Slot M). r.out) here ∙ t.out;
-        named = ap (λ (r : Slot M). r.name) here ∙ t.named;
+        out = ap (λ (r : KnownSlot M). r.out) here ∙ t.out;
+        named = ap (λ (r : KnownSlot M). r.name) here ∙ t.named;
         word = t.word;
         only = t.only ∙ sym same;
       }
 
   -- another token's view, where the seats' books still begin the book, and they keep their slots
-  pub fits_other : (id : ℕ) (book book' : Book) (slots slots' : List (Slot M))
-      (owner owner' : ℕ → ℕ) (words words' : List ℕ) (by : ℕ) (v : View M)
+  pub fits_other : (id : ℕ) (book book' : Book) (slots slots' : List (KnownSlot M))
+      (owner owner' : ℕ → ℕ) (words words' : List ℕ) (by : ℕ) (v : TokenView M)
       → ((b : Book) → Extends book b → Extends book' b)
       → ((slot asks : ℕ) (name : Option M) → 0 < slot → Sits slots owner words by slot asks name
       → Sits slots' owner' words' by slot asks name)
@@ -133,7 +134,7 @@ module _ {M : Type 0} where
   fits_other id book book' slots slots' owner owner' words words' by Spent longer sits apart f = tt
 
   -- another token's author, where the authors are as they were but for one
-  pub signs_other : (id : ℕ) (r r' : Register) (who who' : ℕ → ℕ) (by : ℕ) (v : View M)
+  pub signs_other : (id : ℕ) (r r' : Register) (who who' : ℕ → ℕ) (by : ℕ) (v : TokenView M)
       → ((a : Author) → Owns r who by a → Owns r' who' by a)
       → by ≢ id → Signs id r who by v → Signs id r' who' by v
   signs_other id r r' who who' by (Keeper v) owns apart f = absurd (apart f.0)
@@ -143,7 +144,7 @@ module _ {M : Type 0} where
   signs_other id r r' who who' by Spent owns apart f = tt
 
   -- any token's author, where only one author has another token
-  pub signs_moved : (id : ℕ) (r : Register) (who who' : ℕ → ℕ) (by : ℕ) (v : View M)
+  pub signs_moved : (id : ℕ) (r : Register) (who who' : ℕ → ℕ) (by : ℕ) (v : TokenView M)
       → ((a : Author) → Owns r who by a → Owns r who' by a)
       → Signs id r who by v → Signs id r who' by v
   signs_moved id r who who' by (Keeper v) owns f =

@@ -3,7 +3,7 @@ use Rattle.std.specs.Prelude.{◌≡◌, ◌<◌, ◌≤◌, ℕ, true, List, []
 use Rattle.lq_volume.specs.declared.change.Change.{Change}
 use Rattle.lq_volume.specs.Change.{after}
 use Rattle.lq_volume.specs.Book.{Extends, grown, state_of}
-use Rattle.lq_board.specs.declared.views.Slot.{Slot}
+use Rattle.lq_board.specs.declared.views.KnownSlot.{KnownSlot}
 use Rattle.lq_board.specs.Author.{IsAuthor, IsSigned, new_author, with_author, with_change, with_seat}
 use Rattle.lq_board.specs.Book.{IsFullBook}
 use Rattle.lq_board.specs.Slot.{slot_at, gone_out, go_out, come_back}
@@ -34,7 +34,7 @@ module _ {M : Type 0} where
 
   -- the slot's seat was out under the name that the keeper knew, and had asked at least as often as
   -- the keeper knew
-  pub record WasOut (slots : List (Slot M)) (s : SeatToken M) : Type 0 where
+  pub record WasOut (slots : List (KnownSlot M)) (s : SeatToken M) : Type 0 where
     pub name : (slot_at slots s.slot).name ≡ s.name
     pub asks : (slot_at slots s.slot).asks ≤ s.asks
     pub out : (slot_at slots s.slot).out ≡ true

@@ -4,12 +4,12 @@ use mathlib.Core.Option.{some}
 use lib.ListN.{get_elem?}
 use Rattle.atomic_table.specs.Table.{State}
 use Rattle.lq_volume.specs.Book.{Book, Extends}
-use Rattle.lq_board.specs.declared.views.Slot.{Slot}
+use Rattle.lq_board.specs.declared.views.KnownSlot.{KnownSlot}
 use Rattle.lq_board.specs.declared.views.Author.{Author}
 use Rattle.lq_board.specs.declared.views.Register.{Register}
 use Rattle.lq_board.specs.declared.views.Sitting.{Sitting}
-use Rattle.lq_board.specs.declared.views.View.{View}
-use Rattle.lq_board.specs.declared.views.View.TheVariants.{Keeper, Seat, Pair, Spent}
+use Rattle.lq_board.specs.declared.views.TokenView.{TokenView}
+use Rattle.lq_board.specs.declared.views.TokenView.TheVariants.{Keeper, Seat, Pair, Spent}
 use Rattle.lq_board.specs.Book.{IsFullBook}
 use Rattle.lq_board.specs.Author.{IsSigned, IsAuthor}
 use Rattle.lq_board.specs.Slot.{slot_at}
@@ -22,14 +22,14 @@ pub record Owns (r : Register) (who : ℕ → ℕ) (by : ℕ) (a : Author) : Typ
 module _ {M : Type 0} where
   -- what holds for a seat that came back: its book is a prefix of the keeper's; a slot's seat was
   -- out under the name that the keeper knew, and had asked at least as often as the keeper knew
-  abbrev pub CameBack : Book → Sitting M → Slot M → Type 0
+  abbrev pub CameBack : Book → Sitting M → KnownSlot M → Type 0
   CameBack book back was =
       Extends book back.book
       × (0 < back.slot → (was.name ≡ back.name) × (was.asks ≤ back.asks) × (was.out ≡ true))
 
   -- the seat `by` is out of its slot, and is the only one
   pub record Sits
-      (slots : List (Slot M))
+      (slots : List (KnownSlot M))
       (owner : ℕ → ℕ)
       (words : List ℕ)
       (by slot asks : ℕ)
@@ -41,7 +41,7 @@ module _ {M : Type 0} where
     pub only : by ≡ owner slot
 
   -- there is one keeper, and a seat's book is a prefix of the keeper's
-  abbrev pub Fits : ℕ → Book → List (Slot M) → (ℕ → ℕ) → List ℕ → ℕ → View M → Type 0
+  abbrev pub Fits : ℕ → Book → List (KnownSlot M) → (ℕ → ℕ) → List ℕ → ℕ → TokenView M → Type 0
   Fits id book slots owner words by (Keeper v) =
       (by ≡ id) × (v.book ≡ book) × (v.slots ≡ slots) × CameBack book v.back v.was
   Fits id book slots owner words by (Seat w) =
@@ -50,7 +50,7 @@ module _ {M : Type 0} where
   Fits id book slots owner words by Spent = Unit {0}
 
   -- each seat is an author of its own, and the keeper has that of the latest seat that came back
-  abbrev pub Signs : ℕ → Register → (ℕ → ℕ) → ℕ → View M → Type 0
+  abbrev pub Signs : ℕ → Register → (ℕ → ℕ) → ℕ → TokenView M → Type 0
   Signs id r who by (Keeper v) =
       (by ≡ id)
       × (v.register ≡ r)
@@ -61,7 +61,7 @@ module _ {M : Type 0} where
   Signs id r who by Spent = Unit {0}
 
   -- a slot's word is at least what the keeper knows, and equals it where no seat of the slot is out
-  pub record Agrees (words : List ℕ) (slots : List (Slot M)) : Type 0 where
+  pub record Agrees (words : List ℕ) (slots : List (KnownSlot M)) : Type 0 where
     pub wide : length words ≡ 65
     pub places : length slots ≡ 65
     pub known : (k : ℕ) → 0 < k → k < 65 → (slot_at slots k).asks ≤ slice_index words k
@@ -69,20 +69,21 @@ module _ {M : Type 0} where
         → slice_index words k ≡ (slot_at slots k).asks
 
   -- word 0 is the length of the keeper's book, which is lawful, and each change has one author
-  pub record Kept (words : List ℕ) (views : List (View M)) : Type 0 where
+  pub record Kept (words : List ℕ) (views : List (TokenView M)) : Type 0 where
     pub id : ℕ
     pub book : Book
-    pub slots : List (Slot M)
+    pub slots : List (KnownSlot M)
     pub owner : ℕ → ℕ
     pub number : slice_index words 0 ≡ length book.changes
     pub full : IsFullBook book
     pub agrees : Agrees words slots
-    pub fits : (by : ℕ) (v : View M) → get_elem? views by ≡ some v
+    pub fits : (by : ℕ) (v : TokenView M) → get_elem? views by ≡ some v
         → Fits id book slots owner words by v
     pub register : Register
     pub who : ℕ → ℕ
     pub signed : IsSigned book register
-    pub signs : (by : ℕ) (v : View M) → get_elem? views by ≡ some v → Signs id register who by v
+    pub signs : (by : ℕ) (v : TokenView M) → get_elem? views by ≡ some v
+        → Signs id register who by v
 
-  abbrev pub IsKept : State ℕ (View M) → Type 0
+  abbrev pub IsKept : State ℕ (TokenView M) → Type 0
   IsKept s = Kept s.words s.views

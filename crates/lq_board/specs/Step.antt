@@ -3,8 +3,8 @@ use Rattle.std.specs.Prelude.{◌≡◌, ◌≢◌, ℕ, ◌+◌, ◌<◌, ◌�
 use Rattle.atomic_table.specs.Table.{Step, Me}
 use Rattle.lq_volume.specs.declared.change.Change.{Change}
 use Rattle.lq_volume.specs.Book.{grown, Extends}
-use Rattle.lq_board.specs.declared.views.View.{View}
-use Rattle.lq_board.specs.declared.views.View.TheVariants.{Keeper, Seat}
+use Rattle.lq_board.specs.declared.views.TokenView.{TokenView}
+use Rattle.lq_board.specs.declared.views.TokenView.TheVariants.{Keeper, Seat}
 use Rattle.lq_board.specs.Book.{IsFullBook}
 use Rattle.lq_board.specs.Author.{IsSigned, IsAuthor, IsAuthorIn, AreDisjoint, with_author, with_change}
 use Rattle.lq_board.specs.Slot.{slot_at, counted}
@@ -14,7 +14,7 @@ use Rattle.lq_board.specs.Rule.{CameBack}
 module _ {M : Type 0} where
   -- a change by the latest seat that came back was added to the book
   abbrev pub Adds :
-      Option Change → Step ℕ → Me ℕ (View M) → ℕ → Me ℕ (View M) → Type 0
+      Option Change → Step ℕ → Me ℕ (TokenView M) → ℕ → Me ℕ (TokenView M) → Type 0
   Adds change s m found n =
       let was = keeping_of m.0 in
       let book = grown was.book (option_to_list change) in
@@ -45,7 +45,7 @@ module _ {M : Type 0} where
       × IsAuthor author register
 
   -- the number is the length of a book that extends the book known before
-  abbrev pub Sees : Step ℕ → Me ℕ (View M) → ℕ → Me ℕ (View M) → Type 0
+  abbrev pub Sees : Step ℕ → Me ℕ (TokenView M) → ℕ → Me ℕ (TokenView M) → Type 0
   Sees s m found n =
       let was = sitting_of m.0 in
       let book = (sitting_of n.0).book in
@@ -66,7 +66,7 @@ module _ {M : Type 0} where
       × IsAuthorIn was.author book
 
   -- what came back is as the rule says, and the number is the length of the book
-  abbrev pub Checks : Step ℕ → Me ℕ (View M) → ℕ → Me ℕ (View M) → Type 0
+  abbrev pub Checks : Step ℕ → Me ℕ (TokenView M) → ℕ → Me ℕ (TokenView M) → Type 0
   Checks s m found n =
       let was = keeping_of m.0 in
       (n ≡ m)
@@ -75,7 +75,7 @@ module _ {M : Type 0} where
       × (0 < was.back.author.number → IsAuthor was.back.author was.register)
 
   -- a slot's seats asked at least as often as was known, and exactly as often where no seat is out
-  abbrev pub Counts : Step ℕ → Me ℕ (View M) → ℕ → Me ℕ (View M) → Type 0
+  abbrev pub Counts : Step ℕ → Me ℕ (TokenView M) → ℕ → Me ℕ (TokenView M) → Type 0
   Counts s m found n =
       let was = keeping_of m.0 in
       (n ≡ (keeper was.book (counted was.slots s.word found) was.register, m.1))
@@ -83,7 +83,7 @@ module _ {M : Type 0} where
       × ((slot_at was.slots s.word).out ≡ false → found ≡ (slot_at was.slots s.word).asks)
 
   -- the seat has asked once more
-  abbrev pub Asks : Step ℕ → Me ℕ (View M) → ℕ → Me ℕ (View M) → Type 0
+  abbrev pub Asks : Step ℕ → Me ℕ (TokenView M) → ℕ → Me ℕ (TokenView M) → Type 0
   Asks s m found n =
       let was = sitting_of m.0 in
       (n
@@ -100,7 +100,7 @@ module _ {M : Type 0} where
       × (found ≡ was.asks)
 
   -- two seats are two authors, who share no change
-  abbrev pub Compares : Step ℕ → Me ℕ (View M) → ℕ → Me ℕ (View M) → Type 0
+  abbrev pub Compares : Step ℕ → Me ℕ (TokenView M) → ℕ → Me ℕ (TokenView M) → Type 0
   Compares s m found n =
       let one = (first_of m.0).author in
       let two = (second_of m.0).author in

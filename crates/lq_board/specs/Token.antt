@@ -6,9 +6,9 @@ use Rattle.atomic_table.specs.declared.shared.Seat.{Seat}
 use Rattle.lq_volume.specs.Book.{Book}
 use Rattle.lq_board.specs.declared.views.Author.{Author}
 use Rattle.lq_board.specs.declared.views.Register.{Register}
-use Rattle.lq_board.specs.declared.views.Slot.{Slot}
-use Rattle.lq_board.specs.declared.views.View.{View}
-use Rattle.lq_board.specs.declared.views.View.TheVariants.{Spent}
+use Rattle.lq_board.specs.declared.views.KnownSlot.{KnownSlot}
+use Rattle.lq_board.specs.declared.views.TokenView.{TokenView}
+use Rattle.lq_board.specs.declared.views.TokenView.TheVariants.{Spent}
 use Rattle.lq_board.specs.View.{keeping_of, sitting_of}
 
 -- the keeper of a board: the book of all changes, what it knows of each slot, and who made each
@@ -16,7 +16,7 @@ use Rattle.lq_board.specs.View.{keeping_of, sitting_of}
 pub record KeeperToken (M : Type 0) : Type 0 where
   pub board : TableId
   pub book : Book
-  pub slots : List (Slot M)
+  pub slots : List (KnownSlot M)
   pub register : Register
 
 -- a seat: the book that it knows, its slot or 0, how often it has asked, its name, and what it is
@@ -43,7 +43,7 @@ no_board =
     }
 
 module _ {M : Type 0} where
-  abbrev pub keeper_token : TableId → Me ℕ (View M) → KeeperToken M
+  abbrev pub keeper_token : TableId → Me ℕ (TokenView M) → KeeperToken M
   keeper_token board me =
       record {
         board = board;
@@ -52,7 +52,7 @@ module _ {M : Type 0} where
         register = (keeping_of me.0).register;
       }
 
-  abbrev pub seat_token : TableId → Me ℕ (View M) → SeatToken M
+  abbrev pub seat_token : TableId → Me ℕ (TokenView M) → SeatToken M
   seat_token board me =
       record {
         board = board;
@@ -64,10 +64,10 @@ module _ {M : Type 0} where
       }
 
   -- a seat's view of the words, which is absent only within a call
-  abbrev pub board_of : Option (Seat ℕ (View M)) → TableId
+  abbrev pub board_of : Option (Seat ℕ (TokenView M)) → TableId
   board_of (Some token) = token.table_id
   board_of None = no_board
 
-  abbrev pub me_of : Option (Seat ℕ (View M)) → Me ℕ (View M)
+  abbrev pub me_of : Option (Seat ℕ (TokenView M)) → Me ℕ (TokenView M)
   me_of (Some token) = token.me
   me_of None = (Spent, [])

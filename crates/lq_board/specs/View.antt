@@ -5,11 +5,11 @@ use Rattle.lq_volume.specs.State.{State}
 use Rattle.lq_volume.specs.Book.{Book}
 use Rattle.lq_board.specs.declared.views.Author.{Author}
 use Rattle.lq_board.specs.declared.views.Register.{Register}
-use Rattle.lq_board.specs.declared.views.Slot.{Slot}
+use Rattle.lq_board.specs.declared.views.KnownSlot.{KnownSlot}
 use Rattle.lq_board.specs.declared.views.Sitting.{Sitting}
 use Rattle.lq_board.specs.declared.views.Keeping.{Keeping}
-use Rattle.lq_board.specs.declared.views.View.{View}
-use Rattle.lq_board.specs.declared.views.View.TheVariants.{Keeper, Seat, Pair, Spent}
+use Rattle.lq_board.specs.declared.views.TokenView.{TokenView}
+use Rattle.lq_board.specs.declared.views.TokenView.TheVariants.{Keeper, Seat, Pair, Spent}
 use Rattle.lq_board.specs.Book.{no_book, IsFullBook}
 use Rattle.lq_board.specs.Author.{IsSigned, IsAuthorIn, no_author, no_register, with_seat, new_author}
 use Rattle.lq_board.specs.Slot.{unused, unused_slots, slot_at, gone_out, go_out, come_back}
@@ -21,7 +21,7 @@ module _ {M : Type 0} where
       record { slot = 0; book = book; asks = 0; name = None; author = author }
 
   -- a keeper to which no seat came back since the latest one went out
-  abbrev pub keeping : Book → List (Slot M) → Register → Keeping M
+  abbrev pub keeping : Book → List (KnownSlot M) → Register → Keeping M
   keeping book slots register =
       record {
         book = book;
@@ -31,66 +31,66 @@ module _ {M : Type 0} where
         was = unused;
       }
 
-  abbrev pub keeper : Book → List (Slot M) → Register → View M
+  abbrev pub keeper : Book → List (KnownSlot M) → Register → TokenView M
   keeper book slots register = Keeper (keeping book slots register)
 
   -- the keeper of a new board
-  abbrev pub newborn : State → View M
+  abbrev pub newborn : State → TokenView M
   newborn start = keeper (record { start = start; changes = [] }) unused_slots no_register
 
-  abbrev pub keeping_of : View M → Keeping M
+  abbrev pub keeping_of : TokenView M → Keeping M
   keeping_of (Keeper v) = v
   keeping_of (Seat w) = keeping no_book [] no_register
   keeping_of (Pair a b) = keeping no_book [] no_register
   keeping_of Spent = keeping no_book [] no_register
 
-  abbrev pub sitting_of : View M → Sitting M
+  abbrev pub sitting_of : TokenView M → Sitting M
   sitting_of (Keeper v) = plain no_book no_author
   sitting_of (Seat w) = w
   sitting_of (Pair a b) = plain no_book no_author
   sitting_of Spent = plain no_book no_author
 
   -- two seats of no slot, while a call compares them
-  abbrev pub first_of : View M → Sitting M
+  abbrev pub first_of : TokenView M → Sitting M
   first_of (Keeper v) = plain no_book no_author
   first_of (Seat w) = plain no_book no_author
   first_of (Pair a b) = a
   first_of Spent = plain no_book no_author
 
-  abbrev pub second_of : View M → Sitting M
+  abbrev pub second_of : TokenView M → Sitting M
   second_of (Keeper v) = plain no_book no_author
   second_of (Seat w) = plain no_book no_author
   second_of (Pair a b) = b
   second_of Spent = plain no_book no_author
 
-  abbrev pub paired : View M → View M → View M
+  abbrev pub paired : TokenView M → TokenView M → TokenView M
   paired v w = Pair (sitting_of v) (sitting_of w)
 
   abbrev pub of_no_slot : Sitting M → Sitting M
   of_no_slot w =
       record { slot = 0; book = w.book; asks = w.asks; name = w.name; author = w.author }
 
-  abbrev pub first_seat : View M → View M
+  abbrev pub first_seat : TokenView M → TokenView M
   first_seat v = Seat (of_no_slot (first_of v))
 
-  abbrev pub second_seat : View M → View M
+  abbrev pub second_seat : TokenView M → TokenView M
   second_seat v = Seat (of_no_slot (second_of v))
 
   -- the keeper and the seat after a new seat of no slot is split off
-  abbrev pub numbered : View M → View M
+  abbrev pub numbered : TokenView M → TokenView M
   numbered v =
       keeper (keeping_of v).book (keeping_of v).slots (with_seat (keeping_of v).register)
 
-  abbrev pub copy_of : View M → View M
+  abbrev pub copy_of : TokenView M → TokenView M
   copy_of v = Seat (plain (keeping_of v).book (new_author (keeping_of v).register))
 
   -- the keeper and the seat after a slot's new seat is split off, under this name
-  abbrev pub opened : ℕ → Option M → View M → View M
+  abbrev pub opened : ℕ → Option M → TokenView M → TokenView M
   opened k name v =
       keeper (keeping_of v).book (gone_out (keeping_of v).slots k name)
       (with_seat (keeping_of v).register)
 
-  abbrev pub seated : ℕ → Option M → View M → View M
+  abbrev pub seated : ℕ → Option M → TokenView M → TokenView M
   seated k name v =
       Seat (record {
         slot = k;
@@ -102,12 +102,12 @@ module _ {M : Type 0} where
 
   -- the keeper and the seat after the latest seat that came back is split off again, under this
   -- name
-  abbrev pub parted : Option M → View M → View M
+  abbrev pub parted : Option M → TokenView M → TokenView M
   parted name v =
       keeper (keeping_of v).book (go_out (keeping_of v).slots (keeping_of v).back.slot name)
       (keeping_of v).register
 
-  abbrev pub again_of : Option M → View M → View M
+  abbrev pub again_of : Option M → TokenView M → TokenView M
   again_of name v =
       let back = (keeping_of v).back in
       Seat (record {
@@ -119,7 +119,7 @@ module _ {M : Type 0} where
       })
 
   -- the keeper after a seat comes back
-  abbrev pub taken : View M → View M → View M
+  abbrev pub taken : TokenView M → TokenView M → TokenView M
   taken v w =
       let back = sitting_of w in
       let slots = (keeping_of v).slots in
@@ -132,7 +132,7 @@ module _ {M : Type 0} where
       })
 
   -- a keeper between its steps
-  abbrev pub IsKeeping : Me ℕ (View M) → Type 0
+  abbrev pub IsKeeping : Me ℕ (TokenView M) → Type 0
   IsKeeping me =
       (me ≡ (Keeper (keeping_of me.0), []))
       × (length (keeping_of me.0).slots ≡ 65)
@@ -145,7 +145,7 @@ module _ {M : Type 0} where
     pub plain : slot ≡ 0 → (asks ≡ 0) × (name ≡ None)
 
   -- a seat that isn't spent
-  abbrev pub IsSitting : Me ℕ (View M) → Type 0
+  abbrev pub IsSitting : Me ℕ (TokenView M) → Type 0
   IsSitting me =
       (me ≡ (Seat (sitting_of me.0), []))
       × IsFullBook (sitting_of me.0).book

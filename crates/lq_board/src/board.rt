@@ -9,7 +9,7 @@ ghost use Rattle.lq_board.specs.Slot.{unused_slots, slot_at, come_back, counted}
 
 use crate::steps::{Ask, Count, See};
 use crate::tokens::{Keeper, Seat};
-use crate::views::{Law, View};
+use crate::views::{Law, TokenView};
 use atomic_table::Table;
 use lq_value::Refusal;
 use lq_volume::Volume;
@@ -24,7 +24,7 @@ const WORDS: usize = 65;
 /// Its calls take `&self`, so threads can share it. Contracts see which board it is.
 #[derive(Drop)]
 pub struct Board<M> {
-    pub(crate) table: Table<u8, View<M>, Volume, Law, Global>,
+    pub(crate) table: Table<u8, TokenView<M>, Volume, Law, Global>,
 }
 
 impl<M> Model for Board<M> {

@@ -11,7 +11,7 @@ ghost use Rattle.lq_board.specs.Rule.{CameBack};
 use crate::board::Board;
 use crate::steps::{Add, Again, Back, Check, Chosen, Compare, Open, Part, Plain, Together};
 use crate::tokens::{Keeper, Token};
-use crate::views::View;
+use crate::views::TokenView;
 use lq_volume::{Change, accepted_changes_keep_trees};
 
 impl<M> Board<M> {
@@ -20,7 +20,7 @@ impl<M> Board<M> {
         requires board { keeper.old.board ≡ self.now }
         ensures board { result.table_id ≡ keeper.old.board }
         ensures view { result.me
-            ≡ (View.Seat (plain keeper.old.book (new_author keeper.old.register)), []) }
+            ≡ (TokenView.Seat (plain keeper.old.book (new_author keeper.old.register)), []) }
         ensures full { IsFullBook keeper.old.book }
         ensures signed { IsSigned keeper.old.book keeper.old.register }
         ensures keeper { keeper.new ≡ record keeper.old {
@@ -39,7 +39,7 @@ impl<M> Board<M> {
         requires free { (slot_at keeper.old.slots slot).out ≡ false }
         ensures board { result.table_id ≡ keeper.old.board }
         ensures view { result.me ≡ (
-          View.Seat (record {
+          TokenView.Seat (record {
             slot = slot;
             book = keeper.old.book;
             asks = (slot_at keeper.old.slots slot).asks;
@@ -64,7 +64,7 @@ impl<M> Board<M> {
     // Takes a seat back. The keeper then reads the number, which proves what holds for that seat.
     pub(crate) fn back(&self, keeper: &mut Keeper<M>, token: Token<M>) -> u64
         requires board { (keeper.old.board ≡ self.now) × (token.table_id ≡ self.now) }
-        requires view { token.me ≡ (View.Seat (sitting_of token.me.0), []) }
+        requires view { token.me ≡ (TokenView.Seat (sitting_of token.me.0), []) }
         requires number { 0 < (sitting_of token.me.0).author.number }
         ensures number { result ≡ length keeper.old.book.changes }
         ensures back { CameBack keeper.old.book (sitting_of token.me.0)
@@ -92,7 +92,7 @@ impl<M> Board<M> {
         token: Token<M>,
     ) -> (u64, Token<M>)
         requires board { (keeper.old.board ≡ self.now) × (token.table_id ≡ self.now) }
-        requires view { token.me ≡ (View.Seat (sitting_of token.me.0), []) }
+        requires view { token.me ≡ (TokenView.Seat (sitting_of token.me.0), []) }
         requires number { 0 < (sitting_of token.me.0).author.number }
         requires slot { (sitting_of token.me.0).slot < 65 }
         ensures number { result.0 ≡ length keeper.old.book.changes }
@@ -100,7 +100,7 @@ impl<M> Board<M> {
             (slot_at keeper.old.slots (sitting_of token.me.0).slot) }
         ensures board { result.1.table_id ≡ keeper.old.board }
         ensures view { result.1.me ≡ (
-          View.Seat (record {
+          TokenView.Seat (record {
             slot = (sitting_of token.me.0).slot;
             book = keeper.old.book;
             asks = (sitting_of token.me.0).asks;
@@ -141,7 +141,7 @@ impl<M> Board<M> {
         change: &Change,
     ) -> (u64, Token<M>)
         requires board { (keeper.old.board ≡ self.now) × (token.table_id ≡ self.now) }
-        requires view { token.me ≡ (View.Seat (sitting_of token.me.0), []) }
+        requires view { token.me ≡ (TokenView.Seat (sitting_of token.me.0), []) }
         requires number { 0 < (sitting_of token.me.0).author.number }
         requires slot { (sitting_of token.me.0).slot < 65 }
         requires chosen { W.change ≡ Some change.now }
@@ -151,7 +151,7 @@ impl<M> Board<M> {
             (slot_at keeper.old.slots (sitting_of token.me.0).slot) }
         ensures board { result.1.table_id ≡ keeper.old.board }
         ensures view { result.1.me ≡ (
-          View.Seat (record {
+          TokenView.Seat (record {
             slot = (sitting_of token.me.0).slot;
             book = keeper.new.book;
             asks = (sitting_of token.me.0).asks;
@@ -194,11 +194,11 @@ impl<M> Board<M> {
     // Joins two seats of no slot, compares them and parts them.
     pub(crate) fn compared(&self, one: Token<M>, two: Token<M>) -> (Token<M>, Token<M>)
         requires board { (one.table_id ≡ self.now) × (two.table_id ≡ self.now) }
-        requires one { one.me ≡ (View.Seat (sitting_of one.me.0), []) }
-        requires two { two.me ≡ (View.Seat (sitting_of two.me.0), []) }
+        requires one { one.me ≡ (TokenView.Seat (sitting_of one.me.0), []) }
+        requires two { two.me ≡ (TokenView.Seat (sitting_of two.me.0), []) }
         ensures board { (result.0.table_id ≡ one.table_id) × (result.1.table_id ≡ one.table_id) }
-        ensures one { result.0.me ≡ (View.Seat (of_no_slot (sitting_of one.me.0)), []) }
-        ensures two { result.1.me ≡ (View.Seat (of_no_slot (sitting_of two.me.0)), []) }
+        ensures one { result.0.me ≡ (TokenView.Seat (of_no_slot (sitting_of one.me.0)), []) }
+        ensures two { result.1.me ≡ (TokenView.Seat (of_no_slot (sitting_of two.me.0)), []) }
         ensures numbers { (sitting_of one.me.0).author.number
             ≢ (sitting_of two.me.0).author.number }
         ensures changes { AreDisjoint (sitting_of one.me.0).author.changes

@@ -1,5 +1,5 @@
 //! The steps on the words, and what each one proves. No value of these types exists.
-use crate::views::View;
+use crate::views::TokenView;
 use atomic_table::{Join, Play, Split};
 use lq_volume::Change;
 use std::marker::{Brand, PhantomData};
@@ -31,7 +31,7 @@ pub(crate) struct Add<W> {
     said: PhantomData<W>,
 }
 
-impl<M, W: Chosen<M>> Play<u8, View<M>> for Add<W> {
+impl<M, W: Chosen<M>> Play<u8, TokenView<M>> for Add<W> {
     ghost use Rattle.lq_board.specs.Step.{Adds};
 
     ghost then = { Adds W.change };
@@ -40,7 +40,7 @@ impl<M, W: Chosen<M>> Play<u8, View<M>> for Add<W> {
 // A seat reads the number.
 pub(crate) struct See;
 
-impl<M> Play<u8, View<M>> for See {
+impl<M> Play<u8, TokenView<M>> for See {
     ghost use Rattle.lq_board.specs.Step.{Sees};
 
     ghost then = { Sees };
@@ -49,7 +49,7 @@ impl<M> Play<u8, View<M>> for See {
 // The keeper reads the number and checks the seat that came back.
 pub(crate) struct Check;
 
-impl<M> Play<u8, View<M>> for Check {
+impl<M> Play<u8, TokenView<M>> for Check {
     ghost use Rattle.lq_board.specs.Step.{Checks};
 
     ghost then = { Checks };
@@ -58,7 +58,7 @@ impl<M> Play<u8, View<M>> for Check {
 // The keeper reads a slot's word.
 pub(crate) struct Count;
 
-impl<M> Play<u8, View<M>> for Count {
+impl<M> Play<u8, TokenView<M>> for Count {
     ghost use Rattle.lq_board.specs.Step.{Counts};
 
     ghost then = { Counts };
@@ -67,7 +67,7 @@ impl<M> Play<u8, View<M>> for Count {
 // A slot's seat asks.
 pub(crate) struct Ask;
 
-impl<M> Play<u8, View<M>> for Ask {
+impl<M> Play<u8, TokenView<M>> for Ask {
     ghost use Rattle.lq_board.specs.Step.{Asks};
 
     ghost then = { Asks };
@@ -76,7 +76,7 @@ impl<M> Play<u8, View<M>> for Ask {
 // Makes a new seat of no slot.
 pub(crate) struct Plain;
 
-impl<M> Split<View<M>> for Plain {
+impl<M> Split<TokenView<M>> for Plain {
     ghost use Rattle.lq_board.specs.View.{numbered, copy_of};
 
     ghost left = { numbered };
@@ -89,7 +89,7 @@ pub(crate) struct Open<W> {
     said: PhantomData<W>,
 }
 
-impl<M, W: Chosen<M>> Split<View<M>> for Open<W> {
+impl<M, W: Chosen<M>> Split<TokenView<M>> for Open<W> {
     ghost use Rattle.lq_board.specs.View.{opened, seated};
 
     ghost left = { opened W.slot W.name };
@@ -102,7 +102,7 @@ pub(crate) struct Again<W> {
     said: PhantomData<W>,
 }
 
-impl<M, W: Chosen<M>> Split<View<M>> for Again<W> {
+impl<M, W: Chosen<M>> Split<TokenView<M>> for Again<W> {
     ghost use Rattle.lq_board.specs.View.{parted, again_of};
 
     ghost left = { parted W.name };
@@ -113,8 +113,8 @@ impl<M, W: Chosen<M>> Split<View<M>> for Again<W> {
 // Joins a seat to the keeper.
 pub(crate) struct Back;
 
-impl<M> Join<View<M>> for Back {
-    ghost use Rattle.lq_board.specs.declared.views.View.TheVariants.{Spent};
+impl<M> Join<TokenView<M>> for Back {
+    ghost use Rattle.lq_board.specs.declared.views.TokenView.TheVariants.{Spent};
     ghost use Rattle.lq_board.specs.View.{taken};
 
     ghost both = { taken };
@@ -125,8 +125,8 @@ impl<M> Join<View<M>> for Back {
 // Joins two seats of no slot.
 pub(crate) struct Together;
 
-impl<M> Join<View<M>> for Together {
-    ghost use Rattle.lq_board.specs.declared.views.View.TheVariants.{Spent};
+impl<M> Join<TokenView<M>> for Together {
+    ghost use Rattle.lq_board.specs.declared.views.TokenView.TheVariants.{Spent};
     ghost use Rattle.lq_board.specs.View.{paired};
 
     ghost both = { paired };
@@ -137,7 +137,7 @@ impl<M> Join<View<M>> for Together {
 // Compares the two.
 pub(crate) struct Compare;
 
-impl<M> Play<u8, View<M>> for Compare {
+impl<M> Play<u8, TokenView<M>> for Compare {
     ghost use Rattle.lq_board.specs.Step.{Compares};
 
     ghost then = { Compares };
@@ -146,7 +146,7 @@ impl<M> Play<u8, View<M>> for Compare {
 // Parts the two.
 pub(crate) struct Part;
 
-impl<M> Split<View<M>> for Part {
+impl<M> Split<TokenView<M>> for Part {
     ghost use Rattle.lq_board.specs.View.{first_seat, second_seat};
 
     ghost left = { first_seat };

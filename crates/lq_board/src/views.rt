@@ -22,7 +22,7 @@ impl Model for Pages {
 ///
 /// `out` says whether the slot's seat is out. `asks` is a lower bound on how often its seats have
 /// asked. `name` is the name that the latest seat went out with. The form is our own.
-pub struct Slot<M> {
+pub struct KnownSlot<M> {
     pub out: bool,
     pub asks: u64,
     pub name: Option<M>,
@@ -54,15 +54,15 @@ pub struct Sitting<M> {
 /// Before a seat came back, and once one went out again, `back` has the number 0.
 pub struct Keeping<M> {
     pub book: Pages,
-    pub slots: LinkedList<Slot<M>>,
+    pub slots: LinkedList<KnownSlot<M>>,
     pub register: Register,
     pub back: Sitting<M>,
-    pub was: Slot<M>,
+    pub was: KnownSlot<M>,
 }
 
 /// What a token knows. A seat that came back is spent. A pair is two seats of no slot, while a call
 /// compares them.
-pub enum View<M> {
+pub enum TokenView<M> {
     Keeper(Keeping<M>),
     Seat(Sitting<M>),
     Pair(Sitting<M>, Sitting<M>),
@@ -72,7 +72,7 @@ pub enum View<M> {
 /// The rule of a board's words. The words are made for a volume.
 pub struct Law;
 
-impl<M> TableRule<u8, View<M>, Volume> for Law {
+impl<M> TableRule<u8, TokenView<M>, Volume> for Law {
     ghost use Rattle.lq_board.specs.Rule.{IsKept};
     ghost use Rattle.lq_board.specs.View.{newborn};
 

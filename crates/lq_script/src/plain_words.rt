@@ -78,12 +78,12 @@ pub(crate) fn plain_program<R: Source, W: Sink, F: Sink>(
     match subcommand_of(alloc, words) {
         Ok(Subcommand::Run) => match run(alloc, reader, writer) {
             Ok(()) => 0,
-            Err(fault) => tell_fault(fault, faults),
+            Err(fault) => report_fault(fault, faults),
         },
         Ok(Subcommand::Check(formula)) => check_formula(alloc, formula, writer, faults),
-        Err(WordsFault::NoMemory) => tell_fault(RunFault::Memory, faults),
+        Err(WordsFault::NoMemory) => report_fault(RunFault::Memory, faults),
         Err(WordsFault::Usage) => {
-            tell("lq: usage\n", faults);
+            report("lq: usage\n", faults);
             2
         }
     }
@@ -116,11 +116,11 @@ fn check_formula<W: Sink, F: Sink>(
     match line_for(alloc, formula) {
         Ok(line) => match write_line(line.as_str(), writer) {
             Ok(()) => 0,
-            Err(Failed) => tell_fault(RunFault::Write, faults),
+            Err(Failed) => report_fault(RunFault::Write, faults),
         },
-        Err(Refusal::BadQuery { place }) => tell_refusal(alloc, place, faults),
+        Err(Refusal::BadQuery { place }) => report_refusal(alloc, place, faults),
         // Every other refusal is `NoMemory`.
-        Err(_) => tell_fault(RunFault::Memory, faults),
+        Err(_) => report_fault(RunFault::Memory, faults),
     }
 }
 
@@ -149,9 +149,9 @@ fn write_line<W: Sink>(line: &str, writer: &mut W) -> Result<(), Failed>
 }
 
 // Writes that a formula has its leftmost fault at this place, and answers the exit status.
-fn tell_refusal<F: Sink>(alloc: Global, place: u64, faults: &mut F) -> u8
+fn report_refusal<F: Sink>(alloc: Global, place: u64, faults: &mut F) -> u8
     ensures status { (result ≡ 1) ⊎ (result ≡ 2) }
-    ensures told { result ≡ 2 →
+    ensures reported { result ≡ 2 →
         Tells (refusal_line place) (F.written faults.old) (F.written faults.new)
         (F.failed faults.new) (F.stalled faults.new) }
     ensures memory { result ≡ 1 →
@@ -160,25 +160,25 @@ fn tell_refusal<F: Sink>(alloc: Global, place: u64, faults: &mut F) -> u8
 {
     match format!(in alloc; "lq: BadQuery at {place}\n") {
         Ok(line) => {
-            tell(line.as_str(), faults);
+            report(line.as_str(), faults);
             2
         }
-        Err(AllocError) => tell_fault(RunFault::Memory, faults),
+        Err(AllocError) => report_fault(RunFault::Memory, faults),
     }
 }
 
 // Writes a fault, and answers its exit status.
-fn tell_fault<F: Sink>(fault: RunFault, faults: &mut F) -> u8
+fn report_fault<F: Sink>(fault: RunFault, faults: &mut F) -> u8
     ensures status { result ≡ 1 }
-    ensures told { Tells (fault_line fault) (F.written faults.old) (F.written faults.new)
+    ensures reported { Tells (fault_line fault) (F.written faults.old) (F.written faults.new)
         (F.failed faults.new) (F.stalled faults.new) }
 {
-    tell(line_of(fault), faults);
+    report(line_of(fault), faults);
     1
 }
 
 // Writes a line to standard error, and ignores a fault there.
-fn tell<F: Sink>(line: &str, faults: &mut F)
+fn report<F: Sink>(line: &str, faults: &mut F)
     ensures { Tells line.now (F.written faults.old) (F.written faults.new)
         (F.failed faults.new) (F.stalled faults.new) }
 {

@@ -53,13 +53,13 @@ rebuilt None = Refuses NotOpen
 rebuilt (Some f) = Rebuilt f.change f.entries f.settled
 
 -- an event's answer and the session after it: the answer updates the folds
-abbrev pub noted : {Core : Type 0} → ℕ → Folds → Answer × Core → Response × Session Core
-noted slot folds p = (Answers slot p.0, session_with p.1 (folds_after slot p.0 folds))
+abbrev pub answered_event : {Core : Type 0} → ℕ → Folds → Answer × Core → Response × Session Core
+answered_event slot folds p = (Answers slot p.0, session_with p.1 (folds_after slot p.0 folds))
 
 -- the answer to a question, and the session after it: only an event changes it
 abbrev pub responds : {Core : Type 0} → (Core → Event → Answer × Core) → (Core → State)
     → Session Core → Question → Response × Session Core
-responds step volume s (question.Event e) = noted (slot_of e) s.folds (step s.core e)
+responds step volume s (question.Event e) = answered_event (slot_of e) s.folds (step s.core e)
 responds step volume s (question.Find dir name) = (found_in (volume s.core) dir name, s)
 responds step volume s (question.Entry node) = (shown_in (volume s.core) node, s)
 responds step volume s (question.Fetch q) =

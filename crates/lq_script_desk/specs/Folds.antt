@@ -24,14 +24,14 @@ fold_at folds slot = if slot == 0 then None else option_flatten (slice_get folds
 abbrev pub with_fold : Folds → ℕ → Option Folding → Folds
 with_fold folds slot fold = if slot == 0 then folds else slice_set folds (slot - 1) fold
 
--- the fold after a message, if it takes the message
-abbrev pub fed_if : Folding → Message → Option Refusal → Folding
-fed_if f m None = folding_after f m
-fed_if f m (Some e) = f
+-- the fold after a message that it takes; one that is refused changes nothing
+abbrev pub after_message_if : Folding → Message → Option Refusal → Folding
+after_message_if f m None = folding_after f m
+after_message_if f m (Some e) = f
 
--- a fold after a message; a refused message changes nothing
-abbrev pub fed : Message → Folding → Folding
-fed m f = fed_if f m (first_refusal (fold_refusals f m))
+-- a fold after any message
+abbrev pub after_message : Message → Folding → Folding
+after_message m f = after_message_if f m (first_refusal (fold_refusals f m))
 
 -- The answer to a slot's event starts a fold if it opened a subscription, goes into the slot's fold
 -- if it is an update that was read, and drops the fold if the slot is freed.
@@ -39,7 +39,7 @@ abbrev pub folds_after : ℕ → Answer → Folds → Folds
 folds_after slot (Opened opened at result) folds =
     with_fold folds opened (Some (opened_at at result))
 folds_after slot (Took (Update m)) folds =
-    with_fold folds slot (option_map (fed m) (fold_at folds slot))
+    with_fold folds slot (option_map (after_message m) (fold_at folds slot))
 folds_after slot Finished folds = with_fold folds slot None
 folds_after slot a folds = folds
 

@@ -4,7 +4,7 @@ ghost use Rattle.std.specs.Option.{option_map};
 ghost use Rattle.lq_value.specs.declared.refusal.Refusal.TheVariants.{NoMemory};
 ghost use Rattle.lq_value.specs.Refusal.{IsRefusedBy};
 ghost use Rattle.lq_desk.specs.Reply.{answer_of};
-ghost use Rattle.lq_script_desk.specs.Folds.{Rises, fed, fold_at, folds_after, no_folds, with_fold};
+ghost use Rattle.lq_script_desk.specs.Folds.{Rises, after_message, fold_at, folds_after, no_folds, with_fold};
 ghost use Rattle.lq_script_desk.specs.Turned.{Follow};
 
 use lq_desk::{Read, Reply, SLOTS};
@@ -28,7 +28,7 @@ pub fn no_rebuilds(alloc: Global) -> Result<Vec<Option<IndexedRebuild>>, Refusal
 /// update that was read into it, and drops it when the slot is freed.
 ///
 /// Refused: `NoMemory`.
-pub fn note(
+pub fn fold_reply(
     alloc: Global,
     rebuilds: &mut Vec<Option<IndexedRebuild>>,
     slot: u64,
@@ -49,7 +49,7 @@ pub fn note(
             put(rebuilds, *opened, Some(rebuild));
             Ok(())
         }
-        Reply::Took(Read::Update(message)) => feed_at(rebuilds, slot, message),
+        Reply::Took(Read::Update(message)) => fold_message_at(rebuilds, slot, message),
         Reply::Finished => {
             put(rebuilds, slot, None);
             Ok(())
@@ -64,8 +64,8 @@ pub fn note(
     }
 }
 
-/// Updates the results by the reply to an event of a slot, as `note` does. Where memory runs out,
-/// the slot whose result is to be updated has none afterwards.
+/// Updates the results by the reply to an event of a slot, as `fold_reply` does. Where memory runs
+/// out, the slot whose result is to be updated has none afterwards.
 pub fn follow(alloc: Global, rebuilds: &mut Vec<Option<IndexedRebuild>>, slot: u64, reply: &Reply)
     requires rises { Rises (answer_of reply.now) }
     ensures { Follow slot (answer_of reply.now) rebuilds.old.items rebuilds.new.items }
@@ -80,7 +80,7 @@ pub fn follow(alloc: Global, rebuilds: &mut Vec<Option<IndexedRebuild>>, slot: u
             put(rebuilds, *opened, rebuild);
         }
         Reply::Took(Read::Update(message)) => {
-            if feed_at(rebuilds, slot, message).is_err() {
+            if fold_message_at(rebuilds, slot, message).is_err() {
                 put(rebuilds, slot, None);
             }
         }
@@ -106,25 +106,25 @@ fn put(rebuilds: &mut Vec<Option<IndexedRebuild>>, slot: u64, rebuild: Option<In
 }
 
 // Folds a message into the rebuilt result of a slot.
-fn feed_at(
+fn fold_message_at(
     rebuilds: &mut Vec<Option<IndexedRebuild>>,
     slot: u64,
     message: &Message,
 ) -> Result<(), Refusal>
     ensures ok { OnOk result (rebuilds.new.items ≡ with_fold rebuilds.old.items slot
-        (option_map (fed message.now) (fold_at rebuilds.old.items slot))) }
+        (option_map (after_message message.now) (fold_at rebuilds.old.items slot))) }
     ensures err { OnErr result (rebuilds.new.items ≡ rebuilds.old.items) }
     ensures memory { IfErr result (λ e. e ≡ NoMemory) }
 {
     if slot == 0 || slot > rebuilds.len() as u64 {
         return Ok(());
     }
-    feed(&mut rebuilds[(slot - 1) as usize], message)
+    fold_message(&mut rebuilds[(slot - 1) as usize], message)
 }
 
-// Ignores a message that isn't the next one or doesn't fit.
-fn feed(rebuild: &mut Option<IndexedRebuild>, message: &Message) -> Result<(), Refusal>
-    ensures ok { OnOk result (rebuild.new ≡ option_map (fed message.now) rebuild.old) }
+// Folds a message into a result. One that isn't the next or doesn't fit is ignored.
+fn fold_message(rebuild: &mut Option<IndexedRebuild>, message: &Message) -> Result<(), Refusal>
+    ensures ok { OnOk result (rebuild.new ≡ option_map (after_message message.now) rebuild.old) }
     ensures err { OnErr result (rebuild.new ≡ rebuild.old) }
     ensures memory { IfErr result (λ e. e ≡ NoMemory) }
 {

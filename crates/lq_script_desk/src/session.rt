@@ -7,14 +7,14 @@ ghost use Rattle.lq_volume.specs.Result.{result_of};
 ghost use Rattle.lq_script_lines.specs.Lines.{Begins};
 ghost use Rattle.lq_script_reply.specs.Response.{Fetched, Refuses};
 ghost use Rattle.lq_script_reply.specs.Reply.{reply_text};
-ghost use Rattle.lq_script_desk.specs.Answered.{found_in, noted, rebuilt, shown_in, slot_of};
+ghost use Rattle.lq_script_desk.specs.Answered.{found_in, answered_event, rebuilt, shown_in, slot_of};
 ghost use Rattle.lq_script_desk.specs.Folds.{fold_at};
 ghost use Rattle.lq_script_desk.specs.Session.{session_with};
 ghost use Rattle.lq_script_desk.specs.Script.{kept_volume};
 
 mod typed;
 
-use crate::rebuilds::{note, rebuild_at};
+use crate::rebuilds::{fold_reply, rebuild_at};
 use lq_desk::{Desk, Event, Reply};
 use lq_predicate::Predicate;
 use lq_script_lines::Responder;
@@ -63,10 +63,10 @@ impl Session {
     // Carries out an event, updates its slot's result by the reply, and appends the reply to `out`.
     fn carry_out(&mut self, event: &Event, out: &mut Vec<u8>) -> Result<(), Refusal>
         ensures ok { OnOk result (out.new.items ≡ out.old.items
-            ++ reply_text (noted (slot_of event.now) self.old.rebuilds.items
+            ++ reply_text (answered_event (slot_of event.now) self.old.rebuilds.items
             (kept_turn_outcome self.old.desk event.now)).0) }
         ensures after { OnOk result (session_with self.new.desk self.new.rebuilds.items ≡
-            (noted (slot_of event.now) self.old.rebuilds.items
+            (answered_event (slot_of event.now) self.old.rebuilds.items
             (kept_turn_outcome self.old.desk event.now)).1) }
         ensures err { OnErr result (Begins out.new.items out.old.items) }
         ensures memory { IfErr result (λ e. e ≡ NoMemory) }
@@ -79,7 +79,7 @@ impl Session {
             return Err(Refusal::NoMemory);
         }
         let slot = slot_of(event);
-        note(self.alloc, &mut self.rebuilds, slot, &reply)?;
+        fold_reply(self.alloc, &mut self.rebuilds, slot, &reply)?;
         put_event_reply(out, slot, &reply)
     }
 }

@@ -1,6 +1,6 @@
 //! Reads of several slots, side by side.
 use crate::gate::Gate;
-use crate::places::Places;
+use crate::readers::Readers;
 use crate::tasks::Task;
 use crate::tokens::OwnReader;
 use crate::workers::Workers;
@@ -70,15 +70,15 @@ pub fn read_beside<
     server: &'s Server<N>,
     gate: &'s G,
     workers: &mut Workers<'s, E, R, Turn<'s, N, G>>,
-    places: &mut Places<N>,
+    readers: &mut Readers<N>,
     slots: &[u64],
     out: &mut Vec<u8>,
 ) -> Result<(), Refusal> {
-    let turns = turns_of(alloc, server, gate, places, slots)?;
+    let turns = turns_of(alloc, server, gate, readers, slots)?;
     let mut turns = workers.do_all(turns)?;
     let told = put_replies(&mut turns, slots, out);
     for turn in turns {
-        places.put(turn.reader);
+        readers.put(turn.reader);
     }
     told
 }
@@ -116,12 +116,12 @@ fn turns_of<'a, N: Named, G: Gate>(
     alloc: Global,
     server: &'a Server<N>,
     gate: &'a G,
-    places: &mut Places<N>,
+    readers: &mut Readers<N>,
     slots: &[u64],
 ) -> Result<Vec<Turn<'a, N, G>>, Refusal> {
     let mut turns = Vec::new(alloc);
     for slot in slots {
-        let Ok(reader) = places.take(*slot) else {
+        let Ok(reader) = readers.take(*slot) else {
             continue;
         };
         let reads = count_of(slots, *slot);

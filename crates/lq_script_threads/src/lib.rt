@@ -3,15 +3,15 @@
 //! Each line is carried out by the public calls of a server, a run of `read` lines as a batch, with
 //! a thread for each slot, which stays until the slot is finished. The output is the output of one
 //! thread, as tests show; contracts say that each call is safe. Calls may wait. Begin with
-//! `threads`, then `runner`, `session`, `batch` and `workers`.
+//! `threads`, then `runner`, `server_session`, `batch` and `workers`.
 #![tactic(auto)]
 
 mod batch;
 mod gate;
 mod lines;
-mod places;
+mod readers;
 mod runner;
-mod session;
+mod server_session;
 mod tasks;
 mod threads;
 mod tokens;

@@ -1,6 +1,6 @@
 //! The runner of a script's lines: it carries out each and gathers the replies.
 use crate::gate::Gate;
-use crate::session::Session;
+use crate::server_session::ServerSession;
 use lq_desk::Event;
 use lq_script_lines::{Failed, RunFault, Sink, write_all};
 use lq_script_reply::{Response, put_reply};
@@ -24,7 +24,7 @@ const LF: u8 = 10;
 #[derive(Drop)]
 pub struct Runner<'s, 'w, E: 's, N: Named, R, G, W> {
     alloc: Global,
-    session: Session<'s, E, N, R, G>,
+    session: ServerSession<'s, E, N, R, G>,
     writer: &'w mut W,
     // What the reading of a line takes, kept from line to line.
     scratch: Scratch,
@@ -44,7 +44,7 @@ impl<
     /// A runner of a session's lines, which was given none.
     pub fn new(
         alloc: Global,
-        session: Session<'s, E, N, R, G>,
+        session: ServerSession<'s, E, N, R, G>,
         writer: &'w mut W,
     ) -> Runner<'s, 'w, E, N, R, G, W> {
         Runner {

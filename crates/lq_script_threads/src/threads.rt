@@ -4,7 +4,7 @@ ghost use Rattle.std.specs.Prelude.{◌≡◌, false};
 use crate::gate::Gate;
 use crate::lines::Lines;
 use crate::runner::Runner;
-use crate::session::Session;
+use crate::server_session::ServerSession;
 use lq_script_lines::{RunFault, Sink, Source, out_of_memory};
 use lq_server::{Base, Named, Server};
 use lq_volume::{MAX_CHANGES, Volume};
@@ -79,7 +79,7 @@ fn serve_in<
     writer: &mut W,
     gate: &'s G,
 ) -> Result<(), RunFault> {
-    let Ok(session) = Session::new(rt, alloc, scope, server, gate) else {
+    let Ok(session) = ServerSession::new(rt, alloc, scope, server, gate) else {
         return Err(out_of_memory(writer));
     };
     let mut runner = Runner::new(alloc, session, writer);

@@ -30,7 +30,7 @@ use Rattle.lq_server_subscription.specs.contracts.subscription.Subscription as s
 use Rattle.lq_server_subscription.proofs.delivery.Delivery.TheSendSync as found_delivery
 use Rattle.lq_server.specs.declared.named.Named.{Ghosts}
 use Rattle.lq_server.specs.contracts.locked.Locked as locked
-use Rattle.lq_server_slots.specs.contracts.slots.Slots as slots
+use Rattle.lq_server_slots.specs.contracts.slots.ServerSlots as slots
 use Rattle.lq_server.specs.contracts.locked.Locked.TheInside as in_locked
 use Rattle.lq_server.specs.contracts.server.Server as server
 use Rattle.lq_server.specs.contracts.server.Server.TheInside as in_server

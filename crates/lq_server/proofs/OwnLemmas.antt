@@ -18,13 +18,13 @@ use Rattle.lq_desk_sub.specs.declared.read.Read.{Read}
 use Rattle.lq_server_subscription.specs.declared.delivery.Delivery.{Delivery}
 use Rattle.lq_server_subscription.specs.declared.delivery.Opening.{Opening}
 use Rattle.lq_server_subscription.specs.declared.identity.Identity.{Identity}
-use Rattle.lq_server_subscription.specs.declared.identity.Shut.{Shut}
+use Rattle.lq_server_subscription.specs.declared.identity.FirstClose.{FirstClose}
 use Rattle.lq_server_subscription.specs.Identity.{port_id}
 use Rattle.lq_server_subscription.specs.Rule.{query_of, whole}
 use Rattle.lq_server_subscription.specs.Reading.{ReadingHold, Gives, Fails, IsTold, known, received, is_marked}
 use Rattle.lq_server_subscription.specs.declared.subscription.Subscription.{Subscription}
 use Rattle.lq_server_slots.specs.declared.open.Opened.{Opened}
-use Rattle.lq_server_slots.specs.declared.slots.Slots.{Slots}
+use Rattle.lq_server_slots.specs.declared.slots.ServerSlots.{ServerSlots}
 use Rattle.lq_server_slots.specs.Slots.{SameButKnown, SlotsStand, is_full, slot_in}
 use Rattle.lq_server_slots.specs.Closing.{IsClosed}
 use Rattle.lq_server_slots.specs.Opening.{IdentityFits, IsNamed, IsOpened, IsOpeningTabled, asks_after, name_or}
@@ -120,13 +120,14 @@ own_reads r reading port own = record {
 }
 
 -- a reader whose seat's name tells of a close stays own
-pub own_closed : (r : ReaderHold) (seat : SeatToken Identity) (book : Book) (shut : Shut)
+pub own_closed : (r : ReaderHold) (seat : SeatToken Identity) (book : Book)
+    (first_close : FirstClose)
     → seat ≡ record r.seat { book = book; name = seat.name }
-    → seat.name ≡ Some (record (name_or r.seat.name) { shut = shut })
+    → seat.name ≡ Some (record (name_or r.seat.name) { first_close = first_close })
     → IsOwn r → IsOwn (record r { seat = seat })
-own_closed r seat book shut same name own =
+own_closed r seat book first_close same name own =
     let n = and_name r.seat.name (IsNameOf r) own.name in
-    let named : IsNameOf r (record (name_or r.seat.name) { shut = shut }) = (
+    let named : IsNameOf r (record (name_or r.seat.name) { first_close = first_close }) = (
       record {
         query = n.0.query;
         moved = n.0.moved;
@@ -158,7 +159,7 @@ closed_answer r seat (Some n) own closed = record {
   later = closed.later;
   put = closed.put;
   seat = closed.seat;
-  shut = closed.name;
+  first_close = closed.name;
   rest = refl;
 }
 closed_answer r seat None own closed = record {
@@ -170,7 +171,7 @@ closed_answer r seat None own closed = record {
   later = closed.later;
   put = closed.put;
   seat = closed.seat;
-  shut = closed.name;
+  first_close = closed.name;
   rest = refl;
 }
 
@@ -191,7 +192,7 @@ new_reader o board book q mv port backlog s = record {
 }
 
 -- what slots answered before a seat met the keeper, those after it answer as well
-pub answered_over : (old under : Slots) (start : State) (was now : SeatToken Identity)
+pub answered_over : (old under : ServerSlots) (start : State) (was now : SeatToken Identity)
     (port backlog : ℕ) (result : Result ReaderHold Refusal) → SameButKnown old under
     → SlotsStand under under.keeper.book → now ≡ record was { book = old.keeper.book }
     → old.openings ≤ start.limit → IsOpeningTabled old start.limit port backlog result

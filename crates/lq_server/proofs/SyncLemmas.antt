@@ -21,7 +21,7 @@ use Rattle.lq_server_subscription.specs.LegalList.{known_by}
 use Rattle.lq_server_subscription.specs.Marking.{hung_mark}
 use Rattle.lq_server_subscription.specs.Identity.{identity_of, port_id}
 use Rattle.lq_server_subscription.specs.Reading.{received, ready, mark_read, what_of, IsTold}
-use Rattle.lq_server_subscription.specs.Standing.{given, upto, moved_mark, IsOut, ShutFits, IsOverrun}
+use Rattle.lq_server_subscription.specs.Standing.{given, upto, moved_mark, IsOut, FirstCloseFits, IsOverrun}
 use Rattle.lq_server.specs.Own.{IsOwn}
 use Rattle.lq_server_slots.specs.Opening.{IdentityFits, asks_after}
 use Rattle.lq_server_slots.specs.Progress.{ShowsProgress}
@@ -401,9 +401,9 @@ module _ (s : Subscription) (old new : ReaderHold) (l : Progress)
             asked_by s.asks old.hang_up_asked new.seat.asks asks_is
             (lv.hung (subst hung_mark mk hu));
         read = λ some. mk ∙ read_mark (mark_in d.taken) refl some;
-        shut =
-            subst (λ o. IsSomeAnd o (λ t. ShutFits t.shut x.mark)) (sym name_is)
-            (subst (ShutFits s.shut) (sym mk) lv.stands.shut);
+        first_close =
+            subst (λ o. IsSomeAnd o (λ t. FirstCloseFits t.first_close x.mark)) (sym name_is)
+            (subst (FirstCloseFits s.first_close) (sym mk) lv.stands.first_close);
         overrun =
             subst
             (λ o. IsSomeAnd o (λ t. IfSome x.mark (λ k.

@@ -3,9 +3,9 @@ use Rattle.std.specs.Prelude.{◌≡◌, ℕ, length, true, Result, Some, Err, I
 use Rattle.lq_value.specs.declared.refusal.Refusal.{Refusal}
 use Rattle.lq_value.specs.declared.refusal.Refusal.TheVariants.{NotOpen}
 use Rattle.lq_volume.specs.Book.{Extends}
-use Rattle.lq_server_subscription.specs.declared.identity.Shut.TheVariants.{Never}
+use Rattle.lq_server_subscription.specs.declared.identity.FirstClose.TheVariants.{Never}
 use Rattle.lq_server_subscription.specs.declared.subscription.Subscription.{Subscription}
-use Rattle.lq_server_subscription.specs.Marking.{first_close}
+use Rattle.lq_server_subscription.specs.Marking.{after_close}
 use Rattle.lq_server_slots.specs.Slots.{IsPut}
 use Rattle.lq_server_slots.specs.Opening.{name_or}
 use Rattle.lq_server.specs.Hold.{ReaderHold}
@@ -16,7 +16,7 @@ use Rattle.lq_server.specs.Own.{IsOwn}
 pub record IsCloseAnswer (old new : ReaderHold) (result : Result ℕ Refusal) : Type 0 where
   pub own : IsOwn new
   pub number : IfOk result (λ n. n ≡ length new.seat.book.changes)
-  pub first : IfOk result (λ _. (name_or old.seat.name).shut ≡ Never)
+  pub first : IfOk result (λ _. (name_or old.seat.name).first_close ≡ Never)
   pub refused : IfErr result (λ e. e ≡ NotOpen)
   pub late : old.hang_up_asked ≡ true → result ≡ Err NotOpen
   pub later : Extends new.seat.book old.seat.book
@@ -24,9 +24,9 @@ pub record IsCloseAnswer (old new : ReaderHold) (result : Result ℕ Refusal) : 
   pub put : (s : Subscription) × IsPut s new.seat.name new.seat.book
   pub seat : new.seat ≡ record old.seat { book = new.seat.book; name = new.seat.name }
   -- the seat's name says what the first close answered
-  pub shut : new.seat.name
+  pub first_close : new.seat.name
       ≡ Some (record (name_or old.seat.name) {
-        shut = first_close (name_or old.seat.name).shut (is_ok result)
+        first_close = after_close (name_or old.seat.name).first_close (is_ok result)
             (length new.seat.book.changes);
       })
   pub rest : new ≡ record old { seat = new.seat }

@@ -6,7 +6,7 @@ use Rattle.lq_predicate_formula.specs.Query.{Query}
 use Rattle.lq_volume.specs.State.{State}
 use Rattle.lq_volume.specs.Book.{Book}
 use Rattle.lq_server_slots.specs.declared.open.Opened.{Opened}
-use Rattle.lq_server_slots.specs.declared.slots.Slots.{Slots}
+use Rattle.lq_server_slots.specs.declared.slots.ServerSlots.{ServerSlots}
 use Rattle.lq_server_slots.specs.Opening.{IsOpened, IsOpeningTabled}
 use Rattle.lq_server_slots.specs.Slots.{SlotsStand, slot_in}
 use Rattle.lq_server.specs.Hold.{ReaderHold}
@@ -25,7 +25,7 @@ pub record IsNewReader (r : ReaderHold) (board : TableId) (book : Book) (q : Que
 
 -- Over these slots an opening is answered so. They stand over this book, no more were opened than
 -- the limit, and a slot that is given is the lowest that is free.
-pub record IsAnsweredOver (under : Slots) (start : State) (book : Book) (port backlog : ℕ)
+pub record IsAnsweredOver (under : ServerSlots) (start : State) (book : Book) (port backlog : ℕ)
     (result : Result ReaderHold Refusal) : Type 0 where
   pub keeps : under.keeper.book ≡ book
   pub stands : SlotsStand under book

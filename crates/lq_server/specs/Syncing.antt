@@ -17,7 +17,7 @@ use Rattle.lq_server_subscription.specs.Marking.{hung_mark}
 use Rattle.lq_desk_sub.specs.declared.read.Read.{Read}
 use Rattle.lq_desk_sub.specs.declared.read.Read.TheVariants.{Ended}
 use Rattle.lq_server_subscription.specs.Reading.{known, received, ready, mark_read, is_marked, Gives, Fails}
-use Rattle.lq_server_subscription.specs.Standing.{upto, ShutFits, IsOverrun}
+use Rattle.lq_server_subscription.specs.Standing.{upto, FirstCloseFits, IsOverrun}
 use Rattle.lq_server.specs.Own.{IsOwn}
 use Rattle.lq_server.specs.Hold.{ReaderHold}
 use Rattle.lq_server.specs.declared.server.Synced.{Synced}
@@ -67,7 +67,7 @@ pub record IsSynced (old new : ReaderHold) (x : Synced) : Type 0 where
   pub ended : old.hang_up_asked ≡ true → IsSome x.mark
   pub hung : hung_mark x.mark → old.hang_up_asked ≡ true
   pub read : IsSome (mark_read old.reading) → x.mark ≡ mark_read old.reading
-  pub shut : IsSomeAnd old.seat.name (λ t. ShutFits t.shut x.mark)
+  pub first_close : IsSomeAnd old.seat.name (λ t. FirstCloseFits t.first_close x.mark)
   pub overrun : IsSomeAnd old.seat.name (λ t. IfSome x.mark (λ k.
       k.cause ≡ Overrun
       → IsOverrun t.query t.moved t.opened t.places t.backlog new.seat.book k.change))

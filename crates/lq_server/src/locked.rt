@@ -11,7 +11,7 @@ mod volume;
 
 use crate::named::Named;
 use lq_board::{Board, Keeper, Seat};
-use lq_server_slots::{Slots, meet_in};
+use lq_server_slots::{ServerSlots, meet_in};
 use lq_server_subscription::Identity;
 use lq_value::{Entry, Refusal};
 use lq_volume::Volume;
@@ -33,7 +33,7 @@ pub struct Found {
 /// A contract sees the slots: the keeper with its book, the subscriptions, and the number of
 /// openings.
 pub struct Locked<N: Named> {
-    slots: Slots,
+    slots: ServerSlots,
     volume: Volume,
     seats: u64,
     alloc: Global,
@@ -58,8 +58,8 @@ impl<N: Named> Model for Locked<N> {
     ghost use Rattle.std.specs.Coded.{codes};
     ghost use Rattle.lq_volume.specs.Book.{state_of};
     ghost use Rattle.lq_board.specs.Book.{IsFullBook};
-    ghost use Rattle.lq_server_slots.specs.declared.slots.Slots.{Slots as SlotsOf};
-    ghost use Rattle.lq_server_slots.specs.contracts.slots.Slots as some_slots;
+    ghost use Rattle.lq_server_slots.specs.declared.slots.ServerSlots.{ServerSlots as SlotsOf};
+    ghost use Rattle.lq_server_slots.specs.contracts.slots.ServerSlots as some_slots;
     ghost use Rattle.lq_server_slots.specs.Slots.{SlotsStand};
 
     ghost Value = { SlotsOf };
@@ -79,7 +79,7 @@ impl<N: Named> Model for Locked<N> {
 
 impl<N: Named> Locked<N> {
     /// The state under the lock of a new server: no seat is out, and no slot is taken.
-    pub(crate) fn new(alloc: Global, slots: Slots, volume: Volume) -> Locked<N>
+    pub(crate) fn new(alloc: Global, slots: ServerSlots, volume: Volume) -> Locked<N>
         requires board { slots.keeper.board ≡ N.board }
         requires volume { volume ≡ state_of slots.keeper.book }
         requires full { IsFullBook slots.keeper.book }
@@ -157,7 +157,7 @@ impl<N: Named> Locked<N> {
             alloc: _,
             of: _,
         } = self;
-        let Slots {
+        let ServerSlots {
             keeper,
             subscriptions: _,
             taken: _,

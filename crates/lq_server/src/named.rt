@@ -4,7 +4,7 @@ ghost use Rattle.lq_value.specs.Refusal.{IsRefusedBy};
 
 use crate::locked::Locked;
 use lq_board::Board;
-use lq_server_slots::Slots;
+use lq_server_slots::ServerSlots;
 use lq_server_subscription::Identity;
 use lq_value::Refusal;
 use lq_volume::Volume;
@@ -39,7 +39,7 @@ impl Named for Brand {
 /// changes it: the board's book begins with the volume and has no changes.
 pub struct Base {
     board: Board<Identity>,
-    slots: Slots,
+    slots: ServerSlots,
     volume: Volume,
     alloc: Global,
 }
@@ -85,7 +85,7 @@ impl Base {
         ensures refused { IsRefusedBy result None }
     {
         let (board, keeper) = Board::new(alloc, &volume)?;
-        let slots = Slots::new(alloc, keeper)?;
+        let slots = ServerSlots::new(alloc, keeper)?;
         Ok(Base {
             board,
             slots,

@@ -144,7 +144,7 @@ impl Reader {
     {
         // For the proof: a book extends itself, and the reading's invariant.
         books_extend_themselves();
-        self.reading.told();
+        self.reading.update_facts();
         if self.reading.is_ended() {
             return Ok(Read::Ended);
         }
@@ -199,7 +199,7 @@ impl Reader {
         ensures { ReaderIsTold self.now }
     {
         // For the proof: what each of these calls says.
-        self.reading.told();
+        self.reading.update_facts();
         self.reading.result();
         self.reading.is_settled();
         self.reading.last_change();

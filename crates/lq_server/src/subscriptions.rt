@@ -5,7 +5,7 @@ ghost use Rattle.lq_volume.specs.Book.{Extends};
 ghost use Rattle.lq_server_subscription.specs.Reading.{is_marked};
 ghost use Rattle.lq_server_slots.specs.Opening.{IsOpeningRefused, opening_refusal};
 ghost use Rattle.lq_server.specs.declared.server.Synced.{Synced as SyncedOf};
-ghost use Rattle.lq_server_slots.specs.declared.slots.Slots.{Slots as SlotsOf};
+ghost use Rattle.lq_server_slots.specs.declared.slots.ServerSlots.{ServerSlots as SlotsOf};
 ghost use Rattle.lq_server.specs.Closed.{IsCloseAnswer};
 ghost use Rattle.lq_server.specs.Opened.{IsAnsweredOver, IsNewReader};
 ghost use Rattle.lq_server.specs.Own.{IsOwn, StaysOwn};
@@ -76,7 +76,7 @@ impl<N: Named> Server<N> {
         ensures { IsSynced reader.old reader.new result }
     {
         // For the proof: the reading's invariant.
-        reader.reading.told();
+        reader.reading.update_facts();
         let progress = self
             .state
             .lock(rt)

@@ -8,7 +8,7 @@ use Rattle.lq_value.specs.Refusal.{first_refusal}
 use Rattle.lq_predicate_formula.specs.Query.{Query}
 use Rattle.lq_volume.specs.Book.{Book, state_of}
 use Rattle.lq_volume.specs.Result.{result_of}
-use Rattle.lq_board.specs.declared.views.Slot.{Slot as Known}
+use Rattle.lq_board.specs.declared.views.KnownSlot.{KnownSlot}
 use Rattle.lq_board.specs.Book.{IsFullBook}
 use Rattle.lq_board.specs.Slot.{slot_at, unused, gone_out, counted}
 use Rattle.lq_board.specs.Token.{KeeperToken}
@@ -20,8 +20,8 @@ use Rattle.lq_port.specs.End.{End}
 use Rattle.lq_server_subscription.specs.declared.delivery.Delivery.{Delivery}
 use Rattle.lq_server_subscription.specs.declared.delivery.Opening.{Opening}
 use Rattle.lq_server_subscription.specs.declared.identity.Identity.{Identity}
-use Rattle.lq_server_subscription.specs.declared.identity.Shut.{Shut}
-use Rattle.lq_server_subscription.specs.declared.identity.Shut.TheVariants.{Never}
+use Rattle.lq_server_subscription.specs.declared.identity.FirstClose.{FirstClose}
+use Rattle.lq_server_subscription.specs.declared.identity.FirstClose.TheVariants.{Never}
 use Rattle.lq_server_subscription.specs.declared.subscription.Subscription.{Subscription}
 use Rattle.lq_server_subscription.specs.Rule.{floor_of, query_of}
 use Rattle.lq_server_subscription.specs.Marking.{hung_mark}
@@ -29,7 +29,7 @@ use Rattle.lq_server_subscription.specs.Identity.{identity_of}
 use Rattle.lq_server_subscription.specs.Reading.{ReadingHold}
 use Rattle.lq_server_subscription.specs.Standing.{Stands, StandsAt}
 use Rattle.lq_server_subscription.specs.Laws.{NewSubscriptionsStand}
-use Rattle.lq_server_slots.specs.declared.slots.Slots.{Slots}
+use Rattle.lq_server_slots.specs.declared.slots.ServerSlots.{ServerSlots}
 use Rattle.lq_server_slots.specs.declared.open.Opened.{Opened}
 use Rattle.lq_server_slots.specs.Slots.{AreUnchanged, SlotStands, asks_of, slot_in, AllStand, OnlyAt}
 use Rattle.lq_server_slots.specs.Opening.{IsBegun}
@@ -40,13 +40,13 @@ use Rattle.lq_server_slots.proofs.SyncLemmas.{only_trans}
 pub begun_new : NewSubscriptionsStand → (s : Subscription) (r : ReadingHold) (book : Book)
     (q : Query) (mv : Bool) (port backlog at : ℕ) (g : Opening)
     → s.sub.held ≡ opened_with q mv at backlog
-    → at ≡ length book.changes → s.places ≡ port → s.shut ≡ Never
+    → at ≡ length book.changes → s.places ≡ port → s.first_close ≡ Never
     → s.input.places ≡ port → s.input.floor ≡ g → query_of g ≡ q → g.moved ≡ mv → g.opened ≡ at
     → floor_of g ≡ book → s.input.taken ≡ [] → s.input.ahead ≡ [] → IsFullBook book
     → r.port ≡ s.input → r.hand ≡ None → r.result ≡ opened_at at (result_of q (state_of book))
     → IsBegun s r book q mv port backlog
-begun_new stand s r book q mv port backlog at g held number places shut ports opening_at query moved
-    opened floor taken ahead full end hand result =
+begun_new stand s r book q mv port backlog at g held number places first_close ports opening_at
+    query moved opened floor taken ahead full end hand result =
     let now : s.sub.held ≡ opened_with q mv (length book.changes) backlog = held
     ∙ ap (λ (n : ℕ). opened_with q mv n backlog) number in
     let stands : Stands (opened_with q mv (length book.changes) backlog) s.input s.places Never book
@@ -55,8 +55,8 @@ begun_new stand s r book q mv port backlog at g held number places shut ports op
     (ap query_of opening_at ∙ query) (ap (λ (f : Opening). f.moved) opening_at ∙ moved)
     (ap (λ (f : Opening). f.opened) opening_at ∙ opened ∙ number) (ports ∙ sym places) full in
     record {
-      stands = subst (λ (z : Held × Shut). Stands z.0 s.input s.places z.1 book)
-          (λ i. (sym now i, sym shut i)) stands;
+      stands = subst (λ (z : Held × FirstClose). Stands z.0 s.input s.places z.1 book)
+          (λ i. (sym now i, sym first_close i)) stands;
       messages = ap (λ (h : Held). h.messages) now;
       live = ap (λ (h : Held). h.mark) now;
       query = ap (λ (h : Held). h.query) now;
@@ -64,7 +64,7 @@ begun_new stand s r book q mv port backlog at g held number places shut ports op
       opened = ap (λ (h : Held). h.opened) now;
       backlog_is = ap (λ (h : Held). h.backlog) now;
       places = places;
-      shut = shut;
+      first_close = first_close;
       end = end;
       floor = ap (λ (e : End Delivery Opening). floor_of e.floor) end ∙ ap floor_of opening_at
           ∙ floor;
@@ -87,7 +87,7 @@ begun_own s r book q mv port backlog b = record {
   opened = b.opened;
   backlog_is = refl;
   places = refl;
-  shut = b.shut;
+  first_close = b.first_close;
   end = b.end;
   floor = b.floor;
   taken = b.taken;
@@ -98,10 +98,10 @@ begun_own s r book q mv port backlog b = record {
 }
 
 -- a seat that goes out changes what is known of one slot
-only_gone : (ps : List (Known Identity)) (k : ℕ) (name : Option Identity)
+only_gone : (ps : List (KnownSlot Identity)) (k : ℕ) (name : Option Identity)
     → OnlyAt ps (gone_out ps k name) k
 only_gone ps k name =
-    let q : Known Identity = record { out = true; asks = (slot_at ps k).asks; name = name } in
+    let q : KnownSlot Identity = record { out = true; asks = (slot_at ps k).asks; name = name } in
     record { wide = length-set ps k q; others = λ j ne. get_or-set_other ps k j q unused ne }
 
 -- a subscription takes a free place
@@ -122,7 +122,7 @@ settled keeper one two slots place openings n s book h pos within free counts id
     subst (λ (z : Option Subscription). asks_of z (slot_at keeper.slots place) ≤ openings) free
     (h.asks place pos within) in
     let known = h.known in
-    let long : length one.slots ≡ 65 = ap (length {A = Known Identity}) counts
+    let long : length one.slots ≡ 65 = ap (length {A = KnownSlot Identity}) counts
     ∙ (only_counted keeper.slots place n).wide ∙ h.known in
     let here : slot_at one.slots place ≡ record {
       out = (slot_at keeper.slots place).out;
@@ -130,21 +130,23 @@ settled keeper one two slots place openings n s book h pos within free counts id
           n;
       name = (slot_at keeper.slots place).name;
     } =
-    ap (λ (ps : List (Known Identity)). slot_at ps place) counts ∙ counted_here keeper.slots place n
+    ap (λ (ps : List (KnownSlot Identity)). slot_at ps place) counts
+    ∙ counted_here keeper.slots place n
     (omega arith) in
-    let q : Known Identity = record {
+    let q : KnownSlot Identity = record {
       out = true;
       asks = (slot_at one.slots place).asks;
       name =
           Some (identity_of s);
     } in
-    let there : slot_at two.slots place ≡ q = ap (λ (ps : List (Known Identity)). slot_at ps place)
+    let there : slot_at two.slots place ≡ q =
+    ap (λ (ps : List (KnownSlot Identity)). slot_at ps place)
     gone ∙ get_or-set_same one.slots place q unused (omega arith) in
     let only : OnlyAt keeper.slots two.slots place =
     only_trans keeper.slots one.slots two.slots place
-    (subst (λ (ps : List (Known Identity)). OnlyAt keeper.slots ps place) (sym counts)
+    (subst (λ (ps : List (KnownSlot Identity)). OnlyAt keeper.slots ps place) (sym counts)
     (only_counted keeper.slots place n))
-    (subst (λ (ps : List (Known Identity)). OnlyAt one.slots ps place) (sym gone)
+    (subst (λ (ps : List (KnownSlot Identity)). OnlyAt one.slots ps place) (sym gone)
     (only_gone one.slots place (Some (identity_of s)))) in
     let count : n ≡ (slot_at keeper.slots place).asks = idle was in
     all_stand-set keeper two slots place openings (openings + 1) (Some s) book h (omega arith) only
@@ -152,8 +154,8 @@ settled keeper one two slots place openings n s book h pos within free counts id
       stands = stands;
       filled = λ some. let zero_ : length s.sub.held.messages ≡ 0 = ap (length {A = Message}) none
           in absurd (omega arith);
-      out = ap (λ (p : Known Identity). p.out) there;
-      name = ap (λ (p : Known Identity). p.name) there;
+      out = ap (λ (p : KnownSlot Identity). p.out) there;
+      name = ap (λ (p : KnownSlot Identity). p.name) there;
       hung = λ hu. absurd (subst hung_mark live hu);
     }) (omega arith)
 
@@ -176,7 +178,7 @@ opening_fits full openings limit port backlog some high few free less =
     (λ i. (sym free i, lt-leb limit openings less i))
 
 -- an opening counts as one more, and where it is refused as none
-pub openings_within : (r : Result Opened Refusal) (old new : Slots) (limit : ℕ)
+pub openings_within : (r : Result Opened Refusal) (old new : ServerSlots) (limit : ℕ)
     → OnOk r (new.openings ≡ old.openings + 1) → OnErr r (AreUnchanged old new)
     → old.openings < limit → new.openings ≤ limit
 openings_within (Ok o) old new limit more same less = omega arith

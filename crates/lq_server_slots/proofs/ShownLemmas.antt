@@ -6,7 +6,7 @@ use Rattle.std.proofs.Math.ListN.{drop_of_length-le}
 use Rattle.std.proofs.lemmas.List.FromFn.{get_or-map-range_with_len}
 use Rattle.lq_volume.specs.declared.change.Change.{Change}
 use Rattle.lq_volume.specs.Book.{Book, number_of, state_of}
-use Rattle.lq_board.specs.declared.views.Slot.{Slot as Known}
+use Rattle.lq_board.specs.declared.views.KnownSlot.{KnownSlot}
 use Rattle.lq_board.specs.Book.{IsFullBook}
 use Rattle.lq_board.specs.Slot.{slot_at}
 use Rattle.lq_update.specs.declared.message.Message.{Message}
@@ -163,7 +163,7 @@ passed_on asked taken s book full stands =
     }
 
 -- and so for a slot that may be free
-slot_passed : (taken : ℕ) (o : Option Subscription) (p : Known Identity) (book : Book)
+slot_passed : (taken : ℕ) (o : Option Subscription) (p : KnownSlot Identity) (book : Book)
     → IsFullBook book → SlotStands o p book → SlotPassesOn book (shown_in taken o p) o
 slot_passed taken None p book full stands = tt
 slot_passed taken (Some s) p book full stands =

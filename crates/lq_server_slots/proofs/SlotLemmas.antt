@@ -6,7 +6,7 @@ use native.Mathlib.Decide.{ℕ_discrete}
 use Rattle.lq_volume.specs.declared.change.Change.{Change}
 use Rattle.lq_volume.specs.Change.{IsLawful}
 use Rattle.lq_volume.specs.Book.{Book, grown, state_of}
-use Rattle.lq_board.specs.declared.views.Slot.{Slot as Known}
+use Rattle.lq_board.specs.declared.views.KnownSlot.{KnownSlot}
 use Rattle.lq_board.specs.Book.{IsFullBook}
 use Rattle.lq_board.specs.Slot.{slot_at, unused, unused_slots, counted}
 use Rattle.lq_board.specs.Token.{KeeperToken}
@@ -19,7 +19,7 @@ use Rattle.lq_port.specs.End.{End, all_put}
 use Rattle.lq_server_subscription.specs.declared.delivery.Delivery.{Delivery}
 use Rattle.lq_server_subscription.specs.declared.delivery.Opening.{Opening}
 use Rattle.lq_server_subscription.specs.declared.identity.Identity.{Identity}
-use Rattle.lq_server_subscription.specs.declared.identity.Shut.{Shut}
+use Rattle.lq_server_subscription.specs.declared.identity.FirstClose.{FirstClose}
 use Rattle.lq_server_subscription.specs.declared.subscription.Subscription.{Subscription}
 use Rattle.lq_server_subscription.specs.Rule.{message_of, mark_or, messages_in, mark_in}
 use Rattle.lq_server_subscription.specs.Marking.{hung_mark}
@@ -74,26 +74,27 @@ identity_alike s t a = λ i. record {
   places = a.places i;
   backlog = a.held.backlog i;
   asks = a.asks i;
-  shut = a.shut i;
+  first_close = a.first_close i;
   port = port_id (a.port.0 i);
 }
 
 -- and so does a new mark
-pub identity_others : (s t : Subscription) → SameButHeld s t → t.shut ≡ s.shut
+pub identity_others : (s t : Subscription) → SameButHeld s t → t.first_close ≡ s.first_close
     → identity_of t ≡ identity_of s
-identity_others s t a shut = λ i. record {
+identity_others s t a first_close = λ i. record {
   query = a.query i;
   moved = a.moved i;
   opened = a.opened i;
   places = a.places i;
   backlog = a.backlog i;
   asks = a.asks i;
-  shut = shut i;
+  first_close = first_close i;
   port = port_id (a.input i).port;
 }
 
 -- a taken slot stands on, with what was put and the book changed
-pub taken_then : (s t : Subscription) (p : Known Identity) (book0 book : Book) → IsTaken s p book0
+pub taken_then : (s t : Subscription) (p : KnownSlot Identity) (book0 book : Book)
+    → IsTaken s p book0
     → StandsAt t book → IsStuck t → identity_of t ≡ identity_of s
     → (hung_mark t.sub.held.mark → hung_mark s.sub.held.mark) → IsTaken t p book
 taken_then s t p book0 book taken stands stuck identity hung =
@@ -107,7 +108,7 @@ taken_then s t p book0 book taken stands stuck identity hung =
     }
 
 -- a taken slot whose subscription and book changed stands, but for what its port has room for
-pub to_fill_then : (s t : Subscription) (p : Known Identity) (book0 book : Book)
+pub to_fill_then : (s t : Subscription) (p : KnownSlot Identity) (book0 book : Book)
     → IsTaken s p book0 → StandsAt t book → identity_of t ≡ identity_of s
     → (hung_mark t.sub.held.mark → hung_mark s.sub.held.mark) → IsToFill t p book
 to_fill_then s t p book0 book taken stands identity hung =
@@ -120,7 +121,7 @@ to_fill_then s t p book0 book taken stands identity hung =
     }
 
 -- and it stands whole once its port is filled
-pub taken_filled : (s t : Subscription) (p : Known Identity) (book : Book) → IsToFill s p book
+pub taken_filled : (s t : Subscription) (p : KnownSlot Identity) (book : Book) → IsToFill s p book
     → StandsAt t book → IsStuck t → SameButPuts s t → IsTaken t p book
 taken_filled s t p book was stands stuck alike =
     record {
@@ -133,9 +134,10 @@ taken_filled s t p book was stands stuck alike =
     }
 
 -- the keeper knows more of a taken slot's asks, and the subscription may have ended
-pub taken_noticed : (s t : Subscription) (p q : Known Identity) (n : ℕ) (asked : Bool) (book : Book)
-    → IsTaken s p book → StandsAt t book → SameButHeld s t → t.shut ≡ s.shut → t.sub.held.messages ≡
-    s.sub.held.messages
+pub taken_noticed : (s t : Subscription) (p q : KnownSlot Identity) (n : ℕ) (asked : Bool)
+    (book : Book)
+    → IsTaken s p book → StandsAt t book → SameButHeld s t → t.first_close ≡ s.first_close
+    → t.sub.held.messages ≡ s.sub.held.messages
     → (hung_mark t.sub.held.mark → (asked ≡ true) ⊎ hung_mark s.sub.held.mark)
     → (asked ≡ true → s.asks < n) → p.asks ≤ n → q ≡ record {
       out = p.out;
@@ -143,31 +145,31 @@ pub taken_noticed : (s t : Subscription) (p q : Known Identity) (n : ℕ) (asked
       name =
           p.name;
     } → IsTaken t q book
-taken_noticed s t p q n asked book taken stands others shut messages hung test le is =
-    let identity = identity_others s t others shut in
+taken_noticed s t p q n asked book taken stands others first_close messages hung test le is =
+    let identity = identity_others s t others first_close in
     let asks = others.asks in
-    let known : q.asks ≡ n = ap (λ (x : Known Identity). x.asks) is in
+    let known : q.asks ≡ n = ap (λ (x : KnownSlot Identity). x.asks) is in
     record {
       stands = stands;
       filled = subst (λ (z : List Message × ℕ × End Delivery Opening). 0 < length z.0
           → z.1 ≤ length (messages_in (all_put z.2)))
           (λ i. (sym messages i, sym others.places i, sym others.input i)) taken.filled;
-      out = ap (λ (x : Known Identity). x.out) is ∙ taken.out;
-      name = ap (λ (x : Known Identity). x.name) is ∙ taken.name ∙ ap (λ (x : Identity). Some x)
+      out = ap (λ (x : KnownSlot Identity). x.out) is ∙ taken.out;
+      name = ap (λ (x : KnownSlot Identity). x.name) is ∙ taken.name ∙ ap (λ (x : Identity). Some x)
           (sym identity);
       hung = λ h. ⊎_elim (λ (a : asked ≡ true). let lt = test a in omega arith)
           (λ (o : hung_mark s.sub.held.mark). let lt = taken.hung o in omega arith) (hung h);
     }
 
 -- a taken slot stands on where all that is held, and whether it was closed, stay
-pub taken_alike : (s t : Subscription) (p : Known Identity) (book : Book) → IsTaken s p book
-    → t.sub.held ≡ s.sub.held → SameButHeld s t → t.shut ≡ s.shut → IsTaken t p book
-taken_alike s t p book taken held others shut =
+pub taken_alike : (s t : Subscription) (p : KnownSlot Identity) (book : Book) → IsTaken s p book
+    → t.sub.held ≡ s.sub.held → SameButHeld s t → t.first_close ≡ s.first_close → IsTaken t p book
+taken_alike s t p book taken held others first_close =
     let mark = ap (λ (h : Held). h.mark) held in
     let stands : StandsAt t book =
-    subst (λ (z : Held × End Delivery Opening × ℕ × Shut). Stands z.0 z.1 z.2 z.3 book)
-    (λ i. (sym held i, sym others.input i, sym others.places i, sym shut i)) taken.stands in
-    taken_noticed s t p p p.asks false book taken stands others shut
+    subst (λ (z : Held × End Delivery Opening × ℕ × FirstClose). Stands z.0 z.1 z.2 z.3 book)
+    (λ i. (sym held i, sym others.input i, sym others.places i, sym first_close i)) taken.stands in
+    taken_noticed s t p p p.asks false book taken stands others first_close
     (ap (λ (h : Held). h.messages) held) (λ h. inr (subst hung_mark mark h))
     (λ e. absurd (true≢false (sym e))) (omega arith) refl
 
@@ -184,9 +186,9 @@ pub in_else : (slots : List (Option Subscription)) (k j : ℕ) (o : Option Subsc
 in_else slots k j o ne = get_or-set_other slots k j o None ne
 
 -- the keeper counts asks of one slot alone
-pub only_counted : (ps : List (Known Identity)) (k n : ℕ) → OnlyAt ps (counted ps k n) k
+pub only_counted : (ps : List (KnownSlot Identity)) (k n : ℕ) → OnlyAt ps (counted ps k n) k
 only_counted ps k n =
-    let q : Known Identity = record {
+    let q : KnownSlot Identity = record {
       out = (slot_at ps k).out;
       asks = n;
       name = (slot_at ps k).name;
@@ -194,9 +196,10 @@ only_counted ps k n =
     record { wide = length-set ps k q; others = λ j ne. get_or-set_other ps k j q unused ne }
 
 -- and there just those
-pub counted_here : (ps : List (Known Identity)) (k n : ℕ) → k < length ps → slot_at (counted ps k n)
+pub counted_here : (ps : List (KnownSlot Identity)) (k n : ℕ) → k < length ps
+    → slot_at (counted ps k n)
     k ≡ record { out = (slot_at ps k).out; asks = n; name = (slot_at ps k).name }
-counted_here ps k n lt = let q : Known Identity = record {
+counted_here ps k n lt = let q : KnownSlot Identity = record {
   out = (slot_at ps k).out;
   asks =
       n;
@@ -204,7 +207,7 @@ counted_here ps k n lt = let q : Known Identity = record {
 } in get_or-set_same ps k q unused lt
 
 -- nothing changed is a change at one place
-pub only_self : (ps : List (Known Identity)) (k : ℕ) → OnlyAt ps ps k
+pub only_self : (ps : List (KnownSlot Identity)) (k : ℕ) → OnlyAt ps ps k
 only_self ps k = record { wide = refl; others = λ j ne. refl }
 
 -- one slot was set, and what the keeper knows of it
@@ -222,7 +225,8 @@ all_stand-set keeper keeper' slots k m n o book h le only fits asks =
           (slot_at keeper'.slots i) book) (sym e)
           (subst (λ (z : Option Subscription). SlotStands z (slot_at keeper'.slots k) book)
           (sym (here (omega arith))) fits))
-          (λ (ne : j ≢ k). subst (λ (z : Option Subscription × Known Identity). SlotStands z.0 z.1
+          (λ (ne : j ≢ k).
+          subst (λ (z : Option Subscription × KnownSlot Identity). SlotStands z.0 z.1
           book) (λ i. (sym (in_else slots k j o ne) i, sym (only.others j ne) i))
           (h.each j pos within));
       asks = λ j pos within. dite (ℕ_discrete j k)
@@ -230,7 +234,8 @@ all_stand-set keeper keeper' slots k m n o book h le only fits asks =
           (slot_at keeper'.slots i) ≤ n) (sym e)
           (subst (λ (z : Option Subscription). asks_of z (slot_at keeper'.slots k) ≤ n)
           (sym (here (omega arith))) asks))
-          (λ (ne : j ≢ k). subst (λ (z : Option Subscription × Known Identity). asks_of z.0 z.1 ≤ n)
+          (λ (ne : j ≢ k).
+          subst (λ (z : Option Subscription × KnownSlot Identity). asks_of z.0 z.1 ≤ n)
           (λ i. (sym (in_else slots k j o ne) i, sym (only.others j ne) i))
           (let was = h.asks j pos within in omega arith));
     }
@@ -260,12 +265,12 @@ pub all_stand-alike : (keeper keeper' : KeeperToken Identity) (slots : List (Opt
     → keeper'.slots ≡ keeper.slots → book ≡ book' → AllStand keeper' slots openings book'
 all_stand-alike keeper keeper' slots openings book book' h same e =
     record {
-      known = ap (length {A = Known Identity}) same ∙ h.known;
+      known = ap (length {A = KnownSlot Identity}) same ∙ h.known;
       wide = h.wide;
-      each = λ k pos within. subst (λ (z : List (Known Identity) × Book).
+      each = λ k pos within. subst (λ (z : List (KnownSlot Identity) × Book).
           SlotStands (slot_in slots k) (slot_at z.0 k) z.1) (λ i. (sym same i, e i))
           (h.each k pos within);
-      asks = λ k pos within. subst (λ (ps : List (Known Identity)). asks_of (slot_in slots k)
+      asks = λ k pos within. subst (λ (ps : List (KnownSlot Identity)). asks_of (slot_in slots k)
           (slot_at ps k) ≤ openings) (sym same) (h.asks k pos within);
     }
 
@@ -275,15 +280,18 @@ pub all_stand-none : (keeper : KeeperToken Identity) (slots : List (Option Subsc
     → ((k : ℕ) → k < 65 → slot_in slots k ≡ None) → AllStand keeper slots 0 book
 all_stand-none keeper slots book known wide none =
     let p : (k : ℕ) → k < 65 → slot_at keeper.slots k ≡ unused =
-    λ k within. ap (λ (l : List (Known Identity)). slot_at l k) known
-    ∙ get_or-replicate {A = Known Identity} 65 k unused unused within in
+    λ k within. ap (λ (l : List (KnownSlot Identity)). slot_at l k) known
+    ∙ get_or-replicate {A = KnownSlot Identity} 65 k unused unused within in
     record {
-      known = ap (length {A = Known Identity}) known ∙ length-replicate {A = Known Identity} 65
+      known = ap (length {A = KnownSlot Identity}) known
+          ∙ length-replicate {A = KnownSlot Identity} 65
           unused;
       wide = wide;
-      each = λ k pos within. subst (λ (z : Option Subscription × Known Identity). SlotStands z.0 z.1
+      each = λ k pos within.
+          subst (λ (z : Option Subscription × KnownSlot Identity). SlotStands z.0 z.1
           book) (λ i. (sym (none k within) i, sym (p k within) i)) refl;
-      asks = λ k pos within. subst (λ (z : Option Subscription × Known Identity). asks_of z.0 z.1 ≤
+      asks = λ k pos within.
+          subst (λ (z : Option Subscription × KnownSlot Identity). asks_of z.0 z.1 ≤
           0) (λ i. (sym (none k within) i, sym (p k within) i)) (omega arith);
     }
 

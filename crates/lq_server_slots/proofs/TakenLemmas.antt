@@ -10,13 +10,13 @@ use mathlib.Core.Logic.{dite}
 use native.Mathlib.Decide.{ℕ_discrete}
 use Rattle.lq_volume.specs.State.{State}
 use Rattle.lq_volume.specs.declared.change.Change.{Change}
-use Rattle.lq_board.specs.declared.views.Slot.{Slot as Known}
+use Rattle.lq_board.specs.declared.views.KnownSlot.{KnownSlot}
 use Rattle.lq_volume.specs.Book.{Book}
 use Rattle.lq_board.specs.Slot.{slot_at}
 use Rattle.lq_board.specs.Token.{KeeperToken}
 use Rattle.lq_server_subscription.specs.declared.identity.Identity.{Identity}
 use Rattle.lq_server_subscription.specs.declared.subscription.Subscription.{Subscription}
-use Rattle.lq_server_slots.specs.Slots.{AllStand, OnlyAt, SlotStands, asks_of, slot_in, place_at, IsListed, IsDropped, IsReadyAt, all_taken, is_full}
+use Rattle.lq_server_slots.specs.Slots.{AllStand, OnlyAt, SlotStands, asks_of, slot_in, place_at, IsListed, IsDropped, IsReadyAt, AllReady, all_taken, is_full}
 use Rattle.lq_server_slots.proofs.SlotLemmas.{all_stand-step, in_here, in_else}
 
 -- a slot is free or taken
@@ -35,7 +35,7 @@ free_read slots k None e none = sym e
 free_read slots k (Some s) e none = absurd (true≢false none)
 
 -- a slot whose seat is out is taken
-pub taken_out : (o : Option Subscription) (p : Known Identity) (book : Book)
+pub taken_out : (o : Option Subscription) (p : KnownSlot Identity) (book : Book)
     → SlotStands o p book → p.out ≡ true → IsSome o
 taken_out None p book fits out = absurd (true≢false (sym out ∙ fits))
 taken_out (Some s) p book fits out = refl
@@ -240,22 +240,37 @@ listed-drop taken taken' slots k l wide d =
     subst (λ (t : List ℕ). IsListed t (slice_set slots k None)) (sym d.rest)
     (listed-remove taken slots k d.index l d.within d.place wide)
 
+-- each slot is ready where the listed ones are
+pub all_ready : (taken : List ℕ) (slots : List (Option Subscription)) (count : ℕ) (s : State)
+    (c : Change) → IsListed taken slots → length taken ≤ count
+    → ((j : ℕ) → j < count → j < length taken → IsReadyAt (slot_in slots (place_at taken j)) s c)
+    → AllReady slots s c
+all_ready taken slots count s c l most h k pos within =
+    ⊎_elim
+    (λ (e : slot_in slots k ≡ None). subst (λ (z : Option Subscription). IsReadyAt z s c) (sym e)
+    tt)
+    (λ (some : IsSome (slot_in slots k)).
+    let i = l.each k pos within some in
+    let lt = i.1 in
+    subst (λ (p : ℕ). IsReadyAt (slot_in slots p) s c) i.2 (h i.0 (omega arith) lt))
+    (free_or_taken (slot_in slots k))
+
 -- one more of the listed slots is ready
-pub ready_more : (taken : List ℕ) (slots : List (Option Subscription)) (told place : ℕ)
+pub ready_more : (taken : List ℕ) (slots : List (Option Subscription)) (count place : ℕ)
     (o : Option Subscription) (s : State) (c : Change) → IsListed taken slots
-    → length slots ≡ 65 → told < length taken → place ≡ place_at taken told → IsReadyAt o s c
-    → ((j : ℕ) → j < told → j < length taken → IsReadyAt (slot_in slots (place_at taken j)) s c)
-    → (j : ℕ) → j < told + 1 → j < length taken
+    → length slots ≡ 65 → count < length taken → place ≡ place_at taken count → IsReadyAt o s c
+    → ((j : ℕ) → j < count → j < length taken → IsReadyAt (slot_in slots (place_at taken j)) s c)
+    → (j : ℕ) → j < count + 1 → j < length taken
     → IsReadyAt (slot_in (slice_set slots place o) (place_at taken j)) s c
-ready_more taken slots told place o s c l wide lt is ready h j under within =
-    let high = l.high told lt in
-    dite (ℕ_discrete j told)
-    (λ (e : j ≡ told). subst (λ (p : ℕ). IsReadyAt (slot_in (slice_set slots place o) p) s c)
+ready_more taken slots count place o s c l wide lt is ready h j under within =
+    let high = l.high count lt in
+    dite (ℕ_discrete j count)
+    (λ (e : j ≡ count). subst (λ (p : ℕ). IsReadyAt (slot_in (slice_set slots place o) p) s c)
     (is ∙ ap (place_at taken) (sym e))
     (subst (λ (z : Option Subscription). IsReadyAt z s c)
     (sym (in_here slots place o (omega arith))) ready))
-    (λ (ne : j ≢ told). subst (λ (z : Option Subscription). IsReadyAt z s c)
-    (sym (in_else slots place (place_at taken j) o (λ q. ne (l.once j told within lt (q ∙ is)))))
+    (λ (ne : j ≢ count). subst (λ (z : Option Subscription). IsReadyAt z s c)
+    (sym (in_else slots place (place_at taken j) o (λ q. ne (l.once j count within lt (q ∙ is)))))
     (h j (omega (arith, ne)) within))
 
 -- ---- whether a slot is free
@@ -290,7 +305,7 @@ full-each (o ∷ slots) n wide most h =
     sym (all_taken-each slots (λ k lt. h (suc k) (omega arith) (omega arith)))
 
 -- how often the slots' seats have asked, as the keeper knows, where one slot's count rises
-pub asks_rise : (first old new : List (Known Identity)) (place : ℕ) → OnlyAt old new place
+pub asks_rise : (first old new : List (KnownSlot Identity)) (place : ℕ) → OnlyAt old new place
     → (slot_at old place).asks ≤ (slot_at new place).asks
     → ((k : ℕ) → (slot_at first k).asks ≤ (slot_at old k).asks)
     → (k : ℕ) → (slot_at first k).asks ≤ (slot_at new k).asks
@@ -300,5 +315,5 @@ asks_rise first old new place only more before k =
     let was = before place in
     subst (λ (j : ℕ). (slot_at first j).asks ≤ (slot_at new j).asks) (sym e)
     (omega (arith, was, more)))
-    (λ ne. subst (λ (q : Known Identity). (slot_at first k).asks ≤ q.asks)
+    (λ ne. subst (λ (q : KnownSlot Identity). (slot_at first k).asks ≤ q.asks)
     (sym (only.others k ne)) (before k))

@@ -12,7 +12,7 @@ use Rattle.lq_board.specs.Author.{with_change}
 use Rattle.lq_board.specs.Slot.{slot_at}
 use Rattle.lq_board.specs.Token.{SeatToken}
 use Rattle.lq_server_subscription.specs.declared.identity.Identity.{Identity}
-use Rattle.lq_server_slots.specs.declared.slots.Slots.{Slots}
+use Rattle.lq_server_slots.specs.declared.slots.ServerSlots.{ServerSlots}
 use Rattle.lq_server_slots.specs.Slots.{AllReady, IsNoticed, SlotsAre, SlotsStand}
 
 -- A change was made, or refused. The volume was v and is w, the book b and d, the author's seat s
@@ -36,7 +36,7 @@ pub record IsChangeMade (change : Change) (result : Result Applied Refusal) (v w
 -- First each subscription ended whose reader had asked for that. The book stays, and so does what
 -- stands over it; what the keeper knows of asks only rises.
 pub record IsPrepared (v : State) (change : Change) (result : Result (Unit {0}) Refusal)
-    (old new : Slots) : Type 0 where
+    (old new : ServerSlots) : Type 0 where
   pub lawful : OnOk result (refused v change ≡ None)
   pub ready : OnOk result (AllReady new.subscriptions.items v change)
   pub noticed : OnOk result (SlotsAre IsNoticed new.subscriptions.items new.keeper.slots)

@@ -3,9 +3,9 @@ use Rattle.std.specs.Prelude.{◌≡◌, ◌<◌, ℕ, length, Option, Some, Non
 use Rattle.lq_volume.specs.Book.{Book, Extends}
 use Rattle.lq_board.specs.Token.{SeatToken}
 use Rattle.lq_server_subscription.specs.declared.identity.Identity.{Identity}
-use Rattle.lq_server_subscription.specs.declared.identity.Shut.TheVariants.{Never}
+use Rattle.lq_server_subscription.specs.declared.identity.FirstClose.TheVariants.{Never}
 use Rattle.lq_server_subscription.specs.declared.subscription.Subscription.{Subscription}
-use Rattle.lq_server_subscription.specs.Marking.{first_close}
+use Rattle.lq_server_subscription.specs.Marking.{after_close}
 use Rattle.lq_server_slots.specs.Slots.{IsPut}
 use Rattle.lq_server_slots.specs.Opening.{name_or}
 
@@ -14,12 +14,13 @@ use Rattle.lq_server_slots.specs.Opening.{name_or}
 -- end. The port is filled. The seat knows the book, and its name what the first close answered.
 pub record IsClosed (book : Book) (s t : SeatToken Identity) (result : Option ℕ) : Type 0 where
   pub number : IfSome result (λ n. n ≡ length book.changes)
-  pub closes : IfSome result (λ _. (name_or s.name).shut ≡ Never)
+  pub closes : IfSome result (λ _. (name_or s.name).first_close ≡ Never)
   pub late : (name_or s.name).asks < s.asks → result ≡ None
   pub put : (subscription : Subscription) × IsPut subscription t.name book
   pub seat : t ≡ record s { book = book; name = t.name }
   pub later : Extends book s.book
   pub name : t.name
       ≡ Some (record (name_or s.name) {
-        shut = first_close (name_or s.name).shut (is_some result) (length book.changes);
+        first_close =
+            after_close (name_or s.name).first_close (is_some result) (length book.changes);
       })

@@ -12,7 +12,7 @@ use Rattle.lq_update.specs.Fold.{opened_at}
 use Rattle.lq_desk_world.specs.Events.{opening_refusals, size_refusals}
 use Rattle.lq_port.specs.End.{End}
 use Rattle.lq_server_subscription.specs.declared.identity.Identity.{Identity}
-use Rattle.lq_server_subscription.specs.declared.identity.Shut.TheVariants.{Never}
+use Rattle.lq_server_subscription.specs.declared.identity.FirstClose.TheVariants.{Never}
 use Rattle.lq_server_subscription.specs.declared.delivery.Delivery.{Delivery}
 use Rattle.lq_server_subscription.specs.declared.delivery.Opening.{Opening}
 use Rattle.lq_server_subscription.specs.declared.subscription.Subscription.{Subscription}
@@ -21,7 +21,7 @@ use Rattle.lq_server_subscription.specs.Identity.{port_id}
 use Rattle.lq_server_subscription.specs.Reading.{ReadingHold}
 use Rattle.lq_server_subscription.specs.Standing.{StandsAt}
 use Rattle.lq_server_slots.specs.declared.open.Opened.{Opened}
-use Rattle.lq_server_slots.specs.declared.slots.Slots.{Slots}
+use Rattle.lq_server_slots.specs.declared.slots.ServerSlots.{ServerSlots}
 use Rattle.lq_server_slots.specs.Slots.{is_full, slot_in}
 
 -- the name belongs to the port
@@ -48,7 +48,7 @@ pub record IsBegun (s : Subscription) (r : ReadingHold) (book : Book) (q : Query
   pub opened : s.sub.held.opened ≡ length book.changes
   pub backlog_is : s.sub.held.backlog ≡ backlog
   pub places : s.places ≡ port
-  pub shut : s.shut ≡ Never
+  pub first_close : s.first_close ≡ Never
   pub end : r.port ≡ s.input
   pub floor : floor_of r.port.floor ≡ book
   pub taken : r.port.taken ≡ []
@@ -62,7 +62,7 @@ pub record IsNamed (t : Identity) (o : Opened) (backlog : ℕ) : Type 0 where
   pub asks : o.seat.asks ≡ t.asks
   pub few : t.asks < 1000000000000
   pub backlog_is : t.backlog ≡ backlog
-  pub shut : t.shut ≡ Never
+  pub first_close : t.first_close ≡ Never
 
 -- a subscription that was just opened over this book: nothing was read, and the result is the
 -- query's
@@ -90,7 +90,7 @@ opening_refusal port backlog = first_refusal (size_refusals port backlog)
 
 -- an opening over these slots and with this limit on the openings is refused by the first test that
 -- fits, and by no other
-abbrev pub IsOpeningTabled : {T : Type 0} → Slots → ℕ → ℕ → ℕ → Result T Refusal → Type 0
+abbrev pub IsOpeningTabled : {T : Type 0} → ServerSlots → ℕ → ℕ → ℕ → Result T Refusal → Type 0
 IsOpeningTabled slots limit port backlog result =
     IsRefusedBy result
     (first_refusal
@@ -102,7 +102,7 @@ abbrev pub IsOpeningRefused : Refusal → Type 0
 IsOpeningRefused e = (e ≡ NoSlot) ⊎ (e ≡ Exhausted) ⊎ (e ≡ NoMemory)
 
 -- Over these slots and with this limit on the openings, an opening is answered so.
-pub record IsOpeningAnswer (slots : Slots) (limit port backlog : ℕ)
+pub record IsOpeningAnswer (slots : ServerSlots) (limit port backlog : ℕ)
     (result : Result Opened Refusal) : Type 0 where
   -- the first refusal that fits, and no other
   pub table : IsOpeningTabled slots limit port backlog result
@@ -123,7 +123,7 @@ no_identity = record {
   backlog =
       0;
   asks = 0;
-  shut = Never;
+  first_close = Never;
   port = gnil;
 }
 

@@ -1,7 +1,7 @@
 -- What the lock keeps, as a world of the core.
 use Rattle.std.specs.Prelude.{◌≡◌, ℕ, ◌-◌, ◌<◌, Bool, true, false, List, [], ◌∷◌, ◌++◌, length, map, nat_lt, Option, Some, None, slice_index_or}
 use Rattle.std.specs.List.{range_with_len}
-use Rattle.lq_board.specs.declared.views.Slot.{Slot as Known}
+use Rattle.lq_board.specs.declared.views.KnownSlot.{KnownSlot}
 use Rattle.lq_board.specs.Book.{IsFullBook}
 use Rattle.lq_board.specs.Slot.{slot_at}
 use Rattle.lq_volume.specs.declared.change.Change.{Change}
@@ -17,7 +17,7 @@ use Rattle.lq_server_subscription.specs.declared.subscription.Subscription.{Subs
 use Rattle.lq_server_subscription.specs.Rule.{messages_in}
 use Rattle.lq_server_subscription.specs.Marking.{held_committed, held_noticed, held_closed}
 use Rattle.lq_server_subscription.specs.Standing.{StandsAt, IsReady}
-use Rattle.lq_server_slots.specs.declared.slots.Slots.{Slots}
+use Rattle.lq_server_slots.specs.declared.slots.ServerSlots.{ServerSlots}
 use Rattle.lq_server_slots.specs.Slots.{SlotsStand, slot_in}
 
 -- the end that a mark tells of
@@ -40,13 +40,13 @@ subscribed asked taken s = record {
 }
 
 -- a slot that may be free; its end was asked for as far as the keeper knows
-abbrev pub shown_in : ℕ → Option Subscription → Known Identity → Option Subscribed
+abbrev pub shown_in : ℕ → Option Subscription → KnownSlot Identity → Option Subscribed
 shown_in taken None p = None
 shown_in taken (Some s) p = Some (subscribed (nat_lt s.asks p.asks) taken s)
 
 -- the world that the slots show where this many parcels were taken from each port: slot k is at
 -- index k - 1
-abbrev pub shown : (ℕ → ℕ) → Slots → World
+abbrev pub shown : (ℕ → ℕ) → ServerSlots → World
 shown taken slots = record {
   book = slots.keeper.book;
   openings = slots.openings;
@@ -80,7 +80,7 @@ SlotPassesOn b (Some u) (Some s) = IsPassedOn b u s
 -- what that under the lock has.
 abbrev pub SlotsShowWorlds : Type 0
 SlotsShowWorlds =
-    (slots : Slots) (taken : ℕ → ℕ) → IsFullBook slots.keeper.book
+    (slots : ServerSlots) (taken : ℕ → ℕ) → IsFullBook slots.keeper.book
     → SlotsStand slots slots.keeper.book → (k : ℕ) → 0 < k → k < 65
     → SlotPassesOn slots.keeper.book (slice_index_or (shown taken slots).slots (k - 1) None)
     (slot_in slots.subscriptions.items k)

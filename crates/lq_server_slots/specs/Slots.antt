@@ -5,7 +5,7 @@ use Rattle.lq_volume.specs.State.{State}
 use Rattle.lq_volume.specs.declared.change.Change.{Change}
 use Rattle.lq_volume.specs.Change.{IsLawful}
 use Rattle.lq_volume.specs.Book.{Book, grown, state_of}
-use Rattle.lq_board.specs.declared.views.Slot.{Slot as Known}
+use Rattle.lq_board.specs.declared.views.KnownSlot.{KnownSlot}
 use Rattle.lq_board.specs.Book.{IsFullBook}
 use Rattle.lq_board.specs.Slot.{slot_at}
 use Rattle.lq_board.specs.Token.{KeeperToken}
@@ -14,10 +14,10 @@ use Rattle.lq_server_subscription.specs.declared.subscription.Subscription.{Subs
 use Rattle.lq_server_subscription.specs.Marking.{hung_mark}
 use Rattle.lq_server_subscription.specs.Identity.{identity_of}
 use Rattle.lq_server_subscription.specs.Standing.{StandsAt, IsFilled, IsReady, IsStuck}
-use Rattle.lq_server_slots.specs.declared.slots.Slots.{Slots}
+use Rattle.lq_server_slots.specs.declared.slots.ServerSlots.{ServerSlots}
 
 -- a taken slot: its subscription, and what the keeper knows of its seat
-pub record IsTaken (s : Subscription) (p : Known Identity) (book : Book) : Type 0 where
+pub record IsTaken (s : Subscription) (p : KnownSlot Identity) (book : Book) : Type 0 where
   pub stands : StandsAt s book
   pub filled : IsFilled s
   pub out : p.out ≡ true
@@ -25,19 +25,19 @@ pub record IsTaken (s : Subscription) (p : Known Identity) (book : Book) : Type 
   pub hung : hung_mark s.sub.held.mark → s.asks < p.asks
 
 -- the same, while its port is still to be filled
-pub record IsToFill (s : Subscription) (p : Known Identity) (book : Book) : Type 0 where
+pub record IsToFill (s : Subscription) (p : KnownSlot Identity) (book : Book) : Type 0 where
   pub stands : StandsAt s book
   pub out : p.out ≡ true
   pub name : p.name ≡ Some (identity_of s)
   pub hung : hung_mark s.sub.held.mark → s.asks < p.asks
 
 -- a slot that may be free
-abbrev pub SlotStands : Option Subscription → Known Identity → Book → Type 0
+abbrev pub SlotStands : Option Subscription → KnownSlot Identity → Book → Type 0
 SlotStands None p book = p.out ≡ false
 SlotStands (Some s) p book = IsTaken s p book
 
 -- at most how often its seats have asked, once the seat that is out comes back
-abbrev pub asks_of : Option Subscription → Known Identity → ℕ
+abbrev pub asks_of : Option Subscription → KnownSlot Identity → ℕ
 asks_of None p = p.asks
 asks_of (Some s) p = s.asks + 1
 
@@ -79,34 +79,35 @@ pub record IsDropped (old new : List ℕ) (k : ℕ) : Type 0 where
   pub rest : new ≡ remove old index
 
 -- all slots stand over a book, and the list has exactly the taken ones
-abbrev pub SlotsStand : Slots → Book → Type 0
+abbrev pub SlotsStand : ServerSlots → Book → Type 0
 SlotsStand s book =
     AllStand s.keeper s.subscriptions.items s.openings book
     × IsListed s.taken.items s.subscriptions.items
 
 -- the keeper's book is lawful, the volume is the state after it, and all slots stand over it
-pub record StandsBeside (slots : Slots) (volume : State) : Type 0 where
+pub record StandsBeside (slots : ServerSlots) (volume : State) : Type 0 where
   pub state : volume ≡ state_of slots.keeper.book
   pub full : IsFullBook slots.keeper.book
   pub holding : SlotsStand slots slots.keeper.book
 
 -- a subscription has its mark if the keeper knows that its reader asked for its end
-abbrev pub IsNoticed : Subscription → Known Identity → Type 0
+abbrev pub IsNoticed : Subscription → KnownSlot Identity → Type 0
 IsNoticed s p = s.asks < p.asks → IsSome s.sub.held.mark
 
 -- and its messages and mark were put until none was left or its port was full
-pub record IsServed (s : Subscription) (p : Known Identity) : Type 0 where
+pub record IsServed (s : Subscription) (p : KnownSlot Identity) : Type 0 where
   pub noticed : IsNoticed s p
   pub stuck : IsStuck s
 
 -- a fact of a slot if it is taken, and of all slots that are
 abbrev pub SlotIs :
-    (Subscription → Known Identity → Type 0) → Option Subscription → Known Identity → Type 0
+    (Subscription → KnownSlot Identity → Type 0) → Option Subscription → KnownSlot Identity → Type 0
 SlotIs P None p = Unit {0}
 SlotIs P (Some s) p = P s p
 
 abbrev pub SlotsAre :
-    (Subscription → Known Identity → Type 0) → List (Option Subscription) → List (Known Identity)
+    (Subscription → KnownSlot Identity → Type 0) → List (Option Subscription)
+    → List (KnownSlot Identity)
     → Type 0
 SlotsAre P slots known =
     (k : ℕ) → 0 < k → k < 65 → SlotIs P (slot_in slots k) (slot_at known k)
@@ -119,14 +120,14 @@ pub record IsPut (s : Subscription) (name : Option Identity) (book : Book) : Typ
   pub stuck : IsStuck s
 
 -- the keeper, the subscriptions, the taken places and the number of openings stay
-pub record AreUnchanged (old new : Slots) : Type 0 where
+pub record AreUnchanged (old new : ServerSlots) : Type 0 where
   pub keeper : new.keeper ≡ old.keeper
   pub subscriptions : new.subscriptions ≡ old.subscriptions
   pub taken : new.taken.items ≡ old.taken.items
   pub openings : new.openings ≡ old.openings
 
 -- only what the keeper knows of the slots may differ
-pub record SameButKnown (old new : Slots) : Type 0 where
+pub record SameButKnown (old new : ServerSlots) : Type 0 where
   pub board : new.keeper.board ≡ old.keeper.board
   pub book : new.keeper.book ≡ old.keeper.book
   pub subscriptions : new.subscriptions ≡ old.subscriptions
@@ -134,7 +135,7 @@ pub record SameButKnown (old new : Slots) : Type 0 where
   pub openings : new.openings ≡ old.openings
 
 -- what is known of the other slots stays
-pub record OnlyAt (old new : List (Known Identity)) (place : ℕ) : Type 0 where
+pub record OnlyAt (old new : List (KnownSlot Identity)) (place : ℕ) : Type 0 where
   pub wide : length new ≡ length old
   pub others : (k : ℕ) → k ≢ place → slot_at new k ≡ slot_at old k
 
@@ -167,17 +168,17 @@ pub record IsGrown (b : Book) (c : Change) : Type 0 where
   pub lawful : IsLawful (state_of (before_of b)) c
   pub full : IsFullBook b
 
--- the first `told` of the listed slots stand over the keeper's book, and the others over that book
--- without its last change
-pub record PartlyTold (keeper : KeeperToken Identity) (slots : List (Option Subscription))
-    (taken : List ℕ) (openings : ℕ) (c : Change) (told : ℕ) : Type 0 where
+-- the first `committed` of the listed slots stand over the keeper's book, and the others over that
+-- book without its last change
+pub record PartlyCommitted (keeper : KeeperToken Identity) (slots : List (Option Subscription))
+    (taken : List ℕ) (openings : ℕ) (c : Change) (committed : ℕ) : Type 0 where
   pub known : length keeper.slots ≡ 65
   pub wide : length slots ≡ 65
   pub listed : IsListed taken slots
-  pub below : (j : ℕ) → j < told → j < length taken
+  pub below : (j : ℕ) → j < committed → j < length taken
       → SlotStands (slot_in slots (place_at taken j)) (slot_at keeper.slots (place_at taken j))
       keeper.book
-  pub from : (j : ℕ) → told ≤ j → j < length taken
+  pub from : (j : ℕ) → committed ≤ j → j < length taken
       → SlotStands (slot_in slots (place_at taken j)) (slot_at keeper.slots (place_at taken j))
       (before_of keeper.book)
       × IsReadyAt (slot_in slots (place_at taken j)) (state_of (before_of keeper.book)) c

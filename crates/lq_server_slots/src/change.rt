@@ -9,8 +9,8 @@ ghost use Rattle.lq_board.specs.Slot.{slot_at};
 ghost use Rattle.lq_server_slots.specs.Changing.{IsChangeMade, IsPrepared};
 ghost use Rattle.lq_server_slots.specs.Slots.{SlotsStand, StandsBeside, AllReady, IsNoticed, IsServed, SlotsAre};
 
-use crate::passes::{ready_all, tell_all};
-use crate::slots::{Slots, serve_all};
+use crate::passes::{commit_all, ready_all};
+use crate::slots::{ServerSlots, serve_all};
 use lq_board::{Board, Seat};
 use lq_server_subscription::Identity;
 use lq_value::Refusal;
@@ -31,7 +31,7 @@ use std::sync::Wait;
 pub fn change_in<R: Wait>(
     rt: &R,
     board: &Board<Identity>,
-    slots: &mut Slots,
+    slots: &mut ServerSlots,
     volume: &mut Volume,
     seat: &mut Seat<Identity>,
     change: &Change,
@@ -50,7 +50,7 @@ pub fn change_in<R: Wait>(
 {
     match add(board, slots, volume, seat, change) {
         Ok(applied) => {
-            tell_all(rt, slots, change);
+            commit_all(rt, slots, change);
             Ok(applied)
         }
         Err(refusal) => {
@@ -65,7 +65,7 @@ pub fn change_in<R: Wait>(
 #[tactic(auto, using(crate::proofs::SyncLemmas::seat_stays))]
 fn add(
     board: &Board<Identity>,
-    slots: &mut Slots,
+    slots: &mut ServerSlots,
     volume: &mut Volume,
     seat: &mut Seat<Identity>,
     change: &Change,
@@ -102,7 +102,7 @@ fn add(
 // plan, which is a large value.
 fn prepare(
     board: &Board<Identity>,
-    slots: &mut Slots,
+    slots: &mut ServerSlots,
     volume: &Volume,
     change: &Change,
 ) -> Result<(), Refusal>
@@ -122,7 +122,7 @@ fn prepare(
 #[inline(never)]
 fn prepare_taken(
     board: &Board<Identity>,
-    slots: &mut Slots,
+    slots: &mut ServerSlots,
     volume: &Volume,
     change: &Change,
 ) -> Result<(), Refusal>

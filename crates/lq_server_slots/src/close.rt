@@ -2,14 +2,14 @@
 ghost use Rattle.std.specs.Prelude.{◌≡◌, ◌+◌, ◌<◌, ◌≤◌, ◌≢◌, ℕ, length, IfNone, IsSome, IsSomeAnd, IfSome, is_some, Some, None, true, false};
 ghost use Rattle.lq_volume.specs.Book.{Extends};
 ghost use Rattle.lq_board.specs.Slot.{slot_at};
-ghost use Rattle.lq_server_subscription.specs.declared.identity.Shut.TheVariants.{Never};
-ghost use Rattle.lq_server_subscription.specs.Marking.{first_close};
+ghost use Rattle.lq_server_subscription.specs.declared.identity.FirstClose.TheVariants.{Never};
+ghost use Rattle.lq_server_subscription.specs.Marking.{after_close};
 ghost use Rattle.lq_server_subscription.specs.Identity.{identity_of};
 ghost use Rattle.lq_server_slots.specs.Closing.{IsClosed};
 ghost use Rattle.lq_server_slots.specs.Slots.{IsTaken, SlotStands, SlotsStand, IsPlaceIn, IsDropped, IsPut, place_at, OnlyAt, asks_of, slot_in};
 ghost use Rattle.lq_server_slots.specs.Opening.{asks_after, name_or};
 
-use crate::slots::{Slots, fill_slot};
+use crate::slots::{ServerSlots, fill_slot};
 use crate::sync::{meet_same, meet_under, notice_by};
 use lq_board::{Board, Keeper, Seat};
 use lq_server_subscription::{Identity, Subscription, close};
@@ -32,7 +32,7 @@ fn close_slot<R: Wait>(
         ≡ record { out = true; asks = seat.old.asks; name = seat.old.name } }
     requires number { number ≡ length keeper.old.book.changes }
     requires taken { IsTaken slot.old (slot_at keeper.old.slots seat.old.slot) keeper.old.book }
-    ensures closes { result ≡ true → (name_or seat.old.name).shut ≡ Never }
+    ensures closes { result ≡ true → (name_or seat.old.name).first_close ≡ Never }
     ensures late { slot.old.asks < seat.old.asks → result ≡ false }
     ensures put { IsPut slot.new seat.new.name keeper.new.book }
     ensures board { keeper.new.board ≡ keeper.old.board }
@@ -42,7 +42,7 @@ fn close_slot<R: Wait>(
     ensures asks { slot.new.asks ≡ slot.old.asks }
     ensures seat { seat.new ≡ record seat.old { book = keeper.old.book; name = seat.new.name } }
     ensures name { seat.new.name ≡ Some (record (name_or seat.old.name) {
-      shut = first_close (name_or seat.old.name).shut result number;
+      first_close = after_close (name_or seat.old.name).first_close result number;
     }) }
 {
     let place = seat.slot() as usize;
@@ -66,7 +66,7 @@ fn end_slot(
         × (length keeper.old.slots ≡ 65) }
     requires number { number ≡ length keeper.old.book.changes }
     requires taken { IsTaken slot.old (slot_at keeper.old.slots seat.old.slot) keeper.old.book }
-    ensures closes { result ≡ true → (name_or seat.old.name).shut ≡ Never }
+    ensures closes { result ≡ true → (name_or seat.old.name).first_close ≡ Never }
     ensures late { IsSome slot.old.sub.held.mark → result ≡ false }
     ensures board { keeper.new.board ≡ keeper.old.board }
     ensures book { keeper.new.book ≡ keeper.old.book }
@@ -77,7 +77,7 @@ fn end_slot(
     ensures named { seat.new.name ≡ Some (identity_of slot.new) }
     ensures seat { seat.new ≡ record seat.old { book = keeper.old.book; name = seat.new.name } }
     ensures name { seat.new.name ≡ Some (record (name_or seat.old.name) {
-      shut = first_close (name_or seat.old.name).shut result number;
+      first_close = after_close (name_or seat.old.name).first_close result number;
     }) }
 {
     let closed = close(slot, number);
@@ -122,7 +122,7 @@ fn close_at<R: Wait>(
 pub fn close_in<R: Wait>(
     rt: &R,
     board: &Board<Identity>,
-    slots: &mut Slots,
+    slots: &mut ServerSlots,
     seat: &mut Seat<Identity>,
 ) -> Option<u64>
     requires board { (slots.old.keeper.board ≡ board.now) × (seat.old.board ≡ board.now) }
@@ -192,7 +192,7 @@ fn take_out(taken: &mut Vec<usize>, place: usize)
 }
 
 /// Takes a slot's seat back and frees the slot. The other slots keep their subscriptions.
-pub fn free_in(board: &Board<Identity>, slots: &mut Slots, seat: Seat<Identity>, asked: bool)
+pub fn free_in(board: &Board<Identity>, slots: &mut ServerSlots, seat: Seat<Identity>, asked: bool)
     requires board { (slots.old.keeper.board ≡ board.now) × (seat.board ≡ board.now) }
     requires seat { (0 < seat.slot)
         × IsSomeAnd seat.name (λ t. seat.asks ≡ asks_after t.asks asked) }

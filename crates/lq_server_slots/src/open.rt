@@ -10,13 +10,13 @@ ghost use Rattle.lq_server_subscription.specs.declared.identity.Identity.{Identi
 ghost use Rattle.lq_server_slots.specs.Slots.{AreUnchanged, SlotsStand, StandsBeside, is_full, slot_in};
 ghost use Rattle.lq_server_slots.specs.Opening.{IsBegun, IsOpened, IsOpeningAnswer};
 
-use crate::slots::{PLACES, Slots};
+use crate::slots::{PLACES, ServerSlots};
 use lq_board::{Board, Keeper, Seat};
 use lq_desk_sub::{MAX_BACKLOG, Sub};
 use lq_port::{MAX_PLACES, make};
 use lq_predicate::Predicate;
 use lq_server_subscription::{
-    Delivery, Identity, Opening, Reading, Shut, Subscription, new_subscriptions_stand,
+    Delivery, FirstClose, Identity, Opening, Reading, Subscription, new_subscriptions_stand,
 };
 use lq_server_witness::Witness;
 use lq_update::{Rebuild, results_rise};
@@ -90,7 +90,7 @@ fn begin(
         input,
         places: asked.port,
         asks: 0,
-        shut: Shut::Never,
+        first_close: FirstClose::Never,
     };
     let reading = Reading::new(output, Rebuild::new(alloc, at, entries));
     Ok((slot, reading))
@@ -156,7 +156,7 @@ fn sit(
 // memory comes first, so that the slots stay as they were where memory runs out.
 fn settle(
     board: &Board<Identity>,
-    slots: &mut Slots,
+    slots: &mut ServerSlots,
     place: usize,
     mut slot: Subscription,
     reading: Reading,
@@ -201,7 +201,7 @@ fn settle(
 pub fn open_in(
     alloc: Global,
     board: &Board<Identity>,
-    slots: &mut Slots,
+    slots: &mut ServerSlots,
     volume: &Volume,
     asked: &Asked,
 ) -> Result<Opened, Refusal>

@@ -5,7 +5,7 @@ ghost use Rattle.lq_volume.specs.Book.{state_of};
 ghost use Rattle.lq_board.specs.Slot.{slot_at};
 ghost use Rattle.lq_server_slots.specs.Slots.{IsTaken, IsToFill, SlotStands, asks_of, SlotsStand, OnlyAt, IsReadyAt, AllReady, before_of, IsGrown, IsNoticed, IsServed, SlotIs, SlotsAre};
 
-use crate::slots::{Slots, fill_slot, notice_slot, place_of};
+use crate::slots::{ServerSlots, fill_slot, notice_slot, place_of};
 use lq_board::{Board, Keeper};
 use lq_server_subscription::{Identity, Subscription, commit, ready};
 use lq_value::Refusal;
@@ -50,7 +50,7 @@ fn ready_at(
 /// ones.
 pub(crate) fn ready_all(
     board: &Board<Identity>,
-    slots: &mut Slots,
+    slots: &mut ServerSlots,
     planned: &Planned<'_>,
 ) -> Result<(), Refusal>
     requires board { slots.old.keeper.board ≡ board.now }
@@ -83,7 +83,7 @@ pub(crate) fn ready_all(
 }
 
 // For a slot that may be free: commits the change that was just added, and fills the port.
-fn tell_at<R: Wait>(
+fn commit_at<R: Wait>(
     rt: &R,
     keeper: &Keeper<Identity>,
     slot: &mut Option<Subscription>,
@@ -125,7 +125,7 @@ fn commit_slot(keeper: &Keeper<Identity>, slot: &mut Subscription, place: usize,
 }
 
 /// Commits the change that was just added in each subscription, and fills each port.
-pub(crate) fn tell_all<R: Wait>(rt: &R, slots: &mut Slots, change: &Change)
+pub(crate) fn commit_all<R: Wait>(rt: &R, slots: &mut ServerSlots, change: &Change)
     requires grown { IsGrown slots.old.keeper.book change.now }
     requires ready { AllReady slots.old.subscriptions.items
         (state_of (before_of slots.old.keeper.book)) change.now }
@@ -138,7 +138,7 @@ pub(crate) fn tell_all<R: Wait>(rt: &R, slots: &mut Slots, change: &Change)
 {
     for index in 0..slots.taken.len() {
         let place = place_of(slots, index);
-        tell_at(
+        commit_at(
             rt,
             &slots.keeper,
             &mut slots.subscriptions[place],

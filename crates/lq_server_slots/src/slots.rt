@@ -18,18 +18,18 @@ pub(crate) const PLACES: usize = 65;
 /// The subscriptions in the slots, what the keeper knows of the slots, the places of the taken
 /// ones, and the number of openings so far.
 #[derive(Drop)]
-pub struct Slots {
+pub struct ServerSlots {
     pub keeper: Keeper<Identity>,
     pub subscriptions: Vec<Option<Subscription>>,
     pub taken: Vec<usize>,
     pub openings: u64,
 }
 
-impl Slots {
+impl ServerSlots {
     ghost use Rattle.lq_board.specs.Slot.{unused_slots};
 
     /// 64 free slots, with a keeper that has no slot's seat out. Refused: `NoMemory`.
-    pub fn new(alloc: Global, keeper: Keeper<Identity>) -> Result<Slots, Refusal>
+    pub fn new(alloc: Global, keeper: Keeper<Identity>) -> Result<ServerSlots, Refusal>
         requires unused { keeper.slots ≡ unused_slots }
         ensures refused { IsRefusedBy result None }
         ensures keeper { IfOk result (λ slots. slots.keeper ≡ keeper) }
@@ -38,7 +38,7 @@ impl Slots {
     {
         let subscriptions = free(alloc)?;
         let taken = Vec::with_capacity(alloc, PLACES)?;
-        Ok(Slots {
+        Ok(ServerSlots {
             keeper,
             subscriptions,
             taken,
@@ -81,7 +81,7 @@ pub(crate) fn notice_slot(
     ensures taken { IsTaken slot.new (slot_at keeper.new.slots place) keeper.new.book }
     ensures ended { slot.old.asks < result → IsSome slot.new.sub.held.mark }
     ensures noticed { IsNoticed slot.new (slot_at keeper.new.slots place) }
-    ensures others { SameButHeld slot.old slot.new × (slot.new.shut ≡ slot.old.shut) }
+    ensures others { SameButHeld slot.old slot.new × (slot.new.first_close ≡ slot.old.first_close) }
     ensures still { IsSome slot.old.sub.held.mark
         → slot.new.sub.held.mark ≡ slot.old.sub.held.mark }
 {
@@ -92,7 +92,7 @@ pub(crate) fn notice_slot(
 }
 
 /// The place of a taken slot, by its index in the list of taken places.
-pub(crate) fn place_of(slots: &Slots, index: usize) -> usize
+pub(crate) fn place_of(slots: &ServerSlots, index: usize) -> usize
     requires index { index < length slots.now.taken.items }
     requires listed { IsListed slots.now.taken.items slots.now.subscriptions.items }
     ensures value { result ≡ place_at slots.now.taken.items index }
@@ -131,7 +131,12 @@ fn serve_at<R: Wait>(
 }
 
 /// Ends each subscription whose reader asked for that, and fills each port.
-pub(crate) fn serve_all<R: Wait>(rt: &R, board: &Board<Identity>, slots: &mut Slots, number: u64)
+pub(crate) fn serve_all<R: Wait>(
+    rt: &R,
+    board: &Board<Identity>,
+    slots: &mut ServerSlots,
+    number: u64,
+)
     requires board { slots.old.keeper.board ≡ board.now }
     requires number { number ≡ length slots.old.keeper.book.changes }
     requires holding { SlotsStand slots.old slots.old.keeper.book }

@@ -10,7 +10,7 @@ ghost use Rattle.lq_server_slots.specs.Slots.{IsTaken, SlotStands, SlotsStand, O
 ghost use Rattle.lq_server_slots.specs.Opening.{IdentityFits};
 ghost use Rattle.lq_server_slots.specs.Progress.{ShowsProgress};
 
-use crate::slots::{Slots, notice_slot};
+use crate::slots::{ServerSlots, notice_slot};
 use lq_board::{Board, Keeper, Seat};
 use lq_server_subscription::{Identity, Reading, Subscription, drain};
 use lq_update::Mark;
@@ -123,7 +123,7 @@ pub(crate) fn notice_by(
     ensures only { OnlyAt keeper.old.slots keeper.new.slots seat.now.slot }
     ensures taken { IsTaken slot.new (slot_at keeper.new.slots seat.now.slot) keeper.new.book }
     ensures ended { slot.old.asks < seat.now.asks → IsSome slot.new.sub.held.mark }
-    ensures others { SameButHeld slot.old slot.new × (slot.new.shut ≡ slot.old.shut) }
+    ensures others { SameButHeld slot.old slot.new × (slot.new.first_close ≡ slot.old.first_close) }
 {
     let place = seat.slot() as usize;
     notice_slot(board, keeper, slot, place, number);
@@ -225,7 +225,7 @@ fn meet_slot_at(
 }
 
 /// The number of changes in the keeper's book, which the seat of a slot then knows.
-pub fn meet_in(board: &Board<Identity>, slots: &mut Slots, seat: &mut Seat<Identity>) -> u64
+pub fn meet_in(board: &Board<Identity>, slots: &mut ServerSlots, seat: &mut Seat<Identity>) -> u64
     requires board { (slots.old.keeper.board ≡ board.now) × (seat.old.board ≡ board.now) }
     requires seat { (0 < seat.old.slot) × IsSome seat.old.name }
     requires holding { SlotsStand slots.old slots.old.keeper.book }
@@ -244,7 +244,7 @@ pub fn meet_in(board: &Board<Identity>, slots: &mut Slots, seat: &mut Seat<Ident
 pub fn sync_in<R: Wait>(
     rt: &R,
     board: &Board<Identity>,
-    slots: &mut Slots,
+    slots: &mut ServerSlots,
     seat: &mut Seat<Identity>,
     reading: &mut Reading,
 ) -> Progress

@@ -18,12 +18,13 @@ use Rattle.lq_desk_sub.specs.Held.{Held, Prepared, prepared, committed, opened_w
 use Rattle.lq_port.specs.End.{End, all_put}
 use Rattle.lq_server_subscription.specs.declared.delivery.Delivery.{Delivery}
 use Rattle.lq_server_subscription.specs.declared.delivery.Opening.{Opening}
-use Rattle.lq_server_subscription.specs.declared.identity.Shut.{Shut}
-use Rattle.lq_server_subscription.specs.declared.identity.Shut.TheVariants.{Never, At, Late}
+use Rattle.lq_server_subscription.specs.declared.identity.FirstClose.{FirstClose}
+use Rattle.lq_server_subscription.specs.declared.identity.FirstClose.TheVariants.{Never, At, Late}
 use Rattle.lq_server_subscription.specs.Updates.{updates}
 use Rattle.lq_server_subscription.specs.Rule.{floor_of, query_of, messages_in, mark_in}
 use Rattle.lq_server_subscription.specs.LegalList.{known_by}
-use Rattle.lq_server_subscription.specs.Standing.{given, upto, Stands, ShutFits, NotClosed, IsOverrun, IsReady}
+use Rattle.lq_server_subscription.specs.Marking.{after_close}
+use Rattle.lq_server_subscription.specs.Standing.{given, upto, Stands, FirstCloseFits, NotClosed, IsOverrun, IsReady}
 use Rattle.lq_server_subscription.proofs.Books.{extends_self, extends_trans, extends_length}
 use Rattle.lq_server_subscription.proofs.UpdateLemmas.{updates-add, updates-same, updates-none}
 use Rattle.lq_server_subscription.proofs.PutLemmas.{some_mark, not_moved}
@@ -57,16 +58,17 @@ over_longer q mv o places backlog book book' e full p le over =
     }
 
 -- a mark that no close set fits before the first close
-never : (u : Shut) (k : Mark) → NotClosed k.cause → ShutFits u None → ShutFits u (Some k)
+never : (u : FirstClose) (k : Mark) → NotClosed k.cause → FirstCloseFits u None
+    → FirstCloseFits u (Some k)
 never Never k h f = h
 never (At n) k h f = absurd f
 never Late k h f = absurd f
 
-module _ (h : Held) (e : End Delivery Opening) (places : ℕ) (shut : Shut) (book : Book)
-    (s : Stands h e places shut book) where
+module _ (h : Held) (e : End Delivery Opening) (places : ℕ) (first_close : FirstClose) (book : Book)
+    (s : Stands h e places first_close book) where
   -- an ended one stands over each longer book
   pub longer_marked : (book' : Book) (k : Mark) → Extends book' book → IsFullBook book'
-      → h.mark ≡ Some k → Stands h e places shut book'
+      → h.mark ≡ Some k → Stands h e places first_close book'
   longer_marked book' k p full mark =
       let fits =
       some_mark h.mark k (λ k. (k.seq ≡ h.sent + 1) × (k.change ≤ length book.changes)) mark
@@ -95,7 +97,7 @@ module _ (h : Held) (e : End Delivery Opening) (places : ℕ) (shut : Shut) (boo
             (sym mark) (fits.0, omega arith);
         out = s.out;
         done = s.done;
-        shut = s.shut;
+        first_close = s.first_close;
         overrun =
             subst (λ o. IfSome o
             (λ k. k.cause ≡ Overrun
@@ -126,13 +128,14 @@ module _ (h : Held) (e : End Delivery Opening) (places : ℕ) (shut : Shut) (boo
     opened_is = subst (λ n. h.opened ≤ n) now_is s.opened
 
     -- it ends at this book, or one that goes on from it
-    ends : (book' : Book) (cause : Cause) (shut' : Shut) → Extends book' book → IsFullBook book'
-        → ShutFits shut'
+    ends : (book' : Book) (cause : Cause) (first_close' : FirstClose) → Extends book' book
+        → IsFullBook book'
+        → FirstCloseFits first_close'
         (Some (record { seq = h.sent + 1; change = length book.changes; cause = cause }))
         → (cause ≡ Overrun
         → IsOverrun h.query h.moved h.opened places h.backlog book' (length book.changes))
-        → Stands (ended_by h cause (length book.changes)) e places shut' book'
-    ends book' cause shut' p full fits over =
+        → Stands (ended_by h cause (length book.changes)) e places first_close' book'
+    ends book' cause first_close' p full fits over =
         let long = extends_length book book' p in
         record {
           query = s.query;
@@ -153,16 +156,17 @@ module _ (h : Held) (e : End Delivery Opening) (places : ℕ) (shut : Shut) (boo
               (Some (record { seq = h.sent + 1; change = length book.changes; cause = cause }))
               (none_out live));
           done = λ f. absurd (none_out live f);
-          shut = fits;
+          first_close = fits;
           overrun = over;
         }
 
     -- a live subscription that ends by a hang-up stands
-    pub ends_hung : Stands (ended_by h HungUp (length book.changes)) e places shut book
+    pub ends_hung : Stands (ended_by h HungUp (length book.changes)) e places first_close book
     ends_hung =
-        ends book HungUp shut (extends_self book) s.full
-        (never shut (record { seq = h.sent + 1; change = length book.changes; cause = HungUp }) tt
-        (subst (ShutFits shut) live s.shut)) (λ c. absurd (cc))
+        ends book HungUp first_close (extends_self book) s.full
+        (never first_close
+        (record { seq = h.sent + 1; change = length book.changes; cause = HungUp }) tt
+        (subst (FirstCloseFits first_close) live s.first_close)) (λ c. absurd (cc))
 
     -- a live subscription that is closed stands, closed at this change
     pub ends_closed : Stands (ended_by h Closed (length book.changes)) e places
@@ -194,7 +198,7 @@ module _ (h : Held) (e : End Delivery Opening) (places : ℕ) (shut : Shut) (boo
           ∙ (λ i. sym old_is i ++ step_of h.query h.moved (state_of book) c (count i))
 
       -- with the change's updates held, the subscription stands over the longer book
-      goes_on : Stands (with_messages h more) e places shut book'
+      goes_on : Stands (with_messages h more) e places first_close book'
       goes_on =
           let e2 : upto h.mark (length book'.changes) ≡ length book.changes + 1 =
           ap (λ o. upto o (length book'.changes)) live ∙ long in
@@ -218,7 +222,7 @@ module _ (h : Held) (e : End Delivery Opening) (places : ℕ) (shut : Shut) (boo
                 (sym live) tt;
             out = s.out;
             done = λ f. absurd (none_out live f);
-            shut = s.shut;
+            first_close = s.first_close;
             overrun =
                 subst (λ o. IfSome o
                 (λ k. k.cause ≡ Overrun
@@ -251,18 +255,19 @@ module _ (h : Held) (e : End Delivery Opening) (places : ℕ) (shut : Shut) (boo
 
         -- the subscription stands after the change, by whether it overruns
         by_test : (b : Bool) → overruns h more ≡ b
-            → Stands (after_messages_by h more (length book.changes) b) e places shut book'
+            → Stands (after_messages_by h more (length book.changes) b) e places first_close book'
         by_test true test =
             let t = both_true _ _ test in
-            ends book' Overrun shut (c ∷ [], refl) full'
-            (never shut
+            ends book' Overrun first_close (c ∷ [], refl) full'
+            (never first_close
             (record { seq = h.sent + 1; change = length book.changes; cause = Overrun }) tt
-            (subst (ShutFits shut) live s.shut))
+            (subst (FirstCloseFits first_close) live s.first_close))
             (λ _. over_is (lt_true _ _ t.0) (lt_true _ _ t.1))
         by_test false test = goes_on
 
         -- after each change, the subscription stands over the longer book
-        pub told_stands : Stands (after_messages h more (length book.changes)) e places shut book'
+        pub told_stands : Stands (after_messages h more (length book.changes)) e places
+            first_close book'
         told_stands = by_test (overruns h more) refl
 
 -- a new one
@@ -289,7 +294,7 @@ stands_new q mv backlog e places book taken ahead floor query moves opening port
       mark = tt;
       out = ap mark_in put;
       done = λ f. absurd (true≢false (sym f));
-      shut = tt;
+      first_close = tt;
       overrun = tt;
     }
 
@@ -303,25 +308,35 @@ pub none_there : (o : Option Mark) → is_none o ≡ true → o ≡ None
 none_there (Some k) e = absurd (cc)
 none_there None e = refl
 
+-- the answer of the first close, where it ended the subscription
+pub first_answer : (u : FirstClose) (o : Option Mark) (n : ℕ) → o ≡ None → FirstCloseFits u o
+    → At n ≡ after_close u true n
+first_answer u o n e f = at u (subst (FirstCloseFits u) e f)
+  where
+    at : (u : FirstClose) → FirstCloseFits u None → At n ≡ after_close u true n
+    at Never f = refl
+    at (At m) f = absurd f
+    at Late f = absurd f
+
 -- the messages of a change are made
 pub ready_of : (s : State) (c : Change) (p q : Prepared) → q ≡ prepared s c p → IsReady q s c
 ready_of s c p q e = subst (λ (z : Prepared). IsReady z s c) (sym e) (λ _. (refl, refl))
 
 -- a commit makes it stand over the book with the change
-pub committed_stands : (p q : Prepared) (e : End Delivery Opening) (places : ℕ) (shut : Shut)
-    (book : Book) (c : Change) → p.held.mark ≡ None → q ≡ committed p → StepsAreFew
+pub committed_stands : (p q : Prepared) (e : End Delivery Opening) (places : ℕ)
+    (first_close : FirstClose) (book : Book) (c : Change) → p.held.mark ≡ None → q ≡ committed p → StepsAreFew
     → (0 < length p.held.messages → places ≤ length (messages_in (all_put e)))
-    → Stands p.held e places shut book → IsReady p (state_of book) c
+    → Stands p.held e places first_close book → IsReady p (state_of book) c
     → IsLawful (state_of book) c → IsFullBook (grown book (c ∷ []))
-    → Stands q.held e places shut (grown book (c ∷ []))
-committed_stands p q e places shut book c live is few filled s ready lawful full =
+    → Stands q.held e places first_close (grown book (c ∷ []))
+committed_stands p q e places first_close book c live is few filled s ready lawful full =
     let r = ready live in
     let three =
     few p.held.query p.held.moved (state_of book) c (p.held.sent + 1) s.full.state lawful in
     let t : Stands
     (after_messages p.held (step_of p.held.query p.held.moved (state_of book) c (p.held.sent + 1))
-    (length book.changes)) e places shut (grown book (c ∷ [])) =
-    told_stands p.held e places shut book s live c full three filled in
-    subst (λ (h : Held). Stands h e places shut (grown book (c ∷ [])))
+    (length book.changes)) e places first_close (grown book (c ∷ [])) =
+    told_stands p.held e places first_close book s live c full three filled in
+    subst (λ (h : Held). Stands h e places first_close (grown book (c ∷ [])))
     (sym (ap (λ (z : Prepared). z.held) is
     ∙ (λ i. after_messages p.held (r.0 i) ((r.1 ∙ s.full.number) i)))) t

@@ -16,12 +16,12 @@ use Rattle.lq_port.specs.End.{End, all_put, IsSamePort, Gains}
 use Rattle.lq_port.specs.Port.{IsLegal}
 use Rattle.lq_server_subscription.specs.declared.delivery.Delivery.{Delivery}
 use Rattle.lq_server_subscription.specs.declared.delivery.Opening.{Opening}
-use Rattle.lq_server_subscription.specs.declared.identity.Shut.{Shut}
+use Rattle.lq_server_subscription.specs.declared.identity.FirstClose.{FirstClose}
 use Rattle.lq_server_subscription.specs.declared.subscription.Subscription.{Subscription}
 use Rattle.lq_server_subscription.specs.Updates.{updates}
 use Rattle.lq_server_subscription.specs.Rule.{book_of, floor_of, query_of, message_of, mark_or, messages_in, mark_in, IsMark, Tells, MayFollow}
 use Rattle.lq_server_subscription.specs.LegalList.{known_by}
-use Rattle.lq_server_subscription.specs.Standing.{given, upto, moved_mark, Stands, StandsAt, SameHeld, SameButPuts, mark_left, left_of, IsOut, IsStuck, IsDrained, IsOverrun, SideBySide}
+use Rattle.lq_server_subscription.specs.Standing.{given, upto, moved_mark, Stands, StandsAt, FirstCloseFits, SameHeld, SameButPuts, mark_left, left_of, IsOut, IsStuck, IsDrained, IsOverrun, SideBySide}
 use Rattle.lq_server_subscription.proofs.Books.{extends_self}
 use Rattle.lq_server_subscription.proofs.UpdateLemmas.{updates-front}
 use Rattle.lq_server_subscription.proofs.PortLemmas.{prefix_self, prefix_trans, messages_in-snoc, mark_in-append, last_book-snoc}
@@ -63,8 +63,8 @@ not_moved false o h = refl
 cons_some : (m : Message) (ms : List Message) → m ∷ ms ≡ [] → ⊥
 cons_some m ms e = absurd (cc)
 
-module _ (h : Held) (d : End Delivery Opening) (places : ℕ) (shut : Shut) (book : Book)
-    (s : Stands h d places shut book) where
+module _ (h : Held) (d : End Delivery Opening) (places : ℕ) (first_close : FirstClose) (book : Book)
+    (s : Stands h d places first_close book) where
   -- with a message held, the mark isn't out
   open_with : (m : Message) (rest : List Message) → h.messages ≡ m ∷ rest → h.mark_out ≡ true → ⊥
   open_with m rest held e = cons_some m rest (sym held ∙ (s.done e).0)
@@ -189,7 +189,7 @@ module _ (h : Held) (d : End Delivery Opening) (places : ℕ) (shut : Shut) (boo
         (messages_then p (next_is h.messages h.mark h.mark_out p next))
 
     -- a parcel was put, and the list of what is put and held stays
-    pub put_stands : Stands (without h (Some p)) e places shut book
+    pub put_stands : Stands (without h (Some p)) e places first_close book
     put_stands =
         let n = next_is h.messages h.mark h.mark_out p next in
         let r = same_held p in
@@ -216,8 +216,7 @@ module _ (h : Held) (d : End Delivery Opening) (places : ℕ) (shut : Shut) (boo
           out = ap mark_in all_then ∙ mark_in-append (all_put d) (x ∷ []) (unput p n)
               ∙ ap (λ z. mark_or z None) is ∙ out_then p n;
           done = done_then p n;
-          shut = subst (λ o. Rattle.lq_server_subscription.specs.Standing.ShutFits shut o)
-              (sym r.mark) s.shut;
+          first_close = subst (FirstCloseFits first_close) (sym r.mark) s.first_close;
           overrun =
               subst (λ (z : Query × Bool × ℕ × ℕ × Option Mark). IfSome z.4
               (λ k. k.cause ≡ Overrun → IsOverrun z.0 z.1 z.2 places z.3 book k.change))
@@ -245,10 +244,11 @@ none_next h e = at h.messages h.mark h.mark_out e
     at [] (Some k) false e = absurd (cc)
 
 -- only what is known to be taken differs
-pub same_put : (h : Held) (d e : End Delivery Opening) (places : ℕ) (shut : Shut) (book : Book)
-    → IsSamePort d e → all_put e ≡ all_put d → Stands h d places shut book
-    → Stands h e places shut book
-same_put h d e places shut book port put s =
+pub same_put : (h : Held) (d e : End Delivery Opening) (places : ℕ) (first_close : FirstClose)
+    (book : Book)
+    → IsSamePort d e → all_put e ≡ all_put d → Stands h d places first_close book
+    → Stands h e places first_close book
+same_put h d e places first_close book port put s =
     let same : given h e ≡ given h d =
     ap (λ (ps : List Delivery). messages_in ps ++ h.messages) put in
     record {
@@ -266,7 +266,7 @@ same_put h d e places shut book port put s =
       mark = s.mark;
       out = ap mark_in put ∙ s.out;
       done = s.done;
-      shut = s.shut;
+      first_close = s.first_close;
       overrun = s.overrun;
     }
 
@@ -289,7 +289,7 @@ alike_trans s t u a b = record {
   };
   places = b.places ∙ a.places;
   asks = b.asks ∙ a.asks;
-  shut = b.shut ∙ a.shut;
+  first_close = b.first_close ∙ a.first_close;
   given_same = b.given_same ∙ a.given_same;
 }
 
@@ -316,7 +316,7 @@ alike_held s sub input held same = record {
   held = subst (SameHeld s.sub.held) (sym held) (held_self s.sub.held);
   places = refl;
   asks = refl;
-  shut = refl;
+  first_close = refl;
   given_same = λ i. given (held i) (same i);
 }
 
@@ -372,14 +372,14 @@ module _ (s t : Subscription) (c d e input : End Delivery Opening) (book : Book)
   -- the two ends were seen side by side
   pub looks : SideBySide s (record t { input = input }) c e book n
   looks = record {
-    stands = same_put t.sub.held t.input input t.places t.shut book ports.1 (all_seen ∙ put)
+    stands = same_put t.sub.held t.input input t.places t.first_close book ports.1 (all_seen ∙ put)
         at.stands;
     alike = alike_trans s t (record t { input = input }) at.alike (record {
       port = ports.1;
       held = held_self t.sub.held;
       places = refl;
       asks = refl;
-      shut = refl;
+      first_close = refl;
       given_same = ap (λ (ps : List Delivery). messages_in ps ++ t.sub.held.messages)
           (all_seen ∙ put);
     });

@@ -28,7 +28,7 @@ identity_of s =
       places = s.places;
       backlog = s.sub.held.backlog;
       asks = s.asks;
-      shut = s.shut;
+      first_close = s.first_close;
       port = port_id s.input.port;
     }
 

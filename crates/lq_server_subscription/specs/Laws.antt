@@ -8,7 +8,7 @@ use Rattle.lq_desk_sub.specs.Held.{opened_with}
 use Rattle.lq_port.specs.End.{End}
 use Rattle.lq_server_subscription.specs.declared.delivery.Delivery.{Delivery}
 use Rattle.lq_server_subscription.specs.declared.delivery.Opening.{Opening}
-use Rattle.lq_server_subscription.specs.declared.identity.Shut.TheVariants.{Never}
+use Rattle.lq_server_subscription.specs.declared.identity.FirstClose.TheVariants.{Never}
 use Rattle.lq_server_subscription.specs.Updates.{updates}
 use Rattle.lq_server_subscription.specs.Rule.{floor_of, query_of}
 use Rattle.lq_server_subscription.specs.Standing.{Stands}

@@ -1,8 +1,8 @@
 -- What a notice and a close do to the mark.
 use Rattle.std.specs.Prelude.{ℕ, Bool, true, false, ◌&&◌, Option, IsSomeAnd, if◌then◌else◌}
 use Rattle.lq_desk_sub.specs.Held.{Held, Prepared, is_live, after_messages, ended_by}
-use Rattle.lq_server_subscription.specs.declared.identity.Shut.{Shut}
-use Rattle.lq_server_subscription.specs.declared.identity.Shut.TheVariants.{Never, At, Late}
+use Rattle.lq_server_subscription.specs.declared.identity.FirstClose.{FirstClose}
+use Rattle.lq_server_subscription.specs.declared.identity.FirstClose.TheVariants.{Never, At, Late}
 use Rattle.lq_update.specs.declared.mark.Mark.{Mark}
 use Rattle.lq_update.specs.declared.mark.Cause.{Cause}
 use Rattle.lq_update.specs.declared.mark.Cause.TheVariants.{Closed, HungUp, Overrun}
@@ -18,11 +18,11 @@ abbrev pub hung_mark : Option Mark → Type 0
 hung_mark o = IsSomeAnd o (λ k. IsHung k.cause)
 
 -- the answer of the first close, after one more close
-abbrev pub first_close : Shut → Bool → ℕ → Shut
-first_close Never true n = At n
-first_close Never false n = Late
-first_close (At m) b n = At m
-first_close Late b n = Late
+abbrev pub after_close : FirstClose → Bool → ℕ → FirstClose
+after_close Never true n = At n
+after_close Never false n = Late
+after_close (At m) b n = At m
+after_close Late b n = Late
 
 -- what is held after a commit: the messages made ready too, or the mark of an overrun; a
 -- subscription that has ended stays

@@ -14,8 +14,8 @@ use Rattle.lq_desk_sub.specs.Held.{Held, Prepared}
 use Rattle.lq_port.specs.End.{End, all_put, IsSamePort}
 use mathlib.Core.List.{IsPrefix}
 use Rattle.lq_port.specs.Port.{IsLegal}
-use Rattle.lq_server_subscription.specs.declared.identity.Shut.{Shut}
-use Rattle.lq_server_subscription.specs.declared.identity.Shut.TheVariants.{Never, At, Late}
+use Rattle.lq_server_subscription.specs.declared.identity.FirstClose.{FirstClose}
+use Rattle.lq_server_subscription.specs.declared.identity.FirstClose.TheVariants.{Never, At, Late}
 use Rattle.lq_server_subscription.specs.declared.delivery.Delivery.{Delivery}
 use Rattle.lq_server_subscription.specs.declared.delivery.Opening.{Opening}
 use Rattle.lq_server_subscription.specs.declared.subscription.Subscription.{Subscription}
@@ -44,10 +44,10 @@ NotClosed HungUp = Unit {0}
 NotClosed Overrun = Unit {0}
 
 -- the answer of the first close agrees with the mark
-abbrev pub ShutFits : Shut → Option Mark → Type 0
-ShutFits Never o = IfSome o (λ k. NotClosed k.cause)
-ShutFits (At n) o = IsSomeAnd o (λ k. (k.cause ≡ Closed) × (k.change ≡ n))
-ShutFits Late o = IsSomeAnd o (λ k. NotClosed k.cause)
+abbrev pub FirstCloseFits : FirstClose → Option Mark → Type 0
+FirstCloseFits Never o = IfSome o (λ k. NotClosed k.cause)
+FirstCloseFits (At n) o = IsSomeAnd o (λ k. (k.cause ≡ Closed) × (k.change ≡ n))
+FirstCloseFits Late o = IsSomeAnd o (λ k. NotClosed k.cause)
 
 -- Change e + 1 was too much. It has messages, and the messages up to it are more than the backlog.
 -- Where its own messages are within the backlog, those up to it are more than port and backlog
@@ -68,7 +68,7 @@ pub record IsOverrun
 -- its updates over that book, up to its mark or else to the end. A mark is put last and has its
 -- cause.
 pub record Stands
-    (h : Held) (e : End Delivery Opening) (places : ℕ) (answer : Shut) (book : Book)
+    (h : Held) (e : End Delivery Opening) (places : ℕ) (answer : FirstClose) (book : Book)
     : Type 0 where
   pub query : query_of e.floor ≡ h.query
   pub moves : e.floor.moved ≡ h.moved
@@ -83,7 +83,7 @@ pub record Stands
   pub mark : IfSome h.mark (λ k. (k.seq ≡ h.sent + 1) × (k.change ≤ length book.changes))
   pub out : mark_in (all_put e) ≡ moved_mark h.mark_out h.mark
   pub done : h.mark_out ≡ true → (h.messages ≡ []) × IsSome h.mark
-  pub shut : ShutFits answer h.mark
+  pub first_close : FirstCloseFits answer h.mark
   pub overrun :
       IfSome h.mark
       (λ k. k.cause ≡ Overrun
@@ -91,7 +91,7 @@ pub record Stands
 
 -- and for a subscription under the lock
 abbrev pub StandsAt : Subscription → Book → Type 0
-StandsAt s book = Stands s.sub.held s.input s.places s.shut book
+StandsAt s book = Stands s.sub.held s.input s.places s.first_close book
 
 -- messages are held only where at least as many as the port has places were put
 abbrev pub IsFilled : Subscription → Type 0
@@ -112,7 +112,7 @@ pub record SameButPuts (s t : Subscription) : Type 0 where
   pub held : SameHeld s.sub.held t.sub.held
   pub places : t.places ≡ s.places
   pub asks : t.asks ≡ s.asks
-  pub shut : t.shut ≡ s.shut
+  pub first_close : t.first_close ≡ s.first_close
   pub given_same : given t.sub.held t.input ≡ given s.sub.held s.input
 
 -- whether the mark is left to put, as a count

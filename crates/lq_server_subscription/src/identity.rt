@@ -20,7 +20,7 @@ impl Model for PortId {
 
 /// The answer of the first close of a subscription.
 #[derive(Clone, Copy, Debug, PartialEq, Eq)]
-pub enum Shut {
+pub enum FirstClose {
     /// There was no close yet.
     Never,
     /// The close ended the subscription, after this many changes.
@@ -47,7 +47,7 @@ pub struct Identity {
     /// How often the slot's seats had asked at the opening.
     pub asks: u64,
     /// What the first close answered.
-    pub shut: Shut,
+    pub first_close: FirstClose,
     /// The port.
     pub port: PortId,
 }

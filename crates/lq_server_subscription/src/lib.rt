@@ -15,7 +15,7 @@ mod subscription;
 mod taking;
 
 pub use delivery::{Delivery, Opening};
-pub use identity::{Identity, PortId, Shut};
+pub use identity::{FirstClose, Identity, PortId};
 pub use laws::{
     books_extend_on, books_extend_themselves, new_subscriptions_stand, states_stay,
     updates_are_update_lists,

@@ -161,7 +161,7 @@ impl Reading {
     }
 
     /// The invariant of each reading: its parcels were legal, and the messages received are folded.
-    pub fn told(&self)
+    pub fn update_facts(&self)
         ensures { IsTold self.now }
     {
         // For the proof: a field that is read shows the invariant.

@@ -4,11 +4,11 @@ ghost use Rattle.lq_value.specs.Refusal.{IsRefusedBy};
 ghost use Rattle.lq_volume.specs.Book.{Book, grown, state_of};
 ghost use Rattle.lq_volume.specs.Change.{IsLawful};
 ghost use Rattle.lq_board.specs.Book.{IsFullBook};
-ghost use Rattle.lq_server_subscription.specs.Standing.{StandsAt, IsFilled, IsReady, SameButHeld, ShutFits};
-ghost use Rattle.lq_server_subscription.specs.Marking.{hung_mark, first_close, held_committed, held_noticed, held_closed};
+ghost use Rattle.lq_server_subscription.specs.Standing.{StandsAt, IsFilled, IsReady, SameButHeld, FirstCloseFits};
+ghost use Rattle.lq_server_subscription.specs.Marking.{hung_mark, after_close, held_committed, held_noticed, held_closed};
 
 use crate::delivery::Delivery;
-use crate::identity::Shut;
+use crate::identity::FirstClose;
 use lq_desk_sub::Sub;
 use lq_port::PortIn;
 use lq_update::{Cause, steps_are_few};
@@ -26,7 +26,7 @@ pub struct Subscription {
     /// How often its slot's seats had asked at the opening.
     pub asks: u64,
     /// The answer of its first close.
-    pub shut: Shut,
+    pub first_close: FirstClose,
 }
 
 // Dropping one is a single call, instead of code at each place.
@@ -37,7 +37,7 @@ impl Drop for Subscription {
             input: _,
             places: _,
             asks: _,
-            shut: _,
+            first_close: _,
         } = self;
     }
 }
@@ -50,7 +50,7 @@ pub fn ready(slot: &mut Subscription, planned: &Planned<'_>) -> Result<(), Refus
     ensures refused { IsRefusedBy result None }
     ensures held { slot.new.sub.held ≡ slot.old.sub.held }
     ensures others { SameButHeld slot.old slot.new }
-    ensures shut { slot.new.shut ≡ slot.old.shut }
+    ensures first_close { slot.new.first_close ≡ slot.old.first_close }
     ensures ready { OnOk result (IsReady slot.new.sub planned.now.before planned.now.change) }
 {
     if !slot.sub.is_live() {
@@ -75,7 +75,7 @@ pub fn commit(slot: &mut Subscription, change: &Change)
         → StandsAt slot.new (grown book (change.now ∷ [])) }
     ensures held { slot.new.sub.held ≡ held_committed slot.old.sub }
     ensures others { SameButHeld slot.old slot.new }
-    ensures shut { slot.new.shut ≡ slot.old.shut }
+    ensures first_close { slot.new.first_close ≡ slot.old.first_close }
     ensures hung { hung_mark slot.new.sub.held.mark → hung_mark slot.old.sub.held.mark }
     ensures still { IsSome slot.old.sub.held.mark
         → slot.new.sub.held.mark ≡ slot.old.sub.held.mark }
@@ -100,7 +100,7 @@ pub fn notice(slot: &mut Subscription, hang_up_asked: bool, number: u64)
         → StandsAt slot.new book }
     ensures held { slot.new.sub.held ≡ held_noticed hang_up_asked number slot.old.sub.held }
     ensures others { SameButHeld slot.old slot.new }
-    ensures shut { slot.new.shut ≡ slot.old.shut }
+    ensures first_close { slot.new.first_close ≡ slot.old.first_close }
     ensures messages { slot.new.sub.held.messages ≡ slot.old.sub.held.messages }
     ensures hung { hung_mark slot.new.sub.held.mark
         → (hang_up_asked ≡ true) ⊎ hung_mark slot.old.sub.held.mark }
@@ -120,9 +120,9 @@ pub fn notice(slot: &mut Subscription, hang_up_asked: bool, number: u64)
 /// Ends the subscription as `Closed` where it is live, and answers whether it did.
 ///
 /// `number` is the number of changes. A subscription that has ended keeps its mark. The answer of
-/// the first close is kept in `shut`. It takes no memory.
+/// the first close is kept in `first_close`. It takes no memory.
 pub fn close(slot: &mut Subscription, number: u64) -> bool
-    requires fits { ShutFits slot.old.shut slot.old.sub.held.mark }
+    requires fits { FirstCloseFits slot.old.first_close slot.old.sub.held.mark }
     requires few { slot.old.sub.held.sent < 2 ^ 63 }
     ensures stands { (book : Book) → StandsAt slot.old book → number ≡ length book.changes
         → StandsAt slot.new book }
@@ -130,17 +130,17 @@ pub fn close(slot: &mut Subscription, number: u64) -> bool
     ensures others { SameButHeld slot.old slot.new }
     ensures messages { slot.new.sub.held.messages ≡ slot.old.sub.held.messages }
     ensures hung { hung_mark slot.new.sub.held.mark → hung_mark slot.old.sub.held.mark }
-    ensures shut { slot.new.shut ≡ first_close slot.old.shut result number }
+    ensures first_close { slot.new.first_close ≡ after_close slot.old.first_close result number }
     ensures closes { result ≡ is_none slot.old.sub.held.mark }
     ensures ended { IsSome slot.new.sub.held.mark }
 {
     if !slot.sub.is_live() {
-        if slot.shut == Shut::Never {
-            slot.shut = Shut::Late;
+        if slot.first_close == FirstClose::Never {
+            slot.first_close = FirstClose::Late;
         }
         return false;
     }
     slot.sub.finish_with(Cause::Closed, number);
-    slot.shut = Shut::At(number);
+    slot.first_close = FirstClose::At(number);
     true
 }

@@ -2,7 +2,7 @@
 ghost use Rattle.std.specs.Prelude.{◌≡◌, ◌≢◌, ℕ, ◌+◌, ◌<◌, ◌≤◌, IfOk, OnOk, OnErr, IsSome, IsSomeAnd, None};
 ghost use Rattle.lq_volume.specs.Book.{Extends};
 ghost use Rattle.lq_server_subscription.specs.declared.subscription.Subscription.{Subscription as SubscriptionOf};
-ghost use Rattle.lq_server_slots.specs.declared.slots.Slots.{Slots as SlotsOf};
+ghost use Rattle.lq_server_slots.specs.declared.slots.ServerSlots.{ServerSlots as SlotsOf};
 ghost use Rattle.lq_server_slots.specs.Slots.{SameButKnown, SlotsStand, slot_in};
 ghost use Rattle.lq_server_slots.specs.Closing.{IsClosed};
 ghost use Rattle.lq_server_slots.specs.Opening.{IsOpened, IsOpeningAnswer, IdentityFits, asks_after};

@@ -1,6 +1,6 @@
 use Rattle.std.proofs.Common.{◌≡◌, List, [], ◌∷◌, sym, ap, ◌∙◌, subst, arith, rules}
 use Rattle.lq_volume.specs.Book.{Book, grown}
-use Rattle.lq_board.specs.declared.views.Slot.{Slot as Known}
+use Rattle.lq_board.specs.declared.views.KnownSlot.{KnownSlot}
 use Rattle.lq_board.specs.Token.{KeeperToken}
 use Rattle.lq_server_subscription.specs.declared.identity.Identity.{Identity}
 use Rattle.lq_server_slots.specs.Slots.{SlotsAre, IsNoticed}
@@ -102,5 +102,6 @@ returns-clause-noticed c =
     (λ pos. (a.was_out pos).asks) (λ pos. (a.was_out pos).out)
     (λ pos. let first = c.requires.known pos in let then = r.rises seat.slot in
     omega (arith, first, then)) in
-    subst (λ (l : List (Known Identity)). SlotsAre IsNoticed slots.subscriptions.items l) (sym same)
+    subst (λ (l : List (KnownSlot Identity)). SlotsAre IsNoticed slots.subscriptions.items l)
+    (sym same)
     c.in_ok-prepare.ensures.noticed

@@ -10,21 +10,21 @@ use Rattle.lq_server_slots.specs.Slots.{SlotsStand, AllReady}
 use Rattle.lq_server_slots.proofs.SlotLemmas.{before_is, grown_is}
 use Rattle.lq_server_slots.proofs.change.change_in.Goals as goal
 
-pub tell_all-requires-clause-grown : goal.tell_all-requires-clause-grown
-tell_all-requires-clause-grown g c =
+pub commit_all-requires-clause-grown : goal.commit_all-requires-clause-grown
+commit_all-requires-clause-grown g c =
     let a = c.in-Ok.ensures in
     grown_is c.args.slots.now.keeper.book c.add.new.slots.keeper.book c.args.change.now a.made.ok
     (subst (λ (s : State). IsLawful s c.args.change.now) c.requires.stands.state a.lawful) a.full
 
-pub tell_all-requires-clause-ready : goal.tell_all-requires-clause-ready
-tell_all-requires-clause-ready g c =
+pub commit_all-requires-clause-ready : goal.commit_all-requires-clause-ready
+commit_all-requires-clause-ready g c =
     let a = c.in-Ok.ensures in
     subst (λ (b : Book). AllReady c.add.new.slots.subscriptions.items (state_of b)
     c.args.change.now) (sym (before_is c.args.slots.now.keeper.book c.add.new.slots.keeper.book
     c.args.change.now a.made.ok)) a.ready
 
-pub tell_all-requires-clause-holding : goal.tell_all-requires-clause-holding
-tell_all-requires-clause-holding g c =
+pub commit_all-requires-clause-holding : goal.commit_all-requires-clause-holding
+commit_all-requires-clause-holding g c =
     let a = c.in-Ok.ensures in
     subst (λ (b : Book). SlotsStand c.add.new.slots b) (sym (before_is
     c.args.slots.now.keeper.book c.add.new.slots.keeper.book c.args.change.now a.made.ok)) a.holding
@@ -43,16 +43,16 @@ pub returns-in-Ok-clause-made : goal.returns-in-Ok-clause-made
 returns-in-Ok-clause-made g c =
     subst (λ (k : KeeperToken Identity). IsChangeMade c.args.change.now (Ok c.in-Ok.applied)
     c.args.volume.now c.add.new.volume c.args.slots.now.keeper.book k.book c.args.seat.now
-    c.add.new.seat) (sym c.tell_all.ensures.keeper) c.in-Ok.ensures.made
+    c.add.new.seat) (sym c.commit_all.ensures.keeper) c.in-Ok.ensures.made
 
 pub returns-in-Ok-clause-stands : goal.returns-in-Ok-clause-stands
 returns-in-Ok-clause-stands g c =
     let a = c.in-Ok.ensures in
-    let same = ap (λ (k : KeeperToken Identity). k.book) (sym c.tell_all.ensures.keeper) in
+    let same = ap (λ (k : KeeperToken Identity). k.book) (sym c.commit_all.ensures.keeper) in
     record {
       state = a.volume ∙ ap state_of same;
       full = subst IsFullBook same a.full;
-      holding = c.tell_all.ensures.holding;
+      holding = c.commit_all.ensures.holding;
     }
 
 pub returns-in-Err-clause-made : goal.returns-in-Err-clause-made

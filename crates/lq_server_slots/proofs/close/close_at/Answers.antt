@@ -2,7 +2,7 @@ use Rattle.std.proofs.Common.{◌≡◌, ◌∙◌, ◌<◌, ℕ, true, false, t
 use Rattle.lq_board.specs.Slot.{slot_at}
 use Rattle.lq_board.specs.Token.{SeatToken}
 use Rattle.lq_server_subscription.specs.declared.identity.Identity.{Identity}
-use Rattle.lq_server_subscription.specs.declared.identity.Shut.TheVariants.{Never}
+use Rattle.lq_server_subscription.specs.declared.identity.FirstClose.TheVariants.{Never}
 use Rattle.lq_server_slots.specs.Slots.{IsTaken, IsPut, SlotStands}
 use Rattle.lq_server_slots.specs.Opening.{name_or}
 use Rattle.lq_server_slots.proofs.SyncLemmas.{only_then, seat_then, close_then}
@@ -36,7 +36,7 @@ returns-then-close_slot-clause-closed g c =
     let asks = ap (λ (s : SeatToken Identity). s.asks) m.seat in
     record {
       number = m.number;
-      closes = subst (λ (o : Option Identity). (name_or o).shut ≡ Never) same
+      closes = subst (λ (o : Option Identity). (name_or o).first_close ≡ Never) same
           (c.close_slot.ensures.closes c.if-close_slot.true);
       late = λ lt. absurd (true≢false (sym c.if-close_slot.true ∙ c.close_slot.ensures.late
           (subst (λ (z : ℕ × ℕ). z.0 < z.1) (λ i. (named i, sym asks i)) lt)));

@@ -1,7 +1,7 @@
 use Rattle.std.proofs.Common.{◌≡◌, false, true≢false, Option, Some, None, refl, sym, ap, ◌∙◌, subst}
 use Rattle.std.specs.Prelude.{IsSome, is_none}
 use Rattle.lq_board.specs.Slot.{slot_at}
-use Rattle.lq_board.specs.declared.views.Slot.{Slot as Known}
+use Rattle.lq_board.specs.declared.views.KnownSlot.{KnownSlot}
 use Rattle.lq_update.specs.declared.mark.Mark.{Mark}
 use Rattle.lq_server_subscription.specs.declared.identity.Identity.{Identity}
 use Rattle.lq_server_slots.specs.Slots.{IsTaken}
@@ -31,4 +31,4 @@ returns-clause-late c = λ some.
     c.close-closed.ensures.closes ∙ not_none c.args.slot.now.sub.held.mark some
 
 pub returns-clause-known : goal.returns-clause-known
-returns-clause-known c = ap (λ (p : Known Identity). p.asks) c.meet_under.ensures.place
+returns-clause-known c = ap (λ (p : KnownSlot Identity). p.asks) c.meet_under.ensures.place

@@ -20,7 +20,7 @@ returns-clause-holding c =
       places =
           c.args.slot.places;
       asks = c.asks-asks.result;
-      shut = c.args.slot.shut;
+      first_close = c.args.slot.first_close;
     } in
     let book : c.sit-seat.new.keeper.book ≡ was.keeper.book = c.sit-seat.ensures.book
     ∙ ap (λ (k : KeeperToken Identity). k.book) c.asks-asks.ensures.keeper in (

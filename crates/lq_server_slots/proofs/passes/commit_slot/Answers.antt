@@ -4,7 +4,7 @@ use Rattle.lq_board.specs.Slot.{slot_at}
 use Rattle.lq_server_subscription.specs.Standing.{StandsAt}
 use Rattle.lq_server_slots.specs.Slots.{before_of}
 use Rattle.lq_server_slots.proofs.SlotLemmas.{to_fill_then, identity_others}
-use Rattle.lq_server_slots.proofs.TellLemmas.{noticed_still}
+use Rattle.lq_server_slots.proofs.CommitLemmas.{noticed_still}
 use Rattle.lq_server_slots.proofs.passes.commit_slot.Goals as goal
 
 pub returns-clause-taken : goal.returns-clause-taken
@@ -18,7 +18,7 @@ returns-clause-taken c =
     (subst (StandsAt c.commit.new.slot) (sym grown.book)
     (m.stands (before_of book) t.stands c.requires.ready grown.lawful
     (subst IsFullBook grown.book grown.full)))
-    (identity_others was c.commit.new.slot m.others m.shut) m.hung
+    (identity_others was c.commit.new.slot m.others m.first_close) m.hung
 
 pub returns-clause-noticed : goal.returns-clause-noticed
 returns-clause-noticed c =

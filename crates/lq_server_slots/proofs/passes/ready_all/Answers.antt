@@ -1,7 +1,7 @@
 use Rattle.std.proofs.Common.{◌∙◌, refl, arith}
 use Rattle.lq_server_slots.specs.Slots.{IsNoticed}
 use Rattle.lq_server_slots.proofs.TakenLemmas.{slots_stand-step, ready_more, asks_rise}
-use Rattle.lq_server_slots.proofs.TellLemmas.{slots_are-more, slots_are-all}
+use Rattle.lq_server_slots.proofs.CommitLemmas.{slots_are-more, slots_are-all}
 use Rattle.lq_server_slots.proofs.passes.ready_all.Goals as goal
 
 pub returns-in_err-ready_at-clause-holding : goal.returns-in_err-ready_at-clause-holding

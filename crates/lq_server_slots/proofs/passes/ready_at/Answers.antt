@@ -2,14 +2,14 @@ use Rattle.std.proofs.Common.{sym, subst, ◌∙◌}
 use Rattle.std.specs.Prelude.{IsSome}
 use Rattle.lq_desk_sub.specs.Held.{Held}
 use Rattle.lq_server_slots.proofs.SlotLemmas.{taken_alike}
-use Rattle.lq_server_slots.proofs.TellLemmas.{noticed_then, counted_more}
+use Rattle.lq_server_slots.proofs.CommitLemmas.{noticed_then, counted_more}
 use Rattle.lq_server_slots.proofs.passes.ready_at.Goals as goal
 
 pub returns-clause-fits : goal.returns-clause-fits
 returns-clause-fits c =
     let r = c.ready.ensures in
     taken_alike c.notice_slot.new.slot c.ready.new.slot _ _ c.notice_slot.ensures.taken r.held
-    r.others r.shut
+    r.others r.first_close
 
 pub returns-clause-noticed : goal.returns-clause-noticed
 returns-clause-noticed c =

@@ -1,6 +1,6 @@
 use Rattle.lq_board.specs.Slot.{slot_at}
 use Rattle.lq_server_slots.proofs.SlotLemmas.{taken_filled, identity_alike}
-use Rattle.lq_server_slots.proofs.TellLemmas.{noticed_still}
+use Rattle.lq_server_slots.proofs.CommitLemmas.{noticed_still}
 use Rattle.lq_server_slots.proofs.slots.fill_slot.Goals as goal
 
 pub returns-clause-taken : goal.returns-clause-taken

@@ -5,7 +5,7 @@ use Rattle.lq_board.specs.Token.{KeeperToken}
 use Rattle.lq_server_subscription.specs.declared.identity.Identity.{Identity}
 use Rattle.lq_server_slots.specs.Slots.{IsTaken}
 use Rattle.lq_server_slots.proofs.SlotLemmas.{taken_noticed, counted_here}
-use Rattle.lq_server_slots.proofs.TellLemmas.{noticed_then}
+use Rattle.lq_server_slots.proofs.CommitLemmas.{noticed_then}
 use Rattle.lq_server_slots.proofs.slots.notice_slot.Goals as goal
 
 pub returns-clause-taken : goal.returns-clause-taken
@@ -20,7 +20,7 @@ returns-clause-taken c =
     (sym (ap (λ (k : KeeperToken Identity). k.book) a.keeper))
     (taken_noticed c.args.slot.now c.notice.new.slot (slot_at was.slots place)
     (slot_at c.asks-asks.new.keeper.slots place) c.asks-asks.result _ was.book t
-    (n.stands was.book t.stands c.requires.number) n.others n.shut n.messages n.hung
+    (n.stands was.book t.stands c.requires.number) n.others n.first_close n.messages n.hung
     (ltb-true c.args.slot.now.asks c.asks-asks.result) a.known
     (ap (λ (k : KeeperToken Identity). slot_at k.slots place) a.keeper
     ∙ counted_here was.slots place c.asks-asks.result within))

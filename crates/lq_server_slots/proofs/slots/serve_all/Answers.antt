@@ -1,7 +1,7 @@
 use Rattle.std.proofs.Common.{◌∙◌, refl, arith}
 use Rattle.lq_server_slots.specs.Slots.{IsServed}
 use Rattle.lq_server_slots.proofs.TakenLemmas.{slots_stand-step}
-use Rattle.lq_server_slots.proofs.TellLemmas.{slots_are-more, slots_are-all}
+use Rattle.lq_server_slots.proofs.CommitLemmas.{slots_are-more, slots_are-all}
 use Rattle.lq_server_slots.proofs.slots.serve_all.Goals as goal
 
 pub loop-index-preserved : goal.loop-index-preserved

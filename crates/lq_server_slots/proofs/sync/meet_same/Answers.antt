@@ -1,5 +1,5 @@
 use Rattle.std.proofs.Common.{◌<◌, ◌∙◌, ℕ, true, Option, Some, subst, sym, ap}
-use Rattle.lq_board.specs.declared.views.Slot.{Slot as Known}
+use Rattle.lq_board.specs.declared.views.KnownSlot.{KnownSlot}
 use Rattle.lq_board.specs.Slot.{slot_at}
 use Rattle.lq_board.specs.Token.{KeeperToken}
 use Rattle.lq_server_subscription.specs.declared.identity.Identity.{Identity}
@@ -24,5 +24,5 @@ returns-clause-place c =
     ap (λ (k : KeeperToken Identity). slot_at k.slots seat.slot) c.meet_slot.ensures.met.keeper
     ∙ met_place slots seat.slot seat.asks seat.name (Some (name_or seat.name)) c.requires.slot.0
     within
-    ∙ ap (λ (o : Option Identity). let p : Known Identity =
+    ∙ ap (λ (o : Option Identity). let p : KnownSlot Identity =
     record { out = true; asks = seat.asks; name = o } in p) (some_name seat.name c.requires.named)

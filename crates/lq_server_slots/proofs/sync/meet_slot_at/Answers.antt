@@ -1,5 +1,5 @@
 use Rattle.std.proofs.Common.{sym, ap, subst}
-use Rattle.lq_board.specs.declared.views.Slot.{Slot as Known}
+use Rattle.lq_board.specs.declared.views.KnownSlot.{KnownSlot}
 use Rattle.lq_board.specs.Slot.{slot_at}
 use Rattle.lq_server_subscription.specs.declared.identity.Identity.{Identity}
 use Rattle.lq_server_slots.specs.Slots.{SlotStands}
@@ -20,4 +20,4 @@ returns-clause-asks c = asks_met c.args.slot.now _ _ c.args.keeper.now.book c.re
     c.meet_same.ensures.out
 
 pub returns-clause-known : goal.returns-clause-known
-returns-clause-known c = ap (λ (k : Known Identity). k.asks) c.meet_same.ensures.place
+returns-clause-known c = ap (λ (k : KnownSlot Identity). k.asks) c.meet_same.ensures.place

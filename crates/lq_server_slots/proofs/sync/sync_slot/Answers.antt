@@ -1,7 +1,7 @@
 use Rattle.std.proofs.Common.{◌∙◌, ◌<◌, ℕ, length, Option, Some, sym, ap, subst}
 use Rattle.std.specs.Prelude.{IsSome}
 use Rattle.lq_volume.specs.Book.{Book, Extends}
-use Rattle.lq_board.specs.declared.views.Slot.{Slot as Known}
+use Rattle.lq_board.specs.declared.views.KnownSlot.{KnownSlot}
 use Rattle.lq_board.specs.Slot.{slot_at}
 use Rattle.lq_board.specs.Token.{SeatToken}
 use Rattle.lq_update.specs.declared.mark.Mark.{Mark}
@@ -54,7 +54,7 @@ returns-clause-progress g c =
       held = c.held.ensures;
       mark = c.mark.ensures;
       out = c.is_marked.ensures;
-      hung = λ h. subst (λ (n : ℕ). t.asks < n) (ap (λ (p : Known Identity). p.asks) m.place
+      hung = λ h. subst (λ (n : ℕ). t.asks < n) (ap (λ (p : KnownSlot Identity). p.asks) m.place
           ∙ sym (ap (λ (s : SeatToken Identity). s.asks) m.seat)) (taken.hung h);
       ended = λ lt. subst (λ (o : Option Mark). IsSome o) (sym b.alike.held.mark)
           (c.requires.ended (subst (λ (z : ℕ × ℕ). z.0 < z.1)

@@ -1,7 +1,7 @@
 -- A new seat knows that it made no change.
 use Rattle.std.proofs.Common.{ℕ, ◌<◌, refl, sym, ap, subst, arith}
 use Rattle.atomic_table.specs.Table.{Me}
-use Rattle.lq_board.specs.declared.views.View.{View}
+use Rattle.lq_board.specs.declared.views.TokenView.{TokenView}
 use Rattle.lq_board.specs.View.{IsNamed, sitting_of}
 use Rattle.lq_board.proofs.AuthorLemmas.{new_author_in}
 use Rattle.lq_board.proofs.TokenLemmas.{is_sitting}
@@ -11,10 +11,10 @@ pub invariant_of-result : goal.invariant_of-result
 invariant_of-result g c =
     let p = c.plain_token.ensures in (
       is_sitting _ _ p.view p.full (new_author_in _ _ p.signed),
-      sym (ap (λ (m : Me ℕ (View g.row.M.Denot)). (sitting_of m.0).slot) p.view),
+      sym (ap (λ (m : Me ℕ (TokenView g.row.M.Denot)). (sitting_of m.0).slot) p.view),
       omega arith,
       subst
-          (λ (m : Me ℕ (View g.row.M.Denot)).
+          (λ (m : Me ℕ (TokenView g.row.M.Denot)).
           IsNamed (sitting_of m.0).slot (sitting_of m.0).asks (sitting_of m.0).name)
           (sym p.view)
           (record { named = λ (lt : 0 < 0). absurd (omega arith); plain = λ _. (refl, refl) }),

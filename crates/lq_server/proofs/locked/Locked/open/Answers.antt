@@ -1,5 +1,5 @@
 use Rattle.std.proofs.Common.{rules, subst}
-use Rattle.lq_server_slots.specs.declared.slots.Slots.{Slots}
+use Rattle.lq_server_slots.specs.declared.slots.ServerSlots.{ServerSlots}
 use Rattle.lq_server_slots.specs.Slots.{SlotsStand}
 use Rattle.lq_server.proofs.locked.Locked.open.Goals as goal
 
@@ -7,7 +7,7 @@ pub returns-clause-over : goal.returns-clause-over
 returns-clause-over g c = (
   c.meet.new.self,
   c.meet.ensures.same,
-  subst (λ (z : Slots). SlotsStand z z.keeper.book) c.self.view_is c.self.invariant.6,
+  subst (λ (z : ServerSlots). SlotsStand z z.keeper.book) c.self.view_is c.self.invariant.6,
 )
 
 pub returns-clause-answered : goal.returns-clause-answered

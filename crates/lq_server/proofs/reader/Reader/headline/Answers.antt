@@ -9,6 +9,6 @@ returns c =
     let i = c.self.inside in
     subst ReaderIsTold c.self.view_is
     (reader_told (hold i.reading i.seat i.slot i.hang_up_asked) c.is_settled.result
-    c.last_change.result c.result.result.now c.told.ensures c.is_settled.ensures.received
+    c.last_change.result c.result.result.now c.update_facts.ensures c.is_settled.ensures.received
     c.is_settled.ensures.whole c.last_change.ensures.change c.last_change.ensures.received
     c.result.ensures.entries c.result.ensures.marked)

@@ -20,7 +20,7 @@ returns-then-is_ended g c = record {
   port = search rules;
   received = subst (λ (r : ReaderHold). IsPrefix (received r.reading)
       (whole r.reading.port.floor (known r.reading))) c.self.view_is
-      (received_front c.self.inside.reading c.told.ensures);
+      (received_front c.self.inside.reading c.update_facts.ensures);
   known = search rules;
   refused = search rules;
   gives = inl (

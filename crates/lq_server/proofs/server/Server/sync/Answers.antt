@@ -21,7 +21,7 @@ waiting-waiting-requires-clause-few g c =
     } in
     let own : IsOwn old = subst IsOwn (sym c.reader.view_is) c.requires.own in
     subst (λ (n : ℕ). n < 2 ^ 63) (sym v.1.waiting)
-    (ahead_few v.0 old new c.sync-progress.result v.1 (refl, refl) c.told.ensures own)
+    (ahead_few v.0 old new c.sync-progress.result v.1 (refl, refl) c.update_facts.ensures own)
 
 pub waiting-waiting-requires-clause-marks : goal.waiting-waiting-requires-clause-marks
 waiting-waiting-requires-clause-marks g c =
@@ -36,7 +36,7 @@ waiting-waiting-requires-clause-marks g c =
     let own : IsOwn old = subst IsOwn (sym c.reader.view_is) c.requires.own in
     subst (λ (z : Bool × Bool × Bool × ℕ). bit (in_port z.0 z.1) ≤ z.3 + bit z.2)
     (λ i. (sym v.1.out i, sym c.is_ended.ensures i, sym c.has_hand.ensures i, sym v.1.waiting i))
-    (marks_few v.0 old new c.sync-progress.result v.1 (refl, refl) c.told.ensures own)
+    (marks_few v.0 old new c.sync-progress.result v.1 (refl, refl) c.update_facts.ensures own)
 
 pub returns : goal.returns
 returns g c =
@@ -61,6 +61,7 @@ returns g c =
     (λ i. (v.1.out i, c.is_ended.ensures i, c.has_hand.ensures i, v.1.waiting i))
     c.waiting-waiting.ensures in
     subst (λ (z : ReaderHold). IsSynced z new x) c.reader.view_is
-    (synced v.0 old new c.sync-progress.result v.1 (refl, refl) c.told.ensures own x refl
-    (w_is v.0 old new c.sync-progress.result v.1 (refl, refl) c.told.ensures own x.waiting waits)
+    (synced v.0 old new c.sync-progress.result v.1 (refl, refl) c.update_facts.ensures own x refl
+    (w_is v.0 old new c.sync-progress.result v.1 (refl, refl) c.update_facts.ensures own x.waiting
+    waits)
     refl refl)

@@ -1,7 +1,7 @@
 use Rattle.std.proofs.Common.{rules, ◌≡◌, subst, List, ℕ}
 use Rattle.lq_script.specs.Words.{Tells}
 use Rattle.lq_script.proofs.WordsLemmas.{tells}
-use Rattle.lq_script.proofs.plain_words.tell.Goals as goal
+use Rattle.lq_script.proofs.plain_words.report.Goals as goal
 
 pub returns : goal.returns
 returns g c =

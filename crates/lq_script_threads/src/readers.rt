@@ -7,18 +7,18 @@ use std::alloc::Global;
 
 /// The readers of the slots 1 to 64; none of a slot that is free.
 #[derive(Drop)]
-pub struct Places<N: Named> {
-    readers: Vec<Option<OwnReader<N>>>,
+pub struct Readers<N: Named> {
+    slots: Vec<Option<OwnReader<N>>>,
 }
 
-impl<N: Named> Places<N> {
+impl<N: Named> Readers<N> {
     /// All slots free. Refused: `NoMemory`.
-    pub fn new(alloc: Global) -> Result<Places<N>, Refusal> {
-        let mut readers = Vec::with_capacity(alloc, SLOTS)?;
+    pub fn new(alloc: Global) -> Result<Readers<N>, Refusal> {
+        let mut slots = Vec::with_capacity(alloc, SLOTS)?;
         for _ in 0..SLOTS {
-            readers.push_reserved(None);
+            slots.push_reserved(None);
         }
-        Ok(Places { readers })
+        Ok(Readers { slots })
     }
 
     /// The reader of a slot. Refused: `NotOpen` where it has none.
@@ -49,7 +49,7 @@ impl<N: Named> Places<N> {
         if slot == 0 || slot > SLOTS as u64 {
             return Err(Refusal::NotOpen);
         }
-        match self.readers.get_mut((slot - 1) as usize) {
+        match self.slots.get_mut((slot - 1) as usize) {
             Some(place) => Ok(place),
             None => Err(Refusal::NotOpen),
         }

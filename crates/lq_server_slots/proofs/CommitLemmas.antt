@@ -1,27 +1,27 @@
--- A change, told to one slot after another.
+-- A change, committed in one slot after another.
 use Rattle.std.proofs.Common.{◌≡◌, ◌≢◌, ⊎_elim, ℕ, ◌+◌, ◌<◌, ◌≤◌, true, false, true≢false, List, length, Option, None, sym, ap, ◌∙◌, subst, arith, length-set, slice_set}
 use Rattle.std.specs.Prelude.{IsSome, is_some}
 use mathlib.Core.Logic.{dite}
 use native.Mathlib.Decide.{ℕ_discrete}
 use Rattle.lq_volume.specs.declared.change.Change.{Change}
 use Rattle.lq_volume.specs.Book.{state_of}
-use Rattle.lq_board.specs.declared.views.Slot.{Slot as Known}
+use Rattle.lq_board.specs.declared.views.KnownSlot.{KnownSlot}
 use Rattle.lq_board.specs.Slot.{slot_at, counted}
 use Rattle.lq_board.specs.Token.{KeeperToken}
 use Rattle.lq_update.specs.declared.mark.Mark.{Mark}
 use Rattle.lq_server_subscription.specs.declared.identity.Identity.{Identity}
 use Rattle.lq_server_subscription.specs.declared.subscription.Subscription.{Subscription}
-use Rattle.lq_server_slots.specs.Slots.{SlotStands, asks_of, slot_in, place_at, AllStand, IsListed, IsReadyAt, AllReady, before_of, PartlyTold, OnlyAt, SlotIs, SlotsAre, IsNoticed}
+use Rattle.lq_server_slots.specs.Slots.{SlotStands, asks_of, slot_in, place_at, AllStand, IsListed, IsReadyAt, AllReady, before_of, PartlyCommitted, OnlyAt, SlotIs, SlotsAre, IsNoticed}
 use Rattle.lq_server_slots.proofs.SlotLemmas.{in_here, in_else, counted_here}
 use Rattle.lq_server_slots.proofs.TakenLemmas.{free_or_taken, some_ap, listed-set}
 
--- none was told yet
-pub partly_told-first : (keeper : KeeperToken Identity) (slots : List (Option Subscription))
+-- it is committed in none yet
+pub partly_committed-first : (keeper : KeeperToken Identity) (slots : List (Option Subscription))
     (taken : List ℕ) (openings : ℕ) (c : Change)
     → AllStand keeper slots openings (before_of keeper.book) → IsListed taken slots
     → AllReady slots (state_of (before_of keeper.book)) c
-    → PartlyTold keeper slots taken openings c 0
-partly_told-first keeper slots taken openings c h l ready =
+    → PartlyCommitted keeper slots taken openings c 0
+partly_committed-first keeper slots taken openings c h l ready =
     record {
       known = h.known;
       wide = h.wide;
@@ -38,33 +38,33 @@ partly_told-first keeper slots taken openings c h l ready =
       asks = h.asks;
     }
 
--- one more was told
-pub partly_told-step : (keeper : KeeperToken Identity) (slots : List (Option Subscription))
-    (taken : List ℕ) (openings : ℕ) (c : Change) (told place : ℕ) (o : Option Subscription)
-    → PartlyTold keeper slots taken openings c told → told < length taken
-    → place ≡ place_at taken told → SlotStands o (slot_at keeper.slots place) keeper.book
+-- it is committed in one slot more
+pub partly_committed-step : (keeper : KeeperToken Identity) (slots : List (Option Subscription))
+    (taken : List ℕ) (openings : ℕ) (c : Change) (committed place : ℕ) (o : Option Subscription)
+    → PartlyCommitted keeper slots taken openings c committed → committed < length taken
+    → place ≡ place_at taken committed → SlotStands o (slot_at keeper.slots place) keeper.book
     → asks_of o (slot_at keeper.slots place)
     ≤ asks_of (slot_in slots place) (slot_at keeper.slots place)
     → is_some o ≡ is_some (slot_in slots place)
-    → PartlyTold keeper (slice_set slots place o) taken openings c (told + 1)
-partly_told-step keeper slots taken openings c told place o m lt is fits asks kept =
+    → PartlyCommitted keeper (slice_set slots place o) taken openings c (committed + 1)
+partly_committed-step keeper slots taken openings c committed place o m lt is fits asks kept =
     let l = m.listed in
     let wide = m.wide in
-    let low : 0 < place = subst (λ (p : ℕ). 0 < p) (sym is) (l.low told lt) in
-    let high : place < 65 = subst (λ (p : ℕ). p < 65) (sym is) (l.high told lt) in
+    let low : 0 < place = subst (λ (p : ℕ). 0 < p) (sym is) (l.low committed lt) in
+    let high : place < 65 = subst (λ (p : ℕ). p < 65) (sym is) (l.high committed lt) in
     let here : slot_in (slice_set slots place o) place ≡ o = in_here slots place o (omega arith) in
-    let apart : (j : ℕ) → j < length taken → j ≢ told → place_at taken j ≢ place =
-    λ j within ne q. ne (l.once j told within lt (q ∙ is)) in
+    let apart : (j : ℕ) → j < length taken → j ≢ committed → place_at taken j ≢ place =
+    λ j within ne q. ne (l.once j committed within lt (q ∙ is)) in
     record {
       known = m.known;
       wide = length-set slots place o ∙ m.wide;
       listed = listed-set taken slots place o l wide high kept;
-      below = λ j under within. dite (ℕ_discrete j told)
-          (λ (e : j ≡ told). subst (λ (p : ℕ). SlotStands (slot_in (slice_set slots place o) p)
+      below = λ j under within. dite (ℕ_discrete j committed)
+          (λ (e : j ≡ committed). subst (λ (p : ℕ). SlotStands (slot_in (slice_set slots place o) p)
           (slot_at keeper.slots p) keeper.book) (is ∙ ap (place_at taken) (sym e))
           (subst (λ (z : Option Subscription). SlotStands z (slot_at keeper.slots place)
           keeper.book) (sym here) fits))
-          (λ (ne : j ≢ told). subst (λ (z : Option Subscription). SlotStands z
+          (λ (ne : j ≢ committed). subst (λ (z : Option Subscription). SlotStands z
           (slot_at keeper.slots (place_at taken j)) keeper.book)
           (sym (in_else slots place (place_at taken j) o (apart j within ne)))
           (m.below j (omega (arith, ne)) within));
@@ -78,7 +78,7 @@ partly_told-step keeper slots taken openings c told place o m lt is fits asks ke
           let gone : is_some o ≡ false =
           some_ap _ _ (sym here ∙ ap (slot_in (slice_set slots place o)) (sym e) ∙ none) in
           let some : is_some (slot_in slots place) ≡ true =
-          subst (λ (p : ℕ). is_some (slot_in slots p) ≡ true) (sym is) (l.some told lt) in
+          subst (λ (p : ℕ). is_some (slot_in slots p) ≡ true) (sym is) (l.some committed lt) in
           absurd (true≢false (sym some ∙ sym kept ∙ gone)))
           (λ (ne : k ≢ place). m.free k pos within (sym (in_else slots place k o ne) ∙ none));
       asks = λ j pos within. dite (ℕ_discrete j place)
@@ -91,12 +91,34 @@ partly_told-step keeper slots taken openings c told place o m lt is fits asks ke
           (m.asks j pos within));
     }
 
+-- it is committed in all
+pub partly_committed-last : (keeper : KeeperToken Identity) (slots : List (Option Subscription))
+    (taken : List ℕ) (openings : ℕ) (c : Change) (committed : ℕ) → length taken ≤ committed
+    → PartlyCommitted keeper slots taken openings c committed
+    → AllStand keeper slots openings keeper.book
+partly_committed-last keeper slots taken openings c committed most m =
+    record {
+      known = m.known;
+      wide = m.wide;
+      each = λ k pos within.
+          ⊎_elim
+          (λ (none : slot_in slots k ≡ None). subst (λ (z : Option Subscription). SlotStands z
+          (slot_at keeper.slots k) keeper.book) (sym none) (m.free k pos within none))
+          (λ (some : IsSome (slot_in slots k)).
+          let i = m.listed.each k pos within some in
+          let lt = i.1 in
+          subst (λ (p : ℕ). SlotStands (slot_in slots p) (slot_at keeper.slots p) keeper.book) i.2
+          (m.below i.0 (omega arith) lt))
+          (free_or_taken (slot_in slots k));
+      asks = m.asks;
+    }
+
 -- ---- a fact of each taken slot
 
-module _ (P : Subscription → Known Identity → Type 0) where
+module _ (P : Subscription → KnownSlot Identity → Type 0) where
   -- one slot was set, and what the keeper knows of it: one more of the listed slots has the fact
   pub slots_are-more : (taken : List ℕ) (slots : List (Option Subscription))
-      (ps qs : List (Known Identity)) (index place : ℕ) (o : Option Subscription)
+      (ps qs : List (KnownSlot Identity)) (index place : ℕ) (o : Option Subscription)
       → IsListed taken slots → length slots ≡ 65 → index < length taken
       → place ≡ place_at taken index → OnlyAt ps qs place → SlotIs P o (slot_at qs place)
       → ((j : ℕ) → j < index → j < length taken
@@ -113,7 +135,7 @@ module _ (P : Subscription → Known Identity → Type 0) where
       (sym (in_here slots place o (omega arith))) here))
       (λ (ne : j ≢ index).
       let apart : place_at taken j ≢ place = λ q. ne (l.once j index within lt (q ∙ is)) in
-      subst (λ (z : Option Subscription × Known Identity). SlotIs P z.0 z.1)
+      subst (λ (z : Option Subscription × KnownSlot Identity). SlotIs P z.0 z.1)
       (λ i. (
         sym (in_else slots place (place_at taken j) o apart) i,
         sym (only.others (place_at taken j) apart) i,
@@ -122,7 +144,7 @@ module _ (P : Subscription → Known Identity → Type 0) where
 
   -- and those behind it keep it
   pub slots_are-left : (taken : List ℕ) (slots : List (Option Subscription))
-      (ps : List (Known Identity)) (index place : ℕ) (o : Option Subscription)
+      (ps : List (KnownSlot Identity)) (index place : ℕ) (o : Option Subscription)
       → IsListed taken slots → index < length taken → place ≡ place_at taken index
       → ((j : ℕ) → index ≤ j → j < length taken
       → SlotIs P (slot_in slots (place_at taken j)) (slot_at ps (place_at taken j)))
@@ -137,7 +159,7 @@ module _ (P : Subscription → Known Identity → Type 0) where
 
   -- what all listed slots have, each slot has
   pub slots_are-all : (taken : List ℕ) (slots : List (Option Subscription))
-      (ps : List (Known Identity)) (index : ℕ) → IsListed taken slots → length taken ≤ index
+      (ps : List (KnownSlot Identity)) (index : ℕ) → IsListed taken slots → length taken ≤ index
       → ((j : ℕ) → j < index → j < length taken
       → SlotIs P (slot_in slots (place_at taken j)) (slot_at ps (place_at taken j)))
       → SlotsAre P slots ps
@@ -153,14 +175,14 @@ module _ (P : Subscription → Known Identity → Type 0) where
       (free_or_taken (slot_in slots k))
 
 -- one that has its mark where its reader asked has it after a commit or puts
-pub noticed_still : (s t : Subscription) (p : Known Identity) → IsNoticed s p → t.asks ≡ s.asks
+pub noticed_still : (s t : Subscription) (p : KnownSlot Identity) → IsNoticed s p → t.asks ≡ s.asks
     → (IsSome s.sub.held.mark → t.sub.held.mark ≡ s.sub.held.mark) → IsNoticed t p
 noticed_still s t p noticed asks still = λ lt.
     let some = noticed (subst (λ (n : ℕ). n < p.asks) asks lt) in
     subst (λ (o : Option Mark). IsSome o) (sym (still some)) some
 
 -- after a notice the keeper knows just as many asks as were read
-pub noticed_then : (s t : Subscription) (ps qs : List (Known Identity)) (k n : ℕ)
+pub noticed_then : (s t : Subscription) (ps qs : List (KnownSlot Identity)) (k n : ℕ)
     → length ps ≡ 65 → k < 65 → qs ≡ counted ps k n → t.asks ≡ s.asks
     → (s.asks < n → IsSome t.sub.held.mark) → IsNoticed t (slot_at qs k)
 noticed_then s t ps qs k n wide within is asks ended = λ lt.
@@ -168,18 +190,18 @@ noticed_then s t ps qs k n wide within is asks ended = λ lt.
       out = (slot_at ps k).out;
       asks = n;
       name = (slot_at ps k).name;
-    } = ap (λ (l : List (Known Identity)). slot_at l k) is
+    } = ap (λ (l : List (KnownSlot Identity)). slot_at l k) is
     ∙ counted_here ps k n (omega arith) in
     ended (subst (λ (z : ℕ × ℕ). z.0 < z.1) (λ i. (asks i, (at i).asks)) lt)
 
 -- how often the slot's seats have asked, as the keeper knows, once it has read the count
-pub counted_more : (ps qs : List (Known Identity)) (k n : ℕ) → length ps ≡ 65 → k < 65
+pub counted_more : (ps qs : List (KnownSlot Identity)) (k n : ℕ) → length ps ≡ 65 → k < 65
     → qs ≡ counted ps k n → (slot_at ps k).asks ≤ n → (slot_at ps k).asks ≤ (slot_at qs k).asks
 counted_more ps qs k n wide within is most =
     let at : slot_at qs k ≡ record {
       out = (slot_at ps k).out;
       asks = n;
       name = (slot_at ps k).name;
-    } = ap (λ (l : List (Known Identity)). slot_at l k) is
+    } = ap (λ (l : List (KnownSlot Identity)). slot_at l k) is
     ∙ counted_here ps k n (omega arith) in
-    subst (λ (q : Known Identity). (slot_at ps k).asks ≤ q.asks) (sym at) most
+    subst (λ (q : KnownSlot Identity). (slot_at ps k).asks ≤ q.asks) (sym at) most

@@ -1,7 +1,7 @@
 use Rattle.std.proofs.Common.{subst}
 use Rattle.lq_server_subscription.specs.Reading.{IsTold}
 use Rattle.lq_server_subscription.proofs.ReadLemmas.{told_now}
-use Rattle.lq_server_subscription.proofs.reading.Reading.told.Goals as goal
+use Rattle.lq_server_subscription.proofs.reading.Reading.update_facts.Goals as goal
 
 pub returns : goal.returns
 returns c = let i =

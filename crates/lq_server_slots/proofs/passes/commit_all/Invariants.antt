@@ -1,14 +1,14 @@
 use Rattle.std.proofs.Common.{◌≡◌, ℕ, ◌<◌, ◌≤◌, length}
 use Rattle.lq_board.specs.Slot.{slot_at}
-use Rattle.lq_server_slots.specs.Slots.{PartlyTold, SlotIs, IsNoticed, IsServed, slot_in, place_at}
-use Rattle.lq_server_slots.proofs.passes.tell_all.Given as goal
+use Rattle.lq_server_slots.specs.Slots.{PartlyCommitted, SlotIs, IsNoticed, IsServed, slot_in, place_at}
+use Rattle.lq_server_slots.proofs.passes.commit_all.Given as goal
 
 abbrev pub invariant-loop-index : goal.invariant-loop-index
 invariant-loop-index g l =
     (l.slots.keeper ≡ l.fn.slots.keeper) × (l.slots.openings ≡ l.fn.slots.openings)
     × (length l.slots.taken.items ≡ l.index-end)
-    × PartlyTold l.slots.keeper l.slots.subscriptions.items l.slots.taken.items l.slots.openings
-    l.change l.index
+    × PartlyCommitted l.slots.keeper l.slots.subscriptions.items l.slots.taken.items
+    l.slots.openings l.change l.index
     × ((j : ℕ) → j < l.index → j < length l.slots.taken.items
     → SlotIs IsServed (slot_in l.slots.subscriptions.items (place_at l.slots.taken.items j))
     (slot_at l.slots.keeper.slots (place_at l.slots.taken.items j)))

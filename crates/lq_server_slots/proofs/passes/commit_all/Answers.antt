@@ -6,8 +6,8 @@ use Rattle.lq_board.specs.Slot.{slot_at}
 use Rattle.lq_server_subscription.specs.declared.subscription.Subscription.{Subscription}
 use Rattle.lq_server_slots.specs.Slots.{asks_of, slot_in, place_at, SlotIs, IsNoticed, IsServed}
 use Rattle.lq_server_slots.proofs.SlotLemmas.{only_self}
-use Rattle.lq_server_slots.proofs.TellLemmas.{partly_told-first, partly_told-step, slots_are-more, slots_are-left, slots_are-all}
-use Rattle.lq_server_slots.proofs.passes.tell_all.Goals as goal
+use Rattle.lq_server_slots.proofs.CommitLemmas.{partly_committed-first, partly_committed-step, slots_are-more, slots_are-left, slots_are-all}
+use Rattle.lq_server_slots.proofs.passes.commit_all.Goals as goal
 
 pub loop-index-init : goal.loop-index-init
 loop-index-init g c =
@@ -15,7 +15,7 @@ loop-index-init g c =
       refl,
       refl,
       search rules,
-      partly_told-first was.keeper was.subscriptions.items was.taken.items was.openings
+      partly_committed-first was.keeper was.subscriptions.items was.taken.items was.openings
           c.args.change.now c.requires.holding.0 c.requires.holding.1 c.requires.ready,
       λ j lt. absurd (omega arith),
       λ j le lt. let l = c.requires.holding.1 in
@@ -25,7 +25,7 @@ loop-index-init g c =
 pub loop-index-preserved : goal.loop-index-preserved
 loop-index-preserved g c =
     let i = c.loop-index.invariant in
-    let t = c.tell_at.ensures in
+    let t = c.commit_at.ensures in
     let slots = c.loop-index.slots in
     let items = slots.subscriptions.items in
     let place = c.place_of-place.result in
@@ -36,23 +36,24 @@ loop-index-preserved g c =
       i.0,
       i.1,
       i.2,
-      partly_told-step slots.keeper items slots.taken.items slots.openings c.args.change.now
-          c.loop-index.index place c.tell_at.new.slot i.3
+      partly_committed-step slots.keeper items slots.taken.items slots.openings c.args.change.now
+          c.loop-index.index place c.commit_at.new.slot i.3
           (omega (arith, i.2, c.loop-index-test.true)) c.place_of-place.ensures.value t.fits
-          (subst (λ (z : Option Subscription). asks_of c.tell_at.new.slot at ≤ asks_of z at) read
+          (subst (λ (z : Option Subscription). asks_of c.commit_at.new.slot at ≤ asks_of z at) read
           t.asks)
-          (subst (λ (z : Option Subscription). is_some c.tell_at.new.slot ≡ is_some z) read t.kept),
+          (subst (λ (z : Option Subscription). is_some c.commit_at.new.slot ≡ is_some z) read
+          t.kept),
       slots_are-more IsServed slots.taken.items items slots.keeper.slots slots.keeper.slots
-          c.loop-index.index place c.tell_at.new.slot i.3.listed wide
+          c.loop-index.index place c.commit_at.new.slot i.3.listed wide
           (omega (arith, i.2, c.loop-index-test.true)) c.place_of-place.ensures.value
           (only_self slots.keeper.slots place) t.served i.4,
       slots_are-left IsNoticed slots.taken.items items slots.keeper.slots c.loop-index.index place
-          c.tell_at.new.slot i.3.listed (omega (arith, i.2, c.loop-index-test.true))
+          c.commit_at.new.slot i.3.listed (omega (arith, i.2, c.loop-index-test.true))
           c.place_of-place.ensures.value i.5,
     )
 
-pub tell_at-requires-clause-noticed : goal.tell_at-requires-clause-noticed
-tell_at-requires-clause-noticed g c =
+pub commit_at-requires-clause-noticed : goal.commit_at-requires-clause-noticed
+commit_at-requires-clause-noticed g c =
     let i = c.loop-index.invariant in
     let slots = c.loop-index.slots in
     let items = slots.subscriptions.items in

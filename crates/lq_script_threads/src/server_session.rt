@@ -1,7 +1,7 @@
 //! What the lines of a script are answered, by the public calls of a server.
 use crate::batch::{Turn, read_beside};
 use crate::gate::Gate;
-use crate::places::Places;
+use crate::readers::Readers;
 use crate::tokens::OwnSeat;
 use crate::workers::Workers;
 use lq_desk::{Event, Reply};
@@ -16,23 +16,23 @@ use std::thread::{Scope, Threads};
 
 /// A seat and the readers at a server, that answer the lines of a script.
 #[derive(Drop)]
-pub struct Session<'s, E: 's, N: Named, R, G> {
+pub struct ServerSession<'s, E: 's, N: Named, R, G> {
     rt: &'s R,
     alloc: Global,
     server: &'s Server<N>,
     gate: &'s G,
     seat: OwnSeat<N>,
-    places: Places<N>,
+    readers: Readers<N>,
     workers: Workers<'s, E, R, Turn<'s, N, G>>,
 }
 
-impl<'s, E: 's, N: Named + Send + Sync + 's, R: Threads + Wait + Sync, G: Gate + Sync + 's> Session<
+impl<
     's,
-    E,
-    N,
-    R,
-    G,
-> {
+    E: 's,
+    N: Named + Send + Sync + 's,
+    R: Threads + Wait + Sync,
+    G: Gate + Sync + 's,
+> ServerSession<'s, E, N, R, G> {
     /// A session at a server, with no readers. Refused: `NoSeat`, `NoMemory`.
     pub fn new(
         rt: &'s R,
@@ -40,17 +40,17 @@ impl<'s, E: 's, N: Named + Send + Sync + 's, R: Threads + Wait + Sync, G: Gate +
         scope: &'s Scope<'s, E>,
         server: &'s Server<N>,
         gate: &'s G,
-    ) -> Result<Session<'s, E, N, R, G>, Refusal> {
+    ) -> Result<ServerSession<'s, E, N, R, G>, Refusal> {
         let seat = OwnSeat::new(rt, server)?;
-        let places = Places::new(alloc)?;
+        let readers = Readers::new(alloc)?;
         let workers = Workers::new(rt, alloc, scope)?;
-        Ok(Session {
+        Ok(ServerSession {
             rt,
             alloc,
             server,
             gate,
             seat,
-            places,
+            readers,
             workers,
         })
     }
@@ -64,7 +64,7 @@ impl<'s, E: 's, N: Named + Send + Sync + 's, R: Threads + Wait + Sync, G: Gate +
             self.server,
             self.gate,
             &mut self.workers,
-            &mut self.places,
+            &mut self.readers,
             slots,
             out,
         )
@@ -83,7 +83,7 @@ impl<'s, E: 's, N: Named + Send + Sync + 's, R: Threads + Wait + Sync, G: Gate +
             Question::Find { dir, name } => self.seat.find(self.rt, self.server, *dir, name),
             Question::Entry { node } => self.seat.listing(self.rt, self.server, *node),
             Question::Fetch { predicate } => self.seat.fetch(self.rt, self.server, predicate),
-            Question::Rebuilt { slot } => self.places.reader(*slot)?.rebuilt(self.alloc),
+            Question::Rebuilt { slot } => self.readers.reader(*slot)?.rebuilt(self.alloc),
         }
     }
 
@@ -96,8 +96,8 @@ impl<'s, E: 's, N: Named + Send + Sync + 's, R: Threads + Wait + Sync, G: Gate +
                 backlog,
                 moved,
             } => self.open(predicate, *port, *backlog, *moved),
-            Event::HangUp(slot) => Ok(self.places.reader(*slot)?.hang_up(self.server)),
-            Event::Close(slot) => self.places.reader(*slot)?.close(self.rt, self.server),
+            Event::HangUp(slot) => Ok(self.readers.reader(*slot)?.hang_up(self.server)),
+            Event::Close(slot) => self.readers.reader(*slot)?.close(self.rt, self.server),
             Event::Finish(slot) => self.finish(*slot),
             // A `read` goes with its batch, and no line asks for the other two.
             Event::Take(_) | Event::Put(_) | Event::Notice(_) => Err(Refusal::BadLine),
@@ -115,12 +115,12 @@ impl<'s, E: 's, N: Named + Send + Sync + 's, R: Threads + Wait + Sync, G: Gate +
             .seat
             .open(self.rt, self.server, predicate, port, backlog, moved)?;
         let opened = reader.opened(self.alloc);
-        self.places.put(reader);
+        self.readers.put(reader);
         opened
     }
 
     fn finish(&mut self, slot: u64) -> Result<Response, Refusal> {
-        match self.places.take(slot)?.finish(self.rt, self.server) {
+        match self.readers.take(slot)?.finish(self.rt, self.server) {
             Ok(()) => {
                 self.workers.end(slot)?;
                 Ok(Response::Reply {
@@ -129,7 +129,7 @@ impl<'s, E: 's, N: Named + Send + Sync + 's, R: Threads + Wait + Sync, G: Gate +
                 })
             }
             Err((reader, refusal)) => {
-                self.places.put(reader);
+                self.readers.put(reader);
                 Err(refusal)
             }
         }

@@ -1,6 +1,6 @@
 use Rattle.lq_server_slots.proofs.SlotLemmas.{all_stand-none}
 use Rattle.lq_server_slots.proofs.TakenLemmas.{listed-none}
-use Rattle.lq_server_slots.proofs.slots.Slots.new.Goals as goal
+use Rattle.lq_server_slots.proofs.slots.ServerSlots.new.Goals as goal
 
 -- src/slots.rt:33:5
 pub returns-clause-holding : goal.returns-clause-holding
