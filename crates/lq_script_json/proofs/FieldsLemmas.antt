@@ -1,4 +1,4 @@
--- The places of a line's keys, and the members that they show.
+-- The fields of a line's keys, and the members that they show.
 use Rattle.std.proofs.Common.{◌≡◌, ◌∙◌, ℕ, List, Bool, true, false, Some, option_map, refl, sym, ap, true≢false, bytes_eq, if◌then◌else◌}
 use Rattle.std.proofs.lemmas.Slice.Eq.{bytes_eq-Decides}
 use Rattle.serde_json.specs.Data.{Data, Members, object, put}
@@ -7,12 +7,12 @@ use Rattle.serde_json.proofs.Views.{get_member-put, get_member-put_other}
 use Rattle.lq_script_json.specs.declared.key.Key.{Key}
 use Rattle.lq_script_json.specs.declared.key.Key.TheVariants as key
 use Rattle.lq_script_json.specs.declared.field.Field.{Field}
-use Rattle.lq_script_json.specs.declared.places.Places.{Places}
+use Rattle.lq_script_json.specs.declared.fields.Fields.{Fields}
 use Rattle.lq_script_json.specs.Shown.{data_in, shown}
 use Rattle.lq_script_json.specs.Fields.{Show, field_at, name_of, updated}
 
 -- a member counts for its key alone
-placed : (k : List ℕ) (f : Field) (fs : Places) (at : Key)
+placed : (k : List ℕ) (f : Field) (fs : Fields) (at : Key)
     → field_at (updated k f fs) at ≡ (if bytes_eq k (name_of at) then f else field_at fs at)
 placed k f fs key.Do = refl
 placed k f fs key.Dir = refl
@@ -44,10 +44,10 @@ chosen k name false f g d ms other is was =
     was ∙ sym (ap (option_map shown) (get_member-put_other name k d ms
     (λ same. true≢false (sym ((bytes_eq-Decides k name).1 (sym same)) ∙ other))))
 
--- the places show the last members, one member more
-pub Show-put : (k : List ℕ) (f : Field) (places : Places) (d : Data) (ms : Members)
-    → data_in f ≡ Some (shown d) → Show places (object ms)
-    → Show (updated k f places) (object (put k d ms))
-Show-put k f places d ms is were = λ at.
-    ap data_in (placed k f places at)
-    ∙ chosen k (name_of at) (bytes_eq k (name_of at)) f (field_at places at) d ms refl is (were at)
+-- the fields show the last members, one member more
+pub Show-put : (k : List ℕ) (f : Field) (fields : Fields) (d : Data) (ms : Members)
+    → data_in f ≡ Some (shown d) → Show fields (object ms)
+    → Show (updated k f fields) (object (put k d ms))
+Show-put k f fields d ms is were = λ at.
+    ap data_in (placed k f fields at)
+    ∙ chosen k (name_of at) (bytes_eq k (name_of at)) f (field_at fields at) d ms refl is (were at)

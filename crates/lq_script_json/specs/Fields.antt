@@ -10,7 +10,6 @@ use Rattle.lq_script_json.specs.declared.field.Field.{Field}
 use Rattle.lq_script_json.specs.declared.field.Field.TheVariants.{Absent}
 use Rattle.lq_script_json.specs.declared.key.Key.{Key}
 use Rattle.lq_script_json.specs.declared.key.Key.TheVariants as key
-use Rattle.lq_script_json.specs.declared.places.Places.{Places}
 use Rattle.lq_script_json.specs.declared.fields.Fields.{Fields}
 
 -- the text of a key
@@ -33,40 +32,40 @@ name_of key.Slot = codes "slot"
 name_of key.Clobber = codes "clobber"
 
 -- what stands in the place of a key
-abbrev pub field_at : Places → Key → Field
-field_at places key.Do = places.act
-field_at places key.Dir = places.dir
-field_at places key.Name = places.name
-field_at places key.Kind = places.kind
-field_at places key.Size = places.size
-field_at places key.Time = places.time
-field_at places key.Node = places.node
-field_at places key.Attr = places.attr
-field_at places key.Type = places.value_type
-field_at places key.Value = places.given
-field_at places key.Query = places.query
-field_at places key.Port = places.port
-field_at places key.Backlog = places.backlog
-field_at places key.Moved = places.moved
-field_at places key.Slot = places.slot
-field_at places key.Clobber = places.clobber
+abbrev pub field_at : Fields → Key → Field
+field_at fields key.Do = fields.act
+field_at fields key.Dir = fields.dir
+field_at fields key.Name = fields.name
+field_at fields key.Kind = fields.kind
+field_at fields key.Size = fields.size
+field_at fields key.Time = fields.time
+field_at fields key.Node = fields.node
+field_at fields key.Attr = fields.attr
+field_at fields key.Type = fields.value_type
+field_at fields key.Value = fields.given
+field_at fields key.Query = fields.query
+field_at fields key.Port = fields.port
+field_at fields key.Backlog = fields.backlog
+field_at fields key.Moved = fields.moved
+field_at fields key.Slot = fields.slot
+field_at fields key.Clobber = fields.clobber
 
 -- no field is found
-abbrev pub AreAbsent : Places → Type 0
-AreAbsent places = (key : Key) → field_at places key ≡ Absent
+abbrev pub AreAbsent : Fields → Type 0
+AreAbsent fields = (key : Key) → field_at fields key ≡ Absent
 
--- each place shows the last member with its key, or there is no such member
-abbrev pub Show : Places → Data → Type 0
-Show places d =
-    (key : Key) → data_in (field_at places key) ≡ option_map shown (get (name_of key) d)
+-- each field shows the last member with its key, or there is no such member
+abbrev pub Show : Fields → Data → Type 0
+Show fields d =
+    (key : Key) → data_in (field_at fields key) ≡ option_map shown (get (name_of key) d)
 
--- the places show the value that was read, up to the rest
-abbrev pub Holds : Places → List Token → Option (Data × List Token) → Type 0
-Holds places rest read = (d : Data) × (read ≡ Some (d, rest)) × Show places d
+-- the fields show the value that was read, up to the rest
+abbrev pub Holds : Fields → List Token → Option (Data × List Token) → Type 0
+Holds fields rest read = (d : Data) × (read ≡ Some (d, rest)) × Show fields d
 
 -- the same of an object's members
-abbrev pub HoldsMembers : Places → List Token → Option (Members × List Token) → Type 0
-HoldsMembers places rest read = (ms : Members) × (read ≡ Some (ms, rest)) × Show places (object ms)
+abbrev pub HoldsMembers : Fields → List Token → Option (Members × List Token) → Type 0
+HoldsMembers fields rest read = (ms : Members) × (read ≡ Some (ms, rest)) × Show fields (object ms)
 
 -- the data of the text whose fields they are
 abbrev pub whole : Fields → Data
@@ -74,25 +73,25 @@ whole fields = unwrap_or (read fields.text.now) null
 
 -- each field is the last member with its key
 abbrev pub AreFound : Fields → Type 0
-AreFound fields = Show fields.places (whole fields)
+AreFound fields = Show fields (whole fields)
 
--- the places once one more member is found; another key than those of lines changes nothing
-abbrev pub updated : List ℕ → Field → Places → Places
-updated key found places = record {
-  act = if bytes_eq key (codes "do") then found else places.act;
-  dir = if bytes_eq key (codes "dir") then found else places.dir;
-  name = if bytes_eq key (codes "name") then found else places.name;
-  kind = if bytes_eq key (codes "kind") then found else places.kind;
-  size = if bytes_eq key (codes "size") then found else places.size;
-  time = if bytes_eq key (codes "time") then found else places.time;
-  node = if bytes_eq key (codes "node") then found else places.node;
-  attr = if bytes_eq key (codes "attr") then found else places.attr;
-  value_type = if bytes_eq key (codes "type") then found else places.value_type;
-  given = if bytes_eq key (codes "value") then found else places.given;
-  query = if bytes_eq key (codes "query") then found else places.query;
-  port = if bytes_eq key (codes "port") then found else places.port;
-  backlog = if bytes_eq key (codes "backlog") then found else places.backlog;
-  moved = if bytes_eq key (codes "moved") then found else places.moved;
-  slot = if bytes_eq key (codes "slot") then found else places.slot;
-  clobber = if bytes_eq key (codes "clobber") then found else places.clobber;
+-- the fields once one more member is found; another key than those of lines changes nothing
+abbrev pub updated : List ℕ → Field → Fields → Fields
+updated key found fields = record fields {
+  act = if bytes_eq key (codes "do") then found else fields.act;
+  dir = if bytes_eq key (codes "dir") then found else fields.dir;
+  name = if bytes_eq key (codes "name") then found else fields.name;
+  kind = if bytes_eq key (codes "kind") then found else fields.kind;
+  size = if bytes_eq key (codes "size") then found else fields.size;
+  time = if bytes_eq key (codes "time") then found else fields.time;
+  node = if bytes_eq key (codes "node") then found else fields.node;
+  attr = if bytes_eq key (codes "attr") then found else fields.attr;
+  value_type = if bytes_eq key (codes "type") then found else fields.value_type;
+  given = if bytes_eq key (codes "value") then found else fields.given;
+  query = if bytes_eq key (codes "query") then found else fields.query;
+  port = if bytes_eq key (codes "port") then found else fields.port;
+  backlog = if bytes_eq key (codes "backlog") then found else fields.backlog;
+  moved = if bytes_eq key (codes "moved") then found else fields.moved;
+  slot = if bytes_eq key (codes "slot") then found else fields.slot;
+  clobber = if bytes_eq key (codes "clobber") then found else fields.clobber;
 }

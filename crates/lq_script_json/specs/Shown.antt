@@ -1,8 +1,9 @@
 -- What a field shows of the data that serde_json reads.
-use Rattle.std.specs.Prelude.{◌≡◌, List, Option, Some, None, true, false}
+use Rattle.std.specs.Prelude.{◌≡◌, List, Option, Some, None, true, false, is_none, option_and_then}
 use Rattle.json.specs.Json.{Json}
 use Rattle.json.specs.Token.{Token}
 use Rattle.serde_json.specs.Data.{Data, null, boolean, number, string, array, object, no_items, no_members, unsigned}
+use Rattle.serde_json.specs.Find.{as_bool, as_number, as_str}
 use Rattle.serde_json.specs.Read.{converted, of_json}
 use Rattle.serde_json.specs.View.{number_view}
 use Rattle.lq_script_json.specs.declared.field.Field.{Field}
@@ -37,3 +38,10 @@ IsReadUpTo {A} rest read = (x : A) × (read ≡ Some (x, rest))
 abbrev pub Shows : Field → Option (Json × List Token) → List Token → Type 0
 Shows field read rest =
     (d : Data) × (converted of_json read ≡ Some (d, rest)) × (data_in field ≡ Some (shown d))
+
+-- what a field answers is what the data that was found answers; it is absent where none was found
+pub record IsFieldOf (field : Field) (found : Option Data) : Type 0 where
+  pub absent : is_none (data_in field) ≡ is_none found
+  pub text : option_and_then as_str (data_in field) ≡ option_and_then as_str found
+  pub truth : option_and_then as_bool (data_in field) ≡ option_and_then as_bool found
+  pub number : option_and_then as_number (data_in field) ≡ option_and_then as_number found

@@ -1,10 +1,11 @@
 //! The value of a member, as far as a line's fields go, read from its tokens.
-ghost use Rattle.std.specs.Prelude.{◌≡◌, ◌<◌, ◌≤◌, ◌∷◌, length, None, IfOk, IfErr, OnOk};
+ghost use Rattle.std.specs.Prelude.{◌≡◌, ◌<◌, ◌≤◌, ◌∷◌, length, None, IfOk, IfErr, OnOk, is_none, option_and_then, option_map};
 ghost use Rattle.json.specs.Json.{items, members, value};
 ghost use Rattle.json.specs.Reads.{token_of};
 ghost use Rattle.serde_json.specs.Data.{no_members};
+ghost use Rattle.serde_json.specs.Find.{as_bool, as_i64, as_number, as_str, as_u64};
 ghost use Rattle.serde_json.specs.Read.{converted, of_items, of_json, of_members};
-ghost use Rattle.lq_script_json.specs.Shown.{IsReadUpTo, Shows};
+ghost use Rattle.lq_script_json.specs.Shown.{IsReadUpTo, Shows, data_in};
 
 use crate::number::{digits_in, number_in};
 use json::{Invalid, Reader, Token};
@@ -27,6 +28,74 @@ pub enum Field<'a> {
     Array,
     /// An object, without its members.
     Object,
+}
+
+impl<'a> Field<'a> {
+    /// Whether no member has the key.
+    #[inline(always)]
+    pub fn is_absent(self) -> bool
+        ensures { result ≡ is_none (data_in self.entry) }
+    {
+        match self {
+            Field::Absent => true,
+            _ => false,
+        }
+    }
+
+    /// The text; `None` where the field is no text.
+    #[inline(always)]
+    pub fn text(self) -> Option<&'a str>
+        ensures { option_map (λ text. text.now) result
+            ≡ option_and_then as_str (data_in self.entry) }
+    {
+        match self {
+            Field::Text(text) => Some(text),
+            _ => None,
+        }
+    }
+
+    /// The truth value; `None` where the field is none.
+    #[inline(always)]
+    pub fn truth(self) -> Option<bool>
+        ensures { result ≡ option_and_then as_bool (data_in self.entry) }
+    {
+        match self {
+            Field::True => Some(true),
+            Field::False => Some(false),
+            _ => None,
+        }
+    }
+
+    /// The whole number from 0 up; `None` where the field is no such number.
+    #[inline(always)]
+    pub fn number(self) -> Option<u64>
+        ensures { result
+            ≡ option_and_then as_u64 (option_and_then as_number (data_in self.entry)) }
+    {
+        match self {
+            Field::Whole(number) => Some(number),
+            Field::Number(number) => number.as_u64(),
+            _ => None,
+        }
+    }
+
+    /// The whole number of 64 bits with a sign; `None` where the field is no such number.
+    #[inline(always)]
+    pub fn signed(self) -> Option<i64>
+        ensures { result
+            ≡ option_and_then as_i64 (option_and_then as_number (data_in self.entry)) }
+    {
+        match self {
+            Field::Whole(number) => {
+                if number > 9223372036854775807 {
+                    return None;
+                }
+                Some(number as i64)
+            }
+            Field::Number(number) => number.as_i64(),
+            _ => None,
+        }
+    }
 }
 
 // The value that begins with a token, which the reader has passed. Arrays and objects may nest

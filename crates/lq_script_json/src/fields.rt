@@ -1,15 +1,16 @@
 //! The fields of a line, found while its JSON is read.
-ghost use Rattle.std.specs.Prelude.{◌≡◌, ◌⊎◌, IfErr, IfOk, None, Some, is_some, option_and_then, option_map};
+ghost use Rattle.std.specs.Prelude.{◌≡◌, ◌⊎◌, IfErr, IfOk, None, Some, length};
 ghost use Rattle.lq_value.specs.declared.refusal.Refusal.TheVariants.{NoMemory, NotJson};
-ghost use Rattle.serde_json.specs.Data.{unsigned};
-ghost use Rattle.serde_json.specs.Find.{as_bool, as_i64, as_number, as_str, as_u64, get};
-ghost use Rattle.serde_json.specs.Read.{read as read_text};
-ghost use Rattle.lq_script_json.specs.Fields.{AreAbsent, AreFound, name_of, whole};
+ghost use Rattle.json.specs.Json.{members, value};
+ghost use Rattle.serde_json.specs.Data.{no_members};
+ghost use Rattle.serde_json.specs.Find.{get};
+ghost use Rattle.serde_json.specs.Read.{converted, of_members, read as read_text};
+ghost use Rattle.lq_script_json.specs.Fields.{AreAbsent, AreFound, HoldsMembers, name_of, updated, whole};
+ghost use Rattle.lq_script_json.specs.Shown.{IsFieldOf};
 
 use crate::field::{Field, field_from};
 use crate::key::Key;
-use crate::places::Places;
-use json::{Reader, Scratch, Token};
+use json::{Invalid, Reader, Scratch, Token};
 use lq_value::Refusal;
 
 /// How deep arrays and objects may nest.
@@ -19,18 +20,75 @@ const MAX_DEPTH: usize = 127;
 #[derive(Drop)]
 pub struct Fields<'a> {
     text: &'a str,
-    places: Places<'a>,
+    act: Field<'a>,
+    dir: Field<'a>,
+    name: Field<'a>,
+    kind: Field<'a>,
+    size: Field<'a>,
+    time: Field<'a>,
+    node: Field<'a>,
+    attr: Field<'a>,
+    value_type: Field<'a>,
+    given: Field<'a>,
+    query: Field<'a>,
+    port: Field<'a>,
+    backlog: Field<'a>,
+    moved: Field<'a>,
+    slot: Field<'a>,
+    clobber: Field<'a>,
 }
 
 impl<'a> Fields<'a> {
     /// The fields before any is found.
     #[inline(always)]
     pub fn new() -> Fields<'a>
-        ensures { AreAbsent result.places }
+        ensures { AreAbsent result }
     {
+        let absent: Field<'a> = Field::Absent;
         Fields {
             text: "",
-            places: Places::new(),
+            act: absent,
+            dir: absent,
+            name: absent,
+            kind: absent,
+            size: absent,
+            time: absent,
+            node: absent,
+            attr: absent,
+            value_type: absent,
+            given: absent,
+            query: absent,
+            port: absent,
+            backlog: absent,
+            moved: absent,
+            slot: absent,
+            clobber: absent,
+        }
+    }
+
+    /// The field of a key, once fields are found; `Absent` where no member has the key.
+    #[inline(always)]
+    pub fn at(&self, key: Key) -> Field<'a>
+        requires { AreFound self.now }
+        ensures { IsFieldOf result (get (name_of key) (whole self.now)) }
+    {
+        match key {
+            Key::Do => self.act,
+            Key::Dir => self.dir,
+            Key::Name => self.name,
+            Key::Kind => self.kind,
+            Key::Size => self.size,
+            Key::Time => self.time,
+            Key::Node => self.node,
+            Key::Attr => self.attr,
+            Key::Type => self.value_type,
+            Key::Value => self.given,
+            Key::Query => self.query,
+            Key::Port => self.port,
+            Key::Backlog => self.backlog,
+            Key::Moved => self.moved,
+            Key::Slot => self.slot,
+            Key::Clobber => self.clobber,
         }
     }
 
@@ -43,7 +101,7 @@ impl<'a> Fields<'a> {
     /// an infinite double.
     #[inline(never)]
     pub fn read(&mut self, scratch: &'a mut Scratch, text: &'a str) -> Result<(), Refusal>
-        requires { AreAbsent self.old.places }
+        requires { AreAbsent self.old }
         ensures value { IfOk result (λ _. read_text text.now ≡ Some (whole self.new)) }
         ensures found { IfOk result (λ _. AreFound self.new) }
         ensures refused { IfErr result (λ e. (e ≡ NoMemory)
@@ -56,7 +114,7 @@ impl<'a> Fields<'a> {
             return Err(Refusal::NotJson);
         };
         let passed = match token {
-            Token::BeginObject => self.places.read_members(&mut reader, MAX_DEPTH - 1).is_ok(),
+            Token::BeginObject => self.read_members(&mut reader, MAX_DEPTH - 1).is_ok(),
             _ => field_from(&mut reader, token, MAX_DEPTH).is_ok(),
         };
         if !passed || reader.next().is_some() {
@@ -66,82 +124,63 @@ impl<'a> Fields<'a> {
         Ok(())
     }
 
-    /// Whether there is a field of a key, once fields are found.
+    // Reads the members of an object that is open, one after another; of equal keys the last one
+    // counts. Arrays and objects in them may nest `depth` deep. It takes no memory.
     #[inline(always)]
-    pub fn has(&self, key: Key) -> bool
-        requires { AreFound self.now }
-        ensures { result ≡ is_some (get (name_of key) (whole self.now)) }
+    fn read_members(&mut self, reader: &mut Reader<'a>, depth: usize) -> Result<(), Invalid>
+        requires { AreAbsent self.old }
+        ensures ok { IfOk result (λ _. HoldsMembers self.new reader.new (converted
+            (λ ms. of_members ms no_members)
+            (members (value depth) (length reader.old) reader.old))) }
+        ensures err { IfErr result (λ _. converted (λ ms. of_members ms no_members)
+            (members (value depth) (length reader.old) reader.old) ≡ None) }
     {
-        match self.places.at(key) {
-            Field::Absent => false,
-            _ => true,
+        'members: while let Some(key) = reader.next_key()? {
+            let token = reader.next().ok_or(Invalid)?;
+            let found = field_from(reader, token, depth)?;
+            self.put(key, found);
         }
+        Ok(())
     }
 
-    /// The text of a key's field, once fields are found; `None` where there is no such text.
-    #[inline(always)]
-    pub fn text(&self, key: Key) -> Option<&'a str>
-        requires { AreFound self.now }
-        ensures { option_map (λ text. text.now) result
-            ≡ option_and_then as_str (get (name_of key) (whole self.now)) }
+    // Puts a value in the place of its key, if the key is one of a line's. It has no hint: the
+    // compiler inlines it, as it has one caller, once the lengths of keys are constants in it.
+    fn put(&mut self, key: &str, found: Field<'a>)
+        ensures { self.new ≡ updated key.now found.entry self.old }
     {
-        match self.places.at(key) {
-            Field::Text(text) => Some(text),
-            _ => None,
+        match key.len() {
+            2 => match key {
+                "do" => self.act = found,
+                _ => {}
+            },
+            3 => match key {
+                "dir" => self.dir = found,
+                _ => {}
+            },
+            4 => match key {
+                "name" => self.name = found,
+                "size" => self.size = found,
+                "time" => self.time = found,
+                "node" => self.node = found,
+                "attr" => self.attr = found,
+                "type" => self.value_type = found,
+                "slot" => self.slot = found,
+                "kind" => self.kind = found,
+                "port" => self.port = found,
+                _ => {}
+            },
+            5 => match key {
+                "value" => self.given = found,
+                "query" => self.query = found,
+                "moved" => self.moved = found,
+                _ => {}
+            },
+            7 => match key {
+                "clobber" => self.clobber = found,
+                "backlog" => self.backlog = found,
+                _ => {}
+            },
+            _ => {}
         }
     }
-
-    /// The truth value of a key's field, once fields are found; `None` where there is none.
-    #[inline(always)]
-    pub fn truth(&self, key: Key) -> Option<bool>
-        requires { AreFound self.now }
-        ensures { result ≡ option_and_then as_bool (get (name_of key) (whole self.now)) }
-    {
-        match self.places.at(key) {
-            Field::True => Some(true),
-            Field::False => Some(false),
-            _ => None,
-        }
-    }
-
-    /// The whole number from 0 up of a key's field, once fields are found; `None` where there is no
-    /// such number.
-    #[inline(always)]
-    pub fn number(&self, key: Key) -> Option<u64>
-        requires { AreFound self.now }
-        ensures { result ≡ option_and_then as_u64
-            (option_and_then as_number (get (name_of key) (whole self.now))) }
-    {
-        match self.places.at(key) {
-            Field::Whole(number) => Some(number),
-            Field::Number(number) => number.as_u64(),
-            _ => None,
-        }
-    }
-
-    /// The whole number of 64 bits with a sign of a key's field, once fields are found; `None`
-    /// where there is no such number.
-    #[inline(always)]
-    pub fn signed(&self, key: Key) -> Option<i64>
-        requires { AreFound self.now }
-        ensures { result ≡ option_and_then as_i64
-            (option_and_then as_number (get (name_of key) (whole self.now))) }
-    {
-        match self.places.at(key) {
-            Field::Whole(number) => signed(number),
-            Field::Number(number) => number.as_i64(),
-            _ => None,
-        }
-    }
-}
-
-// The number with a sign; `None` where it has more than 63 bits.
-#[inline(always)]
-fn signed(number: u64) -> Option<i64>
-    ensures { result ≡ as_i64 (unsigned number) }
-{
-    if number > 9223372036854775807 {
-        return None;
-    }
-    Some(number as i64)
 }

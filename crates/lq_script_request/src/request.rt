@@ -73,7 +73,7 @@ pub fn request_in<'a>(fields: &Fields<'a>) -> Option<Request<'a>>
     requires { AreFound fields.now }
     ensures { option_map asked result ≡ asked_of (whole fields.now) }
 {
-    let Some(act) = fields.text(Key::Do) else {
+    let Some(act) = fields.at(Key::Do).text() else {
         return None;
     };
     match act.len() {
@@ -115,7 +115,7 @@ fn create_in<'a>(fields: &Fields<'a>) -> Option<Request<'a>>
     requires { AreFound fields.now }
     ensures { option_map asked result ≡ create_of (whole fields.now) }
 {
-    let name = fields.text(Key::Name)?;
+    let name = fields.at(Key::Name).text()?;
     let dir = u64_or(fields, Key::Dir, 1)?;
     let kind = kind_or_file(fields)?;
     let size = u64_or(fields, Key::Size, 0)?;
@@ -133,7 +133,7 @@ fn remove_in<'a>(fields: &Fields<'a>) -> Option<Request<'a>>
     requires { AreFound fields.now }
     ensures { option_map asked result ≡ remove_of (whole fields.now) }
 {
-    let node = fields.number(Key::Node)?;
+    let node = fields.at(Key::Node).number()?;
     Some(Request::Remove { node })
 }
 
@@ -141,8 +141,8 @@ fn move_in<'a>(fields: &Fields<'a>) -> Option<Request<'a>>
     requires { AreFound fields.now }
     ensures { option_map asked result ≡ move_of (whole fields.now) }
 {
-    let node = fields.number(Key::Node)?;
-    let name = fields.text(Key::Name)?;
+    let node = fields.at(Key::Node).number()?;
+    let name = fields.at(Key::Name).text()?;
     let dir = u64_or(fields, Key::Dir, 1)?;
     let clobber = bool_or_false(fields, Key::Clobber)?;
     Some(Request::Move {
@@ -157,8 +157,8 @@ fn write_in<'a>(fields: &Fields<'a>) -> Option<Request<'a>>
     requires { AreFound fields.now }
     ensures { option_map asked result ≡ write_of (whole fields.now) }
 {
-    let node = fields.number(Key::Node)?;
-    let size = fields.number(Key::Size)?;
+    let node = fields.at(Key::Node).number()?;
+    let size = fields.at(Key::Size).number()?;
     let time = i64_or_zero(fields, Key::Time)?;
     Some(Request::Write { node, size, time })
 }
@@ -167,9 +167,9 @@ fn set_in<'a>(fields: &Fields<'a>) -> Option<Request<'a>>
     requires { AreFound fields.now }
     ensures { option_map asked result ≡ set_of (whole fields.now) }
 {
-    let node = fields.number(Key::Node)?;
-    let attr = fields.text(Key::Attr)?;
-    let kind = fields.text(Key::Type)?;
+    let node = fields.at(Key::Node).number()?;
+    let attr = fields.at(Key::Attr).text()?;
+    let kind = fields.at(Key::Type).text()?;
     let value = typed_in(fields, kind)?;
     Some(Request::Set { node, attr, value })
 }
@@ -178,8 +178,8 @@ fn unset_in<'a>(fields: &Fields<'a>) -> Option<Request<'a>>
     requires { AreFound fields.now }
     ensures { option_map asked result ≡ unset_of (whole fields.now) }
 {
-    let node = fields.number(Key::Node)?;
-    let attr = fields.text(Key::Attr)?;
+    let node = fields.at(Key::Node).number()?;
+    let attr = fields.at(Key::Attr).text()?;
     Some(Request::Unset { node, attr })
 }
 
@@ -187,9 +187,9 @@ fn open_in<'a>(fields: &Fields<'a>) -> Option<Request<'a>>
     requires { AreFound fields.now }
     ensures { option_map asked result ≡ open_of (whole fields.now) }
 {
-    let query = fields.text(Key::Query)?;
-    let port = fields.number(Key::Port)?;
-    let backlog = fields.number(Key::Backlog)?;
+    let query = fields.at(Key::Query).text()?;
+    let port = fields.at(Key::Port).number()?;
+    let backlog = fields.at(Key::Backlog).number()?;
     let moved = bool_or_false(fields, Key::Moved)?;
     Some(Request::Open {
         query,
@@ -203,7 +203,7 @@ fn act_in<'a>(fields: &Fields<'a>, act: Act) -> Option<Request<'a>>
     requires { AreFound fields.now }
     ensures { option_map asked result ≡ act_of act (whole fields.now) }
 {
-    let slot = fields.number(Key::Slot)?;
+    let slot = fields.at(Key::Slot).number()?;
     Some(Request::At { slot, act })
 }
 
@@ -211,7 +211,7 @@ fn find_in<'a>(fields: &Fields<'a>) -> Option<Request<'a>>
     requires { AreFound fields.now }
     ensures { option_map asked result ≡ find_of (whole fields.now) }
 {
-    let name = fields.text(Key::Name)?;
+    let name = fields.at(Key::Name).text()?;
     let dir = u64_or(fields, Key::Dir, 1)?;
     Some(Request::Find { dir, name })
 }
@@ -220,7 +220,7 @@ fn entry_in<'a>(fields: &Fields<'a>) -> Option<Request<'a>>
     requires { AreFound fields.now }
     ensures { option_map asked result ≡ entry_of (whole fields.now) }
 {
-    let node = fields.number(Key::Node)?;
+    let node = fields.at(Key::Node).number()?;
     Some(Request::Entry { node })
 }
 
@@ -228,7 +228,7 @@ fn fetch_in<'a>(fields: &Fields<'a>) -> Option<Request<'a>>
     requires { AreFound fields.now }
     ensures { option_map asked result ≡ fetch_of (whole fields.now) }
 {
-    let query = fields.text(Key::Query)?;
+    let query = fields.at(Key::Query).text()?;
     Some(Request::Fetch { query })
 }
 
@@ -236,6 +236,6 @@ fn rebuilt_in<'a>(fields: &Fields<'a>) -> Option<Request<'a>>
     requires { AreFound fields.now }
     ensures { option_map asked result ≡ rebuilt_of (whole fields.now) }
 {
-    let slot = fields.number(Key::Slot)?;
+    let slot = fields.at(Key::Slot).number()?;
     Some(Request::Rebuilt { slot })
 }

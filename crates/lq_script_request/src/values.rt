@@ -16,10 +16,11 @@ pub fn u64_or(fields: &Fields<'_>, key: Key, default: u64) -> Option<u64>
     requires { AreFound fields.now }
     ensures { result ≡ u64_or default (get (name_of key) (whole fields.now)) }
 {
-    if !fields.has(key) {
+    let field = fields.at(key);
+    if field.is_absent() {
         return Some(default);
     }
-    fields.number(key)
+    field.number()
 }
 
 /// A whole number of 64 bits with a sign, or 0 if the field is absent.
@@ -27,10 +28,11 @@ pub fn i64_or_zero(fields: &Fields<'_>, key: Key) -> Option<i64>
     requires { AreFound fields.now }
     ensures { result ≡ i64_or (pos 0) (get (name_of key) (whole fields.now)) }
 {
-    if !fields.has(key) {
+    let field = fields.at(key);
+    if field.is_absent() {
         return Some(0);
     }
-    fields.signed(key)
+    field.signed()
 }
 
 /// A truth value, or false if the field is absent.
@@ -38,10 +40,11 @@ pub fn bool_or_false(fields: &Fields<'_>, key: Key) -> Option<bool>
     requires { AreFound fields.now }
     ensures { result ≡ flag_or false (get (name_of key) (whole fields.now)) }
 {
-    if !fields.has(key) {
+    let field = fields.at(key);
+    if field.is_absent() {
         return Some(false);
     }
-    fields.truth(key)
+    field.truth()
 }
 
 /// The kind, or a file if the field is absent.
@@ -49,10 +52,11 @@ pub fn kind_or_file(fields: &Fields<'_>) -> Option<Kind>
     requires { AreFound fields.now }
     ensures { result ≡ kind_or File (get (codes "kind") (whole fields.now)) }
 {
-    if !fields.has(Key::Kind) {
+    let field = fields.at(Key::Kind);
+    if field.is_absent() {
         return Some(Kind::File);
     }
-    let text = fields.text(Key::Kind)?;
+    let text = field.text()?;
     match text {
         "file" => Some(Kind::File),
         "folder" => Some(Kind::Folder),
@@ -68,7 +72,7 @@ pub fn typed_in<'a>(fields: &Fields<'a>, kind: &str) -> Option<View<'a>>
 {
     match kind {
         "CSTR" => {
-            let text = fields.text(Key::Value)?;
+            let text = fields.at(Key::Value).text()?;
             Some(View::Text(text))
         }
         "LONG" => {
@@ -76,7 +80,7 @@ pub fn typed_in<'a>(fields: &Fields<'a>, kind: &str) -> Option<View<'a>>
             Some(View::Int32(number))
         }
         "LLNG" => {
-            let number = fields.signed(Key::Value)?;
+            let number = fields.at(Key::Value).signed()?;
             Some(View::Int64(number))
         }
         "ULNG" => {
@@ -84,7 +88,7 @@ pub fn typed_in<'a>(fields: &Fields<'a>, kind: &str) -> Option<View<'a>>
             Some(View::UInt32(number))
         }
         "ULLG" => {
-            let number = fields.number(Key::Value)?;
+            let number = fields.at(Key::Value).number()?;
             Some(View::UInt64(number))
         }
         _ => None,
@@ -98,7 +102,7 @@ fn narrow_signed(fields: &Fields<'_>, key: Key) -> Option<i32>
         ≡ option_and_then within_i32 (option_and_then as_i64
         (option_and_then as_number (get (name_of key) (whole fields.now)))) }
 {
-    let number = fields.signed(key)?;
+    let number = fields.at(key).signed()?;
     if number < -2147483648 || number > 2147483647 {
         return None;
     }
@@ -112,7 +116,7 @@ fn narrow_number(fields: &Fields<'_>, key: Key) -> Option<u32>
         ≡ option_and_then within_u32 (option_and_then as_u64
         (option_and_then as_number (get (name_of key) (whole fields.now)))) }
 {
-    let number = fields.number(key)?;
+    let number = fields.at(key).number()?;
     if number > 4294967295 {
         return None;
     }

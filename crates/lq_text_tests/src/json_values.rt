@@ -79,13 +79,14 @@ const ENDS: [&str; 12] = [
 fn has_same(plain: &serde_json::Value, fields: &Fields<'_>, name: &str, key: Key) -> bool
     requires { AreFound fields.now }
 {
+    let field = fields.at(key);
     match plain.get(name) {
-        None => !fields.has(key),
-        Some(plain) => fields.has(key)
-            && plain.as_u64() == fields.number(key)
-            && plain.as_i64() == fields.signed(key)
-            && plain.as_str() == fields.text(key)
-            && plain.as_bool() == fields.truth(key),
+        None => field.is_absent(),
+        Some(plain) => !field.is_absent()
+            && plain.as_u64() == field.number()
+            && plain.as_i64() == field.signed()
+            && plain.as_str() == field.text()
+            && plain.as_bool() == field.truth(),
     }
 }
 

@@ -7,7 +7,7 @@ use Rattle.json.proofs.Grammar.{value_is, value-begin_object}
 use Rattle.serde_json.specs.Data.{Data, null, object}
 use Rattle.serde_json.specs.Find.{get}
 use Rattle.serde_json.specs.Read.{converted, of_json, read}
-use Rattle.lq_script_json.specs.declared.places.Places.{Places}
+use Rattle.lq_script_json.specs.declared.fields.Fields.{Fields}
 use Rattle.lq_script_json.specs.Fields.{Holds, Show, name_of}
 use Rattle.lq_script_json.specs.Shown.{data_in, shown}
 use Rattle.lq_script_json.proofs.ReadingLemmas.{converted-object, whole_refused, whole_read, whole_and_more}
@@ -15,14 +15,14 @@ use Rattle.lq_script_json.proofs.WalkLemmas.{none-read, on-is_ok}
 use Rattle.lq_script_json.proofs.fields.Fields.read.Goals.{Joined-token, in-BeginObject, in_default-token, then-not-passed-via-then-not-passed, then-not-passed-via-else-not-passed+then-is_some}
 use Rattle.lq_script_json.proofs.fields.Fields.read.Goals as goal
 
--- whether the text begins with a value, and what the places then show
-abbrev Walked : Bool → Places → List Token → List ℕ → Type 0
-Walked passed places rest text =
+-- whether the text begins with a value, and what the fields then show
+abbrev Walked : Bool → Fields → List Token → List ℕ → Type 0
+Walked passed fields rest text =
     let o = converted of_json (value 127 (tokens text)) in
-    MatchBool passed (Holds places rest o) (o ≡ None)
+    MatchBool passed (Holds fields rest o) (o ≡ None)
 
 walked : (c : Joined-token)
-    → Walked c.match-token.passed c.match-token.self.places c.match-token.reader c.args.text.now
+    → Walked c.match-token.passed c.match-token.self c.match-token.reader c.args.text.now
 walked c =
     let ts = c.next.new.self in
     let taken : c.in-Ok.reader ≡ token_of c.in-Some.token ∷ ts = grind arith in
@@ -68,7 +68,7 @@ returns-then-not-passed-clause-refused c =
     let m = c.match-token in
     let o = value 127 (tokens c.args.text.now) in
     let was = walked (goal.at.returns-then-not-passed-clause-refused c).Joined-token in
-    let at : Bool → Type 0 = λ b. Walked b m.self.places m.reader c.args.text.now in
+    let at : Bool → Type 0 = λ b. Walked b m.self m.reader c.args.text.now in
     elim c.then-not-passed.branch [
       | then-not-passed-via-then-not-passed w ↦
           inr (refl, whole_refused o (subst at w.if-not-passed.true was))
@@ -77,13 +77,13 @@ returns-then-not-passed-clause-refused c =
           inr (refl, whole_and_more o held.0 m.reader (λ e. grind (arith, e)) held.1)
     ]
 
--- the data of the text, which the places show
+-- the data of the text, which the fields show
 ended : (c : Joined-token) → c.match-token.passed ≡ true → c.match-token.reader ≡ []
-    → (d : Data) × (read c.args.text.now ≡ Some d) × Show c.match-token.self.places d
+    → (d : Data) × (read c.args.text.now ≡ Some d) × Show c.match-token.self d
 ended c passed none =
     let m = c.match-token in
     let o = value 127 (tokens c.args.text.now) in
-    let held = subst (λ b. Walked b m.self.places m.reader c.args.text.now) passed (walked c) in
+    let held = subst (λ b. Walked b m.self m.reader c.args.text.now) passed (walked c) in
     (held.0, whole_read o held.0 (held.1 ∙ ap (λ r. Some (held.0, r)) none), held.2)
 
 pub returns-clause-value : goal.returns-clause-value

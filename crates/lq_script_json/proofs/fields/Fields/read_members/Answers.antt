@@ -9,7 +9,7 @@ use Rattle.lq_script_json.specs.Shown.{data_in}
 use Rattle.lq_script_json.proofs.FieldsLemmas.{Show-put}
 use Rattle.lq_script_json.proofs.ReadingLemmas.{key_refused, member_read, member_refused, members_over}
 use Rattle.lq_script_json.proofs.WalkLemmas.{on-err}
-use Rattle.lq_script_json.proofs.places.Places.read_members.Goals as goal
+use Rattle.lq_script_json.proofs.fields.Fields.read_members.Goals as goal
 
 pub members-init : goal.members-init
 members-init c =
@@ -66,7 +66,7 @@ members-preserved c =
       l.invariant.3
           ∙ member_read p l.invariant.1 n k l.reader s r d (omega (arith, l.invariant.2)) named
           (ap (λ ts. converted of_json (p ts)) first ∙ done.ok.1),
-      subst (λ places. Show places (object (put k d l.invariant.1))) (sym c.put.ensures)
+      subst (λ fields. Show fields (object (put k d l.invariant.1))) (sym c.put.ensures)
           (Show-put k c.in_ok-found.found l.self d l.invariant.1 done.ok.2 l.invariant.4),
     )
 

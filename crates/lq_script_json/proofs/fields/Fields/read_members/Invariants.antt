@@ -3,9 +3,9 @@ use Rattle.json.specs.Json.{members, value}
 use Rattle.serde_json.specs.Data.{Members, no_members, object}
 use Rattle.serde_json.specs.Read.{converted, of_members}
 use Rattle.lq_script_json.specs.Fields.{Show}
-use Rattle.lq_script_json.proofs.places.Places.read_members.Given as goal
+use Rattle.lq_script_json.proofs.fields.Fields.read_members.Given as goal
 
--- the places show the members so far, and what the rest adds to those is all
+-- the fields show the members so far, and what the rest adds to those is all
 abbrev pub invariant-members : goal.invariant-members
 invariant-members l =
     (n : ℕ) × (found : Members) × (length l.reader ≤ n)
