@@ -91,28 +91,6 @@ partly_committed-step keeper slots taken openings c committed place o m lt is fi
           (m.asks j pos within));
     }
 
--- it is committed in all
-pub partly_committed-last : (keeper : KeeperToken Identity) (slots : List (Option Subscription))
-    (taken : List ℕ) (openings : ℕ) (c : Change) (committed : ℕ) → length taken ≤ committed
-    → PartlyCommitted keeper slots taken openings c committed
-    → AllStand keeper slots openings keeper.book
-partly_committed-last keeper slots taken openings c committed most m =
-    record {
-      known = m.known;
-      wide = m.wide;
-      each = λ k pos within.
-          ⊎_elim
-          (λ (none : slot_in slots k ≡ None). subst (λ (z : Option Subscription). SlotStands z
-          (slot_at keeper.slots k) keeper.book) (sym none) (m.free k pos within none))
-          (λ (some : IsSome (slot_in slots k)).
-          let i = m.listed.each k pos within some in
-          let lt = i.1 in
-          subst (λ (p : ℕ). SlotStands (slot_in slots p) (slot_at keeper.slots p) keeper.book) i.2
-          (m.below i.0 (omega arith) lt))
-          (free_or_taken (slot_in slots k));
-      asks = m.asks;
-    }
-
 -- ---- a fact of each taken slot
 
 module _ (P : Subscription → KnownSlot Identity → Type 0) where

@@ -1,5 +1,5 @@
 -- What a reader does under the lock.
-use Rattle.std.proofs.Common.{◌≡◌, ℕ, zero, suc, ◌+◌, ◌<◌, ◌≤◌, Bool, true, false, true≢false, List, [], ◌∷◌, ◌++◌, append-nil, length, Option, Some, None, refl, sym, ap, ◌∙◌, subst, arith, length-set, get_or-set_same, get_or-set_other, slice_set, set-set, append_assoc}
+use Rattle.std.proofs.Common.{◌≡◌, ℕ, zero, suc, ◌<◌, ◌≤◌, Bool, true, false, true≢false, List, [], ◌∷◌, append-nil, length, Option, Some, None, refl, sym, ap, ◌∙◌, subst, arith, length-set, get_or-set_same, get_or-set_other, slice_set, set-set}
 use Rattle.std.specs.Prelude.{IsSome, IsSomeAnd}
 use Rattle.std.proofs.lemmas.List.{set-get_or}
 use Rattle.lq_volume.specs.declared.change.Change.{Change}
@@ -8,33 +8,18 @@ use Rattle.lq_board.specs.declared.views.KnownSlot.{KnownSlot}
 use Rattle.lq_board.specs.Slot.{slot_at, unused, gone_out, go_out, come_back}
 use Rattle.lq_board.specs.Token.{SeatToken}
 use Rattle.lq_update.specs.declared.message.Message.{Message}
-use Rattle.lq_update.specs.declared.mark.Mark.{Mark}
 use Rattle.lq_port.specs.End.{End, all_put}
 use Rattle.lq_server_subscription.specs.declared.delivery.Delivery.{Delivery}
 use Rattle.lq_server_subscription.specs.declared.delivery.Opening.{Opening}
 use Rattle.lq_server_subscription.specs.declared.identity.Identity.{Identity}
-use Rattle.lq_server_subscription.specs.declared.identity.FirstClose.{FirstClose}
-use Rattle.lq_server_subscription.specs.declared.identity.FirstClose.TheVariants.{Never, At, Late}
 use Rattle.lq_server_subscription.specs.declared.subscription.Subscription.{Subscription}
 use Rattle.lq_server_subscription.specs.Rule.{messages_in}
 use Rattle.lq_server_subscription.specs.Marking.{hung_mark, after_close}
-use Rattle.lq_server_subscription.specs.Identity.{identity_of, port_id, port_id_inj}
-use Rattle.lq_server_subscription.specs.Reading.{ReadingHold}
-use Rattle.lq_server_subscription.specs.Standing.{StandsAt, IsDrained, SameButPuts, SameButHeld, FirstCloseFits}
+use Rattle.lq_server_subscription.specs.Identity.{identity_of, port_id_inj}
+use Rattle.lq_server_subscription.specs.Standing.{StandsAt, IsDrained, SameButPuts, SameButHeld}
 use Rattle.lq_server_slots.specs.Slots.{IsTaken, SlotStands, asks_of, OnlyAt}
-use Rattle.lq_server_slots.specs.Opening.{IdentityFits, asks_after, name_or}
-use Rattle.lq_server_slots.specs.Progress.{ShowsProgress}
-use Rattle.lq_server_slots.specs.declared.sync.Progress.{Progress}
+use Rattle.lq_server_slots.specs.Opening.{IdentityFits, name_or}
 use Rattle.lq_server_slots.proofs.SlotLemmas.{taken_then, identity_alike}
-
--- a book that extends one that extends a third extends the third
-extends_twice : (b c d : Book) → Extends c b → Extends d c → Extends d b
-extends_twice b c d e f =
-    let with : List Change → Book = λ cs. record { start = b.start; changes = cs } in (
-      e.0 ++ f.0,
-      f.1 ∙ ap (λ (x : Book). grown x f.0) e.1
-          ∙ ap with (append_assoc b.changes e.0 f.0),
-    )
 
 -- a book that grew by a change extends what is known of it
 pub later_grown : (was now mid : Book) (change : Change) → was ≡ mid
@@ -164,112 +149,11 @@ taken_closed s t p q n book taken stands others messages hung le is =
       hung = λ h. let lt = taken.hung (hung h) in omega arith;
     }
 
--- a close changes what its name says of closes
-pub identity_closed : (s t : Subscription) → SameButHeld s t → identity_of t ≡ record
-    (identity_of s) { first_close = t.first_close }
-identity_closed s t a = λ i. record {
-  query = a.query i;
-  moved = a.moved i;
-  opened = a.opened i;
-  places = a.places i;
-  backlog = a.backlog i;
-  asks = a.asks i;
-  first_close = t.first_close;
-  port = port_id (a.input i).port;
-}
-
 -- the lock's port is that of the reader's name
 pub same_port : (s : Subscription) (name : Option Identity) (e : End Delivery Opening)
     → name ≡ Some (identity_of s) → IsSomeAnd name (λ t. IdentityFits t e) → e.port ≡ s.input.port
 same_port s name e is fits = let f = subst (λ o. IsSomeAnd o (λ t. IdentityFits t e)) is fits in sym
     (port_id_inj s.input.port e.port f.port)
-
--- a slot whose seat is out is taken
-pub must_some : (o : Option Subscription) (p : KnownSlot Identity) (book : Book)
-    → SlotStands o p book → p.out ≡ true → o ≡ None → ⊥
-must_some o p book fits out none =
-    let f = subst (λ z. SlotStands z p book) none fits in true≢false (sym out ∙ f)
-
--- what a sync shows from a seat that has met the keeper, it shows from the seat before
-pub shows_from : (s : Subscription) (old mid new : SeatToken Identity) (d e : ReadingHold)
-    (x : Progress) (book : Book) → mid ≡ record old { book = book } → Extends book old.book
-    → ShowsProgress s mid new d e x → ShowsProgress s old new d e x
-shows_from s old mid new d e x book is later l = record {
-  stands = l.stands;
-  drained = l.drained;
-  port = l.port;
-  floor = l.floor;
-  taken = l.taken;
-  all = l.all;
-  known = l.known;
-  legal = l.legal;
-  hand = l.hand;
-  result = l.result;
-  identity = l.identity;
-  seat = l.seat ∙ ap (λ (m : SeatToken Identity). let n : SeatToken Identity =
-      record m { book = new.book } in n) is;
-  later = extends_twice old.book mid.book new.book (subst (λ (b : Book). Extends b old.book)
-      (sym (ap (λ (m : SeatToken Identity). m.book) is)) later) l.later;
-  number = l.number;
-  waiting = l.waiting;
-  held = l.held;
-  mark = l.mark;
-  out = l.out;
-  hung = l.hung;
-  ended = l.ended;
-}
-
--- only a subscription that wasn't closed is live
-pub live_never : (u : FirstClose) (o : Option Mark) → o ≡ None → FirstCloseFits u o → u ≡ Never
-live_never u o e f = at u (subst (FirstCloseFits u) e f)
-  where
-    at : (u : FirstClose) → FirstCloseFits u None → u ≡ Never
-    at Never f = refl
-    at (At m) f = absurd f
-    at Late f = absurd f
-
--- one ask more at most
-asks_within : (n : ℕ) (b : Bool) → asks_after n b ≤ n + 1
-asks_within n true = omega arith
-asks_within n false = omega arith
-
--- a slot's seat that came back has asked at most once since the opening
-pub asks_back : (o : Option Subscription) (p : KnownSlot Identity) (n : ℕ) (book : Book)
-    (name : Option Identity) (asked : Bool) → SlotStands o p book → p.out ≡ true → p.name ≡ name
-    → IsSomeAnd name (λ t. n ≡ asks_after t.asks asked) → n ≤ asks_of o p
-asks_back None p n book name asked fits out is h = absurd (true≢false (sym out ∙ fits))
-asks_back (Some s) p n book name asked fits out is h =
-    let e : n ≡ asks_after s.asks asked =
-    subst (λ (o : Option Identity). IsSomeAnd o (λ t. n ≡ asks_after t.asks asked))
-    (sym is ∙ fits.name) h in
-    subst (λ (m : ℕ). m ≤ s.asks + 1) (sym e) (asks_within s.asks asked)
-
--- what the keeper knows of a slot whose seat came back
-pub back_place : (ps : List (KnownSlot Identity)) (k n : ℕ) (name : Option Identity) → 0 < k
-    → k < length ps → slot_at (come_back ps k n name) k ≡ record {
-      out = false;
-      asks = n;
-      name =
-          name;
-    }
-back_place ps zero n name pos lt = absurd (omega arith)
-back_place ps (suc j) n name pos lt = let b : KnownSlot Identity =
-    record { out = false; asks = n; name = name } in get_or-set_same ps (suc j) b unused lt
-
--- and nothing of the others changed
-pub back_only : (ps : List (KnownSlot Identity)) (k n : ℕ) (name : Option Identity) → 0 < k
-    → OnlyAt ps (come_back ps k n name) k
-back_only ps zero n name pos = absurd (omega arith)
-back_only ps (suc k) n name pos = let b : KnownSlot Identity = record {
-  out = false;
-  asks = n;
-  name =
-      name;
-} in record {
-  wide = length-set ps (suc k) b;
-  others = λ j ne. get_or-set_other ps (suc k)
-      j b unused ne;
-}
 
 -- a slot stands as before once its seat has met the keeper
 pub fits_met : (o : Option Subscription) (p q : KnownSlot Identity) (book : Book) (n : ℕ)

@@ -16,7 +16,7 @@ use Rattle.lq_board.specs.Slot.{slot_at}
 use Rattle.lq_board.specs.Token.{KeeperToken}
 use Rattle.lq_server_subscription.specs.declared.identity.Identity.{Identity}
 use Rattle.lq_server_subscription.specs.declared.subscription.Subscription.{Subscription}
-use Rattle.lq_server_slots.specs.Slots.{AllStand, OnlyAt, SlotStands, asks_of, slot_in, place_at, IsListed, IsDropped, IsReadyAt, AllReady, all_taken, is_full}
+use Rattle.lq_server_slots.specs.Slots.{AllStand, OnlyAt, SlotStands, asks_of, slot_in, place_at, IsListed, IsDropped, IsReadyAt, all_taken, is_full}
 use Rattle.lq_server_slots.proofs.SlotLemmas.{all_stand-step, in_here, in_else}
 
 -- a slot is free or taken
@@ -239,21 +239,6 @@ pub listed-drop : (taken taken' : List ℕ) (slots : List (Option Subscription))
 listed-drop taken taken' slots k l wide d =
     subst (λ (t : List ℕ). IsListed t (slice_set slots k None)) (sym d.rest)
     (listed-remove taken slots k d.index l d.within d.place wide)
-
--- each slot is ready where the listed ones are
-pub all_ready : (taken : List ℕ) (slots : List (Option Subscription)) (count : ℕ) (s : State)
-    (c : Change) → IsListed taken slots → length taken ≤ count
-    → ((j : ℕ) → j < count → j < length taken → IsReadyAt (slot_in slots (place_at taken j)) s c)
-    → AllReady slots s c
-all_ready taken slots count s c l most h k pos within =
-    ⊎_elim
-    (λ (e : slot_in slots k ≡ None). subst (λ (z : Option Subscription). IsReadyAt z s c) (sym e)
-    tt)
-    (λ (some : IsSome (slot_in slots k)).
-    let i = l.each k pos within some in
-    let lt = i.1 in
-    subst (λ (p : ℕ). IsReadyAt (slot_in slots p) s c) i.2 (h i.0 (omega arith) lt))
-    (free_or_taken (slot_in slots k))
 
 -- one more of the listed slots is ready
 pub ready_more : (taken : List ℕ) (slots : List (Option Subscription)) (count place : ℕ)

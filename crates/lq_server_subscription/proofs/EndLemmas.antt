@@ -23,7 +23,6 @@ use Rattle.lq_server_subscription.specs.declared.identity.FirstClose.TheVariants
 use Rattle.lq_server_subscription.specs.Updates.{updates}
 use Rattle.lq_server_subscription.specs.Rule.{floor_of, query_of, messages_in, mark_in}
 use Rattle.lq_server_subscription.specs.LegalList.{known_by}
-use Rattle.lq_server_subscription.specs.Marking.{after_close}
 use Rattle.lq_server_subscription.specs.Standing.{given, upto, Stands, FirstCloseFits, NotClosed, IsOverrun, IsReady}
 use Rattle.lq_server_subscription.proofs.Books.{extends_self, extends_trans, extends_length}
 use Rattle.lq_server_subscription.proofs.UpdateLemmas.{updates-add, updates-same, updates-none}
@@ -307,16 +306,6 @@ some_there None e = absurd (cc)
 pub none_there : (o : Option Mark) → is_none o ≡ true → o ≡ None
 none_there (Some k) e = absurd (cc)
 none_there None e = refl
-
--- the answer of the first close, where it ended the subscription
-pub first_answer : (u : FirstClose) (o : Option Mark) (n : ℕ) → o ≡ None → FirstCloseFits u o
-    → At n ≡ after_close u true n
-first_answer u o n e f = at u (subst (FirstCloseFits u) e f)
-  where
-    at : (u : FirstClose) → FirstCloseFits u None → At n ≡ after_close u true n
-    at Never f = refl
-    at (At m) f = absurd f
-    at Late f = absurd f
 
 -- the messages of a change are made
 pub ready_of : (s : State) (c : Change) (p q : Prepared) → q ≡ prepared s c p → IsReady q s c
