@@ -1,6 +1,6 @@
 //! The board.
 ghost use Rattle.std.specs.Prelude.{◌≡◌, ◌+◌, ◌<◌, ◌≤◌, [], length, IfOk, true, false, Some, None};
-ghost use Rattle.lq_value.specs.Refusal.{IsRefusedBy};
+ghost use Rattle.lq_value.specs.Refusal.{FailsOnlyForMemory};
 ghost use Rattle.lq_volume.specs.Book.{Extends};
 ghost use Rattle.lq_board.specs.Author.{IsSigned, IsAuthor, no_register, with_seat, new_author};
 ghost use Rattle.lq_board.specs.Book.{IsFullBook};
@@ -53,9 +53,7 @@ impl<M> Board<M> {
         ensures slots { IfOk result (λ made. made.1.slots ≡ unused_slots) }
         ensures register { IfOk result (λ made. made.1.register ≡ no_register) }
         ensures full { IfOk result (λ made. IsFullBook made.1.book) }
-
-        // `NoMemory` is the only refusal.
-        ensures refused { IsRefusedBy result None }
+        ensures refused { FailsOnlyForMemory result }
     {
         // For the proof: this call says that the volume is a tree within its limit.
         let _ = volume.changes();

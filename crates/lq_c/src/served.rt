@@ -1,6 +1,6 @@
 //! What a handle points to.
-ghost use Rattle.std.specs.Prelude.{◌≡◌, None, IfOk};
-ghost use Rattle.lq_value.specs.Refusal.{IsRefusedBy};
+ghost use Rattle.std.specs.Prelude.{◌≡◌, IfOk};
+ghost use Rattle.lq_value.specs.Refusal.{FailsOnlyForMemory};
 ghost use Rattle.lq_embed.specs.State.{first_state, holds};
 
 use lq_embed::Embedded;
@@ -16,7 +16,7 @@ pub struct Served {
 impl Served {
     /// A session over a volume with the root alone. Refused: `NoMemory`.
     pub fn start(alloc: Global) -> Result<Served, Refusal>
-        ensures refused { IsRefusedBy result None }
+        ensures refused { FailsOnlyForMemory result }
         ensures value { IfOk result (λ served. holds served.embedded ≡ first_state) }
     {
         Ok(Served {

@@ -1,8 +1,8 @@
 //! The plain way to a reply: its JSON value, and then the text of that.
-ghost use Rattle.std.specs.Prelude.{◌≡◌, ◌++◌, None, IfOk, OnOk, OnErr, string_bytes};
+ghost use Rattle.std.specs.Prelude.{◌≡◌, ◌++◌, IfOk, OnOk, OnErr, string_bytes};
 ghost use Rattle.serde_json.specs.View.{view, members_view};
 ghost use Rattle.serde_json.specs.Data.{object, no_members};
-ghost use Rattle.lq_value.specs.Refusal.{IsRefusedBy};
+ghost use Rattle.lq_value.specs.Refusal.{FailsOnlyForMemory};
 ghost use Rattle.lq_desk.specs.Reply.{answer_of, answer_of_read};
 ghost use Rattle.lq_volume.specs.Lookup.{listed};
 ghost use Rattle.lq_script_reply.specs.Answer.{response_of};
@@ -20,7 +20,7 @@ use std::alloc::{AllocError, Global};
 
 /// Appends the text of a response and LF to `out`. Refused: `NoMemory`.
 pub fn put_plainly(alloc: Global, out: &mut Vec<u8>, response: &Response) -> Result<(), Refusal>
-    ensures refused { IsRefusedBy result None }
+    ensures refused { FailsOnlyForMemory result }
     ensures ok { OnOk result (out.new.items
         ≡ out.old.items ++ reply_text (response_of response.now)) }
     ensures err { OnErr result (Begins out.new.items out.old.items) }

@@ -1,7 +1,7 @@
 //! The desk.
 ghost use Rattle.std.specs.Prelude.{◌≡◌, ◌+◌, [], None, IfOk, OnOk, OnErr, map, replicate};
 ghost use Rattle.lq_volume.specs.State.{IsVolume};
-ghost use Rattle.lq_value.specs.Refusal.{IsRefusedBy};
+ghost use Rattle.lq_value.specs.Refusal.{FailsOnlyForMemory, IsRefusedBy};
 ghost use Rattle.lq_volume.specs.Change.{refused, node_of};
 
 mod turn;
@@ -82,7 +82,7 @@ impl Desk {
 
     /// A desk over a volume, with 64 free slots. Refused: `NoMemory`.
     pub fn new(alloc: Global, volume: Volume) -> Result<Desk, Refusal>
-        ensures refused { IsRefusedBy result None }
+        ensures refused { FailsOnlyForMemory result }
         ensures kept { IfOk result (λ desk. desk ≡
             record { volume = volume; openings = 0; slots = replicate 64 None }) }
         ensures world { IfOk result (λ desk.
@@ -130,7 +130,7 @@ impl Desk {
     /// are answered from its update list: each message once and in order, then the mark. After each
     /// change the messages read fold to the query's result.
     pub fn run(&mut self, events: &[Event]) -> Result<Vec<Reply>, Refusal>
-        ensures refused { IsRefusedBy result None }
+        ensures refused { FailsOnlyForMemory result }
         ensures run { IfOk result (λ replies. (w : World) → Shows self.old w →
             Runs self.new w events.now (map answer_of replies.items)) }
         ensures readers { IfOk result (λ replies. ReadersAreTold self.old.volume

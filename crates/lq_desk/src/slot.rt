@@ -1,6 +1,6 @@
 //! A taken slot: a subscription with its port.
-ghost use Rattle.std.specs.Prelude.{◌≡◌, ◌<◌, ◌≤◌, ◌^◌, ◌-◌, true, None, Some, IfOk};
-ghost use Rattle.lq_value.specs.Refusal.{IsRefusedBy};
+ghost use Rattle.std.specs.Prelude.{◌≡◌, ◌<◌, ◌≤◌, ◌^◌, ◌-◌, true, Some, IfOk};
+ghost use Rattle.lq_value.specs.Refusal.{FailsOnlyForMemory};
 ghost use Rattle.std.specs.Option.{option_map};
 ghost use Rattle.lq_desk.specs.Slot.{slot_of, committed_slot, can_move, close_slot, filled, is_ending, noticed, passes};
 ghost use Rattle.lq_desk.specs.Kept.{IsFew};
@@ -61,7 +61,7 @@ impl Slot {
         backlog: u64,
         moved: bool,
     ) -> Result<Slot, Refusal>
-        ensures refused { IsRefusedBy result None }
+        ensures refused { FailsOnlyForMemory result }
         ensures value { IfOk result (λ s.
             slot_of s ≡ fresh_slot predicate.now moved at port backlog) }
     {

@@ -2,7 +2,7 @@
 ghost use Rattle.std.specs.Prelude.{◌≡◌, ◌<◌, ◌^◌, ◌-◌, None, Some, IfOk, map, replicate, slice_set};
 ghost use Rattle.std.specs.List.{AllByRecursion};
 ghost use Rattle.std.specs.Option.{option_map};
-ghost use Rattle.lq_value.specs.Refusal.{IsRefusedBy};
+ghost use Rattle.lq_value.specs.Refusal.{FailsOnlyForMemory};
 ghost use Rattle.lq_volume.specs.declared.change.Change.{Change};
 ghost use Rattle.lq_volume.specs.State.{State};
 ghost use Rattle.lq_desk.specs.Slot.{slot_of, slot_after, filled, noticed};
@@ -61,7 +61,7 @@ impl Model for Slots {
 impl Slots {
     /// 64 free slots. Refused: `NoMemory`.
     pub fn new(alloc: Global) -> Result<Slots, Refusal>
-        ensures refused { IsRefusedBy result None }
+        ensures refused { FailsOnlyForMemory result }
         ensures slots { IfOk result (λ slots. slots ≡ replicate 64 None) }
     {
         Ok(Slots {
@@ -100,7 +100,7 @@ impl Slots {
     /// slot that has messages.
     pub fn ready(&mut self, planned: &Planned<'_>) -> Result<u64, Refusal>
         requires few { AllByRecursion (IsFew (2 ^ 63 - 1)) (map (option_map slot_of) self.old) }
-        ensures refused { IsRefusedBy result None }
+        ensures refused { FailsOnlyForMemory result }
         ensures told { IfOk result (λ told.
             AreReady planned.now.before planned.now.change told self.new) }
         ensures kept { map (option_map slot_of) self.new ≡ map (option_map slot_of) self.old }

@@ -1,6 +1,6 @@
 //! The query of a subscription, and what is found of it once.
-ghost use Rattle.std.specs.Prelude.{◌≡◌, ◌<◌, ℕ, Bool, [], not, IfNone, IfOk, IfSome, None};
-ghost use Rattle.lq_value.specs.Refusal.{IsRefusedBy};
+ghost use Rattle.std.specs.Prelude.{◌≡◌, ◌<◌, ℕ, Bool, [], not, IfNone, IfOk, IfSome};
+ghost use Rattle.lq_value.specs.Refusal.{FailsOnlyForMemory};
 ghost use Rattle.lq_predicate.specs.Names.{names_of};
 ghost use Rattle.lq_predicate.specs.Needs.{needs_attribute};
 ghost use Rattle.lq_volume.specs.State.{record_at};
@@ -55,7 +55,7 @@ impl Model for LiveQuery {
 impl LiveQuery {
     /// A copy of a predicate, with what is found of it. Refused: `NoMemory`.
     pub fn new(alloc: Global, predicate: &Predicate) -> Result<LiveQuery, Refusal>
-        ensures refused { IsRefusedBy result None }
+        ensures refused { FailsOnlyForMemory result }
         ensures value { IfOk result (λ query. query ≡ predicate.now) }
     {
         let names = names(alloc, predicate)?;

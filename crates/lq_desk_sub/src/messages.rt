@@ -1,7 +1,7 @@
 //! The messages of a subscription: those held, and behind them those made ready.
-ghost use Rattle.std.specs.Prelude.{◌≡◌, ◌+◌, ◌<◌, ◌≤◌, ◌^◌, [], ◌∷◌, ◌++◌, length, take, vec_len, None, Some, true, false, OnOk, OnErr, MatchOption};
+ghost use Rattle.std.specs.Prelude.{◌≡◌, ◌+◌, ◌<◌, ◌≤◌, ◌^◌, [], ◌∷◌, ◌++◌, length, take, vec_len, Some, true, false, OnOk, OnErr, MatchOption};
 ghost use Rattle.std.specs.VecDeque.{deque_len, deque_capacity};
-ghost use Rattle.lq_value.specs.Refusal.{IsRefusedBy};
+ghost use Rattle.lq_value.specs.Refusal.{FailsOnlyForMemory};
 ghost use Rattle.lq_update.specs.Updates.{step_of};
 
 use lq_update::{MAX_STEP, Matches, Message};
@@ -99,7 +99,7 @@ impl Messages {
         moved: bool,
     ) -> Result<(), Refusal>
         requires { first_seq + 2 < 2 ^ 64 }
-        ensures refused { IsRefusedBy result None }
+        ensures refused { FailsOnlyForMemory result }
         ensures ok { OnOk result (self.new ≡ record self.old {
           ready = step_of matches.now.predicate.now moved matches.now.planned.now.before
               matches.now.planned.now.change first_seq;
@@ -130,7 +130,7 @@ impl Messages {
         moved: bool,
     ) -> Result<(), Refusal>
         requires { first_seq + 2 < 2 ^ 64 }
-        ensures refused { IsRefusedBy result None }
+        ensures refused { FailsOnlyForMemory result }
         ensures ok { OnOk result (self.new ≡ record self.old {
           ready = step_of matches.now.predicate.now moved matches.now.planned.now.before
               matches.now.planned.now.change first_seq;

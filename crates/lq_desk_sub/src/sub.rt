@@ -1,6 +1,6 @@
 //! One subscription.
-ghost use Rattle.std.specs.Prelude.{◌≡◌, ◌+◌, ◌<◌, ◌^◌, [], length, is_some, false, None, Some, IfOk, IsTrue, IfSome};
-ghost use Rattle.lq_value.specs.Refusal.{IsRefusedBy};
+ghost use Rattle.std.specs.Prelude.{◌≡◌, ◌+◌, ◌<◌, ◌^◌, [], length, is_some, false, Some, IfOk, IsTrue, IfSome};
+ghost use Rattle.lq_value.specs.Refusal.{FailsOnlyForMemory};
 
 use crate::live_query::LiveQuery;
 use crate::messages::Messages;
@@ -81,7 +81,7 @@ impl Sub {
         backlog: u64,
         moved: bool,
     ) -> Result<Sub, Refusal>
-        ensures refused { IsRefusedBy result None }
+        ensures refused { FailsOnlyForMemory result }
         ensures value { IfOk result (λ s. s ≡ record {
           held = opened_with predicate.now moved at backlog;
           ready = [];

@@ -1,6 +1,6 @@
 //! What a change does to a subscription: its messages are made ready, and then held.
-ghost use Rattle.std.specs.Prelude.{◌≡◌, ◌<◌, ◌^◌, length, nat_lt, None, IfOk, OnOk, OnErr, IsTrue};
-ghost use Rattle.lq_value.specs.Refusal.{IsRefusedBy};
+ghost use Rattle.std.specs.Prelude.{◌≡◌, ◌<◌, ◌^◌, length, nat_lt, IfOk, OnOk, OnErr, IsTrue};
+ghost use Rattle.lq_value.specs.Refusal.{FailsOnlyForMemory};
 ghost use Rattle.lq_volume.specs.State.{record_at};
 ghost use Rattle.lq_volume.specs.Change.{after, node_of, IsLawful};
 ghost use Rattle.lq_update.specs.Touched.{is_match};
@@ -23,7 +23,7 @@ impl Sub {
         requires few { self.old.held.sent < 2 ^ 63 }
         requires live { IsTrue (is_live self.old.held) }
         requires lawful { IsLawful volume.now change.now }
-        ensures refused { IsRefusedBy result None }
+        ensures refused { FailsOnlyForMemory result }
         ensures ok { OnOk result (self.new ≡ prepared volume.now change.now self.old) }
         ensures err { OnErr result (self.new ≡ self.old) }
     {
@@ -40,7 +40,7 @@ impl Sub {
     pub fn ready_planned(&mut self, planned: &Planned<'_>) -> Result<bool, Refusal>
         requires few { self.old.held.sent < 2 ^ 63 }
         requires live { IsTrue (is_live self.old.held) }
-        ensures refused { IsRefusedBy result None }
+        ensures refused { FailsOnlyForMemory result }
         ensures any { IfOk result (λ any. any ≡ nat_lt 0 (length self.new.ready)) }
         ensures ok { OnOk result
             (self.new ≡ prepared planned.now.before planned.now.change self.old) }

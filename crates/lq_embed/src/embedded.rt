@@ -1,6 +1,6 @@
 //! An embedded session.
-ghost use Rattle.std.specs.Prelude.{◌≡◌, None, IfOk};
-ghost use Rattle.lq_value.specs.Refusal.{IsRefusedBy};
+ghost use Rattle.std.specs.Prelude.{◌≡◌, IfOk};
+ghost use Rattle.lq_value.specs.Refusal.{FailsOnlyForMemory};
 ghost use Rattle.lq_desk.specs.Reply.{answer_of};
 ghost use Rattle.lq_script_desk.specs.Keeps.{keeps};
 ghost use Rattle.lq_script_request.specs.Asked.{asked};
@@ -51,7 +51,7 @@ impl Drop for Embedded {
 impl Embedded {
     /// A session over a volume with the root alone. Refused: `NoMemory`.
     pub fn start(alloc: Global) -> Result<Embedded, Refusal>
-        ensures refused { IsRefusedBy result None }
+        ensures refused { FailsOnlyForMemory result }
         ensures value { IfOk result (λ embedded. holds embedded ≡ first_state) }
     {
         Ok(Embedded {

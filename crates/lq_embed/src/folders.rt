@@ -1,6 +1,6 @@
 //! A folder's entries, and paths.
-ghost use Rattle.std.specs.Prelude.{◌≡◌, ◌++◌, ◌∷◌, None, IfOk, OnOk};
-ghost use Rattle.lq_value.specs.Refusal.{IsRefusedBy};
+ghost use Rattle.std.specs.Prelude.{◌≡◌, ◌++◌, ◌∷◌, IfOk, OnOk};
+ghost use Rattle.lq_value.specs.Refusal.{FailsOnlyForMemory};
 ghost use Rattle.lq_embed.specs.Folders.{Lists, Paths, path_text};
 ghost use Rattle.lq_embed.specs.State.{holds};
 
@@ -52,7 +52,7 @@ impl Embedded {
 
 // The text of a path.
 fn text_of(alloc: Global, names: &[Name]) -> Result<Vec<u8>, Refusal>
-    ensures refused { IsRefusedBy result None }
+    ensures refused { FailsOnlyForMemory result }
     ensures value { IfOk result (λ text. text.items ≡ path_text names.now) }
 {
     let mut text = Vec::new(alloc);
@@ -68,7 +68,7 @@ fn text_of(alloc: Global, names: &[Name]) -> Result<Vec<u8>, Refusal>
 
 // Appends a name, with `/` before it.
 fn append_name(text: &mut Vec<u8>, name: &Name) -> Result<(), Refusal>
-    ensures refused { IsRefusedBy result None }
+    ensures refused { FailsOnlyForMemory result }
     ensures ok { OnOk result (text.new.items ≡ text.old.items ++ (47 ∷ name.now)) }
 {
     text.push(SLASH)?;

@@ -1,6 +1,6 @@
 //! A server from its beginning to its end: one thread makes changes, another reads the updates.
-ghost use Rattle.std.specs.Prelude.{◌≡◌, IfOk, IfErr, None};
-ghost use Rattle.lq_value.specs.Refusal.{IsRefusedBy};
+ghost use Rattle.std.specs.Prelude.{◌≡◌, IfOk, IfErr};
+ghost use Rattle.lq_value.specs.Refusal.{FailsOnlyForMemory};
 ghost use Rattle.lq_server.specs.Own.{IsOwn};
 ghost use Rattle.lq_server.specs.Retired.{IsRetired};
 ghost use Rattle.lq_model.specs.Followed.{AreRefused, GoesOut, IsFollowRefused, IsFollowed};
@@ -119,7 +119,7 @@ impl Work for Reads {
 
     ghost can = { λ reads board. (reads.reader.seat.board ≡ board) × IsOwn reads.reader };
 
-    ghost gives = { λ reads _ given. IfOk given (GoesOut reads.reader) × IsRefusedBy given None };
+    ghost gives = { λ reads _ given. IfOk given (GoesOut reads.reader) × FailsOnlyForMemory given };
 
     fn work<N: Named, R: Wait>(self, rt: &R, server: &Server<N>) -> Result<Reader, Refusal> {
         let Reads { reader, reads } = self;
@@ -152,7 +152,7 @@ fn read_out<N: Named, R: Wait>(
 ) -> Result<Reader, Refusal>
     requires { (reader.seat.board ≡ N.board) × IsOwn reader }
     ensures ok { IfOk result (GoesOut reader) }
-    ensures refused { IsRefusedBy result None }
+    ensures refused { FailsOnlyForMemory result }
 {
     for _ in 0..reads {
         reader.read(rt)?;

@@ -1,6 +1,6 @@
 //! The attributes of a predicate: their names, and whether it needs one.
-ghost use Rattle.std.specs.Prelude.{◌≡◌, None, IfOk};
-ghost use Rattle.lq_value.specs.Refusal.{IsRefusedBy};
+ghost use Rattle.std.specs.Prelude.{◌≡◌, IfOk};
+ghost use Rattle.lq_value.specs.Refusal.{FailsOnlyForMemory};
 ghost use Rattle.lq_predicate_tree.specs.Names.{names_of};
 ghost use Rattle.lq_predicate_tree.specs.Needs.{needs_attribute};
 
@@ -11,7 +11,7 @@ use std::alloc::Global;
 /// The names of the attributes that the predicate compares: each once, in the order of first use
 /// from the left. Refused: `NoMemory`.
 pub fn names(alloc: Global, predicate: &Predicate) -> Result<Vec<AttrName>, Refusal>
-    ensures refused { IsRefusedBy result None }
+    ensures refused { FailsOnlyForMemory result }
     ensures value { IfOk result (λ names. names.items ≡ names_of predicate.now) }
 {
     let mut names = Vec::new(alloc);

@@ -1,7 +1,7 @@
 //! Writing predicates.
-ghost use Rattle.std.specs.Prelude.{◌≡◌, None, IfOk, IsTrue};
+ghost use Rattle.std.specs.Prelude.{◌≡◌, IfOk, IsTrue};
 ghost use Rattle.std.specs.String.{string_bytes};
-ghost use Rattle.lq_value.specs.Refusal.{IsRefusedBy};
+ghost use Rattle.lq_value.specs.Refusal.{FailsOnlyForMemory};
 ghost use Rattle.lq_predicate_formula.specs.Canonical.{canonical};
 ghost use Rattle.lq_predicate_formula.specs.Faults.{Reads};
 ghost use Rattle.lq_predicate_tree.specs.Limits.{is_predicate};
@@ -20,7 +20,7 @@ pub fn write(alloc: Global, predicate: &Predicate) -> Result<String, Refusal>
     ensures valid { IsTrue (is_predicate predicate.now) }
     ensures value { IfOk result (λ text. string_bytes text ≡ canonical predicate.now) }
     ensures reads { IfOk result (λ text. Reads (string_bytes text) predicate.now) }
-    ensures refused { IsRefusedBy result None }
+    ensures refused { FailsOnlyForMemory result }
 {
     canonical_is_read();
     let mut out = String::new(alloc);

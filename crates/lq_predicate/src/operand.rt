@@ -1,7 +1,7 @@
 //! A text on the stack.
-ghost use Rattle.std.specs.Prelude.{◌≡◌, None, IfOk, IfSome};
+ghost use Rattle.std.specs.Prelude.{◌≡◌, IfOk, IfSome};
 ghost use Rattle.std.specs.Option.{option_copied};
-ghost use Rattle.lq_value.specs.Refusal.{IsRefusedBy};
+ghost use Rattle.lq_value.specs.Refusal.{FailsOnlyForMemory};
 
 use lq_predicate_formula::patterns_are_good;
 use lq_value::{Pattern, Refusal, Text};
@@ -37,7 +37,7 @@ impl Operand {
 
     /// The operand with this text. Refused: `NoMemory`.
     pub fn read(alloc: Global, text: &str) -> Result<Operand, Refusal>
-        ensures refused { IsRefusedBy result None }
+        ensures refused { FailsOnlyForMemory result }
         ensures value { IfOk result (λ operand. operand ≡ text.now) }
     {
         patterns_are_good();

@@ -1,6 +1,6 @@
 //! The predicate.
-ghost use Rattle.std.specs.Prelude.{◌≡◌, ◌≤◌, ◌∷◌, [], None, IfOk, OnErr, IsTrue};
-ghost use Rattle.lq_value.specs.Refusal.{IsRefusedBy};
+ghost use Rattle.std.specs.Prelude.{◌≡◌, ◌≤◌, ◌∷◌, [], IfOk, OnErr, IsTrue};
+ghost use Rattle.lq_value.specs.Refusal.{FailsOnlyForMemory};
 ghost use Rattle.lq_value.specs.Compare.{suits};
 
 use lq_predicate_tree::{Tree, fit_joined, fits_not};
@@ -64,7 +64,7 @@ impl Predicate {
 
     /// A copy of this predicate. Refused: `NoMemory`.
     pub fn copy(&self) -> Result<Predicate, Refusal>
-        ensures refused { IsRefusedBy result None }
+        ensures refused { FailsOnlyForMemory result }
         ensures value { IfOk result (λ copy. copy ≡ self.now) }
     {
         let tree = self.tree.copy(self.alloc)?;
@@ -80,7 +80,7 @@ impl Predicate {
     /// greater. Refused otherwise: `NoMemory`.
     pub fn not(&self) -> Result<Option<Predicate>, Refusal>
         ensures value { IfOk result (λ made. made ≡ if_within (Not self.now)) }
-        ensures refused { IsRefusedBy result None }
+        ensures refused { FailsOnlyForMemory result }
         ensures err { OnErr result (IsTrue (is_within (Not self.now))) }
     {
         let tree = self.tree();
@@ -98,7 +98,7 @@ impl Predicate {
     pub fn both(&self, other: &Predicate) -> Result<Option<Predicate>, Refusal>
         ensures value { IfOk result
             (λ made. made ≡ if_within (And (queries (self.now ∷ other.now ∷ [])))) }
-        ensures refused { IsRefusedBy result None }
+        ensures refused { FailsOnlyForMemory result }
         ensures err { OnErr result
             (IsTrue (is_within (And (queries (self.now ∷ other.now ∷ []))))) }
     {
@@ -116,7 +116,7 @@ impl Predicate {
     pub fn either(&self, other: &Predicate) -> Result<Option<Predicate>, Refusal>
         ensures value { IfOk result
             (λ made. made ≡ if_within (Or (queries (self.now ∷ other.now ∷ [])))) }
-        ensures refused { IsRefusedBy result None }
+        ensures refused { FailsOnlyForMemory result }
         ensures err { OnErr result
             (IsTrue (is_within (Or (queries (self.now ∷ other.now ∷ []))))) }
     {
@@ -129,7 +129,7 @@ impl Predicate {
 
     // The trees of both predicates, in a list.
     fn beside(&self, other: &Predicate) -> Result<Vec<Tree>, Refusal>
-        ensures refused { IsRefusedBy result None }
+        ensures refused { FailsOnlyForMemory result }
         ensures value { IfOk result (λ parts. parts.items ≡ self.now ∷ other.now ∷ []) }
     {
         let mut parts = Vec::new(self.alloc);

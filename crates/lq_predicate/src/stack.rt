@@ -1,7 +1,7 @@
 //! Builds predicates from pushes in postfix order.
 ghost use Rattle.std.specs.Prelude.{◌≡◌, ◌∷◌, ◌+◌, ◌<◌, ◌^◌, Some, None, IfOk, IfErr, OnOk, OnErr};
 ghost use Rattle.std.specs.Fmt.{decimal, signed_decimal};
-ghost use Rattle.lq_value.specs.Refusal.{IsRefusedBy};
+ghost use Rattle.lq_value.specs.Refusal.{FailsOnlyForMemory, IsRefusedBy};
 ghost use Rattle.lq_predicate.specs.Stacked.{Stacked, new_stack};
 ghost use Rattle.lq_predicate.specs.Stack.{pushed, attr_pushed, text_pushed, only_part, refusal_at};
 
@@ -184,7 +184,7 @@ impl Stack {
     fn push(&mut self, item: StackItem) -> Result<(), Refusal>
         requires { self.old.pushes + 1 < 2 ^ 64 }
         ensures ok { OnOk result (pushed self.old (item ∷ self.old.items) ≡ Some self.new) }
-        ensures refused { IsRefusedBy result None }
+        ensures refused { FailsOnlyForMemory result }
         ensures err { OnErr result (self.new ≡ self.old) }
     {
         self.items.push(item)?;

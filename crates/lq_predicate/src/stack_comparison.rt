@@ -1,7 +1,7 @@
 //! The comparisons that a stack's operators make.
-ghost use Rattle.std.specs.Prelude.{◌≡◌, ◌++◌, ℕ, List, None, IfOk, OnErr, IsSome, IsTrue, option_and_then};
+ghost use Rattle.std.specs.Prelude.{◌≡◌, ◌++◌, ℕ, List, IfOk, OnErr, IsSome, IsTrue, option_and_then};
 ghost use Rattle.std.specs.Str.{chars};
-ghost use Rattle.lq_value.specs.Refusal.{IsRefusedBy};
+ghost use Rattle.lq_value.specs.Refusal.{FailsOnlyForMemory};
 ghost use Rattle.lq_value.specs.Compare.{suits};
 ghost use Rattle.lq_value.specs.Pattern.{plain_elements};
 ghost use Rattle.lq_value_pattern.specs.declared.element.Element.{Element};
@@ -28,7 +28,7 @@ pub(crate) fn compared(
 ) -> Result<Option<Predicate>, Refusal>
     ensures value { IfOk result
         (λ made. made ≡ option_and_then if_within (compared op attr.now text.now)) }
-    ensures refused { IsRefusedBy result None }
+    ensures refused { FailsOnlyForMemory result }
     ensures err { OnErr result
         (IsSome (option_and_then if_within (compared op attr.now text.now))) }
 {
@@ -56,7 +56,7 @@ fn matched(
     requires { (elements : List Element) → IsTrue (suits (literal.Pattern elements) op) }
     ensures value { IfOk result
         (λ made. made ≡ option_and_then if_within (compared_if op attr.now (pattern_in text.now))) }
-    ensures refused { IsRefusedBy result None }
+    ensures refused { FailsOnlyForMemory result }
     ensures err { OnErr result
         (IsSome (option_and_then if_within (compared_if op attr.now (pattern_in text.now)))) }
 {
@@ -75,7 +75,7 @@ fn ordered(alloc: Global, op: Op, attr: &AttrName, text: &str) -> Result<Option<
     requires { (bytes : List ℕ) → IsTrue (suits (literal.Plain bytes) op) }
     ensures value { IfOk result
         (λ made. made ≡ if_within (Compare attr.now op (literal.Plain text.now))) }
-    ensures refused { IsRefusedBy result None }
+    ensures refused { FailsOnlyForMemory result }
     ensures err { OnErr result
         (IsSome (if_within (Compare attr.now op (literal.Plain text.now)))) }
 {
@@ -96,7 +96,7 @@ fn found(
 ) -> Result<Option<Predicate>, Refusal>
     ensures value { IfOk result (λ made. made
         ≡ if_within (Compare attr.now op.Eq (literal.Pattern (starred before text.now behind)))) }
-    ensures refused { IsRefusedBy result None }
+    ensures refused { FailsOnlyForMemory result }
     ensures err { OnErr result (IsSome
         (if_within (Compare attr.now op.Eq (literal.Pattern (starred before text.now behind))))) }
 {
@@ -109,7 +109,7 @@ fn found(
 
 // The characters of a text as plain ones, with a star before them, after them or both.
 fn starred(alloc: Global, before: bool, text: &str, behind: bool) -> Result<Pattern, Refusal>
-    ensures refused { IsRefusedBy result None }
+    ensures refused { FailsOnlyForMemory result }
     ensures value { IfOk result (λ pattern. pattern ≡ starred before text.now behind) }
 {
     let mut elements = Vec::new(alloc);
@@ -120,7 +120,7 @@ fn starred(alloc: Global, before: bool, text: &str, behind: bool) -> Result<Patt
 }
 
 fn push_star_if(wanted: bool, elements: &mut Vec<Element>) -> Result<(), Refusal>
-    ensures refused { IsRefusedBy result None }
+    ensures refused { FailsOnlyForMemory result }
     ensures value { IfOk result (λ _. elements.new.items ≡ elements.old.items ++ star_if wanted) }
 {
     if wanted {
@@ -130,7 +130,7 @@ fn push_star_if(wanted: bool, elements: &mut Vec<Element>) -> Result<(), Refusal
 }
 
 fn push_plain(text: &str, elements: &mut Vec<Element>) -> Result<(), Refusal>
-    ensures refused { IsRefusedBy result None }
+    ensures refused { FailsOnlyForMemory result }
     ensures value { IfOk result
         (λ _. elements.new.items ≡ elements.old.items ++ plain_elements (chars text.now)) }
 {

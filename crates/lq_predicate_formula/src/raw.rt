@@ -1,7 +1,7 @@
 //! Names of attributes and literals, from their raw texts.
-ghost use Rattle.std.specs.Prelude.{◌≡◌, Some, None, IfOk, IfSome, IfNone, is_some, false, true, length};
+ghost use Rattle.std.specs.Prelude.{◌≡◌, Some, IfOk, IfSome, IfNone, is_some, false, true, length};
 ghost use Rattle.std.specs.String.{string_bytes};
-ghost use Rattle.lq_value.specs.Refusal.{IsRefusedBy};
+ghost use Rattle.lq_value.specs.Refusal.{FailsOnlyForMemory, IsRefusedBy};
 ghost use Rattle.lq_predicate_formula.specs.Limits.{IsGoodBehind};
 ghost use Rattle.lq_predicate_formula.specs.Literals.{has_no_nul, literal_of, literal_refusal, name_of, name_refusal, takes_pattern as patterned, unescaped};
 
@@ -93,7 +93,7 @@ pub(crate) fn count_unescaped(bytes: &[u8]) -> Option<usize>
 
 // The text without the `\` before each escaped character.
 fn unescape(alloc: Global, raw: &str) -> Result<String, Refusal>
-    ensures refused { IsRefusedBy result None }
+    ensures refused { FailsOnlyForMemory result }
     ensures value { IfOk result (λ text. string_bytes text ≡ unescaped false raw.now) }
 {
     let mut text = String::new(alloc);

@@ -1,11 +1,11 @@
 //! Writes comparisons as canonical text.
-ghost use Rattle.std.specs.Prelude.{encode_utf8, ◌≡◌, ◌++◌, ◌∷◌, [], None, IfOk, true};
+ghost use Rattle.std.specs.Prelude.{encode_utf8, ◌≡◌, ◌++◌, ◌∷◌, [], IfOk, true};
 ghost use Rattle.std.specs.List.{list_all};
 ghost use Rattle.std.specs.String.{string_bytes};
 ghost use Rattle.std.specs.Str.{chars, encode_utf8_all};
 ghost use Rattle.lq_value.specs.Elements.{elements_shown};
 ghost use Rattle.lq_value.specs.Pattern.{plain_elements};
-ghost use Rattle.lq_value.specs.Refusal.{IsRefusedBy};
+ghost use Rattle.lq_value.specs.Refusal.{FailsOnlyForMemory};
 ghost use Rattle.lq_predicate_formula.specs.Query.{Compare};
 ghost use Rattle.lq_predicate_formula.specs.Canonical.{attr_then, canonical, element_then, in_set_then, is_bare_byte, item_then, items_then, literal_text, op_text, pattern_text, plain_then, quoted};
 
@@ -19,7 +19,7 @@ pub fn put_comparison(
     literal: &Literal,
     out: &mut String,
 ) -> Result<(), Refusal>
-    ensures refused { IsRefusedBy result None }
+    ensures refused { FailsOnlyForMemory result }
     ensures value { IfOk result (λ _. string_bytes out.new
         ≡ string_bytes out.old ++ canonical (Compare attr.now op literal.now)) }
 {
@@ -47,7 +47,7 @@ fn op_text(op: Op) -> &'static str
 
 // Appends an attribute, without marks if each of its bytes may stand without them.
 fn put_attr(attr: &AttrName, out: &mut String) -> Result<(), Refusal>
-    ensures refused { IsRefusedBy result None }
+    ensures refused { FailsOnlyForMemory result }
     ensures value { IfOk result
         (λ _. string_bytes out.new ≡ string_bytes out.old ++ attr_then attr.now []) }
 {
@@ -76,7 +76,7 @@ pub(crate) fn is_bare_byte(byte: u8) -> bool
 
 // Appends a text with `\` before each `\` and `"`.
 fn put_quoted(text: &str, out: &mut String) -> Result<(), Refusal>
-    ensures refused { IsRefusedBy result None }
+    ensures refused { FailsOnlyForMemory result }
     ensures value { IfOk result
         (λ _. string_bytes out.new ≡ string_bytes out.old ++ quoted text.now) }
 {
@@ -88,7 +88,7 @@ fn put_quoted(text: &str, out: &mut String) -> Result<(), Refusal>
 
 #[tactic(auto, using(crate::proofs::WritingLemmas::quoted_clear))]
 fn put_quoted_char(c: char, out: &mut String) -> Result<(), Refusal>
-    ensures refused { IsRefusedBy result None }
+    ensures refused { FailsOnlyForMemory result }
     ensures value { IfOk result
         (λ _. string_bytes out.new ≡ string_bytes out.old ++ quoted (encode_utf8 c)) }
 {
@@ -107,7 +107,7 @@ fn put_quoted_char(c: char, out: &mut String) -> Result<(), Refusal>
 }
 
 fn put_literal(literal: &Literal, out: &mut String) -> Result<(), Refusal>
-    ensures refused { IsRefusedBy result None }
+    ensures refused { FailsOnlyForMemory result }
     ensures value { IfOk result
         (λ _. string_bytes out.new ≡ string_bytes out.old ++ literal_text literal.now) }
 {
@@ -118,7 +118,7 @@ fn put_literal(literal: &Literal, out: &mut String) -> Result<(), Refusal>
 }
 
 fn put_elements(elements: Elements<'_>, out: &mut String) -> Result<(), Refusal>
-    ensures refused { IsRefusedBy result None }
+    ensures refused { FailsOnlyForMemory result }
     ensures value { IfOk result (λ _. string_bytes out.new
         ≡ string_bytes out.old ++ encode_utf8_all (pattern_text (elements_shown elements.entry))) }
 {
@@ -130,7 +130,7 @@ fn put_elements(elements: Elements<'_>, out: &mut String) -> Result<(), Refusal>
 
 // Appends the pattern whose elements are the characters of a text.
 fn put_plain_text(text: &str, out: &mut String) -> Result<(), Refusal>
-    ensures refused { IsRefusedBy result None }
+    ensures refused { FailsOnlyForMemory result }
     ensures value { IfOk result (λ _. string_bytes out.new ≡ string_bytes out.old
         ++ encode_utf8_all (pattern_text (plain_elements (chars text.now)))) }
 {
@@ -141,7 +141,7 @@ fn put_plain_text(text: &str, out: &mut String) -> Result<(), Refusal>
 }
 
 fn put_list(elements: &[Element], out: &mut String) -> Result<(), Refusal>
-    ensures refused { IsRefusedBy result None }
+    ensures refused { FailsOnlyForMemory result }
     ensures value { IfOk result (λ _. string_bytes out.new
         ≡ string_bytes out.old ++ encode_utf8_all (pattern_text elements.now)) }
 {
@@ -152,7 +152,7 @@ fn put_list(elements: &[Element], out: &mut String) -> Result<(), Refusal>
 }
 
 fn put_element(element: &Element, out: &mut String) -> Result<(), Refusal>
-    ensures refused { IsRefusedBy result None }
+    ensures refused { FailsOnlyForMemory result }
     ensures value { IfOk result (λ _. string_bytes out.new
         ≡ string_bytes out.old ++ encode_utf8_all (element_then element.now [])) }
 {
@@ -173,7 +173,7 @@ fn put_element(element: &Element, out: &mut String) -> Result<(), Refusal>
 
 // Appends a plain character, with `\` before one of `*`, `?`, `[`, `\` and `"`.
 fn put_plain(c: char, out: &mut String) -> Result<(), Refusal>
-    ensures refused { IsRefusedBy result None }
+    ensures refused { FailsOnlyForMemory result }
     ensures value { IfOk result (λ _. string_bytes out.new
         ≡ string_bytes out.old ++ encode_utf8_all (plain_then c [])) }
 {
@@ -186,7 +186,7 @@ fn put_plain(c: char, out: &mut String) -> Result<(), Refusal>
 
 // Appends the items of a set, and its `]`.
 fn put_items(items: &[Item], out: &mut String) -> Result<(), Refusal>
-    ensures refused { IsRefusedBy result None }
+    ensures refused { FailsOnlyForMemory result }
     ensures value { IfOk result (λ _. string_bytes out.new
         ≡ string_bytes out.old ++ encode_utf8_all (items_then items.now [])) }
 {
@@ -198,7 +198,7 @@ fn put_items(items: &[Item], out: &mut String) -> Result<(), Refusal>
 }
 
 fn put_item(item: Item, out: &mut String) -> Result<(), Refusal>
-    ensures refused { IsRefusedBy result None }
+    ensures refused { FailsOnlyForMemory result }
     ensures value { IfOk result (λ _. string_bytes out.new
         ≡ string_bytes out.old ++ encode_utf8_all (item_then item [])) }
 {
@@ -214,7 +214,7 @@ fn put_item(item: Item, out: &mut String) -> Result<(), Refusal>
 
 // Appends a character in a set, with `\` before one of `]`, `[`, `\`, `^`, `-` and `"`.
 fn put_in_set(c: char, out: &mut String) -> Result<(), Refusal>
-    ensures refused { IsRefusedBy result None }
+    ensures refused { FailsOnlyForMemory result }
     ensures value { IfOk result (λ _. string_bytes out.new
         ≡ string_bytes out.old ++ encode_utf8_all (in_set_then c [])) }
 {

@@ -1,10 +1,10 @@
 //! Builds a formula's query from its tokens, from the left, with a stack of the formulas that are
 //! begun. The formula is known to read, so a token is refused only for lack of memory.
-ghost use Rattle.std.specs.Prelude.{◌≡◌, ◌≤◌, ◌<◌, ◌+◌, ◌^◌, None, Some, IfOk, IsSome};
+ghost use Rattle.std.specs.Prelude.{◌≡◌, ◌≤◌, ◌<◌, ◌+◌, ◌^◌, Some, IfOk, IsSome};
 ghost use Rattle.lq_predicate_formula.specs.Machine.{at_end, at_operand, completed, empty_frame as no_parts, after_operand, operand, said_by, start, step, weight, whole};
 ghost use Rattle.lq_predicate_formula.specs.Grammar.{nesting};
 ghost use Rattle.lq_predicate_formula.specs.TokenView.{token_of};
-ghost use Rattle.lq_value.specs.Refusal.{IsRefusedBy};
+ghost use Rattle.lq_value.specs.Refusal.{FailsOnlyForMemory};
 ghost use Rattle.lq_predicate_reader.specs.ParserView.{below_of, frame_of, state_at, state_of};
 
 use crate::validator::NESTING;
@@ -103,7 +103,7 @@ fn read_operand(
     requires taken { IsSome (at_operand (state_at below top operand room) (token_of token.now)) }
     ensures value { IfOk result (λ m. at_operand (state_at below top operand room)
         (token_of token.now) ≡ Some (state_of m)) }
-    ensures refused { IsRefusedBy result None }
+    ensures refused { FailsOnlyForMemory result }
 {
     match token {
         Token::Word(word) => {
@@ -148,7 +148,7 @@ fn read_behind_operand(
     requires taken { IsSome (at_end (state_at below top after_operand room) (token_of token.now)) }
     ensures value { IfOk result (λ m. at_end (state_at below top after_operand room)
         (token_of token.now) ≡ Some (state_of m)) }
-    ensures refused { IsRefusedBy result None }
+    ensures refused { FailsOnlyForMemory result }
 {
     match token {
         Token::Ands => {
@@ -195,7 +195,7 @@ pub(crate) fn read_token(alloc: Global, parser: Parser, token: &Token) -> Result
     requires taken { IsSome (step (state_of parser) (token_of token.now)) }
     ensures value { IfOk result
         (λ m. step (state_of parser) (token_of token.now) ≡ Some (state_of m)) }
-    ensures refused { IsRefusedBy result None }
+    ensures refused { FailsOnlyForMemory result }
 {
     let Parser {
         below,

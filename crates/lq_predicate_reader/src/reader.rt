@@ -7,7 +7,7 @@ ghost use Rattle.lq_predicate_formula.specs.Reading.{reading_of};
 ghost use Rattle.lq_predicate_formula.specs.Tokens.{bare, tokens_of};
 ghost use Rattle.lq_predicate_formula.specs.Words.{WordsAre};
 ghost use Rattle.lq_value.specs.declared.refusal.Refusal.TheVariants.{BadQuery};
-ghost use Rattle.lq_value.specs.Refusal.{IsRefusedBy};
+ghost use Rattle.lq_value.specs.Refusal.{FailsOnlyForMemory, IsRefusedBy};
 ghost use Rattle.lq_predicate_tree.specs.Limits.{is_predicate};
 ghost use Rattle.lq_predicate_reader.specs.Refusals.{fault_of, refusal_of};
 
@@ -51,7 +51,7 @@ fn build(alloc: Global, text: &str) -> Result<Tree, Refusal>
     requires { fault_of (reading_of text.now) ≡ None }
     ensures value { IfOk result (λ tree. reading_of text.now ≡ Ok tree) }
     ensures texts { OnOk result (WordsAre IsUtf8 (bare (tokens_of text.now))) }
-    ensures refused { IsRefusedBy result None }
+    ensures refused { FailsOnlyForMemory result }
 {
     let mut parser = new_parser(alloc);
     let mut cursor = Cursor {

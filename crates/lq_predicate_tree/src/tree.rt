@@ -1,6 +1,6 @@
 //! A formula's query as a tree, whether it is within the limits of a predicate or not.
-ghost use Rattle.std.specs.Prelude.{◌≡◌, ◌≤◌, None, IfOk, nat_le};
-ghost use Rattle.lq_value.specs.Refusal.{IsRefusedBy};
+ghost use Rattle.std.specs.Prelude.{◌≡◌, ◌≤◌, IfOk, nat_le};
+ghost use Rattle.lq_value.specs.Refusal.{FailsOnlyForMemory};
 ghost use Rattle.lq_predicate_formula.specs.Canonical.{comparisons, depth};
 ghost use Rattle.lq_predicate_formula.specs.Machine.{negate};
 ghost use Rattle.lq_predicate_formula.specs.Query.{Compare, both_of, either_of};
@@ -108,7 +108,7 @@ impl Tree {
     /// A copy of the tree. Refused: `NoMemory`.
     #[cycle(copy)]
     pub fn copy(&self, alloc: Global) -> Result<Tree, Refusal>
-        ensures refused { IsRefusedBy result None }
+        ensures refused { FailsOnlyForMemory result }
         ensures value { IfOk result (λ copy. copy ≡ self.now) }
     {
         let node = match &self.node {
@@ -164,7 +164,7 @@ impl Tree {
 
 #[cycle(copy)]
 fn copy_parts(alloc: Global, parts: &[Tree]) -> Result<Vec<Tree>, Refusal>
-    ensures refused { IsRefusedBy result None }
+    ensures refused { FailsOnlyForMemory result }
     ensures value { IfOk result (λ copies. copies.items ≡ parts.now) }
 {
     let mut copies = Vec::new(alloc);

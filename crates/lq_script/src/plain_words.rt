@@ -168,7 +168,7 @@ fn report_refusal<F: Sink>(alloc: Global, place: u64, faults: &mut F) -> u8
 }
 
 // Writes a fault, and answers its exit status.
-fn report_fault<F: Sink>(fault: RunFault, faults: &mut F) -> u8
+pub(crate) fn report_fault<F: Sink>(fault: RunFault, faults: &mut F) -> u8
     ensures status { result ≡ 1 }
     ensures reported { Tells (fault_line fault) (F.written faults.old) (F.written faults.new)
         (F.failed faults.new) (F.stalled faults.new) }

@@ -4,8 +4,8 @@ ghost use Rattle.lq_script_lines.specs.Outcome.{reader_log, writer_log};
 ghost use Rattle.lq_script.specs.Outcome.{IsOutcome, transcript};
 ghost use Rattle.lq_script.specs.Words.{IsThreads, texts_of};
 
-use crate::plain_words::plain_program;
-use lq_script_lines::{RunFault, Sink, Source, write_all};
+use crate::plain_words::{plain_program, report_fault};
+use lq_script_lines::{Sink, Source};
 use lq_script_threads::{OpenGate, run_threads};
 use std::alloc::Global;
 use std::sync::Wait;
@@ -42,11 +42,7 @@ pub fn program<T: Threads + Wait + Sync, R: Source, W: Sink, F: Sink>(
     }
     match run_threads(rt, alloc, reader, writer, &OpenGate) {
         Ok(()) => 0,
-        Err(fault) => {
-            // A fault there is ignored.
-            let _ = write_all(faults, line_of(fault).as_bytes());
-            1
-        }
+        Err(fault) => report_fault(fault, faults),
     }
 }
 
@@ -57,16 +53,5 @@ fn asks_threads(words: &[String]) -> bool
     match words {
         [word] => word.as_str() == "threads",
         _ => false,
-    }
-}
-
-// A fault's line on standard error.
-fn line_of(fault: RunFault) -> &'static str {
-    match fault {
-        RunFault::Read => "lq: read fault\n",
-        RunFault::Write => "lq: write fault\n",
-        RunFault::Limit => "lq: input too long\n",
-        RunFault::Memory => "lq: no memory\n",
-        RunFault::Thread => "lq: no thread\n",
     }
 }

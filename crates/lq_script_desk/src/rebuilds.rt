@@ -2,7 +2,7 @@
 ghost use Rattle.std.specs.Prelude.{◌≡◌, IfOk, IfErr, OnOk, OnErr};
 ghost use Rattle.std.specs.Option.{option_map};
 ghost use Rattle.lq_value.specs.declared.refusal.Refusal.TheVariants.{NoMemory};
-ghost use Rattle.lq_value.specs.Refusal.{IsRefusedBy};
+ghost use Rattle.lq_value.specs.Refusal.{FailsOnlyForMemory};
 ghost use Rattle.lq_desk.specs.Reply.{answer_of};
 ghost use Rattle.lq_script_desk.specs.Folds.{Rises, after_message, fold_at, folds_after, no_folds, with_fold};
 ghost use Rattle.lq_script_desk.specs.Turned.{Follow};
@@ -14,7 +14,7 @@ use std::alloc::Global;
 
 /// A list with no rebuilt result for any slot. Refused: `NoMemory`.
 pub fn no_rebuilds(alloc: Global) -> Result<Vec<Option<IndexedRebuild>>, Refusal>
-    ensures refused { IsRefusedBy result None }
+    ensures refused { FailsOnlyForMemory result }
     ensures none { IfOk result (λ rebuilds. rebuilds.items ≡ no_folds) }
 {
     let mut rebuilds = Vec::with_capacity(alloc, SLOTS)?;

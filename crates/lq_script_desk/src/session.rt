@@ -1,6 +1,6 @@
 //! A script's session, which answers lines: a desk, and the rebuilt result of each slot.
-ghost use Rattle.std.specs.Prelude.{◌≡◌, ◌++◌, None, IfErr, OnOk, OnErr};
-ghost use Rattle.lq_value.specs.Refusal.{IsRefusedBy};
+ghost use Rattle.std.specs.Prelude.{◌≡◌, ◌++◌, IfErr, OnOk, OnErr};
+ghost use Rattle.lq_value.specs.Refusal.{FailsOnlyForMemory};
 ghost use Rattle.lq_value.specs.declared.refusal.Refusal.TheVariants.{NoMemory};
 ghost use Rattle.lq_desk.specs.Turn.{kept_turn_outcome};
 ghost use Rattle.lq_volume.specs.Result.{result_of};
@@ -103,7 +103,7 @@ fn slot_of(event: &Event) -> u64
 // functions: a call clears places for its values, and most lines are events.
 #[inline(never)]
 fn put_refusal(out: &mut Vec<u8>, refusal: Refusal) -> Result<(), Refusal>
-    ensures refused { IsRefusedBy result None }
+    ensures refused { FailsOnlyForMemory result }
     ensures ok { OnOk result
         (out.new.items ≡ out.old.items ++ reply_text (Refuses refusal)) }
     ensures err { OnErr result (Begins out.new.items out.old.items) }
@@ -114,7 +114,7 @@ fn put_refusal(out: &mut Vec<u8>, refusal: Refusal) -> Result<(), Refusal>
 // Appends the node at a place to `out`.
 #[inline(never)]
 fn put_found(out: &mut Vec<u8>, volume: &Volume, dir: u64, name: &Name) -> Result<(), Refusal>
-    ensures refused { IsRefusedBy result None }
+    ensures refused { FailsOnlyForMemory result }
     ensures ok { OnOk result (out.new.items
         ≡ out.old.items ++ reply_text (found_in volume.now dir name.now)) }
     ensures err { OnErr result (Begins out.new.items out.old.items) }
@@ -128,7 +128,7 @@ fn put_found(out: &mut Vec<u8>, volume: &Volume, dir: u64, name: &Name) -> Resul
 // Appends the entry of a node to `out`.
 #[inline(never)]
 fn put_shown(out: &mut Vec<u8>, volume: &Volume, node: u64) -> Result<(), Refusal>
-    ensures refused { IsRefusedBy result None }
+    ensures refused { FailsOnlyForMemory result }
     ensures ok { OnOk result (out.new.items
         ≡ out.old.items ++ reply_text (shown_in volume.now node)) }
     ensures err { OnErr result (Begins out.new.items out.old.items) }
@@ -143,7 +143,7 @@ fn put_shown(out: &mut Vec<u8>, volume: &Volume, node: u64) -> Result<(), Refusa
 // Appends the entries that match a predicate to `out`.
 #[inline(never)]
 fn put_fetched(out: &mut Vec<u8>, volume: &Volume, predicate: &Predicate) -> Result<(), Refusal>
-    ensures refused { IsRefusedBy result None }
+    ensures refused { FailsOnlyForMemory result }
     ensures ok { OnOk result (out.new.items ≡ out.old.items
         ++ reply_text (Fetched volume.now.number (result_of predicate.now volume.now))) }
     ensures err { OnErr result (Begins out.new.items out.old.items) }
@@ -160,7 +160,7 @@ fn put_rebuilt(
     rebuilds: &[Option<IndexedRebuild>],
     slot: u64,
 ) -> Result<(), Refusal>
-    ensures refused { IsRefusedBy result None }
+    ensures refused { FailsOnlyForMemory result }
     ensures ok { OnOk result (out.new.items
         ≡ out.old.items ++ reply_text (rebuilt (fold_at rebuilds.now slot))) }
     ensures err { OnErr result (Begins out.new.items out.old.items) }

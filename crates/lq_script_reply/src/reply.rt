@@ -1,10 +1,10 @@
 //! The text of a reply.
 #![tactic(auto, unfolding(json::specs::Print::escape_byte))]
 
-ghost use Rattle.std.specs.Prelude.{◌≡◌, ◌++◌, codes, None, OnOk, OnErr, map, false};
+ghost use Rattle.std.specs.Prelude.{◌≡◌, ◌++◌, codes, OnOk, OnErr, map, false};
 ghost use Rattle.serde_json.specs.View.{items_of};
 ghost use Rattle.serde_json.specs.Written.{compact_text, items_text, comma_if};
-ghost use Rattle.lq_value.specs.Refusal.{IsRefusedBy};
+ghost use Rattle.lq_value.specs.Refusal.{FailsOnlyForMemory};
 ghost use Rattle.lq_script_reply.specs.Front.{Extends};
 ghost use Rattle.lq_desk.specs.Reply.{answer_of};
 ghost use Rattle.lq_script_reply.specs.Answer.{response_of};
@@ -24,7 +24,7 @@ use std::alloc::AllocError;
 
 /// Appends the text of a response and LF to `out`. Refused: `NoMemory`.
 pub fn put_reply(out: &mut Vec<u8>, response: &Response) -> Result<(), Refusal>
-    ensures refused { IsRefusedBy result None }
+    ensures refused { FailsOnlyForMemory result }
     ensures ok { OnOk result (out.new.items
         ≡ out.old.items ++ reply_text (response_of response.now)) }
     ensures err { OnErr result (Begins out.new.items out.old.items) }
@@ -54,7 +54,7 @@ pub fn put_reply(out: &mut Vec<u8>, response: &Response) -> Result<(), Refusal>
 /// The text is that of `Response::Reply`, but the reply needn't be moved into a `Response`.
 /// Refused: `NoMemory`.
 pub fn put_event_reply(out: &mut Vec<u8>, slot: u64, reply: &Reply) -> Result<(), Refusal>
-    ensures refused { IsRefusedBy result None }
+    ensures refused { FailsOnlyForMemory result }
     ensures ok { OnOk result (out.new.items
         ≡ out.old.items ++ reply_text (Answers slot (answer_of reply.now))) }
     ensures err { OnErr result (Begins out.new.items out.old.items) }

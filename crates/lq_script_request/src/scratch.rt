@@ -2,7 +2,7 @@
 ghost use Rattle.std.specs.Prelude.{◌≡◌, Some, None, IfOk, IfSome, IsTrue, if◌then◌else◌};
 ghost use Rattle.lq_value.specs.declared.refusal.Refusal.TheVariants.{BadName};
 ghost use Rattle.lq_value.specs.Name.{is_attr_name};
-ghost use Rattle.lq_value.specs.Refusal.{IsRefusedBy};
+ghost use Rattle.lq_value.specs.Refusal.{FailsOnlyForMemory, IsRefusedBy};
 
 use lq_value::{AttrName, Refusal, same_text};
 use std::alloc::Global;
@@ -69,7 +69,7 @@ impl RecentAttrs {
 
     // Keeps a name, in place of the oldest one if there is no room. Refused: `NoMemory`.
     fn keep(&mut self, name: AttrName) -> Result<(), Refusal>
-        ensures refused { IsRefusedBy result None }
+        ensures refused { FailsOnlyForMemory result }
     {
         if self.names.len() < RECENT {
             self.names.push(name)?;

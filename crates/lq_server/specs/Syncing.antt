@@ -2,7 +2,7 @@
 use Rattle.std.specs.Prelude.{◌⊎◌, ◌≡◌, ℕ, ◌<◌, ◌≤◌, Bool, true, false, List, [], ◌∷◌, ◌++◌, length, map, Option, Some, None, IsSome, IfSome, IsSomeAnd, Result, Ok, IfOk, OnErr}
 use mathlib.Core.List.{IsPrefix}
 use Rattle.lq_value.specs.declared.refusal.Refusal.{Refusal}
-use Rattle.lq_value.specs.Refusal.{IsRefusedBy}
+use Rattle.lq_value.specs.Refusal.{FailsOnlyForMemory}
 use Rattle.lq_volume.specs.Book.{Extends}
 use Rattle.lq_board.specs.Book.{IsFullBook}
 use Rattle.lq_update.specs.declared.message.Message.{Message}
@@ -108,7 +108,7 @@ pub record IsWaitingRead (old new : ReaderHold) (result : Result Read Refusal) :
   pub received : IsPrefix (received new.reading)
       (whole new.reading.port.floor (known new.reading))
   pub known : Extends (known new.reading) (known old.reading)
-  pub refused : IsRefusedBy result None
+  pub refused : FailsOnlyForMemory result
   pub gives : IfOk result (IsRead old new)
   pub fails : OnErr result (IsUnread old new)
   pub over : IsSome (mark_read old.reading) → result ≡ Ok Ended

@@ -1,6 +1,6 @@
 //! Threads over one server.
-ghost use Rattle.std.specs.Prelude.{◌≡◌, All, IfOk, None};
-ghost use Rattle.lq_value.specs.Refusal.{IsRefusedBy};
+ghost use Rattle.std.specs.Prelude.{◌≡◌, All, IfOk};
+ghost use Rattle.lq_value.specs.Refusal.{FailsOnlyForMemory};
 ghost use Rattle.lq_server.specs.Works.{AllGive};
 
 use crate::named::Named;
@@ -58,7 +58,7 @@ pub fn map_over<
     requires { All (λ w. W.can w N.board) works.items }
     ensures each { IfOk result (λ v.
         AllGive (λ w x. W.gives w N.board x) works.items v.items) }
-    ensures refused { IsRefusedBy result None }
+    ensures refused { FailsOnlyForMemory result }
 {
     Ok(map_vec(rt, works, &|work: W| work.work(rt, server))?)
 }

@@ -1,6 +1,6 @@
 //! The names of boards, and what a server begins with.
-ghost use Rattle.std.specs.Prelude.{◌≡◌, None, IfOk};
-ghost use Rattle.lq_value.specs.Refusal.{IsRefusedBy};
+ghost use Rattle.std.specs.Prelude.{◌≡◌, IfOk};
+ghost use Rattle.lq_value.specs.Refusal.{FailsOnlyForMemory};
 
 use crate::locked::Locked;
 use lq_board::Board;
@@ -82,7 +82,7 @@ impl Base {
     pub fn new(alloc: Global, volume: Volume) -> Result<Base, Refusal>
         requires first { volume.number ≡ 0 }
         ensures volume { IfOk result (λ base. base.volume ≡ volume) }
-        ensures refused { IsRefusedBy result None }
+        ensures refused { FailsOnlyForMemory result }
     {
         let (board, keeper) = Board::new(alloc, &volume)?;
         let slots = ServerSlots::new(alloc, keeper)?;

@@ -1,8 +1,8 @@
 //! The reader of a subscription.
-ghost use Rattle.std.specs.Prelude.{◌≡◌, ◌↔◌, length, IfOk, IfSome, IsSome, OnErr, Ok, None, IsTrue, true, false};
+ghost use Rattle.std.specs.Prelude.{◌≡◌, ◌↔◌, length, IfOk, IfSome, IsSome, OnErr, Ok, IsTrue, true, false};
 ghost use mathlib.Core.List.{IsPrefix};
 ghost use Rattle.std.specs.Borrow.{sem};
-ghost use Rattle.lq_value.specs.Refusal.{IsRefusedBy};
+ghost use Rattle.lq_value.specs.Refusal.{FailsOnlyForMemory};
 ghost use Rattle.lq_volume.specs.Book.{Extends, state_at};
 ghost use Rattle.lq_volume.specs.Result.{result_of};
 ghost use Rattle.lq_update.specs.Fold.{EntriesRise, folded, last_change};
@@ -116,7 +116,7 @@ impl Reader {
     /// `Empty` only where none is known to wait; `Ended` after the mark. Refused: `NoMemory`; the
     /// reader then keeps the message, and the next read gives it.
     pub fn read<R: Wait>(&mut self, rt: &R) -> Result<Read, Refusal>
-        ensures refused { IsRefusedBy result None }
+        ensures refused { FailsOnlyForMemory result }
         ensures port { IsSamePort self.old.reading.port self.new.reading.port }
         ensures known { Extends (known self.new.reading) (known self.old.reading) }
         ensures received { IsPrefix (received self.new.reading)

@@ -1,7 +1,7 @@
 //! Calls of a server on its volume.
 ghost use Rattle.std.specs.Prelude.{◌≡◌, length, IfOk, IfErr, OnOk, OnErr, None, Some, unwrap_or};
 ghost use Rattle.lq_value.specs.declared.refusal.Refusal.TheVariants.{NoMemory};
-ghost use Rattle.lq_value.specs.Refusal.{IsRefusedBy, first_refusal};
+ghost use Rattle.lq_value.specs.Refusal.{FailsOnlyForMemory, IsRefusedBy, first_refusal};
 ghost use Rattle.lq_volume.specs.Book.{Extends, state_of};
 ghost use Rattle.lq_volume.specs.Change.{refused};
 ghost use Rattle.lq_volume.specs.Result.{result_of};
@@ -74,9 +74,7 @@ impl<N: Named> Server<N> {
         ensures at { IfOk result (λ found. found.at ≡ length seat.new.book.changes) }
         ensures entries { IfOk result (λ found.
             found.entries.items ≡ result_of predicate.now (state_of seat.new.book)) }
-
-        // `NoMemory` is the only refusal.
-        ensures refused { IsRefusedBy result None }
+        ensures refused { FailsOnlyForMemory result }
     {
         self.state.lock(rt).fetch(&self.board, seat, predicate)
     }

@@ -1,6 +1,6 @@
 //! An opening under the lock.
 ghost use Rattle.std.specs.Prelude.{◌≡◌, ◌+◌, ◌<◌, ◌≤◌, length, ℕ, IfOk, IfErr, OnOk, OnErr, IfSome, IfNone, IsSome, is_none, Some, None, Err, false};
-ghost use Rattle.lq_value.specs.Refusal.{IsRefusedBy};
+ghost use Rattle.lq_value.specs.Refusal.{FailsOnlyForMemory};
 ghost use Rattle.lq_volume.specs.Book.{state_of};
 ghost use Rattle.lq_board.specs.Author.{new_author};
 ghost use Rattle.lq_board.specs.Book.{IsFullBook};
@@ -68,7 +68,7 @@ fn begin(
     requires volume { volume.now ≡ state_of keeper.now.book }
     requires full { IsFullBook keeper.now.book }
     requires port { (0 < asked.now.port) × (asked.now.port ≤ 1024) }
-    ensures refused { IsRefusedBy result None }
+    ensures refused { FailsOnlyForMemory result }
     ensures begun { IfOk result (λ r. IsBegun r.0 r.1 keeper.now.book
         asked.now.predicate.now asked.now.moved asked.now.port asked.now.backlog) }
 {
@@ -168,7 +168,7 @@ fn settle(
     requires begun { IsBegun slot reading slots.old.keeper.book slot.sub.held.query
         slot.sub.held.moved slot.places slot.sub.held.backlog }
     requires holding { SlotsStand slots.old slots.old.keeper.book }
-    ensures refused { IsRefusedBy result None }
+    ensures refused { FailsOnlyForMemory result }
     ensures err { OnErr result (AreUnchanged slots.old slots.new) }
     ensures board { slots.new.keeper.board ≡ slots.old.keeper.board }
     ensures book { slots.new.keeper.book ≡ slots.old.keeper.book }

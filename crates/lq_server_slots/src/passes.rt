@@ -1,6 +1,6 @@
 //! The two passes of a change over the slots: its messages are prepared, and then committed.
-ghost use Rattle.std.specs.Prelude.{◌≡◌, ◌<◌, ◌≤◌, ℕ, length, None, Some, is_some, OnOk};
-ghost use Rattle.lq_value.specs.Refusal.{IsRefusedBy};
+ghost use Rattle.std.specs.Prelude.{◌≡◌, ◌<◌, ◌≤◌, ℕ, length, Some, is_some, OnOk};
+ghost use Rattle.lq_value.specs.Refusal.{FailsOnlyForMemory};
 ghost use Rattle.lq_volume.specs.Book.{state_of};
 ghost use Rattle.lq_board.specs.Slot.{slot_at};
 ghost use Rattle.lq_server_slots.specs.Slots.{IsTaken, IsToFill, SlotStands, asks_of, SlotsStand, OnlyAt, IsReadyAt, AllReady, before_of, IsGrown, IsNoticed, IsServed, SlotIs, SlotsAre};
@@ -25,7 +25,7 @@ fn ready_at(
     requires place { (0 < place) × (place < 65) × (length keeper.old.slots ≡ 65) }
     requires state { planned.now.before ≡ state_of keeper.old.book }
     requires fits { SlotStands slot.old (slot_at keeper.old.slots place) keeper.old.book }
-    ensures refused { IsRefusedBy result None }
+    ensures refused { FailsOnlyForMemory result }
     ensures board { keeper.new.board ≡ keeper.old.board }
     ensures book { keeper.new.book ≡ keeper.old.book }
     ensures only { OnlyAt keeper.old.slots keeper.new.slots place }
@@ -56,7 +56,7 @@ pub(crate) fn ready_all(
     requires board { slots.old.keeper.board ≡ board.now }
     requires state { planned.now.before ≡ state_of slots.old.keeper.book }
     requires holding { SlotsStand slots.old slots.old.keeper.book }
-    ensures refused { IsRefusedBy result None }
+    ensures refused { FailsOnlyForMemory result }
     ensures board { slots.new.keeper.board ≡ slots.old.keeper.board }
     ensures book { slots.new.keeper.book ≡ slots.old.keeper.book }
     ensures openings { slots.new.openings ≡ slots.old.openings }

@@ -1,6 +1,6 @@
 //! The slots under the lock, one or all.
 ghost use Rattle.std.specs.Prelude.{◌≡◌, ◌<◌, ◌≤◌, ℕ, length, None, Some, IsSome, is_some, IfOk};
-ghost use Rattle.lq_value.specs.Refusal.{IsRefusedBy};
+ghost use Rattle.lq_value.specs.Refusal.{FailsOnlyForMemory};
 ghost use Rattle.lq_board.specs.Slot.{slot_at, counted};
 ghost use Rattle.lq_server_subscription.specs.Identity.{identity_of};
 ghost use Rattle.lq_server_subscription.specs.Standing.{SameButHeld, SameButPuts, IsStuck};
@@ -31,7 +31,7 @@ impl ServerSlots {
     /// 64 free slots, with a keeper that has no slot's seat out. Refused: `NoMemory`.
     pub fn new(alloc: Global, keeper: Keeper<Identity>) -> Result<ServerSlots, Refusal>
         requires unused { keeper.slots ≡ unused_slots }
-        ensures refused { IsRefusedBy result None }
+        ensures refused { FailsOnlyForMemory result }
         ensures keeper { IfOk result (λ slots. slots.keeper ≡ keeper) }
         ensures openings { IfOk result (λ slots. slots.openings ≡ 0) }
         ensures holding { IfOk result (λ slots. SlotsStand slots keeper.book) }
@@ -49,7 +49,7 @@ impl ServerSlots {
 
 // All slots, free.
 fn free(alloc: Global) -> Result<Vec<Option<Subscription>>, Refusal>
-    ensures refused { IsRefusedBy result None }
+    ensures refused { FailsOnlyForMemory result }
     ensures wide { IfOk result (λ slots. length slots.items ≡ 65) }
     ensures none { IfOk result (λ slots. (k : ℕ) → k < 65 → slot_in slots.items k ≡ None) }
 {

@@ -1,7 +1,7 @@
 //! Reading: the end of a subscription that takes its parcels and folds them.
 ghost use Rattle.std.specs.Prelude.{◌≡◌, [], length, IfOk, IfSome, OnErr, Ok, Some, None, is_some, IsSome, IsTrue, true, ◌↔◌};
 ghost use mathlib.Core.List.{IsPrefix};
-ghost use Rattle.lq_value.specs.Refusal.{IsRefusedBy};
+ghost use Rattle.lq_value.specs.Refusal.{FailsOnlyForMemory};
 ghost use Rattle.lq_volume.specs.Book.{Extends, state_of, state_at};
 ghost use Rattle.lq_volume.specs.Result.{result_of};
 ghost use Rattle.lq_board.specs.Book.{IsFullBook};
@@ -174,7 +174,7 @@ impl Reading {
     /// Refused: `NoMemory`; the message then stays in hand, and the next read begins with it. It
     /// may wait for a step of the other end, but not for a parcel.
     pub fn read<R: Wait>(&mut self, rt: &R) -> Result<Read, Refusal>
-        ensures refused { IsRefusedBy result None }
+        ensures refused { FailsOnlyForMemory result }
         ensures same { IsSamePort self.old.port self.new.port }
         ensures known { Extends (known self.new) (known self.old) }
         ensures received { IsPrefix (received self.new)
@@ -191,7 +191,7 @@ impl Reading {
     ///
     /// `Empty` also means that the other end is gone, which no clause says.
     pub fn read_waiting<R: Wait>(&mut self, rt: &R) -> Result<Read, Refusal>
-        ensures refused { IsRefusedBy result None }
+        ensures refused { FailsOnlyForMemory result }
         ensures same { IsSamePort self.old.port self.new.port }
         ensures known { Extends (known self.new) (known self.old) }
         ensures received { IsPrefix (received self.new)
@@ -206,7 +206,7 @@ impl Reading {
 
     // Gives the message in hand, or else the next parcel.
     fn read_by<R: Wait>(&mut self, rt: &R, waits: bool) -> Result<Read, Refusal>
-        ensures refused { IsRefusedBy result None }
+        ensures refused { FailsOnlyForMemory result }
         ensures same { IsSamePort self.old.port self.new.port }
         ensures known { Extends (known self.new) (known self.old) }
         ensures received { IsPrefix (received self.new)
@@ -241,7 +241,7 @@ impl Reading {
     #[inline(never)]
     fn read_hand(&mut self) -> Result<Read, Refusal>
         requires hand { IsSome self.old.hand }
-        ensures refused { IsRefusedBy result None }
+        ensures refused { FailsOnlyForMemory result }
         ensures same { IsSamePort self.old.port self.new.port }
         ensures known { Extends (known self.new) (known self.old) }
         ensures received { IsPrefix (received self.new)

@@ -1,6 +1,6 @@
 //! A subscription under a lock: what a change does to it, and how it ends.
-ghost use Rattle.std.specs.Prelude.{◌≡◌, ◌+◌, ◌<◌, ◌^◌, ◌⊎◌, [], ◌∷◌, length, None, true, is_none, IsSome, OnOk};
-ghost use Rattle.lq_value.specs.Refusal.{IsRefusedBy};
+ghost use Rattle.std.specs.Prelude.{◌≡◌, ◌+◌, ◌<◌, ◌^◌, ◌⊎◌, [], ◌∷◌, length, true, is_none, IsSome, OnOk};
+ghost use Rattle.lq_value.specs.Refusal.{FailsOnlyForMemory};
 ghost use Rattle.lq_volume.specs.Book.{Book, grown, state_of};
 ghost use Rattle.lq_volume.specs.Change.{IsLawful};
 ghost use Rattle.lq_board.specs.Book.{IsFullBook};
@@ -47,7 +47,7 @@ impl Drop for Subscription {
 /// Its held messages and its mark stay. Refused: `NoMemory`.
 pub fn ready(slot: &mut Subscription, planned: &Planned<'_>) -> Result<(), Refusal>
     requires few { slot.old.sub.held.sent < 2 ^ 63 }
-    ensures refused { IsRefusedBy result None }
+    ensures refused { FailsOnlyForMemory result }
     ensures held { slot.new.sub.held ≡ slot.old.sub.held }
     ensures others { SameButHeld slot.old slot.new }
     ensures first_close { slot.new.first_close ≡ slot.old.first_close }

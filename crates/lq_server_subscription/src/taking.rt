@@ -1,6 +1,6 @@
 //! Taking a parcel, and folding a message.
 ghost use Rattle.std.specs.Prelude.{◌≡◌, [], IfOk, IfSome, IfNone, OnOk, OnErr, Ok, Some, None};
-ghost use Rattle.lq_value.specs.Refusal.{IsRefusedBy, first_refusal};
+ghost use Rattle.lq_value.specs.Refusal.{FailsOnlyForMemory, first_refusal};
 ghost use Rattle.lq_update.specs.Fold.{fold_refusals, folding_after};
 ghost use Rattle.lq_port.specs.End.{IsSamePort, Loses};
 ghost use Rattle.lq_server_subscription.specs.Rule.{MayFollow};
@@ -21,7 +21,7 @@ pub(crate) fn keep(
 ) -> Result<Read, Refusal>
     requires fits { first_refusal (fold_refusals rebuild.old message) ≡ None }
     requires free { hand.old ≡ None }
-    ensures refused { IsRefusedBy result None }
+    ensures refused { FailsOnlyForMemory result }
     ensures ok { OnOk result
         ((rebuild.new ≡ folding_after rebuild.old message) × (hand.new ≡ None)) }
     ensures err { OnErr result ((rebuild.new ≡ rebuild.old) × (hand.new ≡ Some message)) }

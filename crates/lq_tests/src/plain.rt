@@ -1,7 +1,7 @@
 //! The plain body of `lq_update::step`: the difference of two whole results.
-ghost use Rattle.std.specs.Prelude.{◌≡◌, ◌+◌, ◌<◌, ◌≤◌, ◌^◌, ◌++◌, ◌==◌, length, None, IfOk, OnOk, filter, map, vec_len};
+ghost use Rattle.std.specs.Prelude.{◌≡◌, ◌+◌, ◌<◌, ◌≤◌, ◌^◌, ◌++◌, ◌==◌, length, IfOk, OnOk, filter, map, vec_len};
 ghost use Rattle.std.specs.List.{list_any};
-ghost use Rattle.lq_value.specs.Refusal.{IsRefusedBy};
+ghost use Rattle.lq_value.specs.Refusal.{FailsOnlyForMemory};
 ghost use Rattle.lq_volume.specs.Change.{after, IsLawful};
 ghost use Rattle.lq_volume.specs.Result.{result_of};
 ghost use Rattle.lq_update.specs.declared.message.Opcode.TheVariants.{Created, Moved, Removed};
@@ -29,7 +29,7 @@ pub fn step(
 ) -> Result<Vec<Message>, Refusal>
     requires lawful { IsLawful before.now change.now }
     requires room { first_seq + 2 < 2 ^ 64 }
-    ensures refused { IsRefusedBy result None }
+    ensures refused { FailsOnlyForMemory result }
     ensures messages { IfOk result (λ messages.
         messages.items ≡ step_of predicate.now moved before.now change.now first_seq) }
     ensures few { IfOk result (λ messages. vec_len messages ≤ 3) }
@@ -49,7 +49,7 @@ fn fetch_after(
     change: &Change,
 ) -> Result<Vec<Entry>, Refusal>
     requires { IsLawful before.now change.now }
-    ensures refused { IsRefusedBy result None }
+    ensures refused { FailsOnlyForMemory result }
     ensures entries { IfOk result (λ entries.
         entries.items ≡ result_of predicate.now (after before.now change.now)) }
 {
@@ -65,7 +65,7 @@ fn told_between(
     old: &[Entry],
     new: &[Entry],
 ) -> Result<Vec<(Opcode, Entry)>, Refusal>
-    ensures refused { IsRefusedBy result None }
+    ensures refused { FailsOnlyForMemory result }
     ensures value { IfOk result (λ all.
         all.items ≡ messages_of moved (missing old.now new.now) (missing new.now old.now)) }
 {
@@ -76,7 +76,7 @@ fn told_between(
 
 // The entries of one list that aren't in another.
 fn missing(alloc: Global, entries: &[Entry], others: &[Entry]) -> Result<Vec<Entry>, Refusal>
-    ensures refused { IsRefusedBy result None }
+    ensures refused { FailsOnlyForMemory result }
     ensures value { IfOk result (λ kept. kept.items ≡ missing entries.now others.now) }
 {
     let mut kept = Vec::new(alloc);
@@ -108,7 +108,7 @@ fn has_node(node: u64, entries: &[Entry]) -> bool
 }
 
 fn copy_of(alloc: Global, entry: &Entry) -> Result<Entry, Refusal>
-    ensures refused { IsRefusedBy result None }
+    ensures refused { FailsOnlyForMemory result }
     ensures value { IfOk result (λ copy. copy ≡ entry.now) }
 {
     Ok(Entry {
@@ -125,7 +125,7 @@ fn told(
     gone: &[Entry],
     come: &[Entry],
 ) -> Result<Vec<(Opcode, Entry)>, Refusal>
-    ensures refused { IsRefusedBy result None }
+    ensures refused { FailsOnlyForMemory result }
     ensures value { IfOk result (λ all. all.items ≡ messages_of moved gone.now come.now) }
 {
     let mut all = Vec::new(alloc);
@@ -144,7 +144,7 @@ fn put_removed(
     gone: &[Entry],
     come: &[Entry],
 ) -> Result<(), Refusal>
-    ensures refused { IsRefusedBy result None }
+    ensures refused { FailsOnlyForMemory result }
     ensures all { OnOk result (all.new.items
         ≡ all.old.items ++ map (λ e. (Removed, e)) (alone moved gone.now come.now)) }
 {
@@ -163,7 +163,7 @@ fn put_created(
     come: &[Entry],
     gone: &[Entry],
 ) -> Result<(), Refusal>
-    ensures refused { IsRefusedBy result None }
+    ensures refused { FailsOnlyForMemory result }
     ensures all { OnOk result (all.new.items
         ≡ all.old.items ++ map (λ e. (Created, e)) (alone moved come.now gone.now)) }
 {
@@ -181,7 +181,7 @@ fn put_moved(
     gone: &[Entry],
     come: &[Entry],
 ) -> Result<(), Refusal>
-    ensures refused { IsRefusedBy result None }
+    ensures refused { FailsOnlyForMemory result }
     ensures all { OnOk result (all.new.items ≡ all.old.items ++ moves gone.now come.now) }
 {
     for from in gone {
@@ -197,7 +197,7 @@ fn put_moves_of(
     from: &Entry,
     come: &[Entry],
 ) -> Result<(), Refusal>
-    ensures refused { IsRefusedBy result None }
+    ensures refused { FailsOnlyForMemory result }
     ensures all { OnOk result (all.new.items ≡ all.old.items
         ++ map (λ f. (Moved from.now.dir from.now.name, f))
         (filter (λ f. f.node == from.now.node) come.now)) }
@@ -211,7 +211,7 @@ fn put_moves_of(
 }
 
 fn moved_from(alloc: Global, from: &Entry) -> Result<Opcode, Refusal>
-    ensures refused { IsRefusedBy result None }
+    ensures refused { FailsOnlyForMemory result }
     ensures value { IfOk result (λ op. op ≡ Moved from.now.dir from.now.name) }
 {
     Ok(Opcode::Moved {
@@ -229,7 +229,7 @@ fn number_all(
 ) -> Result<Vec<Message>, Refusal>
     requires few { length told.items ≤ 3 }
     requires room { first_seq + 2 < 2 ^ 64 }
-    ensures refused { IsRefusedBy result None }
+    ensures refused { FailsOnlyForMemory result }
     ensures messages { IfOk result (λ messages.
         messages.items ≡ numbered first_seq change told.items) }
 {

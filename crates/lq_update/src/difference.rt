@@ -1,7 +1,7 @@
 //! What a change takes from a query's result and brings into it at its own node.
-ghost use Rattle.std.specs.Prelude.{◌≡◌, ℕ, Bool, false, [], None, IfOk};
+ghost use Rattle.std.specs.Prelude.{◌≡◌, ℕ, Bool, false, [], IfOk};
 ghost use Rattle.std.specs.Option.{option_copied};
-ghost use Rattle.lq_value.specs.Refusal.{IsRefusedBy};
+ghost use Rattle.lq_value.specs.Refusal.{FailsOnlyForMemory};
 ghost use Rattle.lq_volume.specs.Change.{after, node_of};
 ghost use Rattle.lq_volume.specs.Laws.{ChangesKeepTrees, ClobberedGo, UntouchedStay};
 ghost use Rattle.lq_update.specs.Touched.{entry_at, left_at};
@@ -84,7 +84,7 @@ pub(crate) fn copied(
     view: Option<&EntryView<'_>>,
     node: u64,
 ) -> Result<Option<Entry>, Refusal>
-    ensures refused { IsRefusedBy result None }
+    ensures refused { FailsOnlyForMemory result }
     ensures value { IfOk result (λ entry. entry ≡ entry_at node (option_copied view.entry)) }
 {
     match view {

@@ -1,7 +1,7 @@
 //! Folds one message into the entries of a result.
 ghost use Rattle.std.specs.Prelude.{◌≡◌, Some, None, IfOk, IfErr, IfSome, OnOk, OnErr, is_ok, is_some, not, if◌then◌else◌};
 ghost use Rattle.lq_value.specs.declared.refusal.Refusal.TheVariants.{Mismatch};
-ghost use Rattle.lq_value.specs.Refusal.{IsRefusedBy};
+ghost use Rattle.lq_value.specs.Refusal.{FailsOnlyForMemory, IsRefusedBy};
 ghost use Rattle.lq_update.specs.Diff.{has_node, same_entry};
 ghost use Rattle.lq_update.specs.Fold.{EntriesRise, entry_in, fits_in, folded_one, has_entry, old_entry, put_in, taken_out};
 ghost use Rattle.lq_update.specs.Place.{IsEntryAt, IsGapFor, IsTripleAt};
@@ -89,7 +89,7 @@ fn replace(
 }
 
 fn entry_of(alloc: Global, message: &Message) -> Result<Entry, Refusal>
-    ensures refused { IsRefusedBy result None }
+    ensures refused { FailsOnlyForMemory result }
     ensures value { IfOk result (λ entry. entry ≡ entry_in message.now) }
 {
     Ok(Entry {

@@ -1,6 +1,6 @@
 //! A result that is kept by folding messages into a map by node.
-ghost use Rattle.std.specs.Prelude.{◌≡◌, None, IfOk, OnOk, OnErr};
-ghost use Rattle.lq_value.specs.Refusal.{IsRefusedBy, first_refusal};
+ghost use Rattle.std.specs.Prelude.{◌≡◌, IfOk, OnOk, OnErr};
+ghost use Rattle.lq_value.specs.Refusal.{FailsOnlyForMemory, IsRefusedBy, first_refusal};
 ghost use Rattle.lq_update.specs.Fold.{EntriesRise, fold_refusals, folding_after, opened_at};
 
 use crate::latest::Latest;
@@ -44,7 +44,7 @@ impl IndexedRebuild {
     /// The entries' nodes rise strictly, as in the result of a fetch. Refused: `NoMemory`.
     pub fn new(alloc: Global, at: u64, entries: &[Entry]) -> Result<IndexedRebuild, Refusal>
         requires { EntriesRise entries.now }
-        ensures refused { IsRefusedBy result None }
+        ensures refused { FailsOnlyForMemory result }
         ensures value { IfOk result (λ rebuild. rebuild ≡ opened_at at entries.now) }
     {
         Ok(IndexedRebuild {
@@ -56,7 +56,7 @@ impl IndexedRebuild {
 
     /// A copy of the entries by rising node. Refused: `NoMemory`.
     pub fn entries(&self) -> Result<Vec<Entry>, Refusal>
-        ensures refused { IsRefusedBy result None }
+        ensures refused { FailsOnlyForMemory result }
         ensures entries { IfOk result (λ entries. entries.items ≡ self.now.entries) }
         ensures rise { EntriesRise self.now.entries }
     {

@@ -3,7 +3,7 @@ ghost use Rattle.std.specs.Prelude.{◌≡◌, None, Some, IfOk, IsSome, OnOk, O
 ghost use Rattle.std.specs.BTreeMap.{get, insert_entry};
 ghost use Rattle.std.specs.Ordering.{nat_cmp};
 ghost use Rattle.lq_value.specs.declared.refusal.Refusal.TheVariants.{Mismatch};
-ghost use Rattle.lq_value.specs.Refusal.{IsRefusedBy};
+ghost use Rattle.lq_value.specs.Refusal.{FailsOnlyForMemory, IsRefusedBy};
 ghost use Rattle.lq_update.specs.Diff.{has_node};
 ghost use Rattle.lq_update.specs.Fold.{EntriesRise, entry_in, fits_in, folded_one, has_entry, old_entry, put_in, taken_out};
 ghost use Rattle.lq_update.specs.Locations.{entries_of};
@@ -23,7 +23,7 @@ pub struct Location {
 impl Location {
     // A folder with a copy of a name.
     fn new(alloc: Global, dir: u64, name: &Name) -> Result<Location, Refusal>
-        ensures refused { IsRefusedBy result None }
+        ensures refused { FailsOnlyForMemory result }
         ensures value { IfOk result (λ location. location ≡ record { dir = dir; name = name.now }) }
     {
         Ok(Location {
@@ -36,7 +36,7 @@ impl Location {
 /// The location of each entry's node. Refused: `NoMemory`.
 pub fn locations_of(alloc: Global, entries: &[Entry]) -> Result<BTreeMap<u64, Location>, Refusal>
     requires { EntriesRise entries.now }
-    ensures refused { IsRefusedBy result None }
+    ensures refused { FailsOnlyForMemory result }
     ensures value { IfOk result (λ locations. entries_of locations.entries ≡ entries.now) }
 {
     let mut locations = BTreeMap::new(alloc);
@@ -49,7 +49,7 @@ pub fn locations_of(alloc: Global, entries: &[Entry]) -> Result<BTreeMap<u64, Lo
 
 /// The entries by rising node. Refused: `NoMemory`.
 pub fn entries_of(alloc: Global, locations: &BTreeMap<u64, Location>) -> Result<Vec<Entry>, Refusal>
-    ensures refused { IsRefusedBy result None }
+    ensures refused { FailsOnlyForMemory result }
     ensures value { IfOk result (λ entries. entries.items ≡ entries_of locations.now.entries) }
 {
     let mut entries = Vec::new(alloc);

@@ -1,8 +1,8 @@
 //! The messages of one change, by the node that it touches.
-ghost use Rattle.std.specs.Prelude.{◌≡◌, [], ◌∷◌, ◌+◌, ◌<◌, ◌≤◌, ◌^◌, ◌++◌, None, IfOk, OnOk, OnErr, vec_len};
+ghost use Rattle.std.specs.Prelude.{◌≡◌, [], ◌∷◌, ◌+◌, ◌<◌, ◌≤◌, ◌^◌, ◌++◌, IfOk, OnOk, OnErr, vec_len};
 ghost use Rattle.std.specs.Option.{option_copied};
 ghost use Rattle.std.specs.VecDeque.{deque_len, deque_capacity};
-ghost use Rattle.lq_value.specs.Refusal.{IsRefusedBy};
+ghost use Rattle.lq_value.specs.Refusal.{FailsOnlyForMemory};
 ghost use Rattle.lq_volume.specs.Change.{after, node_of, IsLawful};
 ghost use Rattle.lq_volume.specs.Result.{entry_if, entry_of};
 ghost use Rattle.lq_update.specs.Updates.{numbered, step_of};
@@ -39,7 +39,7 @@ pub fn step(
 ) -> Result<Vec<Message>, Refusal>
     requires lawful { IsLawful before.now change.now }
     requires room { first_seq + 2 < 2 ^ 64 }
-    ensures refused { IsRefusedBy result None }
+    ensures refused { FailsOnlyForMemory result }
     ensures messages { IfOk result (λ messages. messages.items
         ≡ step_of predicate.now moved before.now change.now first_seq) }
     ensures few { IfOk result (λ messages. vec_len messages ≤ 3) }
@@ -62,7 +62,7 @@ pub fn step_planned(
     moved: bool,
 ) -> Result<Vec<Message>, Refusal>
     requires room { first_seq + 2 < 2 ^ 64 }
-    ensures refused { IsRefusedBy result None }
+    ensures refused { FailsOnlyForMemory result }
     ensures messages { IfOk result (λ messages. messages.items
         ≡ step_of predicate.now moved planned.now.before planned.now.change first_seq) }
     ensures few { IfOk result (λ messages. vec_len messages ≤ 3) }
@@ -90,7 +90,7 @@ impl<'s, 'a> Matches<'s, 'a> {
     ) -> Result<(), Refusal>
         requires numbers { first_seq + 2 < 2 ^ 64 }
         requires room { deque_len messages.old + 3 ≤ deque_capacity messages.old }
-        ensures refused { IsRefusedBy result None }
+        ensures refused { FailsOnlyForMemory result }
         ensures ok { OnOk result (messages.new.items ≡ messages.old.items ++ step_of
             self.now.predicate.now moved self.now.planned.now.before self.now.planned.now.change
             first_seq) }
@@ -137,7 +137,7 @@ impl<'s, 'a> Matches<'s, 'a> {
             (after self.now.planned.now.before self.now.planned.now.change)
             self.now.planned.now.before
             (node_of self.now.planned.now.before self.now.planned.now.change) }
-        ensures refused { IsRefusedBy result None }
+        ensures refused { FailsOnlyForMemory result }
         ensures ok { OnOk result (messages.new.items ≡ messages.old.items ++ step_of
             self.now.predicate.now moved self.now.planned.now.before self.now.planned.now.change
             first_seq) }
@@ -177,7 +177,7 @@ fn put_one(
     seq: u64,
 ) -> Result<(), Refusal>
     requires { deque_len messages.old < deque_capacity messages.old }
-    ensures refused { IsRefusedBy result None }
+    ensures refused { FailsOnlyForMemory result }
     ensures ok { OnOk result (messages.new.items ≡ messages.old.items
         ++ numbered seq made.change ((op, entry_of (made.node, view.now)) ∷ [])) }
     ensures err { OnErr result (messages.new.items ≡ messages.old.items) }
@@ -197,7 +197,7 @@ fn gone_of(
     view: &EntryView<'_>,
     node: u64,
 ) -> Result<Option<Entry>, Refusal>
-    ensures refused { IsRefusedBy result None }
+    ensures refused { FailsOnlyForMemory result }
     ensures value { IfOk result (λ gone. gone ≡ entry_if predicate.now (node, view.now)) }
 {
     if holds(predicate, view) {

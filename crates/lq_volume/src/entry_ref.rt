@@ -1,7 +1,7 @@
 //! One entry of a volume, as a look-up gives it.
-ghost use Rattle.std.specs.Prelude.{◌≡◌, None, IfOk, length, slice_get};
+ghost use Rattle.std.specs.Prelude.{◌≡◌, IfOk, length, slice_get};
 ghost use Rattle.std.specs.Option.{option_map};
-ghost use Rattle.lq_value.specs.Refusal.{IsRefusedBy};
+ghost use Rattle.lq_value.specs.Refusal.{FailsOnlyForMemory};
 
 use lq_value::{AttrName, Kind, Name, Refusal, Value, View};
 use lq_volume_entries::StoredRecord;
@@ -111,7 +111,7 @@ impl<'a> EntryRef<'a> {
 
     /// A copy of the whole entry. Refused: `NoMemory`.
     pub(crate) fn listing(&self, alloc: Global) -> Result<Listing, Refusal>
-        ensures refused { IsRefusedBy result None }
+        ensures refused { FailsOnlyForMemory result }
         ensures value { IfOk result (λ listing. listed listing ≡ self.now) }
     {
         Ok(Listing {

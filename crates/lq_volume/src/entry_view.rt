@@ -1,7 +1,7 @@
 //! An entry as a predicate sees it.
-ghost use Rattle.std.specs.Prelude.{◌≡◌, ◌<◌, ◌^◌, Some, None, IfOk, IsSome};
+ghost use Rattle.std.specs.Prelude.{◌≡◌, ◌<◌, ◌^◌, Some, IfOk, IsSome};
 ghost use Rattle.std.specs.Option.{option_copied};
-ghost use Rattle.lq_value.specs.Refusal.{IsRefusedBy};
+ghost use Rattle.lq_value.specs.Refusal.{FailsOnlyForMemory};
 ghost use Rattle.lq_volume_attributes.specs.Attributes.{value_of};
 ghost use Rattle.lq_volume.specs.EntryView.{view_of, IsEntryView};
 
@@ -113,7 +113,7 @@ impl<'a> EntryView<'a> {
 
     /// The entry's triple of folder, name and this node. Refused: `NoMemory`.
     pub fn entry(&self, alloc: Global, node: u64) -> Result<Entry, Refusal>
-        ensures refused { IsRefusedBy result None }
+        ensures refused { FailsOnlyForMemory result }
         ensures value { IfOk result (λ entry. entry ≡ entry_of (node, self.now)) }
     {
         Ok(Entry {

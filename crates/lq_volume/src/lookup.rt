@@ -10,7 +10,7 @@ use lq_value::{Entry, Kind, Name, Refusal};
 use lq_volume_entries::{StoredRecord, Test};
 
 impl Volume {
-    ghost use Rattle.lq_value.specs.Refusal.{IsRefusedBy, first_refusal};
+    ghost use Rattle.lq_value.specs.Refusal.{FailsOnlyForMemory, IsRefusedBy, first_refusal};
     ghost use Rattle.lq_volume.specs.State.{root, record_at, node_in};
     ghost use Rattle.lq_volume.specs.Lookup.{find_refusals, entry_refusals, children_refusals, path_refusals, listed};
     ghost use Rattle.lq_volume_entries.specs.Folder.{AreChildren, Leads};
@@ -101,7 +101,7 @@ impl Volume {
     ///
     /// Refused: `NoMemory`. It changes nothing.
     pub fn fetch(&self, predicate: &Predicate) -> Result<Vec<Entry>, Refusal>
-        ensures refused { IsRefusedBy result None }
+        ensures refused { FailsOnlyForMemory result }
         ensures entries { IfOk result (λ entries.
             entries.items ≡ result_of predicate.now self.now) }
     {

@@ -61,7 +61,7 @@ impl Model for Volume {
 }
 
 impl Volume {
-    ghost use Rattle.lq_value.specs.Refusal.{IsRefusedBy};
+    ghost use Rattle.lq_value.specs.Refusal.{FailsOnlyForMemory, IsRefusedBy};
     ghost use Rattle.lq_volume.specs.State.{empty_state, kind_at, is_taken, IsVolume};
     ghost use Rattle.lq_volume.specs.Change.{refused, after, node_of, other_at, is_full, IsLawful};
 
@@ -137,7 +137,7 @@ impl Volume {
     /// Refused: `NoMemory`, which leaves the volume unchanged.
     pub fn make(&mut self, change: &Change) -> Result<Applied, Refusal>
         requires { IsLawful self.old change.now }
-        ensures refused { IsRefusedBy result None }
+        ensures refused { FailsOnlyForMemory result }
         ensures value { IfOk result (λ applied.
             applied ≡ record { change = self.old.number + 1; node = node_of self.old change.now }) }
         ensures ok { OnOk result (self.new ≡ after self.old change.now) }
@@ -185,7 +185,7 @@ impl Volume {
 
     /// A copy of the volume. Refused: `NoMemory`.
     pub fn copy(&self) -> Result<Volume, Refusal>
-        ensures refused { IsRefusedBy result None }
+        ensures refused { FailsOnlyForMemory result }
         ensures value { IfOk result (λ copy. copy ≡ self.now) }
     {
         Ok(Volume {

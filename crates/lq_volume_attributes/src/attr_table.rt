@@ -2,7 +2,7 @@
 ghost use Rattle.std.specs.Prelude.{◌≡◌, [], length, slice_get, Some, None, IfOk, IfSome, IfNone, OnOk, OnErr};
 ghost use Rattle.std.specs.Map.Iter.{deref_pair};
 ghost use Rattle.std.specs.Option.{option_copied, option_map};
-ghost use Rattle.lq_value.specs.Refusal.{IsRefusedBy};
+ghost use Rattle.lq_value.specs.Refusal.{FailsOnlyForMemory};
 ghost use Rattle.lq_volume_attributes.specs.Attributes.{HasOwnNames, value_of, with_attr, without_attr};
 
 use indexmap::IndexMap;
@@ -95,7 +95,7 @@ impl AttrTable {
 
     /// Sets an attribute. Refused: `NoMemory`; a refused call changes nothing.
     pub fn set(&mut self, attr: AttrName, value: Value) -> Result<(), Refusal>
-        ensures refused { IsRefusedBy result None }
+        ensures refused { FailsOnlyForMemory result }
         ensures ok { OnOk result (self.new ≡ with_attr self.old attr value) }
         ensures err { OnErr result (self.new ≡ self.old) }
     {
@@ -111,7 +111,7 @@ impl AttrTable {
 
     // Turns a list that is no longer short into a map. Refused: `NoMemory`.
     fn spread(&mut self) -> Result<(), Refusal>
-        ensures refused { IsRefusedBy result None }
+        ensures refused { FailsOnlyForMemory result }
         ensures same { self.new ≡ self.old }
     {
         if self.many.is_none() && self.few.len() >= FEW {
@@ -134,7 +134,7 @@ impl AttrTable {
 
     /// A copy of the attributes, in the same order. Refused: `NoMemory`.
     pub fn copy(&self, alloc: Global) -> Result<AttrTable, Refusal>
-        ensures refused { IsRefusedBy result None }
+        ensures refused { FailsOnlyForMemory result }
         ensures value { IfOk result (λ copy. copy ≡ self.now) }
     {
         match &self.many {
@@ -156,7 +156,7 @@ impl AttrTable {
 
     /// A copy of the names and values, in order. Refused: `NoMemory`.
     pub fn list(&self, alloc: Global) -> Result<Vec<(AttrName, Value)>, Refusal>
-        ensures refused { IsRefusedBy result None }
+        ensures refused { FailsOnlyForMemory result }
         ensures value { IfOk result (λ list. list.items ≡ self.now) }
     {
         match &self.many {
@@ -197,7 +197,7 @@ fn place_of(list: &[(AttrName, Value)], attr: &AttrName) -> Option<usize>
 // Sets an attribute in a list. Refused: `NoMemory`; a refused call changes nothing.
 fn put(list: &mut Vec<(AttrName, Value)>, attr: AttrName, value: Value) -> Result<(), Refusal>
     requires { HasOwnNames list.old.items }
-    ensures refused { IsRefusedBy result None }
+    ensures refused { FailsOnlyForMemory result }
     ensures ok { OnOk result (list.new.items ≡ with_attr list.old.items attr value) }
     ensures err { OnErr result (list.new.items ≡ list.old.items) }
 {
@@ -223,7 +223,7 @@ fn take_out(list: &mut Vec<(AttrName, Value)>, attr: &AttrName)
 
 // A copy of a list's names and values. Refused: `NoMemory`.
 fn copied(alloc: Global, list: &[(AttrName, Value)]) -> Result<Vec<(AttrName, Value)>, Refusal>
-    ensures refused { IsRefusedBy result None }
+    ensures refused { FailsOnlyForMemory result }
     ensures value { IfOk result (λ copy. copy.items ≡ list.now) }
 {
     let mut copy = Vec::with_capacity(alloc, list.len())?;
@@ -235,7 +235,7 @@ fn copied(alloc: Global, list: &[(AttrName, Value)]) -> Result<Vec<(AttrName, Va
 
 // A copy of a map's names and values, in order. Refused: `NoMemory`.
 fn listed(alloc: Global, map: &IndexMap<AttrName, Value>) -> Result<Vec<(AttrName, Value)>, Refusal>
-    ensures refused { IsRefusedBy result None }
+    ensures refused { FailsOnlyForMemory result }
     ensures value { IfOk result (λ list. list.items ≡ map.now.entries) }
     ensures own { IfOk result (λ list. HasOwnNames list.items) }
 {
@@ -249,7 +249,7 @@ fn listed(alloc: Global, map: &IndexMap<AttrName, Value>) -> Result<Vec<(AttrNam
 // A map with the attributes of a list. Refused: `NoMemory`.
 fn map_of(alloc: Global, list: Vec<(AttrName, Value)>) -> Result<IndexMap<AttrName, Value>, Refusal>
     requires { HasOwnNames list.items }
-    ensures refused { IsRefusedBy result None }
+    ensures refused { FailsOnlyForMemory result }
     ensures value { IfOk result (λ map. map.entries ≡ list.items) }
 {
     Ok(IndexMap::from_iter(alloc, list)?)

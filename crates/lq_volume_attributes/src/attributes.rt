@@ -1,8 +1,8 @@
 //! The attributes of an entry.
-ghost use Rattle.std.specs.Prelude.{◌≡◌, [], length, slice_get, None, IfOk, OnOk, OnErr};
+ghost use Rattle.std.specs.Prelude.{◌≡◌, [], length, slice_get, IfOk, OnOk, OnErr};
 ghost use Rattle.std.specs.Map.Iter.{deref_pair};
 ghost use Rattle.std.specs.Option.{option_copied, option_map};
-ghost use Rattle.lq_value.specs.Refusal.{IsRefusedBy};
+ghost use Rattle.lq_value.specs.Refusal.{FailsOnlyForMemory};
 
 use crate::attr_table::AttrTable;
 use lq_value::{AttrName, Refusal, Value};
@@ -71,7 +71,7 @@ impl Attributes {
 
     /// Sets an attribute. Refused: `NoMemory`; a refused call changes nothing.
     pub fn set(&mut self, attr: AttrName, value: Value) -> Result<(), Refusal>
-        ensures refused { IsRefusedBy result None }
+        ensures refused { FailsOnlyForMemory result }
         ensures ok { OnOk result (self.new ≡ with_attr self.old attr value) }
         ensures err { OnErr result (self.new ≡ self.old) }
     {
@@ -97,7 +97,7 @@ impl Attributes {
 
     /// A copy of the attributes, in the same order. Refused: `NoMemory`.
     pub fn copy(&self, alloc: Global) -> Result<Attributes, Refusal>
-        ensures refused { IsRefusedBy result None }
+        ensures refused { FailsOnlyForMemory result }
         ensures value { IfOk result (λ copy. copy ≡ self.now) }
     {
         match &self.table {
@@ -114,7 +114,7 @@ impl Attributes {
 
     /// A copy of the names and values, in order. Refused: `NoMemory`.
     pub fn list(&self, alloc: Global) -> Result<Vec<(AttrName, Value)>, Refusal>
-        ensures refused { IsRefusedBy result None }
+        ensures refused { FailsOnlyForMemory result }
         ensures value { IfOk result (λ list. list.items ≡ self.now) }
     {
         match &self.table {

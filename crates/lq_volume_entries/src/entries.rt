@@ -3,7 +3,7 @@ ghost use Rattle.std.specs.Prelude.{◌≡◌, ◌==◌, ◌<◌, ◌^◌, [], �
 ghost use Rattle.std.specs.List.{list_any, AllByRecursion};
 ghost use Rattle.std.specs.Map.{lookup, values_of};
 ghost use Rattle.std.specs.Option.{option_copied};
-ghost use Rattle.lq_value.specs.Refusal.{IsRefusedBy};
+ghost use Rattle.lq_value.specs.Refusal.{FailsOnlyForMemory};
 
 use crate::records::Records;
 use crate::stored_record::StoredRecord;
@@ -100,7 +100,7 @@ impl Entries {
     pub fn children(&self, dir: u64) -> Result<Vec<Entry>, Refusal>
         requires rise { Rises self.now }
         requires apart { IsApart self.now }
-        ensures refused { IsRefusedBy result None }
+        ensures refused { FailsOnlyForMemory result }
         ensures children { IfOk result (λ entries. AreChildren self.now dir entries.items) }
     {
         let mut nodes = self.places.nodes(dir)?;
@@ -115,7 +115,7 @@ impl Entries {
     /// The names that lead from the root down to a node. Refused: `NoMemory`.
     pub fn path(&self, node: u64) -> Result<Vec<Name>, Refusal>
         requires { CanClimb self.now node }
-        ensures refused { IsRefusedBy result None }
+        ensures refused { FailsOnlyForMemory result }
         ensures path { IfOk result (λ path. Leads self.now root path.items node) }
     {
         self.records.path(self.alloc, node)
@@ -125,7 +125,7 @@ impl Entries {
     pub fn add(&mut self, node: u64, stored: StoredRecord) -> Result<(), Refusal>
         requires last { AllByRecursion (λ e. e.0 < node) self.old }
         requires free { node_in self.old stored.dir stored.name ≡ None }
-        ensures refused { IsRefusedBy result None }
+        ensures refused { FailsOnlyForMemory result }
         ensures ok { OnOk result (self.new ≡ self.old ++ (node, stored) ∷ []) }
         ensures err { OnErr result (self.new ≡ self.old) }
     {
@@ -165,7 +165,7 @@ impl Entries {
         other: Option<u64>,
     ) -> Result<(), Refusal>
         requires { CanMove self.old node dir name.now other }
-        ensures refused { IsRefusedBy result None }
+        ensures refused { FailsOnlyForMemory result }
         ensures ok { OnOk result
             (self.new ≡ altered node (at_place dir name.now) (without other self.old)) }
         ensures err { OnErr result (self.new ≡ self.old) }
@@ -194,7 +194,7 @@ impl Entries {
 
     /// Sets an attribute of a node. Refused: `NoMemory`; a refused call changes nothing.
     pub fn set_attr(&mut self, node: u64, attr: &AttrName, value: &Value) -> Result<(), Refusal>
-        ensures refused { IsRefusedBy result None }
+        ensures refused { FailsOnlyForMemory result }
         ensures ok { OnOk result
             (self.new ≡ altered node (set_attr attr.now value.now) self.old) }
         ensures err { OnErr result (self.new ≡ self.old) }
@@ -214,7 +214,7 @@ impl Entries {
 
     /// The entries whose records pass the test, by rising node. Refused: `NoMemory`.
     pub fn fetch<T: Test>(&self, test: &T) -> Result<Vec<Entry>, Refusal>
-        ensures refused { IsRefusedBy result None }
+        ensures refused { FailsOnlyForMemory result }
         ensures entries { IfOk result (λ entries. entries.items
             ≡ map entry_of (filter (λ e. T.picks test.now e.1) self.now)) }
     {
@@ -224,7 +224,7 @@ impl Entries {
     /// A copy: the same records under the same nodes. Refused: `NoMemory`.
     pub fn copy(&self) -> Result<Entries, Refusal>
         requires { IsApart self.now }
-        ensures refused { IsRefusedBy result None }
+        ensures refused { FailsOnlyForMemory result }
         ensures value { IfOk result (λ copy. copy ≡ self.now) }
     {
         let mut copy = Entries::new(self.alloc);

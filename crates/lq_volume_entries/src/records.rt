@@ -1,10 +1,10 @@
 //! The records of a volume.
-ghost use Rattle.std.specs.Prelude.{◌≡◌, ◌==◌, ◌<◌, ◌^◌, [], ◌∷◌, ◌++◌, length, filter, map, nat_eq, not, reverse, None, IfErr, IfOk, OnErr, OnOk};
+ghost use Rattle.std.specs.Prelude.{◌≡◌, ◌==◌, ◌<◌, ◌^◌, [], ◌∷◌, ◌++◌, length, filter, map, nat_eq, not, reverse, IfErr, IfOk, OnErr, OnOk};
 ghost use Rattle.std.specs.List.{AllByRecursion, IsDistinct};
 ghost use Rattle.std.specs.List.Sorted.{IsStrictlyIncreasing};
 ghost use Rattle.std.specs.Map.{keys_of, lookup};
 ghost use Rattle.std.specs.Option.{option_copied};
-ghost use Rattle.lq_value.specs.Refusal.{IsRefusedBy};
+ghost use Rattle.lq_value.specs.Refusal.{FailsOnlyForMemory};
 ghost use Rattle.lq_volume_entries.specs.Order.{shown_pair};
 ghost use Rattle.lq_volume_entries.specs.Record.{entry_of};
 
@@ -96,7 +96,7 @@ impl Records {
     /// The names that lead from the root down to a node. Refused: `NoMemory`.
     pub fn path(&self, alloc: Global, node: u64) -> Result<Vec<Name>, Refusal>
         requires { CanClimb self.now node }
-        ensures refused { IsRefusedBy result None }
+        ensures refused { FailsOnlyForMemory result }
         ensures path { IfOk result (λ path. Leads self.now root path.items node) }
     {
         let mut path = self.names_up(alloc, node)?;
@@ -107,7 +107,7 @@ impl Records {
     // The names on the walk from a node up to the root, which has no record.
     fn names_up(&self, alloc: Global, from: u64) -> Result<Vec<Name>, Refusal>
         requires { CanClimb self.now from }
-        ensures refused { IsRefusedBy result None }
+        ensures refused { FailsOnlyForMemory result }
         ensures names { IfOk result (λ names.
             Leads self.now root (reverse names.items) from) }
     {
@@ -132,7 +132,7 @@ impl Records {
         requires rise { Rises self.now }
         requires nodes { IsStrictlyIncreasing nodes.now }
         requires all { HasNodesIn self.now dir nodes.now }
-        ensures refused { IsRefusedBy result None }
+        ensures refused { FailsOnlyForMemory result }
         ensures entries { IfOk result (λ entries. entries.items ≡ entries_in self.now dir) }
     {
         let mut entries = Vec::with_capacity(alloc, nodes.len())?;
@@ -150,7 +150,7 @@ impl Records {
         node: u64,
         entries: &mut Vec<Entry>,
     ) -> Result<(), Refusal>
-        ensures refused { IsRefusedBy result None }
+        ensures refused { FailsOnlyForMemory result }
         ensures ok { OnOk result (entries.new.items
             ≡ with_entry entries.old.items (entry_in self.now dir node)) }
     {
@@ -167,7 +167,7 @@ impl Records {
 
     /// The records with their nodes, by rising node. Refused: `NoMemory`.
     pub fn in_order(&self, alloc: Global) -> Result<Vec<(u64, &StoredRecord)>, Refusal>
-        ensures refused { IsRefusedBy result None }
+        ensures refused { FailsOnlyForMemory result }
         ensures records { IfOk result (λ records. map shown_pair records.items ≡ self.now) }
         ensures rise { Rises self.now }
     {
@@ -178,7 +178,7 @@ impl Records {
 
     /// The entries whose records pass the test, by rising node. Refused: `NoMemory`.
     pub fn fetch<T: Test>(&self, alloc: Global, test: &T) -> Result<Vec<Entry>, Refusal>
-        ensures refused { IsRefusedBy result None }
+        ensures refused { FailsOnlyForMemory result }
         ensures entries { IfOk result (λ entries. entries.items
             ≡ map entry_of (filter (λ e. T.picks test.now e.1) self.now)) }
     {
@@ -240,7 +240,7 @@ impl Records {
 
     /// Sets an attribute of a node. Refused: `NoMemory`; a refused call changes nothing.
     pub fn set_attr(&mut self, node: u64, attr: AttrName, value: Value) -> Result<(), Refusal>
-        ensures refused { IsRefusedBy result None }
+        ensures refused { FailsOnlyForMemory result }
         ensures ok { OnOk result (self.new ≡ altered node (set_attr attr value) self.old) }
         ensures err { OnErr result (self.new ≡ self.old) }
     {
@@ -265,7 +265,7 @@ fn pairs_of(
     stored: &IndexMap<u64, StoredRecord, NodeHashes>,
     alloc: Global,
 ) -> Result<Vec<(u64, &StoredRecord)>, Refusal>
-    ensures refused { IsRefusedBy result None }
+    ensures refused { FailsOnlyForMemory result }
     ensures pairs { IfOk result (λ pairs. map shown_pair pairs.items ≡ stored.now.entries) }
     ensures own { IsDistinct nat_eq (keys_of stored.now.entries) }
 {
@@ -282,7 +282,7 @@ fn finds_in<T: Test>(
     alloc: Global,
     test: &T,
 ) -> Result<Vec<Entry>, Refusal>
-    ensures refused { IsRefusedBy result None }
+    ensures refused { FailsOnlyForMemory result }
     ensures finds { IfOk result (λ finds. finds.items
         ≡ map entry_of (filter (λ e. T.picks test.now e.1) stored.now.entries)) }
     ensures own { IsDistinct nat_eq (keys_of stored.now.entries) }

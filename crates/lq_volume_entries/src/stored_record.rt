@@ -1,7 +1,7 @@
 //! An entry as a volume stores it.
-ghost use Rattle.std.specs.Prelude.{◌≡◌, ◌==◌, ◌&&◌, ◌<◌, ◌^◌, [], None, IfOk, OnOk, OnErr};
+ghost use Rattle.std.specs.Prelude.{◌≡◌, ◌==◌, ◌&&◌, ◌<◌, ◌^◌, [], IfOk, OnOk, OnErr};
 ghost use Rattle.std.specs.Str.{bytes_eq};
-ghost use Rattle.lq_value.specs.Refusal.{IsRefusedBy};
+ghost use Rattle.lq_value.specs.Refusal.{FailsOnlyForMemory};
 
 use lq_value::{AttrName, Entry, Kind, Name, Refusal, Value};
 use lq_volume_attributes::Attributes;
@@ -144,7 +144,7 @@ impl StoredRecord {
 
     /// The entry's triple of folder, name and this node. Refused: `NoMemory`.
     pub fn entry(&self, alloc: Global, node: u64) -> Result<Entry, Refusal>
-        ensures refused { IsRefusedBy result None }
+        ensures refused { FailsOnlyForMemory result }
         ensures value { IfOk result (λ entry. entry ≡ entry_of (node, self.now)) }
     {
         Ok(Entry {
@@ -173,7 +173,7 @@ impl StoredRecord {
 
     /// Sets an attribute. Refused: `NoMemory`; a refused call changes nothing.
     pub fn set_attr(&mut self, attr: AttrName, value: Value) -> Result<(), Refusal>
-        ensures refused { IsRefusedBy result None }
+        ensures refused { FailsOnlyForMemory result }
         ensures ok { OnOk result (self.new ≡ set_attr attr value self.old) }
         ensures err { OnErr result (self.new ≡ self.old) }
     {
@@ -190,7 +190,7 @@ impl StoredRecord {
 
     /// A copy of the record. Refused: `NoMemory`.
     pub fn copy(&self, alloc: Global) -> Result<StoredRecord, Refusal>
-        ensures refused { IsRefusedBy result None }
+        ensures refused { FailsOnlyForMemory result }
         ensures value { IfOk result (λ copy. copy ≡ self.now) }
     {
         Ok(StoredRecord {

@@ -2,7 +2,7 @@
 ghost use Rattle.std.specs.Prelude.{◌≡◌, ◌↔◌, ℕ, List, ◌==◌, ◌||◌, ◌++◌, not, length, false, OnOk, OnErr, IfOk, IsSome, Some, None};
 ghost use Rattle.std.specs.List.{Contains};
 ghost use Rattle.std.specs.Map.{values_of};
-ghost use Rattle.lq_value.specs.Refusal.{IsRefusedBy};
+ghost use Rattle.lq_value.specs.Refusal.{FailsOnlyForMemory};
 
 use lq_value::{Name, Refusal};
 use std::alloc::Global;
@@ -29,7 +29,7 @@ impl Names {
 
     // The nodes, in no order that matters. Refused: `NoMemory`.
     fn nodes(&self, alloc: Global) -> Result<Vec<u64>, Refusal>
-        ensures refused { IsRefusedBy result None }
+        ensures refused { FailsOnlyForMemory result }
         ensures nodes { IfOk result (λ nodes. nodes.items
             ≡ values_of self.now.first.entries ++ values_of self.now.others.entries) }
     {
@@ -103,7 +103,7 @@ impl Places {
     ///
     /// Refused: `NoMemory`.
     pub fn nodes(&self, dir: u64) -> Result<Vec<u64>, Refusal>
-        ensures refused { IsRefusedBy result None }
+        ensures refused { FailsOnlyForMemory result }
         ensures first { IfOk result (λ nodes. (h x : ℕ)
             → first_in self.now dir h ≡ Some x → Contains nodes.items x) }
         ensures others { IfOk result (λ nodes. (n : List ℕ) (x : ℕ)
@@ -136,7 +136,7 @@ impl Places {
         node: u64,
         over: Option<u64>,
     ) -> Result<(), Refusal>
-        ensures refused { IsRefusedBy result None }
+        ensures refused { FailsOnlyForMemory result }
         ensures ok { OnOk result (Puts self.old self.new dir name.now node over) }
         ensures err { OnErr result (SamePlaces self.old self.new) }
     {
@@ -154,7 +154,7 @@ impl Places {
 
     // Makes the map of names for a folder that has none.
     fn open_folder(&mut self, dir: u64) -> Result<(), Refusal>
-        ensures refused { IsRefusedBy result None }
+        ensures refused { FailsOnlyForMemory result }
         ensures ok { OnOk result (HasFolder self.new dir) }
         ensures same { SamePlaces self.old self.new }
     {
@@ -171,7 +171,7 @@ impl Places {
     // Puts a node under a hash, and gives the one that was there.
     fn put_first(&mut self, dir: u64, hash: u64, node: u64) -> Result<Option<u64>, Refusal>
         requires { HasFolder self.old dir }
-        ensures refused { IsRefusedBy result None }
+        ensures refused { FailsOnlyForMemory result }
         ensures there { IfOk result (λ there. there ≡ first_in self.old dir hash) }
         ensures ok { OnOk result (PutsFirst self.old self.new dir hash node) }
         ensures err { OnErr result (SamePlaces self.old self.new) }
@@ -196,7 +196,7 @@ impl Places {
 
     fn put_other(&mut self, dir: u64, name: Name, node: u64) -> Result<(), Refusal>
         requires { HasFolder self.old dir }
-        ensures refused { IsRefusedBy result None }
+        ensures refused { FailsOnlyForMemory result }
         ensures ok { OnOk result (PutsOther self.old self.new dir name node) }
         ensures err { OnErr result (SamePlaces self.old self.new) }
     {

@@ -1,6 +1,6 @@
 //! The operators of a stack, which make a predicate of the items on top.
-ghost use Rattle.std.specs.Prelude.{◌≡◌, ◌∷◌, ◌+◌, ◌<◌, ◌≤◌, ◌^◌, drop, length, List, Option, option_and_then, Some, None, IfOk, IfSome, IfNone, OnOk, OnErr};
-ghost use Rattle.lq_value.specs.Refusal.{IsRefusedBy};
+ghost use Rattle.std.specs.Prelude.{◌≡◌, ◌∷◌, ◌+◌, ◌<◌, ◌≤◌, ◌^◌, drop, length, List, Option, option_and_then, Some, IfOk, IfSome, IfNone, OnOk, OnErr};
+ghost use Rattle.lq_value.specs.Refusal.{FailsOnlyForMemory, IsRefusedBy};
 ghost use Rattle.lq_predicate_formula.specs.Query.{And, Or};
 ghost use Rattle.lq_predicate.specs.Stack.{IsMade, pushed, op_pushed, after_comparison, after_join, after_not, refusal_at};
 ghost use Rattle.lq_predicate.specs.declared.stack_item.StackItem.{StackItem};
@@ -56,7 +56,7 @@ impl Stack {
         requires room { self.old.pushes + 1 < 2 ^ 64 }
         requires some { 0 < count }
         requires there { IfOk made (λ m. IfSome m (λ _. count ≤ length self.old.items)) }
-        requires refused { IsRefusedBy made None }
+        requires refused { FailsOnlyForMemory made }
         ensures ok { (after : Option (List StackItem)) → IsMade made count self.old.items after
             → OnOk result (option_and_then (pushed self.old) after ≡ Some self.new) }
         ensures refused { (after : Option (List StackItem))
@@ -88,7 +88,7 @@ impl Stack {
     // `Not` of the predicate on top.
     fn negation(&self) -> Result<Option<Predicate>, Refusal>
         ensures made { IsMade result 1 self.now.items (after_not self.now.items) }
-        ensures refused { IsRefusedBy result None }
+        ensures refused { FailsOnlyForMemory result }
         ensures there { IfOk result (λ m. IfSome m (λ _. 1 ≤ length self.now.items)) }
     {
         match self.items.last() {
@@ -100,7 +100,7 @@ impl Stack {
     // `And` of the two predicates on top, the lower one first.
     fn both(&self) -> Result<Option<Predicate>, Refusal>
         ensures made { IsMade result 2 self.now.items (after_join And self.now.items) }
-        ensures refused { IsRefusedBy result None }
+        ensures refused { FailsOnlyForMemory result }
         ensures there { IfOk result (λ m. IfSome m (λ _. 2 ≤ length self.now.items)) }
     {
         match self.top_two() {
@@ -112,7 +112,7 @@ impl Stack {
     // `Or` of the two predicates on top, the lower one first.
     fn either(&self) -> Result<Option<Predicate>, Refusal>
         ensures made { IsMade result 2 self.now.items (after_join Or self.now.items) }
-        ensures refused { IsRefusedBy result None }
+        ensures refused { FailsOnlyForMemory result }
         ensures there { IfOk result (λ m. IfSome m (λ _. 2 ≤ length self.now.items)) }
     {
         match self.top_two() {
@@ -124,7 +124,7 @@ impl Stack {
     // The comparison of the attribute below the top with the value on top.
     fn comparison(&self, op: StackOp) -> Result<Option<Predicate>, Refusal>
         ensures made { IsMade result 2 self.now.items (after_comparison op self.now.items) }
-        ensures refused { IsRefusedBy result None }
+        ensures refused { FailsOnlyForMemory result }
         ensures there { IfOk result (λ m. IfSome m (λ _. 2 ≤ length self.now.items)) }
     {
         match self.top_two() {

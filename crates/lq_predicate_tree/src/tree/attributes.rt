@@ -1,6 +1,6 @@
 //! The attributes of a tree's query: their names, and whether it needs one.
-ghost use Rattle.std.specs.Prelude.{◌≡◌, None, IfOk};
-ghost use Rattle.lq_value.specs.Refusal.{IsRefusedBy};
+ghost use Rattle.std.specs.Prelude.{◌≡◌, IfOk};
+ghost use Rattle.lq_value.specs.Refusal.{FailsOnlyForMemory};
 ghost use Rattle.lq_predicate_tree.specs.Names.{attributes, each_once, is_among};
 ghost use Rattle.lq_predicate_tree.specs.Needs.{needs_attribute};
 
@@ -13,7 +13,7 @@ impl Tree {
     /// in the order of first use from the left. Refused: `NoMemory`; the list may then have some of
     /// them.
     pub fn add_names(&self, alloc: Global, names: &mut Vec<AttrName>) -> Result<(), Refusal>
-        ensures refused { IsRefusedBy result None }
+        ensures refused { FailsOnlyForMemory result }
         ensures value { IfOk result
             (λ _. names.new.items ≡ each_once names.old.items (attributes self.now)) }
     {

@@ -1,7 +1,7 @@
 //! The canonical text of a tree's query, and how long it is.
-ghost use Rattle.std.specs.Prelude.{◌≡◌, ◌++◌, ◌∷◌, [], None, IfOk, length};
+ghost use Rattle.std.specs.Prelude.{◌≡◌, ◌++◌, ◌∷◌, [], IfOk, length};
 ghost use Rattle.std.specs.String.{string_bytes};
-ghost use Rattle.lq_value.specs.Refusal.{IsRefusedBy};
+ghost use Rattle.lq_value.specs.Refusal.{FailsOnlyForMemory};
 ghost use Rattle.lq_predicate_formula.specs.Canonical.{canonical, parts_written};
 ghost use Rattle.lq_predicate_formula.specs.Capped.{capped};
 ghost use Rattle.lq_predicate_formula.specs.Query.{queries};
@@ -45,7 +45,7 @@ impl Tree {
     /// of the text.
     #[cycle(put)]
     pub fn put(&self, out: &mut String) -> Result<(), Refusal>
-        ensures refused { IsRefusedBy result None }
+        ensures refused { FailsOnlyForMemory result }
         ensures value { IfOk result
             (λ _. string_bytes out.new ≡ string_bytes out.old ++ canonical self.now) }
     {
@@ -64,7 +64,7 @@ impl Tree {
 // Appends the parts in parentheses, with a separator between them.
 #[cycle(put)]
 fn put_parts(parts: &[Tree], separator: &str, out: &mut String) -> Result<(), Refusal>
-    ensures refused { IsRefusedBy result None }
+    ensures refused { FailsOnlyForMemory result }
     ensures value { IfOk result (λ _. string_bytes out.new ≡ string_bytes out.old
         ++ 40 ∷ parts_written separator.now (queries parts.now) (41 ∷ [])) }
 {

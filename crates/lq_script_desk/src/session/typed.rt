@@ -1,7 +1,7 @@
 //! A session's calls for a caller without lines.
-ghost use Rattle.std.specs.Prelude.{◌≡◌, None, IfOk};
+ghost use Rattle.std.specs.Prelude.{◌≡◌, IfOk};
 ghost use Rattle.std.specs.Option.{option_map};
-ghost use Rattle.lq_value.specs.Refusal.{IsRefusedBy};
+ghost use Rattle.lq_value.specs.Refusal.{FailsOnlyForMemory};
 ghost use Rattle.lq_desk.specs.Reply.{answer_of};
 ghost use Rattle.lq_script_desk.specs.Folds.{fold_at};
 ghost use Rattle.lq_script_desk.specs.Keeps.{first_kept, keeps};
@@ -20,7 +20,7 @@ impl Session {
     ///
     /// Refused: `NoMemory`.
     pub fn start(alloc: Global) -> Result<Session, Refusal>
-        ensures refused { IsRefusedBy result None }
+        ensures refused { FailsOnlyForMemory result }
         ensures value { IfOk result (λ session. keeps session ≡ first_kept) }
     {
         let desk = Desk::new(alloc, Volume::new(alloc, MAX_CHANGES))?;

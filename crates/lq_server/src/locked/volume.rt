@@ -1,6 +1,6 @@
 //! Calls on the volume under the lock.
 ghost use Rattle.std.specs.Prelude.{◌≡◌, ◌+◌, ◌<◌, [], ◌∷◌, length, IfOk, IfErr, OnOk, OnErr, Some, None};
-ghost use Rattle.lq_value.specs.Refusal.{IsRefusedBy, first_refusal};
+ghost use Rattle.lq_value.specs.Refusal.{FailsOnlyForMemory, IsRefusedBy, first_refusal};
 ghost use Rattle.lq_volume.specs.Book.{Extends, grown, state_of};
 ghost use Rattle.lq_volume.specs.Result.{result_of};
 ghost use Rattle.lq_volume.specs.State.{record_at, node_in};
@@ -34,9 +34,7 @@ impl<N: Named> Locked<N> {
         ensures at { IfOk result (λ found. found.at ≡ length seat.new.book.changes) }
         ensures entries { IfOk result (λ found.
             found.entries.items ≡ result_of predicate.now (state_of seat.new.book)) }
-
-        // `NoMemory` is the only refusal.
-        ensures refused { IsRefusedBy result None }
+        ensures refused { FailsOnlyForMemory result }
     {
         let at = self.meet(board, seat);
         let entries = self.volume.fetch(predicate)?;
