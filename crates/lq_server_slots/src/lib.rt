@@ -1,8 +1,8 @@
 //! The 64 slots of subscriptions under the server's lock, with the keeper of the board beside them.
 //!
 //! Contracts see `ServerSlots` by its fields. `SlotsStand` (`specs/Slots`) says how far each taken
-//! slot has followed a book, and that the list of the taken places is right. Puts and takes may wait
-//! for a step of a port's other end. Begin with `slots`, then `change`.
+//! slot has followed a book, and that the list of the taken places is right. Puts and takes may
+//! wait for a step of a port's other end. Begin with `slots`, then `change`.
 #![tactic(auto)]
 
 mod change;

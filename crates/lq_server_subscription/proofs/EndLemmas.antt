@@ -313,7 +313,8 @@ ready_of s c p q e = subst (λ (z : Prepared). IsReady z s c) (sym e) (λ _. (re
 
 -- a commit makes it stand over the book with the change
 pub committed_stands : (p q : Prepared) (e : End Delivery Opening) (places : ℕ)
-    (first_close : FirstClose) (book : Book) (c : Change) → p.held.mark ≡ None → q ≡ committed p → StepsAreFew
+    (first_close : FirstClose) (book : Book) (c : Change) → p.held.mark ≡ None
+    → q ≡ committed p → StepsAreFew
     → (0 < length p.held.messages → places ≤ length (messages_in (all_put e)))
     → Stands p.held e places first_close book → IsReady p (state_of book) c
     → IsLawful (state_of book) c → IsFullBook (grown book (c ∷ []))
