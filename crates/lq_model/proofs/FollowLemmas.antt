@@ -1,11 +1,13 @@
 -- A query that was followed: what its reader received, and the volume.
-use Rattle.std.proofs.Common.{◌≡◌, ℕ, ◌<◌, ◌≤◌, false, true≢false, List, length, Option, Some, None, refl, sym, ap, ◌∙◌, subst, arith, length-append}
+use Rattle.std.proofs.Common.{◌≡◌, ℕ, ◌<◌, ◌≤◌, false, true≢false, List, length, map, Option, Some, None, refl, sym, ap, ◌∙◌, subst, arith, length-append}
 use Rattle.std.specs.Prelude.{IsSome, IsSomeAnd}
 use Rattle.atomic_table.specs.Seated.{TableId}
 use Rattle.lq_predicate_formula.specs.Query.{Query}
 use Rattle.lq_volume.specs.State.{State}
+use Rattle.lq_volume.specs.declared.change.Change.{Change}
 use Rattle.lq_volume.specs.Book.{Book, Extends, state_at}
 use Rattle.lq_volume.specs.Result.{result_of}
+use Rattle.lq_board.specs.declared.views.Author.{Author}
 use Rattle.lq_board.specs.Token.{SeatToken}
 use Rattle.lq_update.specs.declared.mark.Mark.{Mark}
 use Rattle.lq_update.specs.Updates.{updates_of}
@@ -22,8 +24,9 @@ use Rattle.lq_server.specs.Hold.{ReaderHold}
 use Rattle.lq_server.specs.Opened.{IsNewReader}
 use Rattle.lq_server.specs.Syncing.{IsSynced}
 use Rattle.lq_server.specs.Headline.{ReaderIsTold}
-use Rattle.lq_server.specs.Retired.{IsRetired}
-use Rattle.lq_model.specs.Followed.{GoesOut, IsFollowed}
+use Rattle.lq_server.specs.Retired.{IsRetiredBy}
+use Rattle.lq_model.specs.Followed.{GoesOut, IsFollowed, changes_at}
+use Rattle.lq_model.proofs.MadeLemmas.{changes_at-later}
 
 -- a book that goes on from another has no fewer changes
 extends_length : (b c : Book) → Extends c b → length b.changes ≤ length c.changes
@@ -58,10 +61,12 @@ pub record Meets (was now : SeatToken Identity) : Type 0 where
 pub followed : UpdatesStay → BooksExtendOn → StatesStay
     → (start : State) (q : Query) (board : TableId) (begun : Book) (port backlog : ℕ)
     (first old new : ReaderHold) (x : Synced) (one : SeatToken Identity) (z : Retired)
+    (author : Author) (changes : List Change)
     → IsNewReader first board begun q false port backlog → GoesOut first old → IsSynced old new x
     → ReaderIsTold new
-    → Meets new.seat one → IsRetired start one.book z.volume z.changes
-    → IsFollowed start q (record {
+    → Meets new.seat one → IsRetiredBy author start one.book z.volume z.changes
+    → changes_at one.book author.changes ≡ map (λ c. Some c) changes
+    → IsFollowed start q changes (record {
       reader = record {
         reading = new.reading;
         seat = one;
@@ -71,7 +76,9 @@ pub followed : UpdatesStay → BooksExtendOn → StatesStay
       synced = x;
       retired = z;
     })
-followed stay on states start q board begun port backlog first old new x one z o out s told met r =
+followed stay on states start q board begun port backlog first old new x one z author changes
+    o out s told met by made =
+    let r = by.retired in
     let name : new.seat.name ≡ first.seat.name =
     ap (λ (t : SeatToken Identity). t.name) s.seat ∙ out.goes.name in
     let query = same_query first.seat.name first new o.own.name
@@ -124,13 +131,20 @@ followed stay on states start q board begun port backlog first old new x one z o
           ∙ ap (λ (t : State). result_of (query_of f) t)
           (sym (states book b mark.change knows (omega arith)))
           ∙ ap (λ (p : Query). result_of p (state_at book mark.change)) is;
+      author = author;
       retired = record {
-        book = r.book;
-        full = r.full;
-        begins = r.begins;
-        later = on book one.book r.book met.later r.later;
-        state = r.state;
-        number = r.number;
-        limit = r.limit;
+        retired = record {
+          book = r.book;
+          full = r.full;
+          begins = r.begins;
+          later = on book one.book r.book met.later r.later;
+          state = r.state;
+          number = r.number;
+          limit = r.limit;
+        };
+        register = by.register;
+        signed = by.signed;
+        author = by.author;
       };
+      made = changes_at-later one.book r.book author.changes changes r.later made;
     }

@@ -1,1 +1,2 @@
+pub mod MadeLemmas
 pub mod FollowLemmas

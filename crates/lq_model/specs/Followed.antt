@@ -1,5 +1,5 @@
 -- What is left after a query was followed, or why it isn't.
-use Rattle.std.specs.Prelude.{◌≡◌, ◌⊎◌, ◌+◌, ◌≤◌, List, true, false, length, Some, IsSome, Contains}
+use Rattle.std.specs.Prelude.{◌≡◌, ◌⊎◌, ℕ, ◌+◌, ◌-◌, ◌≤◌, List, ◌++◌, true, false, length, map, slice_get, Option, Some, IsSome, Contains}
 use Rattle.lq_value.specs.declared.refusal.Refusal.{Refusal}
 use Rattle.lq_value.specs.declared.refusal.Refusal.TheVariants.{NoSeat, NoMemory}
 use Rattle.lq_predicate_formula.specs.Query.{Query}
@@ -8,15 +8,18 @@ use Rattle.lq_volume.specs.declared.change.Change.{Change}
 use Rattle.lq_volume.specs.Change.{refused}
 use Rattle.lq_volume.specs.Book.{Book, Extends, state_at}
 use Rattle.lq_volume.specs.Result.{result_of}
+use Rattle.lq_board.specs.declared.views.Author.{Author}
 use Rattle.lq_board.specs.Book.{IsFullBook}
+use Rattle.lq_board.specs.Token.{SeatToken}
 use Rattle.lq_update.specs.declared.mark.Mark.{Mark}
 use Rattle.lq_update.specs.Updates.{updates_of}
+use Rattle.lq_server_subscription.specs.declared.identity.Identity.{Identity}
 use Rattle.lq_server_subscription.specs.Rule.{query_of}
 use Rattle.lq_server_subscription.specs.Reading.{known, received, mark_read}
 use Rattle.lq_server_slots.specs.Opening.{IsOpeningRefused}
 use Rattle.lq_server.specs.Hold.{ReaderHold}
 use Rattle.lq_server.specs.Own.{IsOwn}
-use Rattle.lq_server.specs.Retired.{IsRetired}
+use Rattle.lq_server.specs.Retired.{IsRetiredBy}
 use Rattle.lq_model.specs.declared.model.Followed.{Followed}
 
 -- a reader of the same subscription, at the same server
@@ -31,8 +34,22 @@ pub record GoesOut (old new : ReaderHold) : Type 0 where
   pub asked : new.hang_up_asked ≡ true
   pub marked : IsSome (mark_read new.reading)
 
--- The headline for the reader that is left, and the volume after the changes, from a first volume.
-pub record IsFollowed (start : State) (q : Query) (f : Followed) : Type 0 where
+-- the changes of a book that have these numbers
+abbrev pub changes_at : Book → List ℕ → List (Option Change)
+changes_at book numbers = map (λ n. slice_get book.changes (n - 1)) numbers
+
+-- A seat made these changes, in this order, and no others: they are new ones among its own, and the
+-- book that it then knows has them.
+pub record HasMade (old new : SeatToken Identity) (changes : List Change) : Type 0 where
+  pub numbers : List ℕ
+  pub author : new.author
+      ≡ record { number = old.author.number; changes = old.author.changes ++ numbers }
+  pub made : changes_at new.book numbers ≡ map (λ c. Some c) changes
+
+-- The headline for the reader that is left, and the volume after the changes given, from a first
+-- volume.
+pub record IsFollowed (start : State) (q : Query) (changes : List Change) (f : Followed)
+    : Type 0 where
   -- its seat is its own, it reads this query, and it asked for its end
   pub own : IsOwn f.reader
   pub query : query_of f.reader.reading.port.floor ≡ q
@@ -56,7 +73,10 @@ pub record IsFollowed (start : State) (q : Query) (f : Followed) : Type 0 where
   -- its entries are the query's result after the mark's change
   pub entries : f.reader.reading.result.entries ≡ result_of q (state_at book mark.change)
   -- the volume is the state after the book and the changes added later, from the first volume on
-  pub retired : IsRetired start book f.retired.volume f.retired.changes
+  pub author : Author
+  pub retired : IsRetiredBy author start book f.retired.volume f.retired.changes
+  -- one seat made the changes given, each once and in order, and no others
+  pub made : changes_at retired.retired.book author.changes ≡ map (λ c. Some c) changes
 
 -- one of these changes is refused so, in some state
 pub record IsOneRefused (changes : List Change) (e : Refusal) : Type 0 where

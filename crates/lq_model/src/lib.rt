@@ -2,8 +2,8 @@
 //!
 //! Its contract says what is left at the end (`specs/Followed`). There is one book of changes: the
 //! reader has received its query's whole update list up to its mark, it has the result after that,
-//! and the volume is the state after the book or one that extends it. Calls may wait. Begin with
-//! `follow`.
+//! and the volume is the state after the book or one that extends it, which has the changes given.
+//! Calls may wait. Begin with `follow`.
 #![tactic(auto)]
 
 mod model;

@@ -2,8 +2,8 @@
 ghost use Rattle.std.specs.Prelude.{◌≡◌, IfOk, IfErr};
 ghost use Rattle.lq_value.specs.Refusal.{FailsOnlyForMemory};
 ghost use Rattle.lq_server.specs.Own.{IsOwn};
-ghost use Rattle.lq_server.specs.Retired.{IsRetired};
-ghost use Rattle.lq_model.specs.Followed.{AreRefused, GoesOut, IsFollowRefused, IsFollowed};
+ghost use Rattle.lq_server.specs.Retired.{IsRetiredBy};
+ghost use Rattle.lq_model.specs.Followed.{AreRefused, GoesOut, HasMade, IsFollowRefused, IsFollowed};
 
 use lq_board::Seat;
 use lq_desk_sub::Read;
@@ -29,8 +29,9 @@ pub struct Followed {
 /// The reader makes `reads` reads, hangs up, and reads on to its mark. Then there is one book of
 /// changes. The reader has received the query's whole update list over it up to the mark. Its
 /// entries are the query's result after the mark's change. The volume is the state after the book
-/// or after one that extends it, from the base's volume on. Refused: `NoSeat`, `NoSlot`,
-/// `Exhausted`, `NoMemory`, or as one of the changes is refused.
+/// or after one that extends it, from the base's volume on, and that book has the changes given, in
+/// their order. Refused: `NoSeat`, `NoSlot`, `Exhausted`, `NoMemory`, or as one of the changes is
+/// refused.
 pub fn follow<N: Named + Send + Sync, R: Threads + Wait + Sync>(
     rt: &R,
     base: Base,
@@ -39,7 +40,7 @@ pub fn follow<N: Named + Send + Sync, R: Threads + Wait + Sync>(
     reads: u64,
 ) -> Result<Followed, Refusal>
     requires { (base.board ≡ N.board) × (base.volume ≡ N.start) }
-    ensures followed { IfOk result (IsFollowed N.start predicate.now) }
+    ensures followed { IfOk result (IsFollowed N.start predicate.now changes.now) }
     ensures refused { IfErr result (IsFollowRefused changes.now) }
 {
     let server: Server<N> = Server::new(base);
@@ -70,7 +71,7 @@ fn leave<N: Named, R: Wait>(
     requires met { seat.book ≡ reader.seat.book }
     ensures left { result
         ≡ record { reader = reader; synced = synced; retired = result.retired } }
-    ensures retired { IsRetired N.start reader.seat.book
+    ensures retired { IsRetiredBy seat.author N.start reader.seat.book
         result.retired.volume result.retired.changes }
 {
     let retired = server.retire(rt, seat);
@@ -94,7 +95,8 @@ impl<'a> Work for Applies<'a> {
     ghost can = { λ applies board. (applies.seat.board ≡ board) × (applies.seat.slot ≡ 0) };
 
     ghost gives = { λ applies board given.
-        IfOk given (λ seat. (seat.board ≡ board) × (seat.slot ≡ 0))
+        IfOk given (λ seat. (seat.board ≡ board) × (seat.slot ≡ 0)
+        × HasMade applies.seat seat applies.changes.now)
         × IfErr given (AreRefused applies.changes.now) };
 
     fn work<N: Named, R: Wait>(
@@ -134,7 +136,8 @@ fn apply_all<N: Named, R: Wait>(
     changes: &[Change],
 ) -> Result<Seat<Identity>, Refusal>
     requires { (seat.board ≡ N.board) × (seat.slot ≡ 0) }
-    ensures ok { IfOk result (λ seat. (seat.board ≡ N.board) × (seat.slot ≡ 0)) }
+    ensures ok { IfOk result (λ after. (after.board ≡ N.board) × (after.slot ≡ 0)
+        × HasMade seat after changes.now) }
     ensures refused { IfErr result (AreRefused changes.now) }
 {
     for change in changes {

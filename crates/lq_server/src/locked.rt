@@ -1,5 +1,5 @@
 //! The state under the lock.
-ghost use Rattle.std.specs.Prelude.{◌≡◌, ◌<◌, ◌≤◌, length, IfOk, IfErr};
+ghost use Rattle.std.specs.Prelude.{◌≡◌, ◌<◌, ◌≤◌, [], length, IfOk, IfErr};
 ghost use Rattle.lq_value.specs.declared.refusal.Refusal.TheVariants.{NoSeat};
 ghost use Rattle.lq_volume.specs.Book.{Extends, state_of};
 ghost use Rattle.lq_board.specs.Book.{IsFullBook};
@@ -97,13 +97,14 @@ impl<N: Named> Locked<N> {
         }
     }
 
-    /// A seat that knows the book. Refused: `NoSeat`, as tests show just where 16 seats are out. It
-    /// takes no memory.
+    /// A seat that knows the book and made no change. Refused: `NoSeat`, as tests show just where
+    /// 16 seats are out. It takes no memory.
     pub fn seat(&mut self, board: &Board<Identity>) -> Result<Seat<Identity>, Refusal>
         requires { board.now ≡ N.board }
         ensures same { SameButKnown self.old self.new }
         ensures seat { IfOk result (λ seat.
             (seat.board ≡ N.board) × (seat.slot ≡ 0) × (seat.book ≡ self.old.keeper.book)) }
+        ensures author { IfOk result (λ seat. seat.author.changes ≡ []) }
         ensures refused { IfErr result (λ e. e ≡ NoSeat) }
     {
         if self.seats >= MAX_SEATS {

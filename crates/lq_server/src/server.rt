@@ -1,5 +1,5 @@
 //! The server.
-ghost use Rattle.std.specs.Prelude.{◌≡◌, ◌≢◌, length, IfOk, IfErr};
+ghost use Rattle.std.specs.Prelude.{◌≡◌, ◌≢◌, [], length, IfOk, IfErr};
 ghost use Rattle.lq_value.specs.declared.refusal.Refusal.TheVariants.{NoSeat};
 ghost use Rattle.lq_volume.specs.Book.{Extends};
 ghost use Rattle.lq_board.specs.Author.{AreDisjoint};
@@ -85,12 +85,13 @@ impl<N: Named> Server<N> {
         }
     }
 
-    /// A seat of no slot.
+    /// A seat of no slot, which made no change.
     ///
     /// It knows the changes so far, which no clause of this call says. Refused: `NoSeat`, as tests
     /// show just where 16 seats are out. A dropped seat still counts as out. It takes no memory.
     pub fn seat<R: Wait>(&self, rt: &R) -> Result<Seat, Refusal>
         ensures seat { IfOk result (λ seat. (seat.board ≡ N.board) × (seat.slot ≡ 0)) }
+        ensures author { IfOk result (λ seat. seat.author.changes ≡ []) }
         ensures refused { IfErr result (λ e. e ≡ NoSeat) }
     {
         self.state.lock(rt).seat(&self.board)

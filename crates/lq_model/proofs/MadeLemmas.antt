@@ -1,0 +1,103 @@
+-- The changes that a seat made, in the book that it knows.
+use Rattle.std.proofs.Common.{◌≡◌, ℕ, zero, suc, ◌+◌, ◌-◌, List, [], ◌∷◌, ◌++◌, length, map, slice_get, Option, Some, refl, sym, ap, ap₂, ◌∙◌, subst, arith, length-append, append_assoc}
+use Rattle.std.proofs.lemmas.List.{map-append}
+use Rattle.lq_volume.specs.declared.change.Change.{Change}
+use Rattle.lq_volume.specs.declared.change.Applied.{Applied}
+use Rattle.lq_volume.specs.Book.{Book, Extends}
+use Rattle.lq_board.specs.declared.views.Author.{Author}
+use Rattle.lq_board.specs.Author.{with_change}
+use Rattle.lq_board.specs.Token.{SeatToken}
+use Rattle.lq_server_subscription.specs.declared.identity.Identity.{Identity}
+use Rattle.lq_server.specs.Applied.{IsAdded}
+use Rattle.lq_server_slots.specs.Slots.{before_of}
+use Rattle.lq_model.specs.Followed.{changes_at, HasMade}
+
+-- what stands at a place of a list stands there when more is added at its end
+slice_get-before : (xs ys : List Change) (i : ℕ) (c : Change) → slice_get xs i ≡ Some c
+    → slice_get (xs ++ ys) i ≡ Some c
+slice_get-before [] ys i c h = cc
+slice_get-before (x ∷ xs) ys zero c h = h
+slice_get-before (x ∷ xs) ys (suc i) c h = slice_get-before xs ys i c h
+
+-- what is added at the end of a list stands at its length
+slice_get-end : (xs : List Change) (c : Change) → slice_get (xs ++ c ∷ []) (length xs) ≡ Some c
+slice_get-end [] c = refl
+slice_get-end (x ∷ xs) c = slice_get-end xs c
+
+-- equal lists have one head
+head_same : (o : Option Change) (os ps : List (Option Change)) (p : Option Change)
+    → o ∷ os ≡ p ∷ ps → o ≡ p
+head_same o os ps p h = cc
+
+-- and one rest
+tail_same : (o : Option Change) (os ps : List (Option Change)) (p : Option Change)
+    → o ∷ os ≡ p ∷ ps → os ≡ ps
+tail_same o os ps p h = cc
+
+-- changes that a book has under some numbers are those of each book that extends it
+pub changes_at-later : (b c : Book) (numbers : List ℕ) (changes : List Change) → Extends c b
+    → changes_at b numbers ≡ map (λ x. Some x) changes
+    → changes_at c numbers ≡ map (λ x. Some x) changes
+changes_at-later b c [] [] e h = refl
+changes_at-later b c [] (x ∷ changes) e h = cc
+changes_at-later b c (n ∷ numbers) [] e h = cc
+changes_at-later b c (n ∷ numbers) (x ∷ changes) e h =
+    let here : slice_get c.changes (n - 1) ≡ Some x =
+    subst (λ (d : Book). slice_get d.changes (n - 1) ≡ Some x) (sym e.1)
+    (slice_get-before b.changes e.0 (n - 1) x (head_same _ _ _ _ h)) in
+    ap₂ (λ (o : Option Change) (os : List (Option Change)). o ∷ os) here
+    (changes_at-later b c numbers changes e (tail_same _ _ _ _ h))
+
+-- a change that was added stands in the book under its number
+added_at : (old new : Book) (a : Applied) (c : Change) → IsAdded old new a c
+    → slice_get new.changes (a.change - 1) ≡ Some c
+added_at old new a c d =
+    let before = (before_of new).changes in
+    let whole : new.changes ≡ before ++ c ∷ [] = ap (λ (b : Book). b.changes) d.place in
+    let long : a.change ≡ length before + 1 =
+    omega (
+      arith,
+      d.number,
+      ap (λ (xs : List Change). length xs) whole,
+      length-append before (c ∷ []),
+    ) in
+    subst (λ (xs : List Change). slice_get xs (a.change - 1) ≡ Some c) (sym whole)
+    (subst (λ (n : ℕ). slice_get (before ++ c ∷ []) n ≡ Some c) (omega (arith, long))
+    (slice_get-end before c))
+
+-- an author by its number and the numbers of its changes
+abbrev author_of : ℕ → List ℕ → Author
+author_of number changes = record { number = number; changes = changes }
+
+-- with one change more, the seat has made that too
+pub made_more : (old mid new : SeatToken Identity) (changes : List Change) (a : Applied)
+    (c : Change) → HasMade old mid changes → new.author ≡ with_change mid.author a.change
+    → IsAdded mid.book new.book a c → HasMade old new (changes ++ c ∷ [])
+made_more old mid new changes a c m author added = record {
+  numbers = m.numbers ++ a.change ∷ [];
+  author =
+      author
+      ∙ ap (λ (x : Author). with_change x a.change) m.author
+      ∙ ap (λ (ns : List ℕ). author_of old.author.number ns)
+      (append_assoc old.author.changes m.numbers (a.change ∷ []));
+  made =
+      map-append (λ n. slice_get new.book.changes (n - 1)) m.numbers (a.change ∷ [])
+      ∙ ap₂ (λ (xs ys : List (Option Change)). xs ++ ys)
+      (changes_at-later mid.book new.book m.numbers changes added.later m.made)
+      (ap (λ (o : Option Change). o ∷ []) (added_at mid.book new.book a c added))
+      ∙ sym (map-append (λ x. Some x) changes (c ∷ []));
+}
+
+-- A seat that had made nothing made these changes, and then met another, which knows this book: the
+-- seat's own changes in it are these.
+pub made_whole : (old new met : SeatToken Identity) (changes : List Change) (book : Book)
+    → old.author.changes ≡ [] → HasMade old new changes → met ≡ record new { book = met.book }
+    → Extends met.book new.book → book ≡ met.book
+    → changes_at book met.author.changes ≡ map (λ x. Some x) changes
+made_whole old new met changes book fresh m stays later same =
+    let own : met.author.changes ≡ m.numbers =
+    ap (λ (s : SeatToken Identity). s.author.changes) stays
+    ∙ ap (λ (a : Author). a.changes) m.author ∙ ap (λ (ns : List ℕ). ns ++ m.numbers) fresh in
+    subst (λ (b : Book). changes_at b met.author.changes ≡ map (λ x. Some x) changes) (sym same)
+    (subst (λ (ns : List ℕ). changes_at met.book ns ≡ map (λ x. Some x) changes) (sym own)
+    (changes_at-later new.book met.book m.numbers changes later m.made))
