@@ -1,5 +1,5 @@
 -- The numbers of an author's changes.
-use Rattle.std.proofs.Common.{◌≡◌, ◌≢◌, ℕ, zero, suc, ◌+◌, ◌<◌, ◌≤◌, Bool, true, false, All, Contains, ◌⊎◌, inl, inr, ⊎_elim, cond, eqb, eqb-true, eq-eqb, ne_eqb, List, [], ◌∷◌, ◌++◌, length, refl, sym, ap, ◌∙◌, subst, arith, Some, length-append, get_or, true≢false}
+use Rattle.std.proofs.Common.{◌≡◌, ◌≢◌, ℕ, zero, suc, ◌+◌, ◌<◌, ◌≤◌, Bool, true, false, Contains, ◌⊎◌, inl, inr, ⊎_elim, cond, eqb, eqb-true, eq-eqb, ne_eqb, List, [], ◌∷◌, ◌++◌, length, refl, sym, ap, ◌∙◌, subst, arith, Some, length-append, get_or, true≢false}
 use Rattle.std.specs.Prelude.{slice_get, slice_index}
 use Rattle.std.specs.List.Sorted.{IsStrictlyIncreasing}
 use Rattle.std.proofs.lemmas.List.Elements.{All-contains, All-contains_itself}
@@ -8,8 +8,8 @@ use Rattle.lq_volume.specs.declared.change.Change.{Change}
 use Rattle.lq_volume.specs.Book.{Book, grown}
 use Rattle.lq_board.specs.declared.views.Author.{Author}
 use Rattle.lq_board.specs.declared.views.Register.{Register}
-use Rattle.lq_board.specs.Author.{changes_after, changes_by, AreSeats, IsSigned, IsAuthor, IsAuthorIn, AreDisjoint, with_seat, new_author, with_author, with_change}
-use Rattle.lq_board.specs.Laws.{SeatsShareNoChange, AreNumbersOf, OwnChangesAreWithin, HasAuthor, AuthorsKnowTheirChanges, SeatsMakeTheBook}
+use Rattle.lq_board.specs.Author.{changes_after, changes_by, AreSeats, IsSigned, IsAuthor, IsAuthorIn, with_seat, new_author, with_author, with_change}
+use Rattle.lq_board.specs.Laws.{SeatsShareNoChange, AreNumbersOf, OwnChangesAreWithin, AuthorsKnowTheirChanges, SeatsMakeTheBook}
 
 -- what follows a list that may have one more at its head
 cond_more : (b : Bool) (x : ℕ) (p q l : List ℕ) → p ≡ q ++ l

@@ -1,5 +1,5 @@
 -- Each step on a word keeps the rule.
-use Rattle.std.proofs.Common.{◌≡◌, ◌≢◌, ℕ, zero, suc, ◌+◌, ◌<◌, ◌^◌, ◌%◌, List, [], ◌∷◌, ◌++◌, length, refl, sym, ap, ◌∙◌, subst, arith, length-append, get_or-set_same, get_or-set_other, Option, Some, ◌≤◌, false}
+use Rattle.std.proofs.Common.{◌≡◌, ◌≢◌, ℕ, zero, suc, ◌+◌, ◌<◌, ◌^◌, ◌%◌, List, [], ◌∷◌, length, refl, sym, ap, ◌∙◌, subst, arith, length-append, get_or-set_same, get_or-set_other, Option, Some, ◌≤◌, false}
 use Rattle.std.specs.Prelude.{slice_index, slice_set, replicate}
 use Rattle.std.proofs.lemmas.List.{set-get_or, get_or-replicate}
 use mathlib.Core.Logic.{dite}
@@ -21,9 +21,9 @@ use Rattle.lq_board.specs.declared.views.TokenView.{TokenView}
 use Rattle.lq_board.specs.declared.views.TokenView.TheVariants.{Keeper, Seat, Pair, Spent}
 use Rattle.lq_board.specs.Book.{IsFullBook}
 use Rattle.lq_board.specs.Author.{IsSigned, IsAuthor, no_register, with_author, with_change}
-use Rattle.lq_board.specs.Slot.{unused, unused_slots, slot_at, counted}
+use Rattle.lq_board.specs.Slot.{unused_slots, slot_at, counted}
 use Rattle.lq_board.specs.View.{keeper, newborn}
-use Rattle.lq_board.specs.Rule.{CameBack, Sits, Fits, Owns, Signs, Kept, IsKept}
+use Rattle.lq_board.specs.Rule.{CameBack, Sits, Fits, Signs, Kept, IsKept}
 use Rattle.lq_board.specs.Step.{Adds, Sees, Checks, Counts, Asks}
 use Rattle.lq_board.proofs.AuthorLemmas.{signed_more, author_more}
 use Rattle.lq_board.proofs.BookLemmas.{extends_self, extends_more, full_more, room_of}

@@ -6,4 +6,5 @@ pub mod Token
 pub mod Rule
 pub mod Step
 pub mod Meeting
+pub mod Return
 pub mod Laws

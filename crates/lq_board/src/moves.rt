@@ -6,6 +6,7 @@ ghost use Rattle.lq_board.specs.Author.{IsSigned, IsAuthor, AreDisjoint, with_se
 ghost use Rattle.lq_board.specs.Book.{IsFullBook};
 ghost use Rattle.lq_board.specs.Slot.{slot_at, gone_out, go_out, come_back};
 ghost use Rattle.lq_board.specs.View.{sitting_of, plain, of_no_slot};
+ghost use Rattle.lq_board.specs.Return.{GoesOutAgain};
 ghost use Rattle.lq_board.specs.Rule.{CameBack};
 
 use crate::board::Board;
@@ -96,32 +97,10 @@ impl<M> Board<M> {
         requires number { 0 < (sitting_of token.me.0).author.number }
         requires slot { (sitting_of token.me.0).slot < 65 }
         ensures number { result.0 ≡ length keeper.old.book.changes }
-        ensures back { CameBack keeper.old.book (sitting_of token.me.0)
-            (slot_at keeper.old.slots (sitting_of token.me.0).slot) }
-        ensures board { result.1.table_id ≡ keeper.old.board }
-        ensures view { result.1.me ≡ (
-          TokenView.Seat (record {
-            slot = (sitting_of token.me.0).slot;
-            book = keeper.old.book;
-            asks = (sitting_of token.me.0).asks;
-            name = W.name;
-            author = (sitting_of token.me.0).author;
-          }),
-          [],
-        ) }
-        ensures full { IsFullBook keeper.old.book }
-        ensures author { IsAuthor (sitting_of token.me.0).author keeper.old.register }
-        ensures signed { IsSigned keeper.old.book keeper.old.register }
-        ensures keeper { keeper.new ≡ record {
-          board = keeper.old.board;
-          book = keeper.old.book;
-          slots = go_out
-              (come_back keeper.old.slots (sitting_of token.me.0).slot
-              (sitting_of token.me.0).asks (sitting_of token.me.0).name)
-              (sitting_of token.me.0).slot
-              W.name;
-          register = keeper.old.register;
-        } }
+        ensures again { let w = sitting_of token.me.0 in GoesOutAgain keeper.old keeper.new w
+            (record w { book = keeper.old.book; name = W.name })
+            result.1.table_id result.1.me }
+        ensures register { keeper.new.register ≡ keeper.old.register }
     {
         self.table
             .shared
@@ -147,34 +126,15 @@ impl<M> Board<M> {
         requires chosen { W.change ≡ Some change.now }
         requires lawful { IsLawful (state_of keeper.old.book) change.now }
         ensures number { result.0 ≡ length keeper.new.book.changes }
-        ensures back { CameBack keeper.old.book (sitting_of token.me.0)
-            (slot_at keeper.old.slots (sitting_of token.me.0).slot) }
-        ensures board { result.1.table_id ≡ keeper.old.board }
-        ensures view { result.1.me ≡ (
-          TokenView.Seat (record {
-            slot = (sitting_of token.me.0).slot;
-            book = keeper.new.book;
-            asks = (sitting_of token.me.0).asks;
-            name = W.name;
-            author = with_change (sitting_of token.me.0).author result.0;
-          }),
-          [],
-        ) }
-        ensures full { IsFullBook keeper.new.book }
+        ensures again { let w = sitting_of token.me.0 in GoesOutAgain keeper.old keeper.new w
+            (record w {
+              book = grown keeper.old.book (change.now ∷ []);
+              name = W.name;
+              author = with_change w.author result.0;
+            }) result.1.table_id result.1.me }
         ensures state { state_of keeper.new.book ≡ after (state_of keeper.old.book) change.now }
-        ensures author { IsAuthor (with_change (sitting_of token.me.0).author result.0)
-            keeper.new.register }
-        ensures signed { IsSigned keeper.new.book keeper.new.register }
-        ensures keeper { keeper.new ≡ record {
-          board = keeper.old.board;
-          book = grown keeper.old.book (change.now ∷ []);
-          slots = go_out
-              (come_back keeper.old.slots (sitting_of token.me.0).slot
-              (sitting_of token.me.0).asks (sitting_of token.me.0).name)
-              (sitting_of token.me.0).slot
-              W.name;
-          register = with_author keeper.old.register (sitting_of token.me.0).author.number;
-        } }
+        ensures register { keeper.new.register
+            ≡ with_author keeper.old.register (sitting_of token.me.0).author.number }
     {
         let _ = change;
         // For the proof: a volume that takes the change is within its limit after it.

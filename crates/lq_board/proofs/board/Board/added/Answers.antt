@@ -1,6 +1,5 @@
 -- The seat can come back, its change be added then, and the seat go out again.
-use Rattle.std.proofs.Common.{ℕ, length, sym, ap, ◌∙◌, subst, arith}
-use Rattle.atomic_table.specs.Table.{Me}
+use Rattle.std.proofs.Common.{sym, ap, ◌∙◌, subst, arith}
 use Rattle.lq_volume.specs.Change.{IsLawful}
 use Rattle.lq_volume.specs.Book.{state_of}
 use Rattle.lq_board.specs.Token.{KeeperToken}
