@@ -1,10 +1,10 @@
 //! Steps on a board's words that several calls share, or that a call chooses.
-ghost use Rattle.std.specs.Prelude.{◌≡◌, ◌≢◌, ◌+◌, ◌<◌, [], ◌∷◌, length, false, Some};
+ghost use Rattle.std.specs.Prelude.{◌≡◌, ◌≢◌, ◌<◌, [], ◌∷◌, length, false, Some};
 ghost use Rattle.lq_volume.specs.Book.{grown, state_of};
 ghost use Rattle.lq_volume.specs.Change.{after, IsLawful};
 ghost use Rattle.lq_board.specs.Author.{IsSigned, IsAuthor, AreDisjoint, with_seat, new_author, with_author, with_change};
 ghost use Rattle.lq_board.specs.Book.{IsFullBook};
-ghost use Rattle.lq_board.specs.Slot.{slot_at, gone_out, go_out, come_back};
+ghost use Rattle.lq_board.specs.Slot.{slot_at, gone_out, come_back};
 ghost use Rattle.lq_board.specs.View.{sitting_of, plain, of_no_slot};
 ghost use Rattle.lq_board.specs.Return.{GoesOutAgain};
 ghost use Rattle.lq_board.specs.Rule.{CameBack};
