@@ -12,15 +12,15 @@ use Rattle.lq_predicate_formula.specs.Machine.{Frame, operand, after_attr, after
 use Rattle.lq_predicate_formula.specs.Query.{Query, Compare}
 use Rattle.lq_predicate_formula.specs.Sizes.{literal_bytes, name_bytes}
 use Rattle.lq_predicate_formula.specs.Tokens.{opens, closes, bang, ands, ors, op, word}
-use Rattle.lq_predicate_reader.specs.Validator.{IsStepAt, Shows, behind_or, query_size, size_frame}
+use Rattle.lq_predicate_reader.specs.Validator.{IsStepAt, Shows, after_or, query_size, size_frame}
 use Rattle.lq_predicate_reader.specs.declared.query_size.QuerySize.{QuerySize}
 use Rattle.lq_predicate_reader.specs.declared.query_size.SizeFrame.{SizeFrame}
-use Rattle.lq_predicate_reader.specs.declared.validator.Expected.{Expected}
-use Rattle.lq_predicate_reader.specs.declared.validator.Expected.TheVariants as expects
+use Rattle.lq_predicate_reader.specs.declared.expected.Expected.{Expected}
+use Rattle.lq_predicate_reader.specs.declared.expected.Expected.TheVariants as expects
 use Rattle.lq_predicate_reader.specs.declared.validator.Validator.{Validator}
 
 -- a validator by its parts
-abbrev pub validator : ArrayVec SizeFrame → SizeFrame → Expected → ℕ → Validator
+abbrev pub validator : ArrayVec SizeFrame → SizeFrame → Expected ℕ → ℕ → Validator
 validator below top expected room =
     record { below = below; top = top; expected = expected; room = room }
 
@@ -141,7 +141,7 @@ banged g s n h light some new = (
   },
 )
 
--- ---- behind an attribute
+-- ---- after an attribute
 
 -- an operator leads the validator as it leads the machine
 pub op_read : (g : Validator) (s : State) (a : List ℕ) (n : ℕ) (o : Op)
@@ -160,7 +160,7 @@ op_read g s a n o h e = (
   },
 )
 
--- ---- behind an operator
+-- ---- after an operator
 
 -- a validator shows the state in which an operand of this size is completed
 abbrev Completes : Validator → QuerySize → ArrayVec SizeFrame → SizeFrame → ℕ → Type 0
@@ -203,7 +203,7 @@ literal_read g s a o raw n b g' h light e fine size done =
     let r = literal_by g s a o n b g' (literal_of o raw) h light e size done in
     (r.0, r.1, fine, r.2)
 
--- ---- behind an operand
+-- ---- after an operand
 
 -- `&&` leads the validator as it leads the machine
 pub ands_read : (g : Validator) (s : State) → Shows g s
@@ -229,10 +229,10 @@ ands_read g s h = (
 
 -- `||` leads the validator as it leads the machine
 pub ors_read : (g : Validator) (s : State) (top : SizeFrame)
-    → Shows g s → top ≡ size_frame (behind_or s.top)
+    → Shows g s → top ≡ size_frame (after_or s.top)
     → IsStepAt after_operand s ors (Ok tt) (validator g.below top expects.Operand g.room)
 ors_read g s top h new = (
-  record { below = s.below; top = behind_or s.top; expected = operand; room = s.room },
+  record { below = s.below; top = after_or s.top; expected = operand; room = s.room },
   refl,
   refl,
   record { below = h.below; top = new; expected = refl; room = h.room },

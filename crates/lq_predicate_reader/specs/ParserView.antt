@@ -5,8 +5,8 @@ use Rattle.lq_predicate_formula.specs.Tokens.{Token, opens, closes, bang, ands, 
 use Rattle.lq_predicate_formula.specs.Machine.{Frame, Expected, operand, after_attr, after_op, after_operand, State}
 use Rattle.lq_predicate_formula.specs.Reading.{pattern_fault_of_word}
 use Rattle.lq_predicate_reader.specs.declared.parser.TreeFrame.{TreeFrame}
-use Rattle.lq_predicate_reader.specs.declared.parser.Expected.{Expected as Expects}
-use Rattle.lq_predicate_reader.specs.declared.parser.Expected.TheVariants as expects
+use Rattle.lq_predicate_reader.specs.declared.expected.Expected.{Expected as Expects}
+use Rattle.lq_predicate_reader.specs.declared.expected.Expected.TheVariants as expects
 use Rattle.lq_predicate_reader.specs.declared.parser.Parser.{Parser}
 
 abbrev pub frame_of : TreeFrame → Frame
@@ -16,7 +16,7 @@ frame_of b = record { or_parts = b.or_parts.items; and_parts = b.and_parts.items
 abbrev pub below_of : Vec TreeFrame Global → List Frame
 below_of v = reverse (map frame_of v.items)
 
-abbrev pub expected_of : Expects → Expected
+abbrev pub expected_of : Expects (List ℕ) → Expected
 expected_of expects.Operand = operand
 expected_of (expects.AfterAttr a) = after_attr a
 expected_of (expects.AfterOp a o) = after_op a o

@@ -11,8 +11,8 @@ use Rattle.lq_predicate_reader.specs.declared.query_size.QuerySize.{QuerySize}
 use Rattle.lq_predicate_reader.specs.declared.query_size.Parts.{Parts}
 use Rattle.lq_predicate_reader.specs.declared.query_size.Parts.TheVariants.{Empty, One, More}
 use Rattle.lq_predicate_reader.specs.declared.query_size.SizeFrame.{SizeFrame}
-use Rattle.lq_predicate_reader.specs.declared.validator.Expected.{Expected as ExpectedSize}
-use Rattle.lq_predicate_reader.specs.declared.validator.Expected.TheVariants as expects
+use Rattle.lq_predicate_reader.specs.declared.expected.Expected.{Expected as Expects}
+use Rattle.lq_predicate_reader.specs.declared.expected.Expected.TheVariants as expects
 use Rattle.lq_predicate_reader.specs.declared.validator.Validator.{Validator}
 
 abbrev pub query_size : Query → QuerySize
@@ -29,11 +29,11 @@ size_frame f =
     record { or_parts = parts_of f.or_parts; and_parts = parts_of f.and_parts; bangs = f.bangs }
 
 -- the frame after `||`
-abbrev pub behind_or : Frame → Frame
-behind_or f =
+abbrev pub after_or : Frame → Frame
+after_or f =
     record { or_parts = f.or_parts ++ both_of f.and_parts ∷ []; and_parts = []; bangs = 0 }
 
-abbrev pub size_expected : Expected → ExpectedSize
+abbrev pub size_expected : Expected → Expects ℕ
 size_expected operand = expects.Operand
 size_expected (after_attr a) = expects.AfterAttr (name_bytes a)
 size_expected (after_op a o) = expects.AfterOp (name_bytes a) o

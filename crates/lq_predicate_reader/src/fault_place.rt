@@ -5,8 +5,9 @@ ghost use Rattle.lq_predicate_formula.specs.TokenView.{placed_of, token_of};
 ghost use Rattle.lq_predicate_reader.specs.PlainPlace.{plain_place};
 ghost use Rattle.lq_predicate_reader.specs.Refusals.{fault_of};
 
+use crate::expected::Expected;
 use crate::query_size::new_size_frame;
-use crate::validator::{Expected, NESTING, Validator, size_at_end, validate_token};
+use crate::validator::{NESTING, Validator, size_at_end, validate_token};
 use arrayvec::ArrayVec;
 use lq_predicate_formula::{Cursor, Placed, Token, next_token};
 
@@ -50,7 +51,7 @@ fn fault_within(text: &str) -> Option<u64>
             Ok(()) => {}
             Err(pattern) => return Some(token_place(text.len(), &placed, pattern)),
         }
-        words += words_of(&placed.token);
+        words += word_count(&placed.token);
         if words > MOST_WORDS {
             return Some(placed.place as u64);
         }
@@ -88,7 +89,7 @@ fn plain_place(end: usize, placed: &Placed) -> usize
 }
 
 // 1 for a token that is a word, else 0.
-fn words_of(token: &Token) -> usize
+fn word_count(token: &Token) -> usize
     ensures value { result ≡ word_count (token_of token.now) }
     ensures bound { result ≤ 1 }
 {

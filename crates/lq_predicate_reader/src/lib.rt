@@ -7,6 +7,7 @@
 //! then `fault_place`.
 #![tactic(auto)]
 
+mod expected;
 mod fault_place;
 mod parser;
 mod query_size;

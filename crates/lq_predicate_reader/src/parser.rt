@@ -7,10 +7,11 @@ ghost use Rattle.lq_predicate_formula.specs.TokenView.{token_of};
 ghost use Rattle.lq_value.specs.Refusal.{FailsOnlyForMemory};
 ghost use Rattle.lq_predicate_reader.specs.ParserView.{below_of, frame_of, state_at, state_of};
 
+use crate::expected::Expected;
 use crate::validator::NESTING;
 use lq_predicate_formula::{Token, read_literal, read_name};
 use lq_predicate_tree::Tree;
-use lq_value::{AttrName, Op, Refusal};
+use lq_value::{AttrName, Refusal};
 use std::alloc::{AllocError, Global};
 
 // A formula that is begun: the parts of its `or` that are done, those of its last `and`, and the
@@ -22,21 +23,12 @@ pub(crate) struct TreeFrame {
     pub(crate) bangs: usize,
 }
 
-// What the parser expects next.
-#[derive(Drop)]
-pub(crate) enum Expected {
-    Operand,
-    AfterAttr(AttrName),
-    AfterOp(AttrName, Op),
-    AfterOperand,
-}
-
 // The formulas that are begun, from the outside in, and how many more may nest.
 #[derive(Drop)]
 pub(crate) struct Parser {
     pub(crate) below: Vec<TreeFrame>,
     pub(crate) top: TreeFrame,
-    pub(crate) expected: Expected,
+    pub(crate) expected: Expected<AttrName>,
     pub(crate) room: usize,
 }
 
@@ -84,7 +76,7 @@ fn complete(
 }
 
 // The query of a frame, once it is whole.
-fn said(mut frame: TreeFrame) -> Result<Tree, AllocError>
+fn tree_of(mut frame: TreeFrame) -> Result<Tree, AllocError>
     ensures { IfOk result (λ tree. tree ≡ said_by (frame_of frame)) }
 {
     let last = Tree::both(frame.and_parts);
@@ -137,7 +129,7 @@ fn read_operand(
     }
 }
 
-fn read_behind_operand(
+fn read_after_operand(
     alloc: Global,
     mut below: Vec<TreeFrame>,
     mut top: TreeFrame,
@@ -182,7 +174,7 @@ fn read_behind_operand(
             let Some(frame) = below.pop() else {
                 unreachable!()
             };
-            let tree = said(top)?;
+            let tree = tree_of(top)?;
             Ok(complete(alloc, tree, below, frame, room + 1)?)
         }
         _ => unreachable!(),
@@ -221,7 +213,7 @@ pub(crate) fn read_token(alloc: Global, parser: Parser, token: &Token) -> Result
             let tree = Tree::compare(attr, op, read_literal(alloc, op, word)?);
             Ok(complete(alloc, tree, below, top, room)?)
         }
-        Expected::AfterOperand => read_behind_operand(alloc, below, top, room, token),
+        Expected::AfterOperand => read_after_operand(alloc, below, top, room, token),
     }
 }
 
@@ -230,5 +222,5 @@ pub(crate) fn end_of(parser: Parser) -> Result<Tree, AllocError>
     requires { IsSome (whole (state_of parser)) }
     ensures { IfOk result (λ tree. whole (state_of parser) ≡ Some tree) }
 {
-    said(parser.top)
+    tree_of(parser.top)
 }

@@ -88,7 +88,7 @@ pub(crate) fn negated(part: QuerySize, bangs: usize) -> QuerySize
 }
 
 // The size of a frame's query, once the frame is whole.
-pub(crate) fn said(frame: SizeFrame) -> QuerySize
+pub(crate) fn size_of(frame: SizeFrame) -> QuerySize
     ensures { (f : Frame) → frame ≡ size_frame f → result ≡ query_size (said_by f) }
 {
     together(with_part(frame.or_parts, together(frame.and_parts)))

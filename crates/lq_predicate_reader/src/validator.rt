@@ -4,9 +4,12 @@ ghost use Rattle.lq_predicate_formula.specs.Machine.{Frame, State, after_attr, a
 ghost use Rattle.lq_predicate_formula.specs.Query.{Query};
 ghost use Rattle.lq_predicate_formula.specs.Sizes.{name_bytes};
 ghost use Rattle.lq_predicate_formula.specs.TokenView.{token_of};
-ghost use Rattle.lq_predicate_reader.specs.Validator.{IsEndOf, IsStepAt, IsStepOf, Shows, behind_or, query_size, size_frame};
+ghost use Rattle.lq_predicate_reader.specs.Validator.{IsEndOf, IsStepAt, IsStepOf, Shows, after_or, query_size, size_frame};
 
-use crate::query_size::{QuerySize, SizeFrame, negated, new_size_frame, said, together, with_part};
+use crate::expected::Expected;
+use crate::query_size::{
+    QuerySize, SizeFrame, negated, new_size_frame, size_of, together, with_part,
+};
 use arrayvec::ArrayVec;
 use lq_predicate_formula::{Token, joined_size, raw_literal_size, raw_name_size};
 use lq_value::Op;
@@ -14,22 +17,13 @@ use lq_value::Op;
 /// How deep parentheses and `!` may nest.
 pub(crate) const NESTING: usize = 64;
 
-// What is expected next; for an attribute, also how many bytes its name has in canonical text.
-#[derive(Clone, Copy)]
-pub(crate) enum Expected {
-    Operand,
-    AfterAttr(usize),
-    AfterOp(usize, Op),
-    AfterOperand,
-}
-
 // The parser's state without the query that was read, so it takes no memory. Sums stop at the
 // greatest usize.
 #[derive(Drop)]
 pub(crate) struct Validator {
     pub(crate) below: ArrayVec<SizeFrame, NESTING>,
     pub(crate) top: SizeFrame,
-    pub(crate) expected: Expected,
+    pub(crate) expected: Expected<usize>,
     pub(crate) room: usize,
 }
 
@@ -40,9 +34,9 @@ pub(crate) fn validate_token(validator: &mut Validator, token: &Token) -> Result
 {
     match validator.expected {
         Expected::Operand => at_operand(validator, token),
-        Expected::AfterAttr(attr) => behind_attr(validator, attr, token),
-        Expected::AfterOp(attr, op) => behind_op(validator, attr, op, token),
-        Expected::AfterOperand => behind_operand(validator, token),
+        Expected::AfterAttr(attr) => after_attr(validator, attr, token),
+        Expected::AfterOp(attr, op) => after_op(validator, attr, op, token),
+        Expected::AfterOperand => after_operand(validator, token),
     }
 }
 
@@ -84,7 +78,7 @@ fn at_operand(validator: &mut Validator, token: &Token) -> Result<(), Option<u64
     }
 }
 
-fn behind_attr(validator: &mut Validator, attr: usize, token: &Token) -> Result<(), Option<u64>>
+fn after_attr(validator: &mut Validator, attr: usize, token: &Token) -> Result<(), Option<u64>>
     ensures { (s : State) (name : List ℕ) → Shows validator.old s → attr ≡ name_bytes name
         → IsStepAt (after_attr name) s (token_of token.now) result validator.new }
 {
@@ -97,7 +91,7 @@ fn behind_attr(validator: &mut Validator, attr: usize, token: &Token) -> Result<
     }
 }
 
-fn behind_op(
+fn after_op(
     validator: &mut Validator,
     attr: usize,
     op: Op,
@@ -123,7 +117,7 @@ fn behind_op(
     }
 }
 
-fn behind_operand(validator: &mut Validator, token: &Token) -> Result<(), Option<u64>>
+fn after_operand(validator: &mut Validator, token: &Token) -> Result<(), Option<u64>>
     ensures { (s : State) → Shows validator.old s → weight s ≤ 64
         → IsStepAt after_operand s (token_of token.now) result validator.new }
 {
@@ -141,7 +135,7 @@ fn behind_operand(validator: &mut Validator, token: &Token) -> Result<(), Option
         Token::Closes => match validator.below.pop() {
             None => Err(None),
             Some(frame) => {
-                let part = said(validator.top);
+                let part = size_of(validator.top);
                 validator.top = frame;
                 validator.room = validator.room.saturating_add(1);
                 complete(validator, part);
@@ -154,7 +148,7 @@ fn behind_operand(validator: &mut Validator, token: &Token) -> Result<(), Option
 
 // Begins the next part of an `or`.
 fn with_or(frame: SizeFrame) -> SizeFrame
-    ensures { (f : Frame) → frame ≡ size_frame f → result ≡ size_frame (behind_or f) }
+    ensures { (f : Frame) → frame ≡ size_frame f → result ≡ size_frame (after_or f) }
 {
     SizeFrame {
         or_parts: with_part(frame.or_parts, together(frame.and_parts)),
@@ -182,7 +176,7 @@ pub(crate) fn size_at_end(validator: &Validator) -> Option<QuerySize>
     ensures { (s : State) → Shows validator.now s → IsEndOf s result }
 {
     match validator.expected {
-        Expected::AfterOperand if validator.below.is_empty() => Some(said(validator.top)),
+        Expected::AfterOperand if validator.below.is_empty() => Some(size_of(validator.top)),
         _ => None,
     }
 }

@@ -37,7 +37,7 @@ returns-then-words-gt-MOST_WORDS c =
     let i = c.loop-placed.invariant in
     let h = c.in-Ok.ensures i.0 i.1 i.2.small in
     one_too_many _ _ _ _ _ i.2 (placed_of c.in-Some.placed) _ _ _ c.in-Some.ensures.first h.1
-    (ap (λ n. c.loop-placed.words + n) c.words_of-words.ensures.value) c.if-words-gt-MOST_WORDS.true
+    (ap (λ n. c.loop-placed.words + n) c.word_count-words.ensures.value) c.if-words-gt-MOST_WORDS.true
 
 pub loop-placed-preserved : goal.loop-placed-preserved
 loop-placed-preserved c =
@@ -46,7 +46,7 @@ loop-placed-preserved c =
       h.0,
       h.3,
       goes_on _ _ _ _ _ i.2 (placed_of c.in-Some.placed) _ _ _ _ c.in-Some.ensures.first h.1
-          (ap (λ n. c.loop-placed.words + n) c.words_of-words.ensures.value)
+          (ap (λ n. c.loop-placed.words + n) c.word_count-words.ensures.value)
           (omega (arith, c.if-words-gt-MOST_WORDS.false)) c.in-Some.ensures.place,
     )
 

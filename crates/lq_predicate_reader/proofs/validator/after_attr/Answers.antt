@@ -1,5 +1,5 @@
 use Rattle.lq_predicate_reader.proofs.ValidatorLemmas.{op_read}
-use Rattle.lq_predicate_reader.proofs.validator.behind_attr.Goals as goal
+use Rattle.lq_predicate_reader.proofs.validator.after_attr.Goals as goal
 
 pub returns-in-Is : goal.returns-in-Is
 returns-in-Is c =

@@ -1,5 +1,5 @@
 use Rattle.lq_predicate_reader.proofs.ValidatorLemmas.{ands_read, ors_read, closed}
-use Rattle.lq_predicate_reader.proofs.validator.behind_operand.Goals as goal
+use Rattle.lq_predicate_reader.proofs.validator.after_operand.Goals as goal
 
 pub returns-in-Ands : goal.returns-in-Ands
 returns-in-Ands c = λ s h light. rw c.in-Ands.is (ands_read c.args.validator.now s h)
@@ -11,5 +11,5 @@ returns-in-Ors c =
 
 pub returns-in-Some : goal.returns-in-Some
 returns-in-Some c = λ s h light. rw c.in-Closes.is (closed c.args.validator.now s c.pop.new.self
-    c.in-Some.frame c.said-part.result _ _ h light c.in-Some.ensures.items
-    (c.said-part.ensures s.top h.top) c.saturating_add-validator.ensures c.complete.ensures)
+    c.in-Some.frame c.size_of-part.result _ _ h light c.in-Some.ensures.items
+    (c.size_of-part.ensures s.top h.top) c.saturating_add-validator.ensures c.complete.ensures)

@@ -1,5 +1,5 @@
 use Rattle.lq_predicate_reader.proofs.ValidatorLemmas.{literal_read}
-use Rattle.lq_predicate_reader.proofs.validator.behind_op.Goals as goal
+use Rattle.lq_predicate_reader.proofs.validator.after_op.Goals as goal
 
 pub returns-in-Ok : goal.returns-in-Ok
 returns-in-Ok c = λ s name h light is.
