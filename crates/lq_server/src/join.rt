@@ -3,6 +3,7 @@ ghost use Rattle.std.specs.Prelude.{◌≡◌, All, IfOk};
 ghost use Rattle.lq_value.specs.Refusal.{FailsOnlyForMemory};
 ghost use Rattle.lq_server.specs.Works.{AllGive};
 
+use crate::laws::servers_may_be_shared;
 use crate::named::Named;
 use crate::server::Server;
 use lq_value::Refusal;
@@ -43,6 +44,7 @@ pub fn join_over<
     ensures first { F.gives first N.board result.0 }
     ensures second { G.gives second N.board result.1 }
 {
+    servers_may_be_shared::<N>();
     join(rt, || first.work(rt, server), || second.work(rt, server))
 }
 
@@ -60,5 +62,6 @@ pub fn map_over<
         AllGive (λ w x. W.gives w N.board x) works.items v.items) }
     ensures refused { FailsOnlyForMemory result }
 {
+    servers_may_be_shared::<N>();
     Ok(map_vec(rt, works, &|work: W| work.work(rt, server))?)
 }

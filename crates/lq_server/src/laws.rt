@@ -1,7 +1,15 @@
-//! The law of readers, as the contract of a function with no body.
+//! The laws of readers and of threads, as contracts of functions that do nothing.
+ghost use Rattle.std.specs.Thread.{IsSend, IsSync};
 ghost use Rattle.lq_server.specs.Headline.{AnswersAreTold};
+ghost use Rattle.lq_server.specs.contracts.server.Server as servers;
 
+use crate::named::Named;
+use lq_board::{Board, Keeper};
+use lq_desk_sub::Sub;
+use lq_port::PortIn;
+use lq_server_subscription::{Delivery, Identity};
 use lq_update::{folds_give_results, whole_folds_give_results};
+use lq_volume::Volume;
 
 /// The headline: the reads of a reader give its query's update list, in order.
 ///
@@ -15,3 +23,28 @@ pub fn answers_are_told()
     folds_give_results();
     whole_folds_give_results();
 }
+
+/// Threads may share a server, whatever its name.
+///
+/// A predicate's tree contains itself, so the prover finds this in no caller by itself. One whose
+/// threads borrow a server calls this.
+pub fn servers_may_be_shared<N: Named>()
+    ensures { IsSync (servers.the_row N.row N.Named) }
+{
+    // For the proof: what the lock and the board are made of.
+    sends::<Sub>();
+    sends::<PortIn<Delivery>>();
+    sends::<Keeper<Identity>>();
+    sends::<Volume>();
+    shares::<Board<Identity>>();
+}
+
+// The bound, as a fact.
+fn sends<T: Send>()
+    ensures { IsSend T.row }
+{}
+
+// The bound, as a fact.
+fn shares<T: Sync>()
+    ensures { IsSync T.row }
+{}

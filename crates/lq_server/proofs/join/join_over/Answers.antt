@@ -12,7 +12,7 @@ use denote.Param.SendFields.{declared_send, as_row_send}
 use Rattle.std.below.core.specs.contracts.marker.ClosureMark as mark
 use Rattle.lq_server.specs.declared.named.Named.{Ghosts}
 use Rattle.lq_server.specs.contracts.server.Server as server
-use Rattle.lq_server.proofs.Crossing.{server_sync, mark_send}
+use Rattle.lq_server.proofs.Crossing.{mark_send}
 use Rattle.lq_server.proofs.join.join_over.Goals as goal
 
 -- what its closure takes: the work, the runtime, the server, and the mark of what it answers
@@ -27,11 +27,12 @@ parts ℓ ℓ' N R F M g =
 taken : (ν : Sym) (ℓ ℓ' : NamedLft) (N R F M : RattleType) (g : Ghosts N.Denot)
     → IsSend (param 2 F)
     → IsSync (param 1 R)
+    → IsSync (server.the_row (param 0 N) g)
     → IsSend (TupleAt ν (parts ℓ ℓ' N R F M g))
-taken ν ℓ ℓ' N R F M g s y =
+taken ν ℓ ℓ' N R F M g s y v =
     declared_send (type_at ν (parts ℓ ℓ' N R F M g)) (
       as_row_send (row_field (param 2 F)) s,
-      (shr_send _ _ _ y, (shr_send _ _ _ (server_sync (param 0 N) g), (mark_send M, tt))),
+      (shr_send _ _ _ y, (shr_send _ _ _ v, (mark_send M, tt))),
     )
 
 pub join-requires-send-F : goal.join-requires-send-F
@@ -39,4 +40,4 @@ join-requires-send-F g c κs within =
     param_send 1 _
     (arg_send _ no _
     (taken _ _ _ g.row.N g.row.R g.row.F (Tuple (param 4 g.row.F-Given ∷ [])) g.N.Named
-    c.type_bounds.send-F c.type_bounds.sync-R))
+    c.type_bounds.send-F c.type_bounds.sync-R c.servers_may_be_shared.ensures))

@@ -12,7 +12,7 @@ use denote.Param.SendFields.{declared_sync}
 use Rattle.std.below.core.specs.contracts.marker.ClosureMark as mark
 use Rattle.lq_server.specs.declared.named.Named.{Ghosts}
 use Rattle.lq_server.specs.contracts.server.Server as server
-use Rattle.lq_server.proofs.Crossing.{server_sync, mark_sync}
+use Rattle.lq_server.proofs.Crossing.{mark_sync}
 use Rattle.lq_server.proofs.join.map_over.Goals as goal
 
 -- what it takes: the runtime, the server, and the mark of what it answers
@@ -24,14 +24,15 @@ parts ℓ ℓ' N R M g =
     ∷ []
 
 taken : (ν : Sym) (ℓ ℓ' : NamedLft) (N R M : RattleType) (g : Ghosts N.Denot) → IsSync (param 1 R)
+    → IsSync (server.the_row (param 0 N) g)
     → IsSync (TupleAt ν (parts ℓ ℓ' N R M g))
-taken ν ℓ ℓ' N R M g y =
+taken ν ℓ ℓ' N R M g y v =
     declared_sync (type_at ν (parts ℓ ℓ' N R M g))
-    (shr_sync _ _ _ y, (shr_sync _ _ _ (server_sync (param 0 N) g), (mark_sync M, tt)))
+    (shr_sync _ _ _ y, (shr_sync _ _ _ v, (mark_sync M, tt)))
 
 pub map_vec-requires-sync-F : goal.map_vec-requires-sync-F
 map_vec-requires-sync-F g c κs within =
     param_sync 4 _
     (arg_sync _ no _
     (taken _ _ _ g.row.N g.row.R (Tuple (param 3 g.row.W-Given ∷ [])) g.N.Named
-    c.type_bounds.sync-R))
+    c.type_bounds.sync-R c.servers_may_be_shared.ensures))
