@@ -1,11 +1,13 @@
 //! Reads of several slots, side by side.
+ghost use Rattle.std.specs.Thread.{IsSend};
+
 use crate::gate::Gate;
 use crate::readers::Readers;
 use crate::tasks::Task;
 use crate::tokens::OwnReader;
 use crate::workers::Workers;
 use lq_script_reply::{Response, put_reply};
-use lq_server::{Named, Server};
+use lq_server::{Named, Server, servers_may_be_shared};
 use lq_value::Refusal;
 use std::alloc::Global;
 use std::sync::Wait;
@@ -61,8 +63,8 @@ impl<'a, N: Named, G> Turn<'a, N, G> {
 /// then a part of the replies may have been appended to `out`, and readers may be lost.
 pub fn read_beside<
     's,
-    E: 's,
     N: Named + Send + Sync + 's,
+    E: 's,
     G: Gate + Sync + 's,
     R: Threads + Wait + Sync,
 >(
@@ -75,6 +77,9 @@ pub fn read_beside<
     out: &mut Vec<u8>,
 ) -> Result<(), Refusal> {
     let turns = turns_of(alloc, server, gate, readers, slots)?;
+    // For the proof: what a turn holds may cross threads.
+    servers_may_be_shared::<N>();
+    sends::<Response>();
     let mut turns = workers.do_all(turns)?;
     let told = put_replies(&mut turns, slots, out);
     for turn in turns {
@@ -82,6 +87,11 @@ pub fn read_beside<
     }
     told
 }
+
+// The bound, as a fact.
+fn sends<T: Send>()
+    ensures { IsSend T.row }
+{}
 
 // Appends the reply to each read to `out`.
 fn put_replies<N: Named, G>(

@@ -5,7 +5,7 @@ use crate::draws::{Draws, QUERIES};
 use crate::held::SeatOf;
 use crate::party::{Acted, Party, Table};
 use crate::reference::{LIMIT, find_results, is_left};
-use lq_server::{Base, Named, Retired, Server};
+use lq_server::{Base, Named, Retired, Server, servers_may_be_shared};
 use lq_value::Refusal;
 use lq_volume::Volume;
 use std::alloc::Global;
@@ -108,6 +108,7 @@ fn act<N: Named + Send + Sync, R: Threads + Wait + Sync>(
         for (place, party) in parties.iter_mut().enumerate() {
             party.table = turn.get(place);
         }
+        servers_may_be_shared::<N>();
         for_each_mut(
             rt,
             &mut parties,

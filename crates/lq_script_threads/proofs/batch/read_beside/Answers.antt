@@ -1,4 +1,5 @@
-use denote.Exit.{no}
+use denote.Exit.{yes, no}
+use denote.Param.{param}
 use denote.Param.Send.{arg_send, param_send}
 use Rattle.lq_script_threads.proofs.Crossing.{turn_send}
 use Rattle.lq_script_threads.proofs.batch.read_beside.Goals as goal
@@ -6,4 +7,7 @@ use Rattle.lq_script_threads.proofs.batch.read_beside.Goals as goal
 -- src/batch.rt:71:21
 pub do_all-requires-send-T : goal.do_all-requires-send-T
 do_all-requires-send-T g c κs within =
-    param_send 2 _ (arg_send _ no _ (turn_send _ _ _ _ c.type_bounds.sync-G))
+    param_send 2 _
+    (arg_send _ no _
+    (turn_send _ (param 0 g.row.N) _ g.N.Named c.servers_may_be_shared.ensures c.type_bounds.sync-G
+    record { owned = c.sends.ensures.owned; leaving = λ _. c.sends.ensures.leaving yes }))
