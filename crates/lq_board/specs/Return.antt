@@ -12,8 +12,9 @@ use Rattle.lq_board.specs.Token.{KeeperToken}
 use Rattle.lq_board.specs.Rule.{CameBack}
 
 module _ {M : Type 0} where
-  -- A seat came back as w, and is out again as v with this token. It was as the keeper knew; now the
-  -- keeper has v's book, and its slot is out under v's name. The new register has v as an author.
+  -- A seat came back as w, and is out again as v with this token. It was as the keeper knew. Now
+  -- the keeper has v's book, and its slot is out under v's name; the new register has v as an
+  -- author.
   pub record GoesOutAgain (old new : KeeperToken M) (w v : Sitting M) (table : TableId)
       (me : Me ℕ (TokenView M)) : Type 0 where
     pub back : CameBack old.book w (slot_at old.slots w.slot)

@@ -37,7 +37,8 @@ returns-then-words-gt-MOST_WORDS c =
     let i = c.loop-placed.invariant in
     let h = c.in-Ok.ensures i.0 i.1 i.2.small in
     one_too_many _ _ _ _ _ i.2 (placed_of c.in-Some.placed) _ _ _ c.in-Some.ensures.first h.1
-    (ap (λ n. c.loop-placed.words + n) c.word_count-words.ensures.value) c.if-words-gt-MOST_WORDS.true
+    (ap (λ n. c.loop-placed.words + n) c.word_count-words.ensures.value)
+    c.if-words-gt-MOST_WORDS.true
 
 pub loop-placed-preserved : goal.loop-placed-preserved
 loop-placed-preserved c =
