@@ -1,9 +1,8 @@
 //! Names, values, texts, refusals, patterns and literals, for all other crates.
 //!
 //! A contract sees a name or a text as its bytes, and a pattern as its list of elements. What a
-//! pattern fits is said by lq_value_match, how a source writes it by lq_value_pattern. Nothing here
-//! waits, and comparing takes no memory. Begin with `refusal`, then `value`, `name`, `pattern` and
-//! `literal`.
+//! pattern fits and how a source writes it is said by lq_value_pattern. Nothing here waits, and
+//! comparing takes no memory. Begin with `refusal`, then `value`, `name`, `pattern` and `literal`.
 #![tactic(auto)]
 
 mod attr_name;
@@ -18,6 +17,7 @@ mod op;
 mod pattern;
 mod refusal;
 mod shared_text;
+mod short_text;
 mod small_text;
 mod text;
 mod value;

@@ -1,6 +1,6 @@
 //! The text of an entry's name.
 use crate::shared_text::SharedText;
-use lq_value_short_text::ShortText;
+use crate::short_text::ShortText;
 
 /// The longest name that is stored inline, in bytes. With its length and the tag of its variant it
 /// takes 16 bytes, as a longer one does there.

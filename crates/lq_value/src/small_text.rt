@@ -3,7 +3,7 @@ ghost use Rattle.std.specs.Prelude.{◌≡◌, IfOk};
 ghost use Rattle.lq_value.specs.Refusal.{FailsOnlyForMemory};
 
 use crate::refusal::Refusal;
-use lq_value_short_text::ShortText;
+use crate::short_text::ShortText;
 use std::alloc::Global;
 use std::marker::Model;
 
