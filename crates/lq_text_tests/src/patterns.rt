@@ -1,8 +1,7 @@
 //! Of lq_value: sources that a formula can't have, since a `\` ends them, and drawn patterns over
 //! long texts, of which a plain body tells the same.
 use lq_value::{Element, Elements, Item, Pattern, Refusal};
-use lq_value_match::Starred;
-use lq_value_pattern::read_elements;
+use lq_value_pattern::{Starred, read_elements};
 use std::alloc::{AllocError, Global};
 use std::test::Fail;
 

@@ -1,8 +1,8 @@
 -- What a pattern's test says, by the law of the crate below.
 use Rattle.std.proofs.Common.{◌≡◌, ℕ, List, sym, ◌∙◌, Bool}
 use Rattle.std.specs.Prelude.{◌↔◌, IsTrue}
-use Rattle.lq_value_match.specs.Laws.{FitsAreSplits}
-use Rattle.lq_value_match.specs.Pattern.{Fits, fits}
+use Rattle.lq_value_pattern.specs.Laws.{FitsAreSplits}
+use Rattle.lq_value_pattern.specs.Pattern.{Fits, fits}
 use Rattle.lq_value_pattern.specs.declared.element.Element.{Element}
 
 -- an answer that is the test says whether the pattern fits

@@ -5,7 +5,7 @@ use Rattle.std.specs.Str.{chars, IsUtf8}
 use Rattle.std.proofs.lemmas.Str.{encodes-chars}
 use Rattle.lq_value.specs.Form.{pattern_number}
 use Rattle.lq_value.specs.Number.{number_of}
-use Rattle.lq_value_match.specs.Pattern.{plain_chars, plain_elements}
+use Rattle.lq_value_pattern.specs.Pattern.{plain_chars, plain_elements}
 
 -- plain elements have their characters
 pub plain_chars-plain : (cs : List ℕ) → plain_chars (plain_elements cs) ≡ Some cs

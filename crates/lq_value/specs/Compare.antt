@@ -11,7 +11,7 @@ use Rattle.lq_value.specs.declared.op.Op.{Op}
 use Rattle.lq_value.specs.declared.op.Op.TheVariants.{Eq, Ne, Lt, Le, Gt, Ge}
 use Rattle.lq_value.specs.Number.{number_of}
 use Rattle.lq_value.specs.Form.{pattern_number}
-use Rattle.lq_value_match.specs.Pattern.{fits}
+use Rattle.lq_value_pattern.specs.Pattern.{fits}
 
 -- whether an operator accepts the order of the two sides
 abbrev pub accepts : Op → Ordering → Bool

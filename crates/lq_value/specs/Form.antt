@@ -5,7 +5,7 @@ use Rattle.std.specs.String.{string_bytes}
 use Rattle.lq_value.specs.Number.{number_of}
 use Rattle.lq_value.specs.declared.pattern.Form.{Form}
 use Rattle.lq_value.specs.declared.pattern.Form.TheVariants.{PlainText, StarredText, Elements}
-use Rattle.lq_value_match.specs.Pattern.{plain_chars, plain_elements, starred_elements}
+use Rattle.lq_value_pattern.specs.Pattern.{plain_chars, plain_elements, starred_elements}
 use Rattle.lq_value_pattern.specs.declared.element.Element.{Element}
 
 -- the whole number that a pattern writes, if all its elements are plain and their text writes one

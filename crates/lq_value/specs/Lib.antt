@@ -10,7 +10,7 @@ pub mod Form
 pub mod Elements
 pub mod SourceRefusal
 pub mod Compare
-pub use Rattle.lq_value_match.specs.Pattern
+pub use Rattle.lq_value_pattern.specs.Pattern
 pub use Rattle.lq_value_pattern.specs.Element
 pub use Rattle.lq_value_pattern.specs.Sign
 pub use Rattle.lq_value_pattern.specs.Source

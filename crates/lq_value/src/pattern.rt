@@ -5,7 +5,7 @@ ghost use Rattle.std.specs.String.{string_bytes};
 ghost use Rattle.lq_value.specs.Refusal.{FailsOnlyForMemory, IsRefusedBy};
 ghost use Rattle.lq_value.specs.Form.{pattern_number};
 ghost use Rattle.lq_value.specs.SourceRefusal.{source_refusal};
-ghost use Rattle.lq_value_match.specs.Pattern.{Fits, fits, plain_elements};
+ghost use Rattle.lq_value_pattern.specs.Pattern.{Fits, fits, plain_elements};
 ghost use Rattle.lq_value_pattern.specs.Sign.{signs_of};
 ghost use Rattle.lq_value_pattern.specs.Source.{pattern_of};
 ghost use Rattle.lq_value_pattern.specs.Written.{HasFaultAt, Writes};
@@ -13,8 +13,10 @@ ghost use Rattle.lq_value.specs.declared.refusal.Refusal.TheVariants.{BadQuery};
 
 use crate::digits::number_of_bytes;
 use crate::refusal::Refusal;
-use lq_value_match::{Starred, fits_are_splits, fits_plain, fits_text, plain_text};
-use lq_value_pattern::{Element, copy_elements, read_elements};
+use lq_value_pattern::{
+    Element, Starred, copy_elements, fits_are_splits, fits_plain, fits_text, plain_text,
+    read_elements,
+};
 use std::alloc::Global;
 use std::marker::Model;
 

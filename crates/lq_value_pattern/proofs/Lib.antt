@@ -1,5 +1,6 @@
--- Read in this order: PieceLemmas, ReadingLemmas, WrittenLemmas, ElementLemmas, SourceLemmas,
--- SourceLaws, and by itself CopyLemmas.
+-- Read in this order. Sources: PieceLemmas, ReadingLemmas, WrittenLemmas, ElementLemmas,
+-- SourceLemmas, SourceLaws; copies: CopyLemmas. What fits: PatternLemmas, MatchingLemmas,
+-- SeekLemmas, LongLemmas, FlagLemmas, MaskLemmas, StarredLemmas.
 pub mod PieceLemmas
 pub mod ReadingLemmas
 pub mod WrittenLemmas
@@ -7,3 +8,10 @@ pub mod ElementLemmas
 pub mod SourceLemmas
 pub mod SourceLaws
 pub mod CopyLemmas
+pub mod PatternLemmas
+pub mod MatchingLemmas
+pub mod StarredLemmas
+pub mod SeekLemmas
+pub mod LongLemmas
+pub mod FlagLemmas
+pub mod MaskLemmas

@@ -1,11 +1,12 @@
 -- Laws on the sources of patterns.
-use Rattle.std.specs.Prelude.{◌≡◌, ◌↔◌, ◌<◌, ℕ, List, length, Ok, Err}
+use Rattle.std.specs.Prelude.{◌≡◌, ◌↔◌, ◌<◌, ℕ, List, length, Ok, Err, IsTrue}
 use Rattle.std.specs.Str.{IsUtf8}
 use Rattle.lq_value_pattern.specs.declared.element.Element.{Element}
 use Rattle.lq_value_pattern.specs.declared.sign.Sign.{Sign}
 use Rattle.lq_value_pattern.specs.Sign.{signs_of, signs_len}
 use Rattle.lq_value_pattern.specs.Source.{First, has, after_first, element_at, item_at, pattern_of, pieces_of}
 use Rattle.lq_value_pattern.specs.Written.{HasFaultAt, Writes}
+use Rattle.lq_value_pattern.specs.Pattern.{Fits, fits}
 
 -- a text is the source of exactly the elements that it writes
 abbrev pub SourcesAreRead : Type 0
@@ -28,3 +29,7 @@ pub record SourcesAreWalked : Type 0 where
   pub elements : AreWalked element_at
   pub items : AreWalked item_at
   pub bytes : (text : List ℕ) → IsUtf8 text → signs_len (signs_of text) ≡ length text
+
+-- the test is true exactly where some split of the text has each part fit its element
+abbrev pub FitsAreSplits : Type 0
+FitsAreSplits = (es : List Element) (cs : List ℕ) → IsTrue (fits es cs) ↔ Fits es cs

@@ -6,3 +6,7 @@ pub mod Laws
 pub mod SourceError
 pub mod Reading
 pub mod Piece
+pub mod Pattern
+pub mod Matching
+pub mod Seek
+pub mod Masks

@@ -1,5 +1,6 @@
-//! Laws on the sources of patterns: functions that do nothing, each with a law as its contract.
-ghost use Rattle.lq_value_pattern.specs.Laws.{FaultsAreFound, SourcesAreRead, SourcesAreWalked};
+//! Laws on the sources of patterns and on when a pattern fits: functions that do nothing, each with
+//! a law as its contract.
+ghost use Rattle.lq_value_pattern.specs.Laws.{FaultsAreFound, FitsAreSplits, SourcesAreRead, SourcesAreWalked};
 
 /// A text is the source of exactly the elements that it writes, so of at most one list of elements.
 pub fn sources_are_read()
@@ -18,4 +19,9 @@ pub fn faults_are_found()
 /// The same holds for the items of a set. The rest is shorter than the whole.
 pub fn sources_are_walked()
     ensures { SourcesAreWalked }
+{}
+
+/// A pattern fits a text exactly where some split of the text has each part fit its element.
+pub fn fits_are_splits()
+    ensures { FitsAreSplits }
 {}

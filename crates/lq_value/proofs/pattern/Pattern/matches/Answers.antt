@@ -1,6 +1,6 @@
 use Rattle.std.proofs.Common.{◌≡◌, rules}
 use Rattle.std.specs.Str.{chars}
-use Rattle.lq_value_match.specs.Pattern.{fits}
+use Rattle.lq_value_pattern.specs.Pattern.{fits}
 use Rattle.lq_value.proofs.FitsLemmas.{fits_tells}
 use Rattle.lq_value.proofs.pattern.Pattern.matches.Goals as goal
 

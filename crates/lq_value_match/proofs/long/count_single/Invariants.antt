@@ -1,7 +1,0 @@
-use Rattle.std.proofs.Common.{take}
-use Rattle.lq_value_match.specs.Matching.{AreSingle}
-use Rattle.lq_value_match.proofs.long.count_single.Given as goal
-
--- no element so far is a star
-abbrev pub invariant-loop-k : goal.invariant-loop-k
-invariant-loop-k l = AreSingle (take l.k l.elements)

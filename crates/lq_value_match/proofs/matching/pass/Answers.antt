@@ -1,5 +1,0 @@
-use Rattle.lq_value_match.proofs.MatchingLemmas.{passes_more}
-use Rattle.lq_value_match.proofs.matching.pass.Goals as goal
-
-pub loop-more-preserved : goal.loop-more-preserved
-loop-more-preserved c = passes_more _ _ _ _ _ _ c.loop-more.invariant c.in-More.ensures

@@ -1,6 +1,0 @@
-use Rattle.std.proofs.Common.{◌∙◌, sym}
-use Rattle.lq_value_match.proofs.PatternLemmas.{fits-text}
-use Rattle.lq_value_match.proofs.plain.fits_plain.Goals as goal
-
-pub returns : goal.returns
-returns c = c.eq.ensures ∙ sym (fits-text c.args.plain.now c.args.text.now c.utf8.plain c.utf8.text)

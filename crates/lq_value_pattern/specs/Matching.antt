@@ -1,0 +1,65 @@
+-- How a pattern is matched: from star to star, with elements other than stars in between.
+use Rattle.std.specs.Prelude.{◌≡◌, ◌≤◌, ℕ, List, [], ◌∷◌, ◌++◌, length, true, false}
+use Rattle.std.specs.Str.{chars}
+use Rattle.lq_value_pattern.specs.declared.element.Element.{Element}
+use Rattle.lq_value_pattern.specs.declared.element.Element.TheVariants.{Star, Any, Plain, Set}
+use Rattle.lq_value_pattern.specs.declared.matching.Taken.{Taken}
+use Rattle.lq_value_pattern.specs.declared.matching.Taken.TheVariants.{More, AtStar, Never}
+use Rattle.lq_value_pattern.specs.Element.{takes}
+use Rattle.lq_value_pattern.specs.Pattern.{fits, some_rest}
+
+abbrev pub IsSingle : Element → Type 0
+IsSingle Star = ⊥
+IsSingle Any = Unit {0}
+IsSingle (Plain d) = Unit {0}
+IsSingle (Set negated items) = Unit {0}
+
+abbrev pub AreSingle : List Element → Type 0
+AreSingle [] = Unit {0}
+AreSingle (e ∷ es) = IsSingle e × AreSingle es
+
+-- the first element is a star, or there is none
+abbrev pub IsAtStar : List Element → Type 0
+IsAtStar [] = Unit {0}
+IsAtStar (Star ∷ es) = Unit {0}
+IsAtStar (Any ∷ es) = ⊥
+IsAtStar (Plain d ∷ es) = ⊥
+IsAtStar (Set negated items ∷ es) = ⊥
+
+-- the first element takes the first character, and these elements and characters are left
+pub record TakesOne (es : List Element) (cs : List ℕ) (es' : List Element)
+    (cs' : List ℕ) : Type 0 where
+  pub e : Element
+  pub c : ℕ
+  pub elements : es ≡ e ∷ es'
+  pub text : cs ≡ c ∷ cs'
+  pub taken : takes e c ≡ true
+
+abbrev pub IsTaken : Taken → List Element → List ℕ → Type 0
+IsTaken (More left) es cs = TakesOne es cs left.elements.now (chars left.text.now)
+IsTaken AtStar es cs = IsAtStar es
+IsTaken Never es cs = fits es cs ≡ false
+
+-- some elements other than stars took a character each, and these elements and characters are left
+pub record Passes (es : List Element) (cs : List ℕ) (es' : List Element)
+    (cs' : List ℕ) : Type 0 where
+  pub piece : List Element
+  pub run : List ℕ
+  pub elements : es ≡ piece ++ es'
+  pub text : cs ≡ run ++ cs'
+  pub same : length piece ≡ length run
+  pub single : AreSingle piece
+  pub fit : fits es cs ≡ fits es' cs'
+
+-- the same up to the next star
+pub record PassesToStar (es : List Element) (cs : List ℕ) (es' : List Element)
+    (cs' : List ℕ) : Type 0 where
+  pub passes : Passes es cs es' cs'
+  pub star : IsAtStar es'
+
+-- the elements up to the next star fit at some place, and the rest after it decides the match
+pub record Finds (es : List Element) (cs : List ℕ) (es' : List Element)
+    (cs' : List ℕ) : Type 0 where
+  pub same : some_rest (fits es) cs ≡ fits es' cs'
+  pub star : IsAtStar es'
+  pub shorter : length es' ≤ length es
