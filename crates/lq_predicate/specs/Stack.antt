@@ -12,7 +12,7 @@ use Rattle.lq_value.specs.declared.refusal.Refusal.TheVariants.{BadQuery}
 use Rattle.lq_value.specs.Name.{is_attr_name}
 use Rattle.lq_value.specs.Pattern.{plain_elements}
 use Rattle.lq_predicate_formula.specs.Query.{Query, Compare, Not, And, Or, Queries, queries}
-use Rattle.lq_predicate_tree.specs.Limits.{if_within}
+use Rattle.lq_predicate_formula.specs.PredicateLimits.{if_within}
 use Rattle.lq_predicate.specs.Operand.{pattern_in}
 use Rattle.lq_predicate.specs.Stacked.{Stacked}
 use Rattle.lq_predicate.specs.declared.stack_item.StackItem.{StackItem}

@@ -1,8 +1,8 @@
 //! The attributes of a predicate: their names, and whether it needs one.
 ghost use Rattle.std.specs.Prelude.{◌≡◌, IfOk};
 ghost use Rattle.lq_value.specs.Refusal.{FailsOnlyForMemory};
-ghost use Rattle.lq_predicate_tree.specs.Names.{names_of};
-ghost use Rattle.lq_predicate_tree.specs.Needs.{needs_attribute};
+ghost use Rattle.lq_predicate_formula.specs.Names.{names_of};
+ghost use Rattle.lq_predicate_formula.specs.Needs.{needs_attribute};
 
 use crate::predicate::Predicate;
 use lq_value::{AttrName, Refusal};

@@ -4,7 +4,7 @@ ghost use Rattle.std.specs.String.{string_bytes};
 ghost use Rattle.lq_value.specs.Refusal.{FailsOnlyForMemory};
 ghost use Rattle.lq_predicate_formula.specs.Canonical.{canonical};
 ghost use Rattle.lq_predicate_formula.specs.Faults.{Reads};
-ghost use Rattle.lq_predicate_tree.specs.Limits.{is_predicate};
+ghost use Rattle.lq_predicate_formula.specs.PredicateLimits.{is_predicate};
 
 use crate::predicate::Predicate;
 use lq_predicate_formula::canonical_is_read;

@@ -23,7 +23,9 @@ mod truth;
 
 pub use attributes::{names, needs_attribute};
 pub use canonical::write;
-pub use lq_predicate_tree::{Row, bare_rows_fail, truth_goes_by_names, truth_stays_beside_spans};
+pub use lq_predicate_formula::{
+    Row, bare_rows_fail, truth_goes_by_names, truth_stays_beside_spans,
+};
 pub use predicate::Predicate;
 pub use reader::read;
 pub use spans::Spans;

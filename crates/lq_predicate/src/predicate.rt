@@ -3,7 +3,7 @@ ghost use Rattle.std.specs.Prelude.{◌≡◌, ◌≤◌, ◌∷◌, [], IfOk, O
 ghost use Rattle.lq_value.specs.Refusal.{FailsOnlyForMemory};
 ghost use Rattle.lq_value.specs.Compare.{suits};
 
-use lq_predicate_tree::{Tree, fit_joined, fits_not};
+use lq_predicate_formula::{Tree, fit_joined, fits_not};
 use lq_value::{AttrName, Literal, Op, Refusal};
 use std::alloc::Global;
 use std::marker::Model;
@@ -30,9 +30,9 @@ impl Drop for Predicate {
 impl Model for Predicate {
     ghost use Rattle.std.specs.Prelude.{IsTrue};
     ghost use Rattle.lq_predicate_formula.specs.Query.{Query};
-    ghost use Rattle.lq_predicate_tree.specs.QueryCode.{coded_query};
+    ghost use Rattle.lq_predicate_formula.specs.QueryCode.{coded_query};
     ghost use Rattle.lq_predicate_formula.specs.Limits.{IsProper};
-    ghost use Rattle.lq_predicate_tree.specs.Limits.{is_predicate};
+    ghost use Rattle.lq_predicate_formula.specs.PredicateLimits.{is_predicate};
 
     ghost Value = { Query };
 
@@ -47,7 +47,7 @@ impl Predicate {
     ghost use Rattle.lq_predicate_formula.specs.Query.{And, Compare, Not, Or, queries};
     ghost use Rattle.lq_predicate_formula.specs.Canonical.{comparisons};
     ghost use Rattle.lq_predicate_formula.specs.Limits.{IsProper};
-    ghost use Rattle.lq_predicate_tree.specs.Limits.{if_within, is_formed, is_predicate, is_within};
+    ghost use Rattle.lq_predicate_formula.specs.PredicateLimits.{if_within, is_formed, is_predicate, is_within};
 
     /// The comparison of an attribute with a literal that suits the operator. It takes no memory.
     ///

@@ -1,10 +1,10 @@
 //! The numbers that a predicate compares sizes and times with.
 ghost use Rattle.std.specs.Prelude.{◌≡◌, pos};
-ghost use Rattle.lq_predicate_tree.specs.Span.{is_beside};
+ghost use Rattle.lq_predicate_formula.specs.Span.{is_beside};
 ghost use Rattle.lq_predicate.specs.Spans.{spans_of};
 
 use crate::predicate::Predicate;
-use lq_predicate_tree::Span;
+use lq_predicate_formula::Span;
 
 /// Two spans: of the numbers that a predicate compares `size` with, and of those for
 /// `last_modified`.

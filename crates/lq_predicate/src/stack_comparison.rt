@@ -8,7 +8,7 @@ ghost use Rattle.lq_value_pattern.specs.declared.element.Element.{Element};
 ghost use Rattle.lq_value.specs.declared.op.Op.TheVariants as op;
 ghost use Rattle.lq_value.specs.declared.literal.Literal.TheVariants as literal;
 ghost use Rattle.lq_predicate_formula.specs.Query.{Compare};
-ghost use Rattle.lq_predicate_tree.specs.Limits.{if_within};
+ghost use Rattle.lq_predicate_formula.specs.PredicateLimits.{if_within};
 ghost use Rattle.lq_predicate.specs.Operand.{pattern_in};
 ghost use Rattle.lq_predicate.specs.Stack.{compared, compared_if, star_if, starred};
 

@@ -6,11 +6,12 @@ ghost use Rattle.lq_value.specs.declared.literal.Literal.TheVariants as literal;
 ghost use Rattle.lq_predicate_formula.specs.Canonical.{pattern_text};
 ghost use Rattle.lq_predicate_formula.specs.Capped.{capped};
 ghost use Rattle.lq_predicate_formula.specs.Query.{Compare};
-ghost use Rattle.lq_predicate_tree.specs.Limits.{is_within};
+ghost use Rattle.lq_predicate_formula.specs.PredicateLimits.{is_within};
 ghost use Rattle.lq_predicate.specs.Stack.{star_count, starred};
 
-use lq_predicate_formula::{characters_size, comparison_size_with, pattern_size, plain_size};
-use lq_predicate_tree::MAX_CANONICAL;
+use lq_predicate_formula::{
+    MAX_CANONICAL, characters_size, comparison_size_with, pattern_size, plain_size,
+};
 use lq_value::{AttrName, Op, Pattern};
 
 // Whether a comparison with this text is within the limits.

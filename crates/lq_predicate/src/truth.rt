@@ -1,9 +1,9 @@
 //! When a predicate holds.
 ghost use Rattle.std.specs.Prelude.{◌≡◌};
-ghost use Rattle.lq_predicate_tree.specs.Truth.{truth};
+ghost use Rattle.lq_predicate_formula.specs.Truth.{truth};
 
 use crate::predicate::Predicate;
-use lq_predicate_tree::Row;
+use lq_predicate_formula::Row;
 
 /// Whether the row matches the predicate. It takes no memory.
 ///

@@ -3,7 +3,9 @@
 -- Faults: StopLemmas, DepthLemmas, OutlineLemmas, StepsLemmas, RefusedLemmas, BalanceLemmas,
 -- TakenLemmas, StoppedLemmas, ExactLemmas. What is written reads back: QuotingLemmas,
 -- EncodedLemmas, PatternTextLemmas, CanonicalLemmas, RoundLemmas, GoodLemmas. What the writers and
--- counters do, a piece at a time: RawLemmas, WritingLemmas, SizeLemmas, SourceSizeLemmas.
+-- counters do, a piece at a time: RawLemmas, WritingLemmas, SizeLemmas, SourceSizeLemmas. The texts
+-- of trees, a piece at a time: PartLemmas, TreeTextLemmas, TreeSizeLemmas, TreeDepthLemmas. Names
+-- and truth: NameLemmas, FormedLemmas, TruthLemmas, SpanLemmas, NeedLemmas.
 pub mod CountLemmas
 pub mod CutLemmas
 pub mod TokenLemmas
@@ -31,3 +33,12 @@ pub mod GoodLemmas
 pub mod WritingLemmas
 pub mod SizeLemmas
 pub mod SourceSizeLemmas
+pub mod PartLemmas
+pub mod TreeTextLemmas
+pub mod TreeSizeLemmas
+pub mod TreeDepthLemmas
+pub mod NameLemmas
+pub mod FormedLemmas
+pub mod TruthLemmas
+pub mod SpanLemmas
+pub mod NeedLemmas

@@ -13,3 +13,12 @@ pub mod Laws
 pub mod Capped
 pub mod Sizes
 pub mod Words
+pub mod QueryCode
+pub mod PredicateLimits
+pub mod Tree
+pub mod TreeFalls
+pub mod Truth
+pub mod Names
+pub mod Needs
+pub mod Span
+pub mod Size

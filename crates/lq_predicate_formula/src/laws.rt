@@ -1,9 +1,9 @@
-//! Laws on tokens and the grammar: functions that do nothing, each with a law as its contract.
+//! Laws on tokens, the grammar and queries: functions that do nothing, each with a law as its contract.
 ghost use Rattle.std.specs.Prelude.{◌≡◌, ℕ, List};
 ghost use Rattle.lq_predicate_formula.specs.Tokens.{HasTokens, Placed, Token, tokens_of};
 ghost use Rattle.lq_predicate_formula.specs.Query.{Query};
 ghost use Rattle.lq_predicate_formula.specs.Grammar.{IsFormula};
-ghost use Rattle.lq_predicate_formula.specs.Laws.{CanonicalIsRead, FaultsAreFound, FormulasAreRead, PatternsAreGood, ReadIsGood};
+ghost use Rattle.lq_predicate_formula.specs.Laws.{BareRowsFail, CanonicalIsRead, FaultsAreFound, FormulasAreRead, JoinedTextsAdd, PatternsAreGood, ReadIsGood, TruthGoesByNames, TruthStaysBesideSpans};
 
 use lq_value::sources_are_read;
 
@@ -57,3 +57,27 @@ pub fn patterns_are_good()
 {
     sources_are_read();
 }
+
+/// The truth of a predicate depends on its `names` alone: it is the same for two rows that show the
+/// same under each of them, whatever they show under other names.
+pub fn truth_goes_by_names()
+    ensures { TruthGoesByNames }
+{}
+
+/// A predicate has the same truth for two rows if each name shows the same in both, or shows
+/// numbers on the same side of all numbers that the predicate compares this name with.
+pub fn truth_stays_beside_spans()
+    ensures { TruthStaysBesideSpans }
+{}
+
+/// A predicate that needs an attribute (`needs_attribute`) is false of each row without attributes:
+/// one that shows something under `name`, `size` and `last_modified` at most.
+pub fn bare_rows_fail()
+    ensures { BareRowsFail }
+{}
+
+/// The canonical text of an `And` or an `Or` of one part or more has the bytes of its parts' texts,
+/// and two more for each part.
+pub fn joined_texts_add()
+    ensures { JoinedTextsAdd }
+{}

@@ -1,30 +1,39 @@
-//! Formulas: code for their tokens and for the canonical text of comparisons, and definitions of
-//! their grammar, reading and canonical text.
+//! Formulas and their queries, for lq_predicate: tokens, queries as trees, and canonical texts.
 //!
 //! Contracts see a text as its bytes, its tokens as a list (`specs/Tokens`) and their meaning as a
 //! `Query` (`specs/Query`, `specs/Grammar`). `specs/Reading` reads a text, `specs/Faults` has the
-//! faults, and `specs/Canonical` writes a query. Nothing here waits. Begin with `token`, then
-//! `laws`, then `writing`.
+//! faults, `specs/Canonical` writes a query, `specs/Truth` says when it is true of a row, and
+//! `specs/PredicateLimits` when it is a predicate. Nothing here waits, and asking takes no memory.
+//! Begin with `token`, then `laws`, then `tree` and `row`, then `tree/truth` and `writing`.
 #![tactic(auto)]
 
 mod count;
+mod fitting;
 mod laws;
 mod lexer;
 mod piece;
 mod raw;
 mod raw_size;
+mod row;
 mod size;
 mod source_size;
+mod span;
 mod token;
+mod tree;
 mod writing;
 
+pub use fitting::{MAX_CANONICAL, fit_joined, fits_not};
 pub use laws::{
-    canonical_is_read, faults_are_found, formulas_are_read, patterns_are_good, read_is_good,
-    reads_one, tokens_exist, tokens_same,
+    bare_rows_fail, canonical_is_read, faults_are_found, formulas_are_read, joined_texts_add,
+    patterns_are_good, read_is_good, reads_one, tokens_exist, tokens_same, truth_goes_by_names,
+    truth_stays_beside_spans,
 };
 pub use lexer::next_token;
 pub use raw::{is_name, read_literal, read_name};
 pub use raw_size::{joined_size, raw_literal_size, raw_name_size};
+pub use row::Row;
 pub use size::{characters_size, comparison_size, comparison_size_with, pattern_size, plain_size};
+pub use span::Span;
 pub use token::{Cursor, Placed, Token};
+pub use tree::Tree;
 pub use writing::put_comparison;

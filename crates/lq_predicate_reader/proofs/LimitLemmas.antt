@@ -16,7 +16,7 @@ use Rattle.lq_predicate_formula.specs.Literals.{literal_of, pattern_literal}
 use Rattle.lq_predicate_formula.specs.Grammar.{Reading, Follows, IsAnd, IsOr, IsComparison, IsNot, nesting}
 use Rattle.lq_predicate_formula.specs.Canonical.{canonical, depth, comparisons}
 use Rattle.lq_predicate_formula.specs.Faults.{Reads}
-use Rattle.lq_predicate_tree.specs.Limits.{is_formed, are_formed, part_count, is_predicate}
+use Rattle.lq_predicate_formula.specs.PredicateLimits.{is_formed, are_formed, part_count, is_predicate}
 
 -- four tests that are true are true together
 four : (a b c d : Bool) → a ≡ true → b ≡ true → c ≡ true → d ≡ true → (a && (b && c && d)) ≡ true

@@ -8,8 +8,8 @@ use Rattle.lq_predicate_reader.specs.Validator.{query_size, parts_of}
 use Rattle.lq_predicate_reader.specs.declared.query_size.QuerySize.{QuerySize}
 use Rattle.lq_predicate_reader.specs.declared.query_size.Parts.{Parts}
 use Rattle.lq_predicate_reader.specs.declared.query_size.Parts.TheVariants.{One, More}
-use Rattle.lq_predicate_tree.specs.Laws.{JoinedTextsAdd}
-use Rattle.lq_predicate_tree.specs.Size.{parts_size}
+use Rattle.lq_predicate_formula.specs.Laws.{JoinedTextsAdd}
+use Rattle.lq_predicate_formula.specs.Size.{parts_size}
 
 -- an size by its depth and its size
 abbrev sized : ℕ → ℕ → QuerySize

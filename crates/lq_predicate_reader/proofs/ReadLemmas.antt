@@ -12,7 +12,7 @@ use Rattle.lq_predicate_formula.specs.Laws.{FormulasAreRead}
 use Rattle.lq_predicate_formula.specs.Capped.{capped}
 use Rattle.lq_predicate_reader.specs.declared.query_size.QuerySize.{QuerySize}
 use Rattle.lq_predicate_reader.specs.Validator.{query_size}
-use Rattle.lq_predicate_tree.specs.Limits.{is_predicate}
+use Rattle.lq_predicate_formula.specs.PredicateLimits.{is_predicate}
 use Rattle.lq_predicate_reader.specs.Refusals.{fault_of}
 use Rattle.lq_predicate_reader.specs.ParserView.{pattern_fault}
 use Rattle.lq_predicate_reader.specs.PlainPlace.{plain_place}

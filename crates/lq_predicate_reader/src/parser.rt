@@ -9,8 +9,7 @@ ghost use Rattle.lq_predicate_reader.specs.ParserView.{below_of, frame_of, state
 
 use crate::expected::Expected;
 use crate::validator::NESTING;
-use lq_predicate_formula::{Token, read_literal, read_name};
-use lq_predicate_tree::Tree;
+use lq_predicate_formula::{Token, Tree, read_literal, read_name};
 use lq_value::{AttrName, Refusal};
 use std::alloc::{AllocError, Global};
 

@@ -4,7 +4,7 @@ ghost use Rattle.lq_predicate_formula.specs.Machine.{Frame, empty_frame, negate,
 ghost use Rattle.lq_predicate_formula.specs.Query.{Query, both_of, either_of};
 ghost use Rattle.lq_predicate_reader.specs.Validator.{query_size, size_frame, parts_of};
 
-use lq_predicate_tree::joined_texts_add;
+use lq_predicate_formula::joined_texts_add;
 
 // A query's depth and the bytes of its canonical text; the greatest usize stands for more.
 #[derive(Clone, Copy)]

@@ -8,13 +8,14 @@ ghost use Rattle.lq_predicate_formula.specs.Tokens.{bare, tokens_of};
 ghost use Rattle.lq_predicate_formula.specs.Words.{WordsAre};
 ghost use Rattle.lq_value.specs.declared.refusal.Refusal.TheVariants.{BadQuery};
 ghost use Rattle.lq_value.specs.Refusal.{FailsOnlyForMemory, IsRefusedBy};
-ghost use Rattle.lq_predicate_tree.specs.Limits.{is_predicate};
+ghost use Rattle.lq_predicate_formula.specs.PredicateLimits.{is_predicate};
 ghost use Rattle.lq_predicate_reader.specs.Refusals.{fault_of, refusal_of};
 
 use crate::fault_place::fault_place;
 use crate::parser::{end_of, new_parser, read_token};
-use lq_predicate_formula::{Cursor, faults_are_found, formulas_are_read, next_token, read_is_good};
-use lq_predicate_tree::Tree;
+use lq_predicate_formula::{
+    Cursor, Tree, faults_are_found, formulas_are_read, next_token, read_is_good,
+};
 use lq_value::Refusal;
 use std::alloc::Global;
 

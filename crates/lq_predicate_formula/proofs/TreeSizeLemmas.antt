@@ -1,0 +1,85 @@
+-- The lengths of canonical texts, a piece at a time.
+use Rattle.std.proofs.Common.{◌≡◌, ◌+◌, ◌<◌, ℕ, List, [], ◌∷◌, length, drop, get_or, refl, ap, ◌∙◌, arith}
+use Rattle.std.proofs.lemmas.List.{length-append}
+use Rattle.std.specs.Prelude.{codes}
+use Rattle.lq_predicate_formula.specs.Query.{Query, And, Or, Queries, no_more, and_then, queries}
+use Rattle.lq_predicate_formula.specs.Canonical.{written, parts_written, others_written, canonical}
+use Rattle.lq_predicate_formula.specs.Capped.{capped}
+use Rattle.lq_predicate_formula.specs.Laws.{JoinedTextsAdd}
+use Rattle.lq_predicate_formula.specs.Size.{parts_size}
+use Rattle.lq_predicate_formula.proofs.PartLemmas.{parts_here}
+use Rattle.lq_predicate_formula.proofs.TreeTextLemmas.{written-append}
+
+-- a query's text before other bytes is as long as both
+before_others : (q : Query) (others : List ℕ)
+    → length (written q others) ≡ length (canonical q) + length others
+before_others q others =
+    ap length (written-append q [] others) ∙ length-append (written q []) others
+
+-- the parts after the first, and the `)`, are as long as the parts' size says
+others_size : (separator : List ℕ) (qs : Queries) → length separator ≡ 2
+    → length (others_written separator qs (41 ∷ [])) ≡ 1 + parts_size qs
+others_size separator no_more two = refl
+others_size separator (and_then q qs) two =
+    let rest = others_written separator qs (41 ∷ []) in
+    let others = others_size separator qs two in
+    let here = before_others q rest in
+    let whole = length-append separator (written q rest) in
+    omega (arith, two, others, here, whole)
+
+-- the parts between parentheses are as long as their size says
+parts_by : (separator : List ℕ) (q : Query) (others : Queries) → length separator ≡ 2
+    → length (40 ∷ parts_written separator (and_then q others) (41 ∷ []))
+    ≡ parts_size (and_then q others)
+parts_by separator q others two =
+    let behind = others_size separator others two in
+    let here = before_others q (others_written separator others (41 ∷ [])) in
+    omega (arith, behind, here)
+
+-- the text of an And, and that of an Or, is as long as its parts' size
+pub joined-add : JoinedTextsAdd
+joined-add q others = (parts_by (codes "&&") q others refl, parts_by (codes "||") q others refl)
+
+-- one part more is counted, and the whole size stays what it was
+pub parts_on : (n n' n'' p : ℕ) (qs : List Query) (i : ℕ) (q : Query) (whole : ℕ) → i < length qs
+    → q ≡ get_or qs i q → capped (n + parts_size (queries (drop i qs))) ≡ capped whole
+    → p ≡ capped (length (canonical q)) → n' ≡ capped (n + p) → n'' ≡ capped (n' + 2)
+    → capped (n'' + parts_size (queries (drop (i + 1) qs))) ≡ capped whole
+parts_on n n' n'' p qs i q whole below is so_far piece new next =
+    let here = parts_here parts_size qs i q below is in
+    omega (arith, so_far, piece, new, next, here)
+
+-- before the first part of an And, the whole size is left to count
+pub begun_and : (qs : List Query) (q : Query) → And (queries qs) ≡ q → 0 < length qs
+    → capped (0 + parts_size (queries qs)) ≡ capped (length (canonical q))
+begun_and [] q is some = absurd (let no : ⊥ = omega (arith, some) in no)
+begun_and (p ∷ qs) q is some =
+    let e = (joined-add p (queries qs)).0 in
+    let k = ap (λ r. length (canonical r)) is in
+    omega (arith, e, k)
+
+-- before the first part of an Or, the whole size is left to count
+pub begun_or : (qs : List Query) (q : Query) → Or (queries qs) ≡ q → 0 < length qs
+    → capped (0 + parts_size (queries qs)) ≡ capped (length (canonical q))
+begun_or [] q is some = absurd (let no : ⊥ = omega (arith, some) in no)
+begun_or (p ∷ qs) q is some =
+    let e = (joined-add p (queries qs)).1 in
+    let k = ap (λ r. length (canonical r)) is in
+    omega (arith, e, k)
+
+-- two predicates joined have four bytes beside their own
+pub and_two_size : (lower upper : Query) → length (canonical (And (queries (lower ∷ upper ∷ []))))
+    ≡ (length (canonical lower) + length (canonical upper)) + 4
+and_two_size lower upper =
+    let e = (joined-add lower (queries (upper ∷ []))).0 in
+    omega (arith, e)
+
+-- an Or of two parts has four bytes beside them
+pub or_two_size : (lower upper : Query) → length (canonical (Or (queries (lower ∷ upper ∷ []))))
+    ≡ (length (canonical lower) + length (canonical upper)) + 4
+or_two_size lower upper =
+    let e = (joined-add lower (queries (upper ∷ []))).1 in
+    omega (arith, e)
+
+-- two predicates joined, by an And or by an Or
+pub ruleset two_sizes = (and_two_size, or_two_size)

@@ -1,0 +1,86 @@
+-- Canonical texts, a piece at a time.
+use Rattle.std.proofs.Common.{◌≡◌, ℕ, List, [], ◌∷◌, ◌++◌, append_assoc, refl, sym, ap, ◌∙◌, Bool, true, false}
+use Rattle.std.proofs.Common.{◌+◌, ◌<◌, length, drop, get_or}
+use Rattle.std.specs.Prelude.{codes, if◌then◌else◌}
+use Rattle.std.specs.List.{list_all}
+use Rattle.lq_predicate_formula.proofs.PartLemmas.{parts_here}
+use Rattle.lq_predicate_formula.specs.Query.{Query, Compare, Not, And, Or, Queries, no_more, and_then, queries}
+use Rattle.lq_predicate_formula.specs.Canonical.{is_bare_byte, quoted, in_marks, attr_then, op_text, literal_text, written, parts_written, others_written, canonical}
+
+-- what follows a text between marks may be added after it
+in_marks-append : (raw xs rest : List ℕ) → in_marks raw (xs ++ rest) ≡ in_marks raw xs ++ rest
+in_marks-append raw xs rest = ap (λ t. 34 ∷ t) (sym (append_assoc raw (34 ∷ xs) rest))
+
+-- what follows a name may be added after it
+pub attr_then-append : (name xs rest : List ℕ)
+    → attr_then name (xs ++ rest) ≡ attr_then name xs ++ rest
+attr_then-append name xs rest = by (list_all is_bare_byte name)
+  where
+    by : (b : Bool) → (if b then name ++ (xs ++ rest) else in_marks (quoted name) (xs ++ rest))
+        ≡ (if b then name ++ xs else in_marks (quoted name) xs) ++ rest
+    by true = sym (append_assoc name xs rest)
+    by false = in_marks-append (quoted name) xs rest
+
+-- what follows a query's text may be cut off
+mutual
+  pub written-append : (q : Query) (xs rest : List ℕ)
+      → written q (xs ++ rest) ≡ written q xs ++ rest
+  written-append (Compare attr op literal) xs rest =
+      let inner = in_marks-append (literal_text literal) (41 ∷ xs) rest in
+      let behind =
+      sym (append_assoc (op_text op) (in_marks (literal_text literal) (41 ∷ xs)) rest) in
+      ap
+      (λ t. 40 ∷ t) (ap (λ t. attr_then attr (op_text op ++ t)) inner ∙ ap (attr_then attr) behind
+      ∙ attr_then-append attr (op_text op ++ in_marks (literal_text literal) (41 ∷ xs)) rest)
+  written-append (Not q) xs rest = ap (λ t. 33 ∷ t) (written-append q xs rest)
+  written-append (And qs) xs rest =
+      ap (λ t. 40 ∷ t) (parts_written-append (codes "&&") qs (41 ∷ xs) rest)
+  written-append (Or qs) xs rest =
+      ap (λ t. 40 ∷ t) (parts_written-append (codes "||") qs (41 ∷ xs) rest)
+
+  -- what follows the parts of an And or an Or may be cut off
+  pub parts_written-append : (separator : List ℕ) (qs : Queries) (xs rest : List ℕ)
+      → parts_written separator qs (xs ++ rest) ≡ parts_written separator qs xs ++ rest
+  parts_written-append separator no_more xs rest = refl
+  parts_written-append separator (and_then q qs) xs rest =
+      ap (written q) (others_written-append separator qs xs rest)
+      ∙ written-append q (others_written separator qs xs) rest
+
+  -- what follows the parts after the first may be cut off
+  pub others_written-append : (separator : List ℕ) (qs : Queries) (xs rest : List ℕ)
+      → others_written separator qs (xs ++ rest) ≡ others_written separator qs xs ++ rest
+  others_written-append separator no_more xs rest = refl
+  others_written-append separator (and_then q qs) xs rest =
+      ap (λ t. separator ++ t) (ap (written q) (others_written-append separator qs xs rest)
+      ∙ written-append q (others_written separator qs xs) rest)
+      ∙ sym (append_assoc separator (written q (others_written separator qs xs)) rest)
+
+-- ---- lists of parts
+
+-- after `(` and the first part, the other parts are what is left to write
+pub parts_begun : (base s1 s2 separator : List ℕ) (first : Query) (others parts : List Query)
+    → parts ≡ first ∷ others → s1 ≡ base ++ 40 ∷ [] → s2 ≡ s1 ++ canonical first
+    → s2 ++ others_written separator (queries others) (41 ∷ [])
+    ≡ base ++ 40 ∷ parts_written separator (queries parts) (41 ∷ [])
+parts_begun base s1 s2 separator first others parts is e1 e2 =
+    let rest = others_written separator (queries others) (41 ∷ []) in
+    ap (λ s. s ++ rest) (e2 ∙ ap (λ s. s ++ canonical first) e1)
+    ∙ append_assoc (base ++ 40 ∷ []) (canonical first) rest
+    ∙ append_assoc base (40 ∷ []) (canonical first ++ rest)
+    ∙ ap (λ t. base ++ 40 ∷ t) (sym (written-append first [] rest))
+    ∙ ap (λ ps. base ++ 40 ∷ parts_written separator (queries ps) (41 ∷ [])) (sym is)
+
+-- one part more is written, and the whole stays what it was
+pub parts_on : (out s out' base separator : List ℕ) (others : List Query) (i : ℕ) (q : Query)
+    → i < length others → q ≡ get_or others i q
+    → out ++ others_written separator (queries (drop i others)) (41 ∷ []) ≡ base
+    → s ≡ out ++ separator → out' ≡ s ++ canonical q
+    → out' ++ others_written separator (queries (drop (i + 1) others)) (41 ∷ []) ≡ base
+parts_on out s out' base separator others i q below is so_far e1 e2 =
+    let rest = others_written separator (queries (drop (i + 1) others)) (41 ∷ []) in
+    ap (λ t. t ++ rest) (e2 ∙ ap (λ t. t ++ canonical q) e1)
+    ∙ append_assoc (out ++ separator) (canonical q) rest
+    ∙ append_assoc out separator (canonical q ++ rest)
+    ∙ ap (λ t. out ++ (separator ++ t)) (sym (written-append q [] rest))
+    ∙ ap (λ t. out ++ t)
+    (sym (parts_here (λ qs. others_written separator qs (41 ∷ [])) others i q below is)) ∙ so_far

@@ -1,0 +1,26 @@
+use Rattle.std.proofs.Common.{◌≡◌, ◌∷◌, ap, arith, rules}
+use Rattle.lq_predicate_formula.specs.Query.{queries}
+use Rattle.lq_predicate_formula.specs.Canonical.{deepest}
+use Rattle.lq_predicate_formula.proofs.PartLemmas.{depth_le-deepest}
+use Rattle.lq_predicate_formula.proofs.TreeTextLemmas.{parts_begun, parts_on}
+use Rattle.lq_predicate_formula.proofs.tree.+put.Goals as goal
+
+pub text::put_parts-loop-part-init : goal.text::put_parts-loop-part-init
+text::put_parts-loop-part-init t c =
+    let split : c.args.parts.now ≡ c.in-Some.first.now ∷ c.in-Some.others.now = search rules in
+    parts_begun _ _ _ c.args.separator.now c.in-Some.first.now c.in-Some.others.now c.args.parts.now
+    split c.in_ok-push_str.ensures.bytes c.in_ok-put.ensures.value
+
+pub text::put_parts-put-requires-in-loop-part : goal.text::put_parts-put-requires-in-loop-part
+text::put_parts-put-requires-in-loop-part t c =
+    let split : c.args.parts.now ≡ c.in-Some.first.now ∷ c.in-Some.others.now = search rules in
+    let deep = ap (λ ps. deepest (queries ps)) split in
+    let falls = depth_le-deepest c.in-Some.others.now c.loop-part.part-index c.part-item.result
+    c.loop-part-test.true c.part-item.is in
+    (omega (arith, falls, deep), tt)
+
+pub text::put_parts-loop-part-preserved : goal.text::put_parts-loop-part-preserved
+text::put_parts-loop-part-preserved t c =
+    parts_on _ _ _ _ c.args.separator.now c.in-Some.others.now c.loop-part.part-index
+    c.part-item.result c.loop-part-test.true c.part-item.is c.loop-part.invariant
+    c.in_ok-push_str-2.ensures.bytes c.in_ok-put-2.ensures.value

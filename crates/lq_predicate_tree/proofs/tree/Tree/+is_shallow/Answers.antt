@@ -1,5 +1,0 @@
-use Rattle.lq_predicate_tree.proofs.DepthLemmas.{not_flat}
-use Rattle.lq_predicate_tree.proofs.tree.Tree.+is_shallow.Goals as goal
-
-pub returns-then-most-eq0 : goal.returns-then-most-eq0
-returns-then-most-eq0 t c = not_flat c.args.self.now c.args.most c.if-most-eq0.true
