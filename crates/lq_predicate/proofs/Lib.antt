@@ -1,5 +1,14 @@
--- Read in this order: FitLemmas, StarredLemmas (a comparison's size, and a pattern that finds a
--- text's characters), StackLemmas.
+-- Read in this order. Stacks: FitLemmas, StarredLemmas (a comparison's size, and a pattern that
+-- finds a text's characters), StackLemmas. Reading: QuerySizeLemmas, WeightLemmas, ValidatorLemmas,
+-- PlaceLemmas, SoFarLemmas, LimitLemmas, ReadLemmas, ParserLemmas.
 pub mod FitLemmas
 pub mod StarredLemmas
 pub mod StackLemmas
+pub mod QuerySizeLemmas
+pub mod WeightLemmas
+pub mod ValidatorLemmas
+pub mod PlaceLemmas
+pub mod SoFarLemmas
+pub mod LimitLemmas
+pub mod ReadLemmas
+pub mod ParserLemmas

@@ -9,4 +9,7 @@ pub use Rattle.lq_predicate_formula.specs.Names
 pub use Rattle.lq_predicate_formula.specs.Needs
 pub use Rattle.lq_predicate_formula.specs.Span
 pub use Rattle.lq_predicate_formula.specs.Laws
-pub use Rattle.lq_predicate_reader.specs.Refusals
+pub mod ParserView
+pub mod PlainPlace
+pub mod Refusals
+pub mod Validator

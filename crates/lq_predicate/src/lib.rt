@@ -2,16 +2,22 @@
 //! written as text, and evaluated for a row.
 //!
 //! Contracts see a predicate as a `Query` of lq_predicate_formula within the limits of a predicate,
-//! and a row as what it shows under each attribute's name (`Limits` and `Truth` of
-//! lq_predicate_tree). They see a stack as its items and the number of pushes accepted
-//! (`specs/Stacked`; `specs/Stack` says what each push gives, and when it doesn't fit). Nothing
-//! here waits, and `holds` takes no memory. Begin with `predicate`, then `truth`, then `stack`.
+//! and a row as what it shows under each attribute's name (its `PredicateLimits` and `Truth`). They
+//! see a stack as its items and the number of pushes accepted (`specs/Stacked`; `specs/Stack` says
+//! what each push gives, and when it doesn't fit). A formula is read twice: first without memory,
+//! which finds its leftmost fault if it has one, and then to build the tree; `specs/ParserView` and
+//! `specs/Validator` say which state of the specified machine the code is in. Nothing here waits, and
+//! `holds` takes no memory. Begin with `predicate`, then `truth`, `reader` and `stack`.
 #![tactic(auto)]
 
 mod attributes;
 mod canonical;
+mod expected;
+mod fault_place;
 mod operand;
+mod parser;
 mod predicate;
+mod query_size;
 mod reader;
 mod spans;
 mod stack;
@@ -20,6 +26,7 @@ mod stack_fitting;
 mod stack_item;
 mod stack_op;
 mod truth;
+mod validator;
 
 pub use attributes::{names, needs_attribute};
 pub use canonical::write;

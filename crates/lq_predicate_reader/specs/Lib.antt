@@ -1,4 +1,0 @@
-pub mod ParserView
-pub mod PlainPlace
-pub mod Refusals
-pub mod Validator
