@@ -8,7 +8,7 @@ use Rattle.lq_value.specs.Refusal.{first_refusal}
 use Rattle.lq_volume.specs.declared.change.Change.{Change}
 use Rattle.lq_volume.specs.declared.change.Change.TheVariants.{Create, Remove, Move, Write, SetAttr, RemoveAttr}
 use Rattle.lq_value.specs.declared.value.Value.{Value}
-use Rattle.lq_volume_attributes.specs.Attributes.{value_of, is_reserved}
+use Rattle.lq_volume_entries.specs.Attributes.{value_of, is_reserved}
 use Rattle.lq_volume_entries.specs.Kind.{is_folder}
 pub use Rattle.lq_volume_entries.specs.Edits.{other_than, without, altered_at, altered, at_place, written, with_attrs, set_attr, remove_attr}
 use Rattle.lq_volume.specs.State.{State, Record, root, record_at, kind_at, is_folder_at, has_entries, is_taken, node_in, reaches}

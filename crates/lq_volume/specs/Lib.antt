@@ -7,6 +7,6 @@ pub mod EntryView
 pub mod Result
 pub mod Book
 pub mod Laws
-pub use Rattle.lq_volume_attributes.specs.Attributes
+pub use Rattle.lq_volume_entries.specs.Attributes
 pub use Rattle.lq_volume_entries.specs.Kind
 pub use Rattle.lq_volume_entries.specs.Folder

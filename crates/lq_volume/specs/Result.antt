@@ -6,7 +6,7 @@ use Rattle.lq_predicate_formula.specs.Query.{Query}
 use Rattle.lq_value.specs.Held.{Held, Words, Number}
 use Rattle.lq_predicate.specs.Truth.{truth}
 use Rattle.lq_value.specs.declared.entry.Entry.{Entry}
-use Rattle.lq_volume_attributes.specs.Attributes.{value_of, held}
+use Rattle.lq_volume_entries.specs.Attributes.{value_of, held}
 pub use Rattle.lq_volume_entries.specs.Record.{entry_of}
 use Rattle.lq_volume.specs.State.{State, Record, record_at}
 

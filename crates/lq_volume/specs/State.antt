@@ -7,7 +7,7 @@ use Rattle.std.specs.Map.{lookup, values_of}
 use Rattle.std.specs.Str.{bytes_eq}
 use Rattle.lq_value.specs.declared.kind.Kind.{Kind}
 use Rattle.lq_value.specs.declared.kind.Kind.TheVariants.{Folder}
-use Rattle.lq_volume_attributes.specs.Attributes.{HasOwnNames}
+use Rattle.lq_volume_entries.specs.Attributes.{HasOwnNames}
 use Rattle.lq_volume_entries.specs.Kind.{is_folder}
 pub use Rattle.lq_volume_entries.specs.Record.{Record, root, dir_of, climbs, node_in, Rises}
 

@@ -4,7 +4,7 @@ ghost use Rattle.std.specs.Option.{option_map};
 ghost use Rattle.lq_value.specs.declared.refusal.Refusal.TheVariants.{NoNode, NotFolder, Reserved};
 ghost use Rattle.lq_value.specs.Refusal.{first_refusal};
 ghost use Rattle.lq_volume.specs.declared.change.Change.TheVariants.{Remove, Move, Write, SetAttr, RemoveAttr};
-ghost use Rattle.lq_volume_attributes.specs.Attributes.{is_reserved};
+ghost use Rattle.lq_volume_entries.specs.Attributes.{is_reserved};
 ghost use Rattle.lq_volume_entries.specs.Kind.{is_folder};
 ghost use Rattle.lq_volume.specs.State.{root, record_at, kind_at, is_folder_at, has_entries, reaches, IsVolume};
 ghost use Rattle.lq_volume.specs.Change.{create_refusals, refused, other_at};

@@ -37,7 +37,7 @@ pub struct Listing {
 
 impl<'a> EntryRef<'a> {
     ghost use Rattle.lq_value.specs.Value.{shown_by};
-    ghost use Rattle.lq_volume_attributes.specs.Attributes.{value_of};
+    ghost use Rattle.lq_volume_entries.specs.Attributes.{value_of};
     ghost use Rattle.lq_volume.specs.Lookup.{listed};
 
     pub(crate) fn new(stored: &'a StoredRecord) -> EntryRef<'a>

@@ -2,14 +2,13 @@
 ghost use Rattle.std.specs.Prelude.{◌≡◌, ◌<◌, ◌^◌, Some, IfOk, IsSome};
 ghost use Rattle.std.specs.Option.{option_copied};
 ghost use Rattle.lq_value.specs.Refusal.{FailsOnlyForMemory};
-ghost use Rattle.lq_volume_attributes.specs.Attributes.{value_of};
+ghost use Rattle.lq_volume_entries.specs.Attributes.{value_of};
 ghost use Rattle.lq_volume.specs.EntryView.{view_of, IsEntryView};
 
 use crate::change::Change;
 use lq_predicate::Row;
 use lq_value::{AttrName, Entry, Field, Name, Refusal, Value, View, same_text};
-use lq_volume_attributes::values_are_found;
-use lq_volume_entries::StoredRecord;
+use lq_volume_entries::{StoredRecord, values_are_found};
 use std::alloc::Global;
 use std::marker::Model;
 
@@ -40,7 +39,7 @@ impl<'a> Model for EntryView<'a> {
 }
 
 impl<'a> EntryView<'a> {
-    ghost use Rattle.lq_volume_attributes.specs.Attributes.{value_of};
+    ghost use Rattle.lq_volume_entries.specs.Attributes.{value_of};
     ghost use Rattle.lq_volume.specs.Change.{at_place};
     ghost use Rattle.lq_volume.specs.Result.{entry_of};
     ghost use Rattle.lq_volume.specs.EntryView.{has_same_place, view_of, IsEntryView};

@@ -2,8 +2,7 @@
 ghost use Rattle.lq_volume.specs.Laws.{ChangesCount, ChangesKeepTrees, UntouchedStay, ClobberedGo};
 ghost use Rattle.lq_volume.specs.Walk.{ReachesAll};
 
-use lq_volume_attributes::names_stay_apart;
-use lq_volume_entries::records_are_kept;
+use lq_volume_entries::{names_stay_apart, records_are_kept};
 
 /// The test whether a node is within another is true exactly where some walk up leads there.
 pub fn walks_are_bounded()

@@ -13,9 +13,9 @@ use Rattle.lq_value.specs.NameHash.{hash_of}
 use Rattle.lq_value.specs.declared.entry.Entry.{Entry}
 use Rattle.lq_volume_entries.specs.Folder.{HasNodesIn, entries_in, entry_in, with_entry}
 use Rattle.lq_volume_entries.specs.Order.{RisesBy}
-use Rattle.lq_volume_entries.specs.Places.{found, is_named, IsApart, IsIndex}
-use Rattle.lq_volume_places.specs.declared.places.Places.{Places}
-use Rattle.lq_volume_places.specs.Places.{first_in, other_in}
+use Rattle.lq_volume_entries.specs.PlaceIndex.{found, is_named, IsApart, IsIndex}
+use Rattle.lq_volume_entries.specs.declared.places.Places.{Places}
+use Rattle.lq_volume_entries.specs.Places.{first_in, other_in}
 use Rattle.lq_volume_entries.specs.Record.{Record, Rises, node_in, entry_of}
 use Rattle.lq_volume_entries.proofs.OrderLemmas.{all_both, all_weaker, same_items}
 use Rattle.lq_volume_entries.proofs.PlaceLemmas.{uniq}

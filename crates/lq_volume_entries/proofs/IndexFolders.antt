@@ -7,9 +7,9 @@ use Rattle.std.specs.Option.{option_map_or}
 use Rattle.std.proofs.lemmas.Bool.Decides.{nat_tests}
 use Rattle.lq_value.specs.NameHash.{hash_of}
 use Rattle.lq_volume_entries.specs.Record.{Record, node_in}
-use Rattle.lq_volume_entries.specs.Places.{is_named, found, stands, IsIndex}
-use Rattle.lq_volume_places.specs.declared.places.Places.{Places}
-use Rattle.lq_volume_places.specs.Places.{first_in, other_in, IsNameless}
+use Rattle.lq_volume_entries.specs.PlaceIndex.{is_named, found, stands, IsIndex}
+use Rattle.lq_volume_entries.specs.declared.places.Places.{Places}
+use Rattle.lq_volume_entries.specs.Places.{first_in, other_in, IsNameless}
 use Rattle.lq_volume_entries.proofs.RecordLemmas.{Entries, fails-lookup}
 use Rattle.lq_volume_entries.proofs.PlaceLemmas.{any-named, named-any}
 

@@ -11,9 +11,9 @@ use Rattle.std.proofs.lemmas.Slice.Eq.{bytes_eq-Decides}
 use Rattle.lq_value.specs.NameHash.{hash_of}
 use Rattle.lq_volume_entries.specs.Record.{Record, Rises, node_in}
 use Rattle.lq_volume_entries.specs.Edits.{altered}
-use Rattle.lq_volume_entries.specs.Places.{is_named, found, stands, IsIndex, IsApart}
-use Rattle.lq_volume_places.specs.declared.places.Places.{Places}
-use Rattle.lq_volume_places.specs.Places.{first_in, other_in, is_first, is_open, SamePlaces, Puts, Takes}
+use Rattle.lq_volume_entries.specs.PlaceIndex.{is_named, found, stands, IsIndex, IsApart}
+use Rattle.lq_volume_entries.specs.declared.places.Places.{Places}
+use Rattle.lq_volume_entries.specs.Places.{first_in, other_in, is_first, is_open, SamePlaces, Puts, Takes}
 use Rattle.lq_volume_entries.proofs.RecordLemmas.{Entries, lookup-altered, lookup-filter, lookup-push, lookup-above}
 use Rattle.lq_volume_entries.proofs.PlaceLemmas.{at-true, node_in-push, node_in-left, node_in-altered}
 

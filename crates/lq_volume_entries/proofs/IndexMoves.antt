@@ -9,9 +9,9 @@ use Rattle.std.proofs.lemmas.Bool.Decides.{nat_tests}
 use Rattle.lq_value.specs.NameHash.{hash_of}
 use Rattle.lq_volume_entries.specs.Record.{Record, Rises, node_in}
 use Rattle.lq_volume_entries.specs.Edits.{altered, at_place, without, other_than}
-use Rattle.lq_volume_entries.specs.Places.{is_named, found, stands, IsIndex, CanMove}
-use Rattle.lq_volume_places.specs.declared.places.Places.{Places}
-use Rattle.lq_volume_places.specs.Places.{first_in, other_in, is_first, is_open, Puts, Takes}
+use Rattle.lq_volume_entries.specs.PlaceIndex.{is_named, found, stands, IsIndex, CanMove}
+use Rattle.lq_volume_entries.specs.declared.places.Places.{Places}
+use Rattle.lq_volume_entries.specs.Places.{first_in, other_in, is_first, is_open, Puts, Takes}
 use Rattle.lq_volume_entries.proofs.RecordLemmas.{Entries, altered-absent, lookup-below, node_in-some}
 use Rattle.lq_volume_entries.proofs.PlaceLemmas.{at-true, at-false, flip-at, uniq, other-there, other-differs, look-without, new-here, new-other, node_in-moved}
 use Rattle.lq_volume_entries.proofs.IndexLemmas.{stands-named}

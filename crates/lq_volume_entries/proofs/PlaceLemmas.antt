@@ -10,7 +10,7 @@ use Rattle.std.proofs.lemmas.Bool.Decides.{nat_tests}
 use Rattle.std.proofs.lemmas.Slice.Eq.{bytes_eq-Decides}
 use Rattle.lq_volume_entries.specs.Record.{Record, Rises, node_in}
 use Rattle.lq_volume_entries.specs.Edits.{altered, at_place, without, other_than}
-use Rattle.lq_volume_entries.specs.Places.{IsApart, CanMove}
+use Rattle.lq_volume_entries.specs.PlaceIndex.{IsApart, CanMove}
 use Rattle.lq_volume_entries.proofs.RecordLemmas.{Entries, lookup-above, lookup-altered, lookup-filter, node_in-some, node_in-none, Rises-altered, Rises-filter, Rises-without, Rises-front}
 
 -- an entry in a folder has a place there

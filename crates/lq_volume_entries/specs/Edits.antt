@@ -1,7 +1,7 @@
 -- What an edit makes of the records, and of one of them.
 use Rattle.std.specs.Prelude.{ℕ, ℤ, List, Option, Some, None, ◌==◌, not, filter, map, if◌then◌else◌}
 use Rattle.lq_value.specs.declared.value.Value.{Value}
-use Rattle.lq_volume_attributes.specs.Attributes.{Attributes, with_attr, without_attr}
+use Rattle.lq_volume_entries.specs.Attributes.{Attributes, with_attr, without_attr}
 use Rattle.lq_volume_entries.specs.Record.{Record}
 
 -- the node at a place, if it is another one

@@ -6,7 +6,7 @@ use Rattle.std.specs.List.Sorted.{IsPermutation, IsSortedByKey}
 use Rattle.std.specs.Map.{lookup}
 use Rattle.std.specs.Ordering.{nat_cmp}
 use Rattle.lq_value.specs.declared.entry.Entry.{Entry}
-use Rattle.lq_volume_entries.specs.Places.{IsApart}
+use Rattle.lq_volume_entries.specs.PlaceIndex.{IsApart}
 use Rattle.lq_volume_entries.specs.Record.{Record, root, climbs, dir_of, node_in, entry_of}
 
 -- the entries in a folder, by rising node

@@ -1,8 +1,10 @@
+pub mod Attributes
+pub mod Laws
+pub mod Places
 pub mod Kind
 pub mod Record
 pub mod Edits
 pub mod Order
-pub mod Places
+pub mod PlaceIndex
 pub mod Folder
 pub mod NodeHash
-pub mod Laws

@@ -6,7 +6,7 @@ use Rattle.std.specs.Map.{lookup}
 use Rattle.std.specs.Str.{bytes_eq}
 use Rattle.lq_value.specs.declared.entry.Entry.{Entry}
 use Rattle.lq_value.specs.declared.kind.Kind.{Kind}
-use Rattle.lq_volume_attributes.specs.Attributes.{Attributes}
+use Rattle.lq_volume_entries.specs.Attributes.{Attributes}
 
 -- an entry, under its node
 pub record Record : Type 0 where

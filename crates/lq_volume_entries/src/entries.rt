@@ -5,11 +5,11 @@ ghost use Rattle.std.specs.Map.{lookup, values_of};
 ghost use Rattle.std.specs.Option.{option_copied};
 ghost use Rattle.lq_value.specs.Refusal.{FailsOnlyForMemory};
 
+use crate::places::Places;
 use crate::records::Records;
 use crate::stored_record::StoredRecord;
 use crate::test::Test;
 use lq_value::{AttrName, Entry, Name, Refusal, Value};
-use lq_volume_places::Places;
 use std::alloc::Global;
 use std::marker::Model;
 
@@ -39,7 +39,7 @@ impl Drop for Entries {
 impl Model for Entries {
     ghost use Rattle.std.specs.Prelude.{ℕ, List};
     ghost use Rattle.lq_volume_entries.specs.Record.{Record};
-    ghost use Rattle.lq_volume_entries.specs.Places.{IsIndex};
+    ghost use Rattle.lq_volume_entries.specs.PlaceIndex.{IsIndex};
 
     ghost Value = { List (ℕ × Record) };
 
@@ -52,7 +52,7 @@ impl Entries {
     ghost use Rattle.lq_volume_entries.specs.Record.{climbs, dir_of, node_in, root, Rises, entry_of};
     ghost use Rattle.lq_volume_entries.specs.Folder.{AreChildren, CanClimb, Leads};
     ghost use Rattle.lq_volume_entries.specs.Edits.{without, altered, at_place, written, set_attr, remove_attr};
-    ghost use Rattle.lq_volume_entries.specs.Places.{IsApart, CanMove};
+    ghost use Rattle.lq_volume_entries.specs.PlaceIndex.{IsApart, CanMove};
 
     /// No entries.
     pub fn new(alloc: Global) -> Entries

@@ -40,7 +40,7 @@ impl Model for Records {
 impl Records {
     ghost use Rattle.lq_volume_entries.specs.Record.{Rises, climbs, dir_of, root};
     ghost use Rattle.lq_volume_entries.specs.Folder.{Leads, CanClimb, HasNodesIn, entries_in, entry_in, with_entry};
-    ghost use Rattle.lq_volume_entries.specs.Places.{is_named};
+    ghost use Rattle.lq_volume_entries.specs.PlaceIndex.{is_named};
     ghost use Rattle.lq_volume_entries.specs.Edits.{without, altered, at_place, written, set_attr, remove_attr};
 
     /// No records. It takes no memory.

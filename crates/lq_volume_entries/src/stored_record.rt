@@ -3,8 +3,8 @@ ghost use Rattle.std.specs.Prelude.{◌≡◌, ◌==◌, ◌&&◌, ◌<◌, ◌^
 ghost use Rattle.std.specs.Str.{bytes_eq};
 ghost use Rattle.lq_value.specs.Refusal.{FailsOnlyForMemory};
 
+use crate::attributes::Attributes;
 use lq_value::{AttrName, Entry, Kind, Name, Refusal, Value};
-use lq_volume_attributes::Attributes;
 use std::alloc::Global;
 use std::marker::Model;
 

@@ -11,7 +11,7 @@ use Rattle.std.proofs.lemmas.List.Sorted.{Contains-permutation, answers_always}
 use Rattle.std.proofs.lemmas.Map.Keys.{IsStrictlyIncreasing-dedup}
 use Rattle.lq_value.specs.declared.entry.Entry.{Entry}
 use Rattle.lq_volume_entries.specs.Folder.{entries_in}
-use Rattle.lq_volume_entries.specs.Places.{IsApart}
+use Rattle.lq_volume_entries.specs.PlaceIndex.{IsApart}
 use Rattle.lq_volume_entries.specs.Record.{Rises}
 use Rattle.lq_volume_entries.proofs.Folders.{has-nodes}
 use Rattle.lq_volume_entries.proofs.RecordLemmas.{Entries}

@@ -1,7 +1,7 @@
 use Rattle.std.proofs.Common.{sym, subst, None, ◌∙◌}
 use Rattle.std.specs.Prelude.{IsSome, Option}
 use Rattle.lq_volume_entries.specs.Record.{Record}
-use Rattle.lq_volume_entries.specs.Places.{CanMove}
+use Rattle.lq_volume_entries.specs.PlaceIndex.{CanMove}
 use Rattle.lq_volume_entries.proofs.IndexLemmas.{index-same}
 use Rattle.lq_volume_entries.proofs.IndexMoves.{index-moved, index-stays}
 use Rattle.lq_volume_entries.proofs.entries.Entries.move_entry.Goals as goal

@@ -1,5 +1,5 @@
 use Rattle.std.proofs.Common.{sym}
-use Rattle.lq_volume_entries.specs.Places.{IsApart}
+use Rattle.lq_volume_entries.specs.PlaceIndex.{IsApart}
 use Rattle.lq_volume_entries.proofs.PlaceLemmas.{node_in-absent}
 use Rattle.lq_volume_entries.proofs.IndexLemmas.{index-taken}
 use Rattle.lq_volume_entries.proofs.entries.Entries.remove.Goals as goal

@@ -1,5 +1,0 @@
-use Rattle.lq_volume_attributes.proofs.AttributeLemmas.{HasOwnNames-with, HasOwnNames-without}
-use Rattle.lq_volume_attributes.proofs.laws.names_stay_apart.Goals as goal
-
-pub returns : goal.returns
-returns c = record { set = HasOwnNames-with; removed = HasOwnNames-without }

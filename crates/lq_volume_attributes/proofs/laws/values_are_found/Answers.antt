@@ -1,5 +1,0 @@
-use Rattle.lq_volume_attributes.proofs.AttributeLemmas.{value_of-with, value_of-without}
-use Rattle.lq_volume_attributes.proofs.laws.values_are_found.Goals as goal
-
-pub returns : goal.returns
-returns c = record { set = value_of-with; removed = value_of-without }

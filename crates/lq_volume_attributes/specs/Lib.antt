@@ -1,2 +1,0 @@
-pub mod Attributes
-pub mod Laws
