@@ -12,11 +12,11 @@ use Rattle.lq_board.specs.Token.{SeatToken}
 use Rattle.lq_update.specs.declared.mark.Mark.{Mark}
 use Rattle.lq_update.specs.Updates.{updates_of}
 use Rattle.lq_update.specs.Laws.{UpdatesStay}
-use Rattle.lq_server_subscription.specs.declared.identity.Identity.{Identity}
-use Rattle.lq_server_subscription.specs.declared.delivery.Delivery.{Delivery}
-use Rattle.lq_server_subscription.specs.Laws.{BooksExtendOn, StatesStay}
-use Rattle.lq_server_subscription.specs.Rule.{query_of, mark_in}
-use Rattle.lq_server_subscription.specs.Reading.{known, mark_read}
+use Rattle.lq_server_slots.specs.declared.identity.Identity.{Identity}
+use Rattle.lq_server_slots.specs.declared.delivery.Delivery.{Delivery}
+use Rattle.lq_server_slots.specs.Laws.{BooksExtendOn, StatesStay}
+use Rattle.lq_server_slots.specs.Rule.{query_of, mark_in}
+use Rattle.lq_server_slots.specs.Reading.{known, mark_read}
 use Rattle.lq_server_slots.specs.Opening.{IdentityFits, asks_after}
 use Rattle.lq_server.specs.declared.server.Synced.{Synced}
 use Rattle.lq_server.specs.declared.server.Retired.{Retired}

@@ -7,7 +7,7 @@ use Rattle.lq_volume.specs.Book.{Book, Extends}
 use Rattle.lq_board.specs.declared.views.Author.{Author}
 use Rattle.lq_board.specs.Author.{with_change}
 use Rattle.lq_board.specs.Token.{SeatToken}
-use Rattle.lq_server_subscription.specs.declared.identity.Identity.{Identity}
+use Rattle.lq_server_slots.specs.declared.identity.Identity.{Identity}
 use Rattle.lq_server.specs.Applied.{IsAdded}
 use Rattle.lq_server_slots.specs.Slots.{before_of}
 use Rattle.lq_model.specs.Followed.{changes_at, HasMade}

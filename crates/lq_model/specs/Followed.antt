@@ -13,9 +13,9 @@ use Rattle.lq_board.specs.Book.{IsFullBook}
 use Rattle.lq_board.specs.Token.{SeatToken}
 use Rattle.lq_update.specs.declared.mark.Mark.{Mark}
 use Rattle.lq_update.specs.Updates.{updates_of}
-use Rattle.lq_server_subscription.specs.declared.identity.Identity.{Identity}
-use Rattle.lq_server_subscription.specs.Rule.{query_of}
-use Rattle.lq_server_subscription.specs.Reading.{known, received, mark_read}
+use Rattle.lq_server_slots.specs.declared.identity.Identity.{Identity}
+use Rattle.lq_server_slots.specs.Rule.{query_of}
+use Rattle.lq_server_slots.specs.Reading.{known, received, mark_read}
 use Rattle.lq_server_slots.specs.Opening.{IsOpeningRefused}
 use Rattle.lq_server.specs.Hold.{ReaderHold}
 use Rattle.lq_server.specs.Own.{IsOwn}

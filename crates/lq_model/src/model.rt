@@ -9,7 +9,7 @@ use lq_board::Seat;
 use lq_desk_sub::Read;
 use lq_predicate::Predicate;
 use lq_server::{Base, Named, Reader, Retired, Server, Synced, Work, join_over};
-use lq_server_subscription::{Identity, books_extend_on, states_stay};
+use lq_server_slots::{Identity, books_extend_on, states_stay};
 use lq_update::updates_stay;
 use lq_value::Refusal;
 use lq_volume::Change;

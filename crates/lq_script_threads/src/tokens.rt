@@ -4,7 +4,7 @@ use lq_desk::Reply;
 use lq_predicate::Predicate;
 use lq_script_reply::Response;
 use lq_server::{Named, Reader, Server};
-use lq_server_subscription::Identity;
+use lq_server_slots::Identity;
 use lq_value::{Entry, Name, Refusal};
 use lq_volume::{Applied, Change};
 use std::alloc::Global;

@@ -16,11 +16,11 @@ use Rattle.lq_board.specs.contracts.board.Board as board
 use Rattle.lq_board.specs.contracts.tokens.Keeper as keeper
 use Rattle.lq_desk_sub.specs.contracts.sub.Sub as sub
 use Rattle.lq_port.specs.contracts.ends.PortIn as port_in
-use Rattle.lq_server_subscription.specs.contracts.delivery.Delivery as delivery
-use Rattle.lq_server_subscription.specs.contracts.delivery.Opening as opening_at
-use Rattle.lq_server_subscription.specs.contracts.delivery.DeliveryFollows.TheImpl.{ghosts}
-use Rattle.lq_server_subscription.specs.contracts.identity.Identity as identity
-use Rattle.lq_server_subscription.specs.contracts.subscription.Subscription as slot
+use Rattle.lq_server_slots.specs.contracts.delivery.Delivery as delivery
+use Rattle.lq_server_slots.specs.contracts.delivery.Opening as opening_at
+use Rattle.lq_server_slots.specs.contracts.delivery.DeliveryFollows.TheImpl.{ghosts}
+use Rattle.lq_server_slots.specs.contracts.identity.Identity as identity
+use Rattle.lq_server_slots.specs.contracts.subscription.Subscription as slot
 use Rattle.lq_server_slots.specs.contracts.slots.ServerSlots as slots
 use Rattle.lq_server.specs.declared.named.Named.{Ghosts}
 use Rattle.lq_server.specs.contracts.locked.Locked as locked

@@ -18,9 +18,9 @@ use Rattle.lq_update.specs.Fold.{folded, last_change}
 use Rattle.lq_update.specs.Laws.{FoldsGiveResults, WholeFoldsGiveResults}
 use Rattle.lq_desk_sub.specs.declared.read.Read.{Read}
 use Rattle.lq_desk_sub.specs.declared.read.Read.TheVariants.{Update, Fin, Empty, Ended}
-use Rattle.lq_server_subscription.specs.Updates.{updates}
-use Rattle.lq_server_subscription.specs.Rule.{floor_of, query_of, messages_in, IsMark}
-use Rattle.lq_server_subscription.specs.Reading.{ReadingHold, Gives, IsTold, known, received, mark_read}
+use Rattle.lq_server_slots.specs.Updates.{updates}
+use Rattle.lq_server_slots.specs.Rule.{floor_of, query_of, messages_in, IsMark}
+use Rattle.lq_server_slots.specs.Reading.{ReadingHold, Gives, IsTold, known, received, mark_read}
 use Rattle.lq_server.specs.Hold.{ReaderHold}
 use Rattle.lq_server.specs.Headline.{updates_upto, result_after, AreNumbered, IsMarkAfter, EndsWhole, ReaderIsTold, IsAnswered, AreAnswers, update_in, updates_in, HasMark, AnswersAreTold}
 use Rattle.lq_server.proofs.ParcelLemmas.{extends_trans}

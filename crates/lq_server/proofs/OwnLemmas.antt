@@ -15,14 +15,14 @@ use Rattle.lq_board.specs.Token.{SeatToken}
 use Rattle.lq_update.specs.declared.message.Message.{Message}
 use Rattle.lq_port.specs.End.{End, IsSamePort}
 use Rattle.lq_desk_sub.specs.declared.read.Read.{Read}
-use Rattle.lq_server_subscription.specs.declared.delivery.Delivery.{Delivery}
-use Rattle.lq_server_subscription.specs.declared.delivery.Opening.{Opening}
-use Rattle.lq_server_subscription.specs.declared.identity.Identity.{Identity}
-use Rattle.lq_server_subscription.specs.declared.identity.FirstClose.{FirstClose}
-use Rattle.lq_server_subscription.specs.Identity.{port_id}
-use Rattle.lq_server_subscription.specs.Rule.{query_of, whole}
-use Rattle.lq_server_subscription.specs.Reading.{ReadingHold, Gives, Fails, IsTold, known, received, is_marked}
-use Rattle.lq_server_subscription.specs.declared.subscription.Subscription.{Subscription}
+use Rattle.lq_server_slots.specs.declared.delivery.Delivery.{Delivery}
+use Rattle.lq_server_slots.specs.declared.delivery.Opening.{Opening}
+use Rattle.lq_server_slots.specs.declared.identity.Identity.{Identity}
+use Rattle.lq_server_slots.specs.declared.identity.FirstClose.{FirstClose}
+use Rattle.lq_server_slots.specs.Identity.{port_id}
+use Rattle.lq_server_slots.specs.Rule.{query_of, whole}
+use Rattle.lq_server_slots.specs.Reading.{ReadingHold, Gives, Fails, IsTold, known, received, is_marked}
+use Rattle.lq_server_slots.specs.declared.subscription.Subscription.{Subscription}
 use Rattle.lq_server_slots.specs.declared.open.Opened.{Opened}
 use Rattle.lq_server_slots.specs.declared.slots.ServerSlots.{ServerSlots}
 use Rattle.lq_server_slots.specs.Slots.{SameButKnown, SlotsStand, is_full, slot_in}

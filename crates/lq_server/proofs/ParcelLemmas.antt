@@ -7,10 +7,10 @@ use Rattle.lq_update.specs.declared.mark.Mark.{Mark}
 use Rattle.lq_update.specs.declared.parcel.Parcel.{Parcel}
 use Rattle.lq_update.specs.declared.parcel.Parcel.TheVariants.{Update, Fin}
 use Rattle.lq_port.specs.End.{all_put}
-use Rattle.lq_server_subscription.specs.declared.delivery.Delivery.{Delivery}
-use Rattle.lq_server_subscription.specs.declared.subscription.Subscription.{Subscription}
-use Rattle.lq_server_subscription.specs.Rule.{book_of, message_of, mark_or, messages_in, mark_in, last_book}
-use Rattle.lq_server_subscription.specs.Standing.{moved_mark, StandsAt}
+use Rattle.lq_server_slots.specs.declared.delivery.Delivery.{Delivery}
+use Rattle.lq_server_slots.specs.declared.subscription.Subscription.{Subscription}
+use Rattle.lq_server_slots.specs.Rule.{book_of, message_of, mark_or, messages_in, mark_in, last_book}
+use Rattle.lq_server_slots.specs.Standing.{moved_mark, StandsAt}
 
 -- a book extends itself
 pub extends_self : (b : Book) → Extends b b

@@ -11,17 +11,17 @@ use Rattle.lq_update.specs.declared.parcel.Parcel.{Parcel}
 use Rattle.lq_update.specs.declared.parcel.Parcel.TheVariants.{Update, Fin}
 use Rattle.lq_port.specs.End.{End, all_put}
 use Rattle.lq_port.specs.Port.{IsLegal}
-use Rattle.lq_server_subscription.specs.declared.delivery.Delivery.{Delivery}
-use Rattle.lq_server_subscription.specs.declared.delivery.Opening.{Opening}
-use Rattle.lq_server_subscription.specs.declared.identity.Identity.{Identity}
-use Rattle.lq_server_subscription.specs.declared.subscription.Subscription.{Subscription}
-use Rattle.lq_server_subscription.specs.Updates.{updates}
-use Rattle.lq_server_subscription.specs.Rule.{floor_of, query_of, message_of, mark_or, messages_in, mark_in, MayFollow, IsMark}
-use Rattle.lq_server_subscription.specs.LegalList.{known_by}
-use Rattle.lq_server_subscription.specs.Marking.{hung_mark}
-use Rattle.lq_server_subscription.specs.Identity.{identity_of, port_id}
-use Rattle.lq_server_subscription.specs.Reading.{received, ready, mark_read, what_of, IsTold}
-use Rattle.lq_server_subscription.specs.Standing.{given, upto, moved_mark, IsOut, FirstCloseFits, IsOverrun}
+use Rattle.lq_server_slots.specs.declared.delivery.Delivery.{Delivery}
+use Rattle.lq_server_slots.specs.declared.delivery.Opening.{Opening}
+use Rattle.lq_server_slots.specs.declared.identity.Identity.{Identity}
+use Rattle.lq_server_slots.specs.declared.subscription.Subscription.{Subscription}
+use Rattle.lq_server_slots.specs.Updates.{updates}
+use Rattle.lq_server_slots.specs.Rule.{floor_of, query_of, message_of, mark_or, messages_in, mark_in, MayFollow, IsMark}
+use Rattle.lq_server_slots.specs.LegalList.{known_by}
+use Rattle.lq_server_slots.specs.Marking.{hung_mark}
+use Rattle.lq_server_slots.specs.Identity.{identity_of, port_id}
+use Rattle.lq_server_slots.specs.Reading.{received, ready, mark_read, what_of, IsTold}
+use Rattle.lq_server_slots.specs.Standing.{given, upto, moved_mark, IsOut, FirstCloseFits, IsOverrun}
 use Rattle.lq_server.specs.Own.{IsOwn}
 use Rattle.lq_server_slots.specs.Opening.{IdentityFits, asks_after}
 use Rattle.lq_server_slots.specs.Progress.{ShowsProgress}

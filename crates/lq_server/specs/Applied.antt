@@ -8,7 +8,7 @@ use Rattle.lq_volume.specs.Change.{node_of, refused}
 use Rattle.lq_volume.specs.Book.{Book, Extends, grown, state_of}
 use Rattle.lq_board.specs.Author.{with_change}
 use Rattle.lq_board.specs.Token.{SeatToken}
-use Rattle.lq_server_subscription.specs.declared.identity.Identity.{Identity}
+use Rattle.lq_server_slots.specs.declared.identity.Identity.{Identity}
 use Rattle.lq_server_slots.specs.Slots.{before_of}
 
 -- the change is the last of a book that extends the old one, and its number is above that of all

@@ -3,9 +3,9 @@ use Rattle.std.specs.Prelude.{◌≡◌, ℕ, length, true, Result, Some, Err, I
 use Rattle.lq_value.specs.declared.refusal.Refusal.{Refusal}
 use Rattle.lq_value.specs.declared.refusal.Refusal.TheVariants.{NotOpen}
 use Rattle.lq_volume.specs.Book.{Extends}
-use Rattle.lq_server_subscription.specs.declared.identity.FirstClose.TheVariants.{Never}
-use Rattle.lq_server_subscription.specs.declared.subscription.Subscription.{Subscription}
-use Rattle.lq_server_subscription.specs.Marking.{after_close}
+use Rattle.lq_server_slots.specs.declared.identity.FirstClose.TheVariants.{Never}
+use Rattle.lq_server_slots.specs.declared.subscription.Subscription.{Subscription}
+use Rattle.lq_server_slots.specs.Marking.{after_close}
 use Rattle.lq_server_slots.specs.Slots.{IsPut}
 use Rattle.lq_server_slots.specs.Opening.{name_or}
 use Rattle.lq_server.specs.Hold.{ReaderHold}

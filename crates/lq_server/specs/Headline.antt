@@ -13,9 +13,9 @@ use Rattle.lq_update.specs.Fold.{folded, last_change}
 use Rattle.lq_desk_sub.specs.declared.read.Read.{Read}
 use Rattle.lq_desk_sub.specs.declared.read.Read.TheVariants.{Update, Fin, Empty, Ended}
 use Rattle.lq_port.specs.End.{IsSamePort}
-use Rattle.lq_server_subscription.specs.declared.delivery.Opening.{Opening}
-use Rattle.lq_server_subscription.specs.Rule.{query_of}
-use Rattle.lq_server_subscription.specs.Reading.{ReadingHold, Gives, known, received, mark_read}
+use Rattle.lq_server_slots.specs.declared.delivery.Opening.{Opening}
+use Rattle.lq_server_slots.specs.Rule.{query_of}
+use Rattle.lq_server_slots.specs.Reading.{ReadingHold, Gives, known, received, mark_read}
 use Rattle.lq_server.specs.Hold.{ReaderHold}
 
 -- the query's update list over a book, from the opening up to change n

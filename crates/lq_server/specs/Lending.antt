@@ -2,8 +2,8 @@
 use Rattle.std.specs.Borrow.{Lends, MutBor, Fml}
 use Rattle.lq_board.specs.Token.{SeatToken}
 use Rattle.lq_board.specs.contracts.tokens.Seat as seat
-use Rattle.lq_server_subscription.specs.declared.identity.Identity.{Identity}
-use Rattle.lq_server_subscription.specs.contracts.identity.Identity as identity
+use Rattle.lq_server_slots.specs.declared.identity.Identity.{Identity}
+use Rattle.lq_server_slots.specs.contracts.identity.Identity as identity
 use Rattle.lq_server.specs.Hold.{ReaderHold}
 use Rattle.lq_server.specs.contracts.reader.Reader as reader
 

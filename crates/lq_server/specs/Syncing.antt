@@ -11,13 +11,13 @@ use Rattle.lq_update.specs.declared.mark.Cause.TheVariants.{Overrun}
 use Rattle.lq_update.specs.declared.parcel.Parcel.{Parcel}
 use Rattle.lq_update.specs.declared.parcel.Parcel.TheVariants.{Update, Fin}
 use Rattle.lq_port.specs.End.{IsSamePort}
-use Rattle.lq_server_subscription.specs.Updates.{updates}
-use Rattle.lq_server_subscription.specs.Rule.{query_of, whole, IsMark}
-use Rattle.lq_server_subscription.specs.Marking.{hung_mark}
+use Rattle.lq_server_slots.specs.Updates.{updates}
+use Rattle.lq_server_slots.specs.Rule.{query_of, whole, IsMark}
+use Rattle.lq_server_slots.specs.Marking.{hung_mark}
 use Rattle.lq_desk_sub.specs.declared.read.Read.{Read}
 use Rattle.lq_desk_sub.specs.declared.read.Read.TheVariants.{Ended}
-use Rattle.lq_server_subscription.specs.Reading.{known, received, ready, mark_read, is_marked, Gives, Fails}
-use Rattle.lq_server_subscription.specs.Standing.{upto, FirstCloseFits, IsOverrun}
+use Rattle.lq_server_slots.specs.Reading.{known, received, ready, mark_read, is_marked, Gives, Fails}
+use Rattle.lq_server_slots.specs.Standing.{upto, FirstCloseFits, IsOverrun}
 use Rattle.lq_server.specs.Own.{IsOwn}
 use Rattle.lq_server.specs.Hold.{ReaderHold}
 use Rattle.lq_server.specs.declared.server.Synced.{Synced}

@@ -7,7 +7,7 @@ use crate::named::Named;
 use lq_board::{Board, Keeper};
 use lq_desk_sub::Sub;
 use lq_port::PortIn;
-use lq_server_subscription::{Delivery, Identity};
+use lq_server_slots::{Delivery, Identity};
 use lq_update::{folds_give_results, whole_folds_give_results};
 use lq_volume::Volume;
 

@@ -11,8 +11,7 @@ mod volume;
 
 use crate::named::Named;
 use lq_board::{Board, Keeper, Seat};
-use lq_server_slots::{ServerSlots, meet_in};
-use lq_server_subscription::Identity;
+use lq_server_slots::{Identity, ServerSlots, meet_in};
 use lq_value::{Entry, Refusal};
 use lq_volume::Volume;
 use std::alloc::Global;

@@ -4,8 +4,7 @@ ghost use Rattle.lq_value.specs.Refusal.{FailsOnlyForMemory};
 
 use crate::locked::Locked;
 use lq_board::Board;
-use lq_server_slots::ServerSlots;
-use lq_server_subscription::Identity;
+use lq_server_slots::{Identity, ServerSlots};
 use lq_value::Refusal;
 use lq_volume::Volume;
 use std::alloc::Global;

@@ -8,8 +8,8 @@ ghost use Rattle.lq_volume.specs.Result.{result_of};
 ghost use Rattle.lq_update.specs.Fold.{EntriesRise, folded, last_change};
 ghost use Rattle.lq_update.specs.Updates.{IsSettled};
 ghost use Rattle.lq_port.specs.End.{IsSamePort};
-ghost use Rattle.lq_server_subscription.specs.Rule.{query_of, whole};
-ghost use Rattle.lq_server_subscription.specs.Reading.{Gives, Fails, known, received, mark_read, opening_of};
+ghost use Rattle.lq_server_slots.specs.Rule.{query_of, whole};
+ghost use Rattle.lq_server_slots.specs.Reading.{Gives, Fails, known, received, mark_read, opening_of};
 ghost use Rattle.lq_server.specs.Own.{IsOwn};
 ghost use Rattle.lq_server.specs.Lending.{LendsSeat};
 ghost use Rattle.lq_server.specs.Syncing.{IsWaitingRead};
@@ -18,7 +18,7 @@ ghost use Rattle.lq_server.specs.Headline.{ReaderIsTold};
 use crate::named::{Named, Seat};
 use crate::server::Server;
 use lq_desk::Read;
-use lq_server_subscription::{Reading, books_extend_themselves};
+use lq_server_slots::{Reading, books_extend_themselves};
 use lq_value::{Entry, Refusal};
 use std::marker::Model;
 use std::sync::Wait;
@@ -34,8 +34,8 @@ pub struct Reader {
 
 impl Model for Reader {
     ghost use Rattle.std.specs.Coded.{codes};
-    ghost use Rattle.lq_server_subscription.specs.contracts.identity.Identity as an_identity;
-    ghost use Rattle.lq_server_subscription.specs.contracts.reading.Reading as a_reading;
+    ghost use Rattle.lq_server_slots.specs.contracts.identity.Identity as an_identity;
+    ghost use Rattle.lq_server_slots.specs.contracts.reading.Reading as a_reading;
     ghost use Rattle.lq_board.specs.contracts.tokens.Seat as a_seat;
     ghost use Rattle.lq_server.specs.Hold.{ReaderHold};
 

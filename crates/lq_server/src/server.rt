@@ -9,7 +9,7 @@ ghost use Rattle.lq_server.specs.Retired.{IsRetiredBy};
 use crate::locked::Locked;
 use crate::named::{Base, Named, Seat};
 use lq_board::Board;
-use lq_server_subscription::Identity;
+use lq_server_slots::Identity;
 use lq_update::Mark;
 use lq_value::Refusal;
 use lq_volume::Volume;

@@ -2,7 +2,7 @@
 ghost use Rattle.std.specs.Prelude.{◌≡◌, ◌+◌, ◌<◌, ◌≤◌, ◌^◌, IfOk, IfErr, IfSome, IfNone, OnOk, Err, true, false};
 ghost use Rattle.lq_value.specs.declared.refusal.Refusal.TheVariants.{StillOpen};
 ghost use Rattle.lq_volume.specs.Book.{Extends};
-ghost use Rattle.lq_server_subscription.specs.Reading.{is_marked};
+ghost use Rattle.lq_server_slots.specs.Reading.{is_marked};
 ghost use Rattle.lq_server_slots.specs.Opening.{IsOpeningRefused, opening_refusal};
 ghost use Rattle.lq_server.specs.declared.server.Synced.{Synced as SyncedOf};
 ghost use Rattle.lq_server_slots.specs.declared.slots.ServerSlots.{ServerSlots as SlotsOf};

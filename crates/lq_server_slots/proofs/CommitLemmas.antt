@@ -9,8 +9,8 @@ use Rattle.lq_board.specs.declared.views.KnownSlot.{KnownSlot}
 use Rattle.lq_board.specs.Slot.{slot_at, counted}
 use Rattle.lq_board.specs.Token.{KeeperToken}
 use Rattle.lq_update.specs.declared.mark.Mark.{Mark}
-use Rattle.lq_server_subscription.specs.declared.identity.Identity.{Identity}
-use Rattle.lq_server_subscription.specs.declared.subscription.Subscription.{Subscription}
+use Rattle.lq_server_slots.specs.declared.identity.Identity.{Identity}
+use Rattle.lq_server_slots.specs.declared.subscription.Subscription.{Subscription}
 use Rattle.lq_server_slots.specs.Slots.{SlotStands, asks_of, slot_in, place_at, AllStand, IsListed, IsReadyAt, AllReady, before_of, PartlyCommitted, OnlyAt, SlotIs, SlotsAre, IsNoticed}
 use Rattle.lq_server_slots.proofs.SlotLemmas.{in_here, in_else, counted_here}
 use Rattle.lq_server_slots.proofs.TakenLemmas.{free_or_taken, some_ap, listed-set}

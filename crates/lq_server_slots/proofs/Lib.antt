@@ -1,6 +1,13 @@
--- To be read in this order: one slot and all of them; the list of the taken places; a change,
+-- Read in this order. One subscription: books and their updates, parcels under their rule, then
+-- puts, ends, reads. The slots: one slot and all of them; the list of the taken places; a change,
 -- committed in one slot after another; what a reader does; a subscription that was just made; the
 -- world that the slots show.
+pub mod Books
+pub mod UpdateLemmas
+pub mod PortLemmas
+pub mod PutLemmas
+pub mod EndLemmas
+pub mod ReadLemmas
 pub mod SlotLemmas
 pub mod TakenLemmas
 pub mod CommitLemmas

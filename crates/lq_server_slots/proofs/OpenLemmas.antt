@@ -17,18 +17,18 @@ use Rattle.lq_update.specs.Fold.{opened_at}
 use Rattle.lq_desk_sub.specs.Held.{Held, opened_with}
 use Rattle.lq_desk_world.specs.Events.{size_refusals, opening_refusals}
 use Rattle.lq_port.specs.End.{End}
-use Rattle.lq_server_subscription.specs.declared.delivery.Delivery.{Delivery}
-use Rattle.lq_server_subscription.specs.declared.delivery.Opening.{Opening}
-use Rattle.lq_server_subscription.specs.declared.identity.Identity.{Identity}
-use Rattle.lq_server_subscription.specs.declared.identity.FirstClose.{FirstClose}
-use Rattle.lq_server_subscription.specs.declared.identity.FirstClose.TheVariants.{Never}
-use Rattle.lq_server_subscription.specs.declared.subscription.Subscription.{Subscription}
-use Rattle.lq_server_subscription.specs.Rule.{floor_of, query_of}
-use Rattle.lq_server_subscription.specs.Marking.{hung_mark}
-use Rattle.lq_server_subscription.specs.Identity.{identity_of}
-use Rattle.lq_server_subscription.specs.Reading.{ReadingHold}
-use Rattle.lq_server_subscription.specs.Standing.{Stands, StandsAt}
-use Rattle.lq_server_subscription.specs.Laws.{NewSubscriptionsStand}
+use Rattle.lq_server_slots.specs.declared.delivery.Delivery.{Delivery}
+use Rattle.lq_server_slots.specs.declared.delivery.Opening.{Opening}
+use Rattle.lq_server_slots.specs.declared.identity.Identity.{Identity}
+use Rattle.lq_server_slots.specs.declared.identity.FirstClose.{FirstClose}
+use Rattle.lq_server_slots.specs.declared.identity.FirstClose.TheVariants.{Never}
+use Rattle.lq_server_slots.specs.declared.subscription.Subscription.{Subscription}
+use Rattle.lq_server_slots.specs.Rule.{floor_of, query_of}
+use Rattle.lq_server_slots.specs.Marking.{hung_mark}
+use Rattle.lq_server_slots.specs.Identity.{identity_of}
+use Rattle.lq_server_slots.specs.Reading.{ReadingHold}
+use Rattle.lq_server_slots.specs.Standing.{Stands, StandsAt}
+use Rattle.lq_server_slots.specs.Laws.{NewSubscriptionsStand}
 use Rattle.lq_server_slots.specs.declared.slots.ServerSlots.{ServerSlots}
 use Rattle.lq_server_slots.specs.declared.open.Opened.{Opened}
 use Rattle.lq_server_slots.specs.Slots.{AreUnchanged, SlotStands, asks_of, slot_in, AllStand, OnlyAt}

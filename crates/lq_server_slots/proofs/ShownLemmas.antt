@@ -19,13 +19,13 @@ use Rattle.lq_desk_sub.specs.Held.{Held, after_messages, after_messages_by, ende
 use Rattle.lq_port.specs.End.{all_put}
 use Rattle.lq_desk_world.specs.World.{Subscribed, End, covered_by, mark_behind, updates_due, waiting, overruns, overrun_if, after_change}
 use Rattle.lq_desk_world.specs.Events.{noticing_if, closing_if}
-use Rattle.lq_server_subscription.specs.declared.delivery.Delivery.{Delivery}
-use Rattle.lq_server_subscription.specs.declared.identity.Identity.{Identity}
-use Rattle.lq_server_subscription.specs.declared.subscription.Subscription.{Subscription}
-use Rattle.lq_server_subscription.specs.Updates.{updates}
-use Rattle.lq_server_subscription.specs.Rule.{message_of, mark_or, messages_in, mark_in}
-use Rattle.lq_server_subscription.specs.Standing.{StandsAt, IsReady, moved_mark, upto}
-use Rattle.lq_server_subscription.specs.Marking.{held_committed}
+use Rattle.lq_server_slots.specs.declared.delivery.Delivery.{Delivery}
+use Rattle.lq_server_slots.specs.declared.identity.Identity.{Identity}
+use Rattle.lq_server_slots.specs.declared.subscription.Subscription.{Subscription}
+use Rattle.lq_server_slots.specs.Updates.{updates}
+use Rattle.lq_server_slots.specs.Rule.{message_of, mark_or, messages_in, mark_in}
+use Rattle.lq_server_slots.specs.Standing.{StandsAt, IsReady, moved_mark, upto}
+use Rattle.lq_server_slots.specs.Marking.{held_committed}
 use Rattle.lq_server_slots.specs.Slots.{SlotStands, slot_in}
 use Rattle.lq_server_slots.specs.Shown.{end_of, subscribed, shown_in, mark_to_put, with_mark, IsPassedOn, SlotPassesOn, SlotsShowWorlds, ActsShowWorlds}
 use Rattle.lq_server_slots.proofs.SlotLemmas.{told_length}

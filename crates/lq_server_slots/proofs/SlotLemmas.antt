@@ -16,15 +16,15 @@ use Rattle.lq_update.specs.declared.parcel.Parcel.{Parcel}
 use Rattle.lq_update.specs.declared.parcel.Parcel.TheVariants.{Update, Fin}
 use Rattle.lq_desk_sub.specs.Held.{Held}
 use Rattle.lq_port.specs.End.{End, all_put}
-use Rattle.lq_server_subscription.specs.declared.delivery.Delivery.{Delivery}
-use Rattle.lq_server_subscription.specs.declared.delivery.Opening.{Opening}
-use Rattle.lq_server_subscription.specs.declared.identity.Identity.{Identity}
-use Rattle.lq_server_subscription.specs.declared.identity.FirstClose.{FirstClose}
-use Rattle.lq_server_subscription.specs.declared.subscription.Subscription.{Subscription}
-use Rattle.lq_server_subscription.specs.Rule.{message_of, mark_or, messages_in, mark_in}
-use Rattle.lq_server_subscription.specs.Marking.{hung_mark}
-use Rattle.lq_server_subscription.specs.Identity.{identity_of, port_id}
-use Rattle.lq_server_subscription.specs.Standing.{Stands, StandsAt, IsFilled, IsStuck, IsOut, SameButPuts, SameButHeld, moved_mark}
+use Rattle.lq_server_slots.specs.declared.delivery.Delivery.{Delivery}
+use Rattle.lq_server_slots.specs.declared.delivery.Opening.{Opening}
+use Rattle.lq_server_slots.specs.declared.identity.Identity.{Identity}
+use Rattle.lq_server_slots.specs.declared.identity.FirstClose.{FirstClose}
+use Rattle.lq_server_slots.specs.declared.subscription.Subscription.{Subscription}
+use Rattle.lq_server_slots.specs.Rule.{message_of, mark_or, messages_in, mark_in}
+use Rattle.lq_server_slots.specs.Marking.{hung_mark}
+use Rattle.lq_server_slots.specs.Identity.{identity_of, port_id}
+use Rattle.lq_server_slots.specs.Standing.{Stands, StandsAt, IsFilled, IsStuck, IsOut, SameButPuts, SameButHeld, moved_mark}
 use Rattle.lq_server_slots.specs.Slots.{IsTaken, IsToFill, SlotStands, asks_of, slot_in, AllStand, OnlyAt, before_of, IsGrown}
 
 -- ---- one slot

@@ -9,14 +9,14 @@ use Rattle.lq_board.specs.Slot.{slot_at, unused, gone_out, go_out, come_back}
 use Rattle.lq_board.specs.Token.{SeatToken}
 use Rattle.lq_update.specs.declared.message.Message.{Message}
 use Rattle.lq_port.specs.End.{End, all_put}
-use Rattle.lq_server_subscription.specs.declared.delivery.Delivery.{Delivery}
-use Rattle.lq_server_subscription.specs.declared.delivery.Opening.{Opening}
-use Rattle.lq_server_subscription.specs.declared.identity.Identity.{Identity}
-use Rattle.lq_server_subscription.specs.declared.subscription.Subscription.{Subscription}
-use Rattle.lq_server_subscription.specs.Rule.{messages_in}
-use Rattle.lq_server_subscription.specs.Marking.{hung_mark, after_close}
-use Rattle.lq_server_subscription.specs.Identity.{identity_of, port_id_inj}
-use Rattle.lq_server_subscription.specs.Standing.{StandsAt, IsDrained, SameButPuts, SameButHeld}
+use Rattle.lq_server_slots.specs.declared.delivery.Delivery.{Delivery}
+use Rattle.lq_server_slots.specs.declared.delivery.Opening.{Opening}
+use Rattle.lq_server_slots.specs.declared.identity.Identity.{Identity}
+use Rattle.lq_server_slots.specs.declared.subscription.Subscription.{Subscription}
+use Rattle.lq_server_slots.specs.Rule.{messages_in}
+use Rattle.lq_server_slots.specs.Marking.{hung_mark, after_close}
+use Rattle.lq_server_slots.specs.Identity.{identity_of, port_id_inj}
+use Rattle.lq_server_slots.specs.Standing.{StandsAt, IsDrained, SameButPuts, SameButHeld}
 use Rattle.lq_server_slots.specs.Slots.{IsTaken, SlotStands, asks_of, OnlyAt}
 use Rattle.lq_server_slots.specs.Opening.{IdentityFits, name_or}
 use Rattle.lq_server_slots.proofs.SlotLemmas.{taken_then, identity_alike}

@@ -14,8 +14,8 @@ use Rattle.lq_board.specs.declared.views.KnownSlot.{KnownSlot}
 use Rattle.lq_volume.specs.Book.{Book}
 use Rattle.lq_board.specs.Slot.{slot_at}
 use Rattle.lq_board.specs.Token.{KeeperToken}
-use Rattle.lq_server_subscription.specs.declared.identity.Identity.{Identity}
-use Rattle.lq_server_subscription.specs.declared.subscription.Subscription.{Subscription}
+use Rattle.lq_server_slots.specs.declared.identity.Identity.{Identity}
+use Rattle.lq_server_slots.specs.declared.subscription.Subscription.{Subscription}
 use Rattle.lq_server_slots.specs.Slots.{AllStand, OnlyAt, SlotStands, asks_of, slot_in, place_at, IsListed, IsDropped, IsReadyAt, all_taken, is_full}
 use Rattle.lq_server_slots.proofs.SlotLemmas.{all_stand-step, in_here, in_else}
 

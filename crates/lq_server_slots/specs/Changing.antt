@@ -11,7 +11,7 @@ use Rattle.lq_volume.specs.Change.{refused, node_of}
 use Rattle.lq_board.specs.Author.{with_change}
 use Rattle.lq_board.specs.Slot.{slot_at}
 use Rattle.lq_board.specs.Token.{SeatToken}
-use Rattle.lq_server_subscription.specs.declared.identity.Identity.{Identity}
+use Rattle.lq_server_slots.specs.declared.identity.Identity.{Identity}
 use Rattle.lq_server_slots.specs.declared.slots.ServerSlots.{ServerSlots}
 use Rattle.lq_server_slots.specs.Slots.{AllReady, IsNoticed, SlotsAre, SlotsStand}
 

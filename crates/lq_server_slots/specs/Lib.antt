@@ -1,3 +1,13 @@
+-- One subscription: begin with Rule, then LegalList, Standing and Reading. All slots: Slots, then
+-- Changing.
+pub mod Updates
+pub mod Rule
+pub mod LegalList
+pub mod Identity
+pub mod Standing
+pub mod Marking
+pub mod Reading
+pub mod Laws
 pub mod Slots
 pub mod Opening
 pub mod Progress

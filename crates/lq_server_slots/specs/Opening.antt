@@ -11,15 +11,15 @@ use Rattle.lq_volume.specs.Result.{result_of}
 use Rattle.lq_update.specs.Fold.{opened_at}
 use Rattle.lq_desk_world.specs.Events.{opening_refusals, size_refusals}
 use Rattle.lq_port.specs.End.{End}
-use Rattle.lq_server_subscription.specs.declared.identity.Identity.{Identity}
-use Rattle.lq_server_subscription.specs.declared.identity.FirstClose.TheVariants.{Never}
-use Rattle.lq_server_subscription.specs.declared.delivery.Delivery.{Delivery}
-use Rattle.lq_server_subscription.specs.declared.delivery.Opening.{Opening}
-use Rattle.lq_server_subscription.specs.declared.subscription.Subscription.{Subscription}
-use Rattle.lq_server_subscription.specs.Rule.{floor_of, query_of}
-use Rattle.lq_server_subscription.specs.Identity.{port_id}
-use Rattle.lq_server_subscription.specs.Reading.{ReadingHold}
-use Rattle.lq_server_subscription.specs.Standing.{StandsAt}
+use Rattle.lq_server_slots.specs.declared.identity.Identity.{Identity}
+use Rattle.lq_server_slots.specs.declared.identity.FirstClose.TheVariants.{Never}
+use Rattle.lq_server_slots.specs.declared.delivery.Delivery.{Delivery}
+use Rattle.lq_server_slots.specs.declared.delivery.Opening.{Opening}
+use Rattle.lq_server_slots.specs.declared.subscription.Subscription.{Subscription}
+use Rattle.lq_server_slots.specs.Rule.{floor_of, query_of}
+use Rattle.lq_server_slots.specs.Identity.{port_id}
+use Rattle.lq_server_slots.specs.Reading.{ReadingHold}
+use Rattle.lq_server_slots.specs.Standing.{StandsAt}
 use Rattle.lq_server_slots.specs.declared.open.Opened.{Opened}
 use Rattle.lq_server_slots.specs.declared.slots.ServerSlots.{ServerSlots}
 use Rattle.lq_server_slots.specs.Slots.{is_full, slot_in}

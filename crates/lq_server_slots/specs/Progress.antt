@@ -5,13 +5,13 @@ use Rattle.lq_volume.specs.Book.{Extends}
 use Rattle.lq_board.specs.Token.{SeatToken}
 use Rattle.lq_port.specs.End.{IsSamePort, all_put}
 use Rattle.lq_port.specs.Port.{IsLegal}
-use Rattle.lq_server_subscription.specs.declared.identity.Identity.{Identity}
-use Rattle.lq_server_subscription.specs.declared.subscription.Subscription.{Subscription}
-use Rattle.lq_server_subscription.specs.Rule.{MayFollow}
-use Rattle.lq_server_subscription.specs.Marking.{hung_mark}
-use Rattle.lq_server_subscription.specs.Identity.{identity_of}
-use Rattle.lq_server_subscription.specs.Reading.{ReadingHold}
-use Rattle.lq_server_subscription.specs.Standing.{StandsAt, IsDrained}
+use Rattle.lq_server_slots.specs.declared.identity.Identity.{Identity}
+use Rattle.lq_server_slots.specs.declared.subscription.Subscription.{Subscription}
+use Rattle.lq_server_slots.specs.Rule.{MayFollow}
+use Rattle.lq_server_slots.specs.Marking.{hung_mark}
+use Rattle.lq_server_slots.specs.Identity.{identity_of}
+use Rattle.lq_server_slots.specs.Reading.{ReadingHold}
+use Rattle.lq_server_slots.specs.Standing.{StandsAt, IsDrained}
 use Rattle.lq_server_slots.specs.declared.sync.Progress.{Progress}
 
 -- what a sync shows of a subscription; s is the subscription under the lock

@@ -12,11 +12,11 @@ use Rattle.lq_update.specs.declared.parcel.Parcel.TheVariants.{Update, Fin}
 use Rattle.lq_port.specs.End.{all_put}
 use Rattle.lq_desk_world.specs.World.{World, Subscribed, End, updates_due, waiting, to_come, after_change}
 use Rattle.lq_desk_world.specs.Events.{noticing, closing}
-use Rattle.lq_server_subscription.specs.declared.identity.Identity.{Identity}
-use Rattle.lq_server_subscription.specs.declared.subscription.Subscription.{Subscription}
-use Rattle.lq_server_subscription.specs.Rule.{messages_in}
-use Rattle.lq_server_subscription.specs.Marking.{held_committed, held_noticed, held_closed}
-use Rattle.lq_server_subscription.specs.Standing.{StandsAt, IsReady}
+use Rattle.lq_server_slots.specs.declared.identity.Identity.{Identity}
+use Rattle.lq_server_slots.specs.declared.subscription.Subscription.{Subscription}
+use Rattle.lq_server_slots.specs.Rule.{messages_in}
+use Rattle.lq_server_slots.specs.Marking.{held_committed, held_noticed, held_closed}
+use Rattle.lq_server_slots.specs.Standing.{StandsAt, IsReady}
 use Rattle.lq_server_slots.specs.declared.slots.ServerSlots.{ServerSlots}
 use Rattle.lq_server_slots.specs.Slots.{SlotsStand, slot_in}
 

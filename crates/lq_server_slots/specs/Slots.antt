@@ -9,11 +9,11 @@ use Rattle.lq_board.specs.declared.views.KnownSlot.{KnownSlot}
 use Rattle.lq_board.specs.Book.{IsFullBook}
 use Rattle.lq_board.specs.Slot.{slot_at}
 use Rattle.lq_board.specs.Token.{KeeperToken}
-use Rattle.lq_server_subscription.specs.declared.identity.Identity.{Identity}
-use Rattle.lq_server_subscription.specs.declared.subscription.Subscription.{Subscription}
-use Rattle.lq_server_subscription.specs.Marking.{hung_mark}
-use Rattle.lq_server_subscription.specs.Identity.{identity_of}
-use Rattle.lq_server_subscription.specs.Standing.{StandsAt, IsFilled, IsReady, IsStuck}
+use Rattle.lq_server_slots.specs.declared.identity.Identity.{Identity}
+use Rattle.lq_server_slots.specs.declared.subscription.Subscription.{Subscription}
+use Rattle.lq_server_slots.specs.Marking.{hung_mark}
+use Rattle.lq_server_slots.specs.Identity.{identity_of}
+use Rattle.lq_server_slots.specs.Standing.{StandsAt, IsFilled, IsReady, IsStuck}
 use Rattle.lq_server_slots.specs.declared.slots.ServerSlots.{ServerSlots}
 
 -- a taken slot: its subscription, and what the keeper knows of its seat

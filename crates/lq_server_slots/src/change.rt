@@ -9,10 +9,10 @@ ghost use Rattle.lq_board.specs.Slot.{slot_at};
 ghost use Rattle.lq_server_slots.specs.Changing.{IsChangeMade, IsPrepared};
 ghost use Rattle.lq_server_slots.specs.Slots.{SlotsStand, StandsBeside, AllReady, IsNoticed, IsServed, SlotsAre};
 
+use crate::identity::Identity;
 use crate::passes::{commit_all, ready_all};
 use crate::slots::{ServerSlots, serve_all};
 use lq_board::{Board, Seat};
-use lq_server_subscription::Identity;
 use lq_value::Refusal;
 use lq_volume::{Applied, Change, Volume};
 use std::sync::Wait;

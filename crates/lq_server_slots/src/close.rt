@@ -2,17 +2,18 @@
 ghost use Rattle.std.specs.Prelude.{◌≡◌, ◌+◌, ◌<◌, ◌≤◌, ◌≢◌, ℕ, length, IfNone, IsSome, IsSomeAnd, IfSome, is_some, Some, None, true, false};
 ghost use Rattle.lq_volume.specs.Book.{Extends};
 ghost use Rattle.lq_board.specs.Slot.{slot_at};
-ghost use Rattle.lq_server_subscription.specs.declared.identity.FirstClose.TheVariants.{Never};
-ghost use Rattle.lq_server_subscription.specs.Marking.{after_close};
-ghost use Rattle.lq_server_subscription.specs.Identity.{identity_of};
+ghost use Rattle.lq_server_slots.specs.declared.identity.FirstClose.TheVariants.{Never};
+ghost use Rattle.lq_server_slots.specs.Marking.{after_close};
+ghost use Rattle.lq_server_slots.specs.Identity.{identity_of};
 ghost use Rattle.lq_server_slots.specs.Closing.{IsClosed};
 ghost use Rattle.lq_server_slots.specs.Slots.{IsTaken, SlotStands, SlotsStand, IsPlaceIn, IsDropped, IsPut, place_at, OnlyAt, asks_of, slot_in};
 ghost use Rattle.lq_server_slots.specs.Opening.{asks_after, name_or};
 
+use crate::identity::Identity;
 use crate::slots::{ServerSlots, fill_slot};
+use crate::subscription::{Subscription, close};
 use crate::sync::{meet_same, meet_under, notice_by};
 use lq_board::{Board, Keeper, Seat};
-use lq_server_subscription::{Identity, Subscription, close};
 use std::sync::Wait;
 
 // Closes a subscription, once the keeper and its seat have met.

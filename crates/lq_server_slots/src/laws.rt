@@ -1,5 +1,6 @@
-//! Laws of the slots under the lock: each is the contract of a function with no body.
+//! Laws of books, subscriptions and the slots under the lock: each is the contract of a function with no body.
 ghost use Rattle.lq_server_slots.specs.Shown.{ActsShowWorlds, SlotsShowWorlds};
+ghost use Rattle.lq_server_slots.specs.Laws.{BooksExtendOn, BooksExtendThemselves, NewSubscriptionsStand, StatesStay, UpdatesAreUpdateLists};
 
 /// The slots under the lock show a world of the core, whatever the counts of parcels taken are,
 /// which only the readers know.
@@ -14,4 +15,29 @@ pub fn slots_show_worlds()
 /// notice and close do to the one that it stands for.
 pub fn acts_show_worlds()
     ensures { ActsShowWorlds }
+{}
+
+/// Each book extends itself.
+pub fn books_extend_themselves()
+    ensures { BooksExtendThemselves }
+{}
+
+/// Extension of books is transitive.
+pub fn books_extend_on()
+    ensures { BooksExtendOn }
+{}
+
+/// A book and one that extends it lead to the same state at each number of the shorter one.
+pub fn states_stay()
+    ensures { StatesStay }
+{}
+
+/// The opaque update list in the rule of a port is the query's update list.
+pub fn updates_are_update_lists()
+    ensures { UpdatesAreUpdateLists }
+{}
+
+/// A new subscription with an empty port stands over the book of its opening.
+pub fn new_subscriptions_stand()
+    ensures { NewSubscriptionsStand }
 {}

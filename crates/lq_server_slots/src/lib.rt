@@ -1,21 +1,38 @@
-//! The 64 slots of subscriptions under the server's lock, with the keeper of the board beside them.
+//! The 64 slots of subscriptions under the server's lock, each with its port, and the keeper of the
+//! board beside them.
 //!
-//! Contracts see `ServerSlots` by its fields. `SlotsStand` (`specs/Slots`) says how far each taken
-//! slot has followed a book, and that the list of the taken places is right. Puts and takes may
-//! wait for a step of a port's other end. Begin with `slots`, then `change`.
+//! Each parcel carries the keeper's book, for contracts alone (`witness`); `specs/Rule` says which
+//! parcel may follow. A subscription under the lock stands over a book (`StandsAt` of
+//! `specs/Standing`), and the reading end is a `ReadingHold` (`specs/Reading`). Contracts see
+//! `ServerSlots` by its fields: `SlotsStand` (`specs/Slots`) says how far each taken slot has
+//! followed a book, and that the list of the taken places is right. Puts and takes may wait for a
+//! step of a port's other end. Begin with `delivery`, `subscription`, `puts` and `reading`, then
+//! `slots` and `change`.
 #![tactic(auto)]
 
 mod change;
 mod close;
+mod delivery;
+mod identity;
 mod laws;
 mod open;
 mod passes;
+mod puts;
+mod reading;
 mod slots;
+mod subscription;
 mod sync;
+mod taking;
+mod witness;
 
 pub use change::change_in;
 pub use close::{close_in, free_in};
-pub use laws::{acts_show_worlds, slots_show_worlds};
+pub use delivery::Delivery;
+pub use identity::Identity;
+pub use laws::{
+    acts_show_worlds, books_extend_on, books_extend_themselves, slots_show_worlds, states_stay,
+};
 pub use open::{Asked, Opened, open_in};
+pub use reading::Reading;
 pub use slots::ServerSlots;
 pub use sync::{Progress, meet_in, sync_in};

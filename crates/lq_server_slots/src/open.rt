@@ -5,20 +5,22 @@ ghost use Rattle.lq_volume.specs.Book.{state_of};
 ghost use Rattle.lq_board.specs.Author.{new_author};
 ghost use Rattle.lq_board.specs.Book.{IsFullBook};
 ghost use Rattle.lq_board.specs.Slot.{slot_at, gone_out};
-ghost use Rattle.lq_server_subscription.specs.Identity.{identity_of};
-ghost use Rattle.lq_server_subscription.specs.declared.identity.Identity.{Identity as IdentityOf};
+ghost use Rattle.lq_server_slots.specs.Identity.{identity_of};
+ghost use Rattle.lq_server_slots.specs.declared.identity.Identity.{Identity as IdentityOf};
 ghost use Rattle.lq_server_slots.specs.Slots.{AreUnchanged, SlotsStand, StandsBeside, is_full, slot_in};
 ghost use Rattle.lq_server_slots.specs.Opening.{IsBegun, IsOpened, IsOpeningAnswer};
 
+use crate::delivery::{Delivery, Opening};
+use crate::identity::{FirstClose, Identity};
+use crate::laws::new_subscriptions_stand;
+use crate::reading::Reading;
 use crate::slots::{PLACES, ServerSlots};
+use crate::subscription::Subscription;
+use crate::witness::Witness;
 use lq_board::{Board, Keeper, Seat};
 use lq_desk_sub::{MAX_BACKLOG, Sub};
 use lq_port::{MAX_PLACES, make};
 use lq_predicate::Predicate;
-use lq_server_subscription::{
-    Delivery, FirstClose, Identity, Opening, Reading, Subscription, new_subscriptions_stand,
-};
-use lq_server_witness::Witness;
 use lq_update::{Rebuild, results_rise};
 use lq_value::Refusal;
 use lq_volume::Volume;

@@ -5,9 +5,10 @@ ghost use Rattle.lq_volume.specs.Book.{state_of};
 ghost use Rattle.lq_board.specs.Slot.{slot_at};
 ghost use Rattle.lq_server_slots.specs.Slots.{IsTaken, IsToFill, SlotStands, asks_of, SlotsStand, OnlyAt, IsReadyAt, AllReady, before_of, IsGrown, IsNoticed, IsServed, SlotIs, SlotsAre};
 
+use crate::identity::Identity;
 use crate::slots::{ServerSlots, fill_slot, notice_slot, place_of};
+use crate::subscription::{Subscription, commit, ready};
 use lq_board::{Board, Keeper};
-use lq_server_subscription::{Identity, Subscription, commit, ready};
 use lq_value::Refusal;
 use lq_volume::{Change, Planned};
 use std::sync::Wait;

@@ -2,12 +2,14 @@
 ghost use Rattle.std.specs.Prelude.{◌≡◌, ◌<◌, ◌≤◌, ℕ, length, None, Some, IsSome, is_some, IfOk};
 ghost use Rattle.lq_value.specs.Refusal.{FailsOnlyForMemory};
 ghost use Rattle.lq_board.specs.Slot.{slot_at, counted};
-ghost use Rattle.lq_server_subscription.specs.Identity.{identity_of};
-ghost use Rattle.lq_server_subscription.specs.Standing.{SameButHeld, SameButPuts, IsStuck};
+ghost use Rattle.lq_server_slots.specs.Identity.{identity_of};
+ghost use Rattle.lq_server_slots.specs.Standing.{SameButHeld, SameButPuts, IsStuck};
 ghost use Rattle.lq_server_slots.specs.Slots.{IsTaken, IsToFill, SlotStands, asks_of, SlotsStand, IsListed, place_at, OnlyAt, slot_in, IsNoticed, IsServed, SlotIs, SlotsAre};
 
+use crate::identity::Identity;
+use crate::puts::fill;
+use crate::subscription::{Subscription, notice};
 use lq_board::{Board, Keeper};
-use lq_server_subscription::{Identity, Subscription, fill, notice};
 use lq_value::Refusal;
 use std::alloc::Global;
 use std::sync::Wait;

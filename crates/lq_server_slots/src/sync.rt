@@ -2,17 +2,20 @@
 ghost use Rattle.std.specs.Prelude.{◌≡◌, ◌<◌, ◌≤◌, length, IsSome, IsSomeAnd, Some, true, is_some};
 ghost use Rattle.lq_volume.specs.Book.{Extends};
 ghost use Rattle.lq_board.specs.Slot.{slot_at};
-ghost use Rattle.lq_server_subscription.specs.Identity.{identity_of};
-ghost use Rattle.lq_server_subscription.specs.Standing.{SameButHeld};
-ghost use Rattle.lq_server_subscription.specs.declared.subscription.Subscription.{Subscription as SubscriptionOf};
-ghost use Rattle.lq_server_subscription.specs.declared.identity.Identity.{Identity as IdentityOf};
+ghost use Rattle.lq_server_slots.specs.Identity.{identity_of};
+ghost use Rattle.lq_server_slots.specs.Standing.{SameButHeld};
+ghost use Rattle.lq_server_slots.specs.declared.subscription.Subscription.{Subscription as SubscriptionOf};
+ghost use Rattle.lq_server_slots.specs.declared.identity.Identity.{Identity as IdentityOf};
 ghost use Rattle.lq_server_slots.specs.Slots.{IsTaken, SlotStands, SlotsStand, OnlyAt, SameButKnown, asks_of};
 ghost use Rattle.lq_server_slots.specs.Opening.{IdentityFits};
 ghost use Rattle.lq_server_slots.specs.Progress.{ShowsProgress};
 
+use crate::identity::Identity;
+use crate::puts::drain;
+use crate::reading::Reading;
 use crate::slots::{ServerSlots, notice_slot};
+use crate::subscription::Subscription;
 use lq_board::{Board, Keeper, Seat};
-use lq_server_subscription::{Identity, Reading, Subscription, drain};
 use lq_update::Mark;
 use std::sync::Wait;
 

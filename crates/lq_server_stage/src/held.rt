@@ -7,7 +7,7 @@ use crate::reference::{Log, text};
 use lq_board::Seat;
 use lq_predicate::read;
 use lq_server::{Accepted, Named, Reader, Server};
-use lq_server_subscription::Identity;
+use lq_server_slots::Identity;
 use lq_value::{Name, Refusal};
 use lq_volume::Change;
 use std::alloc::Global;

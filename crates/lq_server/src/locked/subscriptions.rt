@@ -1,7 +1,7 @@
 //! Calls on the subscriptions under the lock.
 ghost use Rattle.std.specs.Prelude.{◌≡◌, ◌≢◌, ℕ, ◌+◌, ◌<◌, ◌≤◌, IfOk, OnOk, OnErr, IsSome, IsSomeAnd, None};
 ghost use Rattle.lq_volume.specs.Book.{Extends};
-ghost use Rattle.lq_server_subscription.specs.declared.subscription.Subscription.{Subscription as SubscriptionOf};
+ghost use Rattle.lq_server_slots.specs.declared.subscription.Subscription.{Subscription as SubscriptionOf};
 ghost use Rattle.lq_server_slots.specs.declared.slots.ServerSlots.{ServerSlots as SlotsOf};
 ghost use Rattle.lq_server_slots.specs.Slots.{SameButKnown, SlotsStand, slot_in};
 ghost use Rattle.lq_server_slots.specs.Closing.{IsClosed};
@@ -11,8 +11,9 @@ ghost use Rattle.lq_server_slots.specs.Progress.{ShowsProgress};
 use crate::locked::Locked;
 use crate::named::Named;
 use lq_board::{Board, Seat};
-use lq_server_slots::{Asked, Opened, Progress, close_in, free_in, open_in, sync_in};
-use lq_server_subscription::{Identity, Reading};
+use lq_server_slots::{
+    Asked, Identity, Opened, Progress, Reading, close_in, free_in, open_in, sync_in,
+};
 use lq_value::Refusal;
 use std::sync::Wait;
 

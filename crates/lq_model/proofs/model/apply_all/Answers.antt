@@ -3,7 +3,7 @@ use Rattle.std.proofs.Common.{◌≡◌, ◌+◌, List, [], ◌∷◌, ◌++◌,
 use Rattle.std.proofs.lemmas.List.{take_more}
 use Rattle.lq_volume.specs.declared.change.Change.{Change}
 use Rattle.lq_board.specs.Token.{SeatToken}
-use Rattle.lq_server_subscription.specs.declared.identity.Identity.{Identity}
+use Rattle.lq_server_slots.specs.declared.identity.Identity.{Identity}
 use Rattle.lq_model.specs.Followed.{HasMade}
 use Rattle.lq_model.proofs.MadeLemmas.{made_more}
 use Rattle.lq_model.proofs.model.apply_all.Goals as goal

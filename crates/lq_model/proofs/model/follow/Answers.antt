@@ -1,7 +1,7 @@
 use Rattle.std.proofs.Common.{◌≡◌, sym, ap, ◌∙◌, subst}
 use Rattle.std.specs.Prelude.{IfOk}
 use Rattle.lq_board.specs.Token.{SeatToken}
-use Rattle.lq_server_subscription.specs.declared.identity.Identity.{Identity}
+use Rattle.lq_server_slots.specs.declared.identity.Identity.{Identity}
 use Rattle.lq_model.specs.declared.model.Followed.{Followed}
 use Rattle.lq_model.specs.Followed.{GoesOut, HasMade, IsFollowed}
 use Rattle.lq_model.proofs.FollowLemmas.{Meets, followed}

@@ -2,7 +2,7 @@ use Rattle.std.proofs.Common.{◌≡◌, List, [], ◌∷◌, sym, ap, ◌∙◌
 use Rattle.lq_volume.specs.Book.{Book, grown}
 use Rattle.lq_board.specs.declared.views.KnownSlot.{KnownSlot}
 use Rattle.lq_board.specs.Token.{KeeperToken}
-use Rattle.lq_server_subscription.specs.declared.identity.Identity.{Identity}
+use Rattle.lq_server_slots.specs.declared.identity.Identity.{Identity}
 use Rattle.lq_server_slots.specs.Slots.{SlotsAre, IsNoticed}
 use Rattle.lq_server_slots.proofs.SlotLemmas.{all_stand-alike}
 use Rattle.lq_server_slots.proofs.SyncLemmas.{back_out, later_grown, later_same, seat_stays}

@@ -4,7 +4,7 @@ use Rattle.lq_volume.specs.Change.{IsLawful}
 use Rattle.lq_volume.specs.Book.{Book, state_of}
 use Rattle.lq_board.specs.Book.{IsFullBook}
 use Rattle.lq_board.specs.Token.{KeeperToken}
-use Rattle.lq_server_subscription.specs.declared.identity.Identity.{Identity}
+use Rattle.lq_server_slots.specs.declared.identity.Identity.{Identity}
 use Rattle.lq_server_slots.specs.Changing.{IsChangeMade}
 use Rattle.lq_server_slots.specs.Slots.{SlotsStand, AllReady}
 use Rattle.lq_server_slots.proofs.SlotLemmas.{before_is, grown_is}

@@ -1,8 +1,8 @@
 use Rattle.std.proofs.Common.{◌≡◌, ◌∙◌, ◌<◌, ℕ, true, false, true≢false, length, Option, refl, sym, ap, subst}
 use Rattle.lq_board.specs.Slot.{slot_at}
 use Rattle.lq_board.specs.Token.{SeatToken}
-use Rattle.lq_server_subscription.specs.declared.identity.Identity.{Identity}
-use Rattle.lq_server_subscription.specs.declared.identity.FirstClose.TheVariants.{Never}
+use Rattle.lq_server_slots.specs.declared.identity.Identity.{Identity}
+use Rattle.lq_server_slots.specs.declared.identity.FirstClose.TheVariants.{Never}
 use Rattle.lq_server_slots.specs.Slots.{IsTaken, IsPut, SlotStands}
 use Rattle.lq_server_slots.specs.Opening.{name_or}
 use Rattle.lq_server_slots.proofs.SyncLemmas.{only_then, seat_then, close_then}

@@ -3,7 +3,7 @@ use Rattle.std.specs.Prelude.{IsSome, is_none}
 use Rattle.lq_board.specs.Slot.{slot_at}
 use Rattle.lq_board.specs.declared.views.KnownSlot.{KnownSlot}
 use Rattle.lq_update.specs.declared.mark.Mark.{Mark}
-use Rattle.lq_server_subscription.specs.declared.identity.Identity.{Identity}
+use Rattle.lq_server_slots.specs.declared.identity.Identity.{Identity}
 use Rattle.lq_server_slots.specs.Slots.{IsTaken}
 use Rattle.lq_server_slots.proofs.SyncLemmas.{taken_closed}
 use Rattle.lq_server_slots.proofs.close.end_slot.Goals as goal

@@ -8,11 +8,11 @@ use Rattle.lq_board.specs.Token.{KeeperToken}
 use Rattle.lq_update.specs.Fold.{opened_at}
 use Rattle.lq_desk_sub.specs.Held.{Prepared}
 use Rattle.lq_port.specs.End.{End}
-use Rattle.lq_server_subscription.specs.declared.delivery.Delivery.{Delivery}
-use Rattle.lq_server_subscription.specs.declared.delivery.Opening.{Opening}
-use Rattle.lq_server_subscription.specs.Rule.{floor_of}
-use Rattle.lq_server_subscription.specs.Reading.{ReadingHold}
-use Rattle.lq_server_subscription.specs.declared.identity.Identity.{Identity}
+use Rattle.lq_server_slots.specs.declared.delivery.Delivery.{Delivery}
+use Rattle.lq_server_slots.specs.declared.delivery.Opening.{Opening}
+use Rattle.lq_server_slots.specs.Rule.{floor_of}
+use Rattle.lq_server_slots.specs.Reading.{ReadingHold}
+use Rattle.lq_server_slots.specs.declared.identity.Identity.{Identity}
 use Rattle.lq_server_slots.proofs.OpenLemmas.{begun_new}
 use Rattle.lq_server_slots.proofs.open.begin.Goals as goal
 

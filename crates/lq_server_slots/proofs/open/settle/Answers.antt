@@ -1,8 +1,8 @@
 use Rattle.std.proofs.Common.{◌≡◌, ◌+◌, ◌++◌, List, [], ◌∷◌, ℕ, refl, sym, ap, ◌∙◌, subst, slice_set, Some}
 use Rattle.lq_volume.specs.Book.{Book}
 use Rattle.lq_board.specs.Token.{KeeperToken}
-use Rattle.lq_server_subscription.specs.declared.identity.Identity.{Identity}
-use Rattle.lq_server_subscription.specs.declared.subscription.Subscription.{Subscription}
+use Rattle.lq_server_slots.specs.declared.identity.Identity.{Identity}
+use Rattle.lq_server_slots.specs.declared.subscription.Subscription.{Subscription}
 use Rattle.lq_server_slots.specs.Slots.{AllStand, IsListed}
 use Rattle.lq_server_slots.proofs.TakenLemmas.{listed-add}
 use Rattle.lq_server_slots.proofs.OpenLemmas.{settled}

@@ -3,7 +3,7 @@ use Rattle.std.proofs.Common.{◌≡◌, ◌≤◌, ℕ, Option, None, refl, sym
 use Rattle.std.specs.Prelude.{is_some}
 use Rattle.std.proofs.lemmas.List.{get_or_read}
 use Rattle.lq_board.specs.Slot.{slot_at}
-use Rattle.lq_server_subscription.specs.declared.subscription.Subscription.{Subscription}
+use Rattle.lq_server_slots.specs.declared.subscription.Subscription.{Subscription}
 use Rattle.lq_server_slots.specs.Slots.{asks_of, slot_in, place_at, SlotIs, IsNoticed, IsServed}
 use Rattle.lq_server_slots.proofs.SlotLemmas.{only_self}
 use Rattle.lq_server_slots.proofs.CommitLemmas.{partly_committed-first, partly_committed-step, slots_are-more, slots_are-left, slots_are-all}

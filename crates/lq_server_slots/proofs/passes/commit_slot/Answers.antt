@@ -1,7 +1,7 @@
 use Rattle.std.proofs.Common.{sym, subst}
 use Rattle.lq_board.specs.Book.{IsFullBook}
 use Rattle.lq_board.specs.Slot.{slot_at}
-use Rattle.lq_server_subscription.specs.Standing.{StandsAt}
+use Rattle.lq_server_slots.specs.Standing.{StandsAt}
 use Rattle.lq_server_slots.specs.Slots.{before_of}
 use Rattle.lq_server_slots.proofs.SlotLemmas.{to_fill_then, identity_others}
 use Rattle.lq_server_slots.proofs.CommitLemmas.{noticed_still}

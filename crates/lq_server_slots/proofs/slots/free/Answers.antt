@@ -1,5 +1,5 @@
 use Rattle.std.proofs.Common.{◌≤◌, ◌∙◌, ◌+◌, ℕ, List, [], ◌∷◌, length, Option, None, sym, ap, subst, length-append}
-use Rattle.lq_server_subscription.specs.declared.subscription.Subscription.{Subscription}
+use Rattle.lq_server_slots.specs.declared.subscription.Subscription.{Subscription}
 use Rattle.lq_server_slots.specs.Slots.{slot_in}
 use Rattle.lq_server_slots.proofs.SlotLemmas.{none_more}
 use Rattle.lq_server_slots.proofs.slots.free.Goals as goal

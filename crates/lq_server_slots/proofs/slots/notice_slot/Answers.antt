@@ -2,7 +2,7 @@ use Rattle.std.proofs.Common.{◌<◌, ◌∙◌, ℕ, sym, ap, subst}
 use Rattle.std.proofs.lemmas.Bool.{lt-ltb, ltb-true}
 use Rattle.lq_board.specs.Slot.{slot_at}
 use Rattle.lq_board.specs.Token.{KeeperToken}
-use Rattle.lq_server_subscription.specs.declared.identity.Identity.{Identity}
+use Rattle.lq_server_slots.specs.declared.identity.Identity.{Identity}
 use Rattle.lq_server_slots.specs.Slots.{IsTaken}
 use Rattle.lq_server_slots.proofs.SlotLemmas.{taken_noticed, counted_here}
 use Rattle.lq_server_slots.proofs.CommitLemmas.{noticed_then}

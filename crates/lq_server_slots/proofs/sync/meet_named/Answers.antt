@@ -1,6 +1,6 @@
 use Rattle.std.proofs.Common.{Some, subst, sym}
 use Rattle.lq_board.specs.Token.{KeeperToken}
-use Rattle.lq_server_subscription.specs.declared.identity.Identity.{Identity}
+use Rattle.lq_server_slots.specs.declared.identity.Identity.{Identity}
 use Rattle.lq_server_slots.specs.Slots.{OnlyAt}
 use Rattle.lq_server_slots.proofs.SyncLemmas.{met_only}
 use Rattle.lq_server_slots.proofs.sync.meet_named.Goals as goal

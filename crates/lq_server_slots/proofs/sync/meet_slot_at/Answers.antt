@@ -1,7 +1,7 @@
 use Rattle.std.proofs.Common.{sym, ap, subst}
 use Rattle.lq_board.specs.declared.views.KnownSlot.{KnownSlot}
 use Rattle.lq_board.specs.Slot.{slot_at}
-use Rattle.lq_server_subscription.specs.declared.identity.Identity.{Identity}
+use Rattle.lq_server_slots.specs.declared.identity.Identity.{Identity}
 use Rattle.lq_server_slots.specs.Slots.{SlotStands}
 use Rattle.lq_server_slots.proofs.SyncLemmas.{fits_met, asks_met}
 use Rattle.lq_server_slots.proofs.sync.meet_slot_at.Goals as goal

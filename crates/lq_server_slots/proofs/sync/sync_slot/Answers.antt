@@ -5,8 +5,8 @@ use Rattle.lq_board.specs.declared.views.KnownSlot.{KnownSlot}
 use Rattle.lq_board.specs.Slot.{slot_at}
 use Rattle.lq_board.specs.Token.{SeatToken}
 use Rattle.lq_update.specs.declared.mark.Mark.{Mark}
-use Rattle.lq_server_subscription.specs.declared.identity.Identity.{Identity}
-use Rattle.lq_server_subscription.specs.Standing.{StandsAt, IsDrained}
+use Rattle.lq_server_slots.specs.declared.identity.Identity.{Identity}
+use Rattle.lq_server_slots.specs.Standing.{StandsAt, IsDrained}
 use Rattle.lq_server_slots.specs.Slots.{IsTaken}
 use Rattle.lq_server_slots.proofs.SlotLemmas.{identity_alike}
 use Rattle.lq_server_slots.proofs.SyncLemmas.{taken_met, taken_drained}

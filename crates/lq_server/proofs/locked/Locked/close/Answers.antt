@@ -2,7 +2,7 @@
 use Rattle.std.proofs.Common.{sym, ap, subst}
 use Rattle.lq_volume.specs.Book.{Book}
 use Rattle.lq_board.specs.Token.{SeatToken}
-use Rattle.lq_server_subscription.specs.declared.identity.Identity.{Identity}
+use Rattle.lq_server_slots.specs.declared.identity.Identity.{Identity}
 use Rattle.lq_server_slots.specs.Closing.{IsClosed}
 use Rattle.lq_server.proofs.locked.Locked.close.Goals as goal
 

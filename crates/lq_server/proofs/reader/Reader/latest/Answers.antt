@@ -1,6 +1,6 @@
 use Rattle.std.proofs.Common.{sym, ap, ◌∙◌, subst}
 use Rattle.lq_board.specs.Token.{SeatToken}
-use Rattle.lq_server_subscription.specs.declared.identity.Identity.{Identity}
+use Rattle.lq_server_slots.specs.declared.identity.Identity.{Identity}
 use Rattle.lq_server.specs.Hold.{ReaderHold}
 use Rattle.lq_server.specs.Lending.{with_seat}
 use Rattle.lq_server.specs.Own.{IsOwn}

@@ -3,8 +3,8 @@ use Rattle.std.specs.Prelude.{IsSome, IfOk, OnErr}
 use mathlib.Core.List.{IsPrefix}
 use Rattle.lq_volume.specs.Book.{Book, Extends}
 use Rattle.lq_port.specs.End.{IsSamePort}
-use Rattle.lq_server_subscription.specs.Rule.{whole}
-use Rattle.lq_server_subscription.specs.Reading.{Gives, Fails, known, received, mark_read, is_marked}
+use Rattle.lq_server_slots.specs.Rule.{whole}
+use Rattle.lq_server_slots.specs.Reading.{Gives, Fails, known, received, mark_read, is_marked}
 use Rattle.lq_server.specs.Hold.{ReaderHold}
 use Rattle.lq_server.specs.Own.{IsOwn}
 use Rattle.lq_server.specs.Syncing.{IsRead, IsUnread}

@@ -1,7 +1,7 @@
 -- The numbers that a sync answers, and what it tells.
 use Rattle.std.proofs.Common.{◌≡◌, ◌+◌, ◌<◌, ◌≤◌, ◌^◌, ℕ, Bool, length, refl, sym, subst}
 use Rattle.std.specs.Prelude.{is_some}
-use Rattle.lq_server_subscription.specs.Reading.{mark_read}
+use Rattle.lq_server_slots.specs.Reading.{mark_read}
 use Rattle.lq_server.specs.Hold.{ReaderHold}
 use Rattle.lq_server.specs.Own.{IsOwn}
 use Rattle.lq_server.specs.Syncing.{IsSynced, bit, in_port}

@@ -1,0 +1,332 @@
+-- A subscription as the book grows, and as it ends.
+use Rattle.std.proofs.Common.{◌≡◌, ℕ, ◌+◌, ◌<◌, ◌≤◌, Bool, true, false, true≢false, List, [], ◌∷◌, ◌++◌, length, Option, Some, None, refl, sym, ap, ◌∙◌, subst, arith, append_assoc, length-append}
+use Rattle.std.specs.Prelude.{IfSome, IsSome, nat_lt, is_none, ◌&&◌}
+use Rattle.std.proofs.lemmas.Bool.Decides.{nat_tests}
+use Rattle.lq_predicate_formula.specs.Query.{Query}
+use Rattle.lq_volume.specs.declared.change.Change.{Change}
+use Rattle.lq_volume.specs.State.{State}
+use Rattle.lq_volume.specs.Book.{Book, Extends, grown, state_of}
+use Rattle.lq_board.specs.Book.{IsFullBook}
+use Rattle.lq_update.specs.declared.message.Message.{Message}
+use Rattle.lq_update.specs.declared.mark.Mark.{Mark}
+use Rattle.lq_update.specs.declared.mark.Cause.{Cause}
+use Rattle.lq_update.specs.declared.mark.Cause.TheVariants.{Closed, HungUp, Overrun}
+use Rattle.lq_update.specs.Updates.{step_of}
+use Rattle.lq_volume.specs.Change.{IsLawful}
+use Rattle.lq_update.specs.Laws.{StepsAreFew}
+use Rattle.lq_desk_sub.specs.Held.{Held, Prepared, prepared, committed, opened_with, with_messages, ended_by, overruns, after_messages_by, after_messages}
+use Rattle.lq_port.specs.End.{End, all_put}
+use Rattle.lq_server_slots.specs.declared.delivery.Delivery.{Delivery}
+use Rattle.lq_server_slots.specs.declared.delivery.Opening.{Opening}
+use Rattle.lq_server_slots.specs.declared.identity.FirstClose.{FirstClose}
+use Rattle.lq_server_slots.specs.declared.identity.FirstClose.TheVariants.{Never, At, Late}
+use Rattle.lq_server_slots.specs.Updates.{updates}
+use Rattle.lq_server_slots.specs.Rule.{floor_of, query_of, messages_in, mark_in}
+use Rattle.lq_server_slots.specs.LegalList.{known_by}
+use Rattle.lq_server_slots.specs.Standing.{given, upto, Stands, FirstCloseFits, NotClosed, IsOverrun, IsReady}
+use Rattle.lq_server_slots.proofs.Books.{extends_self, extends_trans, extends_length}
+use Rattle.lq_server_slots.proofs.UpdateLemmas.{updates-add, updates-same, updates-none}
+use Rattle.lq_server_slots.proofs.PutLemmas.{some_mark, not_moved}
+
+-- the two sides of a test that holds
+both_true : (a b : Bool) → (a && b) ≡ true → (a ≡ true) × (b ≡ true)
+both_true true b e = (refl, e)
+both_true false b e = absurd (cc)
+
+-- the test of less
+lt_true : (m n : ℕ) → nat_lt m n ≡ true → m < n
+lt_true m n h = grind (arith, nat_tests)
+
+-- an overrun stays one over each longer book
+over_longer : (q : Query) (mv : Bool) (o places backlog : ℕ) (book book' : Book) (e : ℕ)
+    → IsFullBook book → Extends book' book → o ≤ e → IsOverrun q mv o places backlog book e
+    → IsOverrun q mv o places backlog book' e
+over_longer q mv o places backlog book book' e full p le over =
+    let at = over.within in
+    let one = updates-same q mv book book' o e full.first p le (omega arith) in
+    let two = updates-same q mv book book' o (e + 1) full.first p (omega arith) (omega arith) in
+    let long = extends_length book book' p in
+    record {
+      within = omega arith;
+      some = subst (λ (z : List Message × List Message). length z.0 < length z.1)
+          (λ i. (sym one i, sym two i)) over.some;
+      many = subst (λ (z : List Message). backlog < length z) (sym two) over.many;
+      more = subst
+          (λ (z : List Message × List Message). length z.1 ≤ length z.0 + backlog
+          → places + backlog < length z.1) (λ i. (sym one i, sym two i)) over.more;
+    }
+
+-- a mark that no close set fits before the first close
+never : (u : FirstClose) (k : Mark) → NotClosed k.cause → FirstCloseFits u None
+    → FirstCloseFits u (Some k)
+never Never k h f = h
+never (At n) k h f = absurd f
+never Late k h f = absurd f
+
+module _ (h : Held) (e : End Delivery Opening) (places : ℕ) (first_close : FirstClose) (book : Book)
+    (s : Stands h e places first_close book) where
+  -- an ended one stands over each longer book
+  pub longer_marked : (book' : Book) (k : Mark) → Extends book' book → IsFullBook book'
+      → h.mark ≡ Some k → Stands h e places first_close book'
+  longer_marked book' k p full mark =
+      let fits =
+      some_mark h.mark k (λ k. (k.seq ≡ h.sent + 1) × (k.change ≤ length book.changes)) mark
+      s.mark in
+      let within : k.change ≤ length book.changes = fits.1 in
+      let e1 : upto h.mark (length book.changes) ≡ k.change =
+      ap (λ o. upto o (length book.changes)) mark in
+      let e2 : upto h.mark (length book'.changes) ≡ k.change =
+      ap (λ o. upto o (length book'.changes)) mark in
+      let le : h.opened ≤ k.change = subst (λ n. h.opened ≤ n) e1 s.opened in
+      let long = extends_length book book' p in
+      record {
+        query = s.query;
+        moves = s.moves;
+        opening = s.opening;
+        port = s.port;
+        full = full;
+        later = extends_trans (known_by e.floor (all_put e)) book book' s.later p;
+        list = s.list ∙ ap (updates h.query h.moved book h.opened) e1
+            ∙ sym (updates-same h.query h.moved book book' h.opened k.change s.full.first p le
+            within) ∙ ap (updates h.query h.moved book' h.opened) (sym e2);
+        sent = s.sent;
+        few = omega (arith, s.few);
+        opened = subst (λ n. h.opened ≤ n) (e1 ∙ sym e2) s.opened;
+        mark = subst (λ o. IfSome o (λ k. (k.seq ≡ h.sent + 1) × (k.change ≤ length book'.changes)))
+            (sym mark) (fits.0, omega arith);
+        out = s.out;
+        done = s.done;
+        first_close = s.first_close;
+        overrun =
+            subst (λ o. IfSome o
+            (λ k. k.cause ≡ Overrun
+            → IsOverrun h.query h.moved h.opened places h.backlog book' k.change)) (sym mark)
+            (λ c. over_longer h.query h.moved h.opened places h.backlog book book' k.change s.full p
+            le (some_mark h.mark k
+            (λ k. k.cause ≡ Overrun
+            → IsOverrun h.query h.moved h.opened places h.backlog book k.change) mark s.overrun
+            c));
+      }
+
+  -- while there is no mark, none is out
+  none_out : h.mark ≡ None → h.mark_out ≡ true → ⊥
+  none_out live f = let z : IsSome {T = Mark} None =
+      subst IsSome live (s.done f).1 in true≢false (sym z)
+
+  module _ (live : h.mark ≡ None) where
+    -- a live subscription covers the whole book
+    now_is : upto h.mark (length book.changes) ≡ length book.changes
+    now_is = ap (λ o. upto o (length book.changes)) live
+
+    -- what was given is all updates of the book so far
+    old_is : given h e ≡ updates h.query h.moved book h.opened (length book.changes)
+    old_is = s.list ∙ ap (updates h.query h.moved book h.opened) now_is
+
+    -- the opening is within the book
+    opened_is : h.opened ≤ length book.changes
+    opened_is = subst (λ n. h.opened ≤ n) now_is s.opened
+
+    -- it ends at this book, or one that goes on from it
+    ends : (book' : Book) (cause : Cause) (first_close' : FirstClose) → Extends book' book
+        → IsFullBook book'
+        → FirstCloseFits first_close'
+        (Some (record { seq = h.sent + 1; change = length book.changes; cause = cause }))
+        → (cause ≡ Overrun
+        → IsOverrun h.query h.moved h.opened places h.backlog book' (length book.changes))
+        → Stands (ended_by h cause (length book.changes)) e places first_close' book'
+    ends book' cause first_close' p full fits over =
+        let long = extends_length book book' p in
+        record {
+          query = s.query;
+          moves = s.moves;
+          opening = s.opening;
+          port = s.port;
+          full = full;
+          later = extends_trans (known_by e.floor (all_put e)) book book' s.later p;
+          list = old_is
+              ∙ sym (updates-same h.query h.moved book book' h.opened (length book.changes)
+              s.full.first p opened_is (omega arith));
+          sent = s.sent;
+          few = omega (arith, s.few);
+          opened = opened_is;
+          mark = (refl, omega arith);
+          out = s.out ∙ not_moved h.mark_out h.mark (none_out live)
+              ∙ sym (not_moved h.mark_out
+              (Some (record { seq = h.sent + 1; change = length book.changes; cause = cause }))
+              (none_out live));
+          done = λ f. absurd (none_out live f);
+          first_close = fits;
+          overrun = over;
+        }
+
+    -- a live subscription that ends by a hang-up stands
+    pub ends_hung : Stands (ended_by h HungUp (length book.changes)) e places first_close book
+    ends_hung =
+        ends book HungUp first_close (extends_self book) s.full
+        (never first_close
+        (record { seq = h.sent + 1; change = length book.changes; cause = HungUp }) tt
+        (subst (FirstCloseFits first_close) live s.first_close)) (λ c. absurd (cc))
+
+    -- a live subscription that is closed stands, closed at this change
+    pub ends_closed : Stands (ended_by h Closed (length book.changes)) e places
+        (At (length book.changes)) book
+    ends_closed =
+        ends book Closed (At (length book.changes)) (extends_self book) s.full (refl, refl)
+        (λ c. absurd (cc))
+
+    module _ (c : Change) (full' : IsFullBook (grown book (c ∷ [])))
+        (three : length (step_of h.query h.moved (state_of book) c (h.sent + 1)) ≤ 3) where
+      -- the updates of the change
+      abbrev more : List Message
+      more = step_of h.query h.moved (state_of book) c (h.sent + 1)
+
+      -- the book with the change
+      abbrev book' : Book
+      book' = grown book (c ∷ [])
+
+      -- the book is longer by the change
+      long : length book'.changes ≡ length book.changes + 1
+      long = length-append book.changes (c ∷ [])
+
+      -- the updates of the longer book are what was given and those of the change
+      now : updates h.query h.moved book' h.opened (length book.changes + 1) ≡ given h e ++ more
+      now =
+          let count : length (updates h.query h.moved book h.opened (length book.changes)) + 1
+          ≡ h.sent + 1 = ap (λ n. n + 1) (sym (s.sent ∙ ap (length {A = Message}) old_is)) in
+          updates-add h.query h.moved book c h.opened s.full.first opened_is
+          ∙ (λ i. sym old_is i ++ step_of h.query h.moved (state_of book) c (count i))
+
+      -- with the change's updates held, the subscription stands over the longer book
+      goes_on : Stands (with_messages h more) e places first_close book'
+      goes_on =
+          let e2 : upto h.mark (length book'.changes) ≡ length book.changes + 1 =
+          ap (λ o. upto o (length book'.changes)) live ∙ long in
+          let all : given (with_messages h more) e ≡ given h e ++ more =
+          sym (append_assoc (messages_in (all_put e)) h.messages more) in
+          record {
+            query = s.query;
+            moves = s.moves;
+            opening = s.opening;
+            port = s.port;
+            full = full';
+            later = extends_trans (known_by e.floor (all_put e)) book book' s.later (c ∷ [], refl);
+            list = all ∙ sym now ∙ ap (updates h.query h.moved book' h.opened) (sym e2);
+            sent = ap (λ n. n + length more) s.sent ∙ sym (length-append (given h e) more)
+                ∙ ap (length {A = Message}) (sym all);
+            few = omega (arith, s.few, three, long);
+            opened = subst (λ n. h.opened ≤ n) (sym e2) (omega (arith, opened_is));
+            mark = subst
+                (λ o. IfSome o
+                (λ k. (k.seq ≡ h.sent + length more + 1) × (k.change ≤ length book'.changes)))
+                (sym live) tt;
+            out = s.out;
+            done = λ f. absurd (none_out live f);
+            first_close = s.first_close;
+            overrun =
+                subst (λ o. IfSome o
+                (λ k. k.cause ≡ Overrun
+                → IsOverrun h.query h.moved h.opened places h.backlog book' k.change)) (sym live)
+                tt;
+          }
+
+      module _ (filled : 0 < length h.messages → places ≤ length (messages_in (all_put e))) where
+        -- more updates than the backlog takes are an overrun
+        over_is : 0 < length more → h.backlog < length h.messages + length more
+            → IsOverrun h.query h.moved h.opened places h.backlog book' (length book.changes)
+        over_is some many =
+            let front : updates h.query h.moved book' h.opened (length book.changes) ≡ given h e =
+            updates-same h.query h.moved book book' h.opened (length book.changes) s.full.first
+            (c ∷ [], refl) opened_is (omega arith) ∙ sym old_is in
+            let a : length (updates h.query h.moved book' h.opened (length book.changes))
+            ≡ length (messages_in (all_put e)) + length h.messages =
+            ap (length {A = Message}) front ∙ length-append (messages_in (all_put e)) h.messages in
+            let b : length (updates h.query h.moved book' h.opened (length book.changes + 1))
+            ≡ length (messages_in (all_put e)) + length h.messages + length more =
+            ap (length {A = Message}) now ∙ length-append (given h e) more
+            ∙ ap (λ n. n + length more) (length-append (messages_in (all_put e)) h.messages) in
+            record {
+              within = omega (arith, long);
+              some = omega arith;
+              many = omega arith;
+              more = λ le. let room : places ≤ length (messages_in (all_put e)) =
+                  filled (omega arith) in omega arith;
+            }
+
+        -- the subscription stands after the change, by whether it overruns
+        by_test : (b : Bool) → overruns h more ≡ b
+            → Stands (after_messages_by h more (length book.changes) b) e places first_close book'
+        by_test true test =
+            let t = both_true _ _ test in
+            ends book' Overrun first_close (c ∷ [], refl) full'
+            (never first_close
+            (record { seq = h.sent + 1; change = length book.changes; cause = Overrun }) tt
+            (subst (FirstCloseFits first_close) live s.first_close))
+            (λ _. over_is (lt_true _ _ t.0) (lt_true _ _ t.1))
+        by_test false test = goes_on
+
+        -- after each change, the subscription stands over the longer book
+        pub told_stands : Stands (after_messages h more (length book.changes)) e places
+            first_close book'
+        told_stands = by_test (overruns h more) refl
+
+-- a new one
+pub stands_new : (q : Query) (mv : Bool) (backlog : ℕ) (e : End Delivery Opening) (places : ℕ)
+    (book : Book) → e.taken ≡ [] → e.ahead ≡ [] → floor_of e.floor ≡ book → query_of e.floor ≡ q
+    → e.floor.moved ≡ mv
+    → e.floor.opened ≡ length book.changes → e.places ≡ places → IsFullBook book
+    → Stands (opened_with q mv (length book.changes) backlog) e places Never book
+stands_new q mv backlog e places book taken ahead floor query moves opening port full =
+    let put : all_put e ≡ [] = λ i. taken i ++ ahead i in
+    let none : given (opened_with q mv (length book.changes) backlog) e ≡ [] =
+    λ i. messages_in (put i) ++ [] in
+    record {
+      query = query;
+      moves = moves;
+      opening = opening;
+      port = port;
+      full = full;
+      later = subst (Extends book) (sym (ap (known_by e.floor) put ∙ floor)) (extends_self book);
+      list = none ∙ sym (updates-none q mv book (length book.changes));
+      sent = sym (ap (length {A = Message}) none);
+      few = omega arith;
+      opened = omega arith;
+      mark = tt;
+      out = ap mark_in put;
+      done = λ f. absurd (true≢false (sym f));
+      first_close = tt;
+      overrun = tt;
+    }
+
+-- there is a mark, where the test says so
+pub some_there : (o : Option Mark) → is_none o ≡ false → (k : Mark) × (o ≡ Some k)
+some_there (Some k) e = (k, refl)
+some_there None e = absurd (cc)
+
+-- and none, where it says that
+pub none_there : (o : Option Mark) → is_none o ≡ true → o ≡ None
+none_there (Some k) e = absurd (cc)
+none_there None e = refl
+
+-- the messages of a change are made
+pub ready_of : (s : State) (c : Change) (p q : Prepared) → q ≡ prepared s c p → IsReady q s c
+ready_of s c p q e = subst (λ (z : Prepared). IsReady z s c) (sym e) (λ _. (refl, refl))
+
+-- a commit makes it stand over the book with the change
+pub committed_stands : (p q : Prepared) (e : End Delivery Opening) (places : ℕ)
+    (first_close : FirstClose) (book : Book) (c : Change) → p.held.mark ≡ None
+    → q ≡ committed p → StepsAreFew
+    → (0 < length p.held.messages → places ≤ length (messages_in (all_put e)))
+    → Stands p.held e places first_close book → IsReady p (state_of book) c
+    → IsLawful (state_of book) c → IsFullBook (grown book (c ∷ []))
+    → Stands q.held e places first_close (grown book (c ∷ []))
+committed_stands p q e places first_close book c live is few filled s ready lawful full =
+    let r = ready live in
+    let three =
+    few p.held.query p.held.moved (state_of book) c (p.held.sent + 1) s.full.state lawful in
+    let t : Stands
+    (after_messages p.held (step_of p.held.query p.held.moved (state_of book) c (p.held.sent + 1))
+    (length book.changes)) e places first_close (grown book (c ∷ [])) =
+    told_stands p.held e places first_close book s live c full three filled in
+    subst (λ (h : Held). Stands h e places first_close (grown book (c ∷ [])))
+    (sym (ap (λ (z : Prepared). z.held) is
+    ∙ (λ i. after_messages p.held (r.0 i) ((r.1 ∙ s.full.number) i)))) t

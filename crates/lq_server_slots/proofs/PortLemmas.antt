@@ -1,0 +1,116 @@
+-- Parcels under their rule.
+use Rattle.std.proofs.Common.{◌≡◌, false, true≢false, List, [], ◌∷◌, ◌++◌, length, Option, Some, None, is_some, refl, sym, ap, ◌∙◌, subst, append_assoc, append-nil}
+use Rattle.std.specs.Prelude.{IfSome}
+use mathlib.Core.List.{IsPrefix}
+use Rattle.lq_volume.specs.Book.{Book, Extends}
+use Rattle.lq_board.specs.Book.{IsFullBook}
+use Rattle.lq_update.specs.declared.message.Message.{Message}
+use Rattle.lq_update.specs.declared.mark.Mark.{Mark}
+use Rattle.lq_update.specs.declared.parcel.Parcel.{Parcel}
+use Rattle.lq_update.specs.declared.parcel.Parcel.TheVariants.{Update, Fin}
+use Rattle.lq_server_slots.specs.declared.delivery.Delivery.{Delivery}
+use Rattle.lq_server_slots.specs.declared.delivery.Opening.{Opening}
+use Rattle.lq_server_slots.specs.Rule.{book_of, floor_of, query_of, message_of, mark_or, messages_in, mark_in, last_book, whole, IsMark, Tells, MayFollow}
+use Rattle.lq_server_slots.specs.LegalList.{known_by, LegalList}
+use Rattle.lq_server_slots.proofs.Books.{extends_self, extends_trans}
+use Rattle.lq_server_slots.proofs.UpdateLemmas.{updates-front}
+
+-- an option that has no value
+pub none-of : {A : Type 0} (o : Option A) → is_some o ≡ false → o ≡ None
+none-of None absent = refl
+none-of (Some x) absent = absurd (true≢false absent)
+
+-- a list is a prefix of itself
+pub prefix_self : {A : Type 0} (xs : List A) → IsPrefix xs xs
+prefix_self xs = ([], append-nil xs)
+
+-- and a prefix of a prefix is one
+pub prefix_trans : {A : Type 0} (xs ys zs : List A) → IsPrefix xs ys → IsPrefix ys zs
+    → IsPrefix xs zs
+prefix_trans xs ys zs p q =
+    (p.0 ++ q.0, sym (append_assoc xs p.0 q.0) ∙ (ap (λ w. w ++ q.0) p.1 ∙ q.1))
+
+-- the messages of two lists of parcels
+pub messages_in-append : (ps qs : List Delivery)
+    → messages_in (ps ++ qs) ≡ messages_in ps ++ messages_in qs
+messages_in-append [] qs = refl
+messages_in-append (p ∷ ps) qs =
+    ap (λ l. message_of p.what ++ l) (messages_in-append ps qs)
+    ∙ sym (append_assoc (message_of p.what) (messages_in ps) (messages_in qs))
+
+-- and of one parcel more
+pub messages_in-snoc : (ps : List Delivery) (x : Delivery)
+    → messages_in (ps ++ x ∷ []) ≡ messages_in ps ++ message_of x.what
+messages_in-snoc ps x =
+    messages_in-append ps (x ∷ []) ∙ ap (λ l. messages_in ps ++ l) (append-nil (message_of x.what))
+
+-- where a parcel and the rest have no mark, neither has
+or_none : (w : Parcel) (o : Option Mark) → mark_or w o ≡ None → (mark_or w None ≡ None) × (o ≡ None)
+or_none (Update m) o e = (refl, e)
+or_none (Fin k) o e = absurd (cc)
+
+-- a parcel without a mark leaves the mark of the rest
+or_same : (w : Parcel) (o o' : Option Mark) → mark_or w o ≡ None → mark_or w o' ≡ o'
+or_same (Update m) o o' e = refl
+or_same (Fin k) o o' e = absurd (cc)
+
+-- after parcels without a mark, the mark is that of the others
+pub mark_in-append : (ps qs : List Delivery) → mark_in ps ≡ None → mark_in (ps ++ qs) ≡ mark_in qs
+mark_in-append [] qs e = refl
+mark_in-append (p ∷ ps) qs e =
+    ap (mark_or p.what) (mark_in-append ps qs (or_none p.what (mark_in ps) e).1)
+    ∙ or_same p.what (mark_in ps) (mark_in qs) e
+
+-- the book known is that of the last parcel
+pub last_book-snoc : (b : Book) (ps : List Delivery) (x : Delivery)
+    → last_book b (ps ++ x ∷ []) ≡ book_of x
+last_book-snoc b [] x = refl
+last_book-snoc b (p ∷ ps) x = last_book-snoc (book_of p) ps x
+
+-- no parcels are a legal list
+pub legal_list-none : (f : Opening) → f.opened ≡ length (floor_of f).changes
+    → IsFullBook (floor_of f) → LegalList f []
+legal_list-none f opening full =
+    record {
+      opening = opening;
+      later = extends_self (floor_of f);
+      full = full;
+      front =
+          (whole f (floor_of f), refl);
+      mark = tt;
+    }
+
+-- the mark and the messages, after one parcel more
+legal_list-what : (f : Opening) (messages : List Message) (book : Book) (w : Parcel)
+    → Tells f messages book w
+    → IsPrefix (messages ++ message_of w) (whole f book)
+    × IfSome (mark_or w None) (IsMark f (messages ++ message_of w) book)
+legal_list-what f messages book (Update m) t = (t, tt)
+legal_list-what f messages book (Fin k) t =
+    let same : messages ++ [] ≡ messages = append-nil messages in (
+      subst (λ l. IsPrefix l (whole f book)) (sym (same ∙ t.all))
+          (updates-front (query_of f) f.moved book f.opened k.change (length book.changes)
+          t.within),
+      subst (λ l. IsMark f l book k) (sym same) t,
+    )
+
+-- and so is a legal list with one that may follow
+pub legal_list-step : (f : Opening) (ps : List Delivery) (x : Delivery) → LegalList f ps
+    → MayFollow ps f x → LegalList f (ps ++ x ∷ [])
+legal_list-step f ps x legal_list comes =
+    let book : known_by f (ps ++ x ∷ []) ≡ book_of x = last_book-snoc (floor_of f) ps x in
+    let messages : messages_in (ps ++ x ∷ []) ≡ messages_in ps ++ message_of x.what =
+    messages_in-snoc ps x in
+    let mark : mark_in (ps ++ x ∷ []) ≡ mark_or x.what None =
+    mark_in-append ps (x ∷ []) comes.open_yet in
+    let w = legal_list-what f (messages_in ps) (book_of x) x.what comes.tells in
+    record {
+      opening = legal_list.opening;
+      later = subst (λ (b : Book). Extends b (floor_of f)) (sym book)
+          (extends_trans (floor_of f) (known_by f ps) (book_of x) legal_list.later comes.later);
+      full = subst IsFullBook (sym book) comes.full;
+      front = subst (λ (t : List Message × Book). IsPrefix t.0 (whole f t.1))
+          (λ i. (sym messages i, sym book i)) w.0;
+      mark = subst (λ (t : Option Mark × List Message × Book). IfSome t.0 (IsMark f t.1 t.2))
+          (λ i. (sym mark i, sym messages i, sym book i)) w.1;
+    }

@@ -1,0 +1,5 @@
+use Rattle.lq_server_slots.proofs.Books.{state_stays}
+use Rattle.lq_server_slots.proofs.laws.states_stay.Goals as goal
+
+pub returns : goal.returns
+returns c = state_stays

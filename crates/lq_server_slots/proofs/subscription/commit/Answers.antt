@@ -1,0 +1,33 @@
+use Rattle.std.proofs.Common.{refl, sym, ap, ◌∙◌, Bool, ◌∷◌, []}
+use Rattle.std.specs.Prelude.{if◌then◌else◌}
+use Rattle.lq_desk_sub.specs.Held.{Prepared, after_messages}
+use Rattle.lq_volume.specs.Book.{grown}
+use Rattle.lq_server_slots.proofs.EndLemmas.{some_there, none_there, longer_marked, committed_stands}
+use Rattle.lq_server_slots.proofs.subscription.commit.Goals as goal
+
+pub returns-then-not-is_live-clause-stands : goal.returns-then-not-is_live-clause-stands
+returns-then-not-is_live-clause-stands c = λ book stands ready lawful full.
+    let s = c.args.slot.now in
+    let there = some_there s.sub.held.mark (sym c.if-not-is_live.ensures) in
+    longer_marked s.sub.held s.input s.places s.first_close book stands
+    (grown book (c.args.change.now ∷ [])) there.0 (c.args.change.now ∷ [], refl) full there.1
+
+pub returns-clause-stands : goal.returns-clause-stands
+returns-clause-stands c = λ book stands ready lawful full.
+    let s = c.args.slot.now in
+    committed_stands s.sub c.commit.new.self s.input s.places s.first_close book c.args.change.now
+    (none_there s.sub.held.mark (sym c.if-not-is_live.ensures)) c.commit.ensures
+    c.steps_are_few.ensures c.requires.filled stands ready lawful full
+
+pub returns-then-not-is_live-clause-held : goal.returns-then-not-is_live-clause-held
+returns-then-not-is_live-clause-held c =
+    let p = c.args.slot.now.sub in
+    ap (λ (b : Bool). if b then after_messages p.held p.ready p.before else p.held)
+    c.if-not-is_live.ensures
+
+pub returns-clause-held : goal.returns-clause-held
+returns-clause-held c =
+    let p = c.args.slot.now.sub in
+    ap (λ (q : Prepared). q.held) c.commit.ensures
+    ∙ ap (λ (b : Bool). if b then after_messages p.held p.ready p.before else p.held)
+    c.if-not-is_live.ensures

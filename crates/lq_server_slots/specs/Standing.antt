@@ -1,0 +1,173 @@
+-- What the lock knows of a subscription.
+use Rattle.std.specs.Prelude.{◌≡◌, ℕ, ◌+◌, ◌*◌, ◌<◌, ◌≤◌, ◌⊎◌, Bool, true, false, List, [], ◌++◌, length, Option, Some, None, IfSome, IsSome, IsSomeAnd}
+use Rattle.lq_predicate_formula.specs.Query.{Query}
+use Rattle.lq_volume.specs.State.{State}
+use Rattle.lq_volume.specs.Book.{Book, Extends}
+use Rattle.lq_volume.specs.declared.change.Change.{Change}
+use Rattle.lq_board.specs.Book.{IsFullBook}
+use Rattle.lq_update.specs.declared.message.Message.{Message}
+use Rattle.lq_update.specs.declared.mark.Mark.{Mark}
+use Rattle.lq_update.specs.declared.mark.Cause.{Cause}
+use Rattle.lq_update.specs.declared.mark.Cause.TheVariants.{Closed, HungUp, Overrun}
+use Rattle.lq_update.specs.Updates.{step_of}
+use Rattle.lq_desk_sub.specs.Held.{Held, Prepared}
+use Rattle.lq_port.specs.End.{End, all_put, IsSamePort}
+use mathlib.Core.List.{IsPrefix}
+use Rattle.lq_port.specs.Port.{IsLegal}
+use Rattle.lq_server_slots.specs.declared.identity.FirstClose.{FirstClose}
+use Rattle.lq_server_slots.specs.declared.identity.FirstClose.TheVariants.{Never, At, Late}
+use Rattle.lq_server_slots.specs.declared.delivery.Delivery.{Delivery}
+use Rattle.lq_server_slots.specs.declared.delivery.Opening.{Opening}
+use Rattle.lq_server_slots.specs.declared.subscription.Subscription.{Subscription}
+use Rattle.lq_server_slots.specs.Updates.{updates}
+use Rattle.lq_server_slots.specs.Rule.{query_of, messages_in, mark_in, MayFollow}
+use Rattle.lq_server_slots.specs.LegalList.{known_by}
+
+-- the messages that were put, and then those that are held
+abbrev pub given : Held → End Delivery Opening → List Message
+given h e = messages_in (all_put e) ++ h.messages
+
+-- the change up to which the subscription follows, of n changes
+abbrev pub upto : Option Mark → ℕ → ℕ
+upto None n = n
+upto (Some k) n = k.change
+
+-- the mark, if it was put
+abbrev pub moved_mark : Bool → Option Mark → Option Mark
+moved_mark true o = o
+moved_mark false o = None
+
+-- a cause other than a close
+abbrev pub NotClosed : Cause → Type 0
+NotClosed Closed = ⊥
+NotClosed HungUp = Unit {0}
+NotClosed Overrun = Unit {0}
+
+-- the answer of the first close agrees with the mark
+abbrev pub FirstCloseFits : FirstClose → Option Mark → Type 0
+FirstCloseFits Never o = IfSome o (λ k. NotClosed k.cause)
+FirstCloseFits (At n) o = IsSomeAnd o (λ k. (k.cause ≡ Closed) × (k.change ≡ n))
+FirstCloseFits Late o = IsSomeAnd o (λ k. NotClosed k.cause)
+
+-- Change e + 1 was too much. It has messages, and the messages up to it are more than the backlog.
+-- Where its own messages are within the backlog, those up to it are more than port and backlog
+-- together.
+pub record IsOverrun
+    (query : Query) (moved : Bool) (opened places backlog : ℕ) (book : Book) (e : ℕ)
+    : Type 0 where
+  pub within : e < length book.changes
+  pub some :
+      length (updates query moved book opened e) < length (updates query moved book opened (e + 1))
+  pub many : backlog < length (updates query moved book opened (e + 1))
+  pub more :
+      length (updates query moved book opened (e + 1))
+      ≤ length (updates query moved book opened e) + backlog
+      → places + backlog < length (updates query moved book opened (e + 1))
+
+-- A subscription stands over a book: the messages that were put and then those that are held are
+-- its updates over that book, up to its mark or else to the end. A mark is put last and has its
+-- cause.
+pub record Stands
+    (h : Held) (e : End Delivery Opening) (places : ℕ) (answer : FirstClose) (book : Book)
+    : Type 0 where
+  pub query : query_of e.floor ≡ h.query
+  pub moves : e.floor.moved ≡ h.moved
+  pub opening : e.floor.opened ≡ h.opened
+  pub port : e.places ≡ places
+  pub full : IsFullBook book
+  pub later : Extends book (known_by e.floor (all_put e))
+  pub list : given h e ≡ updates h.query h.moved book h.opened (upto h.mark (length book.changes))
+  pub sent : h.sent ≡ length (given h e)
+  pub few : h.sent ≤ 3 * length book.changes
+  pub opened : h.opened ≤ upto h.mark (length book.changes)
+  pub mark : IfSome h.mark (λ k. (k.seq ≡ h.sent + 1) × (k.change ≤ length book.changes))
+  pub out : mark_in (all_put e) ≡ moved_mark h.mark_out h.mark
+  pub done : h.mark_out ≡ true → (h.messages ≡ []) × IsSome h.mark
+  pub first_close : FirstCloseFits answer h.mark
+  pub overrun :
+      IfSome h.mark
+      (λ k. k.cause ≡ Overrun
+      → IsOverrun h.query h.moved h.opened places h.backlog book k.change)
+
+-- and for a subscription under the lock
+abbrev pub StandsAt : Subscription → Book → Type 0
+StandsAt s book = Stands s.sub.held s.input s.places s.first_close book
+
+-- messages are held only where at least as many as the port has places were put
+abbrev pub IsFilled : Subscription → Type 0
+IsFilled s = 0 < length s.sub.held.messages → s.places ≤ length (messages_in (all_put s.input))
+
+-- what never changes of a subscription, and its mark and count
+pub record SameHeld (h t : Held) : Type 0 where
+  pub query : t.query ≡ h.query
+  pub moved : t.moved ≡ h.moved
+  pub opened : t.opened ≡ h.opened
+  pub backlog : t.backlog ≡ h.backlog
+  pub sent : t.sent ≡ h.sent
+  pub mark : t.mark ≡ h.mark
+
+-- only what was put and what is held may differ; the list of both together stays
+pub record SameButPuts (s t : Subscription) : Type 0 where
+  pub port : IsSamePort s.input t.input
+  pub held : SameHeld s.sub.held t.sub.held
+  pub places : t.places ≡ s.places
+  pub asks : t.asks ≡ s.asks
+  pub first_close : t.first_close ≡ s.first_close
+  pub given_same : given t.sub.held t.input ≡ given s.sub.held s.input
+
+-- whether the mark is left to put, as a count
+abbrev pub mark_left : Bool → ℕ
+mark_left true = 0
+mark_left false = 1
+
+-- the most parcels that are left to put
+abbrev pub left_of : Held → ℕ
+left_of h = length h.messages + mark_left h.mark_out
+
+-- and for a subscription under the lock
+abbrev pub left : Subscription → ℕ
+left s = left_of s.sub.held
+
+-- nothing is left to put
+abbrev pub IsOut : Held → Type 0
+IsOut h = (h.messages ≡ []) × ((h.mark ≡ None) ⊎ (h.mark_out ≡ true))
+
+-- nothing is left to put, or the port was full
+abbrev pub IsStuck : Subscription → Type 0
+IsStuck s = IsOut s.sub.held ⊎ (s.places ≤ length s.input.ahead)
+
+-- both ends of the port were seen together, and everything that could be put was put
+pub record SideBySide
+    (s t : Subscription) (d e : End Delivery Opening) (book : Book) (waiting : ℕ)
+    : Type 0 where
+  pub stands : StandsAt t book
+  pub alike : SameButPuts s t
+  pub port : IsSamePort d e
+  pub floor : e.floor ≡ t.input.floor
+  pub taken : e.taken ≡ d.taken
+  pub ahead : t.input.ahead ≡ e.ahead
+  pub all : all_put e ≡ all_put t.input
+  pub known : IsPrefix d.ahead e.ahead
+  pub value : waiting ≡ length e.ahead
+  pub legal : IsLegal MayFollow e.floor (all_put e)
+
+-- nothing is left to put, or the port is full
+abbrev pub IsDrained : Subscription → ℕ → Type 0
+IsDrained s waiting = IsOut s.sub.held ⊎ (s.places ≤ waiting)
+
+-- the messages of a change are prepared, if the subscription is live
+abbrev pub IsReady : Prepared → State → Change → Type 0
+IsReady p s c =
+    p.held.mark ≡ None
+    → (p.ready ≡ step_of p.held.query p.held.moved s c (p.held.sent + 1))
+    × (p.before ≡ s.number)
+
+-- everything but the held messages, their count, the mark and the answer of the close stays
+pub record SameButHeld (s t : Subscription) : Type 0 where
+  pub input : t.input ≡ s.input
+  pub query : t.sub.held.query ≡ s.sub.held.query
+  pub moved : t.sub.held.moved ≡ s.sub.held.moved
+  pub opened : t.sub.held.opened ≡ s.sub.held.opened
+  pub backlog : t.sub.held.backlog ≡ s.sub.held.backlog
+  pub places : t.places ≡ s.places
+  pub asks : t.asks ≡ s.asks

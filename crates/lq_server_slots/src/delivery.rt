@@ -1,0 +1,41 @@
+//! The items of a port.
+use crate::identity::Identity;
+use crate::witness::Witness;
+use lq_board::Keeper;
+use lq_port::Follows;
+use lq_predicate::Predicate;
+use lq_update::Parcel;
+
+/// An item of a port: a message or the mark, and the keeper's book when it was put.
+///
+/// Contracts alone read the book.
+#[derive(Drop)]
+pub struct Delivery {
+    /// The message or the mark.
+    pub what: Parcel,
+    /// The keeper when it was put.
+    pub book: Witness<Keeper<Identity>>,
+}
+
+/// The floor of a port: what its rule depends on, fixed at the opening.
+#[derive(Drop)]
+pub struct Opening {
+    /// The query.
+    pub query: Witness<Predicate>,
+    /// Whether one message reports a node that changed its place within the result.
+    pub moved: bool,
+    /// The number of changes at the opening.
+    pub opened: u64,
+    /// The keeper at the opening.
+    pub book: Witness<Keeper<Identity>>,
+}
+
+impl Follows for Delivery {
+    type Floor = Opening;
+
+    ghost use Rattle.lq_server_slots.specs.Rule.{MayFollow, no_opening};
+
+    ghost follows = { MayFollow };
+
+    ghost no_floor = { no_opening };
+}

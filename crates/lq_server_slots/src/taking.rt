@@ -1,0 +1,55 @@
+//! Taking a parcel, and folding a message.
+ghost use Rattle.std.specs.Prelude.{◌≡◌, [], IfOk, IfSome, IfNone, OnOk, OnErr, Ok, Some, None};
+ghost use Rattle.lq_value.specs.Refusal.{FailsOnlyForMemory, first_refusal};
+ghost use Rattle.lq_update.specs.Fold.{fold_refusals, folding_after};
+ghost use Rattle.lq_port.specs.End.{IsSamePort, Loses};
+ghost use Rattle.lq_server_slots.specs.Rule.{MayFollow};
+
+use crate::delivery::Delivery;
+use lq_desk_sub::Read;
+use lq_port::PortOut;
+use lq_update::{Message, Rebuild};
+use lq_value::Refusal;
+use std::sync::Wait;
+
+/// Folds a message, or keeps it in hand where memory runs out. No other message is in hand.
+#[inline(always)]
+pub(crate) fn keep(
+    rebuild: &mut Rebuild,
+    hand: &mut Option<Message>,
+    message: Message,
+) -> Result<Read, Refusal>
+    requires fits { first_refusal (fold_refusals rebuild.old message) ≡ None }
+    requires free { hand.old ≡ None }
+    ensures refused { FailsOnlyForMemory result }
+    ensures ok { OnOk result
+        ((rebuild.new ≡ folding_after rebuild.old message) × (hand.new ≡ None)) }
+    ensures err { OnErr result ((rebuild.new ≡ rebuild.old) × (hand.new ≡ Some message)) }
+    ensures read { IfOk result (λ r. r ≡ Read.Update message) }
+{
+    match rebuild.apply(&message) {
+        Ok(()) => Ok(Read::Update(message)),
+        Err(refusal) => {
+            *hand = Some(message);
+            Err(refusal)
+        }
+    }
+}
+
+/// The next parcel, with or without waiting for it.
+pub(crate) fn take_one<R: Wait>(
+    output: &mut PortOut<Delivery>,
+    rt: &R,
+    waits: bool,
+) -> Option<Delivery>
+    ensures some { IfSome result (λ item. Loses output.old item output.new) }
+    ensures follows { IfSome result (λ item. MayFollow output.old.taken output.old.floor item) }
+    ensures port { IsSamePort output.old output.new }
+    ensures empty { IfNone result (output.old.ahead ≡ []) }
+    ensures none { IfNone result (output.new ≡ output.old) }
+{
+    if waits {
+        return output.take_waiting(rt);
+    }
+    output.take(rt)
+}

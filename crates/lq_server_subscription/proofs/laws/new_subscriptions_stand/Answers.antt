@@ -1,5 +1,0 @@
-use Rattle.lq_server_subscription.proofs.EndLemmas.{stands_new}
-use Rattle.lq_server_subscription.proofs.laws.new_subscriptions_stand.Goals as goal
-
-pub returns : goal.returns
-returns c = stands_new

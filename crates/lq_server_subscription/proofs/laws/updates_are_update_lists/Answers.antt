@@ -1,5 +1,0 @@
-use Rattle.lq_server_subscription.proofs.UpdateLemmas.{updates_are}
-use Rattle.lq_server_subscription.proofs.laws.updates_are_update_lists.Goals as goal
-
-pub returns : goal.returns
-returns c = updates_are

@@ -1,8 +1,0 @@
-use Rattle.lq_server_subscription.specs.Standing.{StandsAt, SameButPuts, left}
-use Rattle.lq_server_subscription.proofs.puts.fill.Given as goal
-
-abbrev pub invariant-loop-slot : goal.invariant-loop-slot
-invariant-loop-slot g l = StandsAt l.slot l.keeper.book × SameButPuts l.initial.slot l.slot
-
-abbrev pub decreases-loop-slot : goal.decreases-loop-slot
-decreases-loop-slot g l = left l.slot

@@ -1,1 +1,0 @@
--- No lemmas: the three proofs are those of `Send`, `Sync` and `of`.

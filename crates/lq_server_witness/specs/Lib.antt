@@ -1,1 +1,0 @@
--- No definitions: a witness shows the value itself.
