@@ -4,13 +4,13 @@ ghost use Rattle.lq_value.specs.declared.refusal.Refusal.TheVariants.{NoMemory};
 ghost use Rattle.lq_script_request.specs.Asked.{asked, given};
 ghost use Rattle.lq_script_request.specs.Request.{asks_create, asks_fetch, asks_find, asks_move, asks_open, asks_set, asks_unset, value_for, question_for, question_in};
 
+use crate::fields::Fields;
 use crate::plain::plain_read;
 use crate::question::Question;
 use crate::request::{Request, request_in};
 use crate::scratch::{RecentAttrs, Scratch};
 use lq_desk_world::Event;
 use lq_predicate::read;
-use lq_script_json::Fields;
 use lq_value::{Kind, Name, Refusal, View};
 use lq_volume::Change;
 use simdutf8::is_utf8;

@@ -1,10 +1,18 @@
-//! The questions that a script's lines ask.
+//! What a script's lines ask, with the fields of their JSON.
 //!
 //! Contracts see a line as its bytes, its JSON as serde_json's data, and its meaning as a question
-//! or the first fault that fits (`specs/Request`). Begin with `question`, then `asking`.
+//! or the first fault that fits (`specs/Request`). Of equal keys the last one counts, and a text
+//! with a number beyond the doubles is no value. The fields are found while the text is read, token
+//! by token, with no tree of its values (`specs/Fields`) and with a scratch that is reused from line
+//! to line, which contracts don't see; of an array or an object within them only the kind is kept
+//! (`specs/Shown`). Nothing waits. Begin with `question`, then `asking`, `fields` and `field`.
 #![tactic(auto)]
 
 mod asking;
+mod field;
+mod fields;
+mod key;
+mod number;
 mod plain;
 mod question;
 mod request;
@@ -12,6 +20,8 @@ mod scratch;
 mod values;
 
 pub use asking::{question_in, read_request};
+pub use fields::Fields;
+pub use key::Key;
 pub use question::Question;
 pub use request::Request;
 pub use scratch::Scratch;

@@ -1,13 +1,14 @@
 //! The request of a line: which one its word names, and its parts.
 ghost use Rattle.std.specs.Prelude.{◌≡◌};
 ghost use Rattle.std.specs.Option.{option_map};
-ghost use Rattle.lq_script_json.specs.Fields.{AreFound, whole};
+ghost use Rattle.lq_script_request.specs.Fields.{AreFound, whole};
 ghost use Rattle.lq_script_request.specs.Request.{asked_of, create_of, remove_of, move_of, write_of, set_of, unset_of, open_of, act_of, rebuilt_of, find_of, entry_of, fetch_of};
 ghost use Rattle.lq_script_request.specs.Asked.{asked};
 
+use crate::fields::Fields;
+use crate::key::Key;
 use crate::values::{bool_or_false, i64_or_zero, kind_or_file, typed_in, u64_or};
 use lq_desk_world::Act;
-use lq_script_json::{Fields, Key};
 use lq_value::{Kind, View};
 
 /// The request of a line, with its texts borrowed from the line's JSON.

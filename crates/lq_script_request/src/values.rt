@@ -4,11 +4,12 @@ ghost use Rattle.std.specs.Option.{option_map};
 ghost use Rattle.lq_value.specs.declared.value.Value.TheVariants.{Int32, UInt32};
 ghost use Rattle.lq_value.specs.declared.kind.Kind.TheVariants.{File};
 ghost use Rattle.serde_json.specs.Find.{as_i64, as_number, as_u64, get};
-ghost use Rattle.lq_script_json.specs.Fields.{AreFound, name_of, whole};
+ghost use Rattle.lq_script_request.specs.Fields.{AreFound, name_of, whole};
 ghost use Rattle.lq_script_request.specs.Request.{given_by, given_number, within_i32, within_u32, flag_or, u64_or, i64_or, kind_or};
 ghost use Rattle.lq_script_request.specs.Asked.{given};
 
-use lq_script_json::{Fields, Key};
+use crate::fields::Fields;
+use crate::key::Key;
 use lq_value::{Kind, View};
 
 /// A whole number from 0 up, or the default if the field is absent.

@@ -1,8 +1,8 @@
 //! Texts at the borders of what serde_json takes, read by it and by lq_script_json.
-ghost use Rattle.lq_script_json.specs.Fields.{AreFound};
+ghost use Rattle.lq_script_request.specs.Fields.{AreFound};
 
 use json::Scratch;
-use lq_script_json::{Fields, Key};
+use lq_script_request::{Fields, Key};
 use lq_value::Refusal;
 use std::alloc::{AllocError, Global};
 use std::test::Fail;

@@ -1,7 +1,7 @@
 use Rattle.std.proofs.Common.{◌≡◌, ◌∙◌, ap, inr, rules, sym, Err}
 use Rattle.std.specs.Str.{IsUtf8}
 use Rattle.serde_json.specs.Read.{read}
-use Rattle.lq_script_json.specs.Fields.{whole}
+use Rattle.lq_script_request.specs.Fields.{whole}
 use Rattle.lq_script_request.specs.Request.{asked_from, asked_or, question_from, question_in}
 use Rattle.lq_script_request.proofs.PlainLemmas.{line-asks}
 use Rattle.lq_script_request.proofs.RequestLemmas.{asked-not_utf8, asked-utf8, error-then, line-asks-found, line-refused, refused-along, value-then}

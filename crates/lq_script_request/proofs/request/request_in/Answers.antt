@@ -1,5 +1,5 @@
 use Rattle.std.proofs.Common.{◌≡◌, ◌∙◌, ap, arith, rules, length, codes}
-use Rattle.lq_script_json.specs.Fields.{whole}
+use Rattle.lq_script_request.specs.Fields.{whole}
 use Rattle.lq_script_request.proofs.RequestLemmas.{asks-as, asks-nothing}
 use Rattle.lq_script_request.proofs.request.request_in.Goals as goal
 

@@ -2,8 +2,8 @@ use Rattle.std.proofs.Common.{◌≡◌, ℕ, ◌≤◌, length}
 use Rattle.json.specs.Json.{members, value}
 use Rattle.serde_json.specs.Data.{Members, no_members, object}
 use Rattle.serde_json.specs.Read.{converted, of_members}
-use Rattle.lq_script_json.specs.Fields.{Show}
-use Rattle.lq_script_json.proofs.fields.Fields.read_members.Given as goal
+use Rattle.lq_script_request.specs.Fields.{Show}
+use Rattle.lq_script_request.proofs.fields.Fields.read_members.Given as goal
 
 -- the fields show the members so far, and what the rest adds to those is all
 abbrev pub invariant-members : goal.invariant-members

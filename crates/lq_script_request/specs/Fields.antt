@@ -5,12 +5,12 @@ use Rattle.json.specs.Token.{Token}
 use Rattle.serde_json.specs.Data.{Data, Members, null, object}
 use Rattle.serde_json.specs.Find.{get}
 use Rattle.serde_json.specs.Read.{read}
-use Rattle.lq_script_json.specs.Shown.{data_in, shown}
-use Rattle.lq_script_json.specs.declared.field.Field.{Field}
-use Rattle.lq_script_json.specs.declared.field.Field.TheVariants.{Absent}
-use Rattle.lq_script_json.specs.declared.key.Key.{Key}
-use Rattle.lq_script_json.specs.declared.key.Key.TheVariants as key
-use Rattle.lq_script_json.specs.declared.fields.Fields.{Fields}
+use Rattle.lq_script_request.specs.Shown.{data_in, shown}
+use Rattle.lq_script_request.specs.declared.field.Field.{Field}
+use Rattle.lq_script_request.specs.declared.field.Field.TheVariants.{Absent}
+use Rattle.lq_script_request.specs.declared.key.Key.{Key}
+use Rattle.lq_script_request.specs.declared.key.Key.TheVariants as key
+use Rattle.lq_script_request.specs.declared.fields.Fields.{Fields}
 
 -- the text of a key
 abbrev pub name_of : Key → List ℕ

@@ -4,12 +4,12 @@ use Rattle.std.proofs.lemmas.Slice.Eq.{bytes_eq-Decides}
 use Rattle.serde_json.specs.Data.{Data, Members, object, put}
 use Rattle.serde_json.specs.Find.{get_member}
 use Rattle.serde_json.proofs.Views.{get_member-put, get_member-put_other}
-use Rattle.lq_script_json.specs.declared.key.Key.{Key}
-use Rattle.lq_script_json.specs.declared.key.Key.TheVariants as key
-use Rattle.lq_script_json.specs.declared.field.Field.{Field}
-use Rattle.lq_script_json.specs.declared.fields.Fields.{Fields}
-use Rattle.lq_script_json.specs.Shown.{data_in, shown}
-use Rattle.lq_script_json.specs.Fields.{Show, field_at, name_of, updated}
+use Rattle.lq_script_request.specs.declared.key.Key.{Key}
+use Rattle.lq_script_request.specs.declared.key.Key.TheVariants as key
+use Rattle.lq_script_request.specs.declared.field.Field.{Field}
+use Rattle.lq_script_request.specs.declared.fields.Fields.{Fields}
+use Rattle.lq_script_request.specs.Shown.{data_in, shown}
+use Rattle.lq_script_request.specs.Fields.{Show, field_at, name_of, updated}
 
 -- a member counts for its key alone
 placed : (k : List ℕ) (f : Field) (fs : Fields) (at : Key)

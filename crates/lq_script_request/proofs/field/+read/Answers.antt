@@ -5,10 +5,10 @@ use Rattle.json.proofs.Grammar.{value_is, value-begin_array, value-begin_object,
 use Rattle.serde_json.specs.Data.{null, boolean, number, string, array, item, object, put, no_members, unsigned}
 use Rattle.serde_json.specs.Read.{of_json, converted, number_of}
 use Rattle.serde_json.specs.View.{number_view}
-use Rattle.lq_script_json.proofs.NumberLemmas.{all_digits, number_of-digits}
-use Rattle.lq_script_json.proofs.ReadingLemmas.{converted-array, converted-object, item_read, item_refused, items_over, member_read, member_refused, key_refused, members_over}
-use Rattle.lq_script_json.proofs.WalkLemmas.{GoesOn-all, GoesOn-map, on-err}
-use Rattle.lq_script_json.proofs.field.+read.Goals as goal
+use Rattle.lq_script_request.proofs.NumberLemmas.{all_digits, number_of-digits}
+use Rattle.lq_script_request.proofs.ReadingLemmas.{converted-array, converted-object, item_read, item_refused, items_over, member_read, member_refused, key_refused, members_over}
+use Rattle.lq_script_request.proofs.WalkLemmas.{GoesOn-all, GoesOn-map, on-err}
+use Rattle.lq_script_request.proofs.field.+read.Goals as goal
 
 pub field_from-returns-then-depth-eq0-clause-err : goal.field_from-returns-then-depth-eq0-clause-err
 unfolding value

@@ -6,8 +6,8 @@ use Rattle.serde_json.specs.Data.{Data, null, boolean, number, string, array, ob
 use Rattle.serde_json.specs.Find.{as_bool, as_number, as_str}
 use Rattle.serde_json.specs.Read.{converted, of_json}
 use Rattle.serde_json.specs.View.{number_view}
-use Rattle.lq_script_json.specs.declared.field.Field.{Field}
-use Rattle.lq_script_json.specs.declared.field.Field.TheVariants as field
+use Rattle.lq_script_request.specs.declared.field.Field.{Field}
+use Rattle.lq_script_request.specs.declared.field.Field.TheVariants as field
 
 -- of an array or an object only that it is one
 abbrev pub shown : Data → Data

@@ -2,7 +2,7 @@ use Rattle.std.proofs.Common.{◌≡◌, ◌<◌, ◌^◌, drop}
 use Rattle.std.specs.List.{list_all}
 use Rattle.std.specs.Char.{is_ascii_digit}
 use Rattle.std.specs.Str.Parse.{digits_value, digits_value_after}
-use Rattle.lq_script_json.proofs.number.digits_in.Given as goal
+use Rattle.lq_script_request.proofs.number.digits_in.Given as goal
 
 -- the value of the digits so far, with those that are left behind it
 abbrev pub invariant-loop-byte : goal.invariant-loop-byte

@@ -7,13 +7,13 @@ use Rattle.json.proofs.Grammar.{value_is, value-begin_object}
 use Rattle.serde_json.specs.Data.{Data, null, object}
 use Rattle.serde_json.specs.Find.{get}
 use Rattle.serde_json.specs.Read.{converted, of_json, read}
-use Rattle.lq_script_json.specs.declared.fields.Fields.{Fields}
-use Rattle.lq_script_json.specs.Fields.{Holds, Show, name_of}
-use Rattle.lq_script_json.specs.Shown.{data_in, shown}
-use Rattle.lq_script_json.proofs.ReadingLemmas.{converted-object, whole_refused, whole_read, whole_and_more}
-use Rattle.lq_script_json.proofs.WalkLemmas.{none-read, on-is_ok}
-use Rattle.lq_script_json.proofs.fields.Fields.read.Goals.{Joined-token, in-BeginObject, in_default-token, then-not-passed-via-then-not-passed, then-not-passed-via-else-not-passed+then-is_some}
-use Rattle.lq_script_json.proofs.fields.Fields.read.Goals as goal
+use Rattle.lq_script_request.specs.declared.fields.Fields.{Fields}
+use Rattle.lq_script_request.specs.Fields.{Holds, Show, name_of}
+use Rattle.lq_script_request.specs.Shown.{data_in, shown}
+use Rattle.lq_script_request.proofs.ReadingLemmas.{converted-object, whole_refused, whole_read, whole_and_more}
+use Rattle.lq_script_request.proofs.WalkLemmas.{none-read, on-is_ok}
+use Rattle.lq_script_request.proofs.fields.Fields.read.Goals.{Joined-token, in-BeginObject, in_default-token, then-not-passed-via-then-not-passed, then-not-passed-via-else-not-passed+then-is_some}
+use Rattle.lq_script_request.proofs.fields.Fields.read.Goals as goal
 
 -- whether the text begins with a value, and what the fields then show
 abbrev Walked : Bool → Fields → List Token → List ℕ → Type 0

@@ -2,8 +2,8 @@ use Rattle.std.proofs.Common.{◌≡◌, ℕ, ◌+◌, ◌*◌, ◌≤◌, lengt
 use Rattle.json.specs.Json.{items, members, value}
 use Rattle.serde_json.specs.Data.{Members, no_members}
 use Rattle.serde_json.specs.Read.{of_items, of_members, converted}
-use Rattle.lq_script_json.proofs.WalkLemmas.{GoesOn}
-use Rattle.lq_script_json.proofs.field.+read.Given as goal
+use Rattle.lq_script_request.proofs.WalkLemmas.{GoesOn}
+use Rattle.lq_script_request.proofs.field.+read.Given as goal
 
 abbrev pub decreases-field_from : goal.decreases-field_from
 decreases-field_from l = 2 * l.depth

@@ -4,12 +4,12 @@ use Rattle.json.specs.Reads.{token_of}
 use Rattle.json.proofs.Grammar.{read_key-shorter, value_is}
 use Rattle.serde_json.specs.Data.{no_members, object, put}
 use Rattle.serde_json.specs.Read.{converted, of_json}
-use Rattle.lq_script_json.specs.Fields.{Show}
-use Rattle.lq_script_json.specs.Shown.{data_in}
-use Rattle.lq_script_json.proofs.FieldsLemmas.{Show-put}
-use Rattle.lq_script_json.proofs.ReadingLemmas.{key_refused, member_read, member_refused, members_over}
-use Rattle.lq_script_json.proofs.WalkLemmas.{on-err}
-use Rattle.lq_script_json.proofs.fields.Fields.read_members.Goals as goal
+use Rattle.lq_script_request.specs.Fields.{Show}
+use Rattle.lq_script_request.specs.Shown.{data_in}
+use Rattle.lq_script_request.proofs.FieldsLemmas.{Show-put}
+use Rattle.lq_script_request.proofs.ReadingLemmas.{key_refused, member_read, member_refused, members_over}
+use Rattle.lq_script_request.proofs.WalkLemmas.{on-err}
+use Rattle.lq_script_request.proofs.fields.Fields.read_members.Goals as goal
 
 pub members-init : goal.members-init
 members-init c =

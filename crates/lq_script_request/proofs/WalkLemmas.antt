@@ -11,7 +11,7 @@ use Rattle.json.specs.declared.token.Token as code
 use Rattle.serde_json.specs.Data.{Num, Data, Items, array, number}
 use Rattle.serde_json.specs.Find.{get}
 use Rattle.serde_json.specs.Read.{converted, number_of, of_items, of_json}
-use Rattle.lq_script_json.proofs.ReadingLemmas.{converted-array}
+use Rattle.lq_script_request.proofs.ReadingLemmas.{converted-array}
 
 -- what one read refuses the other refuses too, and the other has the same rest
 pub record GoesOn {A B : Type 0} (all : Option (A × List Token))

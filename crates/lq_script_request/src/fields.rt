@@ -5,8 +5,8 @@ ghost use Rattle.json.specs.Json.{members, value};
 ghost use Rattle.serde_json.specs.Data.{no_members};
 ghost use Rattle.serde_json.specs.Find.{get};
 ghost use Rattle.serde_json.specs.Read.{converted, of_members, read as read_text};
-ghost use Rattle.lq_script_json.specs.Fields.{AreAbsent, AreFound, HoldsMembers, name_of, updated, whole};
-ghost use Rattle.lq_script_json.specs.Shown.{IsFieldOf};
+ghost use Rattle.lq_script_request.specs.Fields.{AreAbsent, AreFound, HoldsMembers, name_of, updated, whole};
+ghost use Rattle.lq_script_request.specs.Shown.{IsFieldOf};
 
 use crate::field::{Field, field_from};
 use crate::key::Key;

@@ -3,8 +3,8 @@ use Rattle.std.specs.Str.Parse.{digits_value}
 use Rattle.fast_float.specs.Text.{scan}
 use Rattle.serde_json.specs.Data.{unsigned}
 use Rattle.serde_json.specs.Read.{number_of, number_from}
-use Rattle.lq_script_json.proofs.NumberLemmas.{all_digits, number_of-digits}
-use Rattle.lq_script_json.proofs.number.number_in.Goals as goal
+use Rattle.lq_script_request.proofs.NumberLemmas.{all_digits, number_of-digits}
+use Rattle.lq_script_request.proofs.number.number_in.Goals as goal
 
 pub returns-in-Some : goal.returns-in-Some
 returns-in-Some c =

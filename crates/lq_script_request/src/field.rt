@@ -5,7 +5,7 @@ ghost use Rattle.json.specs.Reads.{token_of};
 ghost use Rattle.serde_json.specs.Data.{no_members};
 ghost use Rattle.serde_json.specs.Find.{as_bool, as_i64, as_number, as_str, as_u64};
 ghost use Rattle.serde_json.specs.Read.{converted, of_items, of_json, of_members};
-ghost use Rattle.lq_script_json.specs.Shown.{IsReadUpTo, Shows, data_in};
+ghost use Rattle.lq_script_request.specs.Shown.{IsReadUpTo, Shows, data_in};
 
 use crate::number::{digits_in, number_in};
 use json::{Invalid, Reader, Token};

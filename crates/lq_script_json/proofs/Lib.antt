@@ -1,4 +1,0 @@
-pub mod FieldsLemmas
-pub mod NumberLemmas
-pub mod ReadingLemmas
-pub mod WalkLemmas
