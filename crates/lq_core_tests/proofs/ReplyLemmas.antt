@@ -15,8 +15,8 @@ use Rattle.lq_update.specs.declared.message.Opcode.TheVariants.{Created, Removed
 use Rattle.lq_update.specs.declared.parcel.Parcel.TheVariants.{Update, Fin}
 use Rattle.lq_desk_world.specs.Events as world
 use Rattle.lq_desk_world.specs.Events.{Answer, Changed, Opened, Took, Empty, Ended, Asked, Noticed, Shut, Finished, Refused}
-use Rattle.lq_script_reply.specs.Reply.{answer_data, attr_data, data_by, entry_data, fault_data, place_of, response_data, value_data}
-use Rattle.lq_script_reply.specs.Response.{Response, Answers, Refuses, Found, Listed, Fetched, Rebuilt}
+use Rattle.lq_script_desk.specs.Reply.{answer_data, attr_data, data_by, entry_data, fault_data, place_of, response_data, value_data}
+use Rattle.lq_script_desk.specs.Response.{Response, Answers, Refuses, Found, Listed, Fetched, Rebuilt}
 
 -- a whole number has no float
 integer-no_float : (n : ℤ) → has_float (number (of_integer n)) ≡ false

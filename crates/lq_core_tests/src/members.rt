@@ -2,7 +2,7 @@
 ghost use Rattle.std.specs.Prelude.{◌≡◌, IfOk, OnOk, codes, map};
 ghost use Rattle.serde_json.specs.View.{view, items_of, members_view};
 ghost use Rattle.serde_json.specs.Data.{array, put as with_member};
-ghost use Rattle.lq_script_reply.specs.Reply.{attr_data, count, entry_data, type_name, value_data, word};
+ghost use Rattle.lq_script_desk.specs.Reply.{attr_data, count, entry_data, type_name, value_data, word};
 
 use lq_value::{AttrName, Entry};
 use serde_json::{Map, Value, put};

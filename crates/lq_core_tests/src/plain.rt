@@ -5,13 +5,13 @@ ghost use Rattle.serde_json.specs.Data.{object, no_members};
 ghost use Rattle.lq_value.specs.Refusal.{FailsOnlyForMemory};
 ghost use Rattle.lq_desk.specs.Reply.{answer_of, answer_of_read};
 ghost use Rattle.lq_volume.specs.Lookup.{listed};
-ghost use Rattle.lq_script_reply.specs.Answer.{response_of};
+ghost use Rattle.lq_script_desk.specs.Answer.{response_of};
 ghost use Rattle.lq_script_lines.specs.Lines.{Begins};
-ghost use Rattle.lq_script_reply.specs.Reply.{answer_data, listing_data, message_data, place_of, refusal_data, reply_text, response_data};
+ghost use Rattle.lq_script_desk.specs.Reply.{answer_data, listing_data, message_data, place_of, refusal_data, reply_text, response_data};
 
 use crate::members::{put_attrs, put_count, put_entry, put_result, put_step, put_word};
 use lq_desk::{Read, Reply};
-use lq_script_reply::Response;
+use lq_script_desk::Response;
 use lq_update::{Cause, Message, Opcode};
 use lq_value::{Kind, Refusal};
 use lq_volume::Listing;

@@ -1,7 +1,7 @@
 //! Each kind of response by pieces, as the plain way writes it.
 use crate::plain::put_plainly;
 use lq_desk::{Read, Reply};
-use lq_script_reply::{Response, put_event_reply, put_reply};
+use lq_script_desk::{Response, put_event_reply, put_reply};
 use lq_update::{Cause, Mark, Message, Opcode};
 use lq_value::{AttrName, Entry, Kind, Name, Refusal, Value};
 use lq_volume::{Applied, Listing};

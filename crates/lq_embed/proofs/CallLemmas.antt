@@ -11,7 +11,7 @@ use Rattle.lq_predicate.specs.Stacked.{Stacked}
 use Rattle.lq_script_desk.specs.Session.{Session}
 use Rattle.lq_desk_world.specs.Events.{Answer, Refused}
 use Rattle.lq_script_request.specs.declared.question.Question.{Question}
-use Rattle.lq_script_reply.specs.Response.{Response, Refuses}
+use Rattle.lq_script_desk.specs.Response.{Response, Refuses}
 use Rattle.lq_embed.specs.declared.outs.AppliedOut.{AppliedOut}
 use Rattle.lq_embed.specs.declared.outs.OpeningOut.{OpeningOut}
 use Rattle.lq_embed.specs.declared.outs.FetchedOut.{FetchedOut}

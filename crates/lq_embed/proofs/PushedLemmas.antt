@@ -10,7 +10,7 @@ use Rattle.lq_predicate.specs.Stacked.{new_stack}
 use Rattle.lq_desk_world.specs.declared.event.Event.TheVariants.{Open}
 use Rattle.lq_desk_world.specs.Events.{Refused}
 use Rattle.lq_script_request.specs.declared.question.Question.TheVariants.{Event, Fetch}
-use Rattle.lq_script_reply.specs.Response.{Refuses}
+use Rattle.lq_script_desk.specs.Response.{Refuses}
 use Rattle.lq_embed.specs.declared.outs.OpeningOut.{OpeningOut}
 use Rattle.lq_embed.specs.declared.outs.FetchedOut.{FetchedOut}
 use Rattle.lq_embed.specs.Calls.{Fetches, Opens}

@@ -11,7 +11,7 @@ use Rattle.lq_desk.specs.Kept.{Kept}
 use Rattle.lq_desk.specs.Turn.{kept_turn_outcome}
 use Rattle.lq_script_request.specs.declared.question.Question.{Question}
 use Rattle.lq_script_request.specs.declared.question.Question.TheVariants.{Event}
-use Rattle.lq_script_reply.specs.Response.{Response, Refuses}
+use Rattle.lq_script_desk.specs.Response.{Response, Refuses}
 use Rattle.lq_script_desk.specs.Session.{Session}
 use Rattle.lq_script_desk.specs.Answered.{answered}
 use Rattle.lq_script_desk.specs.Script.{kept_volume}

@@ -14,7 +14,7 @@ use Rattle.lq_update.specs.declared.mark.Cause.{Cause}
 use Rattle.lq_update.specs.declared.mark.Cause.TheVariants as cause
 use Rattle.lq_update.specs.declared.parcel.Parcel.TheVariants.{Update, Fin}
 use Rattle.lq_desk_world.specs.Events.{Answer, Changed, Opened, Took, Empty, Ended, Shut, Refused}
-use Rattle.lq_script_reply.specs.Response.{Response, Found, Listed, Fetched, Rebuilt, Refuses}
+use Rattle.lq_script_desk.specs.Response.{Response, Found, Listed, Fetched, Rebuilt, Refuses}
 use Rattle.lq_embed.specs.Numbers.{number_of_kind}
 use Rattle.lq_embed.specs.declared.outs.AppliedOut.{AppliedOut}
 use Rattle.lq_embed.specs.declared.outs.OpeningOut.{OpeningOut}

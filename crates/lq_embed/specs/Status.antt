@@ -4,7 +4,7 @@ use Rattle.lq_value.specs.declared.refusal.Refusal.{Refusal}
 use Rattle.lq_value.specs.declared.refusal.Refusal.TheVariants.{BadName, NoNode, NotFolder, NoEntry, Exists, WouldLoop, NotEmpty, KindClash, IsFolder, NoAttr, Reserved, TooLong, Exhausted, NoMemory, BadQuery, BadPort, BadBacklog, NoSlot, NoSeat, NotOpen, StillOpen, LongLine, NotUtf8, NotJson, BadLine, OutOfStep, Mismatch}
 use Rattle.lq_value.specs.Refusal.{code_of, name_of}
 use Rattle.lq_desk_world.specs.Events.{Answer, Refused}
-use Rattle.lq_script_reply.specs.Response.{Response, Refuses}
+use Rattle.lq_script_desk.specs.Response.{Response, Refuses}
 
 -- the number of a refusal, or 0
 abbrev pub status_of : Answer → ℕ

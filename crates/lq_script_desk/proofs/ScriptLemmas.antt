@@ -16,11 +16,11 @@ use Rattle.lq_script_lines.specs.declared.run_fault.RunFault.{RunFault}
 use Rattle.std.proofs.lemmas.Result.{on_err_weaker, on_ok_weaker}
 use Rattle.lq_script_desk.specs.Folds.{fold_at, folds_after}
 use Rattle.lq_script_desk.specs.Session.{Session}
-use Rattle.lq_script_reply.specs.Reply.{reply_text}
+use Rattle.lq_script_desk.specs.Reply.{reply_text}
 use Rattle.lq_script_request.specs.declared.question.Question.{Question}
 use Rattle.lq_script_request.specs.declared.question.Question.TheVariants as question
 use Rattle.lq_script_request.specs.Request.{question_in}
-use Rattle.lq_script_reply.specs.Response.{Answers, Fetched}
+use Rattle.lq_script_desk.specs.Response.{Answers, Fetched}
 use Rattle.lq_script_desk.specs.Answered.{answered, found_in, rebuilt, responds, shown_in, slot_of}
 use Rattle.lq_script_desk.specs.Script.{kept_rules, kept_volume, volume_of, world_rules}
 

@@ -12,7 +12,7 @@ use Rattle.lq_desk_world.specs.Events.{Answer}
 use Rattle.lq_update.specs.Fold.{Folding}
 use Rattle.lq_script_request.specs.declared.question.Question.{Question}
 use Rattle.lq_script_request.specs.declared.question.Question.TheVariants as question
-use Rattle.lq_script_reply.specs.Response.{Response, Answers, Refuses, Found, Listed, Fetched, Rebuilt}
+use Rattle.lq_script_desk.specs.Response.{Response, Answers, Refuses, Found, Listed, Fetched, Rebuilt}
 use Rattle.lq_script_desk.specs.Folds.{Folds, fold_at, folds_after}
 use Rattle.lq_script_desk.specs.Session.{Session, session_with}
 

@@ -1,3 +1,9 @@
+pub mod Response
+pub mod Reply
+pub mod Parts
+pub mod Answer
+pub mod Front
+pub mod Plain
 pub mod Folds
 pub mod Session
 pub mod Answered

@@ -15,9 +15,9 @@ use Rattle.lq_script_lines.specs.Output.{output_of}
 use Rattle.lq_script_request.specs.Request.{question_in}
 use Rattle.lq_script_desk.specs.Folds.{no_folds}
 use Rattle.lq_script_desk.specs.Session.{Session, session_with}
-use Rattle.lq_script_reply.specs.Response.{Refuses}
+use Rattle.lq_script_desk.specs.Response.{Refuses}
 use Rattle.lq_script_desk.specs.Answered.{answered}
-use Rattle.lq_script_reply.specs.Reply.{reply_text}
+use Rattle.lq_script_desk.specs.Reply.{reply_text}
 
 -- how lines are answered by what carries out turns over a volume
 abbrev pub rules_by : {Core : Type 0} → (Core → Event → Answer × Core) → (Core → State)

@@ -1,13 +1,24 @@
-//! Scripts carried out by a desk: a single line, and a whole run.
+//! Scripts carried out by a desk, a single line and a whole run, and the texts of their replies.
 //!
-//! Contracts see a session as its desk's state and the result read from each slot (`specs/Folds`),
-//! and a script's output as the texts of a world's answers to its lines (`specs/Script`). Nothing
-//! here waits. Begin with `session`, then `script`.
+//! Contracts see a response as what it says (`specs/Response`), and its text as serde_json's
+//! compact text of its data (`specs/Reply`), with LF. The code makes no such data: it appends the
+//! text piece by piece (`pieces`, `text`) to a buffer (`specs/Front`). They see a session as its
+//! desk's state and the result read from each slot (`specs/Folds`), and a script's output as the
+//! texts of a world's answers to its lines (`specs/Script`). Nothing here waits. Begin with
+//! `response` and `reply`, then `session` and `script`.
 #![tactic(auto)]
 
+mod listing;
+mod message;
+mod pieces;
 mod rebuilds;
+mod reply;
+mod response;
 mod script;
 mod session;
+mod text;
 
+pub use reply::{put_event_reply, put_reply};
+pub use response::Response;
 pub use script::run;
 pub use session::Session;

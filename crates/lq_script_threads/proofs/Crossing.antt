@@ -4,7 +4,7 @@ use denote.Ref.{NamedLft}
 use denote.Param.Send.{IsSend, IsSync, sendable, shr_send}
 use denote.Param.SendFields.{declared_send}
 use Rattle.std.proofs.Crossing.{crosses, Vec-send}
-use Rattle.lq_script_reply.specs.contracts.response.Response as response
+use Rattle.lq_script_desk.specs.contracts.response.Response as response
 use Rattle.lq_server.specs.declared.named.Named.{Ghosts}
 use Rattle.lq_server.specs.contracts.server.Server as server
 use Rattle.lq_script_threads.specs.contracts.batch.Turn as turn

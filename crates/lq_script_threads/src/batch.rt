@@ -6,7 +6,7 @@ use crate::readers::Readers;
 use crate::tasks::Task;
 use crate::tokens::OwnReader;
 use crate::workers::Workers;
-use lq_script_reply::{Response, put_reply};
+use lq_script_desk::{Response, put_reply};
 use lq_server::{Named, Server, servers_may_be_shared};
 use lq_value::Refusal;
 use std::alloc::Global;

@@ -2,8 +2,8 @@
 use crate::gate::Gate;
 use crate::server_session::ServerSession;
 use lq_desk::Event;
+use lq_script_desk::{Response, put_reply};
 use lq_script_lines::{Failed, RunFault, Sink, write_all};
-use lq_script_reply::{Response, put_reply};
 use lq_script_request::{Question, Scratch, question_in};
 use lq_server::Named;
 use lq_value::Refusal;

@@ -6,7 +6,7 @@ use crate::tokens::OwnSeat;
 use crate::workers::Workers;
 use lq_desk::{Event, Reply};
 use lq_predicate::Predicate;
-use lq_script_reply::Response;
+use lq_script_desk::Response;
 use lq_script_request::Question;
 use lq_server::{Named, Server};
 use lq_value::Refusal;

@@ -2,7 +2,7 @@
 use lq_board::Seat;
 use lq_desk::Reply;
 use lq_predicate::Predicate;
-use lq_script_reply::Response;
+use lq_script_desk::Response;
 use lq_server::{Named, Reader, Server};
 use lq_server_slots::Identity;
 use lq_value::{Entry, Name, Refusal};

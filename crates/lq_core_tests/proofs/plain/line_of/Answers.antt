@@ -1,7 +1,7 @@
 use Rattle.std.proofs.Common.{◌++◌, ◌∷◌, [], ◌∙◌, ap, arith}
 use Rattle.std.specs.Prelude.{string_bytes}
 use Rattle.serde_json.specs.Written.{has_float, compact_text}
-use Rattle.lq_script_reply.specs.Answer.{response_of}
+use Rattle.lq_script_desk.specs.Answer.{response_of}
 use Rattle.lq_core_tests.proofs.ReplyLemmas.{response-no_float}
 use Rattle.lq_core_tests.proofs.plain.line_of.Goals as goal
 
