@@ -2,18 +2,31 @@
 //! one thread or by several.
 //!
 //! Contracts see the program's arguments as texts (`specs/Words`), and a script's output as the
-//! texts of a world's answers to its lines (`specs/Script` of lq_script_desk). `run_threads` may
-//! wait. `thiserror` derives the display texts of `RunFault`. Begin with `words`, then `run` and
-//! `run_threads`.
+//! texts of a world's answers to its lines (`specs/Script` of lq_script_desk). `run_threads` carries
+//! out each line by the public calls of a server, and a run of `read` lines as a batch, with a
+//! thread for each slot, which stays until the slot is finished; its output is the output of one
+//! thread, as tests show, and contracts say that each call is safe. It may wait. Begin with `words`,
+//! then `threads`, `runner`, `server_session`, `batch` and `workers`.
 #![tactic(auto)]
 
+mod batch;
 mod checking;
 mod command_line;
+mod gate;
+mod lines;
 mod plain_words;
+mod readers;
+mod runner;
+mod server_session;
+mod tasks;
+mod threads;
+mod tokens;
 mod words;
+mod workers;
 
 pub use checking::check;
+pub use gate::{Gate, OpenGate};
 pub use lq_script_desk::run;
 pub use lq_script_lines::{Failed, Host, RunFault, Sink, Source};
-pub use lq_script_threads::{Gate, OpenGate, run_threads};
+pub use threads::run_threads;
 pub use words::program;

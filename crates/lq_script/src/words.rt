@@ -4,9 +4,10 @@ ghost use Rattle.lq_script_lines.specs.Outcome.{reader_log, writer_log};
 ghost use Rattle.lq_script.specs.Outcome.{IsOutcome, transcript};
 ghost use Rattle.lq_script.specs.Words.{IsThreads, texts_of};
 
+use crate::gate::OpenGate;
 use crate::plain_words::{plain_program, report_fault};
+use crate::threads::run_threads;
 use lq_script_lines::{Sink, Source};
-use lq_script_threads::{OpenGate, run_threads};
 use std::alloc::Global;
 use std::sync::Wait;
 use std::thread::Threads;

@@ -1,4 +1,4 @@
-use Rattle.lq_script_threads.proofs.threads.run_threads.Given as goal
+use Rattle.lq_script.proofs.threads.run_threads.Given as goal
 
 -- N names the board of the base.
 abbrev pub ghosts-serve : goal.ghosts-serve

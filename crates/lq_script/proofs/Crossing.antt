@@ -7,8 +7,8 @@ use Rattle.std.proofs.Crossing.{crosses, Vec-send}
 use Rattle.lq_script_desk.specs.contracts.response.Response as response
 use Rattle.lq_server.specs.declared.named.Named.{Ghosts}
 use Rattle.lq_server.specs.contracts.server.Server as server
-use Rattle.lq_script_threads.specs.contracts.batch.Turn as turn
-use Rattle.lq_script_threads.proofs.tokens.OwnReader.TheSendSync as found_reader
+use Rattle.lq_script.specs.contracts.batch.Turn as turn
+use Rattle.lq_script.proofs.tokens.OwnReader.TheSendSync as found_reader
 
 -- it is `Send`, where the server and the gate are `Sync`
 pub turn_send : (ℓ : NamedLft) (N G : RattleType) (g : Ghosts N.Denot)

@@ -1,8 +1,8 @@
 use denote.Exit.{yes, no}
 use denote.Param.{param}
 use denote.Param.Send.{arg_send, param_send}
-use Rattle.lq_script_threads.proofs.Crossing.{turn_send}
-use Rattle.lq_script_threads.proofs.batch.read_beside.Goals as goal
+use Rattle.lq_script.proofs.Crossing.{turn_send}
+use Rattle.lq_script.proofs.batch.read_beside.Goals as goal
 
 -- src/batch.rt:71:21
 pub do_all-requires-send-T : goal.do_all-requires-send-T

@@ -1,5 +1,5 @@
 use Rattle.std.proofs.Common.{◌≤◌, length}
-use Rattle.lq_script_threads.proofs.runner.Runner.carry_out.Given as goal
+use Rattle.lq_script.proofs.runner.Runner.carry_out.Given as goal
 
 abbrev pub invariant-loop-count : goal.invariant-loop-count
 invariant-loop-count g l = length l.rest ≤ length l.lines
