@@ -1,16 +1,27 @@
-//! Tests of lq_desk_sub, lq_script_reply, lq_board and lq_port, a module each. `plain` makes a
-//! reply as a JSON value first, of `members`, to compare with the replies that are written piece by
-//! piece.
+//! Tests of lq_value, lq_predicate, lq_script_request and lq_script_lines, of what no script or
+//! formula can show; and of lq_desk_sub, lq_script_desk, lq_board and lq_port. A module for each
+//! subject. `plain` makes a reply as a JSON value first, of `members`, to compare with the replies
+//! that are written piece by piece.
 #![tactic(auto)]
 
 #[cfg(test)]
 mod boards;
 #[cfg(test)]
+mod displays;
+#[cfg(test)]
+mod json_values;
+#[cfg(test)]
+mod lines;
+#[cfg(test)]
 mod members;
+#[cfg(test)]
+mod patterns;
 #[cfg(test)]
 mod plain;
 #[cfg(test)]
 mod ports;
+#[cfg(test)]
+mod predicates;
 #[cfg(test)]
 mod replies;
 #[cfg(test)]
