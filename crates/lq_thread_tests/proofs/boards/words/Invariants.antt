@@ -1,5 +1,5 @@
 -- The names of the slot's subscriptions.
-use Rattle.lq_server_surface_tests.proofs.boards.words.Given as goal
+use Rattle.lq_thread_tests.proofs.boards.words.Given as goal
 
 abbrev pub ghost-slot_seat : goal.ghost-slot_seat
 ghost-slot_seat a = 0
