@@ -1,6 +1,6 @@
 //! Calls that are given again where memory ran out: with any one growth refused, all is as without.
 use crate::one_thread::EACH;
-use lq_server_stage::{base, stage};
+use crate::scenario::{base, stage};
 use std::marker::Brand;
 use std::test::Fail;
 

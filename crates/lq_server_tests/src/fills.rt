@@ -1,5 +1,6 @@
 //! What each call does for every slot: it notices who hung up, and fills the ports.
-use lq_server_stage::{Act, Done, Scenario, Told, base, stage};
+use crate::acts::{Act, Told};
+use crate::scenario::{Done, Scenario, base, stage};
 use lq_update::Cause;
 use lq_value::Refusal;
 use std::marker::Brand;

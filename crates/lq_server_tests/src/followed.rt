@@ -1,7 +1,8 @@
 //! The model at work.
+use crate::acts::{Row, are_entries, file};
+use crate::scenario::base;
 use lq_model::follow;
 use lq_predicate::read;
-use lq_server_stage::{Row, are_entries, base, file};
 use lq_update::Cause;
 use lq_value::Name;
 use std::marker::Brand;

@@ -1,5 +1,7 @@
 //! The scenarios of two threads and four, by their tables.
-use lq_server_stage::{Act, Row, Scenario, Table, Told};
+use crate::acts::{Act, Row, Told};
+use crate::party::Table;
+use crate::scenario::Scenario;
 use lq_update::Cause;
 
 const FIVE: [Row; 5] = [("a", 2), ("b", 3), ("c", 4), ("d", 5), ("e", 6)];

@@ -1,5 +1,7 @@
 //! The scenarios of one thread, by their tables.
-use lq_server_stage::{Act, Scenario, Table, Told};
+use crate::acts::{Act, Told};
+use crate::party::Table;
+use crate::scenario::Scenario;
 use lq_update::Cause;
 use lq_value::Refusal;
 

@@ -5,9 +5,9 @@ use crate::more_threads::{DRAWN, HANG_UP_BESIDE_CHANGES, WINDOW, WRITERS_CREATE,
 use crate::one_thread::{
     EACH, READERS_DROPPED, SEATS, SLOT_AFTER_CLOSE, SLOT_AFTER_HANG_UP, SLOTS,
 };
+use crate::scenario::{Scenario, base, stage};
 use lq_predicate::read;
 use lq_server::{Base, Named, Server};
-use lq_server_stage::{Scenario, base, stage};
 use lq_value::Refusal;
 use lq_volume::Volume;
 use std::alloc::Global;

@@ -2,9 +2,10 @@
 ghost use Rattle.std.specs.Prelude.{◌≡◌, IfOk};
 ghost use Rattle.lq_server.specs.Own.{IsOwn, StaysOwn};
 
+use crate::acts::file;
+use crate::scenario::base;
 use lq_predicate::read;
 use lq_server::{Accepted, Base, Named, Read, Reader, Seat, Server};
-use lq_server_stage::{base, file};
 use lq_update::Cause;
 use lq_value::{Name, Refusal};
 use std::alloc::Global;

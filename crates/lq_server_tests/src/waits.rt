@@ -2,9 +2,10 @@
 ghost use Rattle.std.specs.Prelude.{◌≡◌};
 ghost use Rattle.lq_server.specs.Own.{IsOwn};
 
+use crate::acts::file;
+use crate::scenario::base;
 use lq_predicate::{Predicate, read};
 use lq_server::{Base, Named, Read, Reader, Seat, Server, Synced, Work, join_over};
-use lq_server_stage::{base, file};
 use lq_update::Cause;
 use lq_value::{Name, Refusal};
 use lq_volume::Change;

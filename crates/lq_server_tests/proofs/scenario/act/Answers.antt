@@ -12,7 +12,7 @@ use denote.Param.SendFields.{declared_sync}
 use Rattle.std.specs.contracts.alloc.Global as global
 use Rattle.lq_server.specs.declared.named.Named.{Ghosts}
 use Rattle.lq_server.specs.contracts.server.Server as server
-use Rattle.lq_server_stage.proofs.scenario.act.Goals as goal
+use Rattle.lq_server_tests.proofs.scenario.act.Goals as goal
 
 -- what it takes: the runtime, the allocator, the server
 abbrev parts : NamedLft → NamedLft → NamedLft → (N R : RattleType) → Ghosts N.Denot
