@@ -1,4 +1,4 @@
-//! Texts at the borders of what serde_json takes, read by it and by lq_script_json.
+//! Texts at the borders of what serde_json takes, read by it and by lq_script_request.
 ghost use Rattle.lq_script_request.specs.Fields.{AreFound};
 
 use json::Scratch;
@@ -90,7 +90,7 @@ fn has_same(plain: &serde_json::Value, fields: &Fields<'_>, name: &str, key: Key
     }
 }
 
-// Whether serde_json and lq_script_json read the same fields `size` and `node`, or both refuse a
+// Whether serde_json and lq_script_request read the same fields `size` and `node`, or both refuse a
 // text.
 fn is_read_alike(alloc: Global, scratch: &mut Scratch, text: &str) -> bool {
     let mut fields = Fields::new();

@@ -5,7 +5,7 @@ use Rattle.std.specs.Prelude.{slice_get, slice_set, ◌&&◌, nat_lt, ◌⊎◌,
 use Rattle.std.specs.Option.{option_map, option_flatten}
 use Rattle.std.specs.Int.{bit_at}
 use Rattle.std.proofs.lemmas.Option.{slice_get-map}
-use Rattle.lq_predicate_formula.specs.Query.{Query}
+use Rattle.lq_predicate.specs.Query.{Query}
 use Rattle.lq_volume.specs.declared.change.Change.{Change}
 use Rattle.lq_update.specs.declared.mark.Cause.TheVariants.{Closed, HungUp}
 use Rattle.lq_update.specs.declared.parcel.Parcel.{Parcel}

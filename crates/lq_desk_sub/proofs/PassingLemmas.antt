@@ -3,7 +3,7 @@ use Rattle.std.proofs.Common.{◌≡◌, ℕ, ◌+◌, List, [], ◌∷◌, ap, 
 use Rattle.std.specs.Prelude.{not, ◌||◌}
 use Rattle.std.specs.List.{list_any, AllByRecursion}
 use Rattle.std.specs.Str.{bytes_eq}
-use Rattle.lq_predicate_formula.specs.Query.{Query}
+use Rattle.lq_predicate.specs.Query.{Query}
 use Rattle.lq_predicate.specs.Names.{names_of}
 use Rattle.lq_predicate.specs.Laws.{TruthGoesByNames}
 use Rattle.lq_volume.specs.declared.change.Change.{Change}

@@ -5,7 +5,7 @@ use Rattle.std.specs.List.{list_any}
 use Rattle.std.specs.Int.{bit_at}
 use Rattle.std.specs.Option.{option_map_or}
 use Rattle.std.proofs.lemmas.Bool.{cases_lt}
-use Rattle.lq_predicate_formula.specs.Query.{Query}
+use Rattle.lq_predicate.specs.Query.{Query}
 use Rattle.lq_predicate.specs.Names.{names_of}
 use Rattle.lq_predicate.specs.Needs.{needs_attribute}
 use Rattle.lq_volume.specs.declared.change.Change.{Change}

@@ -1,6 +1,6 @@
 -- Facts about every subscription.
 use Rattle.std.specs.Prelude.{◌≡◌, true, Some}
-use Rattle.lq_predicate_formula.specs.Query.{Query}
+use Rattle.lq_predicate.specs.Query.{Query}
 use Rattle.lq_predicate.specs.Names.{names_of}
 use Rattle.lq_volume.specs.declared.change.Change.{Change}
 use Rattle.lq_update.specs.declared.parcel.Parcel.{Parcel}

@@ -34,7 +34,7 @@ pub struct LiveQuery {
 
 impl Model for LiveQuery {
     ghost use Rattle.std.specs.Prelude.{◌≡◌};
-    ghost use Rattle.lq_predicate_formula.specs.Query.{Query};
+    ghost use Rattle.lq_predicate.specs.Query.{Query};
     ghost use Rattle.lq_predicate.specs.Names.{names_of};
     ghost use Rattle.lq_predicate.specs.Spans.{spans_of};
     ghost use Rattle.lq_predicate.specs.QueryCode.{coded_query};

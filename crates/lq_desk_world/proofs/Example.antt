@@ -5,7 +5,7 @@ use Rattle.lq_value.specs.declared.op.Op.TheVariants.{Ge}
 use Rattle.lq_value.specs.declared.literal.Literal.TheVariants.{Plain}
 use Rattle.lq_value.specs.declared.kind.Kind.TheVariants.{File}
 use Rattle.lq_value.specs.declared.refusal.Refusal.TheVariants.{BadPort, BadBacklog, NoSlot, NotOpen, StillOpen, Exhausted}
-use Rattle.lq_predicate_formula.specs.Query.{Query, Compare}
+use Rattle.lq_predicate.specs.Query.{Query, Compare}
 use Rattle.lq_volume.specs.declared.change.Change.TheVariants.{Create, Move}
 use Rattle.lq_volume.specs.State.{empty_state}
 use Rattle.lq_update.specs.declared.message.Message.{Message}

@@ -2,7 +2,7 @@
 -- or nothing.
 use Rattle.std.specs.Prelude.{ℕ, ◌+◌, ◌-◌, List, [], ◌∷◌, ◌++◌, length, map, take, drop, replicate, Bool, ◌&&◌, ◌==◌, nat_lt, Option, Some, None, is_none, slice_get, slice_set, if◌then◌else◌, true, false}
 use Rattle.std.specs.Option.{option_flatten}
-use Rattle.lq_predicate_formula.specs.Query.{Query}
+use Rattle.lq_predicate.specs.Query.{Query}
 use Rattle.lq_volume.specs.declared.change.Change.{Change as Change_}
 use Rattle.lq_volume.specs.Book.{Book, number_of, state_of}
 use Rattle.lq_update.specs.declared.message.Message.{Message}

@@ -4,7 +4,7 @@ use Rattle.std.specs.Prelude.{Bool, Option, Ok}
 use Rattle.lq_value.specs.declared.refusal.Refusal.{Refusal}
 use Rattle.lq_value.specs.declared.refusal.Refusal.TheVariants.{BadQuery}
 use Rattle.lq_value.specs.Refusal.{code_of}
-use Rattle.lq_predicate_formula.specs.Query.{Query}
+use Rattle.lq_predicate.specs.Query.{Query}
 use Rattle.lq_predicate.specs.Stack.{refusal_at}
 use Rattle.lq_predicate.specs.Stacked.{new_stack}
 use Rattle.lq_desk_world.specs.declared.event.Event.TheVariants.{Open}

@@ -5,7 +5,7 @@ use Rattle.lq_value.specs.declared.refusal.Refusal.{Refusal}
 use Rattle.lq_value.specs.declared.refusal.Refusal.TheVariants.{NotUtf8, BadLine, BadQuery}
 use Rattle.lq_value.specs.declared.kind.Kind.{Kind}
 use Rattle.lq_value.specs.declared.value.Value.{Value}
-use Rattle.lq_predicate_formula.specs.Query.{Query}
+use Rattle.lq_predicate.specs.Query.{Query}
 use Rattle.lq_predicate.specs.Stacked.{Stacked, new_stack}
 use Rattle.lq_predicate.specs.Stack.{attr_pushed, text_pushed, op_pushed}
 use Rattle.lq_predicate.specs.declared.stack_op.StackOp.{StackOp}

@@ -7,7 +7,7 @@ use Rattle.lq_value.specs.declared.op.Op.{Op}
 use Rattle.lq_value.specs.declared.op.Op.TheVariants.{Eq, Ne, Lt, Le, Gt, Ge}
 use Rattle.lq_value.specs.declared.literal.Literal.{Literal}
 use Rattle.lq_value.specs.declared.literal.Literal.TheVariants as literal
-use Rattle.lq_value_pattern.specs.declared.element.Element.{Element}
+use Rattle.lq_value.specs.Element.{Element}
 use Rattle.lq_value.specs.Source.{pattern_of}
 use Rattle.std.specs.Prelude.{Result, Ok, Err}
 use Rattle.lq_predicate_formula.specs.Tokens.{Token, bare}

@@ -4,7 +4,7 @@ use Rattle.std.specs.Prelude.{option_and_then, Result, Ok}
 use Rattle.std.proofs.lemmas.Bool.Decides.{nat_tests}
 use Rattle.std.proofs.lemmas.List.{reverse-append, length-reverse, drop_at, take-append-drop}
 use Rattle.lq_value.specs.Pattern.{plain_elements}
-use Rattle.lq_value_pattern.specs.declared.element.Element.TheVariants.{Plain}
+use Rattle.lq_value.specs.Element.TheVariants.{Plain}
 use Rattle.lq_value.specs.declared.refusal.Refusal.{Refusal}
 use Rattle.lq_predicate_formula.specs.Query.{Query}
 use Rattle.lq_predicate.specs.declared.stack_item.StackItem.{StackItem}

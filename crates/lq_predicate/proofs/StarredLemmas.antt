@@ -8,7 +8,7 @@ use Rattle.std.proofs.Math.Utf8.{scalar, scalars}
 use Rattle.std.proofs.lemmas.Bool.{and_parts}
 use Rattle.std.proofs.lemmas.List.{length-append}
 use Rattle.std.proofs.lemmas.Str.{encode_ascii, encodes-append, scalars-chars}
-use Rattle.lq_value_pattern.specs.declared.element.Element.{Element}
+use Rattle.lq_value.specs.Element.{Element}
 use Rattle.lq_value.specs.Pattern.{plain_elements}
 use Rattle.lq_predicate_formula.specs.Canonical.{pattern_text, plain_then}
 use Rattle.lq_predicate_formula.specs.Limits.{IsGoodPattern}

@@ -2,6 +2,10 @@ pub mod Spans
 pub mod Operand
 pub mod Stacked
 pub mod Stack
+pub use Rattle.lq_predicate_formula.specs.Query
+pub use Rattle.lq_predicate_formula.specs.Canonical
+pub use Rattle.lq_predicate_formula.specs.Faults
+pub use Rattle.lq_predicate_formula.specs.Reading
 pub use Rattle.lq_predicate_formula.specs.QueryCode
 pub use Rattle.lq_predicate_formula.specs.PredicateLimits
 pub use Rattle.lq_predicate_formula.specs.Truth

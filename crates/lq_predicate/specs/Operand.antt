@@ -1,6 +1,6 @@
 -- The pattern that a text writes, if it writes one.
 use Rattle.std.specs.Prelude.{ℕ, List, Option, Some, None, Result, Ok, Err}
-use Rattle.lq_value_pattern.specs.declared.element.Element.{Element}
+use Rattle.lq_value.specs.Element.{Element}
 use Rattle.lq_value.specs.Source.{pattern_of}
 
 abbrev pub if_ok : Result (List Element) ℕ → Option (List Element)

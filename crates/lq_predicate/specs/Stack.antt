@@ -2,8 +2,8 @@
 use Rattle.std.specs.Prelude.{◌≡◌, ℕ, ◌+◌, ◌^◌, List, [], ◌∷◌, ◌++◌, drop, length, Bool, true, false, nat_le, nat_lt, Option, Some, None, IsSome, Result, Ok, Err, option_and_then, if◌then◌else◌}
 use Rattle.std.specs.Option.{option_map}
 use Rattle.std.specs.Str.{chars}
-use Rattle.lq_value_pattern.specs.declared.element.Element.{Element}
-use Rattle.lq_value_pattern.specs.declared.element.Element.TheVariants.{Star}
+use Rattle.lq_value.specs.Element.{Element}
+use Rattle.lq_value.specs.Element.TheVariants.{Star}
 use Rattle.lq_value.specs.declared.literal.Literal.TheVariants as literal
 use Rattle.lq_value.specs.declared.op.Op.{Op}
 use Rattle.lq_value.specs.declared.op.Op.TheVariants as op

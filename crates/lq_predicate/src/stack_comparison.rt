@@ -4,7 +4,7 @@ ghost use Rattle.std.specs.Str.{chars};
 ghost use Rattle.lq_value.specs.Refusal.{FailsOnlyForMemory};
 ghost use Rattle.lq_value.specs.Compare.{suits};
 ghost use Rattle.lq_value.specs.Pattern.{plain_elements};
-ghost use Rattle.lq_value_pattern.specs.declared.element.Element.{Element};
+ghost use Rattle.lq_value.specs.Element.{Element};
 ghost use Rattle.lq_value.specs.declared.op.Op.TheVariants as op;
 ghost use Rattle.lq_value.specs.declared.literal.Literal.TheVariants as literal;
 ghost use Rattle.lq_predicate_formula.specs.Query.{Compare};

@@ -7,10 +7,10 @@ use Rattle.std.specs.Str.{IsUtf8, chars}
 use Rattle.std.proofs.Math.Utf8.{scalar, scalars}
 use Rattle.std.proofs.lemmas.Bool.{and_parts}
 use Rattle.std.proofs.lemmas.Str.{scalars-chars}
-use Rattle.lq_value_pattern.specs.declared.element.Item.{Item}
-use Rattle.lq_value_pattern.specs.declared.element.Item.TheVariants.{One, Range}
-use Rattle.lq_value_pattern.specs.declared.element.Element.{Element}
-use Rattle.lq_value_pattern.specs.declared.element.Element.TheVariants.{Star, Any, Plain, Set}
+use Rattle.lq_value.specs.Item.{Item}
+use Rattle.lq_value.specs.Item.TheVariants.{One, Range}
+use Rattle.lq_value.specs.Element.{Element}
+use Rattle.lq_value.specs.Element.TheVariants.{Star, Any, Plain, Set}
 use Rattle.lq_value.specs.Laws.{SourcesAreRead}
 use Rattle.lq_value.specs.Sign.{signs, signs_of}
 use Rattle.lq_value.specs.Source.{pattern_of}

@@ -6,10 +6,10 @@ use Rattle.std.specs.Str.{encode_utf8_all}
 use Rattle.std.proofs.Math.Utf8.{scalar, scalars, low_scalar}
 use Rattle.std.proofs.lemmas.Bool.{or_parts}
 use Rattle.std.proofs.lemmas.Str.{chars-encodes}
-use Rattle.lq_value_pattern.specs.declared.element.Item.{Item}
-use Rattle.lq_value_pattern.specs.declared.element.Item.TheVariants.{One, Range}
-use Rattle.lq_value_pattern.specs.declared.element.Element.{Element}
-use Rattle.lq_value_pattern.specs.declared.element.Element.TheVariants.{Star, Any, Plain, Set}
+use Rattle.lq_value.specs.Item.{Item}
+use Rattle.lq_value.specs.Item.TheVariants.{One, Range}
+use Rattle.lq_value.specs.Element.{Element}
+use Rattle.lq_value.specs.Element.TheVariants.{Star, Any, Plain, Set}
 use Rattle.lq_value.specs.Sign.{signs, signs_of}
 use Rattle.lq_value.specs.Written.{AreItems, BeginsNoRange, IsElement, StandsFor, StandsInSet, Writes}
 use Rattle.lq_predicate_formula.specs.Canonical.{element_then, in_set_then, items_then, pattern_text, plain_then}

@@ -2,7 +2,7 @@
 use Rattle.std.proofs.Common.{◌≡◌, ℕ, zero, suc, Bool, true, false, List, [], ◌∷◌, ◌++◌, Some, None, refl, sym, ap, ◌∙◌, subst, inl, inr}
 use Rattle.std.specs.Prelude.{if◌then◌else◌, Result, Ok, Err}
 use Rattle.std.proofs.lemmas.Option.{none-some, same_Some}
-use Rattle.lq_value_pattern.specs.declared.element.Element.{Element}
+use Rattle.lq_value.specs.Element.{Element}
 use Rattle.lq_value.specs.declared.literal.Literal.{Literal}
 use Rattle.lq_value.specs.declared.literal.Literal.TheVariants.{Pattern, Plain}
 use Rattle.lq_value.specs.declared.op.Op.{Op}

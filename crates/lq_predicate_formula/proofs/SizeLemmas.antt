@@ -3,10 +3,10 @@ use Rattle.std.proofs.Common.{◌≡◌, ◌+◌, ◌<◌, ◌≤◌, min, ℕ, 
 use Rattle.std.proofs.lemmas.List.{at_drop_more, at_drop_all, length-append}
 use Rattle.std.proofs.lemmas.Str.{encodes-append}
 use Rattle.std.specs.Str.{encode_utf8_all}
-use Rattle.lq_value_pattern.specs.declared.element.Element.{Element}
-use Rattle.lq_value_pattern.specs.declared.element.Element.TheVariants.{Star, Any, Set}
-use Rattle.lq_value_pattern.specs.declared.element.Element.TheVariants as element
-use Rattle.lq_value_pattern.specs.declared.element.Item.{Item}
+use Rattle.lq_value.specs.Element.{Element}
+use Rattle.lq_value.specs.Element.TheVariants.{Star, Any, Set}
+use Rattle.lq_value.specs.Element.TheVariants as element
+use Rattle.lq_value.specs.Item.{Item}
 use Rattle.lq_value.specs.declared.literal.Literal.{Literal}
 use Rattle.lq_value.specs.declared.op.Op.{Op}
 use Rattle.lq_value.specs.Pattern.{plain_elements}

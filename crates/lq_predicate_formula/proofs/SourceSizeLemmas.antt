@@ -4,11 +4,11 @@ use Rattle.std.specs.Prelude.{Result, Ok, Err, if◌then◌else◌, encode_utf8}
 use Rattle.std.proofs.lemmas.Str.{encode_ascii}
 use Rattle.std.proofs.Math.Dec.{lit<}
 use Rattle.std.specs.Str.{encode_utf8_all, IsUtf8}
-use Rattle.lq_value_pattern.specs.declared.element.Element.{Element}
-use Rattle.lq_value_pattern.specs.declared.element.Element.TheVariants.{Any, Set, Star}
-use Rattle.lq_value_pattern.specs.declared.element.Item.{Item}
-use Rattle.lq_value_pattern.specs.declared.set.FirstItem.{FirstItem}
-use Rattle.lq_value_pattern.specs.declared.set.FirstItem.TheVariants as items
+use Rattle.lq_value.specs.Element.{Element}
+use Rattle.lq_value.specs.Element.TheVariants.{Any, Set, Star}
+use Rattle.lq_value.specs.Item.{Item}
+use Rattle.lq_value.specs.FirstItem.{FirstItem}
+use Rattle.lq_value.specs.FirstItem.TheVariants as items
 use Rattle.lq_value.specs.Reading.{first_item_of}
 use Rattle.lq_value.specs.Laws.{AreWalked, SourcesAreWalked}
 use Rattle.lq_value.specs.Sign.{Signs, signs_of, signs_len}

@@ -2,7 +2,7 @@
 use Rattle.std.proofs.Common.{◌≡◌, ◌≤◌, ◌+◌, ℕ, List, [], ◌∷◌, ◌++◌, Option, Some, None, refl, sym, ap, ◌∙◌, subst, arith}
 use Rattle.std.specs.Prelude.{option_map, Result, Ok, Err}
 use Rattle.std.proofs.lemmas.List.{map-append}
-use Rattle.lq_value_pattern.specs.declared.element.Element.{Element}
+use Rattle.lq_value.specs.Element.{Element}
 use Rattle.lq_value.specs.declared.op.Op.{Op}
 use Rattle.lq_value.specs.declared.op.Op.TheVariants.{Eq, Ne, Lt, Le, Gt, Ge}
 use Rattle.lq_value.specs.Source.{pattern_of}

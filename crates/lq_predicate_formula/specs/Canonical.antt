@@ -2,11 +2,11 @@
 use Rattle.std.specs.Prelude.{ℕ, suc, ◌+◌, max, ◌==◌, ◌||◌, ◌&&◌, nat_le, if◌then◌else◌, Bool, List, [], ◌∷◌, ◌++◌, codes}
 use Rattle.std.specs.List.{list_all}
 use Rattle.std.specs.Str.{encode_utf8_all}
-use Rattle.lq_value_pattern.specs.declared.element.Item.{Item}
-use Rattle.lq_value_pattern.specs.declared.element.Item.TheVariants.{One, Range}
-use Rattle.lq_value_pattern.specs.declared.element.Element.{Element}
-use Rattle.lq_value_pattern.specs.declared.element.Element.TheVariants.{Star, Any, Set}
-use Rattle.lq_value_pattern.specs.declared.element.Element.TheVariants as element
+use Rattle.lq_value.specs.Item.{Item}
+use Rattle.lq_value.specs.Item.TheVariants.{One, Range}
+use Rattle.lq_value.specs.Element.{Element}
+use Rattle.lq_value.specs.Element.TheVariants.{Star, Any, Set}
+use Rattle.lq_value.specs.Element.TheVariants as element
 use Rattle.lq_value.specs.declared.literal.Literal.{Literal}
 use Rattle.lq_value.specs.declared.literal.Literal.TheVariants.{Pattern, Plain}
 use Rattle.lq_value.specs.declared.op.Op.{Op}

@@ -1,4 +1,4 @@
--- Laws on readings.
+-- Laws on readings and on the truth of queries.
 use Rattle.std.specs.Prelude.{◌≡◌, ◌↔◌, ℕ, List, Ok, Err, ◌⊎◌, None, length, true, false}
 use Rattle.lq_predicate_formula.specs.Query.{Query, And, Or, Queries, and_then}
 use Rattle.lq_predicate_formula.specs.Faults.{IsFaulty, Reads}
@@ -6,7 +6,7 @@ use Rattle.lq_predicate_formula.specs.Canonical.{canonical}
 use Rattle.lq_predicate_formula.specs.Limits.{IsGoodPattern, IsProper, IsWithinLimits}
 use Rattle.lq_predicate_formula.specs.Words.{WordsAre}
 use Rattle.lq_predicate_formula.specs.Tokens.{bare, tokens_of}
-use Rattle.lq_value_pattern.specs.declared.element.Element.{Element}
+use Rattle.lq_value.specs.Element.{Element}
 use Rattle.lq_value.specs.Source.{pattern_of}
 use Rattle.std.specs.Str.{IsUtf8, bytes_eq}
 use Rattle.lq_predicate_formula.specs.Reading.{reading_of}

@@ -1,11 +1,11 @@
 -- Which queries a formula can have: those that are read from one.
 use Rattle.std.specs.Prelude.{◌≡◌, ◌≤◌, List, [], ◌∷◌, length, true}
 use Rattle.std.specs.Char.{IsScalar}
-use Rattle.lq_value_pattern.specs.declared.element.Item.{Item}
-use Rattle.lq_value_pattern.specs.declared.element.Item.TheVariants.{One, Range}
-use Rattle.lq_value_pattern.specs.declared.element.Element.{Element}
-use Rattle.lq_value_pattern.specs.declared.element.Element.TheVariants.{Star, Any, Set}
-use Rattle.lq_value_pattern.specs.declared.element.Element.TheVariants as element
+use Rattle.lq_value.specs.Item.{Item}
+use Rattle.lq_value.specs.Item.TheVariants.{One, Range}
+use Rattle.lq_value.specs.Element.{Element}
+use Rattle.lq_value.specs.Element.TheVariants.{Star, Any, Set}
+use Rattle.lq_value.specs.Element.TheVariants as element
 use Rattle.lq_value.specs.declared.literal.Literal.{Literal}
 use Rattle.lq_value.specs.declared.literal.Literal.TheVariants.{Pattern, Plain}
 use Rattle.lq_value.specs.Compare.{suits}

@@ -1,8 +1,8 @@
 -- The sizes in canonical text of names, literals and patterns, where they are read without memory.
 use Rattle.std.specs.Prelude.{◌≡◌, ◌+◌, ℕ, List, [], length, Option, None, Some, Result, Ok, Err}
 use Rattle.std.specs.Str.{IsUtf8, encode_utf8_all}
-use Rattle.lq_value_pattern.specs.declared.element.Element.{Element}
-use Rattle.lq_value_pattern.specs.declared.element.Item.{Item}
+use Rattle.lq_value.specs.Element.{Element}
+use Rattle.lq_value.specs.Item.{Item}
 use Rattle.lq_value.specs.declared.literal.Literal.{Literal}
 use Rattle.lq_value.specs.Sign.{Signs, signs_of}
 use Rattle.lq_value.specs.Source.{First, ends, has, faulty, Pieces, whole, stuck}

@@ -1,8 +1,8 @@
 -- What `lq check` prints.
 use Rattle.std.specs.Prelude.{◌≡◌, ℕ, List}
-use Rattle.lq_predicate_formula.specs.Query.{Query}
-use Rattle.lq_predicate_formula.specs.Faults.{Reads}
-use Rattle.lq_predicate_formula.specs.Canonical.{canonical}
+use Rattle.lq_predicate.specs.Query.{Query}
+use Rattle.lq_predicate.specs.Faults.{Reads}
+use Rattle.lq_predicate.specs.Canonical.{canonical}
 
 -- `written` is the canonical text of the query that `text` reads as
 pub record IsCanonicalOf (text written : List ℕ) : Type 0 where

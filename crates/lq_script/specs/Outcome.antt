@@ -1,6 +1,6 @@
 -- What the program does with its three streams, for what its arguments ask.
 use Rattle.std.specs.Prelude.{◌≡◌, ◌⊎◌, ◌≤◌, ℕ, List, true, Err}
-use Rattle.lq_predicate_formula.specs.Reading.{reading_of}
+use Rattle.lq_predicate.specs.Reading.{reading_of}
 use Rattle.lq_script_lines.specs.Output.{Answered, Stopped}
 use Rattle.lq_script_lines.specs.Outcome.{ReaderLog, WriterLog}
 use Rattle.lq_script_lines.specs.declared.run_fault.RunFault.{RunFault}

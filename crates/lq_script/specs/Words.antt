@@ -5,9 +5,9 @@ use Rattle.std.specs.List.{starts_with}
 use Rattle.std.specs.String.{string_bytes}
 use Rattle.std.specs.Fmt.{decimal}
 use Rattle.std.specs.Io.KnownBytes.{Appends}
-use Rattle.lq_predicate_formula.specs.Query.{Query}
-use Rattle.lq_predicate_formula.specs.Faults.{Reads}
-use Rattle.lq_predicate_formula.specs.Canonical.{canonical}
+use Rattle.lq_predicate.specs.Query.{Query}
+use Rattle.lq_predicate.specs.Faults.{Reads}
+use Rattle.lq_predicate.specs.Canonical.{canonical}
 use Rattle.lq_script_lines.specs.Lines.{Begins}
 use Rattle.lq_script_lines.specs.Output.{Ended, Passed}
 use Rattle.lq_script_lines.specs.declared.run_fault.RunFault.{RunFault}

@@ -2,7 +2,7 @@
 ghost use Rattle.std.specs.Prelude.{IfOk};
 ghost use Rattle.std.specs.String.{string_bytes};
 ghost use Rattle.lq_value.specs.Refusal.{IsRefusedBy};
-ghost use Rattle.lq_predicate_formula.specs.Reading.{reading_of};
+ghost use Rattle.lq_predicate.specs.Reading.{reading_of};
 ghost use Rattle.lq_predicate.specs.Refusals.{refusal_of};
 ghost use Rattle.lq_script.specs.Check.{IsCanonicalOf};
 

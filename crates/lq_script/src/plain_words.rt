@@ -2,7 +2,7 @@
 ghost use Rattle.std.specs.Prelude.{◌≡◌, ◌⊎◌, ◌≤◌, ℕ, List, false, true, Some, Err, IfErr, IfOk, OnErr, OnOk};
 ghost use Rattle.std.specs.Io.KnownBytes.{Appends};
 ghost use Rattle.std.specs.String.{string_bytes};
-ghost use Rattle.lq_predicate_formula.specs.Reading.{reading_of};
+ghost use Rattle.lq_predicate.specs.Reading.{reading_of};
 ghost use Rattle.lq_script_lines.specs.Output.{Answered, Stopped};
 ghost use Rattle.lq_predicate.specs.Refusals.{refusal_of};
 ghost use Rattle.lq_script.specs.Check.{IsCanonicalOf};

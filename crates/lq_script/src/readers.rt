@@ -1,6 +1,6 @@
 //! The readers of the slots.
 use crate::tokens::OwnReader;
-use lq_desk::SLOTS;
+use lq_script_desk::SLOTS;
 use lq_server::Named;
 use lq_value::Refusal;
 use std::alloc::Global;

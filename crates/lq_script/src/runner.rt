@@ -1,10 +1,9 @@
 //! The runner of a script's lines: it carries out each and gathers the replies.
 use crate::gate::Gate;
 use crate::server_session::ServerSession;
-use lq_desk::Event;
 use lq_script_desk::{Response, put_reply};
 use lq_script_lines::{Failed, RunFault, Sink, write_all};
-use lq_script_request::{Question, Scratch, question_in};
+use lq_script_request::{Event, Question, Scratch, question_in};
 use lq_server::Named;
 use lq_value::Refusal;
 use memchr::memchr;

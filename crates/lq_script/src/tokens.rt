@@ -1,10 +1,8 @@
 //! The tokens of one server, a seat of no slot and readers, and what is answered by them.
 use lq_board::Seat;
-use lq_desk::Reply;
 use lq_predicate::Predicate;
-use lq_script_desk::Response;
-use lq_server::{Named, Reader, Server};
-use lq_server_slots::Identity;
+use lq_script_desk::{Reply, Response};
+use lq_server::{Identity, Named, Reader, Server};
 use lq_value::{Entry, Name, Refusal};
 use lq_volume::{Applied, Change};
 use std::alloc::Global;

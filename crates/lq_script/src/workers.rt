@@ -1,6 +1,6 @@
 //! The threads of the slots, which stay over batches.
 use crate::tasks::{Task, Tasks};
-use lq_desk::SLOTS;
+use lq_script_desk::SLOTS;
 use std::alloc::{AllocError, Global};
 use std::hint::spin_loop;
 use std::sync::atomic::{AtomicU64, Ordering};

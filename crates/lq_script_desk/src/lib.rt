@@ -18,6 +18,7 @@ mod script;
 mod session;
 mod text;
 
+pub use lq_desk::{Reply, SLOTS};
 pub use reply::{put_event_reply, put_reply};
 pub use response::Response;
 pub use script::run;

@@ -12,8 +12,8 @@ use Rattle.lq_value.specs.Name.{is_name, is_attr_name}
 use Rattle.lq_value.specs.Value.{text_refusal}
 use Rattle.lq_value.specs.declared.value.Value.{Value}
 use Rattle.lq_value.specs.declared.value.Value.TheVariants.{Text, Int32, Int64, UInt32, UInt64}
-use Rattle.lq_predicate_formula.specs.Query.{Query}
-use Rattle.lq_predicate_formula.specs.Reading.{reading_of}
+use Rattle.lq_predicate.specs.Query.{Query}
+use Rattle.lq_predicate.specs.Reading.{reading_of}
 use Rattle.lq_volume.specs.declared.change.Change.TheVariants.{Create, Remove, Move, Write, SetAttr, RemoveAttr}
 use Rattle.lq_desk_world.specs.declared.event.Event.TheVariants.{Change, Open}
 use Rattle.lq_desk_world.specs.Events.{event_at}

@@ -22,6 +22,7 @@ mod values;
 pub use asking::{question_in, read_request};
 pub use fields::Fields;
 pub use key::Key;
+pub use lq_desk_world::Event;
 pub use question::Question;
 pub use request::Request;
 pub use scratch::Scratch;

@@ -17,7 +17,7 @@ ghost use Rattle.lq_server.specs.Headline.{ReaderIsTold};
 
 use crate::named::{Named, Seat};
 use crate::server::Server;
-use lq_desk::Read;
+use lq_desk_sub::Read;
 use lq_server_slots::{Reading, books_extend_themselves};
 use lq_value::{Entry, Refusal};
 use std::marker::Model;

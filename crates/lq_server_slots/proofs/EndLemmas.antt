@@ -2,7 +2,7 @@
 use Rattle.std.proofs.Common.{◌≡◌, ℕ, ◌+◌, ◌<◌, ◌≤◌, Bool, true, false, true≢false, List, [], ◌∷◌, ◌++◌, length, Option, Some, None, refl, sym, ap, ◌∙◌, subst, arith, append_assoc, length-append}
 use Rattle.std.specs.Prelude.{IfSome, IsSome, nat_lt, is_none, ◌&&◌}
 use Rattle.std.proofs.lemmas.Bool.Decides.{nat_tests}
-use Rattle.lq_predicate_formula.specs.Query.{Query}
+use Rattle.lq_predicate.specs.Query.{Query}
 use Rattle.lq_volume.specs.declared.change.Change.{Change}
 use Rattle.lq_volume.specs.State.{State}
 use Rattle.lq_volume.specs.Book.{Book, Extends, grown, state_of}

@@ -1,6 +1,6 @@
 -- What holds for each book and each new subscription.
 use Rattle.std.specs.Prelude.{◌≡◌, ℕ, ◌≤◌, Bool, [], length}
-use Rattle.lq_predicate_formula.specs.Query.{Query}
+use Rattle.lq_predicate.specs.Query.{Query}
 use Rattle.lq_volume.specs.Book.{Book, Extends, number_of, state_at}
 use Rattle.lq_board.specs.Book.{IsFullBook}
 use Rattle.lq_update.specs.Updates.{updates_of}

@@ -14,3 +14,4 @@ pub mod Progress
 pub mod Changing
 pub mod Closing
 pub mod Shown
+pub use Rattle.lq_desk_world.specs.Events

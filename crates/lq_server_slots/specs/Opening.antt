@@ -5,7 +5,7 @@ use Rattle.atomic_table.specs.Seated.{TableId}
 use Rattle.lq_value.specs.declared.refusal.Refusal.{Refusal}
 use Rattle.lq_value.specs.declared.refusal.Refusal.TheVariants.{NoSlot, Exhausted, NoMemory}
 use Rattle.lq_value.specs.Refusal.{IsRefusedBy, first_refusal}
-use Rattle.lq_predicate_formula.specs.Query.{Query, And, no_more}
+use Rattle.lq_predicate.specs.Query.{Query, And, no_more}
 use Rattle.lq_volume.specs.Book.{Book, state_of}
 use Rattle.lq_volume.specs.Result.{result_of}
 use Rattle.lq_update.specs.Fold.{opened_at}

@@ -1,7 +1,7 @@
 -- What a port of a subscription may hold.
 use Rattle.std.specs.Prelude.{◌≡◌, ℕ, ◌+◌, ◌≤◌, false, List, [], ◌∷◌, ◌++◌, length, Option, Some, None}
 use mathlib.Core.List.{IsPrefix}
-use Rattle.lq_predicate_formula.specs.Query.{Query, And, no_more}
+use Rattle.lq_predicate.specs.Query.{Query, And, no_more}
 use Rattle.lq_volume.specs.Book.{Book, Extends}
 use Rattle.lq_board.specs.Author.{no_register}
 use Rattle.lq_board.specs.Book.{IsFullBook, no_book}

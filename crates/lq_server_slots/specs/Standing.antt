@@ -1,6 +1,6 @@
 -- What the lock knows of a subscription.
 use Rattle.std.specs.Prelude.{◌≡◌, ℕ, ◌+◌, ◌*◌, ◌<◌, ◌≤◌, ◌⊎◌, Bool, true, false, List, [], ◌++◌, length, Option, Some, None, IfSome, IsSome, IsSomeAnd}
-use Rattle.lq_predicate_formula.specs.Query.{Query}
+use Rattle.lq_predicate.specs.Query.{Query}
 use Rattle.lq_volume.specs.State.{State}
 use Rattle.lq_volume.specs.Book.{Book, Extends}
 use Rattle.lq_volume.specs.declared.change.Change.{Change}

@@ -1,6 +1,6 @@
 -- The update list of a query, opaque where only its laws are used.
 use Rattle.std.specs.Prelude.{ℕ, List, Bool}
-use Rattle.lq_predicate_formula.specs.Query.{Query}
+use Rattle.lq_predicate.specs.Query.{Query}
 use Rattle.lq_volume.specs.Book.{Book}
 use Rattle.lq_update.specs.declared.message.Message.{Message}
 use Rattle.lq_update.specs.Updates.{updates_of}

@@ -1,5 +1,5 @@
 //! Of lq_script: scripts by one thread and by more, a formula's text, and the program's words.
-use crate::devices::{Given, Taken};
+use crate::device_calls::{Given, Taken};
 use lq_script::{Gate, Host, OpenGate, RunFault, check, program, run, run_threads};
 use lq_value::Refusal;
 use std::alloc::{AllocError, Global};

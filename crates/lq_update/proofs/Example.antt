@@ -4,7 +4,7 @@ use Rattle.std.specs.Prelude.{codes}
 use Rattle.lq_value.specs.declared.op.Op.TheVariants.{Gt}
 use Rattle.lq_value.specs.declared.literal.Literal.TheVariants.{Plain}
 use Rattle.lq_value.specs.declared.kind.Kind.TheVariants.{File}
-use Rattle.lq_predicate_formula.specs.Query.{Query, Compare}
+use Rattle.lq_predicate.specs.Query.{Query, Compare}
 use Rattle.lq_volume.specs.declared.change.Change.TheVariants.{Create, Remove, Move}
 use Rattle.lq_volume.specs.State.{empty_state}
 use Rattle.lq_volume.specs.Book.{Book}

@@ -2,7 +2,7 @@
 use Rattle.std.proofs.Common.{◌≡◌, ◌≤◌, ℕ, ◌+◌, ◌-◌, Bool, List, [], ◌∷◌, ◌++◌, refl, arith, ap, length, take, drop, length-drop, ◌∙◌, append_assoc, append-nil, sym, inl, inr, zero, suc}
 use Rattle.std.proofs.lemmas.Bool.{cases_lt}
 use Rattle.std.proofs.lemmas.List.{length-append, take_all, take-append-le, take-take, take-append-drop, drop-append-le}
-use Rattle.lq_predicate_formula.specs.Query.{Query}
+use Rattle.lq_predicate.specs.Query.{Query}
 use Rattle.lq_volume.specs.declared.change.Change.{Change}
 use Rattle.lq_volume.specs.State.{State}
 use Rattle.lq_volume.specs.Change.{after}

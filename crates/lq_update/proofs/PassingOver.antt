@@ -12,12 +12,12 @@ use Rattle.lq_value.specs.declared.entry.Entry.{Entry}
 use Rattle.lq_value.specs.declared.field.Field.TheVariants.{Name, Size, LastModified, Attribute}
 use Rattle.lq_value.specs.declared.value.Value.{Value}
 use Rattle.lq_value.specs.Field.{field_of}
-use Rattle.lq_predicate_formula.specs.Query.{Query}
+use Rattle.lq_predicate.specs.Query.{Query}
 use Rattle.lq_predicate.specs.Laws.{BareRowsFail, TruthStaysBesideSpans}
 use Rattle.lq_predicate.specs.Span.{StaysBeside, is_beside, span_of}
 use Rattle.lq_predicate.specs.Truth.{truth}
 use Rattle.lq_volume.specs.declared.change.Change.TheVariants.{Create, Remove, Move, Write, SetAttr, RemoveAttr}
-use Rattle.lq_volume_entries.specs.Laws.{ValuesAreFound}
+use Rattle.lq_volume.specs.AttributeLaws.{ValuesAreFound}
 use Rattle.lq_volume.specs.State.{State, Record, IsVolume, record_at}
 use Rattle.lq_volume.specs.Change.{after, altered, written, set_attr, remove_attr}
 use Rattle.lq_volume.specs.Laws.{ChangesKeepTrees, ClobberedGo, UntouchedStay}

@@ -5,7 +5,7 @@ use Rattle.std.specs.Str.{bytes_eq}
 use mathlib.Core.List.{IsPrefix}
 use Rattle.lq_value.specs.declared.kind.Kind.{Kind}
 use Rattle.lq_value.specs.Refusal.{first_refusal}
-use Rattle.lq_predicate_formula.specs.Query.{Query}
+use Rattle.lq_predicate.specs.Query.{Query}
 use Rattle.lq_predicate.specs.Laws.{GoesBy}
 use Rattle.lq_predicate.specs.Needs.{needs_attribute}
 use Rattle.lq_volume.specs.declared.change.Change.{Change}

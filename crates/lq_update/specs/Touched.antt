@@ -2,7 +2,7 @@
 use Rattle.std.specs.Prelude.{ℕ, Option, Some, None, Bool, true, false, if◌then◌else◌}
 use Rattle.std.specs.Option.{option_map, option_map_or}
 use Rattle.lq_value.specs.declared.entry.Entry.{Entry}
-use Rattle.lq_predicate_formula.specs.Query.{Query}
+use Rattle.lq_predicate.specs.Query.{Query}
 use Rattle.lq_predicate.specs.Truth.{truth}
 use Rattle.lq_volume.specs.State.{State, Record}
 use Rattle.lq_volume.specs.Result.{entry_of, match_at, shown}

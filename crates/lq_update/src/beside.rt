@@ -1,6 +1,6 @@
 //! Writes that stay on one side of all numbers of a query.
 ghost use Rattle.std.specs.Prelude.{◌≡◌, ℕ, Bool, true, []};
-ghost use Rattle.lq_predicate_formula.specs.Query.{Query};
+ghost use Rattle.lq_predicate.specs.Query.{Query};
 ghost use Rattle.lq_predicate.specs.Spans.{spans_of};
 ghost use Rattle.lq_update.specs.Updates.{step_of};
 

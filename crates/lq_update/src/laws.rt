@@ -5,8 +5,8 @@ use crate::difference::changes_touch_few;
 use lq_predicate::bare_rows_fail;
 use lq_volume::{
     accepted_changes_keep_trees, changes_are_counted, clobbered_nodes_go, untouched_nodes_stay,
+    values_are_found,
 };
-use lq_volume_entries::values_are_found;
 
 /// A longer book only appends to an update list: the prefix law.
 pub fn updates_grow()

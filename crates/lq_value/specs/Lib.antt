@@ -11,7 +11,9 @@ pub mod Elements
 pub mod SourceRefusal
 pub mod Compare
 pub use Rattle.lq_value_pattern.specs.Pattern
-pub use Rattle.lq_value_pattern.specs.Element
+pub use Rattle.lq_value_pattern.specs.declared.element.Element
+pub use Rattle.lq_value_pattern.specs.declared.element.Item
+pub use Rattle.lq_value_pattern.specs.declared.set.FirstItem
 pub use Rattle.lq_value_pattern.specs.Sign
 pub use Rattle.lq_value_pattern.specs.Source
 pub use Rattle.lq_value_pattern.specs.Written

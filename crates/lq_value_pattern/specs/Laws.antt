@@ -1,4 +1,4 @@
--- Laws on the sources of patterns.
+-- Laws on the sources of patterns and on when a pattern fits.
 use Rattle.std.specs.Prelude.{◌≡◌, ◌↔◌, ◌<◌, ℕ, List, length, Ok, Err, IsTrue}
 use Rattle.std.specs.Str.{IsUtf8}
 use Rattle.lq_value_pattern.specs.declared.element.Element.{Element}

@@ -11,7 +11,7 @@ use Rattle.lq_value.specs.declared.kind.Kind.TheVariants.{File, Folder}
 use Rattle.lq_volume.specs.declared.change.Change.{Change}
 use Rattle.lq_volume.specs.declared.change.Change.TheVariants.{Create, Remove, Move, Write, SetAttr, RemoveAttr}
 use Rattle.lq_volume_entries.specs.Attributes.{Attributes, HasOwnNames, with_attr, without_attr}
-use Rattle.lq_volume_entries.specs.Laws.{NamesStayApart}
+use Rattle.lq_volume_entries.specs.AttributeLaws.{NamesStayApart}
 use Rattle.lq_volume_entries.specs.Kind.{is_folder}
 use Rattle.lq_volume.specs.State.{State, Record, root, record_at, kind_at, is_folder_at, dir_of, reaches, node_in, has_entries, IsTree, IsVolume}
 use Rattle.lq_volume.specs.Change.{refused, refusals, after, node_of, record_left, at_place, written, set_attr, remove_attr, with_attrs, changed, altered, without, other_at, other_than, is_other}

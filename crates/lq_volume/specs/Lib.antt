@@ -8,5 +8,6 @@ pub mod Result
 pub mod Book
 pub mod Laws
 pub use Rattle.lq_volume_entries.specs.Attributes
+pub use Rattle.lq_volume_entries.specs.AttributeLaws
 pub use Rattle.lq_volume_entries.specs.Kind
 pub use Rattle.lq_volume_entries.specs.Folder

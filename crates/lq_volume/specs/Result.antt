@@ -2,7 +2,7 @@
 use Rattle.std.specs.Prelude.{ℕ, pos, List, Option, Some, None, option_and_then, map, filter, codes, if◌then◌else◌}
 use Rattle.std.specs.Option.{option_map}
 use Rattle.std.specs.Str.{bytes_eq}
-use Rattle.lq_predicate_formula.specs.Query.{Query}
+use Rattle.lq_predicate.specs.Query.{Query}
 use Rattle.lq_value.specs.Held.{Held, Words, Number}
 use Rattle.lq_predicate.specs.Truth.{truth}
 use Rattle.lq_value.specs.declared.entry.Entry.{Entry}

@@ -21,5 +21,6 @@ pub use entry_view::EntryView;
 pub use laws::{
     accepted_changes_keep_trees, changes_are_counted, clobbered_nodes_go, untouched_nodes_stay,
 };
+pub use lq_volume_entries::values_are_found;
 pub use planned::Planned;
 pub use volume::{MAX_CHANGES, Volume};

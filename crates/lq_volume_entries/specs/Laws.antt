@@ -5,9 +5,6 @@ use Rattle.std.specs.Map.{lookup, values_of}
 use Rattle.std.specs.Option.{option_map}
 use Rattle.lq_volume_entries.specs.Edits.{altered}
 use Rattle.lq_volume_entries.specs.Record.{Record, Rises, node_in}
-use Rattle.std.specs.Str.{bytes_eq}
-use Rattle.lq_value.specs.declared.value.Value.{Value}
-use Rattle.lq_volume_entries.specs.Attributes.{Attributes, HasOwnNames, value_of, with_attr, without_attr}
 
 -- what is found of a node
 pub record RecordsAreFound : Type 0 where
@@ -53,19 +50,3 @@ pub record RecordsAreKept : Type 0 where
   pub found : RecordsAreFound
   pub rise : NodesRise
   pub places : PlacesAreFound
-
--- no name comes twice after one is set or removed
-pub record NamesStayApart : Type 0 where
-  pub set : (attrs : Attributes) (attr : List ℕ) (value : Value) → HasOwnNames attrs
-      → HasOwnNames (with_attr attrs attr value)
-  pub removed : (attrs : Attributes) (attr : List ℕ) → HasOwnNames attrs
-      → HasOwnNames (without_attr attrs attr)
-
--- what is found under a name after one is set or removed
-pub record ValuesAreFound : Type 0 where
-  pub set : (attrs : Attributes) (attr name : List ℕ) (value : Value)
-      → value_of (with_attr attrs attr value) name
-      ≡ (if bytes_eq name attr then Some value else value_of attrs name)
-  pub removed : (attrs : Attributes) (attr name : List ℕ)
-      → value_of (without_attr attrs attr) name
-      ≡ (if bytes_eq name attr then None else value_of attrs name)

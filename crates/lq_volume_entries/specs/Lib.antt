@@ -1,5 +1,5 @@
 pub mod Attributes
-pub mod Laws
+pub mod AttributeLaws
 pub mod Places
 pub mod Kind
 pub mod Record
@@ -8,3 +8,4 @@ pub mod Order
 pub mod PlaceIndex
 pub mod Folder
 pub mod NodeHash
+pub mod Laws

@@ -1,6 +1,6 @@
-//! A law of records: the contract of a function with no body.
+//! Laws of records and of attributes: each is the contract of a function with no body.
+ghost use Rattle.lq_volume_entries.specs.AttributeLaws.{NamesStayApart, ValuesAreFound};
 ghost use Rattle.lq_volume_entries.specs.Laws.{RecordsAreKept};
-ghost use Rattle.lq_volume_entries.specs.Laws.{NamesStayApart, ValuesAreFound};
 
 /// What edits of the records keep: nodes that rise, and what is found under a node and at a place.
 pub fn records_are_kept()

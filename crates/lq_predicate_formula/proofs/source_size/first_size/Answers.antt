@@ -1,5 +1,5 @@
 use Rattle.std.proofs.Common.{arith, subst, sym}
-use Rattle.lq_value_pattern.specs.declared.element.Element.TheVariants.{Any, Plain, Star}
+use Rattle.lq_value.specs.Element.TheVariants.{Any, Plain, Star}
 use Rattle.lq_predicate_formula.specs.Sizes.{IsSized}
 use Rattle.lq_predicate_formula.proofs.SourceSizeLemmas.{any_bytes, star_bytes}
 use Rattle.lq_predicate_formula.proofs.source_size.first_size.Goals as goal

@@ -3,7 +3,7 @@ use Rattle.std.specs.Prelude.{IsSome, IfSome, IfOk, Err}
 use Rattle.std.proofs.lemmas.Result.{IfOk-weaker}
 use Rattle.lq_value.specs.declared.refusal.Refusal.{Refusal}
 use Rattle.lq_value.specs.Refusal.{IsRefusedBy}
-use Rattle.lq_predicate_formula.specs.Query.{Query}
+use Rattle.lq_predicate.specs.Query.{Query}
 use Rattle.lq_server_slots.specs.declared.subscription.Subscription.{Subscription}
 use Rattle.lq_server_slots.specs.Slots.{is_full, slot_in}
 use Rattle.lq_server_slots.specs.declared.open.Opened.{Opened}
