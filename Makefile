@@ -22,7 +22,7 @@ CRATE = $(if $(C),crates/$(C),$(error C=CRATE is missing, as in make $@ C=lq_des
 .PHONY: all try check test edits scenario scenarios gate fmt bench docs library install install-program install-library
 
 all:
-	LQ_BUILD=$(or $(LQ_BUILD),always) ./lq run < /dev/null
+	$(if $(filter never,$(LQ_BUILD)),./lq run < /dev/null,tools/build)
 try:
 	./try $(S) $(W)
 check:
