@@ -1,0 +1,122 @@
+"""Live mail folders over a Maildir in which mail comes and goes: what they show is what Python's mailbox finds. And the
+tutorial's pieces are the program's."""
+import mailbox, os, re, subprocess, sys, tempfile, threading, time, unittest
+
+sys.dont_write_bytecode = True
+HERE = os.path.dirname(os.path.dirname(os.path.realpath(__file__)))
+sys.path[:0] = [HERE]
+
+from live_mail import Folder, Mirror
+from maildir import Mail
+from yazgoulm import Volume
+
+TUTORIAL = f"{HERE}/../../docs/TUTORIAL.md"
+MESSAGES, ACTS, SECONDS = 3000, 600, 30
+LAST = "name==the-last-*"
+FORMULAS = {  # what each folder has, by the flags, the sender and the size of a message
+    "MAIL:status==New": lambda flags, sender, size: "S" not in flags,
+    'MAIL:from=="*<ann@*"': lambda flags, sender, size: "<ann@" in sender,
+    "size>20000 && MAIL:status==New": lambda flags, sender, size: size > 20000 and "S" not in flags,
+}
+
+
+def wanted(maildir, test):
+    """The subjects of the messages that a folder has to show, by the standard library's mailbox."""
+    box, found = mailbox.Maildir(maildir, create=False), set()
+    for key in box.keys():
+        message = box[key]
+        size = os.path.getsize(os.path.join(maildir, box._lookup(key)))
+        if test(message.get_flags(), message["from"], size):
+            found.add(message["subject"])
+    return found
+
+
+class LiveMail(unittest.TestCase):
+    def setUp(self):
+        room = tempfile.TemporaryDirectory(prefix="live-mail-")
+        self.addCleanup(room.cleanup)
+        self.mail = Mail(f"{room.name}/mail", seed=7)
+        for _ in range(MESSAGES):
+            self.mail.deliver()
+
+    def assert_shows(self, shown):
+        for formula, test in FORMULAS.items():
+            self.assertEqual(set(shown[formula]), wanted(self.mail.maildir, test), formula)
+            self.assertEqual(len(shown[formula]), len(set(shown[formula])), formula)
+
+    def acts(self):
+        for _ in range(ACTS):
+            self.mail.act()
+            time.sleep(0.001)
+        self.last(1)
+
+    def last(self, number):
+        with open(f"{self.mail.maildir}/new/the-last-{number}", "w", encoding="ascii") as file:
+            file.write(f"From: x <x@example.org>\nSubject: the last {number}\n\n")
+
+    def test_folders_follow_while_mail_comes_and_goes(self):
+        """The program runs beside the acts, and its lines alone make what it shows. The last message but one comes
+        after all acts, and the last one after that was shown, so the look that finds it has seen every act."""
+        words = [f"{HERE}/live_mail.py", self.mail.maildir, *FORMULAS, LAST]
+        shown = {formula: [] for formula in words[2:]}
+        acts = threading.Thread(target=self.acts)
+        with subprocess.Popen(words, stdout=subprocess.PIPE, text=True) as live:
+            timer = threading.Timer(SECONDS, live.kill)
+            timer.start()
+            for line in live.stdout:
+                formula, told = line.rstrip("\n").split("\t")
+                if not acts.ident:
+                    acts.start()
+                if told.startswith("-"):
+                    shown[formula].remove(told[2:])
+                else:
+                    shown[formula].append(told[2:])
+                if (formula, told) == (LAST, "+ the last 1"):
+                    self.last(2)
+                if (formula, told) == (LAST, "+ the last 2"):
+                    break
+            timer.cancel()
+            live.kill()
+        acts.join()
+        self.assert_shows(shown)
+
+    def test_a_folder_is_rebuilt_after_an_overrun(self):
+        with Volume() as volume:
+            mirror = Mirror(volume, self.mail.maildir)
+            mirror.look()
+            folders = {formula: Folder(volume, formula, backlog=8) for formula in FORMULAS}
+            rows = {formula: set(folder.rows.values()) for formula, folder in folders.items()}
+            ends = 0
+            for number in range(ACTS):
+                self.mail.act()
+                if number % 200 == 199:
+                    mirror.look()
+                    opened = {formula: folder.query for formula, folder in folders.items()}
+                    for formula, folder in folders.items():
+                        for sign, subject in folder.follow():
+                            (rows[formula].add if sign == "+" else rows[formula].remove)(subject)
+                        ends += folder.query is not opened[formula]
+                    self.assert_shows({formula: [*folder.rows.values()] for formula, folder in folders.items()})
+            self.assertGreater(ends, 0)
+            self.assert_shows(rows)
+
+    def test_a_formula_that_cannot_be_read_is_said(self):
+        words = [f"{HERE}/live_mail.py", self.mail.maildir, "MAIL:status="]
+        done = subprocess.run(words, capture_output=True, text=True, timeout=SECONDS)
+        self.assertEqual((done.returncode, done.stdout), (2, ""))
+        self.assertEqual(done.stderr, "live_mail: BadQuery at 12\n")
+
+
+class Tutorial(unittest.TestCase):
+    def test_it_has_the_program_s_classes(self):
+        with open(f"{HERE}/live_mail.py", encoding="utf-8") as file:
+            parts = re.findall(r"(?ms)^(?:class|def) (?!main).*?(?=^\S)", file.read())
+        with open(TUTORIAL, encoding="utf-8") as file:
+            tutorial = file.read()
+        self.assertEqual(len(parts), 3)
+        for part in parts:
+            self.assertIn(part.strip(), tutorial)
+
+
+if __name__ == "__main__":
+    unittest.main()
