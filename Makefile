@@ -42,7 +42,7 @@ fmt:
 bench:
 	bench/run
 docs:
-	tools/crate-table --write && bench/plots
+	tools/crate-table --write && tools/test-figures --write && bench/plots
 library:
 	tools/library
 install: install-program install-library
