@@ -1,4 +1,5 @@
 /* Yazgoulm, a live query server in the manner of the Be file system, in the caller's own process.
+ * Version 0.1.0.
  *
  * A handle holds one volume, its live queries and their ports. Each call is one act: it starts no
  * thread, takes no lock, waits for nothing and prints nothing. Nodes, folders, sizes in bytes,
@@ -11,13 +12,13 @@
  * NUL is added.
  *
  * Statuses. A call that can be refused answers a status: LQ_OK, or why it was refused. A refused
- * call leaves its `out` as it was, and changes nothing in the volume and its live queries; the
- * rest of a change's turn stands, as it does in a script: subscriptions whose end was asked for
- * end, and ports are filled. The first fault that fits is answered, in this order: LQ_NOT_UTF8;
- * LQ_BAD_LINE for a number that names no kind or operator; LQ_BAD_NAME, LQ_TOO_LONG for the text
- * of a value, LQ_BAD_QUERY; then those of the act itself, as listed at each call. LQ_NO_MEMORY, in
- * place of LQ_OK or before them, comes from the calls that say so; after it, too, everything is as
- * it was. lq_answer is the one exception, and says so.
+ * call leaves its `out` as it was, and changes nothing in the volume and its live queries. Two
+ * things happen all the same, as in a script: a query that was asked to hang up ends, and waiting
+ * messages move into the ports. The first fault that fits is answered, in this order: LQ_NOT_UTF8;
+ * LQ_BAD_LINE for a number that names no kind or operator; LQ_BAD_NAME; LQ_TOO_LONG for the text
+ * of a value; LQ_BAD_QUERY; then those of the act itself, as listed at each call. A call that says
+ * so may answer LQ_NO_MEMORY in place of LQ_OK, or before any of those refusals is found; then
+ * everything is as it was too. lq_answer is the one exception, and says so.
  *
  * What a caller owes, and nothing tests:
  * - Each pointer points to memory of its type, aligned, that lives through the call and that no

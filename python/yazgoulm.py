@@ -6,12 +6,14 @@
             print(message)
 
 A volume and its queries are used on the thread that made them. A call that is refused raises Refused and changes
-nothing. Numbers are whole; one that has no place in its type is refused with ValueError. YAZGOULM_LIBRARY in the
-environment names the shared library. Without it, it is looked for beside this file, as `make install` and a clone have
-it, and then as the system does."""
+nothing. Numbers are whole; one that doesn't fit its type raises ValueError, and a float ctypes.ArgumentError.
+YAZGOULM_LIBRARY in the environment names the shared library. Without it the module looks beside this file, where a
+clone and `make install` have it, and then asks the system."""
 import ctypes, ctypes.util, enum, os, threading
 from ctypes import POINTER, Structure, byref, c_bool, c_char_p, c_int32, c_int64, c_size_t, c_uint8, c_uint32, c_uint64
 from typing import Iterable, List, NamedTuple, Optional, Union
+
+__version__ = "0.1.0"
 
 ROOT = 1
 FILE, FOLDER = "file", "folder"
@@ -235,7 +237,7 @@ def _load() -> ctypes.CDLL:
     beside = [f"{here}/liblq.so", f"{here}/../liblq.so", f"{here}/../crates/lq_c/out/liblq.so"]
     found = named or next(filter(os.path.exists, beside), None) or ctypes.util.find_library("lq")
     if not found:
-        raise ImportError("liblq.so is not there: build it by tools/library, or name it by YAZGOULM_LIBRARY")
+        raise ImportError("no liblq.so was found: build it with tools/library, or set YAZGOULM_LIBRARY to its path")
     try:
         library = ctypes.CDLL(found)
         for name, takes in _STATUS.items():
@@ -263,13 +265,13 @@ def _text(array, size: int) -> str:
 
 def _natural(number: int, bits: int = 64) -> int:
     if not 0 <= number < 1 << bits:
-        raise ValueError(f"{number} is no whole number of {bits} bits without a sign")
+        raise ValueError(f"{number} doesn't fit an unsigned whole number of {bits} bits")
     return number
 
 
 def _whole(number: int, bits: int = 64) -> int:
     if not -1 << (bits - 1) <= number < 1 << (bits - 1):
-        raise ValueError(f"{number} is no whole number of {bits} bits")
+        raise ValueError(f"{number} doesn't fit a signed whole number of {bits} bits")
     return number
 
 
