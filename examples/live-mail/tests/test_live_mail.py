@@ -110,10 +110,10 @@ class LiveMail(unittest.TestCase):
 class Tutorial(unittest.TestCase):
     def test_it_has_the_program_s_classes(self):
         with open(f"{HERE}/live_mail.py", encoding="utf-8") as file:
-            parts = re.findall(r"(?ms)^(?:class|def) (?!main).*?(?=^\S)", file.read())
+            parts = re.findall(r"(?ms)^class .*?(?=^\S)", file.read())
         with open(TUTORIAL, encoding="utf-8") as file:
             tutorial = file.read()
-        self.assertEqual(len(parts), 3)
+        self.assertEqual(len(parts), 2)
         for part in parts:
             self.assertIn(part.strip(), tutorial)
 
