@@ -20,15 +20,13 @@ FORMULAS = {  # what each folder has, by the flags, the sender and the size of a
 }
 
 
-def wanted(maildir, test):
-    """The subjects of the messages that a folder has to show, by the standard library's mailbox."""
-    box, found = mailbox.Maildir(maildir, create=False), set()
+def messages(maildir):
+    """Of each message its flags, its sender, its size and its subject, by the standard library's mailbox."""
+    box = mailbox.Maildir(maildir, create=False)
     for key in box.keys():
         message = box[key]
         size = os.path.getsize(os.path.join(maildir, box._lookup(key)))
-        if test(message.get_flags(), message["from"], size):
-            found.add(message["subject"])
-    return found
+        yield message.get_flags(), message["from"], size, message["subject"]
 
 
 class LiveMail(unittest.TestCase):
@@ -40,9 +38,10 @@ class LiveMail(unittest.TestCase):
             self.mail.deliver()
 
     def assert_shows(self, shown):
+        found = [*messages(self.mail.maildir)]
         for formula, test in FORMULAS.items():
-            self.assertEqual(set(shown[formula]), wanted(self.mail.maildir, test), formula)
-            self.assertEqual(len(shown[formula]), len(set(shown[formula])), formula)
+            wanted = [subject for *facts, subject in found if test(*facts)]
+            self.assertEqual(sorted(shown[formula]), sorted(wanted), formula)
 
     def acts(self):
         for _ in range(ACTS):
