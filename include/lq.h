@@ -24,7 +24,7 @@
  * - Each pointer points to memory of its type, aligned, that lives through the call and that no
  *   other argument of the call overlaps; it is not null, for a text of length 0 too (lq_close
  *   alone takes null).
- * - Each length is that of the memory at its pointer, and at most 2^63 - 1.
+ * - Each length is the length of the memory at its pointer, and at most 2^63 - 1.
  * - Each handle was opened by lq_open with LQ_OK and wasn't closed since (lq_open and lq_close take
  *   others too). Of two copies of one handle, one alone is used: closing it ends both.
  * - A `bool` is 0 or 1.
