@@ -11,7 +11,7 @@ from maildir import Mail
 from yazgoulm import Volume
 
 TUTORIAL = f"{HERE}/../../docs/TUTORIAL.md"
-MESSAGES, ACTS, SECONDS = 3000, 600, 30
+MESSAGES, ACTS, SECONDS = 3000, 600, 120
 LAST = "name==the-last-*"
 FORMULAS = {  # what each folder has, by the flags, the sender and the size of a message
     "MAIL:status==New": lambda flags, sender, size: "S" not in flags,
