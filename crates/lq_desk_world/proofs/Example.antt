@@ -168,8 +168,17 @@ moved_saves_backlog = refl
 not_opened_before : ReadersAreTold (empty_state 10) (create ∷ Open every 1 1 false ∷ [])
     (Changed (record { change = 1; node = 2 }) ∷ Opened 1 0 [] ∷ []) → ⊥
 not_opened_before told =
-    let opening = told.readers (create ∷ []) []
+    let opening = told.readers 2 (create ∷ []) []
     (Changed (record { change = 1; node = 2 }) ∷ []) [] every 1 1 false 1 0 [] refl refl refl in
     let at : ℕ = 0 in
     let number : at ≡ 1 = opening.0.number in
     omega arith
+
+-- no reader is told an update before its change is accepted, though the whole run's list has it
+not_told_before : ReadersAreTold (empty_state 10) (Open every 1 1 false ∷ read ∷ create ∷ [])
+    (Opened 1 0 [] ∷ Took (Update created) ∷ Changed (record { change = 1; node = 2 }) ∷ []) → ⊥
+not_told_before told =
+    let opening = told.readers 2 [] (read ∷ []) [] (Took (Update created) ∷ [])
+    every 1 1 false 1 0 [] refl refl refl in
+    let early : created ∷ opening.1.prefix.0 ≡ [] = opening.1.prefix.1 in
+    let no : ⊥ = cc in no

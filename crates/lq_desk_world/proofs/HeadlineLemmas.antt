@@ -52,6 +52,26 @@ run_parts w (e ∷ before) events (a ∷ befores) answers end same run =
     let rest = run_parts run.0 before events befores answers end (omega arith) run.2 in
     (rest.0, (run.0, run.1, rest.1), rest.2)
 
+-- a run has one answer for each event
+run-count : (w : World) (events : List Event) (answers : List Answer) (end : World)
+    → Run w events answers end → length events ≡ length answers
+run-count w [] [] end run = refl
+run-count w [] (a ∷ answers) end run = absurd run
+run-count w (e ∷ events) [] end run = absurd run
+run-count w (e ∷ events) (a ∷ answers) end run =
+    omega (arith, run-count run.0 events answers end run.2)
+
+-- the first events of a run are a run
+run-take : (k : ℕ) (w : World) (events : List Event) (answers : List Answer) (end : World)
+    → Run w events answers end → (mid : World) × Run w (take k events) (take k answers) mid
+run-take zero w events answers end run = (w, refl)
+run-take (suc k) w [] [] end run = (w, refl)
+run-take (suc k) w [] (a ∷ answers) end run = absurd run
+run-take (suc k) w (e ∷ events) [] end run = absurd run
+run-take (suc k) w (e ∷ events) (a ∷ answers) end run =
+    let rest = run-take k run.0 events answers end run.2 in
+    (rest.0, (run.0, run.1, rest.1))
+
 -- ---- an opening that was answered as one
 
 -- at a place within a list stands what was set there
@@ -223,6 +243,9 @@ module _ (join : UpdatesJoin) (grow : UpdatesGrow) (count : ChangesCount) (fold 
   pub headline : (w end : World) (events : List Event) (answers : List Answer)
       → Run w events answers end → ReadersAreTold (state_of w.book) events answers
   headline w end events answers run = record {
+    count = run-count w events answers end run;
     book = run-lawful w end events answers run;
-    readers = openings-told w end events answers run;
+    readers = λ k.
+        let first = run-take k w events answers end run in
+        openings-told w first.0 (take k events) (take k answers) first.1;
   }

@@ -1,5 +1,5 @@
 -- What the events and answers of a run say about each subscription that they open.
-use Rattle.std.specs.Prelude.{◌≡◌, ℕ, ◌+◌, ◌≤◌, List, [], ◌∷◌, ◌++◌, length, Bool, false, ◌==◌, if◌then◌else◌}
+use Rattle.std.specs.Prelude.{◌≡◌, ℕ, ◌+◌, ◌≤◌, List, [], ◌∷◌, ◌++◌, length, take, Bool, false, ◌==◌, if◌then◌else◌}
 use Rattle.std.specs.List.{AllByRecursion}
 use Rattle.lq_value.specs.declared.entry.Entry.{Entry}
 use Rattle.lq_predicate.specs.Query.{Query}
@@ -111,9 +111,11 @@ OpeningsAreTold s events answers =
     → IsOpening (book_of s before befores) q at first
     × AreReads (book_of s events answers) q moved at first (reads_of slot after afters)
 
--- The accepted changes of a run are a book: each is lawful after those before it. Over this book
--- the readers of each subscription get its update list.
+-- Each event of a run has one answer. The accepted changes of the run are a book: each is lawful
+-- after those before it. At every moment, over the changes accepted by then, the readers of each
+-- subscription got its update list; the moment after the last event is one of them.
 pub record ReadersAreTold (s : State) (events : List Event) (answers : List Answer)
     : Type 0 where
+  pub count : length events ≡ length answers
   pub book : IsBook (book_of s events answers)
-  pub readers : OpeningsAreTold s events answers
+  pub readers : (k : ℕ) → OpeningsAreTold s (take k events) (take k answers)
