@@ -1,6 +1,9 @@
 -- Read in this order. Compact texts: FrontLemmas, EscapeLemmas. Replies: PieceLemmas. Whole runs:
--- ScriptLemmas.
+-- ScriptLemmas, and what they tell readers: HistoryLemmas, FoldLemmas, TellLemmas.
 pub mod FrontLemmas
 pub mod EscapeLemmas
 pub mod PieceLemmas
 pub mod ScriptLemmas
+pub mod HistoryLemmas
+pub mod FoldLemmas
+pub mod TellLemmas

@@ -10,3 +10,4 @@ pub mod Answered
 pub mod Script
 pub mod Keeps
 pub mod Turned
+pub mod History

@@ -4,10 +4,11 @@
 //! compact text of its data (`specs/Reply`), with LF. The code makes no such data: it appends the
 //! text piece by piece (`pieces`, `text`) to a buffer (`specs/Front`). They see a session as its
 //! desk's state and the result read from each slot (`specs/Folds`), and a script's output as the
-//! texts of a world's answers to its lines (`specs/Script`). Nothing here waits. Begin with
-//! `response` and `reply`, then `session` and `script`.
+//! texts of a world's answers to its lines (`specs/Script`). `specs/History` ties the lines to the
+//! headline. Nothing here waits. Begin with `response` and `reply`, then `session` and `script`.
 #![tactic(auto)]
 
+mod laws;
 mod listing;
 mod message;
 mod pieces;
@@ -18,6 +19,7 @@ mod script;
 mod session;
 mod text;
 
+pub use laws::scripts_tell_readers;
 pub use lq_desk::{Reply, SLOTS};
 pub use reply::{put_event_reply, put_reply};
 pub use response::Response;

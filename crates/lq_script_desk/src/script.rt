@@ -2,7 +2,9 @@
 ghost use Rattle.std.specs.Prelude.{◌≡◌, false};
 ghost use Rattle.lq_script_lines.specs.Outcome.{IsRunOutcome, reader_log, writer_log};
 ghost use Rattle.lq_script_desk.specs.Script.{script_session, world_rules};
+ghost use Rattle.lq_script_desk.specs.History.{TellsReaders};
 
+use crate::laws::scripts_tell_readers;
 use crate::rebuilds::no_rebuilds;
 use crate::session::Session;
 use lq_desk::{Desk, kept_turns_show_worlds};
@@ -29,9 +31,17 @@ pub fn run<R: Source, W: Sink>(
         (reader_log (R.left reader.old) (R.left reader.new) (R.failed reader.new))
         (writer_log (W.written writer.old) (W.written writer.new)
         (W.failed writer.new) (W.stalled writer.new) (W.flushed writer.new)) }
+
+    // The headline, from bytes to bytes.
+    ensures readers { TellsReaders result
+        (reader_log (R.left reader.old) (R.left reader.new) (R.failed reader.new))
+        (writer_log (W.written writer.old) (W.written writer.new)
+        (W.failed writer.new) (W.stalled writer.new) (W.flushed writer.new)) }
 {
-    // Called for what it proves: a desk answers each turn as the world that it shows.
+    // Two calls for what they prove: a desk answers each turn as the world that it shows, and a
+    // script tells its readers what the headline says.
     kept_turns_show_worlds();
+    scripts_tell_readers();
     let Ok(desk) = Desk::new(alloc, Volume::new(alloc, MAX_CHANGES)) else {
         return Err(out_of_memory(writer));
     };

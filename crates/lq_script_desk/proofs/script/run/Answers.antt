@@ -13,6 +13,7 @@ use Rattle.lq_script_lines.specs.declared.run_fault.RunFault.TheVariants.{Limit,
 use Rattle.lq_script_desk.specs.Session.{session_with}
 use Rattle.lq_script_desk.specs.Script.{script_session, script_world, world_rules}
 use Rattle.lq_script_desk.proofs.ScriptLemmas.{Alike, outcome-world}
+use Rattle.lq_script_desk.proofs.TellLemmas.{run-tells}
 use Rattle.lq_script_desk.proofs.script.run.Goals as goal
 
 -- what keeps its bytes appends none
@@ -48,17 +49,21 @@ no_memory rules state left written written' fails failed stalled flushed result 
     }
 
 pub returns-in_default : goal.returns-in_default
-returns-in_default g c = record {
-  outcome = no_memory world_rules script_session _ _ _ _ _ _ _ _
-      (ap Err c.out_of_memory.ensures.fault) c.out_of_memory.ensures.bytes
-      c.out_of_memory.ensures.flushed;
-}
+returns-in_default g c =
+    let outcome = no_memory world_rules script_session _ _ _ _ _ _ _ _
+    (ap Err c.out_of_memory.ensures.fault) c.out_of_memory.ensures.bytes
+    c.out_of_memory.ensures.flushed in record {
+      outcome = outcome;
+      readers = run-tells c.scripts_tell_readers.ensures _ _ _ outcome;
+    }
 
 pub returns-in_default-no_rebuilds : goal.returns-in_default-no_rebuilds
 returns-in_default-no_rebuilds g c =
-    let says = c.out_of_memory-in_default-no_rebuilds.ensures in record {
-      outcome = no_memory world_rules script_session _ _ _ _ _ _ _ _
-          (ap Err says.fault) says.bytes says.flushed;
+    let says = c.out_of_memory-in_default-no_rebuilds.ensures in
+    let outcome = no_memory world_rules script_session _ _ _ _ _ _ _ _
+    (ap Err says.fault) says.bytes says.flushed in record {
+      outcome = outcome;
+      readers = run-tells c.scripts_tell_readers.ensures _ _ _ outcome;
     }
 
 pub returns : goal.returns
@@ -70,7 +75,9 @@ returns g c =
     let alike : Alike session script_session = record {
       core = rw c.new-session.ensures.desk desk;
       folds = c.new-session.ensures.rebuilds ∙ c.in-Ok-no_rebuilds.ensures.none;
-    } in record {
-      outcome = outcome-world c.kept_turns_show_worlds.ensures session script_session alike
-          _ _ _ c.run_lines.ensures.outcome;
+    } in
+    let outcome = outcome-world c.kept_turns_show_worlds.ensures session script_session alike
+    _ _ _ c.run_lines.ensures.outcome in record {
+      outcome = outcome;
+      readers = run-tells c.scripts_tell_readers.ensures _ _ _ outcome;
     }
