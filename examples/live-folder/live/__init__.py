@@ -5,6 +5,7 @@
     inotify   which names changed
     mirror    keeps the entries of lq the same as the folder on disk
     server    talks to `lq run`: changes, and windows with a live query each
+    stream    sends changes to a relay, in place of lq
     check     compares lq with the disk
     terminal  shows one window as lines of text
     web       shows many windows as a page: page.html, page.css, page.js

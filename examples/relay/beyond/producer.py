@@ -1,0 +1,105 @@
+"""Appends changes to the log, each once, and has their replies. `load` sends a tree of files."""
+import json, os, stat, time, uuid
+
+from . import ENDED, Trouble
+from .engine import SECONDS, Gone
+
+LINES = 1000  # lines that are sent before their replies are awaited
+ROOT = 1
+
+
+class Producer:
+    """An entry of the log has its line, and `by`: a word of this producer's alone, and the line's number."""
+
+    def __init__(self, log):
+        self.log, self.me, self.sent = log, uuid.uuid4().hex[:12], 0
+
+    def change(self, **fields):
+        """Sends one change. Returns its reply."""
+        return self.send([json.dumps(fields).encode()])[0]
+
+    def send(self, lines):
+        """Sends lines in order, and waits for their replies. Each is appended once, also where the engine goes away and
+        nobody knows what it has: then this looks which of them stand in the log."""
+        replies = []
+        for at in range(0, len(lines), LINES):
+            part = lines[at : at + LINES]
+            records = {f"{self.me}-{self.sent + number}".encode(): line for number, line in enumerate(part)}
+            self.sent += len(part)
+            replies += self.sent_once(records)
+        return replies
+
+    def sent_once(self, records):
+        """Appends these records, by their `by`, and returns their replies."""
+        start = self.log.wait_for(lambda: (self.log.end("changes"), self.log.end("replies")))
+        places = {}
+        while True:
+            try:
+                missing = [by for by in records if by not in places]
+                found = self.log.append("changes", [{"by": by, "line": records[by]} for by in missing])
+                places.update(zip(missing, found))
+                return self.replies(start[1], [places[by] for by in records])
+            except Gone:
+                places = self.log.wait_for(lambda: self.places(start[0], records))
+
+    def places(self, position, records):
+        """The positions of those of these records that stand in the log after a position."""
+        places = {}
+        while found := self.log.read({"changes": position}, LINES):
+            for position, record in found["changes"]:
+                if record.get(b"by") in records:
+                    places[record[b"by"]] = position
+        return places
+
+    def replies(self, position, places):
+        """The replies to the entries at these places, in their order."""
+        replies, end = {}, time.monotonic() + SECONDS
+        while len(replies) < len(places):
+            for position, record in self.log.read({"replies": position}, LINES, 1).get("replies", ()):
+                if record[b"of"] in places:
+                    replies[record[b"of"]] = json.loads(record[b"reply"])
+                    end = time.monotonic() + SECONDS
+            if time.monotonic() > end:
+                raise Trouble(f"no relay answers for {self.log.name}", ENDED)
+        return [replies[place] for place in places]
+
+
+def load(producer, folder, say):
+    """Sends all that is in a folder, level by level, since an entry needs the node of its folder. Returns the count."""
+    level, count = [(folder, ROOT)], 0
+    while level:
+        found = [(path, line) for folder, dir in level for path, line in lines_of(folder, dir, say)]
+        replies = producer.send([json.dumps(line).encode() for _, line in found])
+        level = []
+        for (path, line), reply in zip(found, replies):
+            if "error" in reply:
+                say(f"refused: {path!r}: {reply['error']}")
+                continue
+            count += 1
+            if line.get("kind") == "folder":
+                level.append((path, reply["node"]))
+    return count
+
+
+def lines_of(folder, dir, say):
+    """The path of each entry of a folder, and the line that creates it under the folder's node."""
+    try:
+        entries = sorted(os.scandir(folder), key=lambda it: it.name)
+    except OSError as error:
+        return say(f"not read: {folder!r}: {error.strerror}") or []
+    lines = []
+    for it in entries:
+        try:
+            lines.append((it.path, line_of(it, dir)))
+        except (OSError, UnicodeEncodeError) as error:
+            say(f"left out: {it.path!r}: {error}")
+    return lines
+
+
+def line_of(entry, dir):
+    entry.name.encode()  # a name that is not UTF-8 has none
+    found = entry.stat(follow_symlinks=False)
+    fields = {"do": "create", "dir": dir, "name": entry.name}
+    if stat.S_ISDIR(found.st_mode):
+        return {**fields, "kind": "folder"}
+    return {**fields, "size": found.st_size, "time": int(found.st_mtime)}

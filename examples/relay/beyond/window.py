@@ -1,0 +1,66 @@
+"""A live query, and the records that its clients read: openings, messages, and the mark."""
+import json
+
+from . import ENDED, Trouble
+
+CHANGES = 250  # changes of a turn; each sends a window at most three messages
+BACKLOG = 3 * CHANGES
+
+
+def to_json(fields):
+    return json.dumps(fields, separators=(",", ":"), sort_keys=True, ensure_ascii=False).encode()
+
+
+class Window:
+    """The query of one formula, and the names of those who asked for it. It was opened after `opened` entries of the
+    log of changes. `seq` is the number of its last message, and `latest` that message as it was written.
+
+    A volume that was restored counts its changes from another number, and its query counts messages from 1: `shift` and
+    `seq` are added. After `far` messages since the last opening a new one is written, so that the older may go."""
+
+    def __init__(self, volume, number, formula, opened, shift, far, seq=0, latest=None):
+        self.number, self.formula, self.opened, self.names = number, formula, opened, []
+        self.query = volume.query(formula, backlog=BACKLOG, moved=True)
+        self.shift, self.base, self.seq, self.latest = shift, seq, seq, latest
+        self.change = self.query.at + shift
+        self.far = self.since = far
+
+    @property
+    def stream(self):
+        return f"window:{self.number}"
+
+    def read(self):
+        """The records of what has come, with an opening at the end where the last one is far back."""
+        records = [self.record(message) for message in self.query]
+        if self.query.mark:
+            raise Trouble(f"the query {self.formula} has ended: {self.query.mark.cause}", ENDED)
+        self.since += len(records)
+        if records and self.since >= self.far:
+            records.append(self.opening())
+        return records
+
+    def record(self, message):
+        fields = {name: value for name, value in message._asdict().items() if value is not None}
+        self.seq = fields["seq"] = message.seq + self.base
+        self.change = fields["change"] = message.change + self.shift
+        self.latest = to_json({**fields, "what": "B_QUERY_UPDATE"})
+        return {"message": self.latest}
+
+    def opening(self):
+        """The result as the messages so far make it, which is settled after all changes of a turn."""
+        self.since = 0
+        return {"opening": to_json({"change": self.change, "seq": self.seq, "result": self.query.result().entries})}
+
+    def end(self, change):
+        """Ends the query. Returns its mark."""
+        self.query.close()
+        mark = {"what": "END", "cause": "closed", "change": change, "seq": self.seq + 1}
+        return {"mark": to_json(mark)}
+
+    def compare(self, log):
+        """Raises Trouble where the stream's last message isn't the one that this window wrote last."""
+        written = (record[b"message"] for _, record in log.backwards(self.stream) if b"message" in record)
+        found = next(written, None)
+        if found != self.latest:
+            where = log.key(self.stream)
+            raise Trouble(f"{where} differs from the changes: {found!r} is there, not {self.latest!r}", ENDED)

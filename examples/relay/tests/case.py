@@ -1,0 +1,140 @@
+"""What the tests of the relay share: a Redis of their own, a relay in this process or in another, and drawn changes."""
+import json, os, random, shutil, socket, subprocess, sys, tempfile, unittest, zlib
+
+sys.dont_write_bytecode = True
+HERE = os.path.dirname(os.path.dirname(os.path.realpath(__file__)))
+RELAY = os.path.join(HERE, "relay")
+sys.path += [HERE, os.path.join(HERE, "../../python")]
+
+from yazgoulm import Volume
+
+from beyond.engine import START, Log
+
+SECONDS = 30  # the longest wait for something that has to come
+LOCK = 0.2  # seconds that a relay's lock stands
+
+
+class Redis:
+    """A redis-server on a free port of 127.0.0.1, with a folder of its own."""
+
+    def __init__(self, room, fsync="always"):
+        with socket.socket() as free:
+            free.bind(("127.0.0.1", 0))
+            self.port = free.getsockname()[1]
+        self.room, self.fsync, self.url = room, fsync, f"redis://127.0.0.1:{self.port}"
+        self.start()
+
+    def start(self):
+        os.makedirs(self.room, exist_ok=True)
+        words = ["--port", str(self.port), "--bind", "127.0.0.1", "--dir", self.room, "--save", "",
+                 "--appendonly", "yes", "--appendfsync", self.fsync]
+        self.process = subprocess.Popen(["redis-server", *words], stdout=subprocess.DEVNULL)
+        log = Log(self.url, "none")
+        log.wait_for(log.state)
+
+    def kill(self):
+        self.process.kill()
+        self.process.wait()
+
+
+class Case(unittest.TestCase):
+    def setUp(self):
+        self.room = tempfile.mkdtemp(prefix="relay-")
+        self.addCleanup(shutil.rmtree, self.room, True)
+        self.redis = Redis(os.path.join(self.room, "redis"))
+        self.addCleanup(lambda: self.redis.kill())
+        self.log = self.new_log()
+
+    def new_log(self, name="t", **words):
+        return Log(self.redis.url, name, **{"lock": LOCK, **words})
+
+    def start(self, *words):
+        """A program that is ended with the test."""
+        process = subprocess.Popen(words, stdout=subprocess.PIPE, stderr=subprocess.PIPE, text=True)
+
+        def end():
+            process.kill()
+            process.communicate()
+
+        self.addCleanup(end)
+        return process
+
+    def serve(self, *words, name="t"):
+        """A relay that serves."""
+        relay = self.start(RELAY, "serve", "--redis", self.redis.url, name, "--lock", str(LOCK), *words)
+        self.assertIn(f"serves {name} from change", relay.stdout.readline(), relay)
+        return relay
+
+    def run_relay(self, act, *words):
+        """The status of the command, its standard output and its standard error."""
+        words = [RELAY, act, "--redis", self.redis.url, *words]
+        done = subprocess.run(words, capture_output=True, timeout=SECONDS, text=True)
+        return done.returncode, done.stdout, done.stderr
+
+    def send(self, lines):
+        """Appends lines, and doesn't wait. Returns their positions."""
+        return self.log.append("changes", [{"line": line} for line in lines])
+
+    def records(self, stream, log=None):
+        """All records of a stream, with their positions."""
+        return (log or self.log).read({stream: START}, 1_000_000).get(stream, [])
+
+    def messages(self, window, log=None):
+        return [record[b"message"] for _, record in self.records(f"window:{window}", log) if b"message" in record]
+
+
+class Reference:
+    """A volume that carries out the same lines, with the rows of each formula after each change that is asked for."""
+
+    def __init__(self):
+        self.volume = Volume()
+
+    def answer(self, line):
+        return json.loads(self.volume.answer(line))
+
+    def rows(self, formula):
+        return {it.node: (it.dir, it.name) for it in self.volume.fetch(formula)}
+
+
+def settle(relay):
+    """Lets a relay of this process take all that is there."""
+    log = relay.log
+    while (log.end("changes"), log.end("windows")) != (relay.applied, relay.asked):
+        relay.turn()
+
+
+def digest(rows):
+    return zlib.crc32(repr(sorted(rows.items())).encode())
+
+
+def formulas(count):
+    """Formulas of several kinds, all different."""
+    kinds = ["name==*.{0}&&size>{1}", "name=={2}*", "size>{1}&&size<{3}", "MAIL:status==New&&size!={1}", "name==*{4}.*"]
+    for number in range(count):
+        kind, each = number % len(kinds), number // len(kinds)
+        yield kinds[kind].format("txt" if each % 2 else "jpg", 100 * each, "abcdefghij"[each % 10] * (1 + each // 10),
+                                 100 * each + 300, each)
+
+
+def drawn(count, seed):
+    """Lines of changes on a tree that grows slowly. Some are refused."""
+    draw, created = random.Random(seed), 1
+    for number in range(count):
+        node, dir = draw.randint(max(2, created - 200), created + 1), draw.choice([1, 1, *range(2, 6)])
+        name = f"{draw.choice('abcdefghij')}{draw.randrange(200)}.{draw.choice(['txt', 'jpg'])}"
+        act = draw.random()
+        if number < 4:
+            line = {"do": "create", "name": f"d{number}", "kind": "folder"}
+        elif act < 0.4:
+            line = {"do": "create", "dir": dir, "name": name, "size": draw.randrange(1000)}
+        elif act < 0.55:
+            line = {"do": "remove", "node": node}
+        elif act < 0.75:
+            line = {"do": "move", "node": node, "dir": dir, "name": name, "clobber": draw.random() < 0.5}
+        elif act < 0.9:
+            line = {"do": "write", "node": node, "size": draw.randrange(1000)}
+        else:
+            status = {"attr": "MAIL:status", "type": "CSTR", "value": draw.choice(["New", "Read"])}
+            line = {"do": "set", "node": node, **status}
+        created += line["do"] == "create"
+        yield json.dumps(line).encode()
