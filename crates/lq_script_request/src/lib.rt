@@ -12,7 +12,7 @@ mod asking;
 mod field;
 mod fields;
 mod key;
-mod number;
+mod member;
 mod plain;
 mod question;
 mod request;
