@@ -14,6 +14,7 @@ from beyond.snapshot import listing
 
 MOVED = b'{"do":"create","name":"a.txt"}', b'{"do":"move","node":2,"name":"b.txt"}', b'{"do":"remove","node":2}'
 EVERY = 1_000_000_000  # changes between two snapshots, where none is wanted
+LONG = 1.5  # seconds that a lock stands where it has to be kept, also on a busy machine
 
 
 class Refusals(Case):
@@ -135,8 +136,8 @@ class Deaths(Case):
 
 class Locks(Case):
     def test_the_second_relay_says_so(self):
-        self.serve()
-        status, out, error = self.run_relay("serve", "t", "--lock", str(LOCK))
+        self.serve("--lock", str(LONG))
+        status, out, error = self.run_relay("serve", "t", "--lock", str(LONG))
         self.assertEqual((status, out, error), (2, "", "relay: another relay serves t\n"))
 
     def test_a_relay_that_was_taken_over_writes_nothing(self):
@@ -162,9 +163,9 @@ class Locks(Case):
             old.turn()
 
     def test_a_lock_is_kept_while_nothing_comes(self):
-        relay, other = Relay(self.new_log(), EVERY), self.new_log()
+        relay, other = Relay(self.new_log(lock=LONG), EVERY), self.new_log()
         relay.begin()
-        for _ in range(12):
+        for _ in range(6):
             relay.turn()
             self.assertIsNotNone(other.redis.get("t:lock"))
 
