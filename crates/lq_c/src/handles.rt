@@ -5,7 +5,9 @@ ghost use Rattle.lq_script_desk.specs.Script.{kept_rules};
 ghost use Rattle.lq_embed.specs.Outs.{written};
 ghost use Rattle.lq_embed.specs.State.{volume_in, with_session, with_text};
 ghost use Rattle.lq_embed.specs.Status.{name_of_status};
-ghost use Rattle.lq_c.specs.Held.{held};
+ghost use Rattle.lq_script_desk.specs.History.{question_of};
+ghost use Rattle.lq_script_desk.specs.SessionHistory.{LineKeepsHistory};
+ghost use Rattle.lq_c.specs.Held.{held, line_result};
 
 use crate::handle::{Lq, Opaque};
 use crate::served::Served;
@@ -67,6 +69,8 @@ pub extern "C" fn lq_answer(handle: &mut Lq, line: &[u8], size: &mut usize) -> u
         ≡ state_after kept_rules (held handle.old).session (line_of line.now) }
     ensures size { result ≡ 0 → size.new ≡ length (held handle.new).text }
     ensures status { (result ≡ 0) ⊎ ((result ≡ 15) × (size.new ≡ size.old)) }
+    ensures history { LineKeepsHistory (held handle.old).session.core
+        (held handle.new).session.core (line_result result) (question_of (line_of line.now)) }
     ensures beside { held handle.new
         ≡ with_text (with_session (held handle.old) (held handle.new).session)
         (held handle.new).text }

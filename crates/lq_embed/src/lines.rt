@@ -3,6 +3,8 @@ ghost use Rattle.std.specs.Prelude.{◌≡◌, IfErr, OnOk};
 ghost use Rattle.lq_value.specs.declared.refusal.Refusal.TheVariants.{NoMemory};
 ghost use Rattle.lq_script_lines.specs.Lines.{line_of, reply_to, state_after, without_cr};
 ghost use Rattle.lq_script_desk.specs.Script.{kept_rules};
+ghost use Rattle.lq_script_desk.specs.History.{question_of};
+ghost use Rattle.lq_script_desk.specs.SessionHistory.{LineKeepsHistory};
 ghost use Rattle.lq_embed.specs.State.{holds, with_session, with_text};
 
 use crate::embedded::Embedded;
@@ -25,6 +27,8 @@ impl Embedded {
         ensures after { OnOk result ((holds self.new).session
             ≡ state_after kept_rules (holds self.old).session (line_of line.now)) }
         ensures memory { IfErr result (λ e. e ≡ NoMemory) }
+        ensures history { LineKeepsHistory (holds self.old).session.core
+            (holds self.new).session.core result (question_of (line_of line.now)) }
         ensures beside { holds self.new
             ≡ with_text (with_session (holds self.old) (holds self.new).session)
             (holds self.new).text }

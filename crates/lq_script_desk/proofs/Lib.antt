@@ -1,5 +1,6 @@
 -- Read in this order. Compact texts: FrontLemmas, EscapeLemmas. Replies: PieceLemmas. Whole runs:
--- ScriptLemmas, and what they tell readers: HistoryLemmas, FoldLemmas, TellLemmas.
+-- ScriptLemmas, and what they tell readers: HistoryLemmas, FoldLemmas, TellLemmas;
+-- of a session SessionLemmas.
 pub mod FrontLemmas
 pub mod EscapeLemmas
 pub mod PieceLemmas
@@ -7,3 +8,4 @@ pub mod ScriptLemmas
 pub mod HistoryLemmas
 pub mod FoldLemmas
 pub mod TellLemmas
+pub mod SessionLemmas

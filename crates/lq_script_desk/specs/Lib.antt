@@ -9,5 +9,6 @@ pub mod Session
 pub mod Answered
 pub mod Script
 pub mod Keeps
+pub mod SessionHistory
 pub mod Turned
 pub mod History

@@ -1,7 +1,9 @@
-//! The law of scripts: the contract of a function that does nothing.
+//! The laws of scripts and of sessions: each is the contract of a function that does nothing.
 ghost use Rattle.lq_script_desk.specs.History.{ScriptsTellReaders};
+ghost use Rattle.lq_script_desk.specs.Keeps.{first_kept};
+ghost use Rattle.lq_script_desk.specs.SessionHistory.{SessionsTell};
 
-use lq_desk_world::readers_are_told;
+use lq_desk_world::{first_worlds_are_fair, readers_are_told};
 use lq_update::{foldings_follow, rebuilds_take_all};
 
 /// The turns of a script's lines, joined, and the answers to their events are a run of the first
@@ -15,4 +17,15 @@ pub fn scripts_tell_readers()
     readers_are_told();
     rebuilds_take_all();
     foldings_follow();
+}
+
+/// The first session has the empty history, and of every history of a session the headline is true.
+///
+/// Each call of a session goes on from its history (`specs/SessionHistory`), lines and typed calls
+/// alike. So what was read of a slot since its opening is as the headline says, at every moment.
+pub fn sessions_tell_readers()
+    ensures { SessionsTell first_kept.core }
+{
+    first_worlds_are_fair();
+    readers_are_told();
 }

@@ -11,6 +11,8 @@ ghost use Rattle.lq_script_desk.specs.Answered.{found_in, answered_event, rebuil
 ghost use Rattle.lq_script_desk.specs.Folds.{fold_at};
 ghost use Rattle.lq_script_desk.specs.Session.{session_with};
 ghost use Rattle.lq_script_desk.specs.Script.{kept_volume};
+ghost use Rattle.lq_script_desk.specs.SessionHistory.{KeepsHistory};
+ghost use Rattle.lq_desk_world.specs.Events.{Answer};
 
 mod typed;
 
@@ -71,6 +73,8 @@ impl Session {
             (kept_turn_outcome self.old.desk event.now)).1) }
         ensures err { OnErr result (Begins out.new.items out.old.items) }
         ensures memory { IfErr result (λ e. e ≡ NoMemory) }
+        ensures history { (a : Answer) × KeepsHistory self.old.desk self.new.desk event.now a
+            × OnOk result (a ≡ (kept_turn_outcome self.old.desk event.now).0) }
     {
         // Two calls for what they prove: a result rises by node, and the desk's volume is a tree.
         results_rise();
@@ -181,6 +185,9 @@ impl Responder for Session {
     ghost use Rattle.lq_desk.specs.Kept.{Kept};
     ghost use Rattle.lq_script_desk.specs.Session as spec;
     ghost use Rattle.lq_script_desk.specs.Script.{kept_rules};
+    ghost use Rattle.lq_script_desk.specs.History.{question_read};
+    ghost use Rattle.lq_script_desk.specs.SessionHistory.{LineKeepsHistory};
+    ghost use Rattle.lq_script_request.specs.Request.{question_in};
 
     ghost State = { spec.Session Kept };
 
@@ -188,7 +195,17 @@ impl Responder for Session {
 
     ghost rules = { kept_rules };
 
-    fn respond(&mut self, line: &[u8], out: &mut Vec<u8>) -> Result<(), Refusal> {
+    // The trait's clauses, and the history.
+    fn respond(&mut self, line: &[u8], out: &mut Vec<u8>) -> Result<(), Refusal>
+        ensures ok { OnOk result (out.new.items ≡ out.old.items ++ kept_rules.reply
+            (session_with self.old.desk self.old.rebuilds.items) line.now) }
+        ensures after { OnOk result (session_with self.new.desk self.new.rebuilds.items
+            ≡ kept_rules.after (session_with self.old.desk self.old.rebuilds.items) line.now) }
+        ensures err { OnErr result (Begins out.new.items out.old.items) }
+        ensures memory { IfErr result (λ e. e ≡ NoMemory) }
+        ensures history { LineKeepsHistory self.old.desk self.new.desk result
+            (question_read (question_in line.now)) }
+    {
         match question_in(self.alloc, &mut self.scratch, line) {
             Ok(question) => match &question {
                 Question::Event(event) => self.carry_out(event, out),

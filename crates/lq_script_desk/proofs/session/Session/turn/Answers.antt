@@ -1,0 +1,11 @@
+use Rattle.std.proofs.Common.{rules}
+use Rattle.lq_script_desk.proofs.SessionLemmas.{turn-history}
+use Rattle.lq_script_desk.proofs.session.Session.turn.Goals as goal
+
+pub returns : goal.returns
+returns c = record {
+  step = c.turn-reply.ensures.kept;
+  outcome = c.turn-reply.ensures.outcome;
+  folds = search rules;
+  history = turn-history _ _ _ _ c.turn-reply.ensures.run;
+}
