@@ -248,7 +248,8 @@ typedef struct lq_message {
 
 /* Takes the oldest message from a slot's port, after the port was filled from the messages held.
  * LQ_NOT_OPEN: the slot is free. It never answers LQ_NO_MEMORY, and loses no message: where memory
- * runs out for the slot's rebuilt result, the slot is left without that alone (lq_result). */
+ * runs out for the slot's rebuilt result, the slot is left without that alone (lq_result). It is
+ * proved that the reads of a slot, from its opening on, give each message once and in order. */
 uint32_t lq_read(lq *handle, uint64_t slot, lq_message *out);
 
 /* Asks for the end of a slot's subscription, as its reader does; the next change, read or lq_end
