@@ -2,11 +2,11 @@
 //! one thread or by several.
 //!
 //! Contracts see the program's arguments as texts (`specs/Words`), and a script's output as the
-//! texts of a world's answers to its lines (`specs/Script` of lq_script_desk). `run_threads` carries
-//! out each line by the public calls of a server, and a run of `read` lines as a batch, with a
-//! thread for each slot, which stays until the slot is finished; its output is the output of one
-//! thread, as tests show, and contracts say that each call is safe. It may wait. Begin with `words`,
-//! then `threads`, `runner`, `server_session`, `batch` and `workers`.
+//! texts of a world's answers to its lines (`specs/Script` of lq_script_desk). `run_threads` makes
+//! a server's public calls, a line at a time, and does a run of `read` lines as a batch, with a
+//! thread for each slot. Contracts say that each of these calls is safe, and tests that its output
+//! is that of `run`; it may wait. `thiserror` derives the display texts of `RunFault`. Begin with
+//! `words`, then `threads`, `runner`, `server_session`, `batch` and `workers`.
 #![tactic(auto)]
 
 mod batch;

@@ -14,8 +14,8 @@ use Rattle.lq_script_request.specs.declared.question.Question.{Question}
 use Rattle.lq_script_request.specs.declared.question.Question.TheVariants as question
 use Rattle.lq_script_desk.specs.Script.{script_world}
 
--- These events and the answers to them are a history of the desk: a run of them leads from the first
--- world of a script to a world that the desk shows.
+-- These events and the answers to them are a history of the desk: a run of them leads from the
+-- first world of a script to a world that the desk shows.
 pub record IsHistory (k : Kept) (events : List Event) (answers : List Answer) : Type 0 where
   pub world : World
   pub run : Run script_world events answers world
@@ -37,8 +37,8 @@ KeepsHistory old new e a =
     (events : List Event) (answers : List Answer) → IsHistory old events answers
     → GoesOn old new e a events answers
 
--- What a line that asks this does to the history: its event, if it asks for one, has its turn, whose
--- answer is the one that the reply tells; a line that was refused for want of memory may leave the
+-- What a line that asks this does to the history. Its event, if it asks for one, has its turn, and
+-- the reply tells the answer of that turn. A line that was refused for want of memory may leave the
 -- desk as it was. Any other line leaves it.
 abbrev pub LineKeepsHistory : Kept → Kept → Result (Unit {0}) Refusal → Option Question → Type 0
 LineKeepsHistory old new result (Some (question.Event e)) =
