@@ -7,9 +7,9 @@ use Rattle.std.specs.Bool.{nat_eq}
 use Rattle.std.specs.Cmp.Lexicographic.{same_text}
 use Rattle.std.specs.Fmt.{signed_decimal}
 use Rattle.std.specs.List.{starts_with}
-use Rattle.json.specs.Lex.{between, lex, string_token, token}
+use Rattle.json.specs.Lex.{between, colon, comma, lex, string_token, token}
 use Rattle.json.specs.Print.{escape}
-use Rattle.json.specs.Token.{bad, boolean, number}
+use Rattle.json.specs.Token.{bad, begin_object, boolean, end_object, number}
 use Rattle.json.specs.Word.{ends_word, is_operator, is_space, word}
 use Rattle.json.proofs.Printed.Decimals.{IsNumber-decimal, IsNumber-signed_decimal}
 use Rattle.json.proofs.Printed.Numbers.{in_word-ended, lex-number}
@@ -132,6 +132,27 @@ pub false-lexed : (rest : List ℕ) → ends_word rest ≡ true
 unfolding lex word
 false-lexed rest ended =
     ap₂ (λ b l. token (cond b (boolean false) bad) ∷ l) ended (in_word-ended rest ended)
+
+-- the marks between values
+pub brace-lexed : (text : List ℕ) (at : ℕ) → at < length text → get_or text at 0 ≡ 123
+    → lexemes text at ≡ token begin_object ∷ lexemes text (at + 1)
+unfolding lex
+brace-lexed text at within is = ap (lex between) (rest-at text at 123 within is)
+
+pub end-lexed : (text : List ℕ) (at : ℕ) → at < length text → get_or text at 0 ≡ 125
+    → lexemes text at ≡ token end_object ∷ lexemes text (at + 1)
+unfolding lex
+end-lexed text at within is = ap (lex between) (rest-at text at 125 within is)
+
+pub colon-lexed : (text : List ℕ) (at : ℕ) → at < length text → get_or text at 0 ≡ 58
+    → lexemes text at ≡ colon ∷ lexemes text (at + 1)
+unfolding lex
+colon-lexed text at within is = ap (lex between) (rest-at text at 58 within is)
+
+pub comma-lexed : (text : List ℕ) (at : ℕ) → at < length text → get_or text at 0 ≡ 44
+    → lexemes text at ≡ comma ∷ lexemes text (at + 1)
+unfolding lex
+comma-lexed text at within is = ap (lex between) (rest-at text at 44 within is)
 
 -- nothing is left at the end
 pub end-of-text : (text : List ℕ) (at : ℕ) → length text ≤ at → lexemes text at ≡ []

@@ -16,7 +16,7 @@ use Rattle.lq_script_request.specs.Fields.{Show, updated}
 use Rattle.lq_script_request.specs.Shown.{data_in}
 use Rattle.lq_script_request.specs.Members.{IsMember, IsPastSpace, IsText, IsValue, Reads, lexemes}
 use Rattle.lq_script_request.proofs.FieldsLemmas.{Show-put}
-use Rattle.lq_script_request.proofs.LexLemmas.{false-lexed, negative-lexed, rest-at, true-lexed, whole-lexed}
+use Rattle.lq_script_request.proofs.LexLemmas.{brace-lexed, colon-lexed, comma-lexed, end-lexed, false-lexed, negative-lexed, rest-at, true-lexed, whole-lexed}
 use Rattle.lq_script_request.proofs.ReadingLemmas.{converted-object, member_read, members_over, whole_read}
 
 -- a text is a value by itself
@@ -132,15 +132,10 @@ Stops text at = (begins_colon (lexemes text at) ≡ false) × (ends_word (drop a
 
 stops : (text : List ℕ) (at : ℕ) → at < length text
     → (get_or text at 0 ≡ 44) ⊎ (get_or text at 0 ≡ 125) → Stops text at
-unfolding lex
-stops text at within (inl e) = (
-  ap (λ l. begins_colon (lex between l)) (rest-at text at 44 within e),
-  ap ends_word (rest-at text at 44 within e),
-)
-stops text at within (inr e) = (
-  ap (λ l. begins_colon (lex between l)) (rest-at text at 125 within e),
-  ap ends_word (rest-at text at 125 within e),
-)
+stops text at within (inl e) =
+    (ap begins_colon (comma-lexed text at within e), ap ends_word (rest-at text at 44 within e))
+stops text at within (inr e) =
+    (ap begins_colon (end-lexed text at within e), ap ends_word (rest-at text at 125 within e))
 
 -- a member, of its parts
 pub IsMember-parts : (text : List ℕ) (from key_end colon start value_end end : ℕ)
@@ -151,12 +146,11 @@ pub IsMember-parts : (text : List ℕ) (from key_end colon start value_end end :
     → IsPastSpace text value_end end
     → end < length text → (get_or text end 0 ≡ 44) ⊎ (get_or text end 0 ≡ 125)
     → IsMember text from old (updated k f old) end
-unfolding lex
 IsMember-parts text from key_end at start value_end end k f old name gap within is gap2 value gap3 inside next =
     let s = stops text end inside next in
     let lexed : lexemes text from ≡ token (spec.string k) ∷ colon ∷ token value.token ∷ lexemes text end =
     name.lexed ∙ ap (λ ls. token (spec.string k) ∷ ls)
-    (gap.lexed ∙ ap (lex between) (rest-at text at 58 within is)
+    (gap.lexed ∙ colon-lexed text at within is
     ∙ ap (λ ls. colon ∷ ls) (gap2.lexed ∙ value.lexed (gap3.ends s.1)
     ∙ ap (λ ls. token value.token ∷ ls) gap3.lexed)) in
     record {
@@ -193,9 +187,9 @@ pub record AreRead (text : List ℕ) (fields : Fields) (at : ℕ) : Type 0 where
 pub opened : (text : List ℕ) (brace from : ℕ) → IsPastSpace text 0 brace → brace < length text
     → get_or text brace 0 ≡ 123 → IsPastSpace text (brace + 1) from
     → tokens text ≡ spec.begin_object ∷ punctuate fresh (lexemes text from)
-unfolding lex punctuate
+unfolding punctuate
 opened text brace from before within is gap =
-    ap (punctuate fresh) (before.lexed ∙ ap (lex between) (rest-at text brace 123 within is)
+    ap (punctuate fresh) (before.lexed ∙ brace-lexed text brace within is
     ∙ ap (λ ls. token spec.begin_object ∷ ls) gap.lexed)
 
 -- after the first member
@@ -227,10 +221,10 @@ AreRead-first text from end old new begins none member =
 pub AreRead-more : (text : List ℕ) (at from end : ℕ) (old new : Fields) → AreRead text old at
     → get_or text at 0 ≡ 44 → IsPastSpace text (at + 1) from → IsMember text from old new end
     → AreRead text new end
-unfolding lex punctuate
+unfolding punctuate
 AreRead-more text at from end old new before is gap member =
     let step : rest text at ≡ spec.key member.key ∷ member.token ∷ rest text end =
-    ap (punctuate after_value) (ap (lex between) (rest-at text at 44 before.within is)
+    ap (punctuate after_value) (comma-lexed text at before.within is
     ∙ ap (λ ls. comma ∷ ls) gap.lexed) ∙ member.placed after_comma refl in
     let some : length (rest text at) ≡ length (rest text end) + 2 = omega (arith, ap length step) in
     record {
@@ -259,10 +253,10 @@ other x (inr e) not = e
 pub AreRead-all : (text : List ℕ) (at : ℕ) (fields : Fields) (were : AreRead text fields at)
     → (get_or text at 0 ≡ 44 → ⊥) → lexemes text (at + 1) ≡ []
     → read text ≡ Some (object were.found)
-unfolding lex punctuate
+unfolding punctuate
 AreRead-all text at fields were not none =
     let closed : rest text at ≡ spec.end_object ∷ [] =
-    ap (punctuate after_value) (ap (lex between) (rest-at text at 125 were.within (other _ were.next not))
+    ap (punctuate after_value) (end-lexed text at were.within (other _ were.next not)
     ∙ ap (λ ls. token spec.end_object ∷ ls) none) in
     let ended = members_over (value 126) were.found were.turns (spec.end_object ∷ []) []
     (omega (arith, were.enough, ap length closed)) refl in

@@ -45,27 +45,29 @@ pub(crate) fn value_at<'a>(text: &'a str, at: usize) -> Option<(Field<'a>, usize
     requires { at ≤ length text.now }
     ensures { IfSome result (λ r. IsValue text.now at r.0 r.1) }
 {
-    let bytes = text.as_bytes();
-    match byte_at(bytes, at) {
-        b'"' => {
-            let (value, end) = text_at(text, at)?;
-            Some((Field::Text(value), end))
-        }
-        b'-' => negative_at(bytes, at),
-        b't' if begins_at(bytes, at, b"true") => Some((Field::True, at + 4)),
-        b'f' if begins_at(bytes, at, b"false") => Some((Field::False, at + 5)),
-        _ => {
-            let (number, end) = whole_at(bytes, at)?;
-            Some((Field::Whole(number), end))
-        }
+    match byte_at(text.as_bytes(), at) {
+        b'"' => text_value(text, at),
+        b'-' => negative_value(text, at),
+        b't' => true_value(text, at),
+        b'f' => false_value(text, at),
+        _ => whole_value(text, at),
     }
+}
+
+#[inline(always)]
+fn text_value<'a>(text: &'a str, at: usize) -> Option<(Field<'a>, usize)>
+    ensures { IfSome result (λ r. IsValue text.now at r.0 r.1) }
+{
+    let (value, end) = text_at(text, at)?;
+    Some((Field::Text(value), end))
 }
 
 // A whole number below 0; `-0` is none.
 #[inline(always)]
-fn negative_at<'a>(bytes: &[u8], at: usize) -> Option<(Field<'a>, usize)>
-    ensures { IfSome result (λ r. IsValue bytes.now at r.0 r.1) }
+fn negative_value<'a>(text: &'a str, at: usize) -> Option<(Field<'a>, usize)>
+    ensures { IfSome result (λ r. IsValue text.now at r.0 r.1) }
 {
+    let bytes = text.as_bytes();
     if byte_at(bytes, at) != b'-' {
         return None;
     }
@@ -74,6 +76,37 @@ fn negative_at<'a>(bytes: &[u8], at: usize) -> Option<(Field<'a>, usize)>
         return None;
     }
     Some((Field::Number(Number::from(-(number as i64))), end))
+}
+
+#[inline(always)]
+fn true_value<'a>(text: &'a str, at: usize) -> Option<(Field<'a>, usize)>
+    requires { at ≤ length text.now }
+    ensures { IfSome result (λ r. IsValue text.now at r.0 r.1) }
+{
+    if !begins_at(text.as_bytes(), at, b"true") {
+        return None;
+    }
+    Some((Field::True, at + 4))
+}
+
+#[inline(always)]
+fn false_value<'a>(text: &'a str, at: usize) -> Option<(Field<'a>, usize)>
+    requires { at ≤ length text.now }
+    ensures { IfSome result (λ r. IsValue text.now at r.0 r.1) }
+{
+    if !begins_at(text.as_bytes(), at, b"false") {
+        return None;
+    }
+    Some((Field::False, at + 5))
+}
+
+#[inline(always)]
+fn whole_value<'a>(text: &'a str, at: usize) -> Option<(Field<'a>, usize)>
+    requires { at ≤ length text.now }
+    ensures { IfSome result (λ r. IsValue text.now at r.0 r.1) }
+{
+    let (number, end) = whole_at(text.as_bytes(), at)?;
+    Some((Field::Whole(number), end))
 }
 
 // The text whose first quote stands at a place, and the place behind its last; `None` where none

@@ -36,8 +36,8 @@ members-preserved c =
     c.past_space-in-members.ensures) c.in-Some-read_member.ensures
 
 -- the text is the object of the members that were found
-pub returns : goal.returns
-returns c =
+pub returns-clause-value : goal.returns-clause-value
+returns-clause-value c = λ _.
     let text = c.args.text.now in
     let same = c.as_bytes-bytes.ensures.value in
     let l = c.members in
@@ -47,10 +47,21 @@ returns c =
     let gap = subst (λ b. IsPastSpace b (l.end + 1) c.past_space-2.result) same
     c.past_space-2.ensures in
     let none : lexemes text (l.end + 1) ≡ [] = gap.lexed
-    ∙ end-of-text text c.past_space-2.result
-    (omega (arith, c.if-past_space-bytes.false, ap length same)) in
-    let all = AreRead-all text l.end l.self l.invariant other none in
-    record {
-      value = λ _. whole-from fields text (object l.invariant.found) refl all;
-      found = λ _. AreFound-from fields text (object l.invariant.found) refl all l.invariant.shows;
-    }
+    ∙ end-of-text text c.past_space-2.result (omega (arith, c.if-past_space-bytes.false, ap length same)) in
+    whole-from fields text (object l.invariant.found) refl
+    (AreRead-all text l.end l.self l.invariant other none)
+
+pub returns-clause-found : goal.returns-clause-found
+returns-clause-found c = λ _.
+    let text = c.args.text.now in
+    let same = c.as_bytes-bytes.ensures.value in
+    let l = c.members in
+    let fields : Fields = record l.self { text = c.args.text } in
+    let other : get_or text l.end 0 ≡ 44 → ⊥ = λ e. c.members-test.false
+    (c.byte_at-in-members.ensures.value ∙ ap (λ b. get_or b l.end 0) same ∙ e) in
+    let gap = subst (λ b. IsPastSpace b (l.end + 1) c.past_space-2.result) same
+    c.past_space-2.ensures in
+    let none : lexemes text (l.end + 1) ≡ [] = gap.lexed
+    ∙ end-of-text text c.past_space-2.result (omega (arith, c.if-past_space-bytes.false, ap length same)) in
+    AreFound-from fields text (object l.invariant.found) refl
+    (AreRead-all text l.end l.self l.invariant other none) l.invariant.shows
