@@ -1,8 +1,8 @@
--- Read in this order. The fields of a line: FieldsLemmas, ReadingLemmas, LexLemmas, MemberLemmas.
+-- Read in this order. The fields of a line: NumberLemmas, FieldsLemmas, WalkLemmas, ReadingLemmas.
 -- What it asks: RequestLemmas, PlainLemmas.
 pub mod FieldsLemmas
+pub mod NumberLemmas
 pub mod ReadingLemmas
-pub mod LexLemmas
-pub mod MemberLemmas
+pub mod WalkLemmas
 pub mod RequestLemmas
 pub mod PlainLemmas

@@ -13,7 +13,6 @@ use lq_desk_world::Event;
 use lq_predicate::read;
 use lq_value::{Kind, Name, Refusal, View};
 use lq_volume::Change;
-use serde_json::Value;
 use simdutf8::is_utf8;
 use std::alloc::Global;
 
@@ -34,9 +33,8 @@ pub fn question_in(alloc: Global, scratch: &mut Scratch, line: &[u8]) -> Result<
         return Err(Refusal::NotUtf8);
     }
     let text = unsafe { str::from_utf8_unchecked(line) };
-    let mut value = Value::Null;
     let mut fields = Fields::new();
-    fields.read(alloc, &mut value, text)?;
+    fields.read(&mut scratch.json, text)?;
     let Some(request) = request_in(&fields) else {
         return Err(Refusal::BadLine);
     };

@@ -1,19 +1,20 @@
-//! The fields of a line.
-ghost use Rattle.std.specs.Prelude.{◌≡◌, ◌⊎◌, ◌≤◌, IfErr, IfOk, IfSome, IsTrue, None, Some, length};
+//! The fields of a line, found while its JSON is read.
+ghost use Rattle.std.specs.Prelude.{◌≡◌, ◌⊎◌, IfErr, IfOk, None, Some, length};
 ghost use Rattle.lq_value.specs.declared.refusal.Refusal.TheVariants.{NoMemory, NotJson};
+ghost use Rattle.json.specs.Json.{members, value};
+ghost use Rattle.serde_json.specs.Data.{no_members};
 ghost use Rattle.serde_json.specs.Find.{get};
-ghost use Rattle.serde_json.specs.Read.{read as read_text};
-ghost use Rattle.serde_json.specs.View.{view};
-ghost use Rattle.lq_script_request.specs.Fields.{AreAbsent, AreFound, name_of, updated, whole};
-ghost use Rattle.lq_script_request.specs.Members.{IsMember};
+ghost use Rattle.serde_json.specs.Read.{converted, of_members, read as read_text};
+ghost use Rattle.lq_script_request.specs.Fields.{AreAbsent, AreFound, HoldsMembers, name_of, updated, whole};
 ghost use Rattle.lq_script_request.specs.Shown.{IsFieldOf};
 
-use crate::field::{Field, field_of};
+use crate::field::{Field, field_from};
 use crate::key::Key;
-use crate::member::{byte_at, past_space, text_at, value_at};
+use json::{Invalid, Reader, Scratch, Token};
 use lq_value::Refusal;
-use serde_json::Value;
-use std::alloc::Global;
+
+/// How deep arrays and objects may nest.
+const MAX_DEPTH: usize = 127;
 
 /// The fields of a JSON text: for each key of a line the last member with that key.
 #[derive(Drop)]
@@ -91,123 +92,55 @@ impl<'a> Fields<'a> {
         }
     }
 
-    /// Finds the fields of a text. Of equal keys the last one counts, and a value that is no object
-    /// has no fields.
+    /// Finds the fields of a text while it is read, token by token. Of equal keys the last one
+    /// counts, and a value that is no object has no fields.
     ///
-    /// A plain line is read by its bytes, without memory; any other text as `serde_json`'s value,
-    /// which is put into a place of the caller's, and which the fields then borrow. Refused:
-    /// `NoMemory`, else `NotJson`, also where arrays and objects nest deeper than 127, or where a
-    /// number rounds to an infinite double.
-    #[inline(always)]
-    pub fn read(
-        &mut self,
-        alloc: Global,
-        place: &'a mut Value,
-        text: &'a str,
-    ) -> Result<(), Refusal>
+    /// They borrow the text, and also the scratch where a string has escapes. A reused scratch
+    /// allocates nothing more once it has read the longest text. Refused: `NoMemory`, else
+    /// `NotJson`, also where arrays and objects nest deeper than 127, or where a number rounds to
+    /// an infinite double.
+    #[inline(never)]
+    pub fn read(&mut self, scratch: &'a mut Scratch, text: &'a str) -> Result<(), Refusal>
         requires { AreAbsent self.old }
         ensures value { IfOk result (λ _. read_text text.now ≡ Some (whole self.new)) }
         ensures found { IfOk result (λ _. AreFound self.new) }
         ensures refused { IfErr result (λ e. (e ≡ NoMemory)
             ⊎ ((e ≡ NotJson) × (read_text text.now ≡ None))) }
     {
-        if self.read_plain(text) {
-            return Ok(());
+        let Ok(mut reader) = Reader::new(text, scratch) else {
+            return Err(Refusal::NoMemory);
+        };
+        let Some(token) = reader.next() else {
+            return Err(Refusal::NotJson);
+        };
+        let passed = match token {
+            Token::BeginObject => self.read_members(&mut reader, MAX_DEPTH - 1).is_ok(),
+            _ => field_from(&mut reader, token, MAX_DEPTH).is_ok(),
+        };
+        if !passed || reader.next().is_some() {
+            return Err(Refusal::NotJson);
         }
-        self.read_value(alloc, place, text)
-    }
-
-    // Finds the fields of a text by its value.
-    #[inline(never)]
-    fn read_value(
-        &mut self,
-        alloc: Global,
-        place: &'a mut Value,
-        text: &'a str,
-    ) -> Result<(), Refusal>
-        ensures value { IfOk result (λ _. read_text text.now ≡ Some (whole self.new)) }
-        ensures found { IfOk result (λ _. AreFound self.new) }
-        ensures refused { IfErr result (λ e. (e ≡ NoMemory)
-            ⊎ ((e ≡ NotJson) × (read_text text.now ≡ None))) }
-    {
-        match Value::from_str(alloc, text) {
-            Ok(value) => *place = value,
-            Err(error) => {
-                return Err(if error.is_memory() {
-                    Refusal::NoMemory
-                } else {
-                    Refusal::NotJson
-                });
-            }
-        }
-        *self = Fields::of(text, place);
+        self.text = text;
         Ok(())
     }
 
-    // The fields of a text that reads as this value.
-    fn of(text: &'a str, value: &'a Value) -> Fields<'a>
-        requires { read_text text.now ≡ Some (view value.now) }
-        ensures value { read_text text.now ≡ Some (whole result) }
-        ensures found { AreFound result }
-    {
-        let mut fields = Fields::new();
-        fields.text = text;
-        let Some(members) = value.as_object() else {
-            return fields;
-        };
-        for (key, member) in members.iter() {
-            fields.put(key.as_str(), field_of(member));
-        }
-        fields
-    }
-
-    // Finds the fields of a plain line: an object of members without escapes, of which none nests.
-    // It is false of any other text; then the fields are of no use. It takes no memory.
-    fn read_plain(&mut self, text: &'a str) -> bool
+    // Reads the members of an object that is open, one after another; of equal keys the last one
+    // counts. Arrays and objects in them may nest `depth` deep. It takes no memory.
+    #[inline(always)]
+    fn read_members(&mut self, reader: &mut Reader<'a>, depth: usize) -> Result<(), Invalid>
         requires { AreAbsent self.old }
-        ensures value { IsTrue result → read_text text.now ≡ Some (whole self.new) }
-        ensures found { IsTrue result → AreFound self.new }
+        ensures ok { IfOk result (λ _. HoldsMembers self.new reader.new (converted
+            (λ ms. of_members ms no_members)
+            (members (value depth) (length reader.old) reader.old))) }
+        ensures err { IfErr result (λ _. converted (λ ms. of_members ms no_members)
+            (members (value depth) (length reader.old) reader.old) ≡ None) }
     {
-        let bytes = text.as_bytes();
-        let brace = past_space(bytes, 0);
-        if byte_at(bytes, brace) != b'{' {
-            return false;
+        'members: while let Some(key) = reader.next_key()? {
+            let token = reader.next().ok_or(Invalid)?;
+            let found = field_from(reader, token, depth)?;
+            self.put(key, found);
         }
-        let Some(mut end) = self.read_member(text, past_space(bytes, brace + 1)) else {
-            return false;
-        };
-        'members: while byte_at(bytes, end) == b',' {
-            let Some(next) = self.read_member(text, past_space(bytes, end + 1)) else {
-                return false;
-            };
-            end = next;
-        }
-        if past_space(bytes, end + 1) < bytes.len() {
-            return false;
-        }
-        self.text = text;
-        true
-    }
-
-    // Reads the member at a place, and gives the place of the comma or the brace behind it.
-    fn read_member(&mut self, text: &'a str, from: usize) -> Option<usize>
-        requires { from ≤ length text.now }
-        ensures { IfSome result (λ end. IsMember text.now from self.old self.new end) }
-    {
-        let bytes = text.as_bytes();
-        let (key, key_end) = text_at(text, from)?;
-        let colon = past_space(bytes, key_end);
-        if byte_at(bytes, colon) != b':' {
-            return None;
-        }
-        let (found, value_end) = value_at(text, past_space(bytes, colon + 1))?;
-        let end = past_space(bytes, value_end);
-        let byte = byte_at(bytes, end);
-        if byte != b',' && byte != b'}' {
-            return None;
-        }
-        self.put(key, found);
-        Some(end)
+        Ok(())
     }
 
     // Puts a value in the place of its key, if the key is one of a line's. It has no hint: the

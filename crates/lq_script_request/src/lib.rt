@@ -12,7 +12,7 @@ mod asking;
 mod field;
 mod fields;
 mod key;
-mod member;
+mod number;
 mod plain;
 mod question;
 mod request;

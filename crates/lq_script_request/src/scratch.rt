@@ -14,6 +14,7 @@ const RECENT: usize = 16;
 /// answer.
 #[derive(Drop)]
 pub struct Scratch {
+    pub(crate) json: json::Scratch,
     pub(crate) attrs: RecentAttrs,
 }
 
@@ -21,6 +22,7 @@ impl Scratch {
     /// An empty scratch. It takes no memory.
     pub fn new(alloc: Global) -> Scratch {
         Scratch {
+            json: json::Scratch::new(alloc),
             attrs: RecentAttrs {
                 names: Vec::new(alloc),
                 oldest: 0,
