@@ -1,6 +1,6 @@
 # What a person types. Each target is a line; CONTRIBUTING.md says when to use which.
 #   make                    the proved program crates/lq/out/lq: seconds where nothing changed, half an hour from nothing
-#   make try                a script by the unproved program, in about a minute: S=script W=words
+#   make try                a script by the unproved program, in one to two minutes: S=script W=words
 #   make check C=lq_desk    proves one crate, over what was kept
 #   make test C=lq_desk     proves and runs the tests of one crate
 #   make edits C=lq_desk    tries the must-fail edits of one crate
