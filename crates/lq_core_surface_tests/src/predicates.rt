@@ -16,6 +16,15 @@ fn a_formula_is_read_copied_and_written(rt: HostRuntime) -> Result<(), Fail> {
     Ok(())
 }
 
+// Of the scenario `formula-texts`, the last one.
+#[test]
+fn scenario_formula_texts(rt: HostRuntime) -> Result<(), Fail> {
+    let copy = read(rt.alloc(), "a=1||b=2&&!c=3")?.copy()?;
+    let text = write(rt.alloc(), &copy)?;
+    assert!(rt; text.as_str() == "((a==\"1\")||((b==\"2\")&&!(c==\"3\")))");
+    Ok(())
+}
+
 #[test]
 fn a_formula_is_refused_at_its_fault(rt: HostRuntime) -> Result<(), Fail> {
     let refused = read(rt.alloc(), "size>").err();

@@ -129,3 +129,72 @@ fn entries_are_fetched_by_a_predicate(rt: HostRuntime) -> Result<(), Fail> {
     assert!(rt; is_right && none.is_empty());
     Ok(())
 }
+
+#[test]
+fn a_copy_is_fetched_from(rt: HostRuntime) -> Result<(), Fail> {
+    let mut volume = volume(rt.alloc())?;
+    let copy = volume.copy()?;
+    volume.apply(&Change::Remove { node: 2 })?;
+    let entries = fetched(rt.alloc(), &copy, "x=7")?;
+    let is_right = match entries.as_slice() {
+        [entry] => entry.dir == 1 && entry.name.as_str() == "a" && entry.node == 2,
+        _ => false,
+    };
+    assert!(rt; is_right && fetched(rt.alloc(), &volume, "x=7")?.is_empty());
+    Ok(())
+}
+
+// The volume of the scenario `attributes`: the file `f` of size 3 and time 5 at node 2, whose `x`
+// was 7 and is the text `z`, and whose `y` is the text `q`.
+fn attributes(alloc: Global) -> Result<Volume, Refusal> {
+    let mut volume = Volume::new(alloc, 9);
+    volume.apply(&Change::Create {
+        dir: 1,
+        name: Name::read(alloc, "f")?,
+        kind: Kind::File,
+        size: 3,
+        time: 5,
+    })?;
+    for (attr, value) in [
+        ("x", Value::Int32(7)),
+        ("y", Value::text(alloc, "q")?),
+        ("x", Value::text(alloc, "z")?),
+    ] {
+        let attr = AttrName::read(alloc, attr)?;
+        volume.apply(&Change::SetAttr {
+            node: 2,
+            attr,
+            value,
+        })?;
+    }
+    Ok(volume)
+}
+
+// Whether this attribute of an entry is this text, by its place and by its name.
+fn is_text(
+    alloc: Global,
+    entry: &EntryRef<'_>,
+    place: usize,
+    attr: &str,
+    text: &str,
+) -> Result<bool, Refusal> {
+    let name = AttrName::read(alloc, attr)?;
+    let is_named = matches!(entry.attr(&name), Some(View::Text(is)) if is == text);
+    Ok(match entry.attr_at(place) {
+        Some((at, View::Text(is))) => is_named && *at == name && is == text,
+        _ => false,
+    })
+}
+
+#[test]
+fn scenario_attributes(rt: HostRuntime) -> Result<(), Fail> {
+    let volume = attributes(rt.alloc())?;
+    let entry = volume.entry(2)?;
+    assert!(rt; entry.dir() == 1 && entry.name().as_str() == "f" && entry.kind() == Kind::File);
+    assert!(rt; entry.size() == 3 && entry.time() == 5 && entry.attr_count() == 2);
+    assert!(rt; is_text(rt.alloc(), &entry, 0, "x", "z")?);
+    assert!(rt; is_text(rt.alloc(), &entry, 1, "y", "q")?);
+    assert!(rt; entry.attr_at(2).is_none());
+    assert!(rt; entry.attr(&AttrName::read(rt.alloc(), "w")?).is_none());
+    Ok(())
+}

@@ -64,6 +64,21 @@ fn scenario_one_place_port(rt: HostRuntime) -> Result<(), Fail> {
     Ok(())
 }
 
+// What comes back of three puts into two places where no taker is left.
+fn two_places<R: Wait>(rt: &R, alloc: Global) -> Result<[u64; 3], Refusal> {
+    let (mut input, output) = make::<Plain>(alloc, 2, &())?;
+    drop(output);
+    let first = back_of(rt, &mut input, 7);
+    let second = back_of(rt, &mut input, 8);
+    Ok([first, second, back_of(rt, &mut input, 9)])
+}
+
+#[test]
+fn a_port_without_a_taker_fills_up(rt: HostRuntime) -> Result<(), Fail> {
+    assert!(rt; two_places(&rt, rt.alloc())? == [0, 0, 9]);
+    Ok(())
+}
+
 // Puts 1 to 1,000 in order, each until it fits.
 fn put_all<R: Wait>(rt: &R, mut input: PortIn<Plain>) {
     for number in 1..1_001 {

@@ -1,17 +1,37 @@
 //! Calls that are given again where memory ran out: with any one growth refused, all is as without.
+use crate::more_threads::WINDOW;
 use crate::one_thread::EACH;
-use crate::scenario::{base, stage};
+use crate::scenario::{Scenario, base, stage};
+use std::alloc::Global;
 use std::marker::Brand;
+use std::sync::Wait;
 use std::test::Fail;
+use std::thread::Threads;
 
-#[test]
-fn a_refused_growth_is_made_good(rt: HostRuntime) -> Result<(), Fail> {
-    let each = &EACH;
-    let base = base(rt.alloc())?;
-    let done = stage::<Brand, _>(&rt, rt.alloc(), base, 2, 0, each)?;
+/// Plays a scenario, each call given again where memory ran out: whether each is answered as its
+/// tables say, and so many changes were made.
+fn is_made_good<R: Threads + Wait + Sync>(
+    rt: &R,
+    alloc: Global,
+    each: &Scenario,
+    changes: u64,
+) -> Result<bool, Fail> {
+    let base = base(alloc)?;
+    let done = stage::<Brand, _>(rt, alloc, base, 2, 0, each)?;
     if let Some(row) = done.acted.stop {
         return Err(Fail::from((each.name, row)));
     }
-    assert!(rt; done.retired.changes == 8);
+    Ok(done.retired.changes == changes)
+}
+
+#[test]
+fn a_refused_growth_is_made_good(rt: HostRuntime) -> Result<(), Fail> {
+    assert!(rt; is_made_good(&rt, rt.alloc(), &EACH, 8)?);
+    Ok(())
+}
+
+#[test]
+fn a_growth_refused_to_a_window_is_made_good(rt: HostRuntime) -> Result<(), Fail> {
+    assert!(rt; is_made_good(&rt, rt.alloc(), &WINDOW, 6)?);
     Ok(())
 }

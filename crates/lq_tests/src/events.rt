@@ -1,18 +1,22 @@
-//! Worked examples as lists of events of one desk, each with what it is answered; and the limits of
+//! Worked examples as lists of events of one desk, each with what it is answered: with memory, and
+//! with one growth refused, where the event that ran out of it is given again; and the limits of
 //! changes and openings.
 use crate::act::Act;
+use crate::again::again;
 use crate::ask::{Ask, event};
 use lq_desk::{Desk, Read, Reply};
 use lq_desk_world::Act::{Close, Finish, HangUp, Notice, Put, Take};
-use lq_update::{Cause, Opcode};
-use lq_value::Refusal;
+use lq_predicate::read;
+use lq_update::{Cause, Message, Opcode};
+use lq_value::{Entry, Refusal, View};
 use lq_volume::Volume;
 use std::alloc::Global;
 use std::test::Fail;
 
 /// An event and what it is answered, with its numbers. Of a change: its own and the node; of an
-/// opening: the slot, the changes before it, the entries; of a message: `seq`, change and node; of
-/// a mark: `seq` and change; of a close: its change.
+/// opening: the slot, the changes before it, the entries; of a message, which is told as `U+` or
+/// `U-`, its entry's name and, where it isn't the last of its change, `..`: `seq`, change and node;
+/// of a mark: `seq` and change; of a close: its change.
 type Row = (Ask, &'static str, (u64, u64, u64));
 
 const A: Ask = Ask::Change(Act::File(1, "a", 0));
@@ -30,7 +34,7 @@ static CLOSE_ON_FULL_PORT: [Row; 13] = [
     (Ask::At(1, Close), "Shut", (1, 0, 0)),
     (Ask::At(1, Put), "Moved", (0, 0, 0)),
     (Ask::At(1, Put), "Stayed", (0, 0, 0)),
-    (Ask::At(1, Take), "Created", (1, 1, 2)),
+    (Ask::At(1, Take), "U+ a", (1, 1, 2)),
     (Ask::At(1, Take), "Empty", (0, 0, 0)),
     (Ask::At(1, Put), "Moved", (0, 0, 0)),
     (Ask::At(1, Take), "Closed", (2, 1, 0)),
@@ -49,7 +53,7 @@ static HANG_UP_TOLD_AFTER: [Row; 10] = [
     (Ask::At(1, Close), "NotOpen", (0, 0, 0)),
     (Ask::At(1, Put), "Moved", (0, 0, 0)),
     (Ask::At(1, Put), "Moved", (0, 0, 0)),
-    (Ask::At(1, Take), "Created", (1, 1, 2)),
+    (Ask::At(1, Take), "U+ a", (1, 1, 2)),
     (Ask::At(1, Take), "HungUp", (2, 1, 0)),
 ];
 
@@ -73,6 +77,62 @@ static HANG_UP_DOES_NOT_CARRY_OVER: [Row; 8] = [
     (Ask::At(1, Notice), "Unasked", (0, 0, 0)),
 ];
 
+// A move onto another entry: refused without `clobber`, told as three with it.
+static CLOBBER: [Row; 11] = [
+    (A, "Changed", (1, 2, 0)),
+    (Ask::Change(Act::File(1, "b", 0)), "Changed", (2, 3, 0)),
+    (Ask::Open("name=*", 4, 16, false), "Opened", (1, 2, 2)),
+    (Ask::Change(Act::Move(3, 1, "a")), "Exists", (0, 0, 0)),
+    (Ask::Change(Act::Clobber(3, 1, "a")), "Changed", (3, 3, 0)),
+    (Ask::At(1, Put), "Moved", (0, 0, 0)),
+    (Ask::At(1, Put), "Moved", (0, 0, 0)),
+    (Ask::At(1, Put), "Moved", (0, 0, 0)),
+    (Ask::At(1, Take), "U- a..", (1, 3, 2)),
+    (Ask::At(1, Take), "U- b..", (2, 3, 3)),
+    (Ask::At(1, Take), "U+ a", (3, 3, 3)),
+];
+
+// The first message is in the port, two are held, and the mark comes after them.
+static CLOSE_AFTER_HELD: [Row; 14] = [
+    (Ask::Open("name=*", 1, 2, false), "Opened", (1, 0, 0)),
+    (A, "Changed", (1, 2, 0)),
+    (Ask::At(1, Put), "Moved", (0, 0, 0)),
+    (Ask::Change(Act::File(1, "b", 0)), "Changed", (2, 3, 0)),
+    (Ask::Change(Act::File(1, "c", 0)), "Changed", (3, 4, 0)),
+    (Ask::At(1, Close), "Shut", (3, 0, 0)),
+    (Ask::At(1, Take), "U+ a", (1, 1, 2)),
+    (Ask::At(1, Put), "Moved", (0, 0, 0)),
+    (Ask::At(1, Take), "U+ b", (2, 2, 3)),
+    (Ask::At(1, Put), "Moved", (0, 0, 0)),
+    (Ask::At(1, Take), "U+ c", (3, 3, 4)),
+    (Ask::At(1, Put), "Moved", (0, 0, 0)),
+    (Ask::At(1, Take), "Closed", (4, 3, 0)),
+    (Ask::At(1, Take), "Ended", (0, 0, 0)),
+];
+
+// A formula, and whether it finds node 2: where `x` is the text 10, and where it is the number.
+const FETCHES: [(&str, bool, bool); 4] = [
+    ("x=10", true, true),
+    ("x>9", false, true),
+    ("x=1*", true, false),
+    ("x!=abc", true, false),
+];
+
+/// Whether a message in the root is told so: its operation, its name, and whether more follow.
+fn is_message(message: &Message, wanted: &str) -> bool {
+    let wanted = match message.op {
+        Opcode::Created => wanted.strip_prefix("U+ "),
+        Opcode::Removed => wanted.strip_prefix("U- "),
+        _ => None,
+    };
+    let name = match wanted {
+        Some(name) if message.last => Some(name),
+        Some(name) => name.strip_suffix(".."),
+        None => None,
+    };
+    name == Some(message.name.as_str()) && message.dir == 1
+}
+
 /// Whether an event is answered so.
 fn is_told(reply: &Reply, wanted: &str, numbers: (u64, u64, u64)) -> bool {
     let (told, one, two, three) = match reply {
@@ -80,12 +140,12 @@ fn is_told(reply: &Reply, wanted: &str, numbers: (u64, u64, u64)) -> bool {
         Reply::Opened { slot, at, result } => ("Opened", *slot, *at, result.len() as u64),
         Reply::Moved(true) => ("Moved", 0, 0, 0),
         Reply::Moved(false) => ("Stayed", 0, 0, 0),
-        Reply::Took(Read::Update(message)) => match message.op {
-            Opcode::Created if message.last && message.name.as_str() == "a" => {
-                ("Created", message.seq, message.change, message.node)
+        Reply::Took(Read::Update(message)) => {
+            if !is_message(message, wanted) {
+                return false;
             }
-            _ => ("", 0, 0, 0),
-        },
+            (wanted, message.seq, message.change, message.node)
+        }
         Reply::Took(Read::Fin(mark)) => match mark.cause {
             Cause::Closed => ("Closed", mark.seq, mark.change, 0),
             Cause::HungUp => ("HungUp", mark.seq, mark.change, 0),
@@ -117,6 +177,83 @@ fn are_told(alloc: Global, rows: &[Row]) -> Result<bool, Refusal> {
         }
     }
     Ok(replies.len() == rows.len())
+}
+
+/// Whether a desk answers these events so, one by one, each given again where memory ran out.
+fn are_told_again(alloc: Global, rows: &[Row]) -> Result<bool, Refusal> {
+    let mut desk = again!(Desk::new(alloc, Volume::new(alloc, 99)))?;
+    for (ask, wanted, numbers) in rows {
+        let event = again!(event(alloc, ask))?;
+        let mut reply = desk.event(&event);
+        if let Reply::Refused(Refusal::NoMemory) = reply {
+            reply = desk.event(&event);
+        }
+        if !is_told(&reply, wanted, *numbers) {
+            return Ok(false);
+        }
+    }
+    Ok(true)
+}
+
+/// Whether an event is a change that is accepted, given again where memory ran out.
+fn is_changed(alloc: Global, desk: &mut Desk, ask: &Ask) -> Result<bool, Refusal> {
+    let event = again!(event(alloc, ask))?;
+    let mut reply = desk.event(&event);
+    if let Reply::Refused(Refusal::NoMemory) = reply {
+        reply = desk.event(&event);
+    }
+    Ok(matches!(reply, Reply::Changed(_)))
+}
+
+/// Whether a formula finds just the file `a` of node 2, or nothing.
+fn is_found(alloc: Global, desk: &Desk, formula: &str, wanted: bool) -> Result<bool, Refusal> {
+    let predicate = again!(read(alloc, formula))?;
+    let found: Vec<Entry> = again!(desk.volume().fetch(&predicate))?;
+    Ok(match found.as_slice() {
+        [entry] => wanted && entry.dir == 1 && entry.name.as_str() == "a" && entry.node == 2,
+        rest => !wanted && rest.is_empty(),
+    })
+}
+
+/// Whether each formula finds what it has to, with the text 10 and with the number.
+fn are_found(alloc: Global) -> Result<bool, Refusal> {
+    let mut desk = again!(Desk::new(alloc, Volume::new(alloc, 99)))?;
+    let as_text = Ask::Set("x", View::Text("10"));
+    if !is_changed(alloc, &mut desk, &A)? || !is_changed(alloc, &mut desk, &as_text)? {
+        return Ok(false);
+    }
+    for (formula, is_text_found, _) in &FETCHES {
+        if !is_found(alloc, &desk, formula, *is_text_found)? {
+            return Ok(false);
+        }
+    }
+    if !is_changed(alloc, &mut desk, &Ask::Set("x", View::Int32(10)))? {
+        return Ok(false);
+    }
+    for (formula, _, is_number_found) in &FETCHES {
+        if !is_found(alloc, &desk, formula, *is_number_found)? {
+            return Ok(false);
+        }
+    }
+    Ok(true)
+}
+
+#[test]
+fn scenario_clobber(rt: HostRuntime) -> Result<(), Fail> {
+    assert!(rt; are_told_again(rt.alloc(), &CLOBBER)?);
+    Ok(())
+}
+
+#[test]
+fn scenario_close_after_held(rt: HostRuntime) -> Result<(), Fail> {
+    assert!(rt; are_told_again(rt.alloc(), &CLOSE_AFTER_HELD)?);
+    Ok(())
+}
+
+#[test]
+fn scenario_text_and_number(rt: HostRuntime) -> Result<(), Fail> {
+    assert!(rt; are_found(rt.alloc())?);
+    Ok(())
 }
 
 #[test]
