@@ -1,20 +1,21 @@
 -- What a desk keeps of each subscription's list, and what a refusal leaves.
-use Rattle.std.proofs.Common.{◌≡◌, ℕ, ◌-◌, ◌≤◌, [], ◌++◌, refl, ap, map, take, drop, length, ◌∙◌, sym, arith, Some, None, Option, Bool, true, false, inl, inr}
+use Rattle.std.proofs.Common.{◌≡◌, ℕ, ◌-◌, ◌≤◌, List, [], ◌++◌, refl, ap, map, take, drop, length, ◌∙◌, sym, arith, Some, None, Option, Bool, true, false, inl, inr}
 use Rattle.std.specs.Prelude.{nat_lt, if◌then◌else◌}
 use Rattle.std.specs.Option.{option_map, option_to_list}
 use Rattle.std.proofs.lemmas.Bool.{ltb-false, ltb-true}
 use Rattle.std.proofs.lemmas.List.{drop_all}
 use Rattle.lq_value.specs.declared.refusal.Refusal.{Refusal}
+use Rattle.lq_update.specs.declared.parcel.Parcel.{Parcel}
 use Rattle.lq_update.specs.declared.parcel.Parcel.TheVariants.{Update, Fin}
 use Rattle.lq_desk_world.specs.World.{World, Subscribed, End, updates_due, whole, in_port, waiting, to_come, mark_behind}
 use Rattle.lq_desk_world.specs.declared.event.Event.{Event}
 use Rattle.lq_desk_world.specs.Events.{Answer, Refused}
 use Rattle.lq_desk_world.specs.Runs.{Step}
 use Rattle.lq_desk_world.specs.Fair.{IsFair, IsFairSlot}
-use Rattle.lq_desk_world.specs.Laws.{ListsArePassedOn, RefusalsLeaveWorlds}
+use Rattle.lq_desk_world.specs.Laws.{ListsArePassedOn, ReadsArePassedOn, RefusalsLeaveWorlds}
 use Rattle.lq_desk.specs.Kept.{Kept, Shows, mark_of, held_for, slot_for, kept_at, kept_of}
 use Rattle.lq_desk.specs.Reply.{Moves}
-use Rattle.lq_desk.specs.Laws.{KeptPassesListsOn, mark_left}
+use Rattle.lq_desk.specs.Laws.{KeptPassesListsOn, KeptPassesReadsOn, mark_left}
 use Rattle.lq_desk.proofs.ListLemmas.{all-get}
 use Rattle.lq_desk.proofs.Shown.{kept_at-same, slot-found}
 
@@ -59,6 +60,22 @@ passes-on law k w slot s shows is =
       ap (λ ps. take s.taken (whole w.book s) ++ (in_port w.book s ++ ps)) (sym (to_come-kept w s))
           ∙ law w.book s f,
     )
+
+-- the same over a run, by its answers
+pub passes-reads : ReadsArePassedOn → KeptPassesListsOn → KeptPassesReadsOn
+passes-reads law lists k w end before after befores afters q port backlog moved slot at first run
+    same shows free =
+    let r = law w end before after befores afters q port backlog moved slot at first run same in
+    let l = lists k end slot r.sub shows (r.here free) in
+    let rest : List Parcel =
+    l.0.queue ++ (map (λ m. Update m) l.0.held.messages ++ mark_left l.0.held) in
+    record {
+      sub = r.sub;
+      same = r.same;
+      kept = l.0;
+      here = l.1;
+      parts = ap (λ ps. ps ++ rest) r.taken ∙ l.2;
+    }
 
 -- an event that is refused leaves what is kept
 pub refusal-leaves : RefusalsLeaveWorlds → (old new : Kept) (w : World) (e : Event) (a : Answer)

@@ -11,7 +11,7 @@ use Rattle.lq_desk_world.specs.World.{World, Subscribed}
 use Rattle.lq_desk_world.specs.declared.event.Event.{Event}
 use Rattle.lq_desk_world.specs.declared.event.Event.TheVariants.{Change, Open, Put, Take, HangUp, Notice, Close, Finish}
 use Rattle.lq_desk_world.specs.Events.{Answer, Refused, outcome, next}
-use Rattle.lq_desk_world.specs.Turns.{Turn, turn_of, ports_of, at_slot_of, at_each, one_notice, puts, notices, all_puts, after_all, carried_out}
+use Rattle.lq_desk_world.specs.Turns.{Turn, turn_of, events_in, ports_of, at_slot_of, at_each, one_notice, puts, notices, all_puts, after_all, carried_out}
 use Rattle.lq_desk.specs.Slot.{KeptSlot, filled, noticed}
 use Rattle.lq_desk.specs.Act.{close_turn, read_turn}
 use Rattle.lq_desk.specs.Kept.{Kept, KeptStep, Shows, slot_for, at_kept, kept_outcome, change_if}
@@ -181,6 +181,18 @@ alone-like k l e f a is before after step =
 
 -- ---- turns are runs, and worlds take them alike
 
+-- the places of the ports that are kept for a world's slots
+ports-shown : (b : Book) (slots : List (Option Subscribed))
+    → map (option_map slot_port) (map (option_map (slot_for b)) slots)
+    ≡ map (option_map (λ (s : Subscribed). s.port)) slots
+ports-shown b [] = refl
+ports-shown b (None ∷ slots) = ap (λ ps. None ∷ ps) (ports-shown b slots)
+ports-shown b (Some s ∷ slots) = ap (λ ps. Some s.port ∷ ps) (ports-shown b slots)
+
+-- the ports of a desk are those of each world that it shows
+ports-same : (k : Kept) (w : World) → Shows k w → kept_ports k ≡ ports_of w
+ports-same k w shows = ap kept_ports shows.kept ∙ ports-shown w.book w.slots
+
 -- each step of what is kept is a move from a world that it shows
 abbrev pub Moving : Type 0
 Moving = (old new : Kept) (w : World) (e : Event) (a : Answer) → KeptStep old e a new
@@ -215,7 +227,7 @@ module _ (moves : Moving) where
   -- a turn is a run of its events
   pub turn-runs : (k l : Kept) (w : World) (e : Event) (a : Answer)
       → kept_turn k e ≡ record (kept_turn k e) { event = e } → TurnStep k e a l → Shows k w
-      → TurnRuns k l w e a
+      → TurnRuns l w e a
   turn-runs k l w e a is t shows =
       let turn = kept_turn k e in
       let first = run-all k w [] [] turn.before (record { end = w; run = refl; shows = shows }) in
@@ -226,15 +238,19 @@ module _ (moves : Moving) where
       let whole : Runs l w ((turn.before ++ e ∷ []) ++ turn.after) ((first.0 ++ a ∷ []) ++ last.0) =
       subst (λ (j : Kept). Runs j w ((turn.before ++ e ∷ []) ++ turn.after)
       ((first.0 ++ a ∷ []) ++ last.0)) (sym t.after) last.2 in
+      let same : turn ≡ turn_of (ports_of w) e =
+      ap (λ (ps : List (Option ℕ)). turn_of ps e) (ports-same k w shows) in
+      let runs : Runs l w (events_in turn) (first.0 ++ a ∷ last.0) =
+      subst (λ (es : List Event). Runs l w es (first.0 ++ a ∷ last.0))
+      (append-join turn.before (e ∷ []) turn.after
+      ∙ ap (λ (u : Turn). turn.before ++ u.event ∷ turn.after) (sym is))
+      (subst (λ (got : List Answer). Runs l w ((turn.before ++ e ∷ []) ++ turn.after) got)
+      (append-join first.0 (a ∷ []) last.0) whole) in
       record {
         before = first.0;
         after = last.0;
-        place = first.1;
-        runs = subst (λ (es : List Event). Runs l w es (first.0 ++ a ∷ last.0))
-            (append-join turn.before (e ∷ []) turn.after
-            ∙ ap (λ (u : Turn). turn.before ++ u.event ∷ turn.after) (sym is))
-            (subst (λ (got : List Answer). Runs l w ((turn.before ++ e ∷ []) ++ turn.after) got)
-            (append-join first.0 (a ∷ []) last.0) whole);
+        place = first.1 ∙ ap (λ (u : Turn). length u.before) same;
+        runs = subst (λ (u : Turn). Runs l w (events_in u) (first.0 ++ a ∷ last.0)) same runs;
       }
 
 -- a turn's event is the one that began it
@@ -273,14 +289,6 @@ module _ (alike : KeptShowsWorlds) where
   after-shows k w (e ∷ es) shows =
       after-shows (kept_outcome k e).1 (next w e) es (alike k w e shows).1
 
-  -- the ports of the desk are the world's
-  ports-shown : (b : Book) (slots : List (Option Subscribed))
-      → map (option_map slot_port) (map (option_map (slot_for b)) slots)
-      ≡ map (option_map (λ (s : Subscribed). s.port)) slots
-  ports-shown b [] = refl
-  ports-shown b (None ∷ slots) = ap (λ ps. None ∷ ps) (ports-shown b slots)
-  ports-shown b (Some s ∷ slots) = ap (λ ps. Some s.port ∷ ps) (ports-shown b slots)
-
   -- a turn is carried out alike
   same-turn : (k : Kept) (w : World) (t : Turn) → Shows k w
       → ((carried_out kept_outcome k t).0 ≡ (carried_out outcome w t).0)
@@ -296,8 +304,7 @@ module _ (alike : KeptShowsWorlds) where
   -- each turn is carried out alike
   pub turns-show : KeptTurnsShowWorlds
   turns-show k w e shows =
-      let ports : kept_ports k ≡ ports_of w = ap kept_ports shows.kept
-      ∙ ports-shown w.book w.slots in
+      let ports = ports-same k w shows in
       subst (λ (ps : List (Option ℕ)). ((carried_out kept_outcome k (turn_of ps e)).0
       ≡ (carried_out outcome w (turn_of (ports_of w) e)).0)
       × Shows (carried_out kept_outcome k (turn_of ps e)).1

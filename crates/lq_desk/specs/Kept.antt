@@ -165,6 +165,12 @@ pub record Shows (k : Kept) (w : World) : Type 0 where
   pub fair : IsFairWorld w
   pub kept : k ≡ kept_of w
 
+-- some world is shown, and its book leads to the volume
+pub record ShowsSome (k : Kept) : Type 0 where
+  pub world : World
+  pub shows : Shows k world
+  pub volume : state_of world.book ≡ k.volume
+
 -- at most this many messages were made
 abbrev pub IsFew : ℕ → Option KeptSlot → Type 0
 IsFew n None = Unit {0}

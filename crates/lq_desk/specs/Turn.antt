@@ -4,7 +4,7 @@ use Rattle.std.specs.Option.{option_map}
 use Rattle.lq_desk_world.specs.World.{World}
 use Rattle.lq_desk_world.specs.declared.event.Event.{Event}
 use Rattle.lq_desk_world.specs.Events.{Answer}
-use Rattle.lq_desk_world.specs.Turns.{Turn, turn_of, events_in, after_all, carried_out}
+use Rattle.lq_desk_world.specs.Turns.{Turn, ports_of, turn_of, events_in, after_all, carried_out}
 use Rattle.lq_desk.specs.Slot.{KeptSlot}
 use Rattle.lq_desk.specs.Kept.{Kept, KeptStep, kept_outcome}
 use Rattle.lq_desk.specs.Reply.{Runs}
@@ -35,9 +35,9 @@ pub record TurnStep (k : Kept) (e : Event) (a : Answer) (l : Kept) : Type 0 wher
   pub step : KeptStep (kept_after k (kept_turn k e).before) e a middle
   pub after : l ≡ kept_after middle (kept_turn k e).after
 
--- a turn is a run of its events, and its answer is the answer to its own event
-pub record TurnRuns (k l : Kept) (w : World) (e : Event) (a : Answer) : Type 0 where
+-- a turn is a run of the events of the world's turn, and its answer is the answer to its own event
+pub record TurnRuns (l : Kept) (w : World) (e : Event) (a : Answer) : Type 0 where
   pub before : List Answer
   pub after : List Answer
-  pub place : length before ≡ length (kept_turn k e).before
-  pub runs : Runs l w (events_in (kept_turn k e)) (before ++ a ∷ after)
+  pub place : length before ≡ length (turn_of (ports_of w) e).before
+  pub runs : Runs l w (events_in (turn_of (ports_of w) e)) (before ++ a ∷ after)

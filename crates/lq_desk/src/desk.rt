@@ -76,7 +76,7 @@ impl Desk {
     ghost use Rattle.lq_value.specs.declared.refusal.Refusal.{Refusal};
     ghost use Rattle.lq_desk_world.specs.Headline.{ReadersAreTold};
     ghost use Rattle.lq_desk.specs.Slot.{fresh_slot};
-    ghost use Rattle.lq_desk.specs.Kept.{Kept, KeptStep, Shows, changed, opened, opening_refusal, kept_act};
+    ghost use Rattle.lq_desk.specs.Kept.{Kept, KeptStep, Shows, ShowsSome, changed, opened, opening_refusal, kept_act};
     ghost use Rattle.lq_desk.specs.Kept as kept;
     ghost use Rattle.lq_desk.specs.Reply.{Moves, Runs, answer_of};
 
@@ -98,8 +98,12 @@ impl Desk {
     }
 
     /// The volume as it is now. It takes no memory.
+    ///
+    /// Every desk, wherever it comes from, shows some world, whose book leads to this volume: the
+    /// clauses of `event`, `run` and `turn` say what becomes of it.
     pub fn volume(&self) -> &Volume
-        ensures { result.now ≡ self.now.volume }
+        ensures volume { result.now ≡ self.now.volume }
+        ensures world { ShowsSome self.now }
     {
         &self.volume
     }
@@ -112,7 +116,6 @@ impl Desk {
     /// wasn't read with `StillOpen`. A refused event changes nothing. Only a change and an opening
     /// take memory.
     pub fn event(&mut self, event: &Event) -> Reply
-        ensures kept { KeptStep self.old event.now (answer_of result) self.new }
         ensures world { (w : World) → Shows self.old w →
             Moves self.new w event.now (answer_of result) }
         ensures refused { (refusal : Refusal) → answer_of result ≡ Refused refusal

@@ -1,7 +1,7 @@
 //! Laws of desks: each is the contract of a function that does nothing.
-ghost use Rattle.lq_desk.specs.Laws.{KeptPassesListsOn, KeptShowsWorlds, KeptTurnsShowWorlds};
+ghost use Rattle.lq_desk.specs.Laws.{KeptPassesListsOn, KeptPassesReadsOn, KeptShowsWorlds, KeptTurnsShowWorlds};
 
-use lq_desk_world::{lists_are_passed_on, runs_keep_worlds_fair};
+use lq_desk_world::{lists_are_passed_on, reads_are_passed_on, runs_keep_worlds_fair};
 use lq_update::updates_join;
 use lq_volume::changes_are_counted;
 
@@ -28,4 +28,14 @@ pub fn kept_passes_lists_on()
     ensures { KeptPassesListsOn }
 {
     lists_are_passed_on();
+}
+
+/// The same by the answers of a run, of each subscription that the run opened, until its slot is
+/// freed: the parcels among the answers to its reads, what is in its port, what is held for it, and
+/// a mark that wasn't put yet, are its whole list.
+pub fn kept_passes_reads_on()
+    ensures { KeptPassesReadsOn }
+{
+    reads_are_passed_on();
+    kept_passes_lists_on();
 }

@@ -1,6 +1,7 @@
 -- The definitions compute: scenarios of one query that every entry matches.
-use Rattle.std.proofs.Common.{◌≡◌, ℕ, None, List, [], ◌∷◌, refl, true, false, pos, arith}
+use Rattle.std.proofs.Common.{◌≡◌, ℕ, zero, suc, None, List, [], ◌∷◌, refl, ap, true, false, pos, arith}
 use Rattle.std.specs.Prelude.{codes}
+use Rattle.std.specs.Option.{option_map_or}
 use Rattle.lq_value.specs.declared.op.Op.TheVariants.{Ge}
 use Rattle.lq_value.specs.declared.literal.Literal.TheVariants.{Plain}
 use Rattle.lq_value.specs.declared.kind.Kind.TheVariants.{File}
@@ -13,10 +14,11 @@ use Rattle.lq_update.specs.declared.message.Opcode.TheVariants.{Created, Moved a
 use Rattle.lq_update.specs.declared.mark.Cause.TheVariants.{Closed, HungUp, Overrun}
 use Rattle.lq_update.specs.declared.parcel.Parcel.TheVariants.{Update, Fin}
 use Rattle.lq_desk_world.specs.Headline.{ReadersAreTold}
-use Rattle.lq_desk_world.specs.World.{World, first_world}
+use Rattle.lq_desk_world.specs.World.{World, Subscribed, first_world, slot_at}
 use Rattle.lq_desk_world.specs.declared.event.Event.{Event}
 use Rattle.lq_desk_world.specs.declared.event.Event.TheVariants.{Change, Open, Put, Take, HangUp, Notice, Close, Finish}
 use Rattle.lq_desk_world.specs.Events.{Answer, Changed, Opened, Moved, Took, Empty, Ended, Asked, Noticed, Shut, Finished, Refused, answer, next}
+use Rattle.lq_desk_world.specs.Laws.{IsStill, PutsUntilStill}
 
 -- what events are answered, one after another
 abbrev answers_from : World → List Event → List Answer
@@ -182,3 +184,34 @@ not_told_before told =
     every 1 1 false 1 0 [] refl refl refl in
     let early : created ∷ opening.1.prefix.0 ≡ [] = opening.1.prefix.1 in
     let no : ⊥ = cc in no
+
+-- the world of that query's subscription, which has one message to put
+abbrev told_once : World
+told_once =
+    next (next (first_world (record { start = empty_state 10; changes = [] }))
+    (Open every 2 2 false)) create
+
+-- puts until nothing moves: the first moves the message, the second moves nothing
+put_until_still : PutsUntilStill 1 told_once (next (next told_once put) put)
+put_until_still = (suc zero, (refl, (still, refl)))
+  where
+    still : IsStill (next told_once put) 1
+    still is =
+        let no_more : Moved false ≡ Moved true = is in
+        let no : ⊥ = cc in
+        no
+
+-- how many parcels were put for the subscription in slot 1
+abbrev put_count : World → ℕ
+put_count w = option_map_or (λ (s : Subscribed). s.put) (slot_at w 1) 0
+
+-- to put nothing isn't that, where a message is left to put
+not_until_still : PutsUntilStill 1 told_once told_once → ⊥
+not_until_still (zero, (still, same)) = still refl
+not_until_still (suc zero, (moved, (still, same))) =
+    let counts : 0 ≡ 1 = ap put_count same in
+    omega (arith, counts)
+not_until_still (suc (suc n), (moved, (again, rest))) =
+    let no_more : Moved false ≡ Moved true = again in
+    let no : ⊥ = cc in
+    no

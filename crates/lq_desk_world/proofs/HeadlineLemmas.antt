@@ -41,7 +41,7 @@ accepted-append (e ∷ before) events (a ∷ befores) answers same =
     ∙ sym (append_assoc (accepted_by e a) (accepted before befores) (accepted events answers))
 
 -- a run goes on where its first part ends
-run_parts : (w : World) (before events : List Event)
+pub run_parts : (w : World) (before events : List Event)
     (befores answers : List Answer) (end : World)
     → length before ≡ length befores → Run w (before ++ events) (befores ++ answers) end
     → (mid : World) × Run w before befores mid × Run mid events answers end
@@ -75,7 +75,7 @@ run-take (suc k) w (e ∷ events) (a ∷ answers) end run =
 -- ---- an opening that was answered as one
 
 -- at a place within a list stands what was set there
-slice_get-set_within : {A : Type 0} (xs : List A) (i : ℕ) (y : A) → i < length xs
+pub slice_get-set_within : {A : Type 0} (xs : List A) (i : ℕ) (y : A) → i < length xs
     → slice_get (slice_set xs i y) i ≡ Some y
 slice_get-set_within [] i y h = absurd (omega arith)
 slice_get-set_within (x ∷ xs) zero y h = refl

@@ -1,7 +1,7 @@
 -- Read in this order: ListLemmas; WorldLemmas (updates), SubLemmas and TakenLemmas (one event, one
--- subscription), FairLemmas (what each event keeps); FillLemmas, PutsLemmas and PortLemmas (turns),
--- PassingLemmas (lists, refusals); ReadLemmas, AnswerLemmas, BookLemmas, RunLemmas, OpeningLemmas
--- and HeadlineLemmas (whole runs). Example has scenarios.
+-- subscription), FairLemmas (what each event keeps); PassingLemmas (lists, refusals); FillLemmas,
+-- PutsLemmas, PortLemmas and StillLemmas (turns); ReadLemmas, AnswerLemmas, BookLemmas, RunLemmas,
+-- OpeningLemmas, HeadlineLemmas and PassedOnLemmas (whole runs). Example has scenarios.
 pub mod ListLemmas
 pub mod WorldLemmas
 pub mod SubLemmas
@@ -18,3 +18,5 @@ pub mod PassingLemmas
 pub mod FillLemmas
 pub mod PutsLemmas
 pub mod PortLemmas
+pub mod StillLemmas
+pub mod PassedOnLemmas

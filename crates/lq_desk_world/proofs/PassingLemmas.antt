@@ -52,7 +52,7 @@ lists-passed b s h =
 -- ---- a refusal
 
 -- a place that is set to what stands there leaves the list
-slice_set-same : {A : Type 0} (xs : List A) (i : ℕ) (x : A) → slice_get xs i ≡ Some x
+pub slice_set-same : {A : Type 0} (xs : List A) (i : ℕ) (x : A) → slice_get xs i ≡ Some x
     → slice_set xs i x ≡ xs
 slice_set-same [] i x h = refl
 slice_set-same (y ∷ xs) zero x h = cc

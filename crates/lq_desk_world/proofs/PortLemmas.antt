@@ -44,7 +44,7 @@ abbrev KeepsPort : (Subscribed → Answer × Option Subscribed) → Type 0
 KeepsPort event = (s : Subscribed) → port_in (event s).1 ≡ s.port
 
 -- an event that keeps the size of a port keeps that of each slot's port
-event-port : (w : World) (k j : ℕ) (event : Subscribed → Answer × Option Subscribed)
+pub event-port : (w : World) (k j : ℕ) (event : Subscribed → Answer × Option Subscribed)
     → KeepsPort event
     → port_in (slot_at (at_slot w j (slot_at w j) event).1 k) ≡ port_in (slot_at w k)
 event-port w k j event keeps = by (nat_eq_or k j)
@@ -69,7 +69,7 @@ noticing-port b s = by (is_live s && s.hang_up_asked)
     by false = refl
 
 -- closing keeps the size of the port
-closing-port : (b : Book) → KeepsPort (closing b)
+pub closing-port : (b : Book) → KeepsPort (closing b)
 closing-port b s = by (is_live s)
   where
     by : (x : Bool) → port_in (closing_if b s x).1 ≡ s.port
@@ -77,7 +77,7 @@ closing-port b s = by (is_live s)
     by false = refl
 
 -- noticing a hang-up, in whatever slot, keeps the size of this slot's port
-notice-port : (w : World) (k j : ℕ)
+pub notice-port : (w : World) (k j : ℕ)
     → port_in (slot_at (next w (Notice j)) k) ≡ port_in (slot_at w k)
 notice-port w k j = event-port w k j (noticing w.book) (noticing-port w.book)
 
@@ -88,7 +88,7 @@ slot-notice-port w k j None = refl
 slot-notice-port w k j (Some n) = notice-port w k j
 
 -- the notices of slot after slot keep the size of this slot's port
-notices-port : (ports : List (Option ℕ)) (w : World) (k j : ℕ)
+pub notices-port : (ports : List (Option ℕ)) (w : World) (k j : ℕ)
     → port_in (slot_at (after_all outcome w (at_each one_notice j ports)) k) ≡ port_in (slot_at w k)
 notices-port [] w k j = refl
 notices-port (p ∷ ports) w k j =
@@ -115,7 +115,7 @@ changed-ports b c (Some s ∷ slots) zero = after-port b c s
 changed-ports b c (o ∷ slots) (suc i) = changed-ports b c slots i
 
 -- a change, accepted or refused, keeps the size of this slot's port
-change-port : (w : World) (c : Change_) (k : ℕ)
+pub change-port : (w : World) (c : Change_) (k : ℕ)
     → port_in (slot_at (next w (Change c)) k) ≡ port_in (slot_at w k)
 change-port w c k = by (refused_by (state_of w.book) c)
   where
@@ -133,14 +133,14 @@ change-port w c k = by (refused_by (state_of w.book) c)
 -- ---- turns
 
 -- in a fair world the counts of each slot are in order
-slot-order : (w : World) (k : ℕ) → IsFairWorld w → (o : Option Subscribed) → slot_at w k ≡ o
+pub slot-order : (w : World) (k : ℕ) → IsFairWorld w → (o : Option Subscribed) → slot_at w k ≡ o
     → InOrder o
 slot-order w k fair None is = tt
 slot-order w k fair (Some s) is =
     (all-get (IsFairSlot w.book) w.slots (k - 1) (Some s) fair (slot-found w k s is)).taken
 
 -- so many puts as the port of the slot has places
-room : (v w : World) (k : ℕ) → port_in (slot_at v k) ≡ port_in (slot_at w k)
+pub room : (v w : World) (k : ℕ) → port_in (slot_at v k) ≡ port_in (slot_at w k)
     → gap_in (slot_at v k) ≤ places_at (ports_of w) k
 room v w k same = omega (arith, gap-port (slot_at v k), same, places-port w k)
 
@@ -170,7 +170,7 @@ all-fill v w k fair same = still-answers _ k (by (k == 0) refl)
 
 module _ (join : UpdatesJoin) where
   -- events leave a fair world fair
-  after_all-fair : (events : List Event) (w : World) → IsFairWorld w
+  pub after_all-fair : (events : List Event) (w : World) → IsFairWorld w
       → IsFairWorld (after_all outcome w events)
   after_all-fair [] w h = h
   after_all-fair (e ∷ events) w h = after_all-fair events (next w e) (outcome-fair join w e h)

@@ -13,7 +13,7 @@ use Rattle.lq_desk_world.proofs.FillLemmas.{InOrder, StillIn, after_event, at-bo
 -- ---- puts, in a world
 
 -- a put in a slot is one put there
-put-here : (w : World) (k : ℕ) → slot_at (next w (Put k)) k ≡ put_once w.book (slot_at w k)
+pub put-here : (w : World) (k : ℕ) → slot_at (next w (Put k)) k ≡ put_once w.book (slot_at w k)
 put-here w k = at-here w k (putting w.book) (slot_at w k) refl ∙ by (slot_at w k)
   where
     by : (o : Option Subscribed) → after_event (putting w.book) o ≡ put_once w.book o
@@ -42,7 +42,7 @@ puts-here w k (suc n) = puts-here (next w (Put k)) k n
     ∙ ap (λ o. puts_left w.book n o) (put-here w k))
 
 -- puts in another slot leave this one
-puts-other : (w : World) (k j n : ℕ) → k ≢ j
+pub puts-other : (w : World) (k j n : ℕ) → k ≢ j
     → slot_at (after_all outcome w (puts j n)) k ≡ slot_at w k
 puts-other w k j zero ne = refl
 puts-other w k j (suc n) ne = puts-other (next w (Put j)) k j n ne ∙ put-other w k j ne

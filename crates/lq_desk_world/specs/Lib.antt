@@ -4,4 +4,5 @@ pub mod Turns
 pub mod Runs
 pub mod Fair
 pub mod Headline
+pub mod PassedOn
 pub mod Laws

@@ -34,8 +34,8 @@ at_each events n (port ∷ ports) = at_slot_of events n port ++ at_each events (
 abbrev pub one_notice : ℕ → ℕ → List Event
 one_notice slot port = Notice slot ∷ []
 
--- As many puts as the port has places: nothing moves after them (`Laws`), and a put that moves
--- nothing changes nothing.
+-- As many puts as the port has places. They lead where puts until nothing moves lead, since a put
+-- that moves nothing changes nothing: the law `turns_put_until_still` (`Laws`).
 abbrev pub puts : ℕ → ℕ → List Event
 puts slot port = replicate port (Put slot)
 
@@ -55,7 +55,7 @@ pub record Turn : Type 0 where
 
 -- Before a change come all notices; after it every port is filled. A read and a close come after
 -- the notice of their slot; its port is filled before the read and after the close. Any other event
--- comes alone.
+-- comes alone. To fill a port is to put until nothing moves (`PutsUntilStill` of `Laws`).
 abbrev pub turn_of : List (Option ℕ) → Event → Turn
 turn_of ports (Change c) =
     record { before = notices ports; event = Change c; after = all_puts ports }

@@ -1,5 +1,5 @@
 //! Laws of worlds and of their runs: each is the contract of a function that does nothing.
-ghost use Rattle.lq_desk_world.specs.Laws.{FirstWorldsAreFair, ListsArePassedOn, RefusalsLeaveWorlds, RunsKeepWorldsFair, RunsTellReaders, TurnsFillPorts};
+ghost use Rattle.lq_desk_world.specs.Laws.{FirstWorldsAreFair, ListsArePassedOn, ReadsArePassedOn, RefusalsLeaveWorlds, RunsKeepWorldsFair, RunsTellReaders, TurnsFillPorts, TurnsPutUntilStill};
 
 use lq_update::{folds_give_results, updates_grow, updates_join, whole_folds_give_results};
 use lq_volume::changes_are_counted;
@@ -33,6 +33,25 @@ pub fn lists_are_passed_on()
 /// close, and before a read, the port of its slot takes none.
 pub fn turns_fill_ports()
     ensures { TurnsFillPorts }
+{
+    updates_join();
+}
+
+/// The puts of a turn are puts until nothing moves: all but the last one move a parcel. After a
+/// change they are those of each taken slot, in rising order; after a close, and before a read,
+/// those of its slot.
+pub fn turns_put_until_still()
+    ensures { TurnsPutUntilStill }
+{
+    updates_join();
+}
+
+/// The list of each subscription that a run opens is passed on: the parcels among the answers to
+/// its reads are those that were taken from it. They, then what is in its port, what is held for
+/// it, and a mark that wasn't put yet, are its whole list. Once its slot was freed, all of it was
+/// read.
+pub fn reads_are_passed_on()
+    ensures { ReadsArePassedOn }
 {
     updates_join();
 }

@@ -11,6 +11,6 @@ mod laws;
 
 pub use event::{Act, Event};
 pub use laws::{
-    first_worlds_are_fair, lists_are_passed_on, readers_are_told, refusals_leave_worlds,
-    runs_keep_worlds_fair, turns_fill_ports,
+    first_worlds_are_fair, lists_are_passed_on, readers_are_told, reads_are_passed_on,
+    refusals_leave_worlds, runs_keep_worlds_fair, turns_fill_ports, turns_put_until_still,
 };

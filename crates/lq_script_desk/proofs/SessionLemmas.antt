@@ -5,10 +5,10 @@ use Rattle.lq_desk_world.specs.World.{World}
 use Rattle.lq_desk_world.specs.declared.event.Event.{Event}
 use Rattle.lq_desk_world.specs.Events.{Answer}
 use Rattle.lq_desk_world.specs.Runs.{Run}
-use Rattle.lq_desk_world.specs.Turns.{events_in}
+use Rattle.lq_desk_world.specs.Turns.{events_in, ports_of, turn_of}
 use Rattle.lq_desk_world.specs.Laws.{FirstWorldsAreFair, RunsTellReaders}
 use Rattle.lq_desk.specs.Kept.{Kept, Shows}
-use Rattle.lq_desk.specs.Turn.{TurnRuns, kept_turn}
+use Rattle.lq_desk.specs.Turn.{TurnRuns}
 use Rattle.lq_script_request.specs.declared.question.Question.{Question}
 use Rattle.lq_script_request.specs.declared.question.Question.TheVariants as question
 use Rattle.lq_script_desk.specs.Keeps.{first_kept}
@@ -28,7 +28,7 @@ run-append w mid end (e ∷ events) more (a ∷ answers) mores first rest =
 
 -- a turn that is a run from every world shown keeps the history
 pub turn-history : (old new : Kept) (e : Event) (a : Answer)
-    → ((w : World) → Shows old w → TurnRuns old new w e a) → KeepsHistory old new e a
+    → ((w : World) → Shows old w → TurnRuns new w e a) → KeepsHistory old new e a
 turn-history old new e a runs events answers was =
     let turn = runs was.world was.shows in record {
       befores = turn.before;
@@ -36,8 +36,9 @@ turn-history old new e a runs events answers was =
       place = turn.place;
       history = record {
         world = turn.runs.end;
-        run = run-append script_world was.world turn.runs.end events (events_in (kept_turn old e))
-            answers (turn.before ++ a ∷ turn.after) was.run turn.runs.run;
+        run = run-append script_world was.world turn.runs.end events
+            (events_in (turn_of (ports_of was.world) e)) answers
+            (turn.before ++ a ∷ turn.after) was.run turn.runs.run;
         shows = turn.runs.shows;
       };
     }

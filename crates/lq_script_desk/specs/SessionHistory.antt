@@ -6,10 +6,10 @@ use Rattle.lq_desk_world.specs.World.{World}
 use Rattle.lq_desk_world.specs.declared.event.Event.{Event}
 use Rattle.lq_desk_world.specs.Events.{Answer}
 use Rattle.lq_desk_world.specs.Runs.{Run}
-use Rattle.lq_desk_world.specs.Turns.{events_in}
+use Rattle.lq_desk_world.specs.Turns.{events_in, ports_of, turn_of}
 use Rattle.lq_desk_world.specs.Headline.{ReadersAreTold}
 use Rattle.lq_desk.specs.Kept.{Kept, Shows}
-use Rattle.lq_desk.specs.Turn.{kept_turn, kept_turn_outcome}
+use Rattle.lq_desk.specs.Turn.{kept_turn_outcome}
 use Rattle.lq_script_request.specs.declared.question.Question.{Question}
 use Rattle.lq_script_request.specs.declared.question.Question.TheVariants as question
 use Rattle.lq_script_desk.specs.Script.{script_world}
@@ -21,21 +21,21 @@ pub record IsHistory (k : Kept) (events : List Event) (answers : List Answer) : 
   pub run : Run script_world events answers world
   pub shows : Shows k world
 
--- The history after a turn: the old one, then the turn's events and the answers to them, in which
--- the event's own answer has the event's place.
-pub record GoesOn (old new : Kept) (e : Event) (a : Answer) (events : List Event)
+-- The history after a turn from a world: the old one, then the turn's events and the answers to
+-- them, in which the event's own answer has the event's place.
+pub record GoesOn (w : World) (new : Kept) (e : Event) (a : Answer) (events : List Event)
     (answers : List Answer) : Type 0 where
   pub befores : List Answer
   pub afters : List Answer
-  pub place : length befores ≡ length (kept_turn old e).before
-  pub history : IsHistory new (events ++ events_in (kept_turn old e))
+  pub place : length befores ≡ length (turn_of (ports_of w) e).before
+  pub history : IsHistory new (events ++ events_in (turn_of (ports_of w) e))
       (answers ++ (befores ++ a ∷ afters))
 
 -- whatever history the desk had, the turn goes on from it
 abbrev pub KeepsHistory : Kept → Kept → Event → Answer → Type 0
 KeepsHistory old new e a =
-    (events : List Event) (answers : List Answer) → IsHistory old events answers
-    → GoesOn old new e a events answers
+    (events : List Event) (answers : List Answer) (was : IsHistory old events answers)
+    → GoesOn was.world new e a events answers
 
 -- What a line that asks this does to the history. Its event, if it asks for one, has its turn, and
 -- the reply tells the answer of that turn. A line that was refused for want of memory may leave the

@@ -1,5 +1,5 @@
 -- Folding what two results differ by over the one gives the other.
-use Rattle.std.proofs.Common.{◌≡◌, ℕ, ◌+◌, ◌<◌, List, [], ◌∷◌, ◌++◌, refl, sym, ap, ◌∙◌, Bool, true, false, arith, inl, inr}
+use Rattle.std.proofs.Common.{◌≡◌, ℕ, ◌+◌, ◌<◌, List, [], ◌∷◌, ◌++◌, refl, sym, ap, subst, ◌∙◌, Bool, true, false, arith, inl, inr}
 use Rattle.std.specs.Prelude.{Option, Some, None, is_some, map, not, ◌&&◌, ◌==◌, filter, if◌then◌else◌}
 use Rattle.std.specs.Option.{option_map, option_map_or, option_to_list}
 use Rattle.std.specs.List.{AllByRecursion, list_any}
@@ -10,10 +10,11 @@ use Rattle.lq_value.specs.declared.entry.Entry.{Entry}
 use Rattle.lq_update.specs.declared.message.Opcode.{Opcode}
 use Rattle.lq_update.specs.declared.message.Opcode.TheVariants.{Created, Removed, Moved}
 use Rattle.lq_update.specs.declared.message.Message.{Message}
-use Rattle.lq_update.specs.Diff.{same_entry, missing, has_node, alone, moves, messages_of}
+use Rattle.lq_update.specs.Diff.{same_entry, missing, has_node, moves, messages_of}
 use Rattle.lq_update.specs.Touched.{left, told_first}
 use Rattle.lq_update.specs.Updates.{numbered}
 use Rattle.lq_update.specs.Fold.{EntriesRise, taken_out, old_entry, folded_by, fits_by, folded, folded_one, fits_in}
+use Rattle.lq_update.proofs.ToldLemmas.{alone_if, messages-split}
 use Rattle.lq_update.proofs.EntryLemmas.{Above, entry_at, at-above, at-node, has_node-at, has_entry-at, at-filter, rises-filter, at-put_in, rises-put_in, at-taken_out, same-self, same-entry, entries-same}
 
 -- ---- one message, without its numbers
@@ -300,7 +301,7 @@ missing-at n es fs h k = at-filter _ n es h ∙ at (entry_at n es) refl
 
 -- the entry that stands alone at a node is its own, unless a move tells of both
 alone-at : (moved : Bool) (n : ℕ) (es fs : List Entry) → EntriesRise es
-    → entry_at n (alone moved es fs) ≡ told_first moved (entry_at n es) (entry_at n fs)
+    → entry_at n (alone_if moved es fs) ≡ told_first moved (entry_at n es) (entry_at n fs)
 alone-at moved n es fs h = at-filter _ n es h ∙ at (entry_at n es) refl
   where
     by : (moved : Bool) (e : Entry) (o : Option Entry) → has_node e.node fs ≡ is_some o
@@ -431,7 +432,7 @@ same-nodes n es fs = at (entry_at n es) refl (entry_at n fs) refl
 module _ (moved : Bool) (es fs : List Entry) (h : EntriesRise es) (k : EntriesRise fs) where
   -- the removed messages of their difference
   abbrev removed_ops : List Op
-  removed_ops = map (λ e. (Removed, e)) (alone moved (missing es fs) (missing fs es))
+  removed_ops = map (λ e. (Removed, e)) (alone_if moved (missing es fs) (missing fs es))
 
   -- the moved messages
   abbrev moved_ops : List Op
@@ -439,7 +440,7 @@ module _ (moved : Bool) (es fs : List Entry) (h : EntriesRise es) (k : EntriesRi
 
   -- the created messages
   abbrev created_ops : List Op
-  created_ops = map (λ e. (Created, e)) (alone moved (missing fs es) (missing es fs))
+  created_ops = map (λ e. (Created, e)) (alone_if moved (missing fs es) (missing es fs))
 
   -- what left rises
   gone-rises : EntriesRise (missing es fs)
@@ -452,14 +453,14 @@ module _ (moved : Bool) (es fs : List Entry) (h : EntriesRise es) (k : EntriesRi
   -- the removed message of a node is the one by what left there and what came
   removed-at : (n : ℕ) → op_at n removed_ops ≡ removed_op moved
       (left (entry_at n es) (entry_at n fs)) (left (entry_at n fs) (entry_at n es))
-  removed-at n = op_at-map Removed n (alone moved (missing es fs) (missing fs es))
+  removed-at n = op_at-map Removed n (alone_if moved (missing es fs) (missing fs es))
       ∙ ap (option_map (λ e. (Removed, e))) (alone-at moved n (missing es fs)
       (missing fs es) gone-rises ∙ rw (missing-at n es fs h k, missing-at n fs es k h) refl)
 
   -- and so is the created one
   created-at : (n : ℕ) → op_at n created_ops ≡ created_op moved
       (left (entry_at n es) (entry_at n fs)) (left (entry_at n fs) (entry_at n es))
-  created-at n = op_at-map Created n (alone moved (missing fs es) (missing es fs))
+  created-at n = op_at-map Created n (alone_if moved (missing fs es) (missing es fs))
       ∙ ap (option_map (λ e. (Created, e))) (alone-at moved n (missing fs es)
       (missing es fs) came-rises ∙ rw (missing-at n es fs h k, missing-at n fs es k h) refl)
 
@@ -523,9 +524,10 @@ module _ (moved : Bool) (es fs : List Entry) (h : EntriesRise es) (k : EntriesRi
 
   -- folding the difference over the first list gives the second
   pub told-folds : ops_folded es (messages_of moved (missing es fs) (missing fs es)) ≡ fs
-  told-folds = ops_folded-append es (removed_ops ++ moved_ops) created_ops
+  told-folds = ap (ops_folded es) (messages-split moved (missing es fs) (missing fs es))
+      ∙ (ops_folded-append es (removed_ops ++ moved_ops) created_ops
       ∙ (ap (λ r. ops_folded r created_ops) (ops_folded-append es removed_ops moved_ops)
-      ∙ entries-same _ fs third_phase.rise k at-third)
+      ∙ entries-same _ fs third_phase.rise k at-third))
 
   -- the messages of the difference fit, one after another
   pub told-fits : OpsFit es (messages_of moved (missing es fs) (missing fs es))
@@ -534,7 +536,8 @@ module _ (moved : Bool) (es fs : List Entry) (h : EntriesRise es) (k : EntriesRi
       fit-append es removed_ops moved_ops first_phase.fit second_phase.fit in
       let third : OpsFit (ops_folded es (removed_ops ++ moved_ops)) created_ops =
       rw (ops_folded-append es removed_ops moved_ops) third_phase.fit in
-      fit-append es (removed_ops ++ moved_ops) created_ops both third
+      subst (λ (xs : List Op). OpsFit es xs) (sym (messages-split moved (missing es fs) (missing fs es)))
+      (fit-append es (removed_ops ++ moved_ops) created_ops both third)
 
 -- ---- with their numbers
 

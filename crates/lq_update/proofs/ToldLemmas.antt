@@ -1,6 +1,6 @@
 -- What a removed and a created entry of one node tell, among removed ones of other nodes.
 use Rattle.std.proofs.Common.{◌≡◌, ◌≢◌, ℕ, List, [], ◌∷◌, ◌++◌, refl, sym, ap, ◌∙◌, Bool, true, false, arith, append-nil, append_assoc}
-use Rattle.std.specs.Prelude.{map, not, ◌&&◌, ◌==◌, Option, Some, None}
+use Rattle.std.specs.Prelude.{map, filter, not, ◌&&◌, ◌==◌, Option, Some, None, if◌then◌else◌}
 use Rattle.std.specs.Option.{option_to_list}
 use Rattle.std.specs.List.{AllByRecursion}
 use Rattle.std.proofs.lemmas.Bool.Decides.{nat_tests}
@@ -20,16 +20,28 @@ Has n (Some e) = e.node ≡ n
 abbrev pub Lacks : ℕ → List Entry → Type 0
 Lacks n es = AllByRecursion (λ e. e.node ≢ n) es
 
--- where moves aren't told, all entries stand alone
-alone-false : (es fs : List Entry) → alone false es fs ≡ es
+-- the entries with messages of their own, with moves or without
+abbrev pub alone_if : Bool → List Entry → List Entry → List Entry
+alone_if moved entries others = filter (λ e. not (moved && has_node e.node others)) entries
+
+-- without moves these are all entries
+alone-false : (es fs : List Entry) → alone_if false es fs ≡ es
 alone-false [] fs = refl
 alone-false (e ∷ es) fs = ap (λ rest. e ∷ rest) (alone-false es fs)
 
+-- the messages with moves and those without, in one form
+pub messages-split : (moved : Bool) (gone come : List Entry) → messages_of moved gone come
+    ≡ map (λ e. (Removed, e)) (alone_if moved gone come)
+    ++ (if moved then moves gone come else [])
+    ++ map (λ e. (Created, e)) (alone_if moved come gone)
+messages-split true gone come = refl
+messages-split false gone come =
+    rw (alone-false gone come, alone-false come gone, append-nil) refl
+
 -- where nothing came, all that left stand alone
-alone-nil : (moved : Bool) (es : List Entry) → alone moved es [] ≡ es
-alone-nil moved [] = refl
-alone-nil true (e ∷ es) = ap (λ rest. e ∷ rest) (alone-nil true es)
-alone-nil false (e ∷ es) = ap (λ rest. e ∷ rest) (alone-nil false es)
+alone-nil : (es : List Entry) → alone es [] ≡ es
+alone-nil [] = refl
+alone-nil (e ∷ es) = ap (λ rest. e ∷ rest) (alone-nil es)
 
 -- where nothing came, nothing moved
 moves-nil : (es : List Entry) → moves es [] ≡ []
@@ -37,7 +49,7 @@ moves-nil [] = refl
 moves-nil (e ∷ es) = moves-nil es
 
 -- entries of other nodes than the one that came stand alone
-alone-off : (f : Entry) (es : List Entry) → Lacks f.node es → alone true es (f ∷ []) ≡ es
+alone-off : (f : Entry) (es : List Entry) → Lacks f.node es → alone es (f ∷ []) ≡ es
 alone-off f [] off = refl
 alone-off f (e ∷ es) off =
     let differs = off.0 in
@@ -62,14 +74,14 @@ has_node-off n (e ∷ es) fs off =
 
 -- the one that came, where its node was not there before
 alone-came : (n : ℕ) (f : Entry) (es : List Entry) → f.node ≡ n → has_node n es ≡ false
-    → alone true (f ∷ []) es ≡ f ∷ []
+    → alone (f ∷ []) es ≡ f ∷ []
 alone-came n f es at off =
     let off_here : has_node f.node es ≡ false = ap (λ k. has_node k es) at ∙ off in
     rw off_here refl
 
 -- and where it was
 alone-moved : (n : ℕ) (f : Entry) (es : List Entry) → f.node ≡ n → has_node n es ≡ true
-    → alone true (f ∷ []) es ≡ []
+    → alone (f ∷ []) es ≡ []
 alone-moved n f es at on =
     let on_here : has_node f.node es ≡ true = ap (λ k. has_node k es) at ∙ on in
     rw on_here refl
@@ -101,22 +113,18 @@ pub told-among : (moved : Bool) (n : ℕ) (o c : Option Entry) (es fs : List Ent
     → messages_of moved (es ++ option_to_list o ++ fs) (option_to_list c)
     ≡ map (λ e. (Removed, e)) (es ++ option_to_list (told_first moved o c) ++ fs)
     ++ option_to_list (told_last moved o c)
-told-among false n o c es fs p q off end =
-    rw (
-      alone-false (es ++ option_to_list o ++ fs) (option_to_list c),
-      alone-false (option_to_list c) (es ++ option_to_list o ++ fs),
-    ) (at o c)
+told-among false n o c es fs p q off end = at o c
   where
-    at : (o c : Option Entry) → map (λ e. (Removed, e)) (es ++ option_to_list o ++ fs) ++ []
+    at : (o c : Option Entry) → map (λ e. (Removed, e)) (es ++ option_to_list o ++ fs)
         ++ map (λ e. (Created, e)) (option_to_list c)
         ≡ map (λ e. (Removed, e)) (es ++ option_to_list (told_first false o c) ++ fs)
         ++ option_to_list (told_last false o c)
-    at o None = rw append-nil refl
-    at None (Some f) = rw append-nil refl
-    at (Some e) (Some f) = rw append-nil refl
+    at o None = refl
+    at None (Some f) = refl
+    at (Some e) (Some f) = refl
 told-among true n o None es fs p q off end =
     rw (
-      alone-nil true (es ++ option_to_list o ++ fs),
+      alone-nil (es ++ option_to_list o ++ fs),
       moves-nil (es ++ option_to_list o ++ fs),
     ) (rw (append-nil, append-nil) refl)
 told-among true n None (Some f) es fs p q off end =
@@ -134,10 +142,10 @@ told-among true n (Some e) (Some f) es fs p q off end =
     let before : Lacks f.node es = rw q off in
     let behind : Lacks f.node fs = rw q end in
     let here = same_node e f (p ∙ sym q) in
-    let left_is : alone true (es ++ (e ∷ []) ++ fs) (f ∷ []) ≡ es ++ [] ++ fs =
+    let left_is : alone (es ++ (e ∷ []) ++ fs) (f ∷ []) ≡ es ++ [] ++ fs =
     filter-append _ (es ++ e ∷ []) fs
     ∙ rw (
-      filter-append (λ d. not (true && has_node d.node (f ∷ []))) es (e ∷ []),
+      filter-append (λ d. not (has_node d.node (f ∷ []))) es (e ∷ []),
       alone-off f es before,
       alone-off f fs behind,
       here,

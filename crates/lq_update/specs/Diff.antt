@@ -1,5 +1,5 @@
 -- What leaves and enters a query's result from one state to another.
-use Rattle.std.specs.Prelude.{ℕ, List, [], ◌++◌, Bool, not, ◌&&◌, ◌==◌, map, filter, if◌then◌else◌}
+use Rattle.std.specs.Prelude.{ℕ, List, ◌++◌, Bool, true, false, not, ◌&&◌, ◌==◌, map, filter}
 use Rattle.std.specs.List.{list_any, flat_map}
 use Rattle.std.specs.Str.{bytes_eq}
 use Rattle.lq_value.specs.declared.entry.Entry.{Entry}
@@ -21,21 +21,31 @@ missing entries others = filter (λ e. not (list_any (same_entry e) others)) ent
 abbrev pub has_node : ℕ → List Entry → Bool
 has_node node entries = list_any (λ e. e.node == node) entries
 
--- the entries with messages of their own: with `moved`, those whose node is in no other entry
-abbrev pub alone : Bool → List Entry → List Entry → List Entry
-alone moved entries others = filter (λ e. not (moved && has_node e.node others)) entries
+-- without moves: a removed message for each entry that left, then a created one for each that came
+abbrev pub without_moves : List Entry → List Entry → List (Opcode × Entry)
+without_moves gone come = map (λ e. (Removed, e)) gone ++ map (λ e. (Created, e)) come
+
+-- the entries whose node is in none of the others
+abbrev pub alone : List Entry → List Entry → List Entry
+alone entries others = filter (λ e. not (has_node e.node others)) entries
 
 -- a move from the old place to the new one, for each node that has both
 abbrev pub moves : List Entry → List Entry → List (Opcode × Entry)
 moves gone come =
     flat_map (λ e. map (λ f. (Moved e.dir e.name, f)) (filter (λ f. f.node == e.node) come)) gone
 
+-- With moves: where a node has a removed and a created message, one moved message stands in place
+-- of both, between the removed and the created ones.
+abbrev pub with_moves : List Entry → List Entry → List (Opcode × Entry)
+with_moves gone come =
+    map (λ e. (Removed, e)) (alone gone come)
+    ++ moves gone come
+    ++ map (λ e. (Created, e)) (alone come gone)
+
 -- the messages for the entries that left and those that came
 abbrev pub messages_of : Bool → List Entry → List Entry → List (Opcode × Entry)
-messages_of moved gone come =
-    map (λ e. (Removed, e)) (alone moved gone come)
-    ++ (if moved then moves gone come else [])
-    ++ map (λ e. (Created, e)) (alone moved come gone)
+messages_of false gone come = without_moves gone come
+messages_of true gone come = with_moves gone come
 
 -- What left the result and what came into it: the removed, the moved and the created entries, each
 -- by rising node.

@@ -20,6 +20,7 @@ pub use entry_ref::{EntryRef, Listing};
 pub use entry_view::EntryView;
 pub use laws::{
     accepted_changes_keep_trees, changes_are_counted, clobbered_nodes_go, untouched_nodes_stay,
+    walks_are_bounded,
 };
 pub use lq_volume_entries::values_are_found;
 pub use planned::Planned;

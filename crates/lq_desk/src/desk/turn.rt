@@ -20,11 +20,19 @@ impl Desk {
     /// after the notice of its slot, whose port is filled after it. Any other event comes alone.
     /// The event is refused as `event` refuses it, and the rest of its turn stands.
     pub fn turn(&mut self, event: &Event) -> Reply
-        ensures kept { TurnStep self.old event.now (answer_of result) self.new }
         ensures outcome { (answer_of result ≡ Refused NoMemory)
             ⊎ ((answer_of result, self.new) ≡ kept_turn_outcome self.old event.now) }
         ensures run { (w : World) → Shows self.old w →
-            TurnRuns self.old self.new w event.now (answer_of result) }
+            TurnRuns self.new w event.now (answer_of result) }
+    {
+        kept_shows_worlds();
+        self.carry_out_turn(event)
+    }
+
+    // Carries out a turn and answers its event.
+    #[inline(always)]
+    fn carry_out_turn(&mut self, event: &Event) -> Reply
+        ensures { TurnStep self.old event.now (answer_of result) self.new }
     {
         kept_shows_worlds();
         let number = self.volume.changes();

@@ -2,6 +2,7 @@
 ghost use Rattle.std.specs.Prelude.{◌≡◌, IfOk};
 ghost use Rattle.std.specs.Option.{option_map};
 ghost use Rattle.lq_value.specs.Refusal.{FailsOnlyForMemory};
+ghost use Rattle.lq_desk.specs.Kept.{ShowsSome};
 ghost use Rattle.lq_desk.specs.Reply.{answer_of};
 ghost use Rattle.lq_script_desk.specs.Folds.{fold_at};
 ghost use Rattle.lq_script_desk.specs.Keeps.{first_kept, keeps};
@@ -28,8 +29,11 @@ impl Session {
     }
 
     /// The volume as it is now. It takes no memory.
+    ///
+    /// The desk of every session shows some world, whose book leads to this volume.
     pub fn volume(&self) -> &Volume
-        ensures { result.now ≡ (keeps self.now).core.volume }
+        ensures volume { result.now ≡ (keeps self.now).core.volume }
+        ensures world { ShowsSome (keeps self.now).core }
     {
         self.desk.volume()
     }

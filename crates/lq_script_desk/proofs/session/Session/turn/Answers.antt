@@ -4,7 +4,7 @@ use Rattle.lq_script_desk.proofs.session.Session.turn.Goals as goal
 
 pub returns : goal.returns
 returns c = record {
-  step = c.turn-reply.ensures.kept;
+  run = c.turn-reply.ensures.run;
   outcome = c.turn-reply.ensures.outcome;
   folds = search rules;
   history = turn-history _ _ _ _ c.turn-reply.ensures.run;

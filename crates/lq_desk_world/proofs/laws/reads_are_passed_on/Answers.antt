@@ -1,0 +1,5 @@
+use Rattle.lq_desk_world.proofs.PassedOnLemmas.{reads-passed}
+use Rattle.lq_desk_world.proofs.laws.reads_are_passed_on.Goals as goal
+
+pub returns : goal.returns
+returns c = reads-passed c.updates_join.ensures

@@ -1,0 +1,5 @@
+use Rattle.lq_desk_world.proofs.StillLemmas.{turns-until}
+use Rattle.lq_desk_world.proofs.laws.turns_put_until_still.Goals as goal
+
+pub returns : goal.returns
+returns c = turns-until c.updates_join.ensures
