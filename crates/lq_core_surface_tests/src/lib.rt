@@ -8,7 +8,13 @@ mod changes;
 #[cfg(test)]
 mod desks;
 #[cfg(test)]
+mod indexed;
+#[cfg(test)]
+mod making;
+#[cfg(test)]
 mod predicates;
+#[cfg(test)]
+mod readying;
 #[cfg(test)]
 mod subs;
 #[cfg(test)]

@@ -129,27 +129,29 @@ fn told(
     ensures value { IfOk result (λ all. all.items ≡ messages_of moved gone.now come.now) }
 {
     let mut all = Vec::new(alloc);
-    put_removed(alloc, &mut all, moved, gone, come)?;
-    if moved {
-        put_moved(alloc, &mut all, gone, come)?;
+    if !moved {
+        put_removed(alloc, &mut all, gone, &[])?;
+        put_created(alloc, &mut all, come, &[])?;
+        return Ok(all);
     }
-    put_created(alloc, &mut all, moved, come, gone)?;
+    put_removed(alloc, &mut all, gone, come)?;
+    put_moved(alloc, &mut all, gone, come)?;
+    put_created(alloc, &mut all, come, gone)?;
     Ok(all)
 }
 
 fn put_removed(
     alloc: Global,
     all: &mut Vec<(Opcode, Entry)>,
-    moved: bool,
     gone: &[Entry],
     come: &[Entry],
 ) -> Result<(), Refusal>
     ensures refused { FailsOnlyForMemory result }
     ensures all { OnOk result (all.new.items
-        ≡ all.old.items ++ map (λ e. (Removed, e)) (alone moved gone.now come.now)) }
+        ≡ all.old.items ++ map (λ e. (Removed, e)) (alone gone.now come.now)) }
 {
     for entry in gone {
-        if !(moved && has_node(entry.node, come)) {
+        if !has_node(entry.node, come) {
             all.push((Opcode::Removed, copy_of(alloc, entry)?))?;
         }
     }
@@ -159,16 +161,15 @@ fn put_removed(
 fn put_created(
     alloc: Global,
     all: &mut Vec<(Opcode, Entry)>,
-    moved: bool,
     come: &[Entry],
     gone: &[Entry],
 ) -> Result<(), Refusal>
     ensures refused { FailsOnlyForMemory result }
     ensures all { OnOk result (all.new.items
-        ≡ all.old.items ++ map (λ e. (Created, e)) (alone moved come.now gone.now)) }
+        ≡ all.old.items ++ map (λ e. (Created, e)) (alone come.now gone.now)) }
 {
     for entry in come {
-        if !(moved && has_node(entry.node, gone)) {
+        if !has_node(entry.node, gone) {
             all.push((Opcode::Created, copy_of(alloc, entry)?))?;
         }
     }

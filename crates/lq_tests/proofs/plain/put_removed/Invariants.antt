@@ -6,4 +6,4 @@ use Rattle.lq_tests.proofs.plain.put_removed.Given as goal
 -- what is told of the entries so far
 abbrev pub invariant-loop-entry : goal.invariant-loop-entry
 invariant-loop-entry l = l.all.items
-    ≡ l.fn.all.items ++ map (λ e. (Removed, e)) (alone l.moved (take l.entry-index l.gone) l.come)
+    ≡ l.fn.all.items ++ map (λ e. (Removed, e)) (alone (take l.entry-index l.gone) l.come)
