@@ -9,7 +9,7 @@ use Rattle.lq_predicate.specs.Query.{Query}
 use Rattle.lq_predicate.specs.Faults.{Reads}
 use Rattle.lq_predicate.specs.Canonical.{canonical}
 use Rattle.lq_script_lines.specs.Lines.{Begins}
-use Rattle.lq_script_lines.specs.Output.{Ended, Passed}
+use Rattle.lq_script_lines.specs.Output.{Ended, Halted, Passed}
 use Rattle.lq_script_lines.specs.declared.run_fault.RunFault.{RunFault}
 use Rattle.lq_script_lines.specs.declared.run_fault.RunFault.TheVariants.{Read, Write, Limit, Memory, Thread}
 use Rattle.lq_script_desk.specs.Script.{script_session, world_rules}
@@ -92,7 +92,8 @@ pub record PrintsFront (formula : List ℕ) (written written' : Option (List ℕ
 
 -- What each fault says. Read: the reader failed, and exactly the lines ended by LF are answered.
 -- Write: the writer failed, or accepted none of some bytes. Limit: a limit was reached, and exactly
--- the lines before it that LF ended are answered. No thread is started.
+-- the lines before it that LF ended are answered. Memory: the reader hasn't failed, each write took
+-- some bytes, and exactly some first lines are answered. No thread is started.
 abbrev pub IsFaultOf : RunFault → Option (List ℕ) → Option (List ℕ) → Bool
     → Option (List ℕ) → Option (List ℕ) → Bool → Bool → Type 0
 IsFaultOf Read left left' fails written written' failed stalled =
@@ -101,7 +102,9 @@ IsFaultOf Write left left' fails written written' failed stalled =
     (failed ≡ true) ⊎ (stalled ≡ true)
 IsFaultOf Limit left left' fails written written' failed stalled =
     Passed world_rules script_session left left' written written'
-IsFaultOf Memory left left' fails written written' failed stalled = Unit {0}
+IsFaultOf Memory left left' fails written written' failed stalled =
+    ((fails ≡ false) × (stalled ≡ false))
+    × Halted world_rules script_session left left' written written'
 IsFaultOf Thread left left' fails written written' failed stalled = ⊥
 
 -- `threads`

@@ -27,6 +27,6 @@ mod workers;
 pub use checking::check;
 pub use gate::{Gate, OpenGate};
 pub use lq_script_desk::run;
-pub use lq_script_lines::{Failed, Host, RunFault, Sink, Source};
+pub use lq_script_lines::{Client, Failed, Host, RunFault, Sink, Source};
 pub use threads::run_threads;
 pub use words::program;

@@ -103,8 +103,8 @@ fn check_formula<W: Sink, F: Sink>(
     ensures stopped { result ≡ 1 → (writer.new ≡ writer.old)
         ⊎ PrintsFront formula.now (W.written writer.old) (W.written writer.new) }
     ensures fault { result ≡ 1 →
-        Tells (fault_line RunFault.Memory) (F.written faults.old) (F.written faults.new)
-        (F.failed faults.new) (F.stalled faults.new)
+        (Tells (fault_line RunFault.Memory) (F.written faults.old) (F.written faults.new)
+        (F.failed faults.new) (F.stalled faults.new) × (writer.new ≡ writer.old))
         ⊎ (Tells (fault_line RunFault.Write) (F.written faults.old) (F.written faults.new)
         (F.failed faults.new) (F.stalled faults.new)
         × ((W.failed writer.new ≡ true) ⊎ (W.stalled writer.new ≡ true))) }

@@ -10,7 +10,7 @@ use Rattle.lq_desk.specs.Kept.{Kept, Shows}
 use Rattle.lq_desk.specs.Turn.{kept_turn_outcome}
 use Rattle.lq_desk.specs.Laws.{KeptTurnsShowWorlds}
 use Rattle.lq_script_lines.specs.Lines.{Begins, Line, long, empty, whole, line_of, lines_of, ended_lines, reply_to, state_after, replies_to}
-use Rattle.lq_script_lines.specs.Output.{Answered, Ended, Passed, Stopped}
+use Rattle.lq_script_lines.specs.Output.{Answered, Ended, Halted, Passed, Stopped}
 use Rattle.lq_script_lines.specs.Outcome.{IsRunOutcome, ReaderLog, WriterLog}
 use Rattle.lq_script_lines.specs.declared.run_fault.RunFault.{RunFault}
 use Rattle.std.proofs.lemmas.Result.{on_err_weaker, on_ok_weaker}
@@ -125,6 +125,18 @@ module _ (law : KeptTurnsShowWorlds) where
           (replies-alike s t (ended_lines a.given) alike) a.appended;
     }
 
+    -- and what says that it stopped between two lines
+    pub halted-world : Halted kept_rules s left left' written written'
+        → Halted world_rules t left left' written written'
+    halted-world a = record {
+      given = a.given;
+      consumed = a.consumed;
+      lines = a.lines;
+      rest = a.rest;
+      front = a.front;
+      appended = subst (Appends written written') (replies-alike s t a.lines alike) a.appended;
+    }
+
     -- and what says that it stopped at a limit
     pub passed-world : Passed kept_rules s left left' written written'
         → Passed world_rules t left left' written written'
@@ -153,6 +165,8 @@ module _ (law : KeptTurnsShowWorlds) where
     flush = o.flush;
     read = λ is. ended-world s t alike r.left r.left' w.written w.written' (o.read is);
     limit = λ is. passed-world s t alike r.left r.left' w.written w.written' (o.limit is);
+    memory = λ is. halted-world s t alike r.left r.left' w.written w.written' (o.memory is);
+    memory_works = o.memory_works;
     read_fails = o.read_fails;
     write_fails = o.write_fails;
     no_thread = o.no_thread;

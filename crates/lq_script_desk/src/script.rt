@@ -1,6 +1,6 @@
 //! A whole script over a volume with the root alone.
 ghost use Rattle.std.specs.Prelude.{◌≡◌, false};
-ghost use Rattle.lq_script_lines.specs.Outcome.{IsRunOutcome, reader_log, writer_log};
+ghost use Rattle.lq_script_lines.specs.Outcome.{IsRunOutcome, MayReadAfterReplies, reader_log, writer_log};
 ghost use Rattle.lq_script_desk.specs.Script.{script_session, world_rules};
 ghost use Rattle.lq_script_desk.specs.History.{TellsReaders};
 
@@ -8,18 +8,21 @@ use crate::laws::scripts_tell_readers;
 use crate::rebuilds::no_rebuilds;
 use crate::session::Session;
 use lq_desk::{Desk, kept_turns_show_worlds};
-use lq_script_lines::{RunFault, Sink, Source, out_of_memory, run_lines};
+use lq_script_lines::{Client, RunFault, Sink, out_of_memory, run_lines};
 use lq_volume::{MAX_CHANGES, Volume};
 use std::alloc::Global;
 
 /// Carries out a script: reads lines to the end of the input, and writes a reply to each.
 ///
-/// Before each read of the device, and before the call answers, the writer has every reply so far.
-/// The writer is flushed once at the end, also after `Read`, `Limit` and `Memory`. Refused with the
-/// first fault: `Read` and `Write` where that device failed, `Write` also where the writer took
-/// none of the bytes given, `Limit` where a byte follows 10,000,000 lines or 1,073,741,824 bytes,
-/// `Memory`, also where the run can't begin. The formats and limits are our own.
-pub fn run<R: Source, W: Sink>(
+/// At each read of the device the writer has exactly the replies to the lines that LF ended by
+/// then: a reader that may be read at just these moments will do (`waits`). The writer is flushed
+/// once at the end, also after `Read`, `Limit` and `Memory`. Refused with the first fault: `Read`
+/// and `Write` where that device failed, `Write` also where the writer took none of the bytes
+/// given, `Limit` where a byte follows 10,000,000 lines or 1,073,741,824 bytes, `Memory`, also
+/// where the run can't begin. After `Read` and `Limit` exactly the lines that LF ended are
+/// answered, after `Memory` some first lines, and after `Write` a prefix of the replies is written.
+/// The formats and limits are our own.
+pub fn run<R: Client, W: Sink>(
     alloc: Global,
     reader: &mut R,
     writer: &mut W,
@@ -27,6 +30,8 @@ pub fn run<R: Source, W: Sink>(
     requires reader_works { R.failed reader.old ≡ false }
     requires writer_works { W.failed writer.old ≡ false }
     requires writer_moves { W.stalled writer.old ≡ false }
+    requires waits { MayReadAfterReplies world_rules script_session R.left W.written
+        R.may_read reader.old writer.old }
     ensures outcome { IsRunOutcome world_rules script_session result
         (reader_log (R.left reader.old) (R.left reader.new) (R.failed reader.new))
         (writer_log (W.written writer.old) (W.written writer.new)

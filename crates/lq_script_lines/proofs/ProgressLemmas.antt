@@ -6,7 +6,7 @@ use Rattle.std.specs.Io.KnownBytes.{Appends, Keeps}
 use Rattle.lq_script_lines.specs.declared.intake.Intake.{Intake}
 use Rattle.lq_script_lines.specs.Lines.{IsUnbroken, Rules, ended_lines, line_of, lines_of, replies_to, reply_to, state_after}
 use Rattle.lq_script_lines.specs.Output.{IsWithin, output_of}
-use Rattle.lq_script_lines.specs.Progress.{Began, Fronts, IsCut, IsKept, Meets, Stands, state_after_all}
+use Rattle.lq_script_lines.specs.Progress.{Began, Fronts, Halts, IsCut, IsKept, Meets, Stands, state_after_all}
 use Rattle.lq_script_lines.proofs.LineLemmas.{cut_ended, cut_line, cut_lines, cut_run, lines_one, output_cut, replies_append, replies_one, state_one}
 
 -- replies that wait are written
@@ -312,6 +312,55 @@ pub stands_stops : {State : Type 0} (rules : Rules State) (began : Began State) 
 stands_stops rules began given w state intake out s =
     subst (λ l. Fronts rules began l w out) (append-nil given)
     (stands_fronts rules began given w state intake out [] s)
+
+-- where a run stands, whole lines are answered, whatever comes next
+stands_halts : {State : Type 0} (rules : Rules State) (began : Began State) (given : List ℕ)
+    (w : Option (List ℕ)) (state : State) (intake : Intake) (out : List ℕ) (rest : List ℕ)
+    → Stands rules began given w state intake out → Halts rules began (given ++ rest) w out
+stands_halts rules began given w state intake out rest s = record {
+  lines = s.lines;
+  rest = lines_of (s.bytes ++ rest);
+  front = s.cut.ahead rest;
+  text = s.text;
+  appended = s.appended;
+  due = s.due;
+}
+
+-- at a place of a piece
+pub halted_at : {State : Type 0} (rules : Rules State) (began : Began State) (given xs : List ℕ)
+    (i : ℕ) (w : Option (List ℕ)) (state : State) (intake : Intake) (out : List ℕ)
+    → Stands rules began (given ++ take i xs) w state intake out
+    → Halts rules began (given ++ xs) w out
+halted_at rules began given xs i w state intake out s =
+    subst (λ l. Halts rules began l w out) (given_rest given xs i)
+    (stands_halts rules began (given ++ take i xs) w state intake out (drop i xs) s)
+
+-- and at the end of an input
+pub halted_now : {State : Type 0} (rules : Rules State) (began : Began State) (given : List ℕ)
+    (w : Option (List ℕ)) (state : State) (intake : Intake) (out : List ℕ)
+    → Stands rules began given w state intake out → Halts rules began given w out
+halted_now rules began given w state intake out s =
+    subst (λ l. Halts rules began l w out) (append-nil given)
+    (stands_halts rules began given w state intake out [] s)
+
+-- whole lines stay answered where neither the writer nor what waits has changed
+pub halts_same : {State : Type 0} (rules : Rules State) (began : Began State) (given : List ℕ)
+    (w w' : Option (List ℕ)) (out out' : List ℕ)
+    → Halts rules began given w out → w' ≡ w → out' ≡ out → Halts rules began given w' out'
+halts_same rules began given w w' out out' h e f = rw (e, f) h
+
+-- and where the replies that wait are written
+pub halts_handed : {State : Type 0} (rules : Rules State) (began : Began State) (given : List ℕ)
+    (w w' : Option (List ℕ)) (out : List ℕ) → Halts rules began given w out → Appends w w' out
+    → Halts rules began given w' []
+halts_handed rules began given w w' out h a = record {
+  lines = h.lines;
+  rest = h.rest;
+  front = h.front;
+  text = h.text ++ out;
+  appended = Appends-trans began.written w w' h.text out h.appended a;
+  due = append-nil (h.text ++ out) ∙ h.due;
+}
 
 -- a flush leaves a front as it was
 pub fronts_kept : {State : Type 0} (rules : Rules State) (began : Began State) (given : List ℕ)

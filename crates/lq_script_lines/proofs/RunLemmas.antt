@@ -4,8 +4,8 @@ use Rattle.std.proofs.KnownBytes.{Appends-nil, Consumes-trans}
 use Rattle.std.specs.Io.KnownBytes.{Appends, Consumes, IsAtEnd}
 use Rattle.lq_script_lines.specs.declared.intake.Intake.{Intake}
 use Rattle.lq_script_lines.specs.Lines.{Rules, lines_of}
-use Rattle.lq_script_lines.specs.Output.{Answered, Ended, IsWithin, Passed, Stopped, output_of}
-use Rattle.lq_script_lines.specs.Progress.{Began, Fronts, Meets, Stands}
+use Rattle.lq_script_lines.specs.Output.{Answered, Ended, Halted, IsWithin, Passed, Stopped, output_of}
+use Rattle.lq_script_lines.specs.Progress.{Began, Fronts, Halts, Meets, Stands}
 use Rattle.lq_script_lines.proofs.LineLemmas.{cut_none}
 use Rattle.lq_script_lines.proofs.ProgressLemmas.{given_next, stands_ended, stands_within}
 
@@ -40,6 +40,19 @@ run_stopped rules began l l' w given out h f = record {
   text = f.text;
   appended = f.appended;
   front = (out ++ f.front.0, f.front.1 ∙ append_assoc f.text out f.front.0);
+}
+
+-- a run that stops between two lines
+pub run_halted : {State : Type 0} (rules : Rules State) (began : Began State)
+    (l l' w : Option (List ℕ)) (given : List ℕ) → Consumes l l' given
+    → Halts rules began given w [] → Halted rules began.state l l' began.written w
+run_halted rules began l l' w given h t = record {
+  given = given;
+  consumed = h;
+  lines = t.lines;
+  rest = t.rest;
+  front = t.front;
+  appended = subst (Appends began.written w) (sym (append-nil t.text) ∙ t.due) t.appended;
 }
 
 -- a run that stops between two reads

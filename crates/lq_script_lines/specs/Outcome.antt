@@ -1,9 +1,9 @@
 -- What a run over a script answers, and what its reader and its writer say before and after it.
 use Rattle.std.specs.Prelude.{◌≡◌, ◌⊎◌, List, ℕ, Option, Bool, true, false, Result, Err, OnOk, OnErr, IsErrOf}
 use Rattle.lq_script_lines.specs.Lines.{Rules}
-use Rattle.lq_script_lines.specs.Output.{Answered, Ended, Passed, Stopped}
+use Rattle.lq_script_lines.specs.Output.{Answered, Ended, Halted, Passed, Stopped}
 use Rattle.lq_script_lines.specs.declared.run_fault.RunFault.{RunFault}
-use Rattle.lq_script_lines.specs.declared.run_fault.RunFault.TheVariants.{Limit, Read, Thread, Write}
+use Rattle.lq_script_lines.specs.declared.run_fault.RunFault.TheVariants.{Limit, Memory, Read, Thread, Write}
 
 -- the bytes that a reader has left, before and after, and whether it failed
 pub record ReaderLog : Type 0 where
@@ -32,9 +32,20 @@ writer_log written written' failed stalled flushed = record {
   flushed = flushed;
 }
 
+-- The reader may be read whenever exactly the lines that LF ended by then are answered: in each
+-- state of it for which the writer has one where the replies to those lines are written, and no
+-- more.
+abbrev pub MayReadAfterReplies : {R W State : Type 0} → Rules State → State
+    → (R → Option (List ℕ)) → (W → Option (List ℕ)) → (R → Type 0) → R → W → Type 0
+MayReadAfterReplies {R} {W} rules state left written may_read reader writer =
+    (reader' : R) → (writer' : W)
+    → Ended rules state (left reader) (left reader') (written writer) (written writer')
+    → may_read reader'
+
 -- A run that succeeded wrote the whole output, and no device failed. After a fault, the bytes
 -- written are a prefix of the output for the bytes read; after a read fault and at a limit, they
--- are the output for the lines that LF ended. Each fault has its cause in the run.
+-- are the output for the lines that LF ended; where memory ran out, they are that for whole lines,
+-- the reader hasn't failed, and each write took some bytes. Each fault has its cause in the run.
 pub record IsRunOutcome {State : Type 0} (rules : Rules State) (state : State)
     (result : Result (Unit {0}) RunFault) (r : ReaderLog) (w : WriterLog) : Type 0 where
   pub ok : OnOk result (Answered rules state r.left r.left' w.written w.written')
@@ -46,6 +57,8 @@ pub record IsRunOutcome {State : Type 0} (rules : Rules State) (state : State)
       ((result ≡ Err Write) ⊎ ((w.flushed ≡ true) ⊎ (w.failed ≡ true)))
   pub read : IsErrOf result Read → Ended rules state r.left r.left' w.written w.written'
   pub limit : IsErrOf result Limit → Passed rules state r.left r.left' w.written w.written'
+  pub memory : IsErrOf result Memory → Halted rules state r.left r.left' w.written w.written'
+  pub memory_works : IsErrOf result Memory → (r.failed ≡ false) × (w.stalled ≡ false)
   pub read_fails : IsErrOf result Read → r.failed ≡ true
   pub write_fails : IsErrOf result Write → (w.failed ≡ true) ⊎ (w.stalled ≡ true)
   pub no_thread : IsErrOf result Thread → ⊥

@@ -1,5 +1,5 @@
 -- What a run over a script has read and written when it answers.
-use Rattle.std.specs.Prelude.{ℕ, ◌≤◌, List, [], ◌∷◌, ◌++◌, length, Option}
+use Rattle.std.specs.Prelude.{◌≡◌, ℕ, ◌≤◌, List, [], ◌∷◌, ◌++◌, length, Option}
 use Rattle.std.specs.Io.KnownBytes.{Appends, Consumes, IsAtEnd}
 use Rattle.lq_script_lines.specs.Lines.{Begins, Rules, ended_lines, lines_of, replies_to}
 
@@ -28,6 +28,16 @@ pub record Stopped {State : Type 0} (rules : Rules State) (state : State)
   pub text : List ℕ
   pub appended : Appends written written' text
   pub front : Begins (output_of rules state given) text
+
+-- a run that stopped between two lines: exactly the first lines of what was read were answered
+pub record Halted {State : Type 0} (rules : Rules State) (state : State)
+    (left left' written written' : Option (List ℕ)) : Type 0 where
+  pub given : List ℕ
+  pub consumed : Consumes left left' given
+  pub lines : List (List ℕ)
+  pub rest : List (List ℕ)
+  pub front : lines_of given ≡ lines ++ rest
+  pub appended : Appends written written' (replies_to rules state lines)
 
 -- a run that stopped between two reads: exactly the lines that LF ended were answered
 pub record Ended {State : Type 0} (rules : Rules State) (state : State)

@@ -5,7 +5,7 @@ use Rattle.lq_script_lines.specs.declared.intake.Intake.{Intake}
 use Rattle.lq_script_lines.specs.Lines.{Begins, IsUnbroken, Rules, ended_lines, line_of, lines_of, replies_to, state_after}
 use Rattle.lq_script_lines.specs.Output.{output_of}
 use Rattle.lq_script_lines.specs.declared.run_fault.RunFault.{RunFault}
-use Rattle.lq_script_lines.specs.declared.run_fault.RunFault.TheVariants.{Limit, Read, Thread, Write}
+use Rattle.lq_script_lines.specs.declared.run_fault.RunFault.TheVariants.{Limit, Memory, Read, Thread, Write}
 
 -- what is kept of a line in progress: its bytes, or only that it is too long
 abbrev pub IsKept : List ℕ → Bool → List ℕ → Type 0
@@ -55,6 +55,16 @@ pub record Fronts {State : Type 0} (rules : Rules State) (began : Began State)
   pub appended : Appends began.written written text
   pub front : Begins (replies_to rules began.state (lines_of given)) (text ++ out)
 
+-- whole lines of an input are answered: their replies are what was written and then `out`
+pub record Halts {State : Type 0} (rules : Rules State) (began : Began State)
+    (given : List ℕ) (written : Option (List ℕ)) (out : List ℕ) : Type 0 where
+  pub lines : List (List ℕ)
+  pub rest : List (List ℕ)
+  pub front : lines_of given ≡ lines ++ rest
+  pub text : List ℕ
+  pub appended : Appends began.written written text
+  pub due : text ++ out ≡ replies_to rules began.state lines
+
 -- a limit was reached in a piece: the invariant holds before it, and a byte follows
 pub record Meets {State : Type 0} (rules : Rules State) (began : Began State)
     (given piece : List ℕ) (written : Option (List ℕ)) (state : State) (intake : Intake)
@@ -80,6 +90,14 @@ Leaves {State} rules bytes written state intake out written' out' =
     (began : Began State) → (given : List ℕ) → Stands rules began given written state intake out
     → Fronts rules began (given ++ bytes) written' out'
 
+-- where memory runs out in these bytes, whole lines are answered
+abbrev pub HaltsIn : {State : Type 0} → Rules State → List ℕ
+    → Option (List ℕ) → State → Intake → List ℕ
+    → Option (List ℕ) → List ℕ → Type 0
+HaltsIn {State} rules bytes written state intake out written' out' =
+    (began : Began State) → (given : List ℕ) → Stands rules began given written state intake out
+    → Halts rules began (given ++ bytes) written' out'
+
 -- this piece reaches a limit
 abbrev pub MeetsLimit : {State : Type 0} → Rules State → List ℕ
     → Option (List ℕ) → State → Intake → List ℕ
@@ -101,6 +119,13 @@ abbrev pub LeavesAtEnd : {State : Type 0} → Rules State
 LeavesAtEnd {State} rules written state intake out written' =
     (began : Began State) → (given : List ℕ) → Stands rules began given written state intake out
     → Fronts rules began given written' []
+
+-- where memory runs out at the end of an input, whole lines are answered
+abbrev pub HaltsAtEnd : {State : Type 0} → Rules State
+    → Option (List ℕ) → State → Intake → List ℕ → Option (List ℕ) → Type 0
+HaltsAtEnd {State} rules written state intake out written' =
+    (began : Began State) → (given : List ℕ) → Stands rules began given written state intake out
+    → Halts rules began given written' []
 
 -- what a run is at between two pieces: the writer, the responder's state, the input so far and the
 -- replies that wait
@@ -124,8 +149,8 @@ standing written failed stalled state intake out = record {
 }
 
 -- A piece that was taken keeps the invariant, and the writer works as before. A fault leaves a
--- prefix of the output, and the limit the answers up to it. A fault of the writer has its cause in
--- this piece.
+-- prefix of the output, the limit the answers up to it, and a want of memory those to whole lines.
+-- A fault of the writer has its cause in this piece.
 pub record TakesPiece {State : Type 0} (rules : Rules State) (piece : List ℕ)
     (result : Result (Unit {0}) RunFault) (old new : Standing State) : Type 0 where
   pub ok : OnOk result (Goes rules piece old.written old.state old.intake old.out
@@ -136,6 +161,9 @@ pub record TakesPiece {State : Type 0} (rules : Rules State) (piece : List ℕ)
       (Leaves rules piece old.written old.state old.intake old.out new.written new.out)
   pub limit : IsErrOf result Limit → MeetsLimit rules piece
       old.written old.state old.intake old.out new.written new.state new.intake new.out
+  pub memory : IsErrOf result Memory → HaltsIn rules piece
+      old.written old.state old.intake old.out new.written new.out
+  pub memory_works : IsErrOf result Memory → (new.failed ≡ old.failed) × (new.stalled ≡ old.stalled)
   pub not_read : IsErrOf result Read → ⊥
   pub not_thread : IsErrOf result Thread → ⊥
   pub cause : IsErrOf result Write → (new.failed ≡ true) ⊎ (new.stalled ≡ true)

@@ -14,7 +14,7 @@ mod responder;
 mod run_fault;
 mod writing;
 
-pub use devices::{Failed, Host, Sink, Source};
+pub use devices::{Client, Failed, Host, Sink, Source};
 pub use intake::Intake;
 pub use over_lines::run_lines;
 pub use pieces::take_piece;

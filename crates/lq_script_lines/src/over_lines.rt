@@ -1,9 +1,9 @@
 //! A run over a script: each line is answered before the next read.
 ghost use Rattle.std.specs.Prelude.{◌≡◌, ◌+◌, ◌⊎◌, [], length, true, false, OnOk, OnErr, IsErrOf};
-ghost use Rattle.lq_script_lines.specs.Outcome.{IsRunOutcome, reader_log, writer_log};
-ghost use Rattle.lq_script_lines.specs.Progress.{Goes, Leaves, MeetsLimit};
+ghost use Rattle.lq_script_lines.specs.Outcome.{IsRunOutcome, MayReadAfterReplies, reader_log, writer_log};
+ghost use Rattle.lq_script_lines.specs.Progress.{Goes, HaltsIn, Leaves, MeetsLimit};
 
-use crate::devices::{Sink, Source};
+use crate::devices::{Client, Sink};
 use crate::intake::Intake;
 use crate::pieces::{finish, take_piece};
 use crate::responder::Responder;
@@ -35,6 +35,11 @@ fn take_block<S: Responder, W: Sink>(
     ensures limit { IsErrOf result RunFault.Limit → MeetsLimit S.rules piece.now
         (W.written writer.old) (S.state responder.old) intake.old out.old.items
         (W.written writer.new) (S.state responder.new) intake.new [] }
+    ensures memory { IsErrOf result RunFault.Memory → HaltsIn S.rules piece.now
+        (W.written writer.old) (S.state responder.old) intake.old out.old.items
+        (W.written writer.new) [] }
+    ensures memory_works { IsErrOf result RunFault.Memory →
+        W.stalled writer.new ≡ W.stalled writer.old }
     ensures flushed { OnErr result ((result ≡ Err RunFault.Write)
         ⊎ ((W.flushed writer.new ≡ true) ⊎ (W.failed writer.new ≡ true))) }
     ensures not_read { IsErrOf result RunFault.Read → ⊥ }
@@ -54,12 +59,14 @@ fn take_block<S: Responder, W: Sink>(
 
 /// Reads a script to the end of its input, and writes the reply to each line.
 ///
-/// Before each read of the device, and before the call answers, the writer has every reply so far.
-/// The writer is flushed once at the end, also after `Read`, `Limit` and `Memory`. Refused with the
-/// first fault: `Read` and `Write` where that device failed, `Write` also where the writer took
-/// none of the bytes given, `Limit` where a byte follows 10,000,000 lines or 1,073,741,824 bytes,
-/// `Memory`.
-pub fn run_lines<R: Source, W: Sink, S: Responder>(
+/// At each read of the device the writer has exactly the replies to the lines that LF ended by
+/// then: a reader that may be read at just these moments will do (`waits`). The writer is flushed
+/// once at the end, also after `Read`, `Limit` and `Memory`. Refused with the first fault: `Read`
+/// and `Write` where that device failed, `Write` also where the writer took none of the bytes
+/// given, `Limit` where a byte follows 10,000,000 lines or 1,073,741,824 bytes, `Memory`. After
+/// `Read` and `Limit` exactly the lines that LF ended are answered, after `Memory` some first
+/// lines, and after `Write` a prefix of the replies is written.
+pub fn run_lines<R: Client, W: Sink, S: Responder>(
     alloc: Global,
     reader: &mut R,
     writer: &mut W,
@@ -68,6 +75,8 @@ pub fn run_lines<R: Source, W: Sink, S: Responder>(
     requires reader_works { R.failed reader.old ≡ false }
     requires writer_works { W.failed writer.old ≡ false }
     requires writer_moves { W.stalled writer.old ≡ false }
+    requires waits { MayReadAfterReplies S.rules (S.state responder.old) R.left W.written
+        R.may_read reader.old writer.old }
     ensures outcome { IsRunOutcome S.rules (S.state responder.old) result
         (reader_log (R.left reader.old) (R.left reader.new) (R.failed reader.new))
         (writer_log (W.written writer.old) (W.written writer.new)
@@ -78,7 +87,7 @@ pub fn run_lines<R: Source, W: Sink, S: Responder>(
     let mut out = Vec::new(alloc);
     loop {
         write_replies(&mut out, writer)?;
-        let Ok(count) = reader.read(&mut block) else {
+        let Ok(count) = reader.receive(&mut block) else {
             write_and_flush(&mut out, writer)?;
             return Err(RunFault::Read);
         };

@@ -3,7 +3,7 @@ ghost use Rattle.std.specs.Prelude.{◌≡◌, ◌+◌, ◌++◌, ◌⊎◌, ◌
 ghost use Rattle.std.specs.Io.KnownBytes.{Appends};
 ghost use Rattle.lq_script_lines.specs.Lines.{IsUnbroken};
 ghost use Rattle.lq_script_lines.specs.Output.{output_of};
-ghost use Rattle.lq_script_lines.specs.Progress.{Completes, Goes, Leaves, LeavesAtEnd, TakesPiece, standing};
+ghost use Rattle.lq_script_lines.specs.Progress.{Completes, Goes, HaltsAtEnd, Leaves, LeavesAtEnd, TakesPiece, standing};
 
 use crate::devices::{Failed, Sink};
 use crate::intake::{Intake, MAX_BYTES, MAX_LINES};
@@ -38,6 +38,8 @@ fn end_line<S: Responder, W: Sink>(
         (W.written writer.old) (S.state responder.old) intake.old out.old.items
         (W.written writer.new) out.new.items) }
     ensures fault { IfErr result (λ e. (e ≡ RunFault.Write) ⊎ (e ≡ RunFault.Memory)) }
+    ensures memory { IsErrOf result RunFault.Memory →
+        (writer.new ≡ writer.old) × (out.new.items ≡ out.old.items) }
     ensures cause { IsErrOf result RunFault.Write →
         (W.failed writer.new ≡ true) ⊎ (W.stalled writer.new ≡ true) }
 {
@@ -118,6 +120,10 @@ pub(crate) fn finish<S: Responder, W: Sink>(
     ensures fault { IfErr result (λ e. (e ≡ RunFault.Write) ⊎ (e ≡ RunFault.Memory)) }
     ensures cause { IsErrOf result RunFault.Write →
         (W.failed writer.new ≡ true) ⊎ (W.stalled writer.new ≡ true) }
+    ensures memory { IsErrOf result RunFault.Memory → HaltsAtEnd S.rules (W.written writer.old)
+        (S.state responder.old) intake.now out.old.items (W.written writer.new) }
+    ensures memory_works { IsErrOf result RunFault.Memory →
+        W.stalled writer.new ≡ W.stalled writer.old }
     ensures memory_flushed { IsErrOf result RunFault.Memory →
         (W.flushed writer.new ≡ true) ⊎ (W.failed writer.new ≡ true) }
 {

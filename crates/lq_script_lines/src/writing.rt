@@ -32,6 +32,7 @@ pub fn write_and_flush<W: Sink>(out: &mut Vec<u8>, writer: &mut W) -> Result<(),
         (Appends (W.written writer.old) (W.written writer.new) out.old.items) }
     ensures empty { out.new.items ≡ [] }
     ensures flushed { OnOk result ((W.flushed writer.new ≡ true) ⊎ (W.failed writer.new ≡ true)) }
+    ensures stalls { OnOk result (W.stalled writer.new ≡ W.stalled writer.old) }
     ensures stays { (W.failed writer.old ≡ true) ⊎ (W.stalled writer.old ≡ true)
         → (W.failed writer.new ≡ true) ⊎ (W.stalled writer.new ≡ true) }
     ensures err { OnErr result ((n : ℕ)
@@ -71,6 +72,7 @@ pub fn write_all<W: Sink>(writer: &mut W, bytes: &[u8]) -> Result<(), Failed>
 pub fn out_of_memory<W: Sink>(writer: &mut W) -> RunFault
     ensures fault { result ≡ RunFault.Memory }
     ensures bytes { Keeps (W.written writer.old) (W.written writer.new) }
+    ensures stalls { W.stalled writer.new ≡ W.stalled writer.old }
     ensures flushed { (W.flushed writer.new ≡ true) ⊎ (W.failed writer.new ≡ true) }
 {
     match writer.flush() {

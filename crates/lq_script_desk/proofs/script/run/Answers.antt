@@ -1,7 +1,7 @@
 use Rattle.std.proofs.Common.{◌≡◌, List, ℕ, [], subst, refl, ap, ◌∙◌, ◌⊎◌, Err, inr}
 use Rattle.std.proofs.KnownBytes.{Appends-nil, Consumes-nil}
 use Rattle.std.specs.Io.KnownBytes.{Appends, Keeps}
-use Rattle.std.specs.Prelude.{Bool, Option, Some, None, Result, true}
+use Rattle.std.specs.Prelude.{Bool, Option, Some, None, Result, true, false}
 use Rattle.lq_volume.specs.State.{State}
 use Rattle.lq_desk_world.specs.World.{first_world}
 use Rattle.lq_desk.specs.Kept.{Shows}
@@ -12,7 +12,7 @@ use Rattle.lq_script_lines.specs.declared.run_fault.RunFault.{RunFault}
 use Rattle.lq_script_lines.specs.declared.run_fault.RunFault.TheVariants.{Limit, Memory, Read, Thread, Write}
 use Rattle.lq_script_desk.specs.Session.{session_with}
 use Rattle.lq_script_desk.specs.Script.{script_session, script_world, world_rules}
-use Rattle.lq_script_desk.proofs.ScriptLemmas.{Alike, outcome-world}
+use Rattle.lq_script_desk.proofs.ScriptLemmas.{Alike, ended-world, outcome-world}
 use Rattle.lq_script_desk.proofs.TellLemmas.{run-tells}
 use Rattle.lq_script_desk.proofs.script.run.Goals as goal
 
@@ -26,9 +26,11 @@ keeps_appends (Some x) (Some y) k = k ∙ Appends-nil (Some x)
 no_memory : {State : Type 0} (rules : Rules State) (state : State)
     (left written written' : Option (List ℕ)) (fails failed stalled flushed : Bool)
     (result : Result (Unit {0}) RunFault) → result ≡ Err Memory → Keeps written written'
-    → (flushed ≡ true) ⊎ (failed ≡ true) → IsRunOutcome rules state result
+    → (flushed ≡ true) ⊎ (failed ≡ true) → fails ≡ false → stalled ≡ false
+    → IsRunOutcome rules state result
     (reader_log left left fails) (writer_log written written' failed stalled flushed)
-no_memory rules state left written written' fails failed stalled flushed result is same flush =
+no_memory rules state left written written' fails failed stalled flushed result is same flush reads
+    writes =
     rw is record {
       ok = tt;
       flushed = tt;
@@ -43,6 +45,15 @@ no_memory rules state left written written' fails failed stalled flushed result 
       flush = inr flush;
       read = λ h. absurd (let no : Err Memory ≡ Err Read = h in cc);
       limit = λ h. absurd (let no : Err Memory ≡ Err Limit = h in cc);
+      memory = λ h. record {
+        given = [];
+        consumed = Consumes-nil _;
+        lines = [];
+        rest = [];
+        front = refl;
+        appended = keeps_appends _ _ same;
+      };
+      memory_works = λ h. (reads, writes);
       read_fails = λ h. absurd (let no : Err Memory ≡ Err Read = h in cc);
       write_fails = λ h. absurd (let no : Err Memory ≡ Err Write = h in cc);
       no_thread = λ h. let no : Err Memory ≡ Err Thread = h in cc;
@@ -52,7 +63,8 @@ pub returns-in_default : goal.returns-in_default
 returns-in_default g c =
     let outcome = no_memory world_rules script_session _ _ _ _ _ _ _ _
     (ap Err c.out_of_memory.ensures.fault) c.out_of_memory.ensures.bytes
-    c.out_of_memory.ensures.flushed in record {
+    c.out_of_memory.ensures.flushed c.requires.reader_works
+    (c.out_of_memory.ensures.stalls ∙ c.requires.writer_moves) in record {
       outcome = outcome;
       readers = run-tells c.scripts_tell_readers.ensures _ _ _ outcome;
     }
@@ -61,10 +73,25 @@ pub returns-in_default-no_rebuilds : goal.returns-in_default-no_rebuilds
 returns-in_default-no_rebuilds g c =
     let says = c.out_of_memory-in_default-no_rebuilds.ensures in
     let outcome = no_memory world_rules script_session _ _ _ _ _ _ _ _
-    (ap Err says.fault) says.bytes says.flushed in record {
+    (ap Err says.fault) says.bytes says.flushed c.requires.reader_works
+    (says.stalls ∙ c.requires.writer_moves) in record {
       outcome = outcome;
       readers = run-tells c.scripts_tell_readers.ensures _ _ _ outcome;
     }
+
+-- the reader may be read after the desk's replies, since they are the world's
+pub run_lines-requires-clause-waits : goal.run_lines-requires-clause-waits
+run_lines-requires-clause-waits g c =
+    let desk : Shows c.in-Ok.desk script_world = subst (λ (s : State). Shows c.in-Ok.desk
+    (first_world (record { start = s; changes = [] }))) c.new.ensures c.in-Ok.ensures.world in
+    let session =
+    session_with c.new-session.result.desk c.new-session.result.rebuilds.items in
+    let alike : Alike session script_session = record {
+      core = rw c.new-session.ensures.desk desk;
+      folds = c.new-session.ensures.rebuilds ∙ c.in-Ok-no_rebuilds.ensures.none;
+    } in
+    λ reader writer ended. c.requires.waits reader writer (ended-world
+    c.kept_turns_show_worlds.ensures session script_session alike _ _ _ _ ended)
 
 pub returns : goal.returns
 returns g c =

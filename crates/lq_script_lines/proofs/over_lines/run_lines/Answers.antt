@@ -1,10 +1,10 @@
 use Rattle.std.proofs.Common.{refl, sym, ◌∙◌, rules, arith, Err, ◌≡◌, [], inl, inr}
 use Rattle.std.proofs.KnownBytes.{Consumes-kept, Consumes-nil}
 use Rattle.std.proofs.lemmas.Result.{on_err_weaker, on_ok_weaker}
-use Rattle.lq_script_lines.specs.declared.run_fault.RunFault.TheVariants.{Limit, Read, Thread, Write}
+use Rattle.lq_script_lines.specs.declared.run_fault.RunFault.TheVariants.{Limit, Memory, Read, Thread, Write}
 use Rattle.lq_script_lines.proofs.ResultLemmas.{else_memory, neither, no_ok, no_other, on_err_any}
 use Rattle.lq_script_lines.proofs.ProgressLemmas.{fronts_all, fronts_handed, stands_empty, stands_handed, stands_stops}
-use Rattle.lq_script_lines.proofs.RunLemmas.{less_left, read_none, run_answered, run_ended, run_passed, run_reads, run_stopped, stands_none}
+use Rattle.lq_script_lines.proofs.RunLemmas.{less_left, read_none, run_answered, run_ended, run_halted, run_passed, run_reads, run_stopped, stands_none}
 use Rattle.lq_script_lines.proofs.over_lines.run_lines.Goals as goal
 
 pub loop-out-init : goal.loop-out-init
@@ -17,6 +17,14 @@ loop-out-init g c = record {
   reader_works = c.requires.reader_works;
   writer_works = c.requires.writer_works;
   writer_moves = c.requires.writer_moves;
+}
+
+-- a read, where each reply is written
+pub receive-requires : goal.receive-requires
+receive-requires g c = let i = c.loop-out.invariant in record {
+  waits = c.requires.waits _ c.write_replies.new.writer (run_ended g.S.Responder.rules _ _ _ _
+      i.given _ _ i.consumed (stands_handed g.S.Responder.rules _ i.given _ _ _ _ _ i.stands
+      c.in_ok-write_replies.ensures.ok));
 }
 
 -- a fault of the writer before a read
@@ -36,6 +44,8 @@ returns-in_err-write_replies g c =
         flush = on_err_any c.from_residual.result (inl is);
         read = λ h. elim (no_other Write Read is refl h) [ ];
         limit = λ h. elim (no_other Write Limit is refl h) [ ];
+        memory = λ h. elim (no_other Write Memory is refl h) [ ];
+        memory_works = λ h. elim (no_other Write Memory is refl h) [ ];
         read_fails = λ h. elim (no_other Write Read is refl h) [ ];
         write_fails = λ _. c.in_err-write_replies.ensures.cause;
         no_thread = λ h. no_other Write Thread is refl h;
@@ -62,6 +72,8 @@ returns-in_err-write_and_flush g c =
         flush = on_err_any r (inl is);
         read = λ h. elim (no_other Write Read is refl h) [ ];
         limit = λ h. elim (no_other Write Limit is refl h) [ ];
+        memory = λ h. elim (no_other Write Memory is refl h) [ ];
+        memory_works = λ h. elim (no_other Write Memory is refl h) [ ];
         read_fails = λ h. elim (no_other Write Read is refl h) [ ];
         write_fails = λ _. c.in_err-write_and_flush.ensures.cause;
         no_thread = λ h. no_other Write Thread is refl h;
@@ -88,6 +100,8 @@ returns-in_default g c =
             (stands_handed g.S.Responder.rules _ i.given _ _ _ _ _ stood
             c.in_ok-write_and_flush.ensures.ok);
         limit = λ h. elim (no_other Read Limit refl refl h) [ ];
+        memory = λ h. elim (no_other Read Memory refl refl h) [ ];
+        memory_works = λ h. elim (no_other Read Memory refl refl h) [ ];
         read_fails = λ _. c.in_default.ensures.fails;
         write_fails = λ h. elim (no_other Read Write refl refl h) [ ];
         no_thread = λ h. no_other Read Thread refl refl h;
@@ -119,6 +133,12 @@ returns-then-count-eq0 g c =
         flush = else_memory r says.fault says.memory_flushed;
         read = λ h. elim (neither r Read says.fault refl refl h) [ ];
         limit = λ h. elim (neither r Limit says.fault refl refl h) [ ];
+        memory = λ h. run_halted g.S.Responder.rules _ _ _ _ i.given read
+            (says.memory h _ i.given stood);
+        memory_works = λ h. (
+          c.in-Ok.ensures.works ∙ i.reader_works,
+          says.memory_works h ∙ c.in_ok-write_replies.ensures.works.1 ∙ i.writer_moves,
+        );
         read_fails = λ h. elim (neither r Read says.fault refl refl h) [ ];
         write_fails = says.cause;
         no_thread = λ h. neither r Thread says.fault refl refl h;
@@ -170,6 +190,12 @@ returns-in_err-take_block g c =
         read = λ h. elim (says.not_read (sym is ∙ h)) [ ];
         limit = λ h. run_passed g.S.Responder.rules _ _ _ _ _ i.given _ _ _ _ i.consumed
             c.in-Ok.ensures.bytes.0 refl (says.limit (sym is ∙ h) _ i.given stood);
+        memory = λ h. run_halted g.S.Responder.rules _ _ _ _ _ (run_reads _ _ _ i.given _ _
+            i.consumed c.in-Ok.ensures.bytes.0 refl) (says.memory (sym is ∙ h) _ i.given stood);
+        memory_works = λ h. (
+          c.in-Ok.ensures.works ∙ i.reader_works,
+          says.memory_works (sym is ∙ h) ∙ c.in_ok-write_replies.ensures.works.1 ∙ i.writer_moves,
+        );
         read_fails = λ h. elim (says.not_read (sym is ∙ h)) [ ];
         write_fails = λ h. says.cause (sym is ∙ h);
         no_thread = λ h. says.not_thread (sym is ∙ h);

@@ -6,12 +6,12 @@ use Rattle.lq_script_lines.proofs.over_lines.run_lines.Given as goal
 abbrev pub invariant-loop-out : goal.invariant-loop-out
 invariant-loop-out g l = record {
   given : List ℕ;
-  consumed : Consumes (g.R.Source.left l.fn.reader) (g.R.Source.left l.reader) given;
+  consumed : Consumes (g.R.Client.left l.fn.reader) (g.R.Client.left l.reader) given;
   stands : Stands g.S.Responder.rules (record {
     state = g.S.Responder.state l.fn.responder;
     written = g.W.Sink.written l.fn.writer;
   }) given (g.W.Sink.written l.writer) (g.S.Responder.state l.responder) l.intake l.out.items;
-  reader_works : g.R.Source.failed l.reader ≡ false;
+  reader_works : g.R.Client.failed l.reader ≡ false;
   writer_works : g.W.Sink.failed l.writer ≡ false;
   writer_moves : g.W.Sink.stalled l.writer ≡ false;
 }

@@ -1,7 +1,7 @@
-use Rattle.std.proofs.Common.{◌≡◌, ◌++◌, Err, ap, rules, refl, inl, inr}
-use Rattle.lq_script_lines.specs.declared.run_fault.RunFault.TheVariants.{Limit, Read, Thread, Write}
+use Rattle.std.proofs.Common.{◌≡◌, ◌++◌, ◌∙◌, Err, ap, rules, refl, inl, inr}
+use Rattle.lq_script_lines.specs.declared.run_fault.RunFault.TheVariants.{Limit, Memory, Read, Thread, Write}
 use Rattle.lq_script_lines.proofs.ResultLemmas.{no_fault, no_ok, no_other, on_err_any}
-use Rattle.lq_script_lines.proofs.ProgressLemmas.{fronts_all, fronts_handed, meets_handed}
+use Rattle.lq_script_lines.proofs.ProgressLemmas.{fronts_all, fronts_handed, halts_handed, meets_handed}
 use Rattle.lq_script_lines.proofs.over_lines.take_block.Goals as goal
 
 pub returns-in-Ok : goal.returns-in-Ok
@@ -11,6 +11,8 @@ returns-in-Ok g c = record {
   works = c.in-Ok.ensures.taken.works;
   err = tt;
   limit = λ h. elim (no_fault _ Limit refl h) [ ];
+  memory = λ h. elim (no_fault _ Memory refl h) [ ];
+  memory_works = λ h. elim (no_fault _ Memory refl h) [ ];
   flushed = tt;
   not_read = λ h. no_fault _ Read refl h;
   not_thread = λ h. no_fault _ Thread refl h;
@@ -24,6 +26,8 @@ returns-in-Err-Write g c = record {
   works = tt;
   err = c.in-Err-Write.ensures.taken.err;
   limit = λ h. elim (no_other Write Limit refl refl h) [ ];
+  memory = λ h. elim (no_other Write Memory refl refl h) [ ];
+  memory_works = λ h. elim (no_other Write Memory refl refl h) [ ];
   flushed = inl refl;
   not_read = λ h. no_other Write Read refl refl h;
   not_thread = λ h. no_other Write Thread refl refl h;
@@ -42,6 +46,8 @@ returns-in_err-write_and_flush-in-Err g c =
           (given ++ c.args.piece.now) _ _ _ part.0 (c.in-Err.ensures.taken.err began given s)
           part.1));
       limit = λ h. elim (no_other Write Limit is refl h) [ ];
+      memory = λ h. elim (no_other Write Memory is refl h) [ ];
+      memory_works = λ h. elim (no_other Write Memory is refl h) [ ];
       flushed = on_err_any c.from_residual.result (inl is);
       not_read = λ h. no_other Write Read is refl h;
       not_thread = λ h. no_other Write Thread is refl h;
@@ -60,6 +66,11 @@ returns-in_ok-write_and_flush-in-Err g c = record {
   limit = λ is began given s.
       meets_handed g.S.Responder.rules began given c.args.piece.now _ _ _ _ _
       (c.in-Err.ensures.taken.limit is began given s) c.in_ok-write_and_flush-in-Err.ensures.ok;
+  memory = λ is began given s.
+      halts_handed g.S.Responder.rules began (given ++ c.args.piece.now) _ _ _
+      (c.in-Err.ensures.taken.memory is began given s) c.in_ok-write_and_flush-in-Err.ensures.ok;
+  memory_works = λ is.
+      c.in_ok-write_and_flush-in-Err.ensures.stalls ∙ (c.in-Err.ensures.taken.memory_works is).1;
   flushed = inr c.in_ok-write_and_flush-in-Err.ensures.flushed;
   not_read = c.in-Err.ensures.taken.not_read;
   not_thread = c.in-Err.ensures.taken.not_thread;

@@ -1,7 +1,7 @@
 use Rattle.std.proofs.Common.{◌≡◌, Err, rules, sym, inl, inr, refl}
 use Rattle.lq_script_lines.specs.declared.run_fault.RunFault.TheVariants.{Memory, Write}
 use Rattle.lq_script_lines.proofs.ResultLemmas.{no_ok, no_other, on_err_any, when_err, when_ok}
-use Rattle.lq_script_lines.proofs.ProgressLemmas.{appends_kept, fronts_all, fronts_handed, fronts_kept, stands_last, stands_stops, stands_output}
+use Rattle.lq_script_lines.proofs.ProgressLemmas.{appends_kept, fronts_all, fronts_handed, fronts_kept, halted_now, halts_handed, stands_last, stands_stops, stands_output}
 use Rattle.lq_script_lines.proofs.pieces.finish.Goals as goal
 
 pub returns-in_err-write_and_flush : goal.returns-in_err-write_and_flush
@@ -17,6 +17,8 @@ returns-in_err-write_and_flush g c =
       flushed = no_ok _ c.from_residual.result _ is;
       fault = rw is (inl refl);
       cause = λ _. c.in_err-write_and_flush.ensures.cause;
+      memory = λ h. elim (no_other Write Memory is refl h) [ ];
+      memory_works = λ h. elim (no_other Write Memory is refl h) [ ];
       memory_flushed = λ h. elim (no_other Write Memory is refl h) [ ];
     }
 
@@ -32,6 +34,10 @@ returns-then-is_err g c =
       flushed = tt;
       fault = inr refl;
       cause = λ h. elim (no_other Memory Write refl refl h) [ ];
+      memory = λ _ began given s. halts_handed g.S.Responder.rules began given _ _ _
+          (rw same (halted_now g.S.Responder.rules began given _ _ _ _ s))
+          c.in_ok-write_and_flush.ensures.ok;
+      memory_works = λ _. c.in_ok-write_and_flush.ensures.stalls;
       memory_flushed = λ _. c.in_ok-write_and_flush.ensures.flushed;
     }
 
@@ -48,6 +54,8 @@ returns-in_err-write_replies g c =
       flushed = no_ok _ c.from_residual-in_err-write_replies.result _ is;
       fault = rw is (inl refl);
       cause = λ _. c.in_err-write_replies.ensures.cause;
+      memory = λ h. elim (no_other Write Memory is refl h) [ ];
+      memory_works = λ h. elim (no_other Write Memory is refl h) [ ];
       memory_flushed = λ h. elim (no_other Write Memory is refl h) [ ];
     }
 

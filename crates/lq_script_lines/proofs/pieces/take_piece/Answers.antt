@@ -1,8 +1,8 @@
-use Rattle.std.proofs.Common.{◌≡◌, ◌∙◌, ◌+◌, Err, length, append-nil, arith, rules, drop, refl, sym, inl, inr}
+use Rattle.std.proofs.Common.{◌≡◌, ◌∙◌, ◌+◌, Err, ap, length, append-nil, arith, rules, drop, refl, sym, inl, inr}
 use Rattle.std.proofs.lemmas.List.{take_all}
 use Rattle.lq_script_lines.specs.declared.run_fault.RunFault.TheVariants.{Limit, Memory, Read, Thread, Write}
 use Rattle.lq_script_lines.proofs.ResultLemmas.{neither, no_fault, no_ok, no_other, on_err_any}
-use Rattle.lq_script_lines.proofs.ProgressLemmas.{stands_after, stands_ahead, stands_run, stopped_at, stopped_in}
+use Rattle.lq_script_lines.proofs.ProgressLemmas.{halted_at, halts_same, stands_after, stands_ahead, stands_run, stopped_at, stopped_in}
 use Rattle.lq_script_lines.proofs.pieces.take_piece.Goals as goal
 use Rattle.lq_script_lines.proofs.pieces.take_piece.Goals.{else-at-piece-via-else-at-piece, else-at-piece-via-then-at-piece+else-run-most}
 use Rattle.lq_script_lines.proofs.pieces.take_piece.Goals.{then-intake-ge-MAX_LINES-via-then-intake-ge-MAX_LINES, then-intake-ge-MAX_LINES-via-else-intake-ge-MAX_LINES+then-intake-ge-MAX_BYTES}
@@ -27,6 +27,8 @@ returns-then-intake-ge-MAX_LINES g c = record {
             inr (omega (arith, stood.bytes_within, w.if-intake-ge-MAX_BYTES.true))
       ];
     };
+    memory = λ h. elim (no_other Limit Memory refl refl h) [ ];
+    memory_works = λ h. elim (no_other Limit Memory refl refl h) [ ];
     not_read = λ h. no_other Limit Read refl refl h;
     not_thread = λ h. no_other Limit Thread refl refl h;
     cause = λ h. elim (no_other Limit Write refl refl h) [ ];
@@ -52,6 +54,10 @@ returns-in_err-keep g c =
             stopped_at g.S.Responder.rules began given c.args.piece.now c.loop-at.at _ _ _ _
             (c.loop-at.invariant.stands began given s));
         limit = λ h. elim (no_other Memory Limit is refl h) [ ];
+        memory = λ _ began given s.
+            halted_at g.S.Responder.rules began given c.args.piece.now c.loop-at.at _ _ _ _
+            (c.loop-at.invariant.stands began given s);
+        memory_works = λ _. c.loop-at.invariant.works;
         not_read = λ h. no_other Memory Read is refl h;
         not_thread = λ h. no_other Memory Thread is refl h;
         cause = λ h. elim (no_other Memory Write is refl h) [ ];
@@ -75,6 +81,15 @@ returns-in_err-end_line g c =
             (c.loop-at.invariant.stands began given s)));
         limit = λ h.
             elim (neither (Err c.in_err-end_line.field-0.0) Limit two refl refl (sym is ∙ h)) [ ];
+        memory = λ h began given s.
+            let same = c.in_err-end_line.ensures.memory (sym is ∙ h) in
+            halts_same g.S.Responder.rules began _ _ _ _ _
+            (halted_at g.S.Responder.rules began given c.args.piece.now c.loop-at.at _ _ _ _
+            (c.loop-at.invariant.stands began given s)) (ap g.W.Sink.written same.0) same.1;
+        memory_works = λ h. let same = c.in_err-end_line.ensures.memory (sym is ∙ h) in (
+          ap g.W.Sink.failed same.0 ∙ c.loop-at.invariant.works.0,
+          ap g.W.Sink.stalled same.0 ∙ c.loop-at.invariant.works.1,
+        );
         not_read = λ h. neither (Err c.in_err-end_line.field-0.0) Read two refl refl (sym is ∙ h);
         not_thread = λ h.
             neither (Err c.in_err-end_line.field-0.0) Thread two refl refl (sym is ∙ h);
@@ -112,6 +127,8 @@ returns g c = record {
     works = c.loop-at.invariant.works;
     err = tt;
     limit = λ h. elim (no_fault _ Limit refl h) [ ];
+    memory = λ h. elim (no_fault _ Memory refl h) [ ];
+    memory_works = λ h. elim (no_fault _ Memory refl h) [ ];
     not_read = λ h. no_fault _ Read refl h;
     not_thread = λ h. no_fault _ Thread refl h;
     cause = λ h. elim (no_fault _ Write refl h) [ ];
