@@ -1,9 +1,9 @@
-//! Of lq_predicate: formulas, their truth, and predicates from pushes.
+//! Of lq_predicate: formulas, their truth, and predicates from pushes and of others.
 ghost use Rattle.std.specs.Prelude.{Some};
 ghost use Rattle.lq_value.specs.Held.{Number};
 
 use lq_predicate::{Predicate, Row, Stack, StackOp, holds, names, read, write};
-use lq_value::{AttrName, Refusal, View};
+use lq_value::{AttrName, Literal, Op, Pattern, Refusal, Text, View};
 use std::alloc::Global;
 use std::test::Fail;
 
@@ -62,6 +62,74 @@ fn a_predicate_holds_of_a_row(rt: HostRuntime) -> Result<(), Fail> {
     assert!(rt; holds(&predicate, &Same(11)));
     assert!(rt; !holds(&predicate, &Same(10)));
     Ok(())
+}
+
+// `a` compared with a text as it stands.
+fn ordered(alloc: Global, op: Op, text: &str) -> Result<Option<Predicate>, Refusal> {
+    let attr = AttrName::read(alloc, "a")?;
+    let literal = Literal::Plain(Text::new(String::from_str(alloc, text)?));
+    Ok(Predicate::compare(alloc, attr, op, literal))
+}
+
+// `b` compared with the pattern of a source.
+fn matched(alloc: Global, op: Op, source: &str) -> Result<Option<Predicate>, Refusal> {
+    let attr = AttrName::read(alloc, "b")?;
+    let literal = Literal::Pattern(Pattern::read(alloc, source)?);
+    Ok(Predicate::compare(alloc, attr, op, literal))
+}
+
+// Whether there is a predicate with this canonical text.
+fn is_written(alloc: Global, made: Option<&Predicate>, text: &str) -> Result<bool, Refusal> {
+    match made {
+        None => Ok(false),
+        Some(predicate) => Ok(write(alloc, predicate)?.as_str() == text),
+    }
+}
+
+#[test]
+fn a_comparison_is_made_of_its_parts(rt: HostRuntime) -> Result<(), Fail> {
+    let alloc = rt.alloc();
+    let least = ordered(alloc, Op::Ge, "-2")?;
+    assert!(rt; is_written(alloc, least.as_ref(), "(a>=\"-2\")")?);
+    let set = matched(alloc, Op::Ne, "x[^a-c]*")?;
+    assert!(rt; is_written(alloc, set.as_ref(), "(b!=\"x[^a-c]*\")")?);
+    assert!(rt; ordered(alloc, Op::Eq, "x")?.is_none());
+    assert!(rt; matched(alloc, Op::Le, "x")?.is_none());
+    Ok(())
+}
+
+#[test]
+fn a_comparison_has_at_most_4096_bytes(rt: HostRuntime) -> Result<(), Fail> {
+    // The canonical text has six bytes beside these: (a<"..")
+    let bytes = [b'x'; 4_091];
+    let long = str::from_utf8(&bytes)?;
+    assert!(rt; ordered(rt.alloc(), Op::Lt, long)?.is_none());
+    let bytes = [b'x'; 4_090];
+    let fits = str::from_utf8(&bytes)?;
+    assert!(rt; ordered(rt.alloc(), Op::Lt, fits)?.is_some());
+    Ok(())
+}
+
+// Whether `Not`, `And` and `Or` of two predicates have the texts of the specification.
+fn are_joined(alloc: Global, one: &Predicate, two: &Predicate) -> Result<bool, Refusal> {
+    let not = one.not()?;
+    let both = one.both(two)?;
+    let either = two.either(one)?;
+    Ok(is_written(alloc, not.as_ref(), "!(a<\"2\")")?
+        && is_written(alloc, both.as_ref(), "((a<\"2\")&&(b==\"x*\"))")?
+        && is_written(alloc, either.as_ref(), "((b==\"x*\")||(a<\"2\"))")?)
+}
+
+#[test]
+fn predicates_are_made_of_others(rt: HostRuntime) -> Result<(), Fail> {
+    let alloc = rt.alloc();
+    match (ordered(alloc, Op::Lt, "2")?, matched(alloc, Op::Eq, "x*")?) {
+        (Some(one), Some(two)) => {
+            assert!(rt; are_joined(alloc, &one, &two)?);
+            Ok(())
+        }
+        _ => Err(Fail::from("a comparison")),
+    }
 }
 
 // Pushes `a`, a value by a call of this number, and an operator.

@@ -1,6 +1,6 @@
 //! Of lq_value: names, values, patterns and refusals.
 use lq_value::{
-    AttrName, Entry, Kind, Literal, Name, Op, Pattern, Refusal, Text, Value, View, compare,
+    AttrName, Element, Entry, Kind, Literal, Name, Op, Pattern, Refusal, Text, Value, View, compare,
 };
 use std::alloc::Global;
 use std::test::Fail;
@@ -81,6 +81,22 @@ fn patterns_are_read_and_match(rt: HostRuntime) -> Result<(), Fail> {
     assert!(rt; pattern.matches("ab") && !pattern.matches("ad"));
     let refused = Pattern::read(rt.alloc(), "a[").err();
     assert!(rt; refused == Some(Refusal::BadQuery { place: 1 }));
+    Ok(())
+}
+
+// The pattern of one character, then any run of them.
+fn begins_with_a(alloc: Global) -> Result<Pattern, Refusal> {
+    let mut elements = Vec::new(alloc);
+    elements.push(Element::Plain('a'))?;
+    elements.push(Element::Star)?;
+    Pattern::of(alloc, elements)
+}
+
+#[test]
+fn a_pattern_is_made_of_its_elements(rt: HostRuntime) -> Result<(), Fail> {
+    let pattern = begins_with_a(rt.alloc())?;
+    assert!(rt; pattern.matches("a") && pattern.matches("ab"));
+    assert!(rt; !pattern.matches("ba") && !pattern.matches(""));
     Ok(())
 }
 

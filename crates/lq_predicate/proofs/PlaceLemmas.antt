@@ -1,14 +1,12 @@
 -- Where the fault of a token lies.
-use Rattle.std.proofs.Common.{◌≡◌, ◌≤◌, ◌+◌, ◌-◌, ℕ, suc, Bool, true, false, List, [], ◌∷◌, length, take, Option, Some, None, refl, ap, arith}
-use Rattle.std.specs.Prelude.{if◌then◌else◌, ◌==◌, ◌||◌}
-use Rattle.std.proofs.lemmas.List.{length-take, length-drop}
+use Rattle.std.proofs.Common.{◌≡◌, ◌≤◌, ◌+◌, ◌-◌, ℕ, suc, List, [], ◌∷◌, ◌++◌, length, Some, None, refl, ap, ◌∙◌, arith, inl, inr}
+use Rattle.std.proofs.lemmas.List.{length-append}
 use Rattle.lq_value.specs.declared.op.Op.{Op}
 use Rattle.lq_value.specs.declared.op.Op.TheVariants.{Eq, Ne, Lt, Le, Gt, Ge}
 use Rattle.lq_value.specs.Element.{Element}
 use Rattle.lq_value.specs.Sign.{signs_of, signs_len}
 use Rattle.lq_value.specs.Source.{Pieces, whole, stuck, pieces_of, element_at, elements_or_place}
-use Rattle.lq_predicate_formula.specs.Tokens.{Token, opens, closes, bang, ands, ors, op, word, lone, cut, Placed, Front, fixed, begins_with, longer, quoted_front, word_front, is_symbol, symbol_front, front, front_at, Yields, trimmed}
-use Rattle.lq_predicate_formula.specs.Bytes.{spaces, quoted_bytes, word_bytes}
+use Rattle.lq_predicate_formula.specs.Tokens.{Token, opens, closes, bang, ands, ors, op, word, lone, cut, Placed, IsQuoted, IsTokenAt, IsUnquoted, Yields}
 use Rattle.lq_predicate_formula.specs.Literals.{bad_place, literal_fault}
 use Rattle.lq_predicate_formula.specs.Machine.{Expected, operand, after_attr, after_op, after_operand}
 use Rattle.lq_predicate_formula.specs.Reading.{fault_place, fault_place_of, place_with, pattern_fault_of_word}
@@ -104,64 +102,42 @@ fault_within p (op o) k e = cc
 fault_within p lone k e = cc
 fault_within p cut k e = cc
 
--- ---- no token is larger than its text
+-- ---- no raw text is longer than its token
 
--- what a front says lies within this many bytes
-abbrev IsSmall : ℕ → Front → Type 0
-IsSmall n f = (f.inside ≤ 1) × (raw_length f.token ≤ n)
+-- an operator has no raw text
+unquoted_small : (t : Token) (part rest : List ℕ) → IsUnquoted t part rest
+    → raw_length t ≤ length part
+unquoted_small opens part rest h = omega arith
+unquoted_small closes part rest h = omega arith
+unquoted_small bang part rest h = omega arith
+unquoted_small ands part rest h = omega arith
+unquoted_small ors part rest h = omega arith
+unquoted_small (op o) part rest h = omega arith
+unquoted_small (word raw) part rest h = let e = ap length h.0 in omega (arith, e)
+unquoted_small lone part rest h = omega arith
+unquoted_small cut part rest h = omega arith
 
--- what holds of both answers to a test holds of the one that it chooses
-one_of : (n : ℕ) (t : Bool) (f g : Front) → IsSmall n f → IsSmall n g
-    → IsSmall n (if t then f else g)
-one_of n true f g h k = h
-one_of n false f g h k = k
+-- a quoted text is longer than its raw text
+quoted_small : (t : Token) (raw part : List ℕ) → t ≡ word raw → IsQuoted raw part
+    → raw_length t ≤ length part
+quoted_small t raw part e q =
+    let same : raw_length t ≡ length raw = ap raw_length e in
+    let long : length part ≡ suc (length (raw ++ q.0 ∷ [])) = ap length q.3 in
+    omega (arith, same, long, length-append raw (q.0 ∷ []))
 
--- a symbol of one byte or two has no text of its own
-longer_small : (n c : ℕ) (bs : List ℕ) (t u : Token) → raw_length t ≡ 0 → raw_length u ≡ 0
-    → IsSmall n (longer c bs t u)
-longer_small n c bs t u e f = one_of n (begins_with c bs) (fixed t 2) (fixed u 1)
-    (omega arith, omega (arith, e)) (omega arith, omega (arith, f))
-
--- a symbol has no text of its own
-symbol_small : (n b : ℕ) (bs : List ℕ) → IsSmall n (symbol_front b bs)
-symbol_small n b bs =
-    one_of n (b == 40) _ _ (omega arith, omega arith)
-    (one_of n (b == 41) _ _ (omega arith, omega arith)
-    (one_of n (b == 33) _ _ (longer_small n 61 bs (op Ne) bang refl refl)
-    (one_of n (b == 61) _ _ (longer_small n 61 bs (op Eq) (op Eq) refl refl)
-    (one_of n (b == 60) _ _ (longer_small n 61 bs (op Le) (op Lt) refl refl)
-    (one_of n (b == 62) _ _ (longer_small n 61 bs (op Ge) (op Gt) refl refl)
-    (one_of n (b == 38) _ _ (longer_small n 38 bs ands lone refl refl)
-    (longer_small n 124 bs ors lone refl refl)))))))
-
--- a front of a text is no longer than the text
-take_within : (n : ℕ) (bs : List ℕ) → length (take n bs) ≤ length bs
-take_within n bs = let e = length-take n bs in omega (arith, e)
-
--- what a quoted text says lies within it
-quoted_small : (bs : List ℕ) (o : Option ℕ) → IsSmall (suc (length bs)) (quoted_front bs o)
-quoted_small bs None = (omega arith, omega arith)
-quoted_small bs (Some n) = let k = take_within n bs in (omega arith, omega (arith, k))
-
--- what a word says lies within it
-word_small : (bs : List ℕ) (n : ℕ) → IsSmall (length bs) (word_front bs n)
-word_small bs n =
-    let k = take_within n bs in
-    one_of (length bs) (n == 0) (fixed cut (length bs))
-    (record { token = word (take n bs); size = n; inside = 0 }) (omega arith, omega arith)
-    (omega arith, omega (arith, k))
-
--- what the front of a text says lies within the text
-front_small : (b : ℕ) (bs : List ℕ) → IsSmall (suc (length bs)) (front b bs)
-front_small b bs =
-    one_of (suc (length bs)) (is_symbol b) _ _ (symbol_small (suc (length bs)) b bs)
-    (one_of (suc (length bs)) (b == 34 || b == 39) _ _ (quoted_small bs (quoted_bytes b false bs))
-    (word_small (b ∷ bs) (word_bytes false (b ∷ bs))))
-
--- the same of a text that may be empty
-front_at_small : (bs : List ℕ) → IsSmall (length bs) (front_at bs)
-front_at_small [] = (omega arith, omega arith)
-front_at_small (b ∷ bs) = front_small b bs
+-- the raw text of a token begins one byte after the token at most, and is no longer
+token_small : (at : ℕ) (part rest : List ℕ) (t : Placed) → IsTokenAt at part rest t
+    → (t.raw_place ≤ suc at) × (raw_length t.token ≤ length part)
+token_small at part rest t h = elim h.token [
+  | inl u ↦ (
+    let is : t.raw_place ≡ at + 0 = h.raw ∙ ap (λ i. at + i) u.0 in omega (arith, is),
+    unquoted_small t.token part rest u.1,
+  )
+  | inr q ↦ (
+    let is : t.raw_place ≡ at + 1 = h.raw ∙ ap (λ i. at + i) q.0 in omega (arith, is),
+    quoted_small t.token q.1.0 part q.1.1 q.1.2,
+  )
+]
 
 -- the place of the fault of a pattern is no more than one past twice the text
 pub pattern_place-bound : (at : ℕ) (bs : List ℕ) (t : Placed) (next : ℕ) (rest : List ℕ)
@@ -169,11 +145,9 @@ pub pattern_place-bound : (at : ℕ) (bs : List ℕ) (t : Placed) (next : ℕ) (
     (k : ℕ) → Yields at bs t next rest → next + length rest ≡ at + length bs
     → pattern_fault p t.token ≡ Some k → t.raw_place + k ≤ suc ((at + length bs) + length bs)
 pattern_place-bound at bs t next rest p k y total e =
-    let small = front_at_small (trimmed bs) in
+    let small = token_small (at + length y.blank) y.part rest t y.token in
     let within = fault_within p t.token k e in
-    let token : raw_length t.token ≡ raw_length (front_at (trimmed bs)).token =
-    ap (λ x. raw_length x.token) y.1 in
-    let raw : t.raw_place ≡ (at + spaces bs) + (front_at (trimmed bs)).inside =
-    ap (λ x. x.raw_place) y.1 in
-    let left : length (trimmed bs) ≡ length bs - spaces bs = length-drop (spaces bs) bs in
-    omega (arith, small.0, small.1, within, token, raw, left, total, y.0, y.2)
+    let split : length bs ≡ length y.blank + (length y.part + length rest) = ap length y.split
+    ∙ length-append y.blank (y.part ++ rest)
+    ∙ ap (λ n. length y.blank + n) (length-append y.part rest) in
+    omega (arith, small.0, small.1, within, split)

@@ -6,7 +6,8 @@ use Rattle.lq_predicate_formula.specs.Query.{Query}
 use Rattle.lq_predicate_formula.specs.Canonical.{canonical, depth}
 use Rattle.lq_predicate_formula.specs.Faults.{most_bytes, most_depth}
 use Rattle.lq_predicate_formula.specs.Machine.{State, step}
-use Rattle.lq_predicate_formula.specs.Tokens.{Placed, Yields, tokens_from}
+use Rattle.lq_predicate_formula.specs.Lexing.{tokens_from}
+use Rattle.lq_predicate_formula.specs.Tokens.{Placed, Yields}
 use Rattle.lq_predicate_formula.specs.Reading.{finished, reading_of}
 use Rattle.lq_predicate_formula.specs.Laws.{FormulasAreRead}
 use Rattle.lq_predicate_formula.specs.Capped.{capped}

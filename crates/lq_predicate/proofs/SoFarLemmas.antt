@@ -4,7 +4,8 @@ use Rattle.std.specs.Prelude.{if◌then◌else◌, IsSome, nat_le, Result, Err}
 use Rattle.std.proofs.lemmas.Bool.{lt-leb, le-leb, leb-true}
 use Rattle.std.proofs.lemmas.List.{append-nil}
 use Rattle.lq_predicate_formula.specs.Words.{WordIs, WordsAre}
-use Rattle.lq_predicate_formula.specs.Tokens.{Placed, Yields, bare, tokens_from, tokens_of}
+use Rattle.lq_predicate_formula.specs.Lexing.{tokens_from, tokens_of}
+use Rattle.lq_predicate_formula.specs.Tokens.{Placed, Yields, bare}
 use Rattle.lq_predicate_formula.specs.Query.{Query}
 use Rattle.lq_predicate_formula.specs.Grammar.{nesting}
 use Rattle.lq_predicate_formula.specs.Machine.{State, start, step, whole, weight}

@@ -25,6 +25,10 @@ plain_good : (cs : List ℕ) → scalars cs ≡ true → IsGoodPattern (plain_el
 plain_good [] e = tt
 plain_good (c ∷ cs) e = let h = and_parts (scalar c) (scalars cs) e in (h.0, plain_good cs h.1)
 
+-- the characters of a text of UTF-8 are a good pattern
+pub text_good : (text : List ℕ) → IsUtf8 text → IsGoodPattern (plain_elements (chars text))
+text_good text u = plain_good (chars text) (scalars-chars text u)
+
 -- a star, or none, is a good pattern
 star_good : (b : Bool) → IsGoodPattern (star_if b)
 star_good true = (tt, tt)

@@ -1,5 +1,6 @@
 pub mod Spans
 pub mod Operand
+pub mod Comparison
 pub mod Stacked
 pub mod Stack
 pub use Rattle.lq_predicate_formula.specs.Query

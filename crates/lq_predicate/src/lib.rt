@@ -6,14 +6,15 @@
 //! see a stack as its items and the number of pushes accepted (`specs/Stacked`; `specs/Stack` says
 //! what each push gives, and when it doesn't fit). A formula is read twice: first without memory,
 //! which finds its leftmost fault if it has one, and then to build the tree; `specs/ParserView` and
-//! `specs/Validator` say which state of the specified machine the code is in. Nothing here waits, and
-//! `holds` takes no memory. Begin with `predicate`, then `truth`, `reader` and `stack`.
+//! `specs/Validator` say which state of the specified machine the code is in. Nothing here waits,
+//! and `holds` takes no memory. Begin with `predicate`, then `truth`, `reader` and `stack`.
 #![tactic(auto)]
 
 mod attributes;
 mod canonical;
 mod expected;
 mod fault_place;
+mod literal_source;
 mod operand;
 mod parser;
 mod predicate;

@@ -1,9 +1,10 @@
 //! The predicate.
-ghost use Rattle.std.specs.Prelude.{◌≡◌, ◌≤◌, ◌∷◌, [], IfOk, OnErr, IsTrue};
+ghost use Rattle.std.specs.Prelude.{◌≡◌, ◌≤◌, ◌↔◌, ◌∷◌, [], IfOk, IfSome, IsSome, OnErr, IsTrue};
 ghost use Rattle.lq_value.specs.Refusal.{FailsOnlyForMemory};
 ghost use Rattle.lq_value.specs.Compare.{suits};
 
-use lq_predicate_formula::{Tree, fit_joined, fits_not};
+use crate::literal_source::has_source;
+use lq_predicate_formula::{MAX_CANONICAL, Tree, comparison_size, fit_joined, fits_not};
 use lq_value::{AttrName, Literal, Op, Refusal};
 use std::alloc::Global;
 use std::marker::Model;
@@ -48,18 +49,28 @@ impl Predicate {
     ghost use Rattle.lq_predicate_formula.specs.Canonical.{comparisons};
     ghost use Rattle.lq_predicate_formula.specs.Limits.{IsProper};
     ghost use Rattle.lq_predicate_formula.specs.PredicateLimits.{if_within, is_formed, is_predicate, is_within};
+    ghost use Rattle.lq_predicate.specs.Comparison.{IsComparison};
 
-    /// The comparison of an attribute with a literal that suits the operator. It takes no memory.
+    /// The comparison of an attribute with a literal. It takes no memory.
     ///
-    /// The comparison is within the limits of a predicate, and a pattern in it is one that some
-    /// text writes.
-    pub fn compare(alloc: Global, attr: AttrName, op: Op, literal: Literal) -> Predicate
-        requires suits { IsTrue (suits literal op) }
-        requires within { IsTrue (is_within (Compare attr op literal)) }
-        requires proper { IsProper (Compare attr op literal) }
-        ensures { result ≡ Compare attr op literal }
+    /// `None`, the first that fits: where the literal doesn't suit the operator
+    /// (`Literal::suits`), where no text writes its pattern (one with a set that has no item or a
+    /// range that falls), and where the canonical text would have more than 4,096 bytes.
+    pub fn compare(alloc: Global, attr: AttrName, op: Op, literal: Literal) -> Option<Predicate>
+        ensures some { IfSome result (λ made. made ≡ Compare attr op literal) }
+
+        // Made exactly where it is a predicate.
+        ensures made { IsSome result ↔ IsComparison attr op literal }
     {
-        Predicate::of(alloc, Tree::compare(attr, op, literal))
+        if !literal.suits(op) || !has_source(&literal) {
+            return None;
+        }
+        if comparison_size(&attr, op, &literal) > MAX_CANONICAL {
+            return None;
+        }
+        // Its contract says that an attribute's name is one.
+        let _ = attr.as_str();
+        Some(Predicate::comparison(alloc, attr, op, literal))
     }
 
     /// A copy of this predicate. Refused: `NoMemory`.
@@ -136,6 +147,16 @@ impl Predicate {
         parts.push(self.tree.copy(self.alloc)?)?;
         parts.push(other.tree.copy(self.alloc)?)?;
         Ok(parts)
+    }
+
+    // The comparison of an attribute with a literal, which is a predicate.
+    pub(crate) fn comparison(alloc: Global, attr: AttrName, op: Op, literal: Literal) -> Predicate
+        requires suits { IsTrue (suits literal op) }
+        requires within { IsTrue (is_within (Compare attr op literal)) }
+        requires proper { IsProper (Compare attr op literal) }
+        ensures { result ≡ Compare attr op literal }
+    {
+        Predicate::of(alloc, Tree::compare(attr, op, literal))
     }
 
     // The predicate with this tree, which is within the limits.

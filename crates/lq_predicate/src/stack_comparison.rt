@@ -67,7 +67,7 @@ fn matched(
         return Ok(None);
     }
     let literal = Literal::Pattern(pattern.copy(alloc)?);
-    Ok(Some(Predicate::compare(alloc, attr.copy(alloc)?, op, literal)))
+    Ok(Some(Predicate::comparison(alloc, attr.copy(alloc)?, op, literal)))
 }
 
 // The comparison with the text as it stands.
@@ -83,7 +83,7 @@ fn ordered(alloc: Global, op: Op, attr: &AttrName, text: &str) -> Result<Option<
         return Ok(None);
     }
     let literal = Literal::Plain(Text::new(String::from_str(alloc, text)?));
-    Ok(Some(Predicate::compare(alloc, attr.copy(alloc)?, op, literal)))
+    Ok(Some(Predicate::comparison(alloc, attr.copy(alloc)?, op, literal)))
 }
 
 // The comparison with a pattern that finds the text's characters.
@@ -104,7 +104,7 @@ fn found(
         return Ok(None);
     }
     let literal = Literal::Pattern(starred(alloc, before, text, behind)?);
-    Ok(Some(Predicate::compare(alloc, attr.copy(alloc)?, Op::Eq, literal)))
+    Ok(Some(Predicate::comparison(alloc, attr.copy(alloc)?, Op::Eq, literal)))
 }
 
 // The characters of a text as plain ones, with a star before them, after them or both.

@@ -10,11 +10,12 @@ use Rattle.lq_value.specs.declared.literal.Literal.TheVariants.{Pattern, Plain}
 use Rattle.lq_value.specs.declared.op.Op.{Op}
 use Rattle.lq_value.specs.declared.op.Op.TheVariants.{Eq, Ne, Lt, Le, Gt, Ge}
 use Rattle.lq_value.specs.Name.{is_attr_name}
-use Rattle.lq_predicate_formula.specs.Bytes.{ends_word, is_space, quoted_bytes, spaces, word_bytes}
-use Rattle.lq_predicate_formula.specs.Tokens.{Token, opens, closes, bang, ands, ors, op, word, cut, Front, fixed, begins_with, front, is_symbol, quoted_front, symbol_front, word_front, Placed, placed_at, Begins, HasTokens, bare}
+use Rattle.lq_predicate_formula.specs.Bytes.{ends_word, is_space}
+use Rattle.lq_predicate_formula.specs.Tokens.{Token, opens, closes, bang, ands, ors, op, word, cut, Placed, bare}
 use Rattle.lq_predicate_formula.specs.Query.{Query, Compare, Not, And, Or, Queries, no_more, and_then}
 use Rattle.lq_predicate_formula.specs.Canonical.{attr_then, in_marks, is_bare_byte, literal_text, op_text, others_written, parts_written, quoted, written}
 use Rattle.lq_predicate_formula.specs.Limits.{AreProper, IsGoodLiteral, IsProper}
+use Rattle.lq_predicate_formula.specs.Lexing.{BeginsBy, Front, HasFronts, begins_with, fixed, front, is_symbol, placed_at, quoted_bytes, quoted_front, spaces, symbol_front, word_bytes, word_front}
 use Rattle.lq_predicate_formula.proofs.QuotingLemmas.{Ends, quoted_ends}
 use Rattle.lq_predicate_formula.proofs.PatternTextLemmas.{pattern_ends}
 
@@ -47,7 +48,7 @@ abbrev mutual
 
 -- the bytes have these tokens, wherever they stand
 abbrev pub Lexes : List ℕ → List Token → Type 0
-Lexes bs ts = (at : ℕ) → (ps : List Placed) × HasTokens at bs ps × (bare ps ≡ ts)
+Lexes bs ts = (at : ℕ) → (ps : List Placed) × HasFronts at bs ps × (bare ps ≡ ts)
 
 -- the empty text has no tokens
 pub lexes_end : Lexes [] []
@@ -62,7 +63,7 @@ one b bs rest t ts e f g h at =
     let others = h next in
     let none : spaces (b ∷ bs) ≡ 0 = ap (λ x. cond x (suc (spaces bs)) 0) e in
     let P : ℕ → Type 0 =
-    λ n. Begins (at + n) (drop n (b ∷ bs)) (placed_at (at + 0) (front b bs)) next rest in (
+    λ n. BeginsBy (at + n) (drop n (b ∷ bs)) (placed_at (at + 0) (front b bs)) next rest in (
       placed_at (at + 0) (front b bs) ∷ others.0,
       (next, rest, subst P (sym none) (omega arith, refl, refl, sym g), others.1),
       ap₂ (λ x xs. x ∷ xs) f others.2,

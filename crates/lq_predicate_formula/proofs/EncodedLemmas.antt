@@ -6,7 +6,7 @@ use Rattle.std.proofs.lemmas.Bool.{ne_eqb}
 use Rattle.std.proofs.lemmas.Str.{encode_ascii}
 use Rattle.std.proofs.Math.Dec.{ltb, lit<}
 use Rattle.std.proofs.Math.Utf8.{encode}
-use Rattle.lq_predicate_formula.specs.Bytes.{quoted_bytes}
+use Rattle.lq_predicate_formula.specs.Lexing.{quoted_bytes}
 use Rattle.lq_predicate_formula.proofs.QuotingLemmas.{Ends}
 
 -- neither `\` nor `"`

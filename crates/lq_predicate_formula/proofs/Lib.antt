@@ -1,5 +1,6 @@
--- Read in this order. The tokens of a text: CountLemmas, CutLemmas, TokenLemmas. Grammar and
--- machine read the same: CompleteLemmas, SoundLemmas, WordLemmas, ReadingLemmas, ProperLemmas.
+-- Read in this order. The tokens of a text: CountLemmas, CutLemmas, SignLemmas, TokenLemmas.
+-- Grammar and machine read the same: CompleteLemmas, SoundLemmas, WordLemmas, ReadingLemmas,
+-- ProperLemmas.
 -- Faults: StopLemmas, DepthLemmas, OutlineLemmas, StepsLemmas, RefusedLemmas, BalanceLemmas,
 -- TakenLemmas, StoppedLemmas, ExactLemmas. What is written reads back: QuotingLemmas,
 -- EncodedLemmas, PatternTextLemmas, CanonicalLemmas, RoundLemmas, GoodLemmas. What the writers and
@@ -8,6 +9,7 @@
 -- and truth: NameLemmas, FormedLemmas, TruthLemmas, SpanLemmas, NeedLemmas.
 pub mod CountLemmas
 pub mod CutLemmas
+pub mod SignLemmas
 pub mod TokenLemmas
 pub mod CompleteLemmas
 pub mod SoundLemmas

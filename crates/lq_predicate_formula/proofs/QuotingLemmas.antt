@@ -1,7 +1,7 @@
 -- What was quoted reads back, and ends at its mark.
 use Rattle.std.proofs.Common.{◌≡◌, ℕ, suc, Bool, true, false, cond, List, [], ◌∷◌, ◌++◌, length, Some, refl, ap, ◌∙◌}
 use Rattle.std.specs.Prelude.{◌==◌, ◌||◌, if◌then◌else◌, option_map}
-use Rattle.lq_predicate_formula.specs.Bytes.{quoted_bytes}
+use Rattle.lq_predicate_formula.specs.Lexing.{quoted_bytes}
 use Rattle.lq_predicate_formula.specs.Literals.{unescaped}
 use Rattle.lq_predicate_formula.specs.Canonical.{quoted}
 

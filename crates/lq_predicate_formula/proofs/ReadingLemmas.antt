@@ -3,7 +3,8 @@ use Rattle.std.proofs.Common.{◌≡◌, ◌≤◌, ◌+◌, ℕ, Bool, true, fa
 use Rattle.std.specs.Prelude.{◌&&◌, nat_le, if◌then◌else◌, Result, Ok, Err}
 use Rattle.std.proofs.lemmas.Bool.{leb-true, le-leb}
 use Rattle.std.proofs.lemmas.Option.{none-some}
-use Rattle.lq_predicate_formula.specs.Tokens.{Token, Placed, bare, tokens_of}
+use Rattle.lq_predicate_formula.specs.Tokens.{Token, Placed, bare}
+use Rattle.lq_predicate_formula.specs.Lexing.{tokens_of}
 use Rattle.lq_predicate_formula.specs.Query.{Query}
 use Rattle.lq_predicate_formula.specs.Grammar.{IsFormula, nesting}
 use Rattle.lq_predicate_formula.specs.Machine.{State, start, step, whole, run}

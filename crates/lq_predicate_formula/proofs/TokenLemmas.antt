@@ -1,10 +1,11 @@
--- Each text has tokens, and one list of them.
+-- Each text has tokens, and one list of them: those that the lexer finds.
 use Rattle.std.proofs.Common.{◌≡◌, ◌<◌, ◌≤◌, ◌+◌, ℕ, zero, suc, Bool, true, false, cond, List, [], ◌∷◌, length, get_or, take, drop, Option, Some, None, refl, sym, ap, ap₂, ◌∙◌, arith, subst, length-drop}
 use Rattle.std.proofs.Math.Dec.{eqb-suc-zero}
 use Rattle.std.specs.Prelude.{◌==◌, ◌||◌}
 use Rattle.lq_value.specs.declared.op.Op.TheVariants.{Eq, Ne, Lt, Le, Gt, Ge}
-use Rattle.lq_predicate_formula.specs.Bytes.{spaces, word_bytes, quoted_bytes}
-use Rattle.lq_predicate_formula.specs.Tokens.{Token, word, op, bang, ands, ors, lone, cut, Front, fixed, begins_with, longer, quoted_front, word_front, is_symbol, symbol_front, front, front_at, Placed, placed_at, Begins, trimmed, Yields, HasTokens, first_and, tokens_within, tokens_from}
+use Rattle.lq_predicate_formula.specs.Tokens.{Token, word, op, bang, ands, ors, lone, cut, Placed, HasTokens, IsBlank, Yields}
+use Rattle.lq_predicate_formula.specs.Lexing.{spaces, word_bytes, quoted_bytes, Front, fixed, begins_with, longer, quoted_front, word_front, is_symbol, symbol_front, front, front_at, placed_at, BeginsBy, trimmed, HasFronts, first_and, tokens_within, tokens_from}
+use Rattle.lq_predicate_formula.proofs.SignLemmas.{tokens_by, tokens_of_fronts}
 
 -- one of two that have a size has a size
 one_of : (c : Bool) (x y : Front) → 0 < x.size → 0 < y.size → 0 < (cond c x y).size
@@ -56,15 +57,15 @@ front_symbol (b ∷ bs) h e = ap (λ t. cond t (symbol_front b bs) (cond (b == 3
 
 -- the first token and those behind it, where those are had
 has_first : (n at : ℕ) (bs cs : List ℕ) → trimmed bs ≡ cs → length cs ≤ suc n
-    → ((at : ℕ) (ds : List ℕ) → length ds ≤ n → HasTokens at ds (tokens_within n at ds))
-    → HasTokens at bs (first_and (at + spaces bs) cs (tokens_within n))
+    → ((at : ℕ) (ds : List ℕ) → length ds ≤ n → HasFronts at ds (tokens_within n at ds))
+    → HasFronts at bs (first_and (at + spaces bs) cs (tokens_within n))
 has_first n at bs [] e h others = e
 has_first n at bs (c ∷ cs) e h others =
     let ds = drop (front c cs).size (c ∷ cs) in
     let some : 0 < (front c cs).size = front_size (c ∷ cs) (omega arith) in
     let next = at + spaces bs + (front c cs).size in
     let P : List ℕ → Type 0 =
-    λ l. Begins (at + spaces bs) l (placed_at (at + spaces bs) (front c cs)) next ds in (
+    λ l. BeginsBy (at + spaces bs) l (placed_at (at + spaces bs) (front c cs)) next ds in (
       next,
       ds,
       subst P (sym e) (omega arith, refl, refl, refl),
@@ -72,34 +73,44 @@ has_first n at bs (c ∷ cs) e h others =
     )
 
 -- the tokens within a bound on the text's length are its tokens
-has_within : (n at : ℕ) (bs : List ℕ) → length bs ≤ n → HasTokens at bs (tokens_within n at bs)
+has_within : (n at : ℕ) (bs : List ℕ) → length bs ≤ n → HasFronts at bs (tokens_within n at bs)
 unfolding tokens_within
 has_within zero at [] h = refl
 has_within zero at (b ∷ bs) h = absurd (omega arith)
 has_within (suc n) at bs h = has_first n at bs (trimmed bs) refl
     (omega (arith, length-drop (spaces bs) bs)) (λ at' ds k. has_within n at' ds k)
 
+-- the lexer finds the tokens of each text
+has_fronts : (at : ℕ) (bs : List ℕ) → HasFronts at bs (tokens_from at bs)
+unfolding tokens_from
+has_fronts at bs = has_within (length bs) at bs (omega arith)
+
 -- each text has tokens
 pub has_tokens : (at : ℕ) (bs : List ℕ) → HasTokens at bs (tokens_from at bs)
-unfolding tokens_from
-has_tokens at bs = has_within (length bs) at bs (omega arith)
+has_tokens at bs = tokens_of_fronts (tokens_from at bs) at bs (has_fronts at bs)
 
 -- the empty text has no byte
 none_left : (bs : List ℕ) → bs ≡ [] → 0 < length bs → ⊥
 none_left bs e h = let l : length bs ≡ 0 = ap length e in omega arith
 
+-- the lexer finds only one list of tokens in a text
+fronts_same : (ts us : List Placed) (at : ℕ) (bs : List ℕ)
+    → HasFronts at bs ts → HasFronts at bs us → ts ≡ us
+fronts_same [] [] at bs h k = refl
+fronts_same [] (u ∷ us) at bs h k = absurd (none_left (trimmed bs) h k.2.0)
+fronts_same (t ∷ ts) [] at bs h k = absurd (none_left (trimmed bs) k h.2.0)
+fronts_same (t ∷ ts) (u ∷ us) at bs h k =
+    let n : h.0 ≡ k.0 = h.2.2 ∙ sym k.2.2 in
+    let r : h.1 ≡ k.1 = h.2.3 ∙ sym k.2.3 in
+    let same : ts ≡ us = fronts_same ts us k.0 k.1
+    (subst (λ x. HasFronts x k.1 ts) n (subst (λ x. HasFronts h.0 x ts) r h.3)) k.3 in
+    ap₂ (λ x y. x ∷ y) (h.2.1 ∙ sym k.2.1) same
+
 -- a text has only one list of tokens
 pub tokens_same : (ts us : List Placed) (at : ℕ) (bs : List ℕ)
     → HasTokens at bs ts → HasTokens at bs us → ts ≡ us
-tokens_same [] [] at bs h k = refl
-tokens_same [] (u ∷ us) at bs h k = absurd (none_left (trimmed bs) h k.2.0)
-tokens_same (t ∷ ts) [] at bs h k = absurd (none_left (trimmed bs) k h.2.0)
-tokens_same (t ∷ ts) (u ∷ us) at bs h k =
-    let n : h.0 ≡ k.0 = h.2.2 ∙ sym k.2.2 in
-    let r : h.1 ≡ k.1 = h.2.3 ∙ sym k.2.3 in
-    let same : ts ≡ us = tokens_same ts us k.0 k.1
-    (subst (λ x. HasTokens x k.1 ts) n (subst (λ x. HasTokens h.0 x ts) r h.3)) k.3 in
-    ap₂ (λ x y. x ∷ y) (h.2.1 ∙ sym k.2.1) same
+tokens_same ts us at bs h k =
+    fronts_same ts us at bs (tokens_by ts at bs h) (tokens_by us at bs k)
 
 -- the list of the tokens has the token that is yielded, and those of what is left
 pub tokens_from_yields : (at : ℕ) (bs : List ℕ) (t : Placed) (next : ℕ) (rest : List ℕ)
@@ -108,5 +119,5 @@ tokens_from_yields at bs t next rest y = tokens_same (tokens_from at bs)
     (t ∷ tokens_from next rest) at bs (has_tokens at bs) (next, rest, y, has_tokens next rest)
 
 -- a text of white space alone has no tokens
-pub tokens_from_none : (at : ℕ) (bs : List ℕ) → trimmed bs ≡ [] → tokens_from at bs ≡ []
+pub tokens_from_none : (at : ℕ) (bs : List ℕ) → IsBlank bs → tokens_from at bs ≡ []
 tokens_from_none at bs e = tokens_same (tokens_from at bs) [] at bs (has_tokens at bs) e

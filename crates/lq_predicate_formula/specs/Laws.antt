@@ -5,7 +5,8 @@ use Rattle.lq_predicate_formula.specs.Faults.{IsFaulty, Reads}
 use Rattle.lq_predicate_formula.specs.Canonical.{canonical}
 use Rattle.lq_predicate_formula.specs.Limits.{IsGoodPattern, IsProper, IsWithinLimits}
 use Rattle.lq_predicate_formula.specs.Words.{WordsAre}
-use Rattle.lq_predicate_formula.specs.Tokens.{bare, tokens_of}
+use Rattle.lq_predicate_formula.specs.Tokens.{bare}
+use Rattle.lq_predicate_formula.specs.Lexing.{tokens_of}
 use Rattle.lq_value.specs.Element.{Element}
 use Rattle.lq_value.specs.Source.{pattern_of}
 use Rattle.std.specs.Str.{IsUtf8, bytes_eq}

@@ -1,5 +1,6 @@
 pub mod Bytes
 pub mod Tokens
+pub mod Lexing
 pub mod TokenView
 pub mod Query
 pub mod Literals

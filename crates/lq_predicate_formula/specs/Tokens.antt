@@ -1,8 +1,9 @@
--- The tokens of a text, each with its place: as a relation, and as a list that can be computed.
-use Rattle.std.specs.Prelude.{◌≡◌, ℕ, zero, suc, ◌+◌, ◌<◌, ◌==◌, ◌||◌, if◌then◌else◌, Bool, false, List, [], ◌∷◌, length, take, drop, map, Option, Some, None}
+-- The tokens of a text, each with its place: some split of the text into white space and tokens.
+use Rattle.std.specs.Prelude.{◌≡◌, ◌⊎◌, ℕ, ◌+◌, ◌==◌, Bool, true, false, List, [], ◌∷◌, ◌++◌, length, map, codes}
+use Rattle.std.specs.List.{list_all}
 use Rattle.lq_value.specs.declared.op.Op.{Op}
 use Rattle.lq_value.specs.declared.op.Op.TheVariants.{Eq, Ne, Lt, Le, Gt, Ge}
-use Rattle.lq_predicate_formula.specs.Bytes.{spaces, word_bytes, quoted_bytes}
+use Rattle.lq_predicate_formula.specs.Bytes.{is_space, ends_word}
 
 pub data Token : Type 0 where
   opens : Token
@@ -18,112 +19,135 @@ pub data Token : Type 0 where
   -- a quoted text without its end, or a `\` with nothing after it
   cut : Token
 
--- a token, its length in bytes, and the offset of its raw text
-pub record Front : Type 0 where
-  pub token : Token
-  pub size : ℕ
-  pub inside : ℕ
-
-abbrev pub fixed : Token → ℕ → Front
-fixed t n = record { token = t; size = n; inside = 0 }
-
-abbrev pub begins_with : ℕ → List ℕ → Bool
-begins_with c [] = false
-begins_with c (b ∷ bs) = b == c
-
--- the longer token, if this byte is next
-abbrev pub longer : ℕ → List ℕ → Token → Token → Front
-longer c bs t u = if begins_with c bs then fixed t 2 else fixed u 1
-
-abbrev pub quoted_front : List ℕ → Option ℕ → Front
-quoted_front bs None = fixed cut (suc (length bs))
-quoted_front bs (Some n) = record { token = word (take n bs); size = suc (suc n); inside = 1 }
-
-abbrev pub word_front : List ℕ → ℕ → Front
-word_front bs n =
-    if n == 0
-    then fixed cut (length bs)
-    else record { token = word (take n bs); size = n; inside = 0 }
-
--- one of ( ) ! = < > & |
-abbrev pub is_symbol : ℕ → Bool
-is_symbol b = b == 40 || b == 41 || b == 33 || b == 61 || b == 60 || b == 62 || b == 38 || b == 124
-
--- the token that begins with the symbol b, with bs after it
-abbrev pub symbol_front : ℕ → List ℕ → Front
-symbol_front b bs =
-    if b == 40 then fixed opens 1
-    else (if b == 41 then fixed closes 1
-    else (if b == 33 then longer 61 bs (op Ne) bang
-    else (if b == 61 then longer 61 bs (op Eq) (op Eq)
-    else (if b == 60 then longer 61 bs (op Le) (op Lt)
-    else (if b == 62 then longer 61 bs (op Ge) (op Gt)
-    else (if b == 38 then longer 38 bs ands lone
-    else longer 124 bs ors lone))))))
-
--- the token that begins with the byte b, with bs after it
-abbrev pub front : ℕ → List ℕ → Front
-front b bs =
-    if is_symbol b then symbol_front b bs
-    else (if b == 34 || b == 39 then quoted_front bs (quoted_bytes b false bs)
-    else word_front (b ∷ bs) (word_bytes false (b ∷ bs)))
-
 -- a token with the offsets of its first byte and of its raw text
 pub record Placed : Type 0 where
   pub place : ℕ
   pub raw_place : ℕ
   pub token : Token
 
-abbrev pub placed_at : ℕ → Front → Placed
-placed_at at f = record { place = at; raw_place = at + f.inside; token = f.token }
-
-abbrev pub front_at : List ℕ → Front
-front_at [] = fixed cut 0
-front_at (b ∷ bs) = front b bs
-
--- ---- the tokens as a relation
-
--- The text begins with the token, without white space, and the rest follows it.
-abbrev pub Begins : ℕ → List ℕ → Placed → ℕ → List ℕ → Type 0
-Begins at bs t next rest = (0 < length bs) × (t ≡ placed_at at (front_at bs))
-    × (next ≡ at + (front_at bs).size) × (rest ≡ drop (front_at bs).size bs)
-
--- the text after its white space
-abbrev pub trimmed : List ℕ → List ℕ
-trimmed bs = drop (spaces bs) bs
-
--- The text from an offset on begins, after white space, with the token; the rest is at the next
--- offset.
-abbrev pub Yields : ℕ → List ℕ → Placed → ℕ → List ℕ → Type 0
-Yields at bs t next rest = Begins (at + spaces bs) (trimmed bs) t next rest
-
--- The text from an offset on has these tokens.
-abbrev pub HasTokens : ℕ → List ℕ → List Placed → Type 0
-HasTokens at bs [] = trimmed bs ≡ []
-HasTokens at bs (t ∷ ts) =
-    (next : ℕ) × (rest : List ℕ) × Yields at bs t next rest × HasTokens next rest ts
-
--- ---- the tokens as a list
-
--- the token at the start of trimmed bytes, and those after it
-abbrev pub first_and : ℕ → List ℕ → (ℕ → List ℕ → List Placed) → List Placed
-first_and at [] others = []
-first_and at (b ∷ bs) others =
-    placed_at at (front b bs) ∷ others (at + (front b bs).size) (drop (front b bs).size (b ∷ bs))
-
--- the tokens of the text, at most this many
-unfoldable pub tokens_within : ℕ → ℕ → List ℕ → List Placed
-tokens_within zero at bs = []
-tokens_within (suc most) at bs = first_and (at + spaces bs) (trimmed bs) (tokens_within most)
-
--- the tokens of the text from an offset on: each has at least one byte, so there are at most as
--- many as bytes
-unfoldable pub tokens_from : ℕ → List ℕ → List Placed
-tokens_from at bs = tokens_within (length bs) at bs
-
-abbrev pub tokens_of : List ℕ → List Placed
-tokens_of text = tokens_from 0 text
-
 -- the tokens without their places
 abbrev pub bare : List Placed → List Token
 bare ps = map (λ p. p.token) ps
+
+-- ---- signs
+
+-- a byte by itself, or a `\` and the byte after it
+pub data Sign : Type 0 where
+  plain : ℕ → Sign
+  escaped : ℕ → Sign
+
+abbrev pub sign_bytes : List Sign → List ℕ
+sign_bytes [] = []
+sign_bytes (plain b ∷ ss) = b ∷ sign_bytes ss
+sign_bytes (escaped b ∷ ss) = 92 ∷ b ∷ sign_bytes ss
+
+-- a byte by itself is no `\`, and not one that ends the text
+abbrev pub GoesOn : (ℕ → Bool) → Sign → Type 0
+GoesOn ends (plain b) = ((b == 92) ≡ false) × (ends b ≡ false)
+GoesOn ends (escaped b) = Unit {0}
+
+abbrev pub AllGoOn : (ℕ → Bool) → List Sign → Type 0
+AllGoOn ends [] = Unit {0}
+AllGoOn ends (s ∷ ss) = GoesOn ends s × AllGoOn ends ss
+
+-- the bytes are signs, none of which ends the text
+abbrev pub AreSigns : (ℕ → Bool) → List ℕ → Type 0
+AreSigns ends bytes = (ss : List Sign) × (bytes ≡ sign_bytes ss) × AllGoOn ends ss
+
+-- ---- words and quoted texts
+
+-- Nothing follows a word, or a byte that ends words, or a `\` with nothing after it.
+abbrev pub EndsWord : List ℕ → Type 0
+EndsWord rest = (rest ≡ []) ⊎ ((rest ≡ 92 ∷ [])
+    ⊎ ((b : ℕ) × (bs : List ℕ) × (rest ≡ b ∷ bs) × (ends_word b ≡ true)))
+
+-- some signs none of which ends a word, and the next one does or there is none
+abbrev pub IsWord : List ℕ → List ℕ → Type 0
+IsWord raw rest = AreSigns ends_word raw × (raw ≡ [] → ⊥) × EndsWord rest
+
+-- `"` or `'`
+abbrev pub IsMark : ℕ → Type 0
+IsMark mark = (mark ≡ 34) ⊎ (mark ≡ 39)
+
+-- signs none of which is the mark by itself
+abbrev pub AreWithout : ℕ → List ℕ → Type 0
+AreWithout mark bytes = AreSigns (λ b. b == mark) bytes
+
+-- a mark, the raw text without it, the same mark
+abbrev pub IsQuoted : List ℕ → List ℕ → Type 0
+IsQuoted raw part =
+    (mark : ℕ) × IsMark mark × AreWithout mark raw × (part ≡ mark ∷ (raw ++ mark ∷ []))
+
+-- all of it are signs none of which is the mark by itself, and perhaps a `\` with nothing after it
+abbrev pub HasNoEnd : ℕ → List ℕ → Type 0
+HasNoEnd mark bytes =
+    (raw : List ℕ) × AreWithout mark raw × ((bytes ≡ raw) ⊎ (bytes ≡ raw ++ 92 ∷ []))
+
+-- a mark, and a text that it doesn't end
+abbrev pub IsUnclosed : List ℕ → Type 0
+IsUnclosed part =
+    (mark : ℕ) × (bytes : List ℕ) × IsMark mark × HasNoEnd mark bytes × (part ≡ mark ∷ bytes)
+
+-- ---- tokens
+
+-- the rest doesn't begin with this byte
+abbrev pub IsNotNext : ℕ → List ℕ → Type 0
+IsNotNext b rest = (bs : List ℕ) → rest ≡ b ∷ bs → ⊥
+
+-- the part is the operator, and no longer one
+abbrev pub IsOp : Op → List ℕ → List ℕ → Type 0
+IsOp Eq part rest = (part ≡ codes "==") ⊎ ((part ≡ codes "=") × IsNotNext 61 rest)
+IsOp Ne part rest = part ≡ codes "!="
+IsOp Lt part rest = (part ≡ codes "<") × IsNotNext 61 rest
+IsOp Le part rest = part ≡ codes "<="
+IsOp Gt part rest = (part ≡ codes ">") × IsNotNext 61 rest
+IsOp Ge part rest = part ≡ codes ">="
+
+-- The part of a text is the token, which is no quoted text, and the rest follows it. Of two tokens
+-- the longer one stands.
+abbrev pub IsUnquoted : Token → List ℕ → List ℕ → Type 0
+IsUnquoted opens part rest = part ≡ codes "("
+IsUnquoted closes part rest = part ≡ codes ")"
+IsUnquoted bang part rest = (part ≡ codes "!") × IsNotNext 61 rest
+IsUnquoted ands part rest = part ≡ codes "&&"
+IsUnquoted ors part rest = part ≡ codes "||"
+IsUnquoted (op o) part rest = IsOp o part rest
+IsUnquoted (word raw) part rest = (part ≡ raw) × IsWord raw rest
+IsUnquoted lone part rest =
+    ((part ≡ codes "&") × IsNotNext 38 rest) ⊎ ((part ≡ codes "|") × IsNotNext 124 rest)
+IsUnquoted cut part rest = (rest ≡ []) × ((part ≡ 92 ∷ []) ⊎ IsUnclosed part)
+
+-- The part of a text is the token, and the rest follows it. The raw text of a quoted text begins
+-- inside it, after the mark.
+abbrev pub IsToken : Token → ℕ → List ℕ → List ℕ → Type 0
+IsToken t inside part rest = ((inside ≡ 0) × IsUnquoted t part rest)
+    ⊎ ((inside ≡ 1) × ((raw : List ℕ) × (t ≡ word raw) × IsQuoted raw part))
+
+-- the part of a text at an offset is the token with its offsets, and the rest follows it
+pub record IsTokenAt (at : ℕ) (part rest : List ℕ) (t : Placed) : Type 0 where
+  pub place : t.place ≡ at
+  pub inside : ℕ
+  pub raw : t.raw_place ≡ at + inside
+  pub token : IsToken t.token inside part rest
+
+-- ---- the tokens of a text
+
+-- white space alone, or nothing
+abbrev pub IsBlank : List ℕ → Type 0
+IsBlank bs = list_all is_space bs ≡ true
+
+-- The text from an offset on begins, after white space, with the token; the rest is at the next
+-- offset.
+pub record Yields (at : ℕ) (bs : List ℕ) (t : Placed) (next : ℕ) (rest : List ℕ) : Type 0 where
+  pub blank : List ℕ
+  pub part : List ℕ
+  pub split : bs ≡ blank ++ (part ++ rest)
+  pub white : IsBlank blank
+  pub token : IsTokenAt (at + length blank) part rest t
+  pub is_next : next ≡ (at + length blank) + length part
+
+-- The text from an offset on has these tokens.
+abbrev pub HasTokens : ℕ → List ℕ → List Placed → Type 0
+HasTokens at bs [] = IsBlank bs
+HasTokens at bs (t ∷ ts) =
+    (next : ℕ) × (rest : List ℕ) × Yields at bs t next rest × HasTokens next rest ts

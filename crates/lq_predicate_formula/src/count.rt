@@ -1,6 +1,7 @@
 //! The lengths of white space, of a word and of a quoted text.
 ghost use Rattle.std.specs.Prelude.{◌≡◌, ◌≤◌, ◌<◌, length, IfSome, true, false, slice_index, pred};
-ghost use Rattle.lq_predicate_formula.specs.Bytes.{ends_word as ends, is_space as spaced, quoted_bytes, spaces, word_bytes};
+ghost use Rattle.lq_predicate_formula.specs.Bytes.{ends_word as ends, is_space as spaced};
+ghost use Rattle.lq_predicate_formula.specs.Lexing.{quoted_bytes, spaces, word_bytes};
 
 fn is_space(b: u8) -> bool
     ensures value { result ≡ spaced b }

@@ -1,18 +1,20 @@
-//! Laws on tokens, the grammar and queries: functions that do nothing, each with a law as its contract.
+//! Laws on tokens, the grammar and queries: functions that do nothing, each with a law as its
+//! contract.
 ghost use Rattle.std.specs.Prelude.{◌≡◌, ℕ, List};
-ghost use Rattle.lq_predicate_formula.specs.Tokens.{HasTokens, Placed, Token, tokens_of};
+ghost use Rattle.lq_predicate_formula.specs.Lexing.{tokens_of};
+ghost use Rattle.lq_predicate_formula.specs.Tokens.{HasTokens, Placed, Token};
 ghost use Rattle.lq_predicate_formula.specs.Query.{Query};
 ghost use Rattle.lq_predicate_formula.specs.Grammar.{IsFormula};
 ghost use Rattle.lq_predicate_formula.specs.Laws.{BareRowsFail, CanonicalIsRead, FaultsAreFound, FormulasAreRead, JoinedTextsAdd, PatternsAreGood, ReadIsGood, TruthGoesByNames, TruthStaysBesideSpans};
 
 use lq_value::sources_are_read;
 
-/// Each text has tokens: those of the list `tokens_of`.
+/// Each text has tokens by their signs: those that the lexer finds.
 pub fn tokens_exist()
     ensures { (text : List ℕ) → HasTokens 0 text (tokens_of text) }
 {}
 
-/// A text has at most one list of tokens.
+/// A text has at most one list of tokens, so no other than the lexer finds.
 pub fn tokens_same()
     ensures { (text : List ℕ) (ts us : List Placed)
         → HasTokens 0 text ts → HasTokens 0 text us → ts ≡ us }

@@ -1,10 +1,10 @@
 //! The tokens of a text, one at a time.
 ghost use Rattle.std.specs.Prelude.{◌≡◌, ◌≤◌, ◌<◌, ◌+◌, ◌^◌, ◌∷◌, [], length, IfSome, IfNone};
-ghost use Rattle.lq_predicate_formula.specs.Bytes.{spaces};
 ghost use Rattle.std.specs.Str.{IsUtf8};
 ghost use Rattle.lq_predicate_formula.specs.Words.{WordIs};
-ghost use Rattle.lq_predicate_formula.specs.Tokens.{Begins, Yields, tokens_from, trimmed};
+ghost use Rattle.lq_predicate_formula.specs.Tokens.{IsBlank, Yields};
 ghost use Rattle.lq_predicate_formula.specs.TokenView.{placed_of, token_of};
+ghost use Rattle.lq_predicate_formula.specs.Lexing.{BeginsBy, spaces, tokens_from, trimmed};
 
 use crate::count::count_spaces;
 use crate::piece::read_piece;
@@ -16,7 +16,7 @@ use crate::token::{Cursor, Placed};
 /// tokens are this project's own.
 pub fn next_token<'a>(cursor: Cursor<'a>) -> Option<(Placed<'a>, Cursor<'a>)>
     requires { cursor.place + length cursor.rest.now < 2 ^ 64 }
-    ensures none { IfNone result (trimmed cursor.entry.rest.now ≡ []) }
+    ensures none { IfNone result (IsBlank cursor.entry.rest.now) }
     ensures some { IfSome result (λ r. Yields cursor.entry.place cursor.entry.rest.now
         (placed_of r.0) r.1.place r.1.rest.now) }
 
@@ -44,7 +44,7 @@ pub fn next_token<'a>(cursor: Cursor<'a>) -> Option<(Placed<'a>, Cursor<'a>)>
 fn token_at<'a>(place: usize, rest: &'a str) -> (Placed<'a>, Cursor<'a>)
     requires some { 0 < length rest.now }
     requires small { place + length rest.now < 2 ^ 64 }
-    ensures begins { Begins place rest.entry.now (placed_of result.0)
+    ensures begins { BeginsBy place rest.entry.now (placed_of result.0)
         result.1.place result.1.rest.now }
     ensures text { WordIs IsUtf8 (token_of result.0.token) }
     ensures place { result.1.place + length result.1.rest.now ≡ place + length rest.entry.now }

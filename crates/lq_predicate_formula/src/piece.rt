@@ -1,10 +1,9 @@
 //! The token at the start of a text, and its length in bytes.
 ghost use Rattle.std.specs.Prelude.{◌≡◌, ◌≤◌, ◌<◌, ◌⊎◌, length, IfSome, IfNone, true, false, slice_index, drop, pred};
 ghost use Rattle.std.specs.Str.{IsCharBoundary, IsUtf8};
-ghost use Rattle.lq_predicate_formula.specs.Bytes.{quoted_bytes, word_bytes};
 ghost use Rattle.lq_predicate_formula.specs.Words.{WordIs};
-ghost use Rattle.lq_predicate_formula.specs.Tokens.{fixed as fixed_front, front_at, is_symbol, longer as longer_front, quoted_front, symbol_front, word_front};
 ghost use Rattle.lq_predicate_formula.specs.TokenView.{front_of, token_of};
+ghost use Rattle.lq_predicate_formula.specs.Lexing.{fixed as fixed_front, front_at, is_symbol, longer as longer_front, quoted_bytes, quoted_front, symbol_front, word_bytes, word_front};
 
 use crate::count::{count_quoted, count_word};
 use crate::token::Token;

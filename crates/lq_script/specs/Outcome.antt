@@ -1,6 +1,6 @@
 -- What the program does with its three streams, for what its arguments ask.
-use Rattle.std.specs.Prelude.{◌≡◌, ◌⊎◌, ◌≤◌, ℕ, List, true, Err}
-use Rattle.lq_predicate.specs.Reading.{reading_of}
+use Rattle.std.specs.Prelude.{◌≡◌, ◌⊎◌, ◌≤◌, ℕ, List, true}
+use Rattle.lq_predicate.specs.Faults.{IsFaulty}
 use Rattle.lq_script_lines.specs.Output.{Answered, Stopped}
 use Rattle.lq_script_lines.specs.Outcome.{ReaderLog, WriterLog}
 use Rattle.lq_script_lines.specs.declared.run_fault.RunFault.{RunFault}
@@ -49,7 +49,7 @@ pub record TellsFault {R W F : Type 0} (t : Transcript R W F) : Type 0 where
 -- the formula's leftmost fault went there
 pub record TellsRefusal {R W F : Type 0} (t : Transcript R W F) (formula : List ℕ) : Type 0 where
   pub place : ℕ
-  pub is : reading_of formula ≡ Err place
+  pub is : IsFaulty formula place
   pub line : TellsLine t (refusal_line place)
 
 -- Of `run`: status 0 where the whole script was carried out, or 1, with a prefix of its output.

@@ -1,10 +1,10 @@
 //! The program's arguments without `threads`, and its exit status.
-ghost use Rattle.std.specs.Prelude.{◌≡◌, ◌⊎◌, ◌≤◌, ℕ, List, false, true, Some, Err, IfErr, IfOk, OnErr, OnOk};
+ghost use Rattle.std.specs.Prelude.{◌≡◌, ◌⊎◌, ◌≤◌, ℕ, List, false, true, IfErr, IfOk, OnErr, OnOk};
 ghost use Rattle.std.specs.Io.KnownBytes.{Appends};
 ghost use Rattle.std.specs.String.{string_bytes};
-ghost use Rattle.lq_predicate.specs.Reading.{reading_of};
+ghost use Rattle.lq_predicate.specs.Faults.{IsFaulty};
 ghost use Rattle.lq_script_lines.specs.Output.{Answered, Stopped};
-ghost use Rattle.lq_predicate.specs.Refusals.{refusal_of};
+ghost use Rattle.lq_value.specs.declared.refusal.Refusal.TheVariants.{BadQuery};
 ghost use Rattle.lq_script.specs.Check.{IsCanonicalOf};
 ghost use Rattle.lq_script_desk.specs.Script.{script_session, world_rules};
 ghost use Rattle.lq_script.specs.Words.{IsCheckOf, IsFaultOf, IsRun, IsUsage, Prints, PrintsFront, Tells, WritesFront};
@@ -61,7 +61,7 @@ pub(crate) fn plain_program<R: Source, W: Sink, F: Sink>(
 
     // 2: the formula is refused with the place of its fault, or the arguments fit no subcommand.
     ensures refused { (formula : List ℕ) → IsCheckOf (texts_of words.now) formula → result ≡ 2 →
-        (place : ℕ) × ((reading_of formula ≡ Err place)
+        (place : ℕ) × (IsFaulty formula place
         × Tells (refusal_line place) (F.written faults.old) (F.written faults.new)
         (F.failed faults.new) (F.stalled faults.new)) }
     ensures usage { IsUsage (texts_of words.now) → result ≡ 2 →
@@ -108,7 +108,7 @@ fn check_formula<W: Sink, F: Sink>(
         ⊎ (Tells (fault_line RunFault.Write) (F.written faults.old) (F.written faults.new)
         (F.failed faults.new) (F.stalled faults.new)
         × ((W.failed writer.new ≡ true) ⊎ (W.stalled writer.new ≡ true))) }
-    ensures refused { result ≡ 2 → (place : ℕ) × ((reading_of formula.now ≡ Err place)
+    ensures refused { result ≡ 2 → (place : ℕ) × (IsFaulty formula.now place
         × Tells (refusal_line place) (F.written faults.old) (F.written faults.new)
         (F.failed faults.new) (F.stalled faults.new)) }
     ensures writes_nothing { result ≡ 2 → writer.new ≡ writer.old }
@@ -128,8 +128,8 @@ fn check_formula<W: Sink, F: Sink>(
 fn line_for(alloc: Global, formula: &str) -> Result<String, Refusal>
     ensures value { IfOk result (λ line. (text : List ℕ)
         × (IsCanonicalOf formula.now text × (string_bytes line ≡ line_with text))) }
-    ensures refused { IfErr result (λ e. (e ≡ Refusal.NoMemory)
-        ⊎ (refusal_of (reading_of formula.now) ≡ Some e)) }
+    ensures fault { IfErr result
+        (λ e. (place : ℕ) → e ≡ BadQuery place → IsFaulty formula.now place) }
 {
     let mut line = check(alloc, formula)?;
     line.push('\n')?;

@@ -3,8 +3,8 @@ use Rattle.lq_predicate_formula.specs.Limits.{IsGoodPattern}
 use Rattle.lq_predicate.proofs.StarredLemmas.{starred_good}
 use Rattle.lq_predicate.proofs.stack_comparison.found.Goals as goal
 
-pub compare-requires-clause-proper : goal.compare-requires-clause-proper
-compare-requires-clause-proper c = (
+pub comparison-requires-clause-proper : goal.comparison-requires-clause-proper
+comparison-requires-clause-proper c = (
   c.in_ok-copy.ensures.valid,
   (
     refl,

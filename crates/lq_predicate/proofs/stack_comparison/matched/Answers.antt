@@ -2,8 +2,8 @@ use Rattle.std.proofs.Common.{subst, sym}
 use Rattle.lq_predicate_formula.specs.Limits.{IsGoodPattern}
 use Rattle.lq_predicate.proofs.stack_comparison.matched.Goals as goal
 
-pub compare-requires-clause-proper : goal.compare-requires-clause-proper
-compare-requires-clause-proper c = (
+pub comparison-requires-clause-proper : goal.comparison-requires-clause-proper
+comparison-requires-clause-proper c = (
   c.in_ok-copy-2.ensures.valid,
   (
     c.requires c.in_ok-copy.field-0,

@@ -1,7 +1,7 @@
 use Rattle.std.proofs.Common.{arith, eq-eqb, ap, ◌∙◌, sym, false}
 use Rattle.std.proofs.lemmas.Bool.{ne_eqb}
 use Rattle.std.proofs.lemmas.List.{drop_all}
-use Rattle.lq_predicate_formula.specs.Bytes.{quoted_bytes}
+use Rattle.lq_predicate_formula.specs.Lexing.{quoted_bytes}
 use Rattle.lq_predicate_formula.proofs.CountLemmas.{added, added_none, added_two, added_suc, added_zero, quoted_cut, quoted_end, quoted_escaped, quoted_more}
 use Rattle.lq_predicate_formula.proofs.count.count_quoted.Goals as goal
 

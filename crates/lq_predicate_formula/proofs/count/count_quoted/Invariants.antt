@@ -1,5 +1,5 @@
 use Rattle.std.proofs.Common.{length, drop, false, ◌-◌, ◌≡◌, ◌≤◌}
-use Rattle.lq_predicate_formula.specs.Bytes.{quoted_bytes}
+use Rattle.lq_predicate_formula.specs.Lexing.{quoted_bytes}
 use Rattle.lq_predicate_formula.proofs.CountLemmas.{added}
 use Rattle.lq_predicate_formula.proofs.count.count_quoted.Given as goal
 

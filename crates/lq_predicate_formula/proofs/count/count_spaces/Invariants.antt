@@ -1,5 +1,5 @@
 use Rattle.std.proofs.Common.{length, drop, get_or, pred, ◌-◌, ◌≡◌, ◌≤◌, ◌<◌, ◌+◌}
-use Rattle.lq_predicate_formula.specs.Bytes.{spaces}
+use Rattle.lq_predicate_formula.specs.Lexing.{spaces}
 use Rattle.lq_predicate_formula.proofs.count.count_spaces.Given as goal
 
 abbrev pub invariant-loop-n : goal.invariant-loop-n

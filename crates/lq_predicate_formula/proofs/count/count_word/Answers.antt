@@ -1,7 +1,7 @@
 use Rattle.std.proofs.Common.{arith, ap, eq-eqb, sym, ◌∙◌, ◌+◌, ◌≡◌, suc, ℕ, false}
 use Rattle.std.proofs.lemmas.Bool.{ne_eqb}
 use Rattle.std.proofs.lemmas.List.{drop_all}
-use Rattle.lq_predicate_formula.specs.Bytes.{word_bytes}
+use Rattle.lq_predicate_formula.specs.Lexing.{word_bytes}
 use Rattle.lq_predicate_formula.proofs.CountLemmas.{word_cut, word_end, word_escaped, word_more}
 use Rattle.lq_predicate_formula.proofs.count.count_word.Goals as goal
 

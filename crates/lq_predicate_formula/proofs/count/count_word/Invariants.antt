@@ -1,5 +1,5 @@
 use Rattle.std.proofs.Common.{length, drop, false, ◌-◌, ◌≡◌, ◌≤◌, ◌+◌}
-use Rattle.lq_predicate_formula.specs.Bytes.{word_bytes}
+use Rattle.lq_predicate_formula.specs.Lexing.{word_bytes}
 use Rattle.lq_predicate_formula.proofs.count.count_word.Given as goal
 
 abbrev pub invariant-loop-n : goal.invariant-loop-n

@@ -1,7 +1,8 @@
 use Rattle.std.proofs.Common.{subst, IsUtf8}
 use Rattle.lq_predicate_formula.specs.Grammar.{nesting}
 use Rattle.lq_predicate_formula.specs.Words.{WordsAre}
-use Rattle.lq_predicate_formula.specs.Tokens.{bare, tokens_of}
+use Rattle.lq_predicate_formula.specs.Lexing.{tokens_of}
+use Rattle.lq_predicate_formula.specs.Tokens.{bare}
 use Rattle.lq_predicate_formula.proofs.GoodLemmas.{formula_good}
 use Rattle.lq_predicate_formula.proofs.TokenLemmas.{has_tokens, tokens_same}
 use Rattle.lq_predicate_formula.proofs.laws.read_is_good.Goals as goal

@@ -4,7 +4,9 @@ use Rattle.lq_script_lines.specs.Output.{Halted, output_of}
 use Rattle.lq_script_lines.specs.declared.run_fault.RunFault.{RunFault}
 use Rattle.lq_script_lines.specs.declared.run_fault.RunFault.TheVariants.{Memory, Write}
 use Rattle.lq_script_desk.specs.Script.{script_session, world_rules}
+use Rattle.lq_predicate.specs.Faults.{IsFaulty}
 use Rattle.lq_script.specs.Words.{IsAskedBy, IsFaultOf, texts_of}
+use Rattle.lq_script.proofs.WordsLemmas.{one_formula}
 use Rattle.lq_script.proofs.plain_words.plain_program.Goals as goal
 
 pub returns-in-Ok-Check-clause-usage : goal.returns-in-Ok-Check-clause-usage
@@ -57,6 +59,16 @@ returns-in-Err-NoMemory-clause-fault g c one = (
     ((c.requires.reader_works, c.requires.writer_moves), halted_none _ _),
   ),
 )
+
+-- the words ask for no other formula
+pub returns-in-Ok-Check-clause-refused : goal.returns-in-Ok-Check-clause-refused
+returns-in-Ok-Check-clause-refused g c formula check two =
+    let asked = subst (IsAskedBy (texts_of c.args.words.now)) c.in-Ok-Check.field-0-is
+    c.in-Ok-Check.ensures.ok in
+    let same = one_formula (texts_of c.args.words.now) c.in-Ok-Check.formula.now formula asked
+    check in
+    let told = c.check_formula.ensures.refused two in
+    (told.0, (subst (λ f. IsFaulty f told.0) same told.1.0, told.1.1))
 
 -- with nothing read and nothing written
 pub returns-in-Err-NoMemory-clause-run_stopped : goal.returns-in-Err-NoMemory-clause-run_stopped
