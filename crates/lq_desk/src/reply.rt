@@ -26,6 +26,6 @@ pub enum Reply {
     Shut(u64),
     /// The slot is free.
     Finished,
-    /// The event was refused, and nothing has changed.
+    /// The event was refused, and changed nothing. The notices and puts of its turn stand.
     Refused(Refusal),
 }

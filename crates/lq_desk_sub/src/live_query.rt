@@ -53,7 +53,8 @@ impl Model for LiveQuery {
 }
 
 impl LiveQuery {
-    /// A copy of a predicate, with what is found of it. Refused: `NoMemory`.
+    /// A copy of a predicate, with its names and spans, which are looked up once here. Refused:
+    /// `NoMemory`.
     pub fn new(alloc: Global, predicate: &Predicate) -> Result<LiveQuery, Refusal>
         ensures refused { FailsOnlyForMemory result }
         ensures value { IfOk result (λ query. query ≡ predicate.now) }

@@ -56,7 +56,7 @@ impl Sub {
     /// Makes the messages of a planned change, if it has some, in place of those made ready before;
     /// answers whether it has.
     ///
-    /// If it has none, the messages held stay, and those made ready are of no change: only the
+    /// Where there is none, held messages stay, and nothing is ready to be committed: only the
     /// messages of a change that has some may be committed after it. It skips a change that alters
     /// only values that the predicate doesn't look at. Without memory nothing changes.
     #[inline(always)]

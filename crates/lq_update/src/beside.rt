@@ -8,9 +8,9 @@ use crate::difference::changes_touch_few;
 use lq_predicate::{Spans, truth_stays_beside_spans};
 use lq_volume::{Change, Planned};
 
-/// Whether a planned change is a write whose old and new size are on the same side of all numbers
-/// that a query compares sizes with, and its times likewise: if true, `step_planned` gives no
-/// message.
+/// Whether a planned change is a write that crosses none of the numbers with which a query compares
+/// sizes and times: old and new size are on the same side of each, and old and new time. If true,
+/// `step_planned` gives no message.
 ///
 /// It reads the predicate's `Spans`, not the predicate. It takes no memory.
 #[inline(always)]

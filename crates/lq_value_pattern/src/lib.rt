@@ -1,10 +1,11 @@
-//! The elements of patterns, the sources that write them, and whether they fit a text, for lq_value.
+//! The elements of patterns, the sources that write them, and whether they fit a text.
 //!
 //! A contract sees a pattern as its list of elements. `specs/Written` says how a source writes
 //! them, `specs/Source` how it is read, and `specs/Pattern` what they fit. Plain elements are
 //! compared as text (`plain`), those with a star at an end are searched for as text (`starred`),
-//! others are matched from star to star (`matching`), in a long text at many places at once (`long`).
-//! Nothing here waits, and matching takes no memory. Begin with `element`, then `source`, `matching`.
+//! others are matched from star to star (`matching`), in a long text at many places at once
+//! (`long`). Nothing here waits, and matching takes no memory. Begin with `element`, then `source`
+//! and `matching`.
 #![tactic(auto)]
 
 mod bits;

@@ -55,7 +55,7 @@ fn write_ascii(chars: &mut [char])
     }
 }
 
-// The same with room for a code for each place of the text, and for characters and their masks.
+// As `keep_coded`, given room for a code for each place of the text, for characters and for masks.
 fn keep_with(
     flags: &mut [u32],
     elements: &[Element],
@@ -134,7 +134,7 @@ fn enter(c: char, chars: &mut [char], count: usize) -> Entered
     }
 }
 
-// The same with a code for each place of the text, and masks without bits for the characters.
+// As `keep_ended`, given a code for each place of the text, and masks that have no bit yet.
 fn keep_coded(
     flags: &mut [u32],
     elements: &[Element],
@@ -157,8 +157,8 @@ fn keep_coded(
     keep_ended(flags, elements, text, codes, masks);
 }
 
-// The same with the masks. After each character of the text a bit says for each element whether it
-// and those before it took the last characters.
+// Flags the places at which the elements fit, given the masks. After each character of the text a
+// bit says for each element whether it and those before it took the last characters.
 fn keep_ended(flags: &mut [u32], elements: &[Element], text: &[char], codes: &[u16], masks: &[u32])
     requires some { 0 < length elements.now }
     requires short { length elements.now ≤ 32 }

@@ -64,8 +64,8 @@ fn find_among(elements: &[Element], text: &[char], places: usize) -> Option<usiz
     find_flagged(elements, text, &mut flags[..places])
 }
 
-// The same with a flag for each place. A flag is cleared where an element doesn't take its
-// character.
+// The first place where the elements fit, with a flag for each place. Clears the flag of each place
+// whose character the element doesn't take.
 #[tactic(auto, using(crate::proofs::FlagLemmas::flag_steps))]
 fn find_flagged(elements: &[Element], text: &[char], flags: &mut [u32]) -> Option<usize>
     requires some { 0 < length flags.old }

@@ -101,8 +101,8 @@ impl Volume {
 
     /// What `apply` would answer. It takes no memory and changes nothing.
     ///
-    /// Refused by the first row that fits of the change's table in `specs/Change`; the last row is
-    /// always `Exhausted`. `NoNode`: a node or `dir` is missing. `Reserved`: the root, or an
+    /// Refused for the first row of the change's table in `specs/Change` that applies; the last row
+    /// is always `Exhausted`. `NoNode`: a node or `dir` is missing. `Reserved`: the root, or an
     /// attribute `name`, `size` or `last_modified`. `NotFolder`: `dir` is a file. `Exists`,
     /// `KindClash`, `NotEmpty`: the entry at the place, without and with `clobber`, or the one to
     /// remove. `WouldLoop`: `dir` is the node or below it. `IsFolder`, `TooLong`: the size.
