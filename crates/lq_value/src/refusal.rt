@@ -8,7 +8,7 @@ use std::alloc::{AllocError, AllocFailed};
 use std::fmt;
 use thiserror::Error;
 
-/// Why a call was refused: what was asked for isn't done. Each call says what else may have changed.
+/// Why a call was refused: what it was to do isn't done. It says what else may have changed.
 ///
 /// The numbers and names are our own. The display text is the name, and for `BadQuery` also the
 /// byte offset of the fault, counted from 0.
