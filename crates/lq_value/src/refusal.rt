@@ -8,7 +8,9 @@ use std::alloc::{AllocError, AllocFailed};
 use std::fmt;
 use thiserror::Error;
 
-/// Why a call was refused: what it was to do isn't done. It says what else may have changed.
+/// Why a call was refused.
+///
+/// What it was to do isn't done; its own comment says whether anything else has changed.
 ///
 /// The numbers and names are our own. The display text is the name, and for `BadQuery` also the
 /// byte offset of the fault, counted from 0.
