@@ -115,9 +115,11 @@ fn are_joined(alloc: Global, one: &Predicate, two: &Predicate) -> Result<bool, R
     let not = one.not()?;
     let both = one.both(two)?;
     let either = two.either(one)?;
-    Ok(is_written(alloc, not.as_ref(), "!(a<\"2\")")?
-        && is_written(alloc, both.as_ref(), "((a<\"2\")&&(b==\"x*\"))")?
-        && is_written(alloc, either.as_ref(), "((b==\"x*\")||(a<\"2\"))")?)
+    Ok(
+        is_written(alloc, not.as_ref(), "!(a<\"2\")")?
+            && is_written(alloc, both.as_ref(), "((a<\"2\")&&(b==\"x*\"))")?
+            && is_written(alloc, either.as_ref(), "((b==\"x*\")||(a<\"2\"))")?,
+    )
 }
 
 #[test]

@@ -1,10 +1,12 @@
 -- The reading of a whole text, by the limits on its query.
 use Rattle.std.proofs.Common.{◌≡◌, ◌≤◌, ◌<◌, ◌+◌, ◌^◌, ◌∷◌, ◌⊎◌, ℕ, Bool, true, false, Option, None, refl, sym, ◌&&◌, List, length, Some, ap, ◌∙◌, arith, inl, inr}
-use Rattle.std.specs.Prelude.{nat_le, if◌then◌else◌, IfSome, IsSome, MatchOption, Result, Ok, Err}
+use Rattle.std.specs.Prelude.{nat_le, if◌then◌else◌, IfErr, IfSome, IsSome, MatchOption, Result, Ok, Err}
 use Rattle.std.proofs.lemmas.Bool.{le-leb, lt-leb}
+use Rattle.lq_value.specs.declared.refusal.Refusal.{Refusal}
+use Rattle.lq_value.specs.declared.refusal.Refusal.TheVariants.{NoMemory}
 use Rattle.lq_predicate_formula.specs.Query.{Query}
 use Rattle.lq_predicate_formula.specs.Canonical.{canonical, depth}
-use Rattle.lq_predicate_formula.specs.Faults.{most_bytes, most_depth}
+use Rattle.lq_predicate_formula.specs.Faults.{Reads, most_bytes, most_depth}
 use Rattle.lq_predicate_formula.specs.Machine.{State, step}
 use Rattle.lq_predicate_formula.specs.Lexing.{tokens_from}
 use Rattle.lq_predicate_formula.specs.Tokens.{Placed, Yields}
@@ -14,7 +16,7 @@ use Rattle.lq_predicate_formula.specs.Capped.{capped}
 use Rattle.lq_predicate.specs.declared.query_size.QuerySize.{QuerySize}
 use Rattle.lq_predicate.specs.Validator.{query_size}
 use Rattle.lq_predicate_formula.specs.PredicateLimits.{is_predicate}
-use Rattle.lq_predicate.specs.Refusals.{fault_of}
+use Rattle.lq_predicate.specs.Refusals.{IsRefusalOf, fault_of}
 use Rattle.lq_predicate.specs.ParserView.{pattern_fault}
 use Rattle.lq_predicate.specs.PlainPlace.{plain_place}
 use Rattle.lq_predicate.proofs.SoFarLemmas.{SoFar, passes, place_fits, stops_here, stops_within}
@@ -113,3 +115,22 @@ token_stops text place rest s count h t ts None p e none fault is =
     stops_here text place rest s count h t ts p e none fault is
 token_stops text place rest s count h t ts (Some k) p e none fault is =
     ap (λ n. Some n) is ∙ stops_within text place rest s count h t ts k e none fault
+
+-- a reading without a fault is a query
+query_of : (text : List ℕ) (r : Result Query ℕ) → reading_of text ≡ r → fault_of r ≡ None
+    → (q : Query) × (reading_of text ≡ Ok q)
+query_of text (Ok q) e fine = (q, e)
+query_of text (Err place) e fine = absurd (let bad : ⊥ = cc in bad)
+
+-- a text without a fault reads as a query
+pub fine_reads : FormulasAreRead → (text : List ℕ) → fault_of (reading_of text) ≡ None
+    → (q : Query) × Reads text q
+fine_reads law text fine =
+    let q = query_of text (reading_of text) refl fine in
+    (q.0, (law text q.0).0 q.1)
+
+-- the text reads, so a call for it that fails only for want of memory is refused as one
+pub for_memory : {T : Type 0} (text : List ℕ) (r : Result T Refusal)
+    → IfErr r (λ e. e ≡ NoMemory) → ((q : Query) × Reads text q) → IfErr r (IsRefusalOf text)
+for_memory text (Ok x) h q = tt
+for_memory text (Err e) h q = inr (h, q)

@@ -1,8 +1,14 @@
 -- Why a formula is refused.
-use Rattle.std.specs.Prelude.{ℕ, Option, Some, None, Result, Ok, Err}
+use Rattle.std.specs.Prelude.{◌≡◌, ◌⊎◌, ℕ, List, Option, Some, None, Result, Ok, Err}
 use Rattle.lq_value.specs.declared.refusal.Refusal.{Refusal}
-use Rattle.lq_value.specs.declared.refusal.Refusal.TheVariants.{BadQuery}
+use Rattle.lq_value.specs.declared.refusal.Refusal.TheVariants.{BadQuery, NoMemory}
+use Rattle.lq_predicate_formula.specs.Faults.{IsFaulty, Reads}
 use Rattle.lq_predicate_formula.specs.Query.{Query}
+
+-- the text has its leftmost fault at this place, or it reads as a query and memory is wanting
+abbrev pub IsRefusalOf : List ℕ → Refusal → Type 0
+IsRefusalOf text e = ((place : ℕ) × (e ≡ BadQuery place) × IsFaulty text place)
+    ⊎ ((e ≡ NoMemory) × ((q : Query) × Reads text q))
 
 -- the refusal of a reading: none for a query, for a fault its place
 abbrev pub refusal_of : Result Query ℕ → Option Refusal

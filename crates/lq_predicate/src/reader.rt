@@ -10,7 +10,7 @@ ghost use Rattle.lq_predicate_formula.specs.Tokens.{bare};
 ghost use Rattle.lq_predicate_formula.specs.Words.{WordsAre};
 ghost use Rattle.lq_value.specs.declared.refusal.Refusal.TheVariants.{BadQuery};
 ghost use Rattle.lq_value.specs.Refusal.{FailsOnlyForMemory, IsRefusedBy};
-ghost use Rattle.lq_predicate.specs.Refusals.{fault_of, refusal_of};
+ghost use Rattle.lq_predicate.specs.Refusals.{IsRefusalOf, fault_of, refusal_of};
 
 use crate::fault_place::fault_place;
 use crate::parser::{end_of, new_parser, read_token};
@@ -28,13 +28,16 @@ use std::alloc::Global;
 /// follows `=`, `==` and `!=`; a plain text follows the operators of order. Refused: `BadQuery`
 /// with the byte offset of the leftmost fault; `NoMemory`, only where there is no fault.
 pub fn read(alloc: Global, formula: &str) -> Result<Predicate, Refusal>
-    ensures value { IfOk result (λ p. reading_of formula.now ≡ Ok p) }
     ensures reads { IfOk result (λ p. Reads formula.now p) }
 
-    // The formula alone decides the refusal, which names the offset of the leftmost fault.
-    ensures refused { IsRefusedBy result (refusal_of (reading_of formula.now)) }
+    // Its leftmost fault is refused, or it reads and memory is wanting.
+    ensures fails { IfErr result (IsRefusalOf formula.now) }
     ensures fault { IfErr result
         (λ e. (place : ℕ) → e ≡ BadQuery place → IsFaulty formula.now place) }
+
+    // The same, stated on the reading of the formula: its query, else its leftmost fault.
+    ensures value { IfOk result (λ p. reading_of formula.now ≡ Ok p) }
+    ensures refused { IsRefusedBy result (refusal_of (reading_of formula.now)) }
 {
     let tree = read_tree(alloc, formula)?;
     Ok(Predicate::of(alloc, tree))
@@ -51,6 +54,7 @@ fn read_tree(alloc: Global, formula: &str) -> Result<Tree, Refusal>
     ensures refused { IsRefusedBy result (refusal_of (reading_of formula.now)) }
     ensures fault { IfErr result
         (λ e. (place : ℕ) → e ≡ BadQuery place → IsFaulty formula.now place) }
+    ensures fails { IfErr result (IsRefusalOf formula.now) }
 {
     formulas_are_read();
     faults_are_found();

@@ -1,5 +1,6 @@
--- The reading of a text: its query, or the place of its leftmost fault. The machine reads the
--- tokens from the left.
+-- The reading of a text as a function: the query that it reads as (`Reads`), else the place of its
+-- leftmost fault (`IsFaulty`). The laws `formulas_are_read` and `faults_are_found` say just that. How
+-- it is found stands here for the contracts of private functions.
 use Rattle.std.specs.Prelude.{ℕ, ◌+◌, ◌&&◌, nat_le, if◌then◌else◌, List, [], ◌∷◌, length, Option, None, Some, Result, Ok, Err}
 use Rattle.lq_predicate_formula.specs.Tokens.{Token, opens, closes, bang, ands, ors, op, word, lone, cut, Placed}
 use Rattle.lq_predicate_formula.specs.Lexing.{tokens_of}

@@ -1,10 +1,11 @@
 //! Formulas and their queries, for lq_predicate: tokens, queries as trees, and canonical texts.
 //!
 //! Contracts see a text as its bytes, its tokens as a list (`specs/Tokens`) and their meaning as a
-//! `Query` (`specs/Query`, `specs/Grammar`). `specs/Reading` reads a text, `specs/Faults` has the
-//! faults, `specs/Canonical` writes a query, `specs/Truth` says when it is true of a row, and
-//! `specs/PredicateLimits` when it is a predicate. Nothing here waits, and asking takes no memory.
-//! Begin with `token`, then `laws`, then `tree` and `row`, then `tree/truth` and `writing`.
+//! `Query` (`specs/Query`, `specs/Grammar`). `specs/Faults` says what a text reads as and where it is
+//! faulty, `specs/Canonical` writes a query, `specs/Truth` says when it is true of a row, and
+//! `specs/PredicateLimits` when it is a predicate. `specs/Lexing`, `Machine` and `Reading` say how
+//! tokens and readings are found, for private functions. Nothing here waits, and asking takes no
+//! memory. Begin with `token`, then `laws`, then `tree` and `row`, then `tree/truth` and `writing`.
 #![tactic(auto)]
 
 mod count;
