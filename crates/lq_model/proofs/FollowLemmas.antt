@@ -14,6 +14,7 @@ use Rattle.lq_update.specs.Updates.{updates_of}
 use Rattle.lq_update.specs.Laws.{UpdatesStay}
 use Rattle.lq_server_slots.specs.declared.identity.Identity.{Identity}
 use Rattle.lq_server_slots.specs.declared.delivery.Delivery.{Delivery}
+use Rattle.lq_server_slots.specs.declared.delivery.Opening.{Opening}
 use Rattle.lq_server_slots.specs.Laws.{BooksExtendOn, StatesStay}
 use Rattle.lq_server_slots.specs.Rule.{query_of, mark_in}
 use Rattle.lq_server_slots.specs.Reading.{known, mark_read}
@@ -79,11 +80,15 @@ pub followed : UpdatesStay → BooksExtendOn → StatesStay
 followed stay on states start q board begun port backlog first old new x one z author changes
     o out s told met by made =
     let r = by.retired in
-    let name : new.seat.name ≡ first.seat.name =
-    ap (λ (t : SeatToken Identity). t.name) s.seat ∙ out.goes.name in
-    let query = same_query first.seat.name first new o.own.name
-    (subst (λ n. IsSomeAnd n (Fits new)) name s.own.name) in
     let f = new.reading.port.floor in
+    let floor : f ≡ first.reading.port.floor = s.port.2 ∙ out.goes.floor in
+    let first_floor : Opening = first.reading.port.floor in
+    let query : (query_of f ≡ query_of first_floor) × (f.moved ≡ first_floor.moved)
+    × (f.opened ≡ first_floor.opened) = (
+      ap query_of floor,
+      ap (λ (g : Opening). g.moved) floor,
+      ap (λ (g : Opening). g.opened) floor,
+    ) in
     let b : Book = known new.reading in
     let book : Book = new.seat.book in
     let k = some_there (mark_read old.reading) out.marked in

@@ -26,7 +26,7 @@ use Rattle.lq_model.specs.declared.model.Followed.{Followed}
 pub record GoesOn (old new : ReaderHold) : Type 0 where
   pub own : IsOwn new
   pub board : new.seat.board ≡ old.seat.board
-  pub name : new.seat.name ≡ old.seat.name
+  pub floor : new.reading.port.floor ≡ old.reading.port.floor
 
 -- it has also asked for its end, and has read its mark
 pub record GoesOut (old new : ReaderHold) : Type 0 where

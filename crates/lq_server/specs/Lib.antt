@@ -9,3 +9,4 @@ pub mod Lending
 pub mod Works
 pub mod Applied
 pub mod Headline
+pub mod Laws

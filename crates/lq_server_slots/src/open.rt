@@ -11,7 +11,7 @@ ghost use Rattle.lq_server_slots.specs.Slots.{AreUnchanged, SlotsStand, StandsBe
 ghost use Rattle.lq_server_slots.specs.Opening.{IsBegun, IsOpened, IsOpeningAnswer};
 
 use crate::delivery::{Delivery, Opening};
-use crate::identity::{FirstClose, Identity};
+use crate::identity::{FirstClose, Identity, Told};
 use crate::laws::new_subscriptions_stand;
 use crate::reading::Reading;
 use crate::slots::{PLACES, ServerSlots};
@@ -92,6 +92,10 @@ fn begin(
         input,
         places: asked.port,
         asks: 0,
+        told: Witness::of(&Told::Live {
+            change: at,
+            seen: 0,
+        }),
         first_close: FirstClose::Never,
     };
     let reading = Reading::new(output, Rebuild::new(alloc, at, entries));
