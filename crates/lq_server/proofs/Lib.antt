@@ -1,6 +1,8 @@
--- Read ParcelLemmas, then SyncLemmas; OwnLemmas, then HeadlineLemmas; Crossing stands alone.
+-- Read ParcelLemmas, then SyncLemmas; OwnLemmas, then HeadlineLemmas; CallLemmas and Crossing stand
+-- alone.
 pub mod ParcelLemmas
 pub mod SyncLemmas
 pub mod OwnLemmas
 pub mod HeadlineLemmas
+pub mod CallLemmas
 pub mod Crossing
