@@ -2,7 +2,6 @@
 use Rattle.std.proofs.Common.{◌≡◌, ℕ, ◌+◌, ◌<◌, ◌≤◌, Bool, true, false, arith, ◌++◌, length, map, Option, Some, None, inr, refl, sym, ap, ◌∙◌, subst, append_assoc}
 use Rattle.std.specs.Prelude.{IsSome, IsSomeAnd, IfOk, OnErr, Result, Ok, Err, ok_or, option_to_list}
 use mathlib.Core.List.{List, IsPrefix}
-use Rattle.atomic_table.specs.Seated.{TableId}
 use Rattle.lq_value.specs.declared.refusal.Refusal.{Refusal}
 use Rattle.lq_value.specs.declared.refusal.Refusal.TheVariants.{NotOpen}
 use Rattle.lq_value.specs.Refusal.{IsRefusedBy, first_refusal}
@@ -11,7 +10,7 @@ use Rattle.lq_volume.specs.State.{State}
 use Rattle.lq_volume.specs.Book.{Book, Extends}
 use Rattle.lq_server_slots.specs.Events.{opening_refusals}
 use Rattle.lq_board.specs.declared.views.Author.{Author}
-use Rattle.lq_board.specs.Token.{SeatToken}
+use Rattle.lq_board.specs.Token.{BoardName, SeatToken}
 use Rattle.lq_update.specs.declared.message.Message.{Message}
 use Rattle.lq_update.specs.declared.parcel.Parcel.TheVariants.{Update as update}
 use Rattle.lq_port.specs.End.{End, IsSamePort}
@@ -257,7 +256,7 @@ ended_gives r told some = (
 )
 
 -- a reader of a subscription that was just opened is new
-pub new_reader : (o : Opened) (board : TableId) (book : Book) (q : Query) (mv : Bool)
+pub new_reader : (o : Opened) (board : BoardName) (book : Book) (q : Query) (mv : Bool)
     (port backlog : ℕ) → IsOpened o board book q mv port backlog
     → IsNewReader (hold o.reading o.seat o.slot false) board book q mv port backlog
 new_reader o board book q mv port backlog s = record {

@@ -1,4 +1,5 @@
 pub mod Base
+pub mod Counted
 pub mod Hold
 pub mod Own
 pub mod Opened

@@ -1,5 +1,6 @@
 //! The laws of readers and of threads, as contracts of functions that do nothing.
 ghost use Rattle.std.specs.Thread.{IsSend, IsSync};
+ghost use Rattle.lq_server.specs.Counted.{CallsMakeTheBook};
 ghost use Rattle.lq_server.specs.Headline.{AnswersAreTold};
 ghost use Rattle.lq_server.specs.Laws.{FirstClosesAreRefusedLate, WaitingReadsAnswer};
 ghost use Rattle.lq_server.specs.contracts.server.Server as servers;
@@ -36,6 +37,13 @@ pub fn waiting_reads_answer()
 /// overrun.
 pub fn first_closes_are_refused_late()
     ensures { FirstClosesAreRefusedLate }
+{}
+
+/// Each change of a book is that of one call, where the calls were answered its numbers, each once.
+///
+/// The leading seat of a counted server knows that they were, from `dismiss` and `retire`.
+pub fn calls_make_the_book()
+    ensures { CallsMakeTheBook }
 {}
 
 /// Threads may share a server, whatever its name.

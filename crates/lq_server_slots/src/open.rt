@@ -126,6 +126,7 @@ fn sit_named(
       name = Some (identity_of slot.now);
       author = new_author keeper.old.register;
     } }
+    ensures signs { result.author.signs ≡ keeper.old.board.free }
 {
     // For the contract alone, which names the subscription.
     let _ = slot;
@@ -154,6 +155,7 @@ fn sit(
       name = Some (identity_of slot.now);
       author = new_author keeper.old.register;
     } }
+    ensures signs { result.author.signs ≡ keeper.old.board.free }
 {
     sit_named(board, keeper, slot, place)
 }
