@@ -33,8 +33,8 @@ pub struct Followed {
 /// changes, which are just the changes given, in their order. The reader opened its query before
 /// the first of them. It has received the query's whole update list over the book up to the mark.
 /// Its entries are the query's result after the mark's change. The volume is the state after the
-/// book, from the base's volume on. Refused: `NoSeat`, `NoSlot`, `Exhausted`, `NoMemory`, or as one of the changes is
-/// refused.
+/// book, from the base's volume on. Refused: `NoSeat`, `NoSlot`, `Exhausted`, `NoMemory`, or as one
+/// of the changes is refused.
 pub fn follow<N: Named + Send + Sync, R: Threads + Wait + Sync>(
     rt: &R,
     base: Base,

@@ -18,8 +18,8 @@ use Rattle.lq_server.specs.Own.{IsOwn}
 use Rattle.lq_server.specs.Syncing.{IsSynced}
 use Rattle.lq_server.specs.declared.server.Synced.{Synced}
 
--- A close under the lock, and then a sync in the same hold. The seat, s before and t after, was `mid`
--- in between. Its reader's end of the port was d, and is e.
+-- A close under the lock, and then a sync in the same hold. The seat, s before and t after, was
+-- `mid` in between. Its reader's end of the port was d, and is e.
 pub record IsClosing (s t : SeatToken Identity) (d e : ReadingHold) (result : Option ℕ)
     : Type 0 where
   pub mid : SeatToken Identity

@@ -13,8 +13,8 @@ use Rattle.lq_server.specs.Headline.{GoesOn, IsAnswered}
 use Rattle.lq_server.specs.Hold.{ReaderHold}
 use Rattle.lq_server.specs.Syncing.{IsWaitingRead}
 
--- An answer of `read_waiting` is one of a read, in the words of `AnswersAreTold`: the reader goes on
--- to some reading, and from there the read answers.
+-- An answer of `read_waiting` is one of a read, in the words of `AnswersAreTold`: the reader goes
+-- on to some reading, and from there the read answers.
 abbrev pub WaitingReadsAnswer : Type 0
 WaitingReadsAnswer =
     (old new : ReaderHold) (a : Read) → IsWaitingRead old new (Ok a)
@@ -25,7 +25,8 @@ pub record HasOverrun (t : Identity) (book : Book) : Type 0 where
   pub change : ℕ
   pub overrun : IsOverrun t.query t.moved t.opened t.places t.backlog (seen_of t.told) book change
 
--- A first close is refused only where the reader asked for the end, or its subscription has overrun.
+-- A first close is refused only where the reader asked for the end, or where its subscription has
+-- overrun.
 abbrev pub FirstClosesAreRefusedLate : Type 0
 FirstClosesAreRefusedLate =
     (old new : ReaderHold) (e : Refusal) → IsCloseAnswer old new (Err e)

@@ -219,8 +219,8 @@ impl<N: Named> Server<N> {
 
     /// The volume and the number of its changes, at the end of the server.
     ///
-    /// They are those of one book, which begins with the volume of the server's base. Where the seat
-    /// leads and none is enlisted, it has gathered the numbers of all changes, each once. The
+    /// They are those of one book, which begins with the volume of the server's base. Where the
+    /// seat leads and none is enlisted, it has gathered the numbers of all changes, each once. The
     /// messages that are still held aren't delivered. It takes no memory.
     pub fn retire<R: Wait>(self, rt: &R, seat: Seat) -> Retired
         requires board { seat.board ≡ N.board }
