@@ -12,9 +12,9 @@ use Rattle.lq_board.specs.declared.views.TokenView.{TokenView}
 use Rattle.lq_board.specs.declared.views.TokenView.TheVariants.{Keeper, Seat, Spent}
 use Rattle.lq_board.specs.Slot.{slot_at, come_back}
 use Rattle.lq_board.specs.View.{taken}
-use Rattle.lq_board.specs.Rule.{Fits, Signs, Kept, IsKept}
+use Rattle.lq_board.specs.Rule.{Fits, Roll, Signs, Kept, IsKept}
 use Rattle.lq_board.proofs.SlotLemmas.{agrees_slot}
-use Rattle.lq_board.proofs.ViewLemmas.{owner_set, owns_moved, owns_here, fits_set, sits_slot, fits_other, signs_other}
+use Rattle.lq_board.proofs.ViewLemmas.{moved, owns_moved, owns_here, fits_set, sits_slot, fits_other, signs_other}
 
 module _ {M : Type 0} where
   -- the view of the seat that comes back, where the keeper's changed already
@@ -32,7 +32,7 @@ module _ {M : Type 0} where
   theirs_own : (words : List ℕ) (views : List (TokenView M)) (k : Kept words views) (id other : ℕ)
       (x : TokenView M) (w : Sitting M)
       → other ≢ id → get_elem? (slice_set views id x) other ≡ some (Seat w)
-      → Signs k.id k.register k.who other (Seat w)
+      → Signs k.id k.register k.roll other (Seat w)
   theirs_own words views k id other x w apart there =
       ⊎_elim
       (λ (t : (other ≡ id) × (x ≡ Seat w)). absurd (apart t.0))
@@ -42,7 +42,7 @@ module _ {M : Type 0} where
   -- the keeper is now the author that the seat was
   signs_back : (words : List ℕ) (views : List (TokenView M)) (k : Kept words views) (id other : ℕ)
       (v : Keeping M) (slots : List (KnownSlot M)) (was : KnownSlot M) (w : Sitting M)
-      → get_elem? views id ≡ some (Keeper v) → Signs k.id k.register k.who other (Seat w)
+      → get_elem? views id ≡ some (Keeper v) → Signs k.id k.register k.roll other (Seat w)
       → (by : ℕ) (u : TokenView M)
       → get_elem? (slice_set (slice_set views id (Keeper (record {
         book = v.book;
@@ -51,7 +51,7 @@ module _ {M : Type 0} where
         back = w;
         was = was;
       }))) other Spent) by ≡ some u
-      → Signs k.id k.register (owner_set k.who w.author.number id) by u
+      → Signs k.id k.register (moved k.roll w.author.number id) by u
   signs_back words views k id other v slots was w at seat =
       let own = k.signs id (Keeper v) at in
       let x : TokenView M =
@@ -62,17 +62,17 @@ module _ {M : Type 0} where
         back = w;
         was = was;
       }) in
-      let who : ℕ → ℕ = owner_set k.who w.author.number id in
-      let after = Signs k.id k.register who in
+      let roll : Roll = moved k.roll w.author.number id in
+      let after = Signs k.id k.register roll in
       fits_set after (slice_set views id x) other Spent
       (λ by u away e. fits_set (λ by' u'. by' ≢ other → after by' u') views id x
       (λ by' u' apart' e' away'.
-      signs_other k.id k.register k.register k.who who by' u'
+      signs_other k.id k.register k.register k.roll roll by' u'
       (λ a r.
-      owns_moved k.register k.who w.author.number id by' a
-      (λ i. away' (r.only ∙ ap k.who i ∙ sym seat.only)) r)
+      owns_moved k.register k.roll w.author.number id by' a
+      (λ i. away' (r.only ∙ ap k.roll.who i ∙ sym seat.only)) r)
       (λ is. apart' (is ∙ sym own.0)) (k.signs by' u' e'))
-      (λ _. (own.0, own.1, λ pos. owns_here k.register k.who other id w.author seat))
+      (λ _. (own.0, own.1, λ pos. owns_here k.register k.roll other id w.author seat))
       by u e away)
       tt
 
@@ -114,8 +114,10 @@ module _ {M : Type 0} where
             by u e)
             tt;
         register = kept.register;
-        who = owner_set kept.who w.author.number id;
+        roll = moved kept.roll w.author.number id;
         signed = kept.signed;
+        enlisted = kept.enlisted;
+        gathered = kept.gathered;
         signs = signs_back s.words s.views kept id other v v.slots p w at
             (theirs_own s.words s.views kept id other x w apart there);
       }
@@ -179,8 +181,10 @@ module _ {M : Type 0} where
             by u e away)
             tt;
         register = kept.register;
-        who = owner_set kept.who w.author.number id;
+        roll = moved kept.roll w.author.number id;
         signed = kept.signed;
+        enlisted = kept.enlisted;
+        gathered = kept.gathered;
         signs = signs_back s.words s.views kept id other v (slice_set v.slots (suc k) q) p w at
             (theirs_own s.words s.views kept id other x w apart there);
       }

@@ -1,7 +1,8 @@
--- Read in this order: BookLemmas (the book), AuthorLemmas (who made which change), SlotLemmas (the
--- words), ViewLemmas (who sees what); PlayLemmas, SplitLemmas, JoinLemmas and PairLemmas (each step
--- keeps the rule); TokenLemmas (what the calls cite).
+-- Read in this order: BookLemmas (the book), RollLemmas and AuthorLemmas (who made which change),
+-- SlotLemmas (the words), ViewLemmas (who sees what); PlayLemmas, SplitLemmas, JoinLemmas and
+-- PairLemmas (each step keeps the rule); TokenLemmas (what the calls cite).
 pub mod BookLemmas
+pub mod RollLemmas
 pub mod AuthorLemmas
 pub mod SlotLemmas
 pub mod ViewLemmas

@@ -1,5 +1,5 @@
 -- Each step on a word keeps the rule.
-use Rattle.std.proofs.Common.{◌≡◌, ◌≢◌, ℕ, zero, suc, ◌+◌, ◌<◌, ◌^◌, ◌%◌, List, [], ◌∷◌, length, refl, sym, ap, ◌∙◌, subst, arith, length-append, get_or-set_same, get_or-set_other, Option, Some, ◌≤◌, false}
+use Rattle.std.proofs.Common.{◌≡◌, ◌≢◌, ℕ, zero, suc, ◌+◌, ◌<◌, ◌^◌, ◌%◌, List, [], ◌∷◌, length, refl, sym, ap, ◌∙◌, subst, arith, length-append, get_or-set_same, get_or-set_other, Option, Some, ◌≤◌, true, false, true≢false}
 use Rattle.std.specs.Prelude.{slice_index, slice_set, replicate}
 use Rattle.std.proofs.lemmas.List.{set-get_or, get_or-replicate}
 use mathlib.Core.Logic.{dite}
@@ -20,11 +20,13 @@ use Rattle.lq_board.specs.declared.views.Keeping.{Keeping}
 use Rattle.lq_board.specs.declared.views.TokenView.{TokenView}
 use Rattle.lq_board.specs.declared.views.TokenView.TheVariants.{Keeper, Seat, Pair, Spent}
 use Rattle.lq_board.specs.Book.{IsFullBook}
-use Rattle.lq_board.specs.Author.{IsSigned, IsAuthor, no_register, with_author, with_change}
+use Rattle.lq_board.specs.Roll.{numbers, changes_of_others}
+use Rattle.lq_board.specs.Author.{IsSigned, IsAuthor, IsWhole, no_register, with_author, with_change}
 use Rattle.lq_board.specs.Slot.{unused_slots, slot_at, counted}
 use Rattle.lq_board.specs.View.{keeper, newborn}
-use Rattle.lq_board.specs.Rule.{CameBack, Sits, Fits, Signs, Kept, IsKept}
+use Rattle.lq_board.specs.Rule.{CameBack, Sits, Fits, Roll, Owns, Signs, Kept, IsKept}
 use Rattle.lq_board.specs.Step.{Adds, Sees, Checks, Counts, Asks}
+use Rattle.lq_board.proofs.RollLemmas.{others_added, others_all}
 use Rattle.lq_board.proofs.AuthorLemmas.{signed_more, author_more}
 use Rattle.lq_board.proofs.BookLemmas.{extends_self, extends_more, full_more, room_of}
 use Rattle.lq_board.proofs.SlotLemmas.{slot_here, agrees_unused, agrees_slot, agrees_word}
@@ -45,11 +47,16 @@ module _ {M : Type 0} where
         agrees = agrees_unused;
         fits = one;
         register = no_register;
-        who = λ _. 0;
+        roll = none_called;
         signed = record { each = refl; seats = tt };
+        enlisted = tt;
+        gathered = λ counted. absurd (true≢false counted);
         signs = first;
       }
     where
+      none_called : Roll
+      none_called = record { who = λ _. 0; enlisted = []; gathered = [] }
+
       book : Book
       book = record { start = start; changes = [] }
 
@@ -64,18 +71,18 @@ module _ {M : Type 0} where
       one (suc by) v e = absurd (some-ne-none v (sym e))
 
       first : (by : ℕ) (v : TokenView M) → get_elem? (newborn start ∷ []) by ≡ some v
-          → Signs 0 no_register (λ _. 0) by v
+          → Signs 0 no_register none_called by v
       first zero v e =
-          subst (Signs 0 no_register (λ _. 0) 0) (some-injective _ _ e)
+          subst (Signs 0 no_register none_called 0) (some-injective _ _ e)
           (refl, refl, λ (lt : 0 < 0). absurd (omega arith))
       first (suc by) v e = absurd (some-ne-none v (sym e))
 
   -- a change by the latest seat that came back is added
   pub adds : (slots id : ℕ) (v : Keeping M) (x : Change) → ChangesKeepTrees
-      → 0 < v.back.author.number → IsLawful (state_of v.book) x
+      → 0 < v.back.author.number → v.back.author.signs ≡ true → IsLawful (state_of v.book) x
       → Allows IsKept slots id (Keeper v, []) 0 (λ n. (n + 1) % 2 ^ 64)
       (Adds (Some x) (step slots 0 1 0 none) (Keeper v, []))
-  adds slots id v x keeps_trees pos lawful s kept len at small =
+  adds slots id v x keeps_trees pos may lawful s kept len at small =
       let mine = kept.fits id (Keeper v) at in
       let own = kept.signs id (Keeper v) at in
       let o = own.2 pos in
@@ -141,25 +148,42 @@ module _ {M : Type 0} where
                 (subst (Extends book) (sym same) (extends_self book), mine.3.1),
               );
           register = register;
-          who = kept.who;
+          roll = kept.roll;
           signed = signed;
-          signs = fits_set (Signs kept.id register kept.who) s.views id w
+          enlisted = kept.enlisted;
+          gathered = λ counted.
+              kept.gathered counted
+              ∙ sym (others_added me.number kept.roll.enlisted kept.register.authors
+              (sym (o.signs counted) ∙ may));
+          signs = fits_set (Signs kept.id register kept.roll) s.views id w
               (λ by u apart e.
-              signs_other kept.id kept.register register kept.who kept.who by u
+              signs_other kept.id kept.register register kept.roll kept.roll by u
               (λ a r.
-              owns_added kept.register kept.who by me.number a
-              (λ e'. apart (r.only ∙ ap kept.who e' ∙ sym o.only)) r)
-              (λ is. apart (is ∙ sym own.0)) (kept.signs by u e))
-              (own.0, same_register, λ _. record { author = author; only = o.only });
+              owns_added kept.register kept.roll by me.number a
+              (λ e'. apart (r.only ∙ ap kept.roll.who e' ∙ sym o.only)) r)
+              (λ is. apart (is ∙ sym own.0)) (kept.signs by u e)) (
+                own.0,
+                same_register,
+                λ _. record {
+                  author = author;
+                  only = o.only;
+                  signs = o.signs;
+                  leads = λ is.
+                      let l = o.leads is in
+                      record {
+                        number = l.number;
+                        counted = l.counted;
+                        enlisted = l.enlisted;
+                        gathered = l.gathered;
+                      };
+                },
+              );
         },
         (
           refl,
           kept.number ∙ ap (λ (b : Book). length b.changes) (sym mine.1),
           subst (λ (b : Book). IsFullBook (grown b (x ∷ []))) (sym mine.1) full,
           subst (λ (b : Book). CameBack b v.back v.was) (sym mine.1) mine.3,
-          subst (λ (b : Book). IsSigned b w_register) (sym same)
-              (subst (IsSigned book) (sym same_register) signed),
-          subst (IsAuthor made) (sym same_register) author,
         ),
       )
 
@@ -173,7 +197,7 @@ module _ {M : Type 0} where
   pub viewed : (words : List ℕ) (views : List (TokenView M)) (id : ℕ) (w : TokenView M)
       (k : Kept words views)
       → Fits k.id k.book k.slots k.owner words id w
-      → Signs k.id k.register k.who id w → Kept words (slice_set views id w)
+      → Signs k.id k.register k.roll id w → Kept words (slice_set views id w)
   viewed words views id w k fits signs =
       record {
         id = k.id;
@@ -186,11 +210,24 @@ module _ {M : Type 0} where
         fits = fits_set (Fits k.id k.book k.slots k.owner words) views id w
             (λ by u apart e. k.fits by u e) fits;
         register = k.register;
-        who = k.who;
+        roll = k.roll;
         signed = k.signed;
-        signs = fits_set (Signs k.id k.register k.who) views id w
+        enlisted = k.enlisted;
+        gathered = k.gathered;
+        signs = fits_set (Signs k.id k.register k.roll) views id w
             (λ by u apart e. k.signs by u e) signs;
       }
+
+  -- what the leading seat has gathered where no seat is enlisted
+  whole : (words : List ℕ) (views : List (TokenView M)) (k : Kept words views) (by : ℕ)
+      (a : Author) → Owns k.register k.roll by a → IsWhole a (slice_index words 0)
+  whole words views k by a o leads empty =
+      let l = o.leads leads in
+      l.gathered ∙ k.gathered l.counted
+      ∙ ap (λ (called : List ℕ). changes_of_others called k.register.authors)
+      (sym l.enlisted ∙ empty)
+      ∙ others_all k.register.authors
+      ∙ ap numbers (k.signed.each ∙ sym k.number)
 
   -- a seat looks at the number
   pub sees : (slots id : ℕ) (w : Sitting M)
@@ -217,7 +254,7 @@ module _ {M : Type 0} where
           mine.0,
           kept.number,
           kept.full,
-          record { register = kept.register; signed = kept.signed; author = own.author },
+          whole s.words s.views kept id w.author own,
         ),
       )
 
@@ -237,7 +274,7 @@ module _ {M : Type 0} where
           refl,
           subst (λ (b : Book). CameBack b v.back v.was) (sym mine.1) mine.3,
           kept.number ∙ ap (λ (b : Book). length b.changes) (sym mine.1),
-          λ pos. subst (IsAuthor v.back.author) (sym own.1) (own.2 pos).author,
+          λ pos. whole s.words s.views kept id v.back.author (own.2 pos),
         ),
       )
 
@@ -305,9 +342,11 @@ module _ {M : Type 0} where
                     came_self kept.book v.book mine.1,
                   );
               register = kept.register;
-              who = kept.who;
+              roll = kept.roll;
               signed = kept.signed;
-              signs = fits_set (Signs kept.id kept.register kept.who) s.views id w
+              enlisted = kept.enlisted;
+              gathered = kept.gathered;
+              signs = fits_set (Signs kept.id kept.register kept.roll) s.views id w
                   (λ by u apart e. kept.signs by u e)
                   (own.0, own.1, λ (lt : 0 < 0). absurd (omega arith));
             },
@@ -331,7 +370,16 @@ module _ {M : Type 0} where
         sits_word slots owner words k n by w.slot w.asks w.name
         (λ e. apart (t.only ∙ ap owner e ∙ sym mine)) t,
   )
-  fits_asked id book slots owner words k n me by (Pair a b) mine apart f = f
+  fits_asked id book slots owner words k n me by (Pair a w) mine apart f = (
+    f.0,
+    (
+      f.1.0,
+      λ pos.
+          let t = f.1.1 pos in
+          sits_word slots owner words k n by w.slot w.asks w.name
+          (λ e. apart (t.only ∙ ap owner e ∙ sym mine)) t,
+    ),
+  )
   fits_asked id book slots owner words k n me by Spent mine apart f = tt
 
   -- a slot's seat asks
@@ -381,9 +429,11 @@ module _ {M : Type 0} where
                 },
               );
           register = kept.register;
-          who = kept.who;
+          roll = kept.roll;
           signed = kept.signed;
-          signs = fits_set (Signs kept.id kept.register kept.who) s.views id (Seat now)
+          enlisted = kept.enlisted;
+          gathered = kept.gathered;
+          signs = fits_set (Signs kept.id kept.register kept.roll) s.views id (Seat now)
               (λ by u apart e. kept.signs by u e) (kept.signs id (Seat w) at);
         },
         (refl, t.word),

@@ -12,14 +12,25 @@ use Rattle.lq_board.specs.declared.views.Sitting.{Sitting}
 use Rattle.lq_board.specs.declared.views.Keeping.{Keeping}
 use Rattle.lq_board.specs.declared.views.TokenView.{TokenView}
 use Rattle.lq_board.specs.declared.views.TokenView.TheVariants.{Keeper, Seat}
-use Rattle.lq_board.specs.Author.{with_seat, new_author}
+use Rattle.lq_board.specs.Roll.{changes_by, changes_of_others}
+use Rattle.lq_board.specs.Author.{IsSigned, IsAuthor, no_register, leader, leader_register, with_seat, new_author}
 use Rattle.lq_board.specs.Slot.{slot_at, go_out}
-use Rattle.lq_board.specs.View.{plain, keeper, numbered, copy_of, opened, seated, parted, again_of}
-use Rattle.lq_board.specs.Rule.{Fits, Owns, Signs, IsKept}
+use Rattle.lq_board.specs.View.{plain, keeper, numbered, copy_of, led, lead_of, opened, seated, parted, again_of}
+use Rattle.lq_board.specs.Rule.{Fits, Roll, Owns, Signs, IsKept}
+use Rattle.lq_board.proofs.RollLemmas.{seats_later, none_has}
 use Rattle.lq_board.proofs.AuthorLemmas.{signed_seat, author_new}
 use Rattle.lq_board.proofs.BookLemmas.{extends_self}
 use Rattle.lq_board.proofs.SlotLemmas.{slot_here, agrees_slot}
-use Rattle.lq_board.proofs.ViewLemmas.{at_end, owner_set, owner_here, owner_else, owns_moved, owns_later, owns_here, fits_set, came_self, sits_slot, fits_other, signs_other}
+use Rattle.lq_board.proofs.ViewLemmas.{at_end, owner_set, owner_here, owner_else, moved, owns_moved, owns_later, owns_here, fits_set, came_self, sits_slot, fits_other, signs_other}
+
+-- no seat was given out before
+unseated : (r r' : Register) (roll roll' : Roll) (by : ℕ) (a : Author) → r ≡ no_register
+    → Owns r roll by a → Owns r' roll' by a
+unseated r r' roll roll' by a none o =
+    let least = o.author.least in
+    let most = o.author.most in
+    let first = ap (λ (x : Register). x.seats) none in
+    absurd (omega (arith, least, most, first))
 
 module _ {M : Type 0} where
   -- a seat of no slot is split off: the books and the slots
@@ -121,31 +132,35 @@ module _ {M : Type 0} where
       → (let w : TokenView M = keeper v.book slots (with_seat v.register) in
       get_elem? (slice_set s.views id w ++ Seat new ∷ []) by ≡ some u
       → Signs kept.id (with_seat kept.register)
-      (owner_set kept.who (kept.register.seats + 1) (length (slice_set s.views id w))) by u)
+      (moved kept.roll (kept.register.seats + 1) (length (slice_set s.views id w))) by u)
   signs_new id v s kept at slots new is by u e =
       let own = kept.signs id (Keeper v) at in
       let w : TokenView M = keeper v.book slots (with_seat v.register) in
       let n : ℕ = length (slice_set s.views id w) in
       let k : ℕ = kept.register.seats + 1 in
       let r : Register = with_seat kept.register in
-      let who : ℕ → ℕ = owner_set kept.who k n in
-      let mine : Owns r who n (new_author kept.register) =
+      let roll : Roll = moved kept.roll k n in
+      let mine : Owns r roll n (new_author kept.register) =
       record {
         author = author_new kept.book kept.register kept.signed;
-        only = sym (owner_here kept.who k n k refl);
+        only = sym (owner_here kept.roll.who k n k refl);
+        signs = λ counted.
+            counted
+            ∙ sym (none_has kept.register.seats k kept.roll.enlisted (omega arith) kept.enlisted);
+        leads = λ is. absurd (true≢false (sym is));
       } in
       ⊎_elim
-      (λ was. fits_set (Signs kept.id r who) s.views id w
+      (λ was. fits_set (Signs kept.id r roll) s.views id w
       (λ by' u' apart e'.
-      signs_other kept.id kept.register r kept.who who by' u'
-      (λ a o. owns_later kept.register kept.who n by' a o)
+      signs_other kept.id kept.register r kept.roll roll by' u'
+      (λ a o. owns_later kept.register kept.roll n by' a o)
       (λ is. apart (is ∙ sym own.0)) (kept.signs by' u' e'))
       (own.0, ap with_seat own.1, λ (lt : 0 < 0). absurd (omega arith))
       by u was)
       (λ (t : (Seat new ≡ u) × (by ≡ n)).
-      subst (Signs kept.id r who by) t.0
-      (subst (λ (j : ℕ). Owns r who j new.author) (sym t.1)
-      (subst (Owns r who n) (sym (is ∙ ap new_author own.1)) mine)))
+      subst (Signs kept.id r roll by) t.0
+      (subst (λ (j : ℕ). Owns r roll j new.author) (sym t.1)
+      (subst (Owns r roll n) (sym (is ∙ ap new_author own.1)) mine)))
       (at_end (slice_set s.views id w) (Seat new) u by e)
 
   -- the latest seat that came back is split off: the authors
@@ -156,7 +171,7 @@ module _ {M : Type 0} where
       → (let w : TokenView M = keeper v.book slots v.register in
       get_elem? (slice_set s.views id w ++ Seat new ∷ []) by ≡ some u
       → Signs kept.id kept.register
-      (owner_set kept.who v.back.author.number (length (slice_set s.views id w))) by u)
+      (moved kept.roll v.back.author.number (length (slice_set s.views id w))) by u)
   signs_again id v s kept at pos slots new is by u e =
       let own = kept.signs id (Keeper v) at in
       let o = own.2 pos in
@@ -164,21 +179,21 @@ module _ {M : Type 0} where
       let n : ℕ = length (slice_set s.views id w) in
       let k : ℕ = v.back.author.number in
       let r : Register = kept.register in
-      let who : ℕ → ℕ = owner_set kept.who k n in
-      let mine : Owns r who n v.back.author = owns_here r kept.who id n v.back.author o in
+      let roll : Roll = moved kept.roll k n in
+      let mine : Owns r roll n v.back.author = owns_here r kept.roll id n v.back.author o in
       ⊎_elim
-      (λ was. fits_set (Signs kept.id r who) s.views id w
+      (λ was. fits_set (Signs kept.id r roll) s.views id w
       (λ by' u' apart e'.
-      signs_other kept.id r r kept.who who by' u'
-      (λ a t. owns_moved r kept.who k n by' a
-      (λ i. apart (t.only ∙ ap kept.who i ∙ sym o.only)) t)
+      signs_other kept.id r r kept.roll roll by' u'
+      (λ a t. owns_moved r kept.roll k n by' a
+      (λ i. apart (t.only ∙ ap kept.roll.who i ∙ sym o.only)) t)
       (λ is. apart (is ∙ sym own.0)) (kept.signs by' u' e'))
       (own.0, own.1, λ (lt : 0 < 0). absurd (omega arith))
       by u was)
       (λ (t : (Seat new ≡ u) × (by ≡ n)).
-      subst (Signs kept.id r who by) t.0
-      (subst (λ (j : ℕ). Owns r who j new.author) (sym t.1)
-      (subst (Owns r who n) (sym is) mine)))
+      subst (Signs kept.id r roll by) t.0
+      (subst (λ (j : ℕ). Owns r roll j new.author) (sym t.1)
+      (subst (Owns r roll n) (sym is) mine)))
       (at_end (slice_set s.views id w) (Seat new) u by e)
 
   -- a new seat of no slot
@@ -196,11 +211,62 @@ module _ {M : Type 0} where
         agrees = kept.agrees;
         fits = fits_plain id v s kept at (with_seat v.register) new.asks new.name new.author;
         register = with_seat kept.register;
-        who =
-            owner_set kept.who (kept.register.seats + 1)
+        roll =
+            moved kept.roll (kept.register.seats + 1)
             (length (slice_set s.views id (numbered (Keeper v))));
         signed = signed_seat kept.book kept.register kept.signed;
+        enlisted = seats_later kept.register.seats kept.roll.enlisted kept.enlisted;
+        gathered = kept.gathered;
         signs = signs_new id v s kept at v.slots new refl;
+      }
+
+  -- the leading seat
+  pub leading : (id : ℕ) (v : Keeping M) → v.register ≡ no_register
+      → Splits IsKept id (Keeper v) (led (Keeper v)) (lead_of (Keeper v))
+  leading id v none s kept at =
+      let own = kept.signs id (Keeper v) at in
+      let first : kept.register ≡ no_register = sym own.1 ∙ none in
+      let new : Sitting M = plain v.book leader in
+      let w : TokenView M = led (Keeper v) in
+      let n : ℕ = length (slice_set s.views id w) in
+      let roll : Roll = record { who = λ _. n; enlisted = []; gathered = [] } in
+      record {
+        id = kept.id;
+        book = kept.book;
+        slots = kept.slots;
+        owner = kept.owner;
+        number = kept.number;
+        full = kept.full;
+        agrees = kept.agrees;
+        fits = fits_plain id v s kept at leader_register new.asks new.name new.author;
+        register = leader_register;
+        roll = roll;
+        signed = record {
+          each = ap (λ (r : Register). length r.authors) (sym first)
+              ∙ kept.signed.each;
+          seats = tt;
+        };
+        enlisted = tt;
+        gathered = λ counted. refl;
+        signs = λ by u e. ⊎_elim
+            (λ was. fits_set (Signs kept.id leader_register roll) s.views id w
+            (λ by' u' apart e'.
+            signs_other kept.id kept.register leader_register kept.roll roll by' u'
+            (λ a o. unseated kept.register leader_register kept.roll roll by' a first o)
+            (λ is. apart (is ∙ sym own.0)) (kept.signs by' u' e'))
+            (own.0, refl, λ (lt : 0 < 0). absurd (omega arith))
+            by u was)
+            (λ (t : (Seat new ≡ u) × (by ≡ n)).
+            subst (Signs kept.id leader_register roll by) t.0
+            record {
+              author =
+                  record { least = omega arith; most = omega arith; changes = refl; free = refl };
+              only = t.1;
+              signs = λ counted. refl;
+              leads = λ is.
+                  record { number = refl; counted = refl; enlisted = refl; gathered = refl };
+            })
+            (at_end (slice_set s.views id w) (Seat new) u by e);
       }
 
   -- a slot's new seat
@@ -236,8 +302,10 @@ module _ {M : Type 0} where
         fits = fits_slot id k name v s kept at pos within free (with_seat v.register) p.asks refl
             new.author;
         register = with_seat kept.register;
-        who = owner_set kept.who (kept.register.seats + 1) n;
+        roll = moved kept.roll (kept.register.seats + 1) n;
         signed = signed_seat kept.book kept.register kept.signed;
+        enlisted = seats_later kept.register.seats kept.roll.enlisted kept.enlisted;
+        gathered = kept.gathered;
         signs = signs_new id v s kept at (slice_set v.slots k q) new refl;
       }
 
@@ -272,10 +340,12 @@ module _ {M : Type 0} where
         agrees = kept.agrees;
         fits = fits_plain id v s kept at v.register v.back.asks name v.back.author;
         register = kept.register;
-        who =
-            owner_set kept.who v.back.author.number
+        roll =
+            moved kept.roll v.back.author.number
             (length (slice_set s.views id (keeper v.book v.slots v.register)));
         signed = kept.signed;
+        enlisted = kept.enlisted;
+        gathered = kept.gathered;
         signs = signs_again id v s kept at number v.slots new refl;
       }
   again_at id name v (suc k) number within was s kept at =
@@ -311,8 +381,10 @@ module _ {M : Type 0} where
         fits = fits_slot id (suc k) name v s kept at pos within (was pos).0 v.register v.back.asks
             (was pos).1 v.back.author;
         register = kept.register;
-        who = owner_set kept.who v.back.author.number n;
+        roll = moved kept.roll v.back.author.number n;
         signed = kept.signed;
+        enlisted = kept.enlisted;
+        gathered = kept.gathered;
         signs = signs_again id v s kept at number (slice_set v.slots (suc k) q) new refl;
       }
 

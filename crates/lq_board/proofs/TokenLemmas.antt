@@ -13,17 +13,21 @@ use Rattle.lq_board.specs.declared.views.KnownSlot.{KnownSlot}
 use Rattle.lq_board.specs.declared.views.TokenView.{TokenView}
 use Rattle.lq_board.specs.declared.views.TokenView.TheVariants.{Keeper, Seat, Spent}
 use Rattle.lq_board.specs.Slot.{slot_at, come_back}
-use Rattle.lq_board.specs.Author.{IsAuthorIn}
+use Rattle.lq_board.specs.Author.{no_register}
 use Rattle.lq_board.specs.Book.{IsFullBook}
+use Rattle.lq_board.specs.Token.{BoardName}
 use Rattle.lq_board.specs.declared.views.Sitting.{Sitting}
-use Rattle.lq_board.specs.View.{IsKeeping, IsSitting, keeping_of, sitting_of, numbered, copy_of, parted, again_of, opened, seated, taken}
+use Rattle.lq_board.specs.View.{IsKeeping, IsSitting, keeping_of, sitting_of, numbered, copy_of, led, lead_of, parted, again_of, opened, seated, taken}
 use Rattle.lq_board.specs.Rule.{Kept, IsKept}
 use Rattle.lq_board.specs.Step.{Adds, Sees, Checks, Counts, Asks}
-use Rattle.lq_board.proofs.AuthorLemmas.{signed_seat}
 use Rattle.lq_board.proofs.SlotLemmas.{slot_here}
 use Rattle.lq_board.proofs.PlayLemmas.{adds, sees, checks, counts, asks}
-use Rattle.lq_board.proofs.SplitLemmas.{copies, again, sits_down}
+use Rattle.lq_board.proofs.SplitLemmas.{copies, leading, again, sits_down}
 use Rattle.lq_board.proofs.JoinLemmas.{backs}
+
+-- one board has one table
+pub same_table : (a b : BoardName) → a ≡ b → a.table ≡ b.table
+same_table a b e = ap (λ (z : BoardName). z.table) e
 
 module _ {M : Type 0} where
   -- a keeper between its steps, and a seat
@@ -42,10 +46,11 @@ module _ {M : Type 0} where
   pub adds_after : (slots id : ℕ) (me you now : Me ℕ (TokenView M)) (x : Change)
       (said : Option Change)
       → ChangesKeepTrees → said ≡ Some x → Keeps me → now ≡ (taken me.0 you.0, me.1)
-      → 0 < (sitting_of you.0).author.number → IsLawful (state_of (keeping_of me.0).book) x
+      → 0 < (sitting_of you.0).author.number → (sitting_of you.0).author.signs ≡ true
+      → IsLawful (state_of (keeping_of me.0).book) x
       → Allows IsKept slots id now 0 (λ n. (n + 1) % 2 ^ 64)
       (Adds said (step slots 0 1 0 none) now)
-  adds_after slots id me you now x said keeps says was is pos lawful =
+  adds_after slots id me you now x said keeps says was is pos may lawful =
       let rest : me.1 ≡ [] = ap (λ m. m.1) was in
       let back : Me ℕ (TokenView M) = (taken me.0 you.0, []) in
       let at : now ≡ back =
@@ -59,7 +64,7 @@ module _ {M : Type 0} where
       (λ (m : Me ℕ (TokenView M)).
       Allows IsKept slots id m 0 (λ n. (n + 1) % 2 ^ 64)
       (Adds (Some x) (step slots 0 1 0 none) m))
-      (sym at) (adds slots id (keeping_of (taken me.0 you.0)) x keeps pos lawful))
+      (sym at) (adds slots id (keeping_of (taken me.0 you.0)) x keeps pos may lawful))
 
   -- a seat may read the word of the changes
   pub sees_as : (slots id : ℕ) (me : Me ℕ (TokenView M)) → SitsAt me
@@ -116,6 +121,24 @@ module _ {M : Type 0} where
       subst (λ (v : TokenView M). Splits IsKept id v (numbered v) (copy_of v))
       (sym (ap (λ m. m.0) is)) (copies id (at_rest me))
 
+  -- the keeper may give out the leading seat, where no seat was given out before
+  pub leading_as : (id : ℕ) (me : Me ℕ (TokenView M)) → Keeps me
+      → (keeping_of me.0).register ≡ no_register
+      → Splits IsKept id me.0 (led me.0) (lead_of me.0)
+  leading_as id me is first =
+      subst (λ (v : TokenView M). Splits IsKept id v (led v) (lead_of v))
+      (sym (ap (λ m. m.0) is)) (leading id (at_rest me) first)
+
+  -- a keeper after the leading seat went out
+  pub is_led : (me now : Me ℕ (TokenView M)) → IsKeeping me → now ≡ (led me.0, me.1)
+      → IsKeeping now
+  is_led me now k is =
+      let rest : me.1 ≡ [] = ap (λ m. m.1) k.0 in
+      let after : Me ℕ (TokenView M) = (led me.0, []) in
+      let at : now ≡ after =
+      is ∙ ap (λ (l : List (ℕ × ℕ)). let x : Me ℕ (TokenView M) = (led me.0, l) in x) rest in
+      subst IsKeeping (sym at) (refl, k.1, k.2)
+
   -- a keeper after a new seat of no slot went out
   pub is_numbered : (me now : Me ℕ (TokenView M)) → IsKeeping me → now ≡ (numbered me.0, me.1)
       → IsKeeping now
@@ -128,7 +151,6 @@ module _ {M : Type 0} where
         refl,
         k.1,
         k.2,
-        signed_seat (keeping_of me.0).book (keeping_of me.0).register k.3,
       )
 
   -- and after a slot's new seat
@@ -146,14 +168,13 @@ module _ {M : Type 0} where
         refl,
         length-set slots k q ∙ kept.1,
         kept.2,
-        signed_seat (keeping_of me.0).book (keeping_of me.0).register kept.3,
       )
 
   -- a seat that went out
   pub is_sitting : (me : Me ℕ (TokenView M)) (w : Sitting M) → me ≡ (Seat w, []) → IsFullBook w.book
-      → IsAuthorIn w.author w.book → IsSitting me
-  is_sitting me w is full author =
-      subst IsSitting (sym is) (refl, full, author)
+      → 0 < w.author.number → IsSitting me
+  is_sitting me w is full number =
+      subst IsSitting (sym is) (refl, full, number)
 
   -- the latest seat that came back can go out again
   abbrev pub IsBack : Keeping M → Type 0

@@ -8,12 +8,14 @@ use Rattle.lq_volume.specs.Book.{Book, Extends}
 use Rattle.lq_board.specs.declared.views.Author.{Author}
 use Rattle.lq_board.specs.declared.views.Register.{Register}
 use Rattle.lq_board.specs.declared.views.KnownSlot.{KnownSlot}
+use Rattle.lq_board.specs.declared.views.Sitting.{Sitting}
 use Rattle.lq_board.specs.declared.views.TokenView.{TokenView}
 use Rattle.lq_board.specs.declared.views.TokenView.TheVariants.{Keeper, Seat, Pair, Spent}
+use Rattle.lq_board.specs.Roll.{has}
 use Rattle.lq_board.specs.Author.{no_author, with_seat, with_author}
 use Rattle.lq_board.specs.Slot.{unused}
 use Rattle.lq_board.specs.View.{plain}
-use Rattle.lq_board.specs.Rule.{CameBack, Sits, Fits, Owns, Signs}
+use Rattle.lq_board.specs.Rule.{CameBack, Sits, SeatFits, Fits, Roll, Leads, Owns, Signs}
 use Rattle.lq_board.proofs.AuthorLemmas.{author_else, author_later}
 use Rattle.lq_board.proofs.BookLemmas.{extends_self}
 use Rattle.lq_board.proofs.SlotLemmas.{slot_else}
@@ -38,35 +40,83 @@ owner_here owner k n j e = ap (λ b. cond b n (owner j)) (eq-eqb j k e)
 pub owner_else : (owner : ℕ → ℕ) (k n j : ℕ) → j ≢ k → owner_set owner k n j ≡ owner j
 owner_else owner k n j e = ap (λ b. cond b n (owner j)) (ne_eqb j k e)
 
+-- the roll, where the author of this number has another token
+abbrev pub moved : Roll → ℕ → ℕ → Roll
+moved roll k n = record roll { who = owner_set roll.who k n }
+
+-- the same token leads, where the register and the tokens of other authors may differ
+leads_same : (r r' : Register) (roll roll' : Roll) (a : Author) → r'.free ≡ r.free
+    → roll'.enlisted ≡ roll.enlisted → roll'.gathered ≡ roll.gathered → Leads r roll a
+    → Leads r' roll' a
+leads_same r r' roll roll' a free enlisted gathered l =
+    record {
+      number = l.number;
+      counted = free ∙ l.counted;
+      enlisted = l.enlisted ∙ sym enlisted;
+      gathered = l.gathered ∙ sym gathered;
+    }
+
 -- an author, where another has one change more
-pub owns_added : (r : Register) (who : ℕ → ℕ) (by other : ℕ) (a : Author) → a.number ≢ other
-    → Owns r who by a → Owns (with_author r other) who by a
-owns_added r who by other a ne o =
-    record { author = author_else r a other (λ e. ne (sym e)) o.author; only = o.only }
+pub owns_added : (r : Register) (roll : Roll) (by other : ℕ) (a : Author) → a.number ≢ other
+    → Owns r roll by a → Owns (with_author r other) roll by a
+owns_added r roll by other a ne o =
+    record {
+      author = author_else r a other (λ e. ne (sym e)) o.author;
+      only = o.only;
+      signs = o.signs;
+      leads = λ is.
+          leads_same r (with_author r other) roll roll a refl refl refl (o.leads is);
+    }
 
 -- an author, where another token has another author
-pub owns_moved : (r : Register) (who : ℕ → ℕ) (j k by : ℕ) (a : Author) → a.number ≢ j
-    → Owns r who by a → Owns r (owner_set who j k) by a
-owns_moved r who j k by a ne o =
-    record { author = o.author; only = o.only ∙ sym (owner_else who j k a.number ne) }
+pub owns_moved : (r : Register) (roll : Roll) (j k by : ℕ) (a : Author) → a.number ≢ j
+    → Owns r roll by a → Owns r (moved roll j k) by a
+owns_moved r roll j k by a ne o =
+    record {
+      author = o.author;
+      only = o.only ∙ sym (owner_else roll.who j k a.number ne);
+      signs = o.signs;
+      leads = λ is. leads_same r r roll (moved roll j k) a refl refl refl (o.leads is);
+    }
 
 -- an author, where one seat more has a number
-pub owns_later : (r : Register) (who : ℕ → ℕ) (k by : ℕ) (a : Author) → Owns r who by a
-    → Owns (with_seat r) (owner_set who (r.seats + 1) k) by a
-owns_later r who k by a o =
+pub owns_later : (r : Register) (roll : Roll) (k by : ℕ) (a : Author) → Owns r roll by a
+    → Owns (with_seat r) (moved roll (r.seats + 1) k) by a
+owns_later r roll k by a o =
     let most = o.author.most in
     record {
       author = author_later r a o.author;
       only =
           o.only
-          ∙ sym (owner_else who (r.seats + 1) k a.number (λ e. omega (arith, e, most)));
+          ∙ sym (owner_else roll.who (r.seats + 1) k a.number (λ e. omega (arith, e, most)));
+      signs = o.signs;
+      leads = λ is.
+          leads_same r (with_seat r) roll (moved roll (r.seats + 1) k) a refl refl refl
+          (o.leads is);
     }
 
 -- an author that another token takes over
-pub owns_here : (r : Register) (who : ℕ → ℕ) (by k : ℕ) (a : Author) → Owns r who by a
-    → Owns r (owner_set who a.number k) k a
-owns_here r who by k a o =
-    record { author = o.author; only = sym (owner_here who a.number k a.number refl) }
+pub owns_here : (r : Register) (roll : Roll) (by k : ℕ) (a : Author) → Owns r roll by a
+    → Owns r (moved roll a.number k) k a
+owns_here r roll by k a o =
+    record {
+      author = o.author;
+      only = sym (owner_here roll.who a.number k a.number refl);
+      signs = o.signs;
+      leads = λ is. leads_same r r roll (moved roll a.number k) a refl refl refl (o.leads is);
+    }
+
+-- an author that doesn't lead, where others are enlisted or dismissed
+pub owns_called : (r : Register) (roll : Roll) (enlisted gathered : List ℕ) (by : ℕ) (a : Author)
+    → a.number ≢ 1 → has a.number enlisted ≡ has a.number roll.enlisted → Owns r roll by a
+    → Owns r (record { who = roll.who; enlisted = enlisted; gathered = gathered }) by a
+owns_called r roll enlisted gathered by a ne same o =
+    record {
+      author = o.author;
+      only = o.only;
+      signs = λ counted. o.signs counted ∙ sym same;
+      leads = λ is. absurd (ne (o.leads is).number);
+    }
 
 module _ {M : Type 0} where
   -- one view changes
@@ -116,6 +166,68 @@ module _ {M : Type 0} where
         only = t.only ∙ sym same;
       }
 
+  -- seats of two tokens are of different slots
+  apart_slot : (slots : List (KnownSlot M)) (owner : ℕ → ℕ) (words : List ℕ) (w : Sitting M)
+      (other by : ℕ) (u : Sitting M)
+      → (0 < w.slot → Sits slots owner words other w.slot w.asks w.name) → by ≢ other
+      → 0 < u.slot → Sits slots owner words by u.slot u.asks u.name → u.slot ≢ w.slot
+  apart_slot slots owner words w other by u mine apart pos t e =
+      let own = mine (omega (arith, pos, e)) in
+      apart (t.only ∙ ap owner e ∙ sym own.only)
+
+  -- a seat's slot, where another slot has another owner
+  pub sits_owner : (slots : List (KnownSlot M)) (owner : ℕ → ℕ) (words : List ℕ)
+      (k n by slot asks : ℕ) (name : Option M) → slot ≢ k
+      → Sits slots owner words by slot asks name
+      → Sits slots (owner_set owner k n) words by slot asks name
+  sits_owner slots owner words k n by slot asks name ne t =
+      record {
+        within = t.within;
+        out = t.out;
+        named = t.named;
+        word = t.word;
+        only = t.only ∙ sym (owner_else owner k n slot ne);
+      }
+
+  -- another token's view, where the slot of one seat has another owner
+  pub fits_owner : (id : ℕ) (book : Book) (slots : List (KnownSlot M)) (owner : ℕ → ℕ)
+      (words : List ℕ) (w : Sitting M) (n other by : ℕ) (v : TokenView M)
+      → (0 < w.slot → Sits slots owner words other w.slot w.asks w.name) → by ≢ other
+      → Fits id book slots owner words by v
+      → Fits id book slots (owner_set owner w.slot n) words by v
+  fits_owner id book slots owner words w n other by (Keeper v) mine apart f = f
+  fits_owner id book slots owner words w n other by (Seat u) mine apart f = (
+    f.0,
+    λ pos. sits_owner slots owner words w.slot n by u.slot u.asks u.name
+        (apart_slot slots owner words w other by u mine apart pos (f.1 pos)) (f.1 pos),
+  )
+  fits_owner id book slots owner words w n other by (Pair a u) mine apart f = (
+    f.0,
+    (
+      f.1.0,
+      λ pos. sits_owner slots owner words w.slot n by u.slot u.asks u.name
+          (apart_slot slots owner words w other by u mine apart pos (f.1.1 pos)) (f.1.1 pos),
+    ),
+  )
+  fits_owner id book slots owner words w n other by Spent mine apart f = tt
+
+  -- a seat that another token takes over
+  pub fits_here : (book : Book) (slots : List (KnownSlot M)) (owner : ℕ → ℕ) (words : List ℕ)
+      (by n : ℕ) (w : Sitting M) → SeatFits book slots owner words by w
+      → SeatFits book slots (owner_set owner w.slot n) words n w
+  fits_here book slots owner words by n w f = (
+    f.0,
+    λ pos.
+        let t = f.1 pos in
+        record {
+          within = t.within;
+          out = t.out;
+          named = t.named;
+          word = t.word;
+          only = sym (owner_here owner w.slot n w.slot refl);
+        },
+  )
+
   -- another token's view, where the seats' books still begin the book, and they keep their slots
   pub fits_other : (id : ℕ) (book book' : Book) (slots slots' : List (KnownSlot M))
       (owner owner' : ℕ → ℕ) (words words' : List ℕ) (by : ℕ) (v : TokenView M)
@@ -130,26 +242,26 @@ module _ {M : Type 0} where
       (longer w.book f.0, λ pos. sits w.slot w.asks w.name pos (f.1 pos))
   fits_other id book book' slots slots' owner owner' words words' by
       (Pair a b) longer sits apart f =
-      (longer a.book f.0, longer b.book f.1)
+      (longer a.book f.0, (longer b.book f.1.0, λ pos. sits b.slot b.asks b.name pos (f.1.1 pos)))
   fits_other id book book' slots slots' owner owner' words words' by Spent longer sits apart f = tt
 
   -- another token's author, where the authors are as they were but for one
-  pub signs_other : (id : ℕ) (r r' : Register) (who who' : ℕ → ℕ) (by : ℕ) (v : TokenView M)
-      → ((a : Author) → Owns r who by a → Owns r' who' by a)
-      → by ≢ id → Signs id r who by v → Signs id r' who' by v
-  signs_other id r r' who who' by (Keeper v) owns apart f = absurd (apart f.0)
-  signs_other id r r' who who' by (Seat w) owns apart f = owns w.author f
-  signs_other id r r' who who' by (Pair a b) owns apart f =
+  pub signs_other : (id : ℕ) (r r' : Register) (roll roll' : Roll) (by : ℕ) (v : TokenView M)
+      → ((a : Author) → Owns r roll by a → Owns r' roll' by a)
+      → by ≢ id → Signs id r roll by v → Signs id r' roll' by v
+  signs_other id r r' roll roll' by (Keeper v) owns apart f = absurd (apart f.0)
+  signs_other id r r' roll roll' by (Seat w) owns apart f = owns w.author f
+  signs_other id r r' roll roll' by (Pair a b) owns apart f =
       (owns a.author f.0, owns b.author f.1, f.2)
-  signs_other id r r' who who' by Spent owns apart f = tt
+  signs_other id r r' roll roll' by Spent owns apart f = tt
 
   -- any token's author, where only one author has another token
-  pub signs_moved : (id : ℕ) (r : Register) (who who' : ℕ → ℕ) (by : ℕ) (v : TokenView M)
-      → ((a : Author) → Owns r who by a → Owns r who' by a)
-      → Signs id r who by v → Signs id r who' by v
-  signs_moved id r who who' by (Keeper v) owns f =
+  pub signs_moved : (id : ℕ) (r : Register) (roll roll' : Roll) (by : ℕ) (v : TokenView M)
+      → ((a : Author) → Owns r roll by a → Owns r roll' by a)
+      → Signs id r roll by v → Signs id r roll' by v
+  signs_moved id r roll roll' by (Keeper v) owns f =
       (f.0, f.1, λ pos. owns v.back.author (f.2 pos))
-  signs_moved id r who who' by (Seat w) owns f = owns w.author f
-  signs_moved id r who who' by (Pair a b) owns f =
+  signs_moved id r roll roll' by (Seat w) owns f = owns w.author f
+  signs_moved id r roll roll' by (Pair a b) owns f =
       (owns a.author f.0, owns b.author f.1, f.2)
-  signs_moved id r who who' by Spent owns f = tt
+  signs_moved id r roll roll' by Spent owns f = tt

@@ -1,25 +1,10 @@
 -- Who made each change of a book. Each seat is an author, under a number that no other seat has.
 -- The changes of a book have the numbers 1, 2, 3 and so on.
-use Rattle.std.specs.Prelude.{◌≡◌, ℕ, ◌+◌, ◌<◌, ◌≤◌, ◌==◌, if◌then◌else◌, List, [], ◌∷◌, ◌++◌, length, Contains}
+use Rattle.std.specs.Prelude.{◌≡◌, ℕ, ◌+◌, ◌<◌, ◌≤◌, Bool, true, false, List, [], ◌∷◌, ◌++◌, length, Contains}
 use Rattle.lq_volume.specs.Book.{Book}
 use Rattle.lq_board.specs.declared.views.Author.{Author}
 use Rattle.lq_board.specs.declared.views.Register.{Register}
-
--- the numbers of an author's changes, where n changes of the book come before
-abbrev pub changes_after : ℕ → ℕ → List ℕ → List ℕ
-changes_after n author [] = []
-changes_after n author (a ∷ authors) =
-    if a == author then (n + 1) ∷ changes_after (n + 1) author authors
-    else changes_after (n + 1) author authors
-
--- the numbers of an author's changes
-abbrev pub changes_by : ℕ → List ℕ → List ℕ
-changes_by author authors = changes_after 0 author authors
-
--- each author is one of the seats 1 to n
-abbrev pub AreSeats : ℕ → List ℕ → Type 0
-AreSeats n [] = Unit {0}
-AreSeats n (a ∷ authors) = (0 < a) × (a ≤ n) × AreSeats n authors
+use Rattle.lq_board.specs.Roll.{changes_by, numbers, AreSeats}
 
 -- each change of the book has one author, which is a seat
 pub record IsSigned (book : Book) (r : Register) : Type 0 where
@@ -31,34 +16,75 @@ pub record IsAuthor (a : Author) (r : Register) : Type 0 where
   pub least : 0 < a.number
   pub most : a.number ≤ r.seats
   pub changes : a.changes ≡ changes_by a.number r.authors
-
--- each change of the book has one author, and this author knows exactly its own
-pub record IsAuthorIn (a : Author) (book : Book) : Type 0 where
-  pub register : Register
-  pub signed : IsSigned book register
-  pub author : IsAuthor a register
+  pub free : a.free ≡ r.free
 
 -- no number is in both
 pub record AreDisjoint (one two : List ℕ) : Type 0 where
   pub none : (n : ℕ) → Contains one n → ¬ (Contains two n)
 
+-- where no seat is enlisted, the leading seat has gathered all of n changes, each once
+abbrev pub IsWhole : Author → ℕ → Type 0
+IsWhole a n = a.leads ≡ true → a.enlisted ≡ [] → a.gathered ≡ numbers n
+
 -- no author, no change and no seat
 abbrev pub no_author : Author
-no_author = record { number = 0; changes = [] }
+no_author =
+    record {
+      number = 0;
+      changes = [];
+      free = true;
+      signs = false;
+      leads = false;
+      enlisted = [];
+      gathered = [];
+    }
 
 abbrev pub no_register : Register
-no_register = record { authors = []; seats = 0 }
+no_register = record { authors = []; seats = 0; free = true }
+
+-- the first seat of a counted board, which leads
+abbrev pub leader : Author
+leader =
+    record {
+      number = 1;
+      changes = [];
+      free = false;
+      signs = false;
+      leads = true;
+      enlisted = [];
+      gathered = [];
+    }
+
+abbrev pub leader_register : Register
+leader_register = record { authors = []; seats = 1; free = false }
 
 -- one seat more, and that seat, which made no change
 abbrev pub with_seat : Register → Register
-with_seat r = record { authors = r.authors; seats = r.seats + 1 }
+with_seat r = record r { seats = r.seats + 1 }
 
 abbrev pub new_author : Register → Author
-new_author r = record { number = r.seats + 1; changes = [] }
+new_author r =
+    record {
+      number = r.seats + 1;
+      changes = [];
+      free = r.free;
+      signs = r.free;
+      leads = false;
+      enlisted = [];
+      gathered = [];
+    }
 
 -- one change more, by this author, and that author
 abbrev pub with_author : Register → ℕ → Register
-with_author r author = record { authors = r.authors ++ author ∷ []; seats = r.seats }
+with_author r author = record r { authors = r.authors ++ author ∷ [] }
 
 abbrev pub with_change : Author → ℕ → Author
-with_change a n = record { number = a.number; changes = a.changes ++ n ∷ [] }
+with_change a n = record a { changes = a.changes ++ n ∷ [] }
+
+-- it may make changes, or may not
+abbrev pub with_signs : Author → Bool → Author
+with_signs a signs = record a { signs = signs }
+
+-- it leads these, and has gathered these changes
+abbrev pub with_roll : Author → List ℕ → List ℕ → Author
+with_roll a enlisted gathered = record a { enlisted = enlisted; gathered = gathered }

@@ -1,4 +1,5 @@
 pub mod Book
+pub mod Roll
 pub mod Author
 pub mod Slot
 pub mod View
@@ -7,4 +8,3 @@ pub mod Rule
 pub mod Step
 pub mod Meeting
 pub mod Return
-pub mod Laws

@@ -4,14 +4,14 @@ use Rattle.lq_volume.specs.declared.change.Change.{Change}
 use Rattle.lq_volume.specs.Change.{after}
 use Rattle.lq_volume.specs.Book.{Extends, grown, state_of}
 use Rattle.lq_board.specs.declared.views.KnownSlot.{KnownSlot}
-use Rattle.lq_board.specs.Author.{IsAuthor, IsSigned, new_author, with_author, with_change, with_seat}
+use Rattle.lq_board.specs.Author.{new_author, with_author, with_change, with_seat}
 use Rattle.lq_board.specs.Book.{IsFullBook}
 use Rattle.lq_board.specs.Slot.{slot_at, gone_out, go_out, come_back}
 use Rattle.lq_board.specs.Token.{KeeperToken, SeatToken}
 
 module _ {M : Type 0} where
-  -- the slot's seat is new, under this name: it has a new number, and knows the keeper's book and
-  -- how often the slot's seats have asked
+  -- The slot's seat is new, under this name: it has a new number, and knows the keeper's book and
+  -- how often the slot's seats have asked. It may make changes where each seat may.
   pub record GoesOut (old new : KeeperToken M) (slot : ℕ) (name : Option M) (s : SeatToken M)
       : Type 0 where
     pub seat : s
@@ -23,6 +23,7 @@ module _ {M : Type 0} where
           name = name;
           author = new_author old.register;
         }
+    pub signs : s.author.signs ≡ old.board.free
     pub full : IsFullBook s.book
     pub keeper : new
         ≡ record {
@@ -61,8 +62,6 @@ module _ {M : Type 0} where
           slots = gone_out (come_back old.slots s.slot s.asks s.name) s.slot name;
           register = old.register;
         }
-    pub signed : IsSigned old.book old.register
-    pub author : IsAuthor s.author old.register
     pub was_out : WasOut old.slots s
 
   -- A seat, s before and t after, added a lawful change to the keeper's book, under this number. It
@@ -88,6 +87,4 @@ module _ {M : Type 0} where
           slots = go_out (come_back old.slots s.slot s.asks s.name) s.slot s.name;
           register = with_author old.register s.author.number;
         }
-    pub signed : IsSigned new.book new.register
-    pub author : IsAuthor t.author new.register
     pub was_out : 0 < s.slot → WasOut old.slots s

@@ -5,7 +5,6 @@ use Rattle.atomic_table.specs.Table.{Me}
 use Rattle.lq_board.specs.declared.views.Sitting.{Sitting}
 use Rattle.lq_board.specs.declared.views.TokenView.{TokenView}
 use Rattle.lq_board.specs.declared.views.TokenView.TheVariants.{Seat}
-use Rattle.lq_board.specs.Author.{IsAuthor, IsSigned}
 use Rattle.lq_board.specs.Book.{IsFullBook}
 use Rattle.lq_board.specs.Slot.{slot_at, go_out, come_back}
 use Rattle.lq_board.specs.Token.{KeeperToken}
@@ -13,16 +12,13 @@ use Rattle.lq_board.specs.Rule.{CameBack}
 
 module _ {M : Type 0} where
   -- A seat came back as w, and is out again as v with this token. It was as the keeper knew. Now
-  -- the keeper has v's book, and its slot is out under v's name; the new register has v as an
-  -- author.
+  -- the keeper has v's book, and its slot is out under v's name.
   pub record GoesOutAgain (old new : KeeperToken M) (w v : Sitting M) (table : TableId)
       (me : Me ℕ (TokenView M)) : Type 0 where
     pub back : CameBack old.book w (slot_at old.slots w.slot)
-    pub board : table ≡ old.board
+    pub board : table ≡ old.board.table
     pub view : me ≡ (Seat v, [])
     pub full : IsFullBook v.book
-    pub author : IsAuthor v.author new.register
-    pub signed : IsSigned v.book new.register
     pub keeper : new
         ≡ record {
           board = old.board;

@@ -12,12 +12,29 @@ use Rattle.lq_board.specs.declared.views.TokenView.{TokenView}
 use Rattle.lq_board.specs.declared.views.TokenView.TheVariants.{Keeper, Seat, Pair, Spent}
 use Rattle.lq_board.specs.Book.{IsFullBook}
 use Rattle.lq_board.specs.Author.{IsSigned, IsAuthor}
+use Rattle.lq_board.specs.Roll.{AreSeats, changes_of_others, has}
 use Rattle.lq_board.specs.Slot.{slot_at}
 
--- the author is the token `by`, and no other
-pub record Owns (r : Register) (who : ℕ → ℕ) (by : ℕ) (a : Author) : Type 0 where
+-- which token an author's number has, which seats are enlisted, and the changes of all others
+pub record Roll : Type 0 where
+  pub who : ℕ → ℕ
+  pub enlisted : List ℕ
+  pub gathered : List ℕ
+
+-- the leading seat is number 1, and knows who is enlisted and the changes of all others
+pub record Leads (r : Register) (roll : Roll) (a : Author) : Type 0 where
+  pub number : a.number ≡ 1
+  pub counted : r.free ≡ false
+  pub enlisted : a.enlisted ≡ roll.enlisted
+  pub gathered : a.gathered ≡ roll.gathered
+
+-- The author is the token `by`, and no other. On a counted board it may make changes just where it
+-- is enlisted.
+pub record Owns (r : Register) (roll : Roll) (by : ℕ) (a : Author) : Type 0 where
   pub author : IsAuthor a r
-  pub only : by ≡ who a.number
+  pub only : by ≡ roll.who a.number
+  pub signs : r.free ≡ false → a.signs ≡ has a.number roll.enlisted
+  pub leads : a.leads ≡ true → Leads r roll a
 
 module _ {M : Type 0} where
   -- what holds for a seat that came back: its book is a prefix of the keeper's; a slot's seat was
@@ -40,25 +57,30 @@ module _ {M : Type 0} where
     pub word : slice_index words slot ≡ asks
     pub only : by ≡ owner slot
 
-  -- there is one keeper, and a seat's book is a prefix of the keeper's
+  -- a seat's book is a prefix of the keeper's, and the seat is out of its slot
+  abbrev pub SeatFits : Book → List (KnownSlot M) → (ℕ → ℕ) → List ℕ → ℕ → Sitting M → Type 0
+  SeatFits book slots owner words by w =
+      Extends book w.book × (0 < w.slot → Sits slots owner words by w.slot w.asks w.name)
+
+  -- There is one keeper. The first seat of a pair is of no slot.
   abbrev pub Fits : ℕ → Book → List (KnownSlot M) → (ℕ → ℕ) → List ℕ → ℕ → TokenView M → Type 0
   Fits id book slots owner words by (Keeper v) =
       (by ≡ id) × (v.book ≡ book) × (v.slots ≡ slots) × CameBack book v.back v.was
-  Fits id book slots owner words by (Seat w) =
-      Extends book w.book × (0 < w.slot → Sits slots owner words by w.slot w.asks w.name)
-  Fits id book slots owner words by (Pair a b) = Extends book a.book × Extends book b.book
+  Fits id book slots owner words by (Seat w) = SeatFits book slots owner words by w
+  Fits id book slots owner words by (Pair a b) =
+      Extends book a.book × SeatFits book slots owner words by b
   Fits id book slots owner words by Spent = Unit {0}
 
   -- each seat is an author of its own, and the keeper has that of the latest seat that came back
-  abbrev pub Signs : ℕ → Register → (ℕ → ℕ) → ℕ → TokenView M → Type 0
-  Signs id r who by (Keeper v) =
+  abbrev pub Signs : ℕ → Register → Roll → ℕ → TokenView M → Type 0
+  Signs id r roll by (Keeper v) =
       (by ≡ id)
       × (v.register ≡ r)
-      × (0 < v.back.author.number → Owns r who by v.back.author)
-  Signs id r who by (Seat w) = Owns r who by w.author
-  Signs id r who by (Pair a b) =
-      Owns r who by a.author × Owns r who by b.author × (a.author.number ≢ b.author.number)
-  Signs id r who by Spent = Unit {0}
+      × (0 < v.back.author.number → Owns r roll by v.back.author)
+  Signs id r roll by (Seat w) = Owns r roll by w.author
+  Signs id r roll by (Pair a b) =
+      Owns r roll by a.author × Owns r roll by b.author × (a.author.number ≢ b.author.number)
+  Signs id r roll by Spent = Unit {0}
 
   -- a slot's word is at least what the keeper knows, and equals it where no seat of the slot is out
   pub record Agrees (words : List ℕ) (slots : List (KnownSlot M)) : Type 0 where
@@ -68,7 +90,8 @@ module _ {M : Type 0} where
     pub idle : (k : ℕ) → 0 < k → k < 65 → (slot_at slots k).out ≡ false
         → slice_index words k ≡ (slot_at slots k).asks
 
-  -- word 0 is the length of the keeper's book, which is lawful, and each change has one author
+  -- Word 0 is the length of the keeper's book, which is lawful, and each change has one author. On
+  -- a counted board `gathered` is just the changes whose authors are not enlisted.
   pub record Kept (words : List ℕ) (views : List (TokenView M)) : Type 0 where
     pub id : ℕ
     pub book : Book
@@ -80,10 +103,13 @@ module _ {M : Type 0} where
     pub fits : (by : ℕ) (v : TokenView M) → get_elem? views by ≡ some v
         → Fits id book slots owner words by v
     pub register : Register
-    pub who : ℕ → ℕ
+    pub roll : Roll
     pub signed : IsSigned book register
+    pub enlisted : AreSeats register.seats roll.enlisted
+    pub gathered : register.free ≡ false
+        → roll.gathered ≡ changes_of_others roll.enlisted register.authors
     pub signs : (by : ℕ) (v : TokenView M) → get_elem? views by ≡ some v
-        → Signs id register who by v
+        → Signs id register roll by v
 
   abbrev pub IsKept : State ℕ (TokenView M) → Type 0
   IsKept s = Kept s.words s.views

@@ -1,12 +1,13 @@
 -- What a step on the words proves.
-use Rattle.std.specs.Prelude.{◌≡◌, ◌≢◌, ℕ, ◌+◌, ◌<◌, ◌≤◌, false, length, Option, option_to_list}
+use Rattle.std.specs.Prelude.{◌≡◌, ◌≢◌, ℕ, ◌+◌, ◌<◌, ◌≤◌, true, false, ◌∷◌, length, Option, option_to_list}
 use Rattle.atomic_table.specs.Table.{Step, Me}
 use Rattle.lq_volume.specs.declared.change.Change.{Change}
 use Rattle.lq_volume.specs.Book.{grown, Extends}
 use Rattle.lq_board.specs.declared.views.TokenView.{TokenView}
-use Rattle.lq_board.specs.declared.views.TokenView.TheVariants.{Keeper, Seat}
+use Rattle.lq_board.specs.declared.views.TokenView.TheVariants.{Keeper, Seat, Pair}
 use Rattle.lq_board.specs.Book.{IsFullBook}
-use Rattle.lq_board.specs.Author.{IsSigned, IsAuthor, IsAuthorIn, AreDisjoint, with_author, with_change}
+use Rattle.lq_board.specs.Roll.{IsMerged, without}
+use Rattle.lq_board.specs.Author.{AreDisjoint, IsWhole, with_author, with_change, with_signs, with_roll}
 use Rattle.lq_board.specs.Slot.{slot_at, counted}
 use Rattle.lq_board.specs.View.{keeper, keeping_of, sitting_of, first_of, second_of}
 use Rattle.lq_board.specs.Rule.{CameBack}
@@ -41,8 +42,6 @@ module _ {M : Type 0} where
       × (found ≡ length was.book.changes)
       × IsFullBook book
       × CameBack was.book was.back was.was
-      × IsSigned book register
-      × IsAuthor author register
 
   -- the number is the length of a book that extends the book known before
   abbrev pub Sees : Step ℕ → Me ℕ (TokenView M) → ℕ → Me ℕ (TokenView M) → Type 0
@@ -63,7 +62,7 @@ module _ {M : Type 0} where
       × Extends book was.book
       × (found ≡ length book.changes)
       × IsFullBook book
-      × IsAuthorIn was.author book
+      × IsWhole was.author found
 
   -- what came back is as the rule says, and the number is the length of the book
   abbrev pub Checks : Step ℕ → Me ℕ (TokenView M) → ℕ → Me ℕ (TokenView M) → Type 0
@@ -72,7 +71,7 @@ module _ {M : Type 0} where
       (n ≡ m)
       × CameBack was.book was.back was.was
       × (found ≡ length was.book.changes)
-      × (0 < was.back.author.number → IsAuthor was.back.author was.register)
+      × (0 < was.back.author.number → IsWhole was.back.author found)
 
   -- a slot's seats asked at least as often as was known, and exactly as often where no seat is out
   abbrev pub Counts : Step ℕ → Me ℕ (TokenView M) → ℕ → Me ℕ (TokenView M) → Type 0
@@ -105,3 +104,33 @@ module _ {M : Type 0} where
       let one = (first_of m.0).author in
       let two = (second_of m.0).author in
       (n ≡ m) × (one.number ≢ two.number) × AreDisjoint one.changes two.changes
+
+  -- the first seat of a pair leads, and enlists the second
+  abbrev pub Enlists : Step ℕ → Me ℕ (TokenView M) → ℕ → Me ℕ (TokenView M) → Type 0
+  Enlists s m found n =
+      let a = first_of m.0 in
+      let b = second_of m.0 in
+      let enlisted = b.author.number ∷ a.author.enlisted in
+      n
+      ≡ (
+        Pair
+            (record a { author = with_roll a.author enlisted a.author.gathered })
+            (record b { author = with_signs b.author true }),
+        m.1,
+      )
+
+  -- the first seat of a pair leads, and dismisses the second
+  abbrev pub Dismisses : Step ℕ → Me ℕ (TokenView M) → ℕ → Me ℕ (TokenView M) → Type 0
+  Dismisses s m found n =
+      let a = first_of m.0 in
+      let b = second_of m.0 in
+      let enlisted = without b.author.number a.author.enlisted in
+      let gathered = (first_of n.0).author.gathered in
+      (n
+      ≡ (
+        Pair
+            (record a { author = with_roll a.author enlisted gathered })
+            (record b { author = with_signs b.author false }),
+        m.1,
+      ))
+      × IsMerged a.author.gathered b.author.changes gathered

@@ -1,5 +1,5 @@
 -- What a contract sees of a token.
-use Rattle.std.specs.Prelude.{ℕ, List, [], Option, Some, None}
+use Rattle.std.specs.Prelude.{ℕ, Bool, true, false, List, [], Option, Some, None}
 use Rattle.atomic_table.specs.Seated.{TableId}
 use Rattle.atomic_table.specs.Table.{Me}
 use Rattle.atomic_table.specs.declared.shared.Seat.{Seat}
@@ -11,10 +11,16 @@ use Rattle.lq_board.specs.declared.views.TokenView.{TokenView}
 use Rattle.lq_board.specs.declared.views.TokenView.TheVariants.{Spent}
 use Rattle.lq_board.specs.View.{keeping_of, sitting_of}
 
+-- which board it is: its words, and whether each seat may make changes (`free`), or just those that
+-- its leading seat enlists
+pub record BoardName : Type 0 where
+  pub table : TableId
+  pub free : Bool
+
 -- the keeper of a board: the book of all changes, what it knows of each slot, and who made each
 -- change
 pub record KeeperToken (M : Type 0) : Type 0 where
-  pub board : TableId
+  pub board : BoardName
   pub book : Book
   pub slots : List (KnownSlot M)
   pub register : Register
@@ -22,7 +28,7 @@ pub record KeeperToken (M : Type 0) : Type 0 where
 -- a seat: the book that it knows, its slot or 0, how often it has asked, its name, and what it is
 -- as an author
 pub record SeatToken (M : Type 0) : Type 0 where
-  pub board : TableId
+  pub board : BoardName
   pub slot : ℕ
   pub book : Book
   pub asks : ℕ
@@ -30,8 +36,8 @@ pub record SeatToken (M : Type 0) : Type 0 where
   pub author : Author
 
 -- the name of no board
-abbrev pub no_board : TableId
-no_board =
+abbrev pub no_table : TableId
+no_table =
     record {
       words = 0;
       slots = 0;
@@ -42,20 +48,27 @@ no_board =
       slot_names = [];
     }
 
+abbrev pub no_board : BoardName
+no_board = record { table = no_table; free = true }
+
+-- the same board, where just the seats that are enlisted may make changes
+abbrev pub counted_board : BoardName → BoardName
+counted_board b = record b { free = false }
+
 module _ {M : Type 0} where
   abbrev pub keeper_token : TableId → Me ℕ (TokenView M) → KeeperToken M
-  keeper_token board me =
+  keeper_token table me =
       record {
-        board = board;
+        board = record { table = table; free = (keeping_of me.0).register.free };
         book = (keeping_of me.0).book;
         slots = (keeping_of me.0).slots;
         register = (keeping_of me.0).register;
       }
 
   abbrev pub seat_token : TableId → Me ℕ (TokenView M) → SeatToken M
-  seat_token board me =
+  seat_token table me =
       record {
-        board = board;
+        board = record { table = table; free = (sitting_of me.0).author.free };
         slot = (sitting_of me.0).slot;
         book = (sitting_of me.0).book;
         asks = (sitting_of me.0).asks;
@@ -64,9 +77,9 @@ module _ {M : Type 0} where
       }
 
   -- a seat's view of the words, which is absent only within a call
-  abbrev pub board_of : Option (Seat ℕ (TokenView M)) → TableId
-  board_of (Some token) = token.table_id
-  board_of None = no_board
+  abbrev pub table_of : Option (Seat ℕ (TokenView M)) → TableId
+  table_of (Some token) = token.table_id
+  table_of None = no_table
 
   abbrev pub me_of : Option (Seat ℕ (TokenView M)) → Me ℕ (TokenView M)
   me_of (Some token) = token.me

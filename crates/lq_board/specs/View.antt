@@ -11,7 +11,7 @@ use Rattle.lq_board.specs.declared.views.Keeping.{Keeping}
 use Rattle.lq_board.specs.declared.views.TokenView.{TokenView}
 use Rattle.lq_board.specs.declared.views.TokenView.TheVariants.{Keeper, Seat, Pair, Spent}
 use Rattle.lq_board.specs.Book.{no_book, IsFullBook}
-use Rattle.lq_board.specs.Author.{IsSigned, IsAuthorIn, no_author, no_register, with_seat, new_author}
+use Rattle.lq_board.specs.Author.{no_author, no_register, leader, leader_register, with_seat, new_author}
 use Rattle.lq_board.specs.Slot.{unused, unused_slots, slot_at, gone_out, go_out, come_back}
 
 module _ {M : Type 0} where
@@ -50,7 +50,7 @@ module _ {M : Type 0} where
   sitting_of (Pair a b) = plain no_book no_author
   sitting_of Spent = plain no_book no_author
 
-  -- two seats of no slot, while a call compares them
+  -- two seats, the first of no slot, while a call compares them
   abbrev pub first_of : TokenView M → Sitting M
   first_of (Keeper v) = plain no_book no_author
   first_of (Seat w) = plain no_book no_author
@@ -67,14 +67,13 @@ module _ {M : Type 0} where
   paired v w = Pair (sitting_of v) (sitting_of w)
 
   abbrev pub of_no_slot : Sitting M → Sitting M
-  of_no_slot w =
-      record { slot = 0; book = w.book; asks = w.asks; name = w.name; author = w.author }
+  of_no_slot w = record w { slot = 0 }
 
   abbrev pub first_seat : TokenView M → TokenView M
   first_seat v = Seat (of_no_slot (first_of v))
 
   abbrev pub second_seat : TokenView M → TokenView M
-  second_seat v = Seat (of_no_slot (second_of v))
+  second_seat v = Seat (second_of v)
 
   -- the keeper and the seat after a new seat of no slot is split off
   abbrev pub numbered : TokenView M → TokenView M
@@ -83,6 +82,13 @@ module _ {M : Type 0} where
 
   abbrev pub copy_of : TokenView M → TokenView M
   copy_of v = Seat (plain (keeping_of v).book (new_author (keeping_of v).register))
+
+  -- the keeper and the seat after the leading seat is split off
+  abbrev pub led : TokenView M → TokenView M
+  led v = keeper (keeping_of v).book (keeping_of v).slots leader_register
+
+  abbrev pub lead_of : TokenView M → TokenView M
+  lead_of v = Seat (plain (keeping_of v).book leader)
 
   -- the keeper and the seat after a slot's new seat is split off, under this name
   abbrev pub opened : ℕ → Option M → TokenView M → TokenView M
@@ -137,7 +143,6 @@ module _ {M : Type 0} where
       (me ≡ (Keeper (keeping_of me.0), []))
       × (length (keeping_of me.0).slots ≡ 65)
       × IsFullBook (keeping_of me.0).book
-      × IsSigned (keeping_of me.0).book (keeping_of me.0).register
 
   -- a slot's seat has a name; a seat of no slot has none, and hasn't asked
   pub record IsNamed (slot asks : ℕ) (name : Option M) : Type 0 where
@@ -149,4 +154,4 @@ module _ {M : Type 0} where
   IsSitting me =
       (me ≡ (Seat (sitting_of me.0), []))
       × IsFullBook (sitting_of me.0).book
-      × IsAuthorIn (sitting_of me.0).author (sitting_of me.0).book
+      × (0 < (sitting_of me.0).author.number)

@@ -2,10 +2,11 @@
 ghost use Rattle.std.specs.Prelude.{◌≡◌, ◌+◌, ◌<◌, ◌≤◌, [], length, IfOk, true, false, Some, None};
 ghost use Rattle.lq_value.specs.Refusal.{FailsOnlyForMemory};
 ghost use Rattle.lq_volume.specs.Book.{Extends};
-ghost use Rattle.lq_board.specs.Author.{IsSigned, IsAuthor, no_register, with_seat, new_author};
+ghost use Rattle.lq_board.specs.Author.{IsWhole, leader, leader_register, no_register, with_seat, new_author};
 ghost use Rattle.lq_board.specs.Book.{IsFullBook};
 ghost use Rattle.lq_board.specs.Meeting.{GoesOut};
 ghost use Rattle.lq_board.specs.Slot.{unused_slots, slot_at, come_back, counted};
+ghost use Rattle.lq_board.specs.Token.{counted_board};
 
 use crate::steps::{Ask, Count, See};
 use crate::tokens::{Keeper, Seat};
@@ -21,21 +22,21 @@ const WORDS: usize = 65;
 
 /// The words beside a lock: the number of changes, and how often each slot's seat has asked.
 ///
-/// Its calls take `&self`, so threads can share it. Contracts see which board it is.
+/// Its calls take `&self`, so threads can share it. Contracts see which board it is, and whether
+/// each seat may make changes, or just those that its leading seat enlists.
 #[derive(Drop)]
 pub struct Board<M> {
     pub(crate) table: Table<u8, TokenView<M>, Volume, Law, Global>,
+    free: bool,
 }
 
 impl<M> Model for Board<M> {
     ghost use Rattle.std.specs.Prelude.{◌≡◌};
-    ghost use Rattle.atomic_table.specs.Seated.{TableId, table_id_coded};
+    ghost use Rattle.lq_board.specs.Token.{BoardName};
 
-    ghost Value = { TableId };
+    ghost Value = { BoardName };
 
-    ghost coded = { table_id_coded };
-
-    ghost view = { λ b. b.table.shared.table_id };
+    ghost view = { λ b. record { table = b.table.shared.table_id; free = b.free } };
 
     ghost invariant = { λ b. (b.table.shared.table_id.words ≡ 65)
         × (b.table.shared.table_id.slots ≡ 0) };
@@ -44,7 +45,7 @@ impl<M> Model for Board<M> {
 impl<M> Board<M> {
     /// A board for a volume that has no changes yet, and its keeper, whose book is empty.
     ///
-    /// No slot's seat is out. Refused: `NoMemory`.
+    /// No slot's seat is out. Each seat may make changes, until `lead`. Refused: `NoMemory`.
     pub fn new(alloc: Global, volume: &Volume) -> Result<(Board<M>, Keeper<M>), Refusal>
         requires first { volume.now.number ≡ 0 }
         ensures board { IfOk result (λ made. made.1.board ≡ made.0) }
@@ -52,16 +53,48 @@ impl<M> Board<M> {
             made.1.book ≡ record { start = volume.now; changes = [] }) }
         ensures slots { IfOk result (λ made. made.1.slots ≡ unused_slots) }
         ensures register { IfOk result (λ made. made.1.register ≡ no_register) }
+        ensures free { IfOk result (λ made. made.0.free ≡ true) }
         ensures full { IfOk result (λ made. IsFullBook made.1.book) }
         ensures refused { FailsOnlyForMemory result }
     {
         // For the proof: this call says that the volume is a tree within its limit.
         let _ = volume.changes();
         let (table, token) = Table::of_words(alloc, &[0; WORDS], volume)?;
-        Ok((Board { table }, Keeper { token }))
+        Ok((Board { table, free: true }, Keeper { token }))
+    }
+
+    /// The first seat, which leads: from then on a seat may make changes just while it is enlisted.
+    ///
+    /// It is of no slot, and knows the keeper's book, which has no changes. It takes no memory.
+    pub fn lead(&mut self, keeper: &mut Keeper<M>) -> Seat<M>
+        requires board { keeper.old.board ≡ self.old }
+        requires first { keeper.old.register ≡ no_register }
+        ensures board { self.new ≡ counted_board self.old }
+        ensures seat { result ≡ record {
+          board = self.new;
+          slot = 0;
+          book = keeper.old.book;
+          asks = 0;
+          name = None;
+          author = leader;
+        } }
+        ensures full { IsFullBook result.book }
+        ensures keeper { keeper.new ≡ record keeper.old {
+          board = self.new;
+          register = leader_register;
+        } }
+    {
+        let token = self.lead_token(keeper);
+        self.free = false;
+        Seat {
+            token: Some(token),
+            slot: 0,
+        }
     }
 
     /// A seat of no slot, with a new number, which knows the keeper's book. It takes no memory.
+    ///
+    /// It may make changes just where no seat leads.
     pub fn seat(&self, keeper: &mut Keeper<M>) -> Seat<M>
         requires board { keeper.old.board ≡ self.now }
         ensures seat { result ≡ record {
@@ -72,6 +105,7 @@ impl<M> Board<M> {
           name = None;
           author = new_author keeper.old.register;
         } }
+        ensures signs { result.author.signs ≡ keeper.old.board.free }
         ensures full { IsFullBook result.book }
         ensures keeper { keeper.new ≡ record keeper.old {
           register = with_seat keeper.old.register;
@@ -86,7 +120,8 @@ impl<M> Board<M> {
     /// The seat of a slot, 1 to 64, under the name that the caller gives for contracts alone.
     ///
     /// It has a new number, and knows the keeper's book and how often the slot's seats have asked.
-    /// No other seat of the slot may be out. It takes no memory.
+    /// It may make changes just where no seat leads. No other seat of the slot may be out. It takes
+    /// no memory.
     pub fn slot_seat(&self, keeper: &mut Keeper<M>, slot: u64) -> Seat<M>
         ghost name: { M }
         requires board { keeper.old.board ≡ self.now }
@@ -103,8 +138,8 @@ impl<M> Board<M> {
     /// Takes a seat back. The keeper then knows how often it has asked. It takes no memory.
     ///
     /// The keeper's book extends the seat's. A slot's seat was out under the name that the keeper
-    /// knew, and had asked at least as often as the keeper knew. From then on the seat's number is
-    /// nobody's.
+    /// knew, and had asked at least as often as the keeper knew. Where it leads and no seat is
+    /// enlisted, it has gathered all changes. From then on the seat's number is nobody's.
     pub fn join(&self, keeper: &mut Keeper<M>, seat: Seat<M>)
         requires board { (keeper.old.board ≡ self.now) × (seat.board ≡ self.now) }
         ensures keeper { keeper.new ≡ record {
@@ -113,8 +148,7 @@ impl<M> Board<M> {
           slots = come_back keeper.old.slots seat.slot seat.asks seat.name;
           register = keeper.old.register;
         } }
-        ensures signed { IsSigned keeper.old.book keeper.old.register }
-        ensures author { IsAuthor seat.author keeper.old.register }
+        ensures whole { IsWhole seat.author (length keeper.old.book.changes) }
         ensures later { Extends keeper.old.book seat.book }
         ensures name { 0 < seat.slot → (slot_at keeper.old.slots seat.slot).name ≡ seat.name }
         ensures asks { 0 < seat.slot → (slot_at keeper.old.slots seat.slot).asks ≤ seat.asks }
@@ -148,20 +182,15 @@ impl<M> Board<M> {
 
     /// The number of changes so far. The seat then knows the book of these changes.
     ///
-    /// It neither waits nor takes memory.
+    /// Where it leads and no seat is enlisted, it has gathered all of them. It neither waits nor
+    /// takes memory.
     pub fn latest(&self, seat: &mut Seat<M>) -> u64
         requires board { seat.old.board ≡ self.now }
         ensures number { result ≡ length seat.new.book.changes }
         ensures later { Extends seat.new.book seat.old.book }
         ensures full { IsFullBook seat.new.book }
-        ensures seat { seat.new ≡ record {
-          board = seat.old.board;
-          slot = seat.old.slot;
-          book = seat.new.book;
-          asks = seat.old.asks;
-          name = seat.old.name;
-          author = seat.old.author;
-        } }
+        ensures whole { IsWhole seat.new.author result }
+        ensures seat { seat.new ≡ record seat.old { book = seat.new.book } }
     {
         let Some(mut token) = seat.token.take() else {
             unreachable!()
@@ -179,14 +208,7 @@ impl<M> Board<M> {
         requires board { seat.old.board ≡ self.now }
         requires slot { 0 < seat.old.slot }
         requires room { seat.old.asks < 1000000000000 }
-        ensures seat { seat.new ≡ record {
-          board = seat.old.board;
-          slot = seat.old.slot;
-          book = seat.old.book;
-          asks = seat.old.asks + 1;
-          name = seat.old.name;
-          author = seat.old.author;
-        } }
+        ensures seat { seat.new ≡ record seat.old { asks = seat.old.asks + 1 } }
     {
         let slot = seat.slot as usize;
         let Some(mut token) = seat.token.take() else {
@@ -198,19 +220,17 @@ impl<M> Board<M> {
 
     /// The number of all changes, at the end of the board. It takes no memory.
     ///
-    /// Each change has one author, which is one of the seats that went out, and the seat knows
-    /// exactly its own.
+    /// Where the seat leads and no seat is enlisted, it has gathered all of them.
     pub fn close_with(self, mut keeper: Keeper<M>, seat: Seat<M>) -> u64
         requires board { (keeper.board ≡ self) × (seat.board ≡ self) }
         ensures number { result ≡ length keeper.book.changes }
         ensures later { Extends keeper.book seat.book }
         ensures full { IsFullBook keeper.book }
-        ensures signed { IsSigned keeper.book keeper.register }
-        ensures author { IsAuthor seat.author keeper.register }
+        ensures whole { IsWhole seat.author result }
     {
         self.join(&mut keeper, seat);
         let Keeper { token } = keeper;
-        let Board { table } = self;
+        let Board { table, free: _ } = self;
         let closed = table.close_with(token);
         let number = closed.word(0);
         closed.free();

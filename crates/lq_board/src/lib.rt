@@ -2,12 +2,12 @@
 //!
 //! A keeper adds changes, and seats read the number without the lock. A contract sees a token as a
 //! `KeeperToken` or a `SeatToken` (`specs/Token`), each with a lawful book. Each change has an
-//! author, the seat that made it (`specs/Author`). `specs/Rule` has the rule that relates the
-//! tokens. Nothing here waits. Begin with `tokens`, then `board`.
+//! author, the seat that made it (`specs/Author`). Where a seat leads, just those that it enlists
+//! make changes, and it gathers their numbers. `specs/Rule` has the rule that relates the tokens.
+//! Nothing here waits. Begin with `tokens`, then `board`.
 #![tactic(auto)]
 
 mod board;
-mod laws;
 mod meetings;
 mod moves;
 mod steps;
@@ -15,7 +15,4 @@ mod tokens;
 mod views;
 
 pub use board::Board;
-pub use laws::{
-    authors_know_their_changes, own_changes_are_within, seats_make_the_book, seats_share_no_change,
-};
 pub use tokens::{Keeper, Seat};

@@ -84,6 +84,17 @@ impl<M> Split<TokenView<M>> for Plain {
     ghost right = { copy_of };
 }
 
+// Makes the leading seat of a board.
+pub(crate) struct Lead;
+
+impl<M> Split<TokenView<M>> for Lead {
+    ghost use Rattle.lq_board.specs.View.{led, lead_of};
+
+    ghost left = { led };
+
+    ghost right = { lead_of };
+}
+
 // Makes a new seat of a slot.
 pub(crate) struct Open<W> {
     said: PhantomData<W>,
@@ -122,7 +133,7 @@ impl<M> Join<TokenView<M>> for Back {
     ghost spent = { Spent };
 }
 
-// Joins two seats of no slot.
+// Joins two seats, the first of no slot.
 pub(crate) struct Together;
 
 impl<M> Join<TokenView<M>> for Together {
@@ -141,6 +152,24 @@ impl<M> Play<u8, TokenView<M>> for Compare {
     ghost use Rattle.lq_board.specs.Step.{Compares};
 
     ghost then = { Compares };
+}
+
+// The first of the two enlists the second.
+pub(crate) struct Enlist;
+
+impl<M> Play<u8, TokenView<M>> for Enlist {
+    ghost use Rattle.lq_board.specs.Step.{Enlists};
+
+    ghost then = { Enlists };
+}
+
+// The first of the two dismisses the second.
+pub(crate) struct Dismiss;
+
+impl<M> Play<u8, TokenView<M>> for Dismiss {
+    ghost use Rattle.lq_board.specs.Step.{Dismisses};
+
+    ghost then = { Dismisses };
 }
 
 // Parts the two.

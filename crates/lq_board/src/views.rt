@@ -28,16 +28,27 @@ pub struct KnownSlot<M> {
     pub name: Option<M>,
 }
 
-/// A seat as an author: its number, from 1, and the numbers of the changes that it made.
+/// A seat as an author: its number, from 1, the numbers of the changes that it made, whether each
+/// seat of its board may make changes (`free`), and whether it may itself (`signs`).
+///
+/// The leading seat of a counted board also knows the numbers of the seats that are enlisted, and
+/// has gathered the numbers of the changes that other seats made.
 pub struct Author {
     pub number: u64,
     pub changes: LinkedList<u64>,
+    pub free: bool,
+    pub signs: bool,
+    pub leads: bool,
+    pub enlisted: LinkedList<u64>,
+    pub gathered: LinkedList<u64>,
 }
 
-/// Who made a book: the number of each change's author, and how many seats have a number.
+/// Who made a book: the number of each change's author, how many seats have a number, and whether
+/// each seat may make changes, or just those that the leading seat enlists.
 pub struct Register {
     pub authors: LinkedList<u64>,
     pub seats: u64,
+    pub free: bool,
 }
 
 /// What a seat knows. A seat of no slot has slot 0.
@@ -60,8 +71,8 @@ pub struct Keeping<M> {
     pub was: KnownSlot<M>,
 }
 
-/// What a token knows. A seat that came back is spent. A pair is two seats of no slot, while a call
-/// compares them.
+/// What a token knows. A seat that came back is spent. A pair is two seats, the first of no slot,
+/// while a call takes both.
 pub enum TokenView<M> {
     Keeper(Keeping<M>),
     Seat(Sitting<M>),

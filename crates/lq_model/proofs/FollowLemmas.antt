@@ -1,19 +1,19 @@
 -- A query that was followed: what its reader received, and the volume.
-use Rattle.std.proofs.Common.{◌≡◌, ℕ, ◌<◌, ◌≤◌, false, true≢false, List, length, map, Option, Some, None, refl, sym, ap, ◌∙◌, subst, arith, length-append}
+use Rattle.std.proofs.Common.{◌≡◌, ℕ, zero, suc, ◌<◌, ◌≤◌, false, true≢false, List, [], length, map, Option, Some, None, refl, sym, ap, ◌∙◌, subst, arith, length-append}
 use Rattle.std.specs.Prelude.{IsSome, IsSomeAnd}
-use Rattle.atomic_table.specs.Seated.{TableId}
 use Rattle.lq_predicate.specs.Query.{Query}
 use Rattle.lq_volume.specs.State.{State}
 use Rattle.lq_volume.specs.declared.change.Change.{Change}
 use Rattle.lq_volume.specs.Book.{Book, Extends, state_at}
 use Rattle.lq_volume.specs.Result.{result_of}
-use Rattle.lq_board.specs.declared.views.Author.{Author}
-use Rattle.lq_board.specs.Token.{SeatToken}
+use Rattle.lq_board.specs.Roll.{numbers}
+use Rattle.lq_board.specs.Token.{BoardName, SeatToken}
 use Rattle.lq_update.specs.declared.mark.Mark.{Mark}
 use Rattle.lq_update.specs.Updates.{updates_of}
 use Rattle.lq_update.specs.Laws.{UpdatesStay}
 use Rattle.lq_server_slots.specs.declared.identity.Identity.{Identity}
 use Rattle.lq_server_slots.specs.declared.delivery.Delivery.{Delivery}
+use Rattle.lq_server_slots.specs.declared.delivery.Opening.{Opening}
 use Rattle.lq_server_slots.specs.Laws.{BooksExtendOn, StatesStay}
 use Rattle.lq_server_slots.specs.Rule.{query_of, mark_in}
 use Rattle.lq_server_slots.specs.Reading.{known, mark_read}
@@ -24,32 +24,23 @@ use Rattle.lq_server.specs.Hold.{ReaderHold}
 use Rattle.lq_server.specs.Opened.{IsNewReader}
 use Rattle.lq_server.specs.Syncing.{IsSynced}
 use Rattle.lq_server.specs.Headline.{ReaderIsTold}
-use Rattle.lq_server.specs.Retired.{IsRetiredBy}
-use Rattle.lq_model.specs.Followed.{GoesOut, IsFollowed, changes_at}
-use Rattle.lq_model.proofs.MadeLemmas.{changes_at-later}
+use Rattle.lq_server.specs.Retired.{IsRetired}
+use Rattle.lq_model.specs.Followed.{GoesOut, IsFollowed}
 
 -- a book that goes on from another has no fewer changes
-extends_length : (b c : Book) → Extends c b → length b.changes ≤ length c.changes
+pub extends_length : (b c : Book) → Extends c b → length b.changes ≤ length c.changes
 extends_length b c e =
     omega (arith, ap (λ (x : Book). length x.changes) e.1, length-append b.changes e.0)
+
+-- a number that is counted by no change is 0
+pub none_counted : (n : ℕ) → [] ≡ numbers n → n ≡ 0
+none_counted zero h = refl
+none_counted (suc k) h = absurd (omega (arith, ap (λ (l : List ℕ). length l) h))
 
 -- a mark is there, where the test says so
 some_there : (o : Option Mark) → IsSome o → (k : Mark) × (o ≡ Some k)
 some_there (Some k) h = (k, refl)
 some_there None h = absurd (true≢false (sym h))
-
--- what a name has to do with its reader
-abbrev Fits : ReaderHold → Identity → Type 0
-Fits r t = IdentityFits t r.reading.port × (r.seat.asks ≡ asks_after t.asks r.hang_up_asked)
-    × (t.asks < 1000000000000)
-
--- readers under one name are of one query
-same_query : (o : Option Identity) (old new : ReaderHold) → IsSomeAnd o (Fits old)
-    → IsSomeAnd o (Fits new)
-    → (query_of new.reading.port.floor ≡ query_of old.reading.port.floor)
-    × (new.reading.port.floor.moved ≡ old.reading.port.floor.moved)
-same_query (Some t) old new x y = (sym y.0.query ∙ x.0.query, sym y.0.moved ∙ x.0.moved)
-same_query None old new x y = absurd x
 
 -- a seat met another, and knows a book that extends its own
 pub record Meets (was now : SeatToken Identity) : Type 0 where
@@ -59,13 +50,13 @@ pub record Meets (was now : SeatToken Identity) : Type 0 where
 -- from the opening over the reads to the last sync, a meeting of the seats and the end of the
 -- server
 pub followed : UpdatesStay → BooksExtendOn → StatesStay
-    → (start : State) (q : Query) (board : TableId) (begun : Book) (port backlog : ℕ)
+    → (start : State) (q : Query) (board : BoardName) (begun : Book) (port backlog : ℕ)
     (first old new : ReaderHold) (x : Synced) (one : SeatToken Identity) (z : Retired)
-    (author : Author) (changes : List Change)
+    (changes : List Change)
     → IsNewReader first board begun q false port backlog → GoesOut first old → IsSynced old new x
     → ReaderIsTold new
-    → Meets new.seat one → IsRetiredBy author start one.book z.volume z.changes
-    → changes_at one.book author.changes ≡ map (λ c. Some c) changes
+    → Meets new.seat one → (by : IsRetired start one.book z.volume z.changes)
+    → by.book.changes ≡ changes → length begun.changes ≡ 0
     → IsFollowed start q changes (record {
       reader = record {
         reading = new.reading;
@@ -76,14 +67,17 @@ pub followed : UpdatesStay → BooksExtendOn → StatesStay
       synced = x;
       retired = z;
     })
-followed stay on states start q board begun port backlog first old new x one z author changes
-    o out s told met by made =
-    let r = by.retired in
-    let name : new.seat.name ≡ first.seat.name =
-    ap (λ (t : SeatToken Identity). t.name) s.seat ∙ out.goes.name in
-    let query = same_query first.seat.name first new o.own.name
-    (subst (λ n. IsSomeAnd n (Fits new)) name s.own.name) in
+followed stay on states start q board begun port backlog first old new x one z changes
+    o out s told met r made none =
     let f = new.reading.port.floor in
+    let floor : f ≡ first.reading.port.floor = s.port.2 ∙ out.goes.floor in
+    let first_floor : Opening = first.reading.port.floor in
+    let query : (query_of f ≡ query_of first_floor) × (f.moved ≡ first_floor.moved)
+    × (f.opened ≡ first_floor.opened) = (
+      ap query_of floor,
+      ap (λ (g : Opening). g.moved) floor,
+      ap (λ (g : Opening). g.opened) floor,
+    ) in
     let b : Book = known new.reading in
     let book : Book = new.seat.book in
     let k = some_there (mark_read old.reading) out.marked in
@@ -131,20 +125,15 @@ followed stay on states start q board begun port backlog first old new x one z a
           ∙ ap (λ (t : State). result_of (query_of f) t)
           (sym (states book b mark.change knows (omega arith)))
           ∙ ap (λ (p : Query). result_of p (state_at book mark.change)) is;
-      author = author;
       retired = record {
-        retired = record {
-          book = r.book;
-          full = r.full;
-          begins = r.begins;
-          later = on book one.book r.book met.later r.later;
-          state = r.state;
-          number = r.number;
-          limit = r.limit;
-        };
-        register = by.register;
-        signed = by.signed;
-        author = by.author;
+        book = r.book;
+        full = r.full;
+        begins = r.begins;
+        later = on book one.book r.book met.later r.later;
+        state = r.state;
+        number = r.number;
+        limit = r.limit;
       };
-      made = changes_at-later one.book r.book author.changes changes r.later made;
+      made = made;
+      first = query.2 ∙ o.opened.opened ∙ none;
     }

@@ -5,6 +5,7 @@ use Rattle.lq_volume.specs.declared.change.Change.{Change}
 use Rattle.lq_volume.specs.declared.change.Applied.{Applied}
 use Rattle.lq_volume.specs.Book.{Book, Extends}
 use Rattle.lq_board.specs.declared.views.Author.{Author}
+use Rattle.lq_board.specs.Roll.{numbers, numbers_after}
 use Rattle.lq_board.specs.Author.{with_change}
 use Rattle.lq_board.specs.Token.{SeatToken}
 use Rattle.lq_server_slots.specs.declared.identity.Identity.{Identity}
@@ -19,10 +20,32 @@ slice_get-before [] ys i c h = cc
 slice_get-before (x ∷ xs) ys zero c h = h
 slice_get-before (x ∷ xs) ys (suc i) c h = slice_get-before xs ys i c h
 
--- what is added at the end of a list stands at its length
-slice_get-end : (xs : List Change) (c : Change) → slice_get (xs ++ c ∷ []) (length xs) ≡ Some c
-slice_get-end [] c = refl
-slice_get-end (x ∷ xs) c = slice_get-end xs c
+-- what comes after a list stands at its length
+slice_get-after : (xs ys : List Change) (c : Change) → slice_get (xs ++ c ∷ ys) (length xs) ≡ Some c
+slice_get-after [] ys c = refl
+slice_get-after (x ∷ xs) ys c = slice_get-after xs ys c
+
+-- the changes of a book under all its numbers are all its changes, where some come before
+all_after : (front xs : List Change)
+    → map (λ n. slice_get (front ++ xs) (n - 1)) (numbers_after (length front) (length xs))
+    ≡ map (λ c. Some c) xs
+all_after front [] = refl
+all_after front (x ∷ xs) =
+    let next : List Change = front ++ x ∷ [] in
+    let at : length front ≡ length front + 1 - 1 = omega arith in
+    ap₂ (λ (o : Option Change) (os : List (Option Change)). o ∷ os)
+    (subst (λ (i : ℕ). slice_get (front ++ x ∷ xs) i ≡ Some x) at
+    (slice_get-after front xs x))
+    (subst
+    (λ (l : List Change).
+    map (λ n. slice_get l (n - 1)) (numbers_after (length front + 1) (length xs))
+    ≡ map (λ c. Some c) xs)
+    (append_assoc front (x ∷ []) xs)
+    (subst
+    (λ (k : ℕ).
+    map (λ n. slice_get (next ++ xs) (n - 1)) (numbers_after k (length xs))
+    ≡ map (λ c. Some c) xs)
+    (length-append front (x ∷ [])) (all_after next xs)))
 
 -- equal lists have one head
 head_same : (o : Option Change) (os ps : List (Option Change)) (p : Option Change)
@@ -34,8 +57,21 @@ tail_same : (o : Option Change) (os ps : List (Option Change)) (p : Option Chang
     → o ∷ os ≡ p ∷ ps → os ≡ ps
 tail_same o os ps p h = cc
 
+-- equal changes, where both are there
+one_same : (x y : Change) → Some x ≡ Some y → x ≡ y
+one_same x y h = cc
+
+-- equal lists of changes, where all are there
+somes_same : (xs ys : List Change) → map (λ c. Some c) xs ≡ map (λ c. Some c) ys → xs ≡ ys
+somes_same [] [] h = refl
+somes_same [] (y ∷ ys) h = cc
+somes_same (x ∷ xs) [] h = cc
+somes_same (x ∷ xs) (y ∷ ys) h =
+    ap₂ (λ (c : Change) (cs : List Change). c ∷ cs) (one_same x y (head_same _ _ _ _ h))
+    (somes_same xs ys (tail_same _ _ _ _ h))
+
 -- changes that a book has under some numbers are those of each book that extends it
-pub changes_at-later : (b c : Book) (numbers : List ℕ) (changes : List Change) → Extends c b
+changes_at-later : (b c : Book) (numbers : List ℕ) (changes : List Change) → Extends c b
     → changes_at b numbers ≡ map (λ x. Some x) changes
     → changes_at c numbers ≡ map (λ x. Some x) changes
 changes_at-later b c [] [] e h = refl
@@ -63,11 +99,11 @@ added_at old new a c d =
     ) in
     subst (λ (xs : List Change). slice_get xs (a.change - 1) ≡ Some c) (sym whole)
     (subst (λ (n : ℕ). slice_get (before ++ c ∷ []) n ≡ Some c) (omega (arith, long))
-    (slice_get-end before c))
+    (slice_get-after before [] c))
 
--- an author by its number and the numbers of its changes
-abbrev author_of : ℕ → List ℕ → Author
-author_of number changes = record { number = number; changes = changes }
+-- an author with other changes
+abbrev with_changes : Author → List ℕ → Author
+with_changes a changes = record a { changes = changes }
 
 -- with one change more, the seat has made that too
 pub made_more : (old mid new : SeatToken Identity) (changes : List Change) (a : Applied)
@@ -78,7 +114,7 @@ made_more old mid new changes a c m author added = record {
   author =
       author
       ∙ ap (λ (x : Author). with_change x a.change) m.author
-      ∙ ap (λ (ns : List ℕ). author_of old.author.number ns)
+      ∙ ap (λ (ns : List ℕ). with_changes old.author ns)
       (append_assoc old.author.changes m.numbers (a.change ∷ []));
   made =
       map-append (λ n. slice_get new.book.changes (n - 1)) m.numbers (a.change ∷ [])
@@ -88,16 +124,18 @@ made_more old mid new changes a c m author added = record {
       ∙ sym (map-append (λ x. Some x) changes (c ∷ []));
 }
 
--- A seat that had made nothing made these changes, and then met another, which knows this book: the
--- seat's own changes in it are these.
-pub made_whole : (old new met : SeatToken Identity) (changes : List Change) (book : Book)
+-- A seat that had made nothing made these changes, and then met another. Where its own are all of
+-- the last book, that book has just these changes.
+pub made_all : (old new met : SeatToken Identity) (changes : List Change) (book : Book) (n : ℕ)
     → old.author.changes ≡ [] → HasMade old new changes → met ≡ record new { book = met.book }
-    → Extends met.book new.book → book ≡ met.book
-    → changes_at book met.author.changes ≡ map (λ x. Some x) changes
-made_whole old new met changes book fresh m stays later same =
+    → Extends book new.book → met.author.changes ≡ numbers n → n ≡ length book.changes
+    → book.changes ≡ changes
+made_all old new met changes book n fresh m stays later all number =
     let own : met.author.changes ≡ m.numbers =
     ap (λ (s : SeatToken Identity). s.author.changes) stays
     ∙ ap (λ (a : Author). a.changes) m.author ∙ ap (λ (ns : List ℕ). ns ++ m.numbers) fresh in
-    subst (λ (b : Book). changes_at b met.author.changes ≡ map (λ x. Some x) changes) (sym same)
-    (subst (λ (ns : List ℕ). changes_at met.book ns ≡ map (λ x. Some x) changes) (sym own)
-    (changes_at-later new.book met.book m.numbers changes later m.made))
+    let each : changes_at book (numbers (length book.changes)) ≡ map (λ c. Some c) changes =
+    subst (λ (ns : List ℕ). changes_at book ns ≡ map (λ c. Some c) changes)
+    (sym own ∙ all ∙ ap numbers number)
+    (changes_at-later new.book book m.numbers changes later m.made) in
+    somes_same book.changes changes (sym (all_after [] book.changes) ∙ each)

@@ -8,7 +8,6 @@ use Rattle.lq_volume.specs.declared.change.Change.{Change}
 use Rattle.lq_volume.specs.Change.{refused}
 use Rattle.lq_volume.specs.Book.{Book, Extends, state_at}
 use Rattle.lq_volume.specs.Result.{result_of}
-use Rattle.lq_board.specs.declared.views.Author.{Author}
 use Rattle.lq_board.specs.Book.{IsFullBook}
 use Rattle.lq_board.specs.Token.{SeatToken}
 use Rattle.lq_update.specs.declared.mark.Mark.{Mark}
@@ -19,14 +18,14 @@ use Rattle.lq_server_slots.specs.Reading.{known, received, mark_read}
 use Rattle.lq_server_slots.specs.Opening.{IsOpeningRefused}
 use Rattle.lq_server.specs.Hold.{ReaderHold}
 use Rattle.lq_server.specs.Own.{IsOwn}
-use Rattle.lq_server.specs.Retired.{IsRetiredBy}
+use Rattle.lq_server.specs.Retired.{IsRetired}
 use Rattle.lq_model.specs.declared.model.Followed.{Followed}
 
 -- a reader of the same subscription, at the same server
 pub record GoesOn (old new : ReaderHold) : Type 0 where
   pub own : IsOwn new
   pub board : new.seat.board ≡ old.seat.board
-  pub name : new.seat.name ≡ old.seat.name
+  pub floor : new.reading.port.floor ≡ old.reading.port.floor
 
 -- it has also asked for its end, and has read its mark
 pub record GoesOut (old new : ReaderHold) : Type 0 where
@@ -43,11 +42,11 @@ changes_at book numbers = map (λ n. slice_get book.changes (n - 1)) numbers
 pub record HasMade (old new : SeatToken Identity) (changes : List Change) : Type 0 where
   pub numbers : List ℕ
   pub author : new.author
-      ≡ record { number = old.author.number; changes = old.author.changes ++ numbers }
+      ≡ record old.author { changes = old.author.changes ++ numbers }
   pub made : changes_at new.book numbers ≡ map (λ c. Some c) changes
 
--- The headline for the reader that is left, and the volume after the changes given, from a first
--- volume.
+-- The headline for the reader that is left, and the volume after just the changes given, from a
+-- first volume.
 pub record IsFollowed (start : State) (q : Query) (changes : List Change) (f : Followed)
     : Type 0 where
   -- its seat is its own, it reads this query, and it asked for its end
@@ -72,11 +71,11 @@ pub record IsFollowed (start : State) (q : Query) (changes : List Change) (f : F
   pub seq : mark.seq ≡ length (received f.reader.reading) + 1
   -- its entries are the query's result after the mark's change
   pub entries : f.reader.reading.result.entries ≡ result_of q (state_at book mark.change)
-  -- the volume is the state after the book and the changes added later, from the first volume on
-  pub author : Author
-  pub retired : IsRetiredBy author start book f.retired.volume f.retired.changes
-  -- one seat made the changes given, each once and in order, and no others
-  pub made : changes_at retired.retired.book author.changes ≡ map (λ c. Some c) changes
+  -- the volume is the state after a book that extends it, from the first volume on
+  pub retired : IsRetired start book f.retired.volume f.retired.changes
+  -- which has just the changes given, in their order, and the query was opened before them
+  pub made : retired.book.changes ≡ changes
+  pub first : f.reader.reading.port.floor.opened ≡ 0
 
 -- one of these changes is refused so, in some state
 pub record IsOneRefused (changes : List Change) (e : Refusal) : Type 0 where

@@ -1,8 +1,11 @@
 //! A server from its beginning to its end: one thread makes changes, another reads the updates.
-ghost use Rattle.std.specs.Prelude.{◌≡◌, IfOk, IfErr};
+ghost use Rattle.std.specs.Prelude.{◌≡◌, [], ◌∷◌, IfOk, IfErr, true};
 ghost use Rattle.lq_value.specs.Refusal.{FailsOnlyForMemory};
+ghost use Rattle.lq_board.specs.Author.{leader, with_roll};
+ghost use Rattle.lq_board.specs.Roll.{numbers};
+ghost use Rattle.lq_board.specs.Token.{counted_board};
 ghost use Rattle.lq_server.specs.Own.{IsOwn};
-ghost use Rattle.lq_server.specs.Retired.{IsRetiredBy};
+ghost use Rattle.lq_server.specs.Retired.{IsRetired};
 ghost use Rattle.lq_model.specs.Followed.{AreRefused, GoesOut, HasMade, IsFollowRefused, IsFollowed};
 
 use lq_board::Seat;
@@ -27,11 +30,11 @@ pub struct Followed {
 /// Makes changes at a new server in one thread, and reads a query's updates in another.
 ///
 /// The reader makes `reads` reads, hangs up, and reads on to its mark. Then there is one book of
-/// changes. The reader has received the query's whole update list over it up to the mark. Its
-/// entries are the query's result after the mark's change. The volume is the state after the book
-/// or after one that extends it, from the base's volume on, and that book has the changes given, in
-/// their order. Refused: `NoSeat`, `NoSlot`, `Exhausted`, `NoMemory`, or as one of the changes is
-/// refused.
+/// changes, which are just the changes given, in their order. The reader opened its query before
+/// the first of them. It has received the query's whole update list over the book up to the mark.
+/// Its entries are the query's result after the mark's change. The volume is the state after the
+/// book, from the base's volume on. Refused: `NoSeat`, `NoSlot`, `Exhausted`, `NoMemory`, or as one
+/// of the changes is refused.
 pub fn follow<N: Named + Send + Sync, R: Threads + Wait + Sync>(
     rt: &R,
     base: Base,
@@ -39,13 +42,16 @@ pub fn follow<N: Named + Send + Sync, R: Threads + Wait + Sync>(
     changes: &[Change],
     reads: u64,
 ) -> Result<Followed, Refusal>
-    requires { (base.board ≡ N.board) × (base.volume ≡ N.start) }
+    requires { (N.board ≡ counted_board base.board) × (base.volume ≡ N.start) }
     ensures followed { IfOk result (IsFollowed N.start predicate.now changes.now) }
     ensures refused { IfErr result (IsFollowRefused changes.now) }
 {
-    let server: Server<N> = Server::new(base);
+    let (server, mut head): (Server<N>, Seat<Identity>) = Server::counted(base);
+    let reader = server.open(rt, &mut head, predicate, 16, 1024, false)?;
+    // For the proof: no change was made yet, since no seat is enlisted.
+    server.latest(&mut head);
     let mut seat = server.seat(rt)?;
-    let reader = server.open(rt, &mut seat, predicate, 16, 1024, false)?;
+    server.enlist(&mut head, &mut seat);
     let reads = Reads { reader, reads };
     let (reader, seat) = join_over(rt, &server, reads, Applies { seat, changes });
     let mut reader = reader?;
@@ -55,26 +61,34 @@ pub fn follow<N: Named + Send + Sync, R: Threads + Wait + Sync>(
     states_stay();
     let synced = server.sync(rt, &mut reader);
     reader.headline();
-    server.meet(rt, reader.seat(), &mut seat);
-    Ok(leave(rt, server, reader, seat, synced))
+    server.meet(rt, &mut seat, &mut head);
+    server.meet(rt, reader.seat(), &mut head);
+    Ok(leave(rt, server, reader, head, seat, synced))
 }
 
-// Ends the server by a seat that has met the reader's, and answers what is left.
+// Ends the server by its leading seat, which has met the reader's and has enlisted this one alone,
+// and answers what is left.
 fn leave<N: Named, R: Wait>(
     rt: &R,
     server: Server<N>,
     reader: Reader,
-    seat: Seat<Identity>,
+    mut head: Seat<Identity>,
+    mut seat: Seat<Identity>,
     synced: Synced,
 ) -> Followed
-    requires board { seat.board ≡ N.board }
-    requires met { seat.book ≡ reader.seat.book }
+    requires boards { (head.board ≡ N.board) × (seat.board ≡ N.board) }
+    requires slot { head.slot ≡ 0 }
+    requires leads { head.author ≡ with_roll leader (seat.author.number ∷ []) [] }
+    requires signs { seat.author.signs ≡ true }
+    requires met { head.book ≡ reader.seat.book }
     ensures left { result
         ≡ record { reader = reader; synced = synced; retired = result.retired } }
-    ensures retired { IsRetiredBy seat.author N.start reader.seat.book
+    ensures retired { IsRetired N.start reader.seat.book
         result.retired.volume result.retired.changes }
+    ensures all { seat.author.changes ≡ numbers result.retired.changes }
 {
-    let retired = server.retire(rt, seat);
+    server.dismiss(&mut head, &mut seat);
+    let retired = server.retire(rt, head);
     Followed {
         reader,
         synced,
@@ -92,7 +106,8 @@ struct Applies<'a> {
 impl<'a> Work for Applies<'a> {
     type Given = Result<Seat<Identity>, Refusal>;
 
-    ghost can = { λ applies board. (applies.seat.board ≡ board) × (applies.seat.slot ≡ 0) };
+    ghost can = { λ applies board. (applies.seat.board ≡ board) × (applies.seat.slot ≡ 0)
+        × (applies.seat.author.signs ≡ true) };
 
     ghost gives = { λ applies board given.
         IfOk given (λ seat. (seat.board ≡ board) × (seat.slot ≡ 0)
@@ -135,7 +150,7 @@ fn apply_all<N: Named, R: Wait>(
     mut seat: Seat<Identity>,
     changes: &[Change],
 ) -> Result<Seat<Identity>, Refusal>
-    requires { (seat.board ≡ N.board) × (seat.slot ≡ 0) }
+    requires { (seat.board ≡ N.board) × (seat.slot ≡ 0) × (seat.author.signs ≡ true) }
     ensures ok { IfOk result (λ after. (after.board ≡ N.board) × (after.slot ≡ 0)
         × HasMade seat after changes.now) }
     ensures refused { IfErr result (AreRefused changes.now) }

@@ -1,5 +1,5 @@
 -- What an end knows after a step, so that the invariant of its type stays.
-use Rattle.std.proofs.Common.{◌≡◌, ◌+◌, Bool, true, false, List, [], ◌∷◌, ◌++◌, length, drop, sym, ap, ◌∙◌, subst, ⊎_elim, append_assoc, append-nil, arith, length-append}
+use Rattle.std.proofs.Common.{◌≡◌, ◌+◌, ℕ, Bool, true, false, List, [], ◌∷◌, ◌++◌, length, drop, sym, ap, ◌∙◌, subst, ⊎_elim, append_assoc, append-nil, arith, length-append}
 use Rattle.lq_port.specs.declared.rule.Known.{Known}
 use Rattle.lq_port.specs.Port.{known, put_of, Adds, IsLegal, Removes}
 use Rattle.lq_port.proofs.PortLemmas.{nil_is_legal, snoc_is_legal}
@@ -7,9 +7,9 @@ use Rattle.lq_port.proofs.PortLemmas.{nil_is_legal, snoc_is_legal}
 module _ {T F : Type 0} (follows : List T → F → T → Type 0) where
   -- an end of a new port
   pub new_end :
-      (v : Known T F) (f : F) (puts takes : Bool) → v ≡ known puts takes f [] []
+      (v : Known T F) (n : ℕ) (f : F) (puts takes : Bool) → v ≡ known n puts takes f [] []
       → (length v.taken ≡ 0) × (length (put_of v) ≡ 0) × IsLegal follows v.floor (put_of v)
-  new_end v f puts takes e = (
+  new_end v n f puts takes e = (
     ap (λ (u : Known T F). length u.taken) e,
     ap (λ (u : Known T F). length (put_of u)) e,
     subst (λ (u : Known T F). IsLegal follows u.floor (put_of u)) (sym e)
@@ -38,6 +38,10 @@ module _ {T F : Type 0} (follows : List T → F → T → Type 0) where
         length-append v.ahead (x ∷ []),
         length-append v.taken v.ahead,
       )
+
+  -- the room is what it was
+  pub room_stays : (v w : Known T F) (x : T) (n : ℕ) → Adds v x w → v.room ≡ n → w.room ≡ n
+  room_stays v w x n e room = ap (λ (u : Known T F). u.room) e ∙ room
 
   -- the end for puts stays one
   pub putter_stays :

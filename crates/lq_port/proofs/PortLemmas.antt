@@ -25,21 +25,23 @@ module _ {T F : Type 0} (follows : List T → F → T → Type 0) where
       (split_at_back xs x before y after e)
 
   -- The rule holds of a new channel, and its one pass.
-  pub begins : (f : F) → Kept follows [] (known true true f [] [] ∷ [])
+  pub begins : (f : F) → Kept follows [] (known 0 true true f [] [] ∷ [])
   begins f =
-      let k : Known T F = known true true f [] [] in
+      let k : Known T F = known 0 true true f [] [] in
       let none : IsPrefix {A = T} [] [] = ([], refl) in
       record {
         input = 0;
         output = 0;
+        room = 0;
         floor = f;
         put = [];
         taken = [];
         in_order = refl;
+        within = omega arith;
         legal = nil_is_legal f;
         fits =
-            AllAt-set (Fits follows 0 0 f [] []) (k ∷ []) 0 k (
-              (λ _. (refl, refl, refl, none)),
+            AllAt-set (Fits follows 0 0 0 f [] []) (k ∷ []) 0 k (
+              (λ _. (refl, refl, refl, none, refl)),
               (λ _. (refl, refl, refl, none)),
               (λ _ _. (refl, none, refl)),
             )
@@ -49,10 +51,11 @@ module _ {T F : Type 0} (follows : List T → F → T → Type 0) where
 
   -- A put keeps the rule.
   pub adds :
-      (n pass : ℕ) (v : Known T F) (x : T) → v.puts ≡ true → follows (put_of v) v.floor x
+      (n pass : ℕ) (v : Known T F) (x : T) → v.puts ≡ true → v.room ≡ n
+      → follows (put_of v) v.floor x
       → Pushes (Kept follows) n pass v x (Adds v x)
-  adds n pass v x may ok items views _ h at =
-      let w : Known T F = known true false v.floor v.taken (v.ahead ++ x ∷ []) in
+  adds n pass v x may all_room ok items views room h at =
+      let w : Known T F = known v.room true false v.floor v.taken (v.ahead ++ x ∷ []) in
       let mine = h.fits pass v at in
       let m = mine.0 may in
       let put : List T = h.put ++ x ∷ [] in
@@ -60,9 +63,9 @@ module _ {T F : Type 0} (follows : List T → F → T → Type 0) where
       subst (λ (z : List T × F). follows z.0 z.1 x) (λ i. (m.2 i, m.1 i)) ok in
       let all : put_of w ≡ put =
       sym (append_assoc v.taken v.ahead (x ∷ [])) ∙ ap (λ l. l ++ x ∷ []) m.2 in
-      let fits : AllAt (Fits follows h.input h.output h.floor put h.taken) (set views pass w) =
-      AllAt-set (Fits follows h.input h.output h.floor put h.taken) views pass w (
-        (λ _. (m.0, m.1, all, m.3)),
+      let fits : AllAt (Fits follows h.input h.output h.room h.floor put h.taken) (set views pass w) =
+      AllAt-set (Fits follows h.input h.output h.room h.floor put h.taken) views pass w (
+        (λ _. (m.0, m.1, all, m.3, m.4)),
         (λ p. absurd (true≢false (sym p))),
         (λ _ p. absurd (true≢false (sym p))),
       )
@@ -77,10 +80,12 @@ module _ {T F : Type 0} (follows : List T → F → T → Type 0) where
         record {
           input = h.input;
           output = h.output;
+          room = h.room;
           floor = h.floor;
           put = put;
           taken = h.taken;
           in_order = ap (λ l. l ++ x ∷ []) h.in_order ∙ append_assoc h.taken items (x ∷ []);
+          within = omega (arith, length-append items (x ∷ []), m.4);
           legal = snoc_is_legal h.floor h.put x h.legal ok';
           fits = fits;
         },
@@ -92,7 +97,7 @@ module _ {T F : Type 0} (follows : List T → F → T → Type 0) where
       (pass : ℕ) (v : Known T F) → v.takes ≡ true
       → Pops (Kept follows) pass v (Removes follows v)
   removes pass v may x items views h at =
-      let w : Known T F = known false true v.floor (v.taken ++ x ∷ []) (drop 1 v.ahead) in
+      let w : Known T F = known v.room false true v.floor (v.taken ++ x ∷ []) (drop 1 v.ahead) in
       let mine = h.fits pass v at in
       let t = mine.1 may in
       let taken : List T = h.taken ++ x ∷ [] in
@@ -107,8 +112,8 @@ module _ {T F : Type 0} (follows : List T → F → T → Type 0) where
       let begin : put_of w ++ f.1.0 ≡ h.put =
       append_assoc (v.taken ++ x ∷ []) (drop 1 v.ahead) f.1.0
       ∙ (λ i. same i ++ f.1.1 i) ∙ sym step in
-      let fits : AllAt (Fits follows h.input h.output h.floor h.put taken) (set views pass w) =
-      AllAt-set (Fits follows h.input h.output h.floor h.put taken) views pass w (
+      let fits : AllAt (Fits follows h.input h.output h.room h.floor h.put taken) (set views pass w) =
+      AllAt-set (Fits follows h.input h.output h.room h.floor h.put taken) views pass w (
         (λ p. absurd (true≢false (sym p))),
         (λ _. (t.0, t.1, same, (f.1.0, begin))),
         (λ p _. absurd (true≢false (sym p))),
@@ -116,7 +121,7 @@ module _ {T F : Type 0} (follows : List T → F → T → Type 0) where
       (λ j u other e.
       let o = h.fits j u e in (
         (λ p.
-            let m = o.0 p in (m.0, m.1, m.2, IsPrefix-snoc u.taken h.taken x m.3)),
+            let m = o.0 p in (m.0, m.1, m.2, IsPrefix-snoc u.taken h.taken x m.3, m.4)),
         (λ p. absurd (other ((o.1 p).0 ∙ sym t.0))),
         (λ _ p. absurd (other ((o.1 p).0 ∙ sym t.0))),
       )) in (
@@ -124,10 +129,12 @@ module _ {T F : Type 0} (follows : List T → F → T → Type 0) where
         record {
           input = h.input;
           output = h.output;
+          room = h.room;
           floor = h.floor;
           put = h.put;
           taken = taken;
           in_order = step;
+          within = let less = h.within in omega arith;
           legal = h.legal;
           fits = fits;
         },
@@ -170,12 +177,13 @@ module _ {T F : Type 0} (follows : List T → F → T → Type 0) where
 
   -- A pass is cut into the two ends, with a floor under which the list stays legal.
   cuts :
-      (pass : ℕ) (v : Known T F) (f : F) → v.puts ≡ true → v.takes ≡ true
+      (pass : ℕ) (v : Known T F) (n : ℕ) (f : F) → v.puts ≡ true → v.takes ≡ true
+      → ((k : ℕ) → k ≤ v.room → k ≤ length (put_of v) → k ≤ n)
       → (IsLegal follows v.floor (put_of v) → IsLegal follows f (put_of v))
-      → Forks (Kept follows) pass v (putter f v) (taker f v)
-  cuts pass v f a b again items views h at =
-      let l : Known T F = putter f v in
-      let r : Known T F = taker f v in
+      → Forks (Kept follows) pass v (putter n f v) (taker n f v)
+  cuts pass v n f a b room again items views h at =
+      let l : Known T F = putter n f v in
+      let r : Known T F = taker n f v in
       let mine = h.fits pass v at in
       let m = mine.0 a in
       let t = mine.1 b in
@@ -187,17 +195,18 @@ module _ {T F : Type 0} (follows : List T → F → T → Type 0) where
       let Old : ℕ → Known T F → Type 0 =
       λ j u.
       (u.puts ≡ true
-      → (j ≡ h.input) × (u.floor ≡ f) × (put_of u ≡ h.put) × IsPrefix u.taken h.taken)
+      → (j ≡ h.input) × (u.floor ≡ f) × (put_of u ≡ h.put) × IsPrefix u.taken h.taken
+      × (u.room ≡ n))
       × (u.takes ≢ true) in
       let old : AllAt Old vs =
       AllAt-set Old views pass l
-      ((λ _. (m.0, refl, m.2, m.3)), (λ p. true≢false (sym p)))
+      ((λ _. (m.0, refl, m.2, m.3, refl)), (λ p. true≢false (sym p)))
       (λ j u other e.
       let o = h.fits j u e in (
         (λ p. absurd (other ((o.0 p).0 ∙ sym m.0))),
         (λ p. other ((o.1 p).0 ∙ sym t.0)),
       )) in
-      let fits : Fits follows h.input (length vs) f h.put h.taken (length vs) r = (
+      let fits : Fits follows h.input (length vs) n f h.put h.taken (length vs) r = (
         (λ p. absurd (true≢false (sym p))),
         (λ _. (refl, refl, t.2, t.3)),
         (λ p _. absurd (true≢false (sym p))),
@@ -205,10 +214,18 @@ module _ {T F : Type 0} (follows : List T → F → T → Type 0) where
       record {
         input = h.input;
         output = length vs;
+        room = n;
         floor = f;
         put = h.put;
         taken = h.taken;
         in_order = h.in_order;
+        within =
+            room (length items) (let less = h.within in omega (arith, m.4))
+            (omega (
+              arith,
+              ap length (m.2 ∙ h.in_order),
+              length-append h.taken items,
+            ));
         legal = legal;
         fits = λ j u e.
             ⊎_elim (λ x.
@@ -219,7 +236,7 @@ module _ {T F : Type 0} (follows : List T → F → T → Type 0) where
             place_at_back vs r u j
             (λ x. (old j u x).1 (ap (λ (y : Known T F). y.takes) (sym is))) e in
             subst (λ (z : ℕ × Known T F).
-            Fits follows h.input (length vs) f h.put h.taken z.0 z.1)
+            Fits follows h.input (length vs) n f h.put h.taken z.0 z.1)
             (λ i. (sym here i, is i)) fits)
             (at_snoc vs r u j e);
       }
@@ -227,15 +244,16 @@ module _ {T F : Type 0} (follows : List T → F → T → Type 0) where
   -- The joined pass is cut anew.
   pub parts :
       (pass : ℕ) (v : Known T F) → v.puts ≡ true → v.takes ≡ true
-      → Forks (Kept follows) pass v (putter v.floor v) (taker v.floor v)
-  parts pass v a b = cuts pass v v.floor a b (λ h. h)
+      → Forks (Kept follows) pass v (putter v.room v.floor v) (taker v.room v.floor v)
+  parts pass v a b = cuts pass v v.room v.floor a b (λ k less long. less) (λ h. h)
 
-  -- The first pass is cut, and the floor is set.
+  -- The first pass is cut, and the room and the floor are set.
   pub opens :
-      (pass : ℕ) (v : Known T F) (f : F) → v.puts ≡ true → v.takes ≡ true → put_of v ≡ []
-      → Forks (Kept follows) pass v (putter f v) (taker f v)
-  opens pass v f a b none =
-      cuts pass v f a b (λ _. subst (IsLegal follows f) (sym none) (nil_is_legal f))
+      (pass : ℕ) (v : Known T F) (n : ℕ) (f : F) → v.puts ≡ true → v.takes ≡ true
+      → put_of v ≡ []
+      → Forks (Kept follows) pass v (putter n f v) (taker n f v)
+  opens pass v n f a b none =
+      cuts pass v n f a b (λ k less long. omega (arith, ap length none)) (λ _. subst (IsLegal follows f) (sym none) (nil_is_legal f))
 
   -- All that the end for takes knows leaves it.
   pub leaves :
@@ -250,14 +268,14 @@ module _ {T F : Type 0} (follows : List T → F → T → Type 0) where
       λ j u.
       (u.puts ≡ true
       → (j ≡ h.input) × (u.floor ≡ h.floor) × (put_of u ≡ h.put)
-      × IsPrefix u.taken h.taken)
+      × IsPrefix u.taken h.taken × (u.room ≡ h.room))
       × (u.takes ≢ true) in
       let old : AllAt Old vs =
       AllAt-set Old views pass l
       ((λ p. absurd (true≢false (sym p))), (λ p. true≢false (sym p)))
       (λ j u other e.
       let o = h.fits j u e in (o.0, (λ p. other ((o.1 p).0 ∙ sym t.0)))) in
-      let fits : Fits follows h.input (length vs) h.floor h.put h.taken (length vs) v = (
+      let fits : Fits follows h.input (length vs) h.room h.floor h.put h.taken (length vs) v = (
         (λ p. absurd (true≢false (sym p ∙ alone))),
         (λ _. (refl, t.1, t.2, t.3)),
         (λ p _. absurd (true≢false (sym p ∙ alone))),
@@ -265,10 +283,12 @@ module _ {T F : Type 0} (follows : List T → F → T → Type 0) where
       record {
         input = h.input;
         output = length vs;
+        room = h.room;
         floor = h.floor;
         put = h.put;
         taken = h.taken;
         in_order = h.in_order;
+        within = h.within;
         legal = h.legal;
         fits = λ j u e.
             ⊎_elim (λ x.
@@ -279,7 +299,7 @@ module _ {T F : Type 0} (follows : List T → F → T → Type 0) where
             place_at_back vs v u j
             (λ x. (old j u x).1 (ap (λ (y : Known T F). y.takes) (sym is) ∙ b)) e in
             subst (λ (z : ℕ × Known T F).
-            Fits follows h.input (length vs) h.floor h.put h.taken z.0 z.1)
+            Fits follows h.input (length vs) h.room h.floor h.put h.taken z.0 z.1)
             (λ i. (sym here i, is i)) fits)
             (at_snoc vs v u j e);
       }
@@ -288,7 +308,7 @@ module _ {T F : Type 0} (follows : List T → F → T → Type 0) where
   pub merges :
       (pass : ℕ) (v : Known T F) (other : ℕ) (w : Known T F) (f : F)
       → v.puts ≡ true → w.takes ≡ true
-      → Merges (Kept follows) pass v other w (together v w) (known false false f [] [])
+      → Merges (Kept follows) pass v other w (together v w) (known 0 false false f [] [])
   merges pass v other w f a b items views h at two at' =
       let both : Known T F = together v w in
       let mine = h.fits pass v at in
@@ -303,13 +323,13 @@ module _ {T F : Type 0} (follows : List T → F → T → Type 0) where
       let rest : drop (length w.taken) (put_of v) ≡ items =
       ap (drop (length w.taken)) all ∙ drop-length_append w.taken items in
       let put : put_of both ≡ h.put = ap (λ l. w.taken ++ l) rest ∙ sym all ∙ m.2 in
-      let fits : Fits follows h.input pass h.floor h.put h.taken pass both = (
-        (λ _. (m.0, m.1, put, IsPrefix-equal w.taken h.taken t.2)),
+      let fits : Fits follows h.input pass h.room h.floor h.put h.taken pass both = (
+        (λ _. (m.0, m.1, put, IsPrefix-equal w.taken h.taken t.2, m.4)),
         (λ _. (refl, m.1, t.2, IsPrefix-equal (put_of both) h.put put)),
         (λ _ _. (m.2, t.3, t.1)),
       ) in
       let Now : ℕ → Known T F → Type 0 =
-      λ j y. j ≢ other → Fits follows h.input pass h.floor h.put h.taken j y in
+      λ j y. j ≢ other → Fits follows h.input pass h.room h.floor h.put h.taken j y in
       let now : AllAt Now vs =
       AllAt-set Now views pass both (λ _. fits)
       (λ j y _ e apart.
@@ -318,17 +338,19 @@ module _ {T F : Type 0} (follows : List T → F → T → Type 0) where
         (λ p. absurd (apart ((o.1 p).0 ∙ sym t.0))),
         (λ _ p. absurd (apart ((o.1 p).0 ∙ sym t.0))),
       )) in
-      let s : Known T F = known false false f [] [] in
+      let s : Known T F = known 0 false false f [] [] in
       record {
         input = h.input;
         output = pass;
+        room = h.room;
         floor = h.floor;
         put = h.put;
         taken = h.taken;
         in_order = h.in_order;
+        within = h.within;
         legal = h.legal;
         fits =
-            AllAt-set (Fits follows h.input pass h.floor h.put h.taken) vs other s (
+            AllAt-set (Fits follows h.input pass h.room h.floor h.put h.taken) vs other s (
               (λ p. absurd (true≢false (sym p))),
               (λ p. absurd (true≢false (sym p))),
               (λ p _. absurd (true≢false (sym p))),
@@ -350,4 +372,5 @@ module _ {T F : Type 0} (follows : List T → F → T → Type 0) where
         m.2 ∙ sym j.0,
         (j.1.0, j.1.1 ∙ sym m.2),
         j.2 ∙ sym m.1,
+        let less = h.within in omega (arith, m.4),
       )

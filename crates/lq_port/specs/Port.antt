@@ -1,5 +1,5 @@
 -- The rule of a port: the items taken, then those waiting, are those put; and each item follows.
-use Rattle.std.specs.Prelude.{◌≡◌, ◌⊎◌, ℕ, Bool, true, false, List, [], ◌∷◌, ◌++◌, ◌||◌, ◌==◌, length, drop, nat_lt, Option, Some, None, if◌then◌else◌}
+use Rattle.std.specs.Prelude.{◌≡◌, ◌≤◌, ◌⊎◌, ℕ, Bool, true, false, List, [], ◌∷◌, ◌++◌, ◌||◌, ◌==◌, length, drop, nat_lt, Option, Some, None, if◌then◌else◌}
 use mathlib.Core.List.{IsPrefix}
 use mathlib.Core.Option.{some}
 use lib.ListN.{get_elem?}
@@ -14,11 +14,12 @@ port_refusal places = if (places == 0) || nat_lt MAX_PLACES places then Some Bad
 
 module _ {T F : Type 0} where
   -- what an end knows while it isn't joined with the other
-  abbrev pub known : Bool → Bool → F → List T → List T → Known T F
-  known puts takes floor taken ahead =
+  abbrev pub known : ℕ → Bool → Bool → F → List T → List T → Known T F
+  known room puts takes floor taken ahead =
       record {
         puts = puts;
         takes = takes;
+        room = room;
         floor = floor;
         taken = taken;
         ahead = ahead;
@@ -28,16 +29,16 @@ module _ {T F : Type 0} where
       }
 
   -- the end for puts after a split
-  abbrev pub putter : F → Known T F → Known T F
-  putter floor v = known true false floor v.taken v.ahead
+  abbrev pub putter : ℕ → F → Known T F → Known T F
+  putter room floor v = known room true false floor v.taken v.ahead
 
   -- the end for takes after a split
-  abbrev pub taker : F → Known T F → Known T F
-  taker floor v = known false true floor v.taken v.ahead
+  abbrev pub taker : ℕ → F → Known T F → Known T F
+  taker room floor v = known room false true floor v.taken v.ahead
 
   -- an end that may do nothing
   abbrev pub idle : Known T F → Known T F
-  idle v = known false false v.floor v.taken v.ahead
+  idle v = known v.room false false v.floor v.taken v.ahead
 
   -- all puts that the end knows
   abbrev pub put_of : Known T F → List T
@@ -49,6 +50,7 @@ module _ {T F : Type 0} where
       record {
         puts = true;
         takes = true;
+        room = v.room;
         floor = v.floor;
         taken = w.taken;
         ahead = drop (length w.taken) (put_of v);
@@ -59,12 +61,13 @@ module _ {T F : Type 0} where
 
   -- x was put at the back
   abbrev pub Adds : Known T F → T → Known T F → Type 0
-  Adds v x w = w ≡ known true false v.floor v.taken (v.ahead ++ x ∷ [])
+  Adds v x w = w ≡ known v.room true false v.floor v.taken (v.ahead ++ x ∷ [])
 
-  -- what both ends know together is what the port holds
+  -- what both ends know together is what the port holds, which is no more than its room
   abbrev pub Totals : Known T F → List T → Type 0
   Totals v items =
       (v.ahead ≡ items) × (put_of v ≡ v.whole) × IsPrefix v.seen (put_of v) × (v.told ≡ v.floor)
+      × (length items ≤ v.room)
 
   -- The two ends knew v and w, and know v' and w' after they were joined: v has all puts, and w has
   -- all takes.
@@ -78,6 +81,8 @@ module _ {T F : Type 0} where
     pub put_in : put_of v' ≡ put_of v
     pub ahead : v'.ahead ≡ w'.ahead
     pub later : IsPrefix w.ahead w'.ahead
+    pub room : v'.room ≡ v.room
+    pub within : length w'.ahead ≤ v.room
 
 module _ {T F : Type 0} (follows : List T → F → T → Type 0) where
   -- each item follows the items before it and the floor
@@ -89,17 +94,18 @@ module _ {T F : Type 0} (follows : List T → F → T → Type 0) where
   -- x is added to what was taken. It was the first item known to wait, if any was.
   abbrev pub Removes : Known T F → T → Known T F → Type 0
   Removes v x w =
-      (w ≡ known false true v.floor (v.taken ++ x ∷ []) (drop 1 v.ahead))
+      (w ≡ known v.room false true v.floor (v.taken ++ x ∷ []) (drop 1 v.ahead))
       × ((v.ahead ≡ []) ⊎ (v.ahead ≡ x ∷ drop 1 v.ahead))
       × follows v.taken v.floor x
 
-  -- Only the pass `input` may put, and it knows all puts. Only the pass `output` may take, and it
+  -- Only the pass `input` may put, and it knows all puts and the room. Only the pass `output` may take, and it
   -- knows all takes. What each knows of the other is a prefix. A pass that may do both keeps what
   -- the two knew.
-  abbrev pub Fits : ℕ → ℕ → F → List T → List T → ℕ → Known T F → Type 0
-  Fits input output floor put taken pass v =
+  abbrev pub Fits : ℕ → ℕ → ℕ → F → List T → List T → ℕ → Known T F → Type 0
+  Fits input output room floor put taken pass v =
       (v.puts ≡ true
-      → (pass ≡ input) × (v.floor ≡ floor) × (put_of v ≡ put) × IsPrefix v.taken taken)
+      → (pass ≡ input) × (v.floor ≡ floor) × (put_of v ≡ put) × IsPrefix v.taken taken
+      × (v.room ≡ room))
       × (v.takes ≡ true
       → (pass ≡ output) × (v.floor ≡ floor) × (v.taken ≡ taken) × IsPrefix (put_of v) put)
       × (v.puts ≡ true → v.takes ≡ true
@@ -109,11 +115,13 @@ module _ {T F : Type 0} (follows : List T → F → T → Type 0) where
   pub record Kept (items : List T) (views : List (Known T F)) : Type 0 where
     pub input : ℕ
     pub output : ℕ
+    pub room : ℕ
     pub floor : F
     pub put : List T
     pub taken : List T
     pub in_order : put ≡ taken ++ items
+    pub within : length items ≤ room
     pub legal : IsLegal floor put
     pub fits :
         (pass : ℕ) (v : Known T F) → get_elem? views pass ≡ some v
-        → Fits input output floor put taken pass v
+        → Fits input output room floor put taken pass v

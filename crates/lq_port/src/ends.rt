@@ -1,5 +1,5 @@
 //! The two ends of a port.
-ghost use Rattle.std.specs.Prelude.{◌≡◌, ◌++◌, ◌≤◌, [], length, IfOk, IfErr, IfSome, IfNone, OnOk, OnErr};
+ghost use Rattle.std.specs.Prelude.{◌≡◌, ◌++◌, ◌≤◌, ℕ, [], length, IfOk, IfErr, IfSome, IfNone, OnOk, OnErr};
 ghost use mathlib.Core.List.{IsPrefix};
 ghost use Rattle.lq_value.specs.Refusal.{IsRefusedBy};
 ghost use Rattle.lq_port.specs.End.{all_put, IsSamePort, IsFull, Gains, Loses};
@@ -54,7 +54,8 @@ impl<T: Follows + Drop> Model for PortIn<T> {
     ghost invariant = { λ end. IsSeatAt (sends_on end.sender) end.pass
         × IsPutter (known_of end.pass)
         × (end.count ≡ length (put_of (known_of end.pass)))
-        × IsLegal T.follows (known_of end.pass).floor (put_of (known_of end.pass)) };
+        × IsLegal T.follows (known_of end.pass).floor (put_of (known_of end.pass))
+        × ((known_of end.pass).room ≡ (sends_on end.sender).cap) };
 }
 
 impl<T: Follows + Drop> Model for PortOut<T> {
@@ -101,8 +102,8 @@ fn make_at<T: Follows + Drop>(
     places: u64,
     floor: &T::Floor,
 ) -> Result<(PortIn<T>, PortOut<T>), Refusal>
-    ghost named: { T.Floor }
-    requires named { named ≡ floor.now }
+    ghost named: { ℕ × T.Floor }
+    requires named { (named.0 ≡ places) × (named.1 ≡ floor.now) }
     ensures places { IfOk result (λ ends. ends.0.places ≡ places) }
     ensures floor { IfOk result (λ ends. ends.0.floor ≡ floor.now) }
     ensures empty { IfOk result (λ ends. (ends.0.taken ≡ []) × (ends.0.ahead ≡ [])) }
@@ -215,16 +216,26 @@ impl<T: Follows + Drop> PortOut<T> {
         Some(item)
     }
 
+    /// How many items were taken through this end.
+    ///
+    /// It neither waits nor takes memory.
+    pub fn taken(&self) -> u64
+        ensures { result ≡ length self.now.taken }
+    {
+        self.count
+    }
+
     /// How many items wait, found with both ends at hand.
     ///
-    /// Afterwards each end knows all that was put and all that was taken. Both ends know the same
-    /// waiting items, which begin with those that this end knew before. It doesn't wait and takes
-    /// no memory.
+    /// They are no more than the port's places. Afterwards each end knows all that was put and all
+    /// that was taken. Both ends know the same waiting items, which begin with those that this end
+    /// knew before. It doesn't wait and takes no memory.
     pub fn beside(&mut self, input: &mut PortIn<T>) -> u64
         requires port { self.old.port ≡ input.old.port }
         ensures value { result ≡ length self.new.ahead }
         ensures put { all_put self.new ≡ all_put input.old }
         ensures taken { self.new.taken ≡ self.old.taken }
+        ensures within { result ≤ input.new.places }
         ensures known { IsPrefix self.old.ahead self.new.ahead }
         ensures input { (input.new.taken ≡ self.new.taken) × (input.new.ahead ≡ self.new.ahead) }
 

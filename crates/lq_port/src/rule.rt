@@ -6,12 +6,13 @@ use std::marker::Brand;
 
 /// What one end knows: `taken` was taken, `ahead` was put and isn't in `taken`.
 ///
-/// `puts` and `takes` say what the end may do. The other fields count only while the two ends are
-/// joined: `whole` is all puts that the one end knew, `seen` all puts that the other knew, and
+/// `puts` and `takes` say what the end may do, and `room` how many items the port holds at most, as
+/// the end for puts knows. The other fields count only while the two ends are joined: `whole` is all puts that the one end knew, `seen` all puts that the other knew, and
 /// `told` the other's floor. The form is our own.
 pub struct Known<T, F> {
     pub puts: bool,
     pub takes: bool,
+    pub room: u64,
     pub floor: F,
     pub taken: LinkedList<T>,
     pub ahead: LinkedList<T>,
@@ -29,7 +30,7 @@ impl<T: Follows> Protocol<T, Known<T, T::Floor>> for InOrder {
 
     ghost holds = { Kept T.follows };
 
-    ghost first = { known true true T.no_floor [] [] };
+    ghost first = { known 0 true true T.no_floor [] [] };
 }
 
 // Splits a pass that has both roles into an end for puts and one for takes.
@@ -38,18 +39,18 @@ pub(crate) struct Apart;
 impl<T, F> Split<Known<T, F>> for Apart {
     ghost use Rattle.lq_port.specs.Port.{putter, taker};
 
-    ghost left = { λ v. putter v.floor v };
+    ghost left = { λ v. putter v.room v.floor v };
 
-    ghost right = { λ v. taker v.floor v };
+    ghost right = { λ v. taker v.room v.floor v };
 }
 
-// The same for a new port, for which the call picks the floor.
+// The same for a new port, for which the call picks the room and the floor.
 impl<T, F> Split<Known<T, F>> for Brand {
     ghost use Rattle.lq_port.specs.Port.{putter, taker};
 
-    ghost left = { λ v. putter v.floor v };
+    ghost left = { λ v. putter v.room v.floor v };
 
-    ghost right = { λ v. taker v.floor v };
+    ghost right = { λ v. taker v.room v.floor v };
 }
 
 // The end for takes gives away all that it knows, and may do nothing more.
@@ -72,7 +73,7 @@ impl<T: Follows> Join<Known<T, T::Floor>> for Beside {
 
     ghost both = { together };
 
-    ghost spent = { known false false T.no_floor [] [] };
+    ghost spent = { known 0 false false T.no_floor [] [] };
 }
 
 // What a put teaches its end, and what it teaches where the port is full.

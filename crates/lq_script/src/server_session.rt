@@ -32,15 +32,15 @@ impl<
     R: Threads + Wait + Sync,
     G: Gate + Sync + 's,
 > ServerSession<'s, E, N, R, G> {
-    /// A session at a server, with no readers. Refused: `NoSeat`, `NoMemory`.
+    /// A session at a server by this seat, with no readers. Refused: `NoMemory`.
     pub fn new(
         rt: &'s R,
         alloc: Global,
         scope: &'s Scope<'s, E>,
         server: &'s Server<N>,
+        seat: OwnSeat<N>,
         gate: &'s G,
     ) -> Result<ServerSession<'s, E, N, R, G>, Refusal> {
-        let seat = OwnSeat::new(rt, server)?;
         let readers = Readers::new(alloc)?;
         let workers = Workers::new(rt, alloc, scope)?;
         Ok(ServerSession {

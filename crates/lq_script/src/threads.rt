@@ -1,12 +1,14 @@
 //! A whole script by threads, over the root alone.
 ghost use Rattle.std.specs.Prelude.{◌≡◌, false};
+ghost use Rattle.lq_board.specs.Token.{counted_board};
 
 use crate::gate::Gate;
 use crate::lines::Lines;
 use crate::runner::Runner;
 use crate::server_session::ServerSession;
+use crate::tokens::OwnSeat;
 use lq_script_lines::{RunFault, Sink, Source, out_of_memory};
-use lq_server::{Base, Named, Server};
+use lq_server::{Base, Named, Seat, Server};
 use lq_volume::{MAX_CHANGES, Volume};
 use std::alloc::Global;
 use std::marker::Brand;
@@ -32,7 +34,7 @@ pub fn run_threads<T: Threads + Wait + Sync, R: Source, W: Sink, G: Gate + Sync>
     serve::<Brand, T, R, W, G>(rt, alloc, base, reader, writer, gate)
 }
 
-// Carries out a script at a server over a base.
+// Carries out a script at a counted server over a base. No seat but the script's makes changes.
 fn serve<N: Named + Send + Sync, T: Threads + Wait + Sync, R: Source, W: Sink, G: Gate + Sync>(
     rt: &T,
     alloc: Global,
@@ -41,10 +43,13 @@ fn serve<N: Named + Send + Sync, T: Threads + Wait + Sync, R: Source, W: Sink, G
     writer: &mut W,
     gate: &G,
 ) -> Result<(), RunFault>
-    requires base { (base.board ≡ N.board) × (base.volume ≡ N.start) }
+    requires base { (N.board ≡ counted_board base.board) × (base.volume ≡ N.start) }
 {
-    let server: Server<N> = Server::new(base);
-    serve_over(rt, alloc, &server, reader, writer, gate)
+    let (server, mut head): (Server<N>, Seat) = Server::counted(base);
+    let Ok(seat) = OwnSeat::new(rt, &server, &mut head) else {
+        return Err(out_of_memory(writer));
+    };
+    serve_over(rt, alloc, &server, seat, reader, writer, gate)
 }
 
 // Carries out a script at a server. Each of its threads has ended when it answers.
@@ -52,12 +57,13 @@ fn serve_over<N: Named + Send + Sync, T: Threads + Wait + Sync, R: Source, W: Si
     rt: &T,
     alloc: Global,
     server: &Server<N>,
+    seat: OwnSeat<N>,
     reader: &mut R,
     writer: &mut W,
     gate: &G,
 ) -> Result<(), RunFault> {
     thread::scope(thread::scope_env(), rt, |scope| {
-        serve_in(rt, alloc, scope, server, reader, writer, gate)
+        serve_in(rt, alloc, scope, server, seat, reader, writer, gate)
     })
 }
 
@@ -75,11 +81,12 @@ fn serve_in<
     alloc: Global,
     scope: &'s Scope<'s, E>,
     server: &'s Server<N>,
+    seat: OwnSeat<N>,
     reader: &mut R,
     writer: &mut W,
     gate: &'s G,
 ) -> Result<(), RunFault> {
-    let Ok(session) = ServerSession::new(rt, alloc, scope, server, gate) else {
+    let Ok(session) = ServerSession::new(rt, alloc, scope, server, seat, gate) else {
         return Err(out_of_memory(writer));
     };
     let mut runner = Runner::new(alloc, session, writer);

@@ -1,4 +1,6 @@
 //! The tokens of one server, a seat of no slot and readers, and what is answered by them.
+ghost use Rattle.std.specs.Prelude.{◌≡◌, true};
+
 use lq_board::Seat;
 use lq_predicate::Predicate;
 use lq_script_desk::{Reply, Response};
@@ -9,7 +11,7 @@ use std::alloc::Global;
 use std::marker::{Model, PhantomData};
 use std::sync::Wait;
 
-/// A seat of no slot, of N's board.
+/// A seat of no slot, of N's board, which may make changes.
 pub struct OwnSeat<N: Named> {
     seat: Seat<Identity>,
     of: PhantomData<N>,
@@ -23,22 +25,30 @@ impl<N: Named> Drop for OwnSeat<N> {
 }
 
 impl<N: Named> Model for OwnSeat<N> {
-    ghost use Rattle.std.specs.Prelude.{◌≡◌};
-    ghost use Rattle.atomic_table.specs.Seated.{TableId, table_id_coded};
+    ghost use Rattle.std.specs.Prelude.{◌≡◌, true};
+    ghost use Rattle.lq_board.specs.Token.{BoardName};
 
-    ghost Value = { TableId };
-
-    ghost coded = { table_id_coded };
+    ghost Value = { BoardName };
 
     ghost view = { λ c. c.seat.board };
 
-    ghost invariant = { λ c. (c.seat.board ≡ N.board) × (c.seat.slot ≡ 0) };
+    ghost invariant = { λ c. (c.seat.board ≡ N.board) × (c.seat.slot ≡ 0)
+        × (c.seat.author.signs ≡ true) };
 }
 
 impl<N: Named> OwnSeat<N> {
-    /// A seat of this server. Refused as `Server::seat` is.
-    pub fn new<R: Wait>(rt: &R, server: &Server<N>) -> Result<OwnSeat<N>, Refusal> {
-        let seat = server.seat(rt)?;
+    /// A seat of this counted server, which its leading seat enlists. Refused as `Server::seat` is.
+    pub fn new<R: Wait>(
+        rt: &R,
+        server: &Server<N>,
+        head: &mut Seat<Identity>,
+    ) -> Result<OwnSeat<N>, Refusal>
+        requires board { head.old.board ≡ N.board }
+        requires slot { head.old.slot ≡ 0 }
+        requires leads { head.old.author.leads ≡ true }
+    {
+        let mut seat = server.seat(rt)?;
+        server.enlist(head, &mut seat);
         Ok(OwnSeat {
             seat,
             of: PhantomData,
@@ -131,12 +141,10 @@ impl<N: Named> Drop for OwnReader<N> {
 
 impl<N: Named> Model for OwnReader<N> {
     ghost use Rattle.std.specs.Prelude.{◌≡◌};
-    ghost use Rattle.atomic_table.specs.Seated.{TableId, table_id_coded};
+    ghost use Rattle.lq_board.specs.Token.{BoardName};
     ghost use Rattle.lq_server.specs.Own.{IsOwn};
 
-    ghost Value = { TableId };
-
-    ghost coded = { table_id_coded };
+    ghost Value = { BoardName };
 
     ghost view = { λ h. h.reader.seat.board };
 

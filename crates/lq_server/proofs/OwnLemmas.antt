@@ -1,39 +1,40 @@
 -- Readers whose seat is their own, and what a read leaves of them.
-use Rattle.std.proofs.Common.{◌≡◌, ℕ, ◌+◌, ◌<◌, ◌≤◌, Bool, true, false, arith, ◌++◌, Option, Some, None, inr, refl, sym, ap, ◌∙◌, subst, append_assoc}
+use Rattle.std.proofs.Common.{◌≡◌, ℕ, ◌+◌, ◌<◌, ◌≤◌, Bool, true, false, arith, ◌++◌, length, map, Option, Some, None, inr, refl, sym, ap, ◌∙◌, subst, append_assoc}
 use Rattle.std.specs.Prelude.{IsSome, IsSomeAnd, IfOk, OnErr, Result, Ok, Err, ok_or, option_to_list}
 use mathlib.Core.List.{List, IsPrefix}
-use Rattle.atomic_table.specs.Seated.{TableId}
 use Rattle.lq_value.specs.declared.refusal.Refusal.{Refusal}
 use Rattle.lq_value.specs.declared.refusal.Refusal.TheVariants.{NotOpen}
 use Rattle.lq_value.specs.Refusal.{IsRefusedBy, first_refusal}
 use Rattle.lq_predicate.specs.Query.{Query}
 use Rattle.lq_volume.specs.State.{State}
-use Rattle.lq_volume.specs.Book.{Book}
+use Rattle.lq_volume.specs.Book.{Book, Extends}
 use Rattle.lq_server_slots.specs.Events.{opening_refusals}
 use Rattle.lq_board.specs.declared.views.Author.{Author}
-use Rattle.lq_board.specs.Token.{SeatToken}
+use Rattle.lq_board.specs.Token.{BoardName, SeatToken}
 use Rattle.lq_update.specs.declared.message.Message.{Message}
+use Rattle.lq_update.specs.declared.parcel.Parcel.TheVariants.{Update as update}
 use Rattle.lq_port.specs.End.{End, IsSamePort}
 use Rattle.lq_desk_sub.specs.declared.read.Read.{Read}
+use Rattle.lq_desk_sub.specs.declared.read.Read.TheVariants.{Ended}
 use Rattle.lq_server_slots.specs.declared.delivery.Delivery.{Delivery}
 use Rattle.lq_server_slots.specs.declared.delivery.Opening.{Opening}
 use Rattle.lq_server_slots.specs.declared.identity.Identity.{Identity}
 use Rattle.lq_server_slots.specs.declared.identity.FirstClose.{FirstClose}
 use Rattle.lq_server_slots.specs.Identity.{port_id}
-use Rattle.lq_server_slots.specs.Rule.{query_of, whole}
-use Rattle.lq_server_slots.specs.Reading.{ReadingHold, Gives, Fails, IsTold, known, received, is_marked}
+use Rattle.lq_server_slots.specs.Rule.{query_of, whole, messages_in}
+use Rattle.lq_server_slots.specs.Reading.{ReadingHold, Gives, Fails, IsTold, known, received, is_marked, mark_read, what_of}
 use Rattle.lq_server_slots.specs.declared.subscription.Subscription.{Subscription}
 use Rattle.lq_server_slots.specs.declared.open.Opened.{Opened}
 use Rattle.lq_server_slots.specs.declared.slots.ServerSlots.{ServerSlots}
 use Rattle.lq_server_slots.specs.Slots.{SameButKnown, SlotsStand, is_full, slot_in}
-use Rattle.lq_server_slots.specs.Closing.{IsClosed}
 use Rattle.lq_server_slots.specs.Opening.{IdentityFits, IsNamed, IsOpened, IsOpeningTabled, asks_after, name_or}
 use Rattle.lq_server.specs.Hold.{ReaderHold}
 use Rattle.lq_server.specs.Own.{IsOwn, StaysOwn}
-use Rattle.lq_server.specs.Closed.{IsCloseAnswer}
+use Rattle.lq_server.specs.Closed.{IsCloseAnswer, IsClosing}
 use Rattle.lq_server.specs.Opened.{IsAnsweredOver, IsNewReader}
 use Rattle.lq_server.specs.Syncing.{IsSynced, IsRead, IsUnread}
 use Rattle.lq_server.specs.declared.server.Synced.{Synced}
+use Rattle.lq_server.proofs.SyncLemmas.{synced}
 
 -- what a contract sees of a reader's parts
 abbrev pub hold : ReadingHold → SeatToken Identity → ℕ → Bool → ReaderHold
@@ -146,37 +147,116 @@ own_closed r seat book first_close same name own =
       name = subst (λ (o : Option Identity). IsSomeAnd o (IsNameOf r)) (sym name) named;
     })
 
+-- the seat's name fits the reader's end of the port
+pub own_fits : (r : ReaderHold) → IsOwn r
+    → IsSomeAnd r.seat.name (λ t. IdentityFits t r.reading.port)
+own_fits r own =
+    and_then r.seat.name (IsNameOf r) (λ t. IdentityFits t r.reading.port) (λ t h. h.0) own.name
+
+-- and still does once it tells of a close
+pub fits_closed : (o p : Option Identity) (first_close : FirstClose) (e : End Delivery Opening)
+    → IsSomeAnd o (λ t. IdentityFits t e)
+    → p ≡ Some (record (name_or o) { first_close = first_close })
+    → IsSomeAnd p (λ t. IdentityFits t e)
+fits_closed o p first_close e fits is =
+    let n = and_name o (λ t. IdentityFits t e) fits in
+    let now : IdentityFits (record (name_or o) { first_close = first_close }) e = record {
+      query = n.query;
+      moved = n.moved;
+      opened = n.opened;
+      places = n.places;
+      port = n.port;
+    } in
+    subst (λ (z : Option Identity). IsSomeAnd z (λ t. IdentityFits t e)) (sym is) now
+
 -- what a close of the seat answers is what it answers the reader
-pub closed_answer : (r : ReaderHold) (seat : SeatToken Identity) (o : Option ℕ) → IsOwn r
-    → IsClosed seat.book r.seat seat o
-    → IsCloseAnswer r (record r { seat = seat }) (ok_or o NotOpen)
-closed_answer r seat (Some n) own closed = record {
-  own = own_closed r seat seat.book _ closed.seat closed.name own;
-  number = closed.number;
-  first = closed.closes;
-  refused = tt;
-  late = λ asked. absurd (let bad : Some n ≡ None = closed.late (own_late r own asked) in cc);
-  later = closed.later;
-  put = closed.put;
-  seat = closed.seat;
-  first_close = closed.name;
-  rest = refl;
-}
-closed_answer r seat None own closed = record {
-  own = own_closed r seat seat.book _ closed.seat closed.name own;
-  number = tt;
-  first = tt;
-  refused = refl;
-  late = λ asked. refl;
-  later = closed.later;
-  put = closed.put;
-  seat = closed.seat;
-  first_close = closed.name;
-  rest = refl;
-}
+module _ (r : ReaderHold) (seat : SeatToken Identity) (reading : ReadingHold) (o : Option ℕ)
+    (own : IsOwn r) (told : IsTold r.reading) (c : IsClosing r.seat seat r.reading reading o) where
+  -- the reader once it was closed
+  abbrev mid : ReaderHold
+  mid = record r { seat = c.mid }
+
+  -- and after the sync in the same hold
+  abbrev new : ReaderHold
+  new = record r { reading = reading; seat = seat }
+
+  -- what that sync shows
+  abbrev shows : Synced
+  shows = record {
+    change = c.progress.change;
+    waiting = length (option_to_list reading.hand ++ messages_in reading.port.ahead);
+    held = c.progress.held;
+    mark = c.progress.mark;
+  }
+
+  -- it is a sync of the reader
+  synced_closed : IsSynced mid new shows
+  synced_closed =
+      synced c.subscription mid new c.progress c.shown (refl, refl) told
+      (own_closed r c.mid c.mid.book _ c.closed.seat c.closed.name own) shows refl refl refl refl
+
+  -- the seat's book and its name alone are new
+  seat_closed : seat ≡ record r.seat { book = seat.book; name = seat.name }
+  seat_closed =
+      c.shown.seat ∙ (λ i. record (c.closed.seat i) { book = seat.book; name = seat.name })
+
+  -- and its book extends the one before
+  later_closed : Extends seat.book r.seat.book
+  later_closed = subst (λ (b : Book). Extends b r.seat.book) (sym c.same) c.closed.later
+
+-- by whether it was closed
+pub closed_answer : (r : ReaderHold) (seat : SeatToken Identity) (reading : ReadingHold)
+    (o : Option ℕ) → IsOwn r → IsTold r.reading → IsClosing r.seat seat r.reading reading o
+    → IsCloseAnswer r (record r { reading = reading; seat = seat }) (ok_or o NotOpen)
+closed_answer r seat reading (Some n) own told c =
+    let s = synced_closed r seat reading (Some n) own told c in record {
+      own = s.own;
+      number = c.closed.number ∙ ap (λ (b : Book). length b.changes) (sym c.same);
+      first = c.closed.closes;
+      refused = tt;
+      late = λ asked.
+          absurd (let bad : Some n ≡ None = c.closed.late (own_late r own asked) in cc);
+      later = later_closed r seat reading (Some n) own told c;
+      seat = seat_closed r seat reading (Some n) own told c;
+      slot = refl;
+      hang_up_asked = refl;
+      mid = record r { seat = c.mid };
+      rest = refl;
+      first_close = c.closed.name;
+      same = c.same;
+      x = shows r seat reading (Some n) own told c;
+      synced = s;
+    }
+closed_answer r seat reading None own told c =
+    let s = synced_closed r seat reading None own told c in record {
+      own = s.own;
+      number = tt;
+      first = tt;
+      refused = refl;
+      late = λ asked. refl;
+      later = later_closed r seat reading None own told c;
+      seat = seat_closed r seat reading None own told c;
+      slot = refl;
+      hang_up_asked = refl;
+      mid = record r { seat = c.mid };
+      rest = refl;
+      first_close = c.closed.name;
+      same = c.same;
+      x = shows r seat reading None own told c;
+      synced = s;
+    }
+
+-- after the mark a read gives `Ended`
+pub ended_gives : (r : ReadingHold) → IsTold r → IsSome (mark_read r) → Gives r r Ended
+ended_gives r told some = (
+  refl,
+  ap (λ (o : Option Message). map (λ m. update m) (option_to_list o) ++ map what_of r.port.ahead)
+      (told.no_hand some),
+  some,
+)
 
 -- a reader of a subscription that was just opened is new
-pub new_reader : (o : Opened) (board : TableId) (book : Book) (q : Query) (mv : Bool)
+pub new_reader : (o : Opened) (board : BoardName) (book : Book) (q : Query) (mv : Bool)
     (port backlog : ℕ) → IsOpened o board book q mv port backlog
     → IsNewReader (hold o.reading o.seat o.slot false) board book q mv port backlog
 new_reader o board book q mv port backlog s = record {

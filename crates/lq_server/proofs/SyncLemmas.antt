@@ -21,9 +21,9 @@ use Rattle.lq_server_slots.specs.LegalList.{known_by}
 use Rattle.lq_server_slots.specs.Marking.{hung_mark}
 use Rattle.lq_server_slots.specs.Identity.{identity_of, port_id}
 use Rattle.lq_server_slots.specs.Reading.{received, ready, mark_read, what_of, IsTold}
-use Rattle.lq_server_slots.specs.Standing.{given, upto, moved_mark, IsOut, FirstCloseFits, IsOverrun}
+use Rattle.lq_server_slots.specs.Standing.{given, upto, moved_mark, IsOut, FirstCloseFits, IsOverrun, IsStill, seen_of, told_by}
 use Rattle.lq_server.specs.Own.{IsOwn}
-use Rattle.lq_server_slots.specs.Opening.{IdentityFits, asks_after}
+use Rattle.lq_server_slots.specs.Opening.{IdentityFits, asks_after, name_or}
 use Rattle.lq_server_slots.specs.Progress.{ShowsProgress}
 use Rattle.lq_server_slots.specs.declared.sync.Progress.{Progress}
 use Rattle.lq_server.specs.Syncing.{bit, in_port, fin_list, IsSynced}
@@ -135,7 +135,7 @@ module _ (s : Subscription) (old new : ReaderHold) (l : Progress)
 
   -- the seat's name is that of the subscription
   name_is : old.seat.name ≡ Some (identity_of s)
-  name_is = sym (ap (λ (m : SeatToken Identity). m.name) lv.seat) ∙ lv.identity
+  name_is = lv.identity
 
   -- so what an own reader has of its name it has of the subscription
   mine : IdentityFits (identity_of s) d × (old.seat.asks ≡ asks_after s.asks old.hang_up_asked)
@@ -317,6 +317,7 @@ module _ (s : Subscription) (old new : ReaderHold) (l : Progress)
       let wait : length w ≡ x.waiting = sym waiting in
       let mk : x.mark ≡ s.sub.held.mark = mark ∙ lv.mark in
       let number : x.change ≡ length new.seat.book.changes = change ∙ lv.number in
+      let named : identity_of s ≡ name_or old.seat.name = sym (ap name_or name_is) in
       let query : s.sub.held.query ≡ query_of e.floor =
       mine.0.query ∙ ap query_of (sym lv.port.2) in
       let moved : s.sub.held.moved ≡ e.floor.moved =
@@ -339,7 +340,7 @@ module _ (s : Subscription) (old new : ReaderHold) (l : Progress)
               (λ o. IsSomeAnd o (λ t.
               IdentityFits t e × (new.seat.asks ≡ asks_after t.asks new.hang_up_asked)
               × (t.asks < 1000000000000)))
-              (sym lv.identity) (
+              (sym lv.name) (
                 record {
                   query = query;
                   moved = moved;
@@ -360,6 +361,14 @@ module _ (s : Subscription) (old new : ReaderHold) (l : Progress)
         known_stays = λ i. known_by (lv.port.2 i) (lv.taken i);
         received_stays = received_same;
         seat = lv.seat;
+        name = lv.name
+            ∙ (λ i. Some (record (named i) {
+              told = told_by (sym change i) (length e.taken) (sym mk i);
+            }));
+        still =
+            subst (λ o. IsSomeAnd o (λ t. IsStill t.told x.mark x.change)) (sym name_is)
+            (subst (λ (z : Option Mark × ℕ). IsStill s.told.value z.0 z.1)
+            (λ i. (sym mk i, sym number i)) lv.stands.still);
         later = lv.later;
         knows =
             extends_trans (known_by d.floor d.taken) (known_by s.input.floor (all_put s.input))
@@ -393,6 +402,17 @@ module _ (s : Subscription) (old new : ReaderHold) (l : Progress)
               new.seat.book))
               (sym mk) (mark_of s.sub.held.mark refl);
         };
+        ready_stays = (
+          map what_of lv.known.0,
+          append_assoc (map (λ m. Update m) (option_to_list old.reading.hand))
+              (map what_of d.ahead) (map what_of lv.known.0)
+              ∙ (λ i. map (λ m. Update m) (option_to_list (sym lv.hand i))
+              ++ (sym (map-append what_of d.ahead lv.known.0) ∙ ap (map what_of) lv.known.1) i),
+        );
+        within = omega (arith, waiting_is, lv.within, places_is, wait);
+        bounded =
+            subst (λ o. IsSomeAnd o (λ t. x.held ≤ t.backlog)) (sym name_is)
+            (subst (λ (n : ℕ). n ≤ s.sub.held.backlog) (sym h) lv.stands.bounded);
         full = λ some. full_at (omega (arith, h)) wait;
         ended = λ is.
             subst IsSome (sym mk) (lv.ended (asks_above s.asks old.hang_up_asked new.seat.asks
@@ -408,13 +428,14 @@ module _ (s : Subscription) (old new : ReaderHold) (l : Progress)
             subst
             (λ o. IsSomeAnd o (λ t. IfSome x.mark (λ k.
             k.cause ≡ Overrun
-            → IsOverrun t.query t.moved t.opened t.places t.backlog new.seat.book k.change)))
+            → IsOverrun t.query t.moved t.opened t.places t.backlog (seen_of t.told)
+            new.seat.book k.change)))
             (sym name_is)
             (subst
             (λ o. IfSome o (λ k.
             k.cause ≡ Overrun
             → IsOverrun s.sub.held.query s.sub.held.moved s.sub.held.opened s.places
-            s.sub.held.backlog new.seat.book k.change))
+            s.sub.held.backlog (seen_of s.told.value) new.seat.book k.change))
             (sym mk) lv.stands.overrun);
       }
     where

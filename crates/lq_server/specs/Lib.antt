@@ -1,4 +1,5 @@
 pub mod Base
+pub mod Counted
 pub mod Hold
 pub mod Own
 pub mod Opened
@@ -9,3 +10,4 @@ pub mod Lending
 pub mod Works
 pub mod Applied
 pub mod Headline
+pub mod Laws

@@ -1,10 +1,10 @@
 -- A reader that was just opened.
 use Rattle.std.specs.Prelude.{◌≡◌, ◌≤◌, ◌<◌, ℕ, Bool, false, IfOk, IsSome, Result}
-use Rattle.atomic_table.specs.Seated.{TableId}
 use Rattle.lq_value.specs.declared.refusal.Refusal.{Refusal}
 use Rattle.lq_predicate.specs.Query.{Query}
 use Rattle.lq_volume.specs.State.{State}
 use Rattle.lq_volume.specs.Book.{Book}
+use Rattle.lq_board.specs.Token.{BoardName}
 use Rattle.lq_server_slots.specs.declared.open.Opened.{Opened}
 use Rattle.lq_server_slots.specs.declared.slots.ServerSlots.{ServerSlots}
 use Rattle.lq_server_slots.specs.Opening.{IsOpened, IsOpeningTabled}
@@ -17,7 +17,7 @@ abbrev pub opened_of : ReaderHold → Opened
 opened_of r = record { reading = r.reading; seat = r.seat; slot = r.slot }
 
 -- its subscription was just opened over this book, and nobody asked for its end
-pub record IsNewReader (r : ReaderHold) (board : TableId) (book : Book) (q : Query) (mv : Bool)
+pub record IsNewReader (r : ReaderHold) (board : BoardName) (book : Book) (q : Query) (mv : Bool)
     (port backlog : ℕ) : Type 0 where
   pub own : IsOwn r
   pub hang_up_asked : r.hang_up_asked ≡ false

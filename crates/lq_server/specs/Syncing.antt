@@ -1,5 +1,5 @@
 -- What a sync answers.
-use Rattle.std.specs.Prelude.{◌⊎◌, ◌≡◌, ℕ, ◌<◌, ◌≤◌, Bool, true, false, List, [], ◌∷◌, ◌++◌, length, map, Option, Some, None, IsSome, IfSome, IsSomeAnd, Result, Ok, IfOk, OnErr}
+use Rattle.std.specs.Prelude.{◌⊎◌, ◌≡◌, ◌≢◌, ℕ, ◌+◌, ◌<◌, ◌≤◌, Bool, true, false, List, [], ◌∷◌, ◌++◌, length, map, Option, Some, None, IsSome, is_some, IfSome, IsSomeAnd, Result, Ok, IfOk, OnErr}
 use mathlib.Core.List.{IsPrefix}
 use Rattle.lq_value.specs.declared.refusal.Refusal.{Refusal}
 use Rattle.lq_value.specs.Refusal.{FailsOnlyForMemory}
@@ -15,9 +15,10 @@ use Rattle.lq_server_slots.specs.Updates.{updates}
 use Rattle.lq_server_slots.specs.Rule.{query_of, whole, IsMark}
 use Rattle.lq_server_slots.specs.Marking.{hung_mark}
 use Rattle.lq_desk_sub.specs.declared.read.Read.{Read}
-use Rattle.lq_desk_sub.specs.declared.read.Read.TheVariants.{Ended}
+use Rattle.lq_desk_sub.specs.declared.read.Read.TheVariants.{Empty, Ended}
 use Rattle.lq_server_slots.specs.Reading.{known, received, ready, mark_read, is_marked, Gives, Fails}
-use Rattle.lq_server_slots.specs.Standing.{upto, FirstCloseFits, IsOverrun}
+use Rattle.lq_server_slots.specs.Standing.{upto, FirstCloseFits, IsOverrun, IsStill, seen_of, told_by}
+use Rattle.lq_server_slots.specs.Opening.{name_or}
 use Rattle.lq_server.specs.Own.{IsOwn}
 use Rattle.lq_server.specs.Hold.{ReaderHold}
 use Rattle.lq_server.specs.declared.server.Synced.{Synced}
@@ -44,6 +45,11 @@ pub record IsListed (r : ReaderHold) (x : Synced) (w h : List Message) : Type 0 
   pub mark : IfSome x.mark
       (IsMark r.reading.port.floor (received r.reading ++ w ++ h) r.seat.book)
 
+-- one where it is true: for a mark, or for a message in hand
+abbrev pub bit : Bool → ℕ
+bit true = 1
+bit false = 0
+
 -- old and new are the reader before and after a sync that answers x
 pub record IsSynced (old new : ReaderHold) (x : Synced) : Type 0 where
   pub own : IsOwn new
@@ -55,7 +61,13 @@ pub record IsSynced (old new : ReaderHold) (x : Synced) : Type 0 where
   pub result : new.reading.result ≡ old.reading.result
   pub known_stays : known new.reading ≡ known old.reading
   pub received_stays : received new.reading ≡ received old.reading
-  pub seat : new.seat ≡ record old.seat { book = new.seat.book }
+  pub seat : new.seat ≡ record old.seat { book = new.seat.book; name = new.seat.name }
+  -- the seat's name says what is told, and what was told before is still so
+  pub name : new.seat.name
+      ≡ Some (record (name_or old.seat.name) {
+        told = told_by x.change (length new.reading.port.taken) x.mark;
+      })
+  pub still : IsSomeAnd old.seat.name (λ t. IsStill t.told x.mark x.change)
   pub later : Extends new.seat.book old.seat.book
   pub knows : Extends new.seat.book (known old.reading)
   pub lawful : IsFullBook new.seat.book
@@ -63,6 +75,11 @@ pub record IsSynced (old new : ReaderHold) (x : Synced) : Type 0 where
   pub w : List Message
   pub h : List Message
   pub lists : IsListed new x w h
+  -- what was known to wait waits still
+  pub ready_stays : IsPrefix (ready old.reading) (ready new.reading)
+  -- what waits is within the port but for a message in hand, and what is held within the backlog
+  pub within : x.waiting ≤ new.reading.port.places + bit (is_some new.reading.hand)
+  pub bounded : IsSomeAnd old.seat.name (λ t. x.held ≤ t.backlog)
   pub full : 0 < x.held → new.reading.port.places ≤ x.waiting
   pub ended : old.hang_up_asked ≡ true → IsSome x.mark
   pub hung : hung_mark x.mark → old.hang_up_asked ≡ true
@@ -70,12 +87,8 @@ pub record IsSynced (old new : ReaderHold) (x : Synced) : Type 0 where
   pub first_close : IsSomeAnd old.seat.name (λ t. FirstCloseFits t.first_close x.mark)
   pub overrun : IsSomeAnd old.seat.name (λ t. IfSome x.mark (λ k.
       k.cause ≡ Overrun
-      → IsOverrun t.query t.moved t.opened t.places t.backlog new.seat.book k.change))
-
--- one where it is true: for a mark, or for a message in hand
-abbrev pub bit : Bool → ℕ
-bit true = 1
-bit false = 0
+      → IsOverrun t.query t.moved t.opened t.places t.backlog (seen_of t.told) new.seat.book
+      k.change))
 
 -- the mark is in the port where it was put and wasn't read
 abbrev pub in_port : Bool → Bool → Bool
@@ -86,7 +99,7 @@ in_port false b = false
 -- a read after the pump of its slot, or after the mark
 abbrev pub IsRead : ReaderHold → ReaderHold → Read → Type 0
 IsRead old new r =
-    ((new ≡ old) × IsSome (mark_read old.reading) × (r ≡ Ended))
+    ((new ≡ old) × (r ≡ Ended) × Gives old.reading new.reading Ended)
     ⊎ ((is_marked old.reading ≡ false)
     × ((mid : ReaderHold) × (x : Synced) × IsSynced old mid x × Gives mid.reading new.reading r
     × (new ≡ record mid { reading = new.reading })))
@@ -101,7 +114,7 @@ IsUnread old new =
 -- Old and new are the reader before and after a read that fills its port first and may wait.
 pub record IsWaitingRead (old new : ReaderHold) (result : Result Read Refusal) : Type 0 where
   pub own : IsOwn new
-  pub seat : new.seat ≡ record old.seat { book = new.seat.book }
+  pub seat : new.seat ≡ record old.seat { book = new.seat.book; name = new.seat.name }
   pub later : Extends new.seat.book old.seat.book
   pub rest : new ≡ record old { reading = new.reading; seat = new.seat }
   pub port : IsSamePort old.reading.port new.reading.port
@@ -112,3 +125,4 @@ pub record IsWaitingRead (old new : ReaderHold) (result : Result Read Refusal) :
   pub gives : IfOk result (IsRead old new)
   pub fails : OnErr result (IsUnread old new)
   pub over : IsSome (mark_read old.reading) → result ≡ Ok Ended
+  pub waits : result ≢ Ok Empty

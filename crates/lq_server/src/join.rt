@@ -15,13 +15,13 @@ use std::thread::{Threads, join, map_vec};
 /// `can` is what the work requires of the server's board, and `gives` what then holds for its
 /// answer.
 pub trait Work {
-    ghost use Rattle.atomic_table.specs.Seated.{TableId};
+    ghost use Rattle.lq_board.specs.Token.{BoardName};
 
     type Given;
 
-    ghost can: { Self → TableId → Type 0 };
+    ghost can: { Self → BoardName → Type 0 };
 
-    ghost gives: { Self → TableId → Self.Given → Type 0 };
+    ghost gives: { Self → BoardName → Self.Given → Type 0 };
 
     /// Does the work at this server.
     fn work<N: Named, R: Wait>(self, rt: &R, server: &Server<N>) -> Self::Given

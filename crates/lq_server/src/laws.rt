@@ -1,6 +1,8 @@
 //! The laws of readers and of threads, as contracts of functions that do nothing.
 ghost use Rattle.std.specs.Thread.{IsSend, IsSync};
+ghost use Rattle.lq_server.specs.Counted.{CallsMakeTheBook};
 ghost use Rattle.lq_server.specs.Headline.{AnswersAreTold};
+ghost use Rattle.lq_server.specs.Laws.{FirstClosesAreRefusedLate, WaitingReadsAnswer};
 ghost use Rattle.lq_server.specs.contracts.server.Server as servers;
 
 use crate::named::Named;
@@ -23,6 +25,26 @@ pub fn answers_are_told()
     folds_give_results();
     whole_folds_give_results();
 }
+
+/// An answer of `read_waiting` is one of a read, as `answers_are_told` takes them.
+///
+/// So the answers of `read` and `read_waiting`, mixed in any order, are a reader's answers.
+pub fn waiting_reads_answer()
+    ensures { WaitingReadsAnswer }
+{}
+
+/// A first close is refused only where its reader asked for the end, or where its subscription has
+/// overrun.
+pub fn first_closes_are_refused_late()
+    ensures { FirstClosesAreRefusedLate }
+{}
+
+/// Each change of a book is that of one call, where the calls were answered its numbers, each once.
+///
+/// The leading seat of a counted server knows that they were, from `dismiss` and `retire`.
+pub fn calls_make_the_book()
+    ensures { CallsMakeTheBook }
+{}
 
 /// Threads may share a server, whatever its name.
 ///

@@ -96,14 +96,16 @@ impl<N: Named> Locked<N> {
         }
     }
 
-    /// A seat that knows the book and made no change. Refused: `NoSeat`, as tests show just where
-    /// 16 seats are out. It takes no memory.
+    /// A seat that knows the book and made no change. It may make changes where each seat may.
+    /// Refused: `NoSeat`, as tests show just where 16 seats are out. It takes no memory.
     pub fn seat(&mut self, board: &Board<Identity>) -> Result<Seat<Identity>, Refusal>
         requires { board.now ≡ N.board }
         ensures same { SameButKnown self.old self.new }
         ensures seat { IfOk result (λ seat.
             (seat.board ≡ N.board) × (seat.slot ≡ 0) × (seat.book ≡ self.old.keeper.book)) }
         ensures author { IfOk result (λ seat. seat.author.changes ≡ []) }
+        ensures signs { IfOk result (λ seat. seat.author.signs ≡ N.board.free) }
+        ensures start { IfOk result (λ seat. seat.book.start ≡ N.start) }
         ensures refused { IfErr result (λ e. e ≡ NoSeat) }
     {
         if self.seats >= MAX_SEATS {

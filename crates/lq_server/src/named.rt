@@ -1,6 +1,8 @@
 //! The names of boards, and what a server begins with.
-ghost use Rattle.std.specs.Prelude.{◌≡◌, IfOk};
+ghost use Rattle.std.specs.Prelude.{◌≡◌, IfOk, true};
 ghost use Rattle.lq_value.specs.Refusal.{FailsOnlyForMemory};
+ghost use Rattle.lq_board.specs.Token.{counted_board};
+ghost use Rattle.lq_server.specs.Counted.{leading_seat};
 
 use crate::locked::Locked;
 use lq_board::Board;
@@ -14,11 +16,14 @@ use std::marker::{Brand, Model};
 pub type Seat = lq_board::Seat<Identity>;
 
 /// Names one board, and the volume that a server over it began with, for contracts alone.
+///
+/// The board's name also says whether each seat of the server may make changes (`board.free`), or
+/// just those that its leading seat enlists.
 pub trait Named {
-    ghost use Rattle.atomic_table.specs.Seated.{TableId};
+    ghost use Rattle.lq_board.specs.Token.{BoardName};
     ghost use Rattle.lq_volume.specs.State.{State};
 
-    ghost board: { TableId };
+    ghost board: { BoardName };
 
     ghost start: { State };
 }
@@ -56,8 +61,9 @@ impl Drop for Base {
 }
 
 impl Model for Base {
-    ghost use Rattle.std.specs.Prelude.{◌≡◌};
+    ghost use Rattle.std.specs.Prelude.{◌≡◌, true};
     ghost use Rattle.lq_volume.specs.Book.{state_of};
+    ghost use Rattle.lq_board.specs.Author.{no_register};
     ghost use Rattle.lq_board.specs.Book.{IsFullBook};
     ghost use Rattle.lq_server_slots.specs.Slots.{SlotsStand};
     ghost use Rattle.lq_server.specs.Base.{BaseHold};
@@ -67,6 +73,8 @@ impl Model for Base {
     ghost view = { λ b. record { board = b.board; volume = b.volume } };
 
     ghost invariant = { λ b. (b.slots.keeper.board ≡ b.board)
+        × (b.board.free ≡ true)
+        × (b.slots.keeper.register ≡ no_register)
         × (b.volume ≡ state_of b.slots.keeper.book)
         × IsFullBook b.slots.keeper.book
         × (b.slots.keeper.book.start ≡ b.volume)
@@ -96,7 +104,8 @@ impl Base {
     /// The board and the state under the lock. N names the board and the volume.
     pub fn into_parts<N: Named>(self) -> (Board<Identity>, Locked<N>)
         requires { (self.board ≡ N.board) × (self.volume ≡ N.start) }
-        ensures { result.0 ≡ N.board }
+        ensures board { result.0 ≡ N.board }
+        ensures free { N.board.free ≡ true }
     {
         let Base {
             board,
@@ -105,5 +114,21 @@ impl Base {
             alloc,
         } = self;
         (board, Locked::new(alloc, slots, volume))
+    }
+
+    /// As `into_parts`, with the leading seat of the board, which is then counted.
+    pub fn into_counted<N: Named>(self) -> (Board<Identity>, Locked<N>, Seat)
+        requires { (N.board ≡ counted_board self.board) × (self.volume ≡ N.start) }
+        ensures board { result.0 ≡ N.board }
+        ensures head { result.2 ≡ leading_seat N.board N.start }
+    {
+        let Base {
+            mut board,
+            mut slots,
+            volume,
+            alloc,
+        } = self;
+        let head = board.lead(&mut slots.keeper);
+        (board, Locked::new(alloc, slots, volume), head)
     }
 }

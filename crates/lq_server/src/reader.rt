@@ -132,7 +132,7 @@ impl Reader {
 
     /// As `read`, but it fills its port first and waits for the next update or the mark.
     ///
-    /// `Ended` at once after the mark. `Empty` only where the server is gone, which no clause says.
+    /// `Ended` at once after the mark. It never answers `Empty`.
     pub fn read_waiting<N: Named, R: Wait>(
         &mut self,
         rt: &R,

@@ -1,10 +1,13 @@
 //! The server.
-ghost use Rattle.std.specs.Prelude.{◌≡◌, ◌≢◌, [], length, IfOk, IfErr};
+ghost use Rattle.std.specs.Prelude.{◌≡◌, ◌≢◌, [], ◌∷◌, length, IfOk, IfErr, true, false};
 ghost use Rattle.lq_value.specs.declared.refusal.Refusal.TheVariants.{NoSeat};
 ghost use Rattle.lq_volume.specs.Book.{Extends};
-ghost use Rattle.lq_board.specs.Author.{AreDisjoint};
+ghost use Rattle.lq_board.specs.Author.{AreDisjoint, IsWhole, with_roll, with_signs};
+ghost use Rattle.lq_board.specs.Roll.{IsMerged, without};
+ghost use Rattle.lq_board.specs.Token.{counted_board};
+ghost use Rattle.lq_server.specs.Counted.{leading_seat};
 ghost use Rattle.lq_server.specs.Own.{StaysOwn};
-ghost use Rattle.lq_server.specs.Retired.{IsRetiredBy};
+ghost use Rattle.lq_server.specs.Retired.{IsRetired};
 
 use crate::locked::Locked;
 use crate::named::{Base, Named, Seat};
@@ -59,11 +62,9 @@ impl<N: Named> Drop for Server<N> {
 
 impl<N: Named> Model for Server<N> {
     ghost use Rattle.std.specs.Prelude.{◌≡◌};
-    ghost use Rattle.atomic_table.specs.Seated.{TableId, table_id_coded};
+    ghost use Rattle.lq_board.specs.Token.{BoardName};
 
-    ghost Value = { TableId };
-
-    ghost coded = { table_id_coded };
+    ghost Value = { BoardName };
 
     ghost view = { λ s. s.board };
 
@@ -71,12 +72,14 @@ impl<N: Named> Model for Server<N> {
 }
 
 impl<N: Named> Server<N> {
-    /// A server over a base. N names the board of the base and its volume.
+    /// A server over a base, each seat of which may make changes. N names the board of the base and
+    /// its volume.
     ///
     /// N is for contracts alone and is picked once the base is there, by what the base shows. So
     /// each base has an N that names it, and this asks nothing of the base.
     pub fn new(base: Base) -> Server<N>
         requires { (base.board ≡ N.board) × (base.volume ≡ N.start) }
+        ensures free { N.board.free ≡ true }
     {
         let (board, locked) = base.into_parts();
         Server {
@@ -85,13 +88,77 @@ impl<N: Named> Server<N> {
         }
     }
 
-    /// A seat of no slot, which made no change.
+    /// A counted server over a base, and its leading seat. Another seat may make changes just while
+    /// the leading seat has it enlisted.
     ///
-    /// It knows the changes so far, which no clause of this call says. Refused: `NoSeat`, as tests
-    /// show just where 16 seats are out. A dropped seat still counts as out. It takes no memory.
+    /// So all changes are answers to the calls by enlisted seats, once the leading seat has
+    /// dismissed them and is the one that `retire` takes: it has then gathered the numbers of all
+    /// changes, each once. N names the counted board of the base, and its volume.
+    pub fn counted(base: Base) -> (Server<N>, Seat)
+        requires { (N.board ≡ counted_board base.board) × (base.volume ≡ N.start) }
+        ensures head { result.1 ≡ leading_seat N.board N.start }
+    {
+        let (board, locked, head) = base.into_counted();
+        let server = Server {
+            state: Mutex::new(locked),
+            board,
+        };
+        (server, head)
+    }
+
+    /// The leading seat enlists another, which made no change and may make changes from then on.
+    ///
+    /// The other may be a reader's seat. It is for contracts alone: it takes no lock and no memory.
+    pub fn enlist(&self, head: &mut Seat, other: &mut Seat)
+        requires boards { (head.old.board ≡ N.board) × (other.old.board ≡ N.board) }
+        requires slot { head.old.slot ≡ 0 }
+        requires leads { head.old.author.leads ≡ true }
+        requires fresh { other.old.author.changes ≡ [] }
+        ensures head { head.new ≡ record head.old {
+          author = with_roll head.old.author
+              (other.old.author.number ∷ head.old.author.enlisted) head.old.author.gathered;
+        } }
+        ensures other { other.new ≡ record other.old {
+          author = with_signs other.old.author true;
+        } }
+        ensures own { StaysOwn other.old other.new }
+    {
+        self.board.enlist(head, other);
+    }
+
+    /// The leading seat gathers the changes of an enlisted seat, which may then make no more.
+    ///
+    /// The other may be a reader's seat. It is for contracts alone: it takes no lock and no memory.
+    pub fn dismiss(&self, head: &mut Seat, other: &mut Seat)
+        requires boards { (head.old.board ≡ N.board) × (other.old.board ≡ N.board) }
+        requires slot { head.old.slot ≡ 0 }
+        requires leads { head.old.author.leads ≡ true }
+        requires signs { other.old.author.signs ≡ true }
+        ensures merged { IsMerged head.old.author.gathered other.old.author.changes
+            head.new.author.gathered }
+        ensures head { head.new ≡ record head.old {
+          author = with_roll head.old.author
+              (without other.old.author.number head.old.author.enlisted)
+              head.new.author.gathered;
+        } }
+        ensures other { other.new ≡ record other.old {
+          author = with_signs other.old.author false;
+        } }
+        ensures own { StaysOwn other.old other.new }
+    {
+        self.board.dismiss(head, other);
+    }
+
+    /// A seat of no slot, which made no change. Its book begins with the volume of the base.
+    ///
+    /// It may make changes where each seat of the server may, else once it is enlisted. It knows
+    /// the changes so far, which no clause of this call says. Refused: `NoSeat`, as tests show just
+    /// where 16 seats are out. A dropped seat still counts as out. It takes no memory.
     pub fn seat<R: Wait>(&self, rt: &R) -> Result<Seat, Refusal>
         ensures seat { IfOk result (λ seat. (seat.board ≡ N.board) × (seat.slot ≡ 0)) }
         ensures author { IfOk result (λ seat. seat.author.changes ≡ []) }
+        ensures signs { IfOk result (λ seat. seat.author.signs ≡ N.board.free) }
+        ensures start { IfOk result (λ seat. seat.book.start ≡ N.start) }
         ensures refused { IfErr result (λ e. e ≡ NoSeat) }
     {
         self.state.lock(rt).seat(&self.board)
@@ -106,12 +173,15 @@ impl<N: Named> Server<N> {
 
     /// The number of changes so far. The seat then knows the book of these changes. It takes no
     /// lock.
+    ///
+    /// Where the seat leads and none is enlisted, it has gathered the numbers of all these changes.
     pub fn latest(&self, seat: &mut Seat) -> u64
         requires { seat.old.board ≡ N.board }
         ensures same { seat.new ≡ record seat.old { book = seat.new.book } }
         ensures own { StaysOwn seat.old seat.new }
         ensures later { Extends seat.new.book seat.old.book }
         ensures number { result ≡ length seat.new.book.changes }
+        ensures whole { IsWhole seat.new.author result }
     {
         self.board.latest(seat)
     }
@@ -133,12 +203,12 @@ impl<N: Named> Server<N> {
         locked.meet(&self.board, two)
     }
 
-    /// Compares two seats of no slot, for contracts alone: they share no change.
+    /// Compares two seats, for contracts alone: they share no change. The second may be a reader's.
     ///
     /// It leaves both as they were, and neither waits nor takes memory.
     pub fn compare(&self, one: &mut Seat, two: &mut Seat)
         requires boards { (one.old.board ≡ N.board) × (two.old.board ≡ N.board) }
-        requires slots { (one.old.slot ≡ 0) × (two.old.slot ≡ 0) }
+        requires slot { one.old.slot ≡ 0 }
         ensures numbers { one.new.author.number ≢ two.new.author.number }
         ensures changes { AreDisjoint one.new.author.changes two.new.author.changes }
         ensures one { one.new ≡ one.old }
@@ -149,12 +219,13 @@ impl<N: Named> Server<N> {
 
     /// The volume and the number of its changes, at the end of the server.
     ///
-    /// They are those of one book, which begins with the volume of the server's base. Each change
-    /// of that book was made by one of the seats that went out, and the seat knows exactly its own.
-    /// The messages that are still held aren't delivered. It takes no memory.
+    /// They are those of one book, which begins with the volume of the server's base. Where the
+    /// seat leads and none is enlisted, it has gathered the numbers of all changes, each once. The
+    /// messages that are still held aren't delivered. It takes no memory.
     pub fn retire<R: Wait>(self, rt: &R, seat: Seat) -> Retired
         requires board { seat.board ≡ N.board }
-        ensures { IsRetiredBy seat.author N.start seat.book result.volume result.changes }
+        ensures retired { IsRetired N.start seat.book result.volume result.changes }
+        ensures whole { IsWhole seat.author result.changes }
     {
         let _ = rt;
         let Server { state, board } = self;

@@ -104,16 +104,22 @@ impl<N: Named> Server<N> {
         self.sync(rt, reader);
     }
 
-    /// Closes the reader's subscription, fills its port, and answers the number of changes then.
+    /// Closes the reader's subscription, fills its port as in `sync`, and answers the number of
+    /// changes then.
     ///
-    /// Refused: `NotOpen` where its reader asked for the end, and, as tests show, where it had
-    /// ended before. What the reader has received and knows stays. It takes no memory.
+    /// Refused: `NotOpen` where it had ended before: its reader asked for the end, it was closed,
+    /// or it was overrun. What the reader has received and knows stays. It takes no memory.
     pub fn close<R: Wait>(&self, rt: &R, reader: &mut Reader) -> Result<u64, Refusal>
         requires board { reader.old.seat.board ≡ N.board }
         requires own { IsOwn reader.old }
         ensures { IsCloseAnswer reader.old reader.new result }
     {
-        let closed = self.state.lock(rt).close(rt, &self.board, &mut reader.seat);
+        // For the proof: the reading's invariant.
+        reader.reading.update_facts();
+        let closed = self
+            .state
+            .lock(rt)
+            .close(rt, &self.board, &mut reader.seat, &mut reader.reading);
         closed.ok_or(Refusal::NotOpen)
     }
 

@@ -1,5 +1,5 @@
 //! Calls of a server on its volume.
-ghost use Rattle.std.specs.Prelude.{◌≡◌, length, IfOk, IfErr, OnOk, OnErr, None, Some, unwrap_or};
+ghost use Rattle.std.specs.Prelude.{◌≡◌, length, true, IfOk, IfErr, OnOk, OnErr, None, Some, unwrap_or};
 ghost use Rattle.lq_value.specs.declared.refusal.Refusal.TheVariants.{NoMemory};
 ghost use Rattle.lq_value.specs.Refusal.{FailsOnlyForMemory, IsRefusedBy, first_refusal};
 ghost use Rattle.lq_volume.specs.Book.{Extends, state_of};
@@ -22,19 +22,21 @@ use std::sync::Wait;
 impl<N: Named> Server<N> {
     /// Makes a change, notifies the subscriptions that it concerns, and fills their ports.
     ///
-    /// The seat then knows a book that ends with this change, under the number that the call
-    /// answers, and has this number among those of its own changes. Refused as `Volume::apply` is
-    /// after the book that the seat then knows, or `NoMemory`; the volume is then as it was. A
-    /// subscription whose reader hung up before ends, even where the change is refused. No clause
-    /// of this call says what becomes of the subscriptions; clauses of `change_in` in
-    /// lq_server_slots do, for the requests that its keeper knows of.
+    /// The seat has to be one that may make changes: any of a server made by `new`, of a counted
+    /// one an enlisted seat. It then knows a book that ends with this change, under the number that
+    /// the call answers, and has this number among those of its own changes. Refused as
+    /// `Volume::apply` is after the book that the seat then knows, or `NoMemory`; the volume is
+    /// then as it was. A subscription whose reader hung up before ends, even where the change is
+    /// refused. No clause of this call says what becomes of the subscriptions; clauses of
+    /// `change_in` in lq_server_slots do, for the requests that its keeper knows of.
     pub fn apply<R: Wait>(
         &self,
         rt: &R,
         seat: &mut Seat,
         change: &Change,
     ) -> Result<Accepted, Refusal>
-        requires { seat.old.board ≡ N.board }
+        requires board { seat.old.board ≡ N.board }
+        requires signs { seat.old.author.signs ≡ true }
         ensures seat { seat.new ≡ record seat.old {
           book = seat.new.book;
           author = seat.new.author;

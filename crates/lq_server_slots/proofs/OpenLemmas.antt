@@ -22,12 +22,14 @@ use Rattle.lq_server_slots.specs.declared.delivery.Opening.{Opening}
 use Rattle.lq_server_slots.specs.declared.identity.Identity.{Identity}
 use Rattle.lq_server_slots.specs.declared.identity.FirstClose.{FirstClose}
 use Rattle.lq_server_slots.specs.declared.identity.FirstClose.TheVariants.{Never}
+use Rattle.lq_server_slots.specs.declared.identity.Told.{Told}
+use Rattle.lq_server_slots.specs.declared.identity.Told.TheVariants.{Live}
 use Rattle.lq_server_slots.specs.declared.subscription.Subscription.{Subscription}
 use Rattle.lq_server_slots.specs.Rule.{floor_of, query_of}
 use Rattle.lq_server_slots.specs.Marking.{hung_mark}
 use Rattle.lq_server_slots.specs.Identity.{identity_of}
 use Rattle.lq_server_slots.specs.Reading.{ReadingHold}
-use Rattle.lq_server_slots.specs.Standing.{Stands, StandsAt}
+use Rattle.lq_server_slots.specs.Standing.{IsSeen, Stands, StandsAt, seen_of}
 use Rattle.lq_server_slots.specs.Laws.{NewSubscriptionsStand}
 use Rattle.lq_server_slots.specs.declared.slots.ServerSlots.{ServerSlots}
 use Rattle.lq_server_slots.specs.declared.open.Opened.{Opened}
@@ -40,23 +42,25 @@ use Rattle.lq_server_slots.proofs.SyncLemmas.{only_trans}
 pub begun_new : NewSubscriptionsStand → (s : Subscription) (r : ReadingHold) (book : Book)
     (q : Query) (mv : Bool) (port backlog at : ℕ) (g : Opening)
     → s.sub.held ≡ opened_with q mv at backlog
-    → at ≡ length book.changes → s.places ≡ port → s.first_close ≡ Never
+    → at ≡ length book.changes → s.places ≡ port → s.told.value ≡ Live at 0
+    → s.first_close ≡ Never
     → s.input.places ≡ port → s.input.floor ≡ g → query_of g ≡ q → g.moved ≡ mv → g.opened ≡ at
     → floor_of g ≡ book → s.input.taken ≡ [] → s.input.ahead ≡ [] → IsFullBook book
     → r.port ≡ s.input → r.hand ≡ None → r.result ≡ opened_at at (result_of q (state_of book))
     → IsBegun s r book q mv port backlog
-begun_new stand s r book q mv port backlog at g held number places first_close ports opening_at
+begun_new stand s r book q mv port backlog at g held number places told first_close ports opening_at
     query moved opened floor taken ahead full end hand result =
     let now : s.sub.held ≡ opened_with q mv (length book.changes) backlog = held
     ∙ ap (λ (n : ℕ). opened_with q mv n backlog) number in
-    let stands : Stands (opened_with q mv (length book.changes) backlog) s.input s.places Never book
-    =
+    let live : s.told.value ≡ Live (length book.changes) 0 = told ∙ ap (λ (n : ℕ). Live n 0) number in
+    let stands : Stands (opened_with q mv (length book.changes) backlog) s.input s.places
+    (Live (length book.changes) 0) Never book =
     stand q mv backlog s.input s.places book taken ahead (ap floor_of opening_at ∙ floor)
     (ap query_of opening_at ∙ query) (ap (λ (f : Opening). f.moved) opening_at ∙ moved)
     (ap (λ (f : Opening). f.opened) opening_at ∙ opened ∙ number) (ports ∙ sym places) full in
     record {
-      stands = subst (λ (z : Held × FirstClose). Stands z.0 s.input s.places z.1 book)
-          (λ i. (sym now i, sym first_close i)) stands;
+      stands = subst (λ (z : Held × Told × FirstClose). Stands z.0 s.input s.places z.1 z.2 book)
+          (λ i. (sym now i, sym live i, sym first_close i)) stands;
       messages = ap (λ (h : Held). h.messages) now;
       live = ap (λ (h : Held). h.mark) now;
       query = ap (λ (h : Held). h.query) now;
@@ -64,6 +68,7 @@ begun_new stand s r book q mv port backlog at g held number places first_close p
       opened = ap (λ (h : Held). h.opened) now;
       backlog_is = ap (λ (h : Held). h.backlog) now;
       places = places;
+      told = live;
       first_close = first_close;
       end = end;
       floor = ap (λ (e : End Delivery Opening). floor_of e.floor) end ∙ ap floor_of opening_at
@@ -87,6 +92,7 @@ begun_own s r book q mv port backlog b = record {
   opened = b.opened;
   backlog_is = refl;
   places = refl;
+  told = b.told;
   first_close = b.first_close;
   end = b.end;
   floor = b.floor;
@@ -111,10 +117,10 @@ pub settled : (keeper one two : KeeperToken Identity) (slots : List (Option Subs
     → one.slots ≡ counted keeper.slots place n
     → ((slot_at keeper.slots place).out ≡ false → n ≡ (slot_at keeper.slots place).asks)
     → two.slots ≡ gone_out one.slots place (Some (identity_of s)) → s.asks ≡ n
-    → StandsAt s book → s.sub.held.messages ≡ [] → s.sub.held.mark ≡ None
+    → StandsAt s book → IsSeen s → s.sub.held.messages ≡ [] → s.sub.held.mark ≡ None
     → AllStand two (slice_set slots place (Some s)) (openings + 1) book
 settled keeper one two slots place openings n s book h pos within free counts idle gone asks stands
-    none live =
+    seen none live =
     let was : SlotStands None (slot_at keeper.slots place) book =
     subst (λ (z : Option Subscription). SlotStands z (slot_at keeper.slots place) book) free
     (h.each place pos within) in
@@ -154,6 +160,7 @@ settled keeper one two slots place openings n s book h pos within free counts id
       stands = stands;
       filled = λ some. let zero_ : length s.sub.held.messages ≡ 0 = ap (length {A = Message}) none
           in absurd (omega arith);
+      seen = seen;
       out = ap (λ (p : KnownSlot Identity). p.out) there;
       name = ap (λ (p : KnownSlot Identity). p.name) there;
       hung = λ hu. absurd (subst hung_mark live hu);
@@ -184,3 +191,9 @@ pub openings_within : (r : Result Opened Refusal) (old new : ServerSlots) (limit
 openings_within (Ok o) old new limit more same less = omega arith
 openings_within (Err e) old new limit more same less =
     let stays = same.openings in omega arith
+
+-- of a subscription that was just made nothing had been taken
+pub begun_seen : (s : Subscription) (r : ReadingHold) (book : Book) (q : Query) (mv : Bool)
+    (port backlog : ℕ) → IsBegun s r book q mv port backlog → IsSeen s
+begun_seen s r book q mv port backlog b =
+    subst (λ (z : Told). seen_of z ≤ length s.input.taken) (sym b.told) (omega arith)

@@ -17,11 +17,12 @@ use Rattle.lq_port.specs.Port.{IsLegal}
 use Rattle.lq_server_slots.specs.declared.delivery.Delivery.{Delivery}
 use Rattle.lq_server_slots.specs.declared.delivery.Opening.{Opening}
 use Rattle.lq_server_slots.specs.declared.identity.FirstClose.{FirstClose}
+use Rattle.lq_server_slots.specs.declared.identity.Told.{Told}
 use Rattle.lq_server_slots.specs.declared.subscription.Subscription.{Subscription}
 use Rattle.lq_server_slots.specs.Updates.{updates}
 use Rattle.lq_server_slots.specs.Rule.{book_of, floor_of, query_of, message_of, mark_or, messages_in, mark_in, IsMark, Tells, MayFollow}
 use Rattle.lq_server_slots.specs.LegalList.{known_by}
-use Rattle.lq_server_slots.specs.Standing.{given, upto, moved_mark, Stands, StandsAt, FirstCloseFits, SameHeld, SameButPuts, mark_left, left_of, IsOut, IsStuck, IsDrained, IsOverrun, SideBySide}
+use Rattle.lq_server_slots.specs.Standing.{given, upto, moved_mark, Stands, StandsAt, FirstCloseFits, SameHeld, SameButPuts, mark_left, left_of, IsOut, IsStuck, IsDrained, IsOverrun, IsStill, SideBySide, seen_of}
 use Rattle.lq_server_slots.proofs.Books.{extends_self}
 use Rattle.lq_server_slots.proofs.UpdateLemmas.{updates-front}
 use Rattle.lq_server_slots.proofs.PortLemmas.{prefix_self, prefix_trans, messages_in-snoc, mark_in-append, last_book-snoc}
@@ -63,8 +64,8 @@ not_moved false o h = refl
 cons_some : (m : Message) (ms : List Message) → m ∷ ms ≡ [] → ⊥
 cons_some m ms e = absurd (cc)
 
-module _ (h : Held) (d : End Delivery Opening) (places : ℕ) (first_close : FirstClose) (book : Book)
-    (s : Stands h d places first_close book) where
+module _ (h : Held) (d : End Delivery Opening) (places : ℕ) (told : Told)
+    (first_close : FirstClose) (book : Book) (s : Stands h d places told first_close book) where
   -- with a message held, the mark isn't out
   open_with : (m : Message) (rest : List Message) → h.messages ≡ m ∷ rest → h.mark_out ≡ true → ⊥
   open_with m rest held e = cons_some m rest (sym held ∙ (s.done e).0)
@@ -158,6 +159,14 @@ module _ (h : Held) (d : End Delivery Opening) (places : ℕ) (first_close : Fir
   done_then (Update m) n e = absurd (open_with m (drop 1 h.messages) n e)
   done_then (Fin k) n e = (n.0, subst IsSome (sym n.1) refl)
 
+  -- no more messages are held than before
+  bounded_then : (p : Parcel) → NextIs h.messages h.mark h.mark_out p
+      → length (without h (Some p)).messages ≤ (without h (Some p)).backlog
+  bounded_then (Update m) n =
+      let long : length h.messages ≡ suc (length (drop 1 h.messages)) = ap (length {A = Message}) n
+      in omega (arith, s.bounded)
+  bounded_then (Fin k) n = s.bounded
+
   -- one parcel less is left to put
   left_then : (p : Parcel) → NextIs h.messages h.mark h.mark_out p
       → left_of (without h (Some p)) < left_of h
@@ -189,7 +198,7 @@ module _ (h : Held) (d : End Delivery Opening) (places : ℕ) (first_close : Fir
         (messages_then p (next_is h.messages h.mark h.mark_out p next))
 
     -- a parcel was put, and the list of what is put and held stays
-    pub put_stands : Stands (without h (Some p)) e places first_close book
+    pub put_stands : Stands (without h (Some p)) e places told first_close book
     put_stands =
         let n = next_is h.messages h.mark h.mark_out p next in
         let r = same_held p in
@@ -207,6 +216,7 @@ module _ (h : Held) (d : End Delivery Opening) (places : ℕ) (first_close : Fir
               (upto (sym r.mark i) (length book.changes)));
           sent = r.sent ∙ s.sent ∙ sym (ap (length {A = Message}) given_then);
           few = subst (λ n. n ≤ 3 * length book.changes) (sym r.sent) s.few;
+          bounded = bounded_then p n;
           opened = subst (λ (z : ℕ × Option Mark). z.0 ≤ upto z.1 (length book.changes))
               (λ i. (sym r.opened i, sym r.mark i)) s.opened;
           mark = subst
@@ -216,10 +226,12 @@ module _ (h : Held) (d : End Delivery Opening) (places : ℕ) (first_close : Fir
           out = ap mark_in all_then ∙ mark_in-append (all_put d) (x ∷ []) (unput p n)
               ∙ ap (λ z. mark_or z None) is ∙ out_then p n;
           done = done_then p n;
+          still = subst (λ o. IsStill told o (length book.changes)) (sym r.mark) s.still;
           first_close = subst (FirstCloseFits first_close) (sym r.mark) s.first_close;
           overrun =
               subst (λ (z : Query × Bool × ℕ × ℕ × Option Mark). IfSome z.4
-              (λ k. k.cause ≡ Overrun → IsOverrun z.0 z.1 z.2 places z.3 book k.change))
+              (λ k. k.cause ≡ Overrun
+              → IsOverrun z.0 z.1 z.2 places z.3 (seen_of told) book k.change))
               (λ i. (sym r.query i, sym r.moved i, sym r.opened i, sym r.backlog i, sym r.mark i))
               s.overrun;
         }
@@ -244,11 +256,11 @@ none_next h e = at h.messages h.mark h.mark_out e
     at [] (Some k) false e = absurd (cc)
 
 -- only what is known to be taken differs
-pub same_put : (h : Held) (d e : End Delivery Opening) (places : ℕ) (first_close : FirstClose)
-    (book : Book)
-    → IsSamePort d e → all_put e ≡ all_put d → Stands h d places first_close book
-    → Stands h e places first_close book
-same_put h d e places first_close book port put s =
+pub same_put : (h : Held) (d e : End Delivery Opening) (places : ℕ) (told : Told)
+    (first_close : FirstClose) (book : Book)
+    → IsSamePort d e → all_put e ≡ all_put d → Stands h d places told first_close book
+    → Stands h e places told first_close book
+same_put h d e places told first_close book port put s =
     let same : given h e ≡ given h d =
     ap (λ (ps : List Delivery). messages_in ps ++ h.messages) put in
     record {
@@ -262,10 +274,12 @@ same_put h d e places first_close book port put s =
       list = same ∙ s.list;
       sent = s.sent ∙ sym (ap (length {A = Message}) same);
       few = s.few;
+      bounded = s.bounded;
       opened = s.opened;
       mark = s.mark;
       out = ap mark_in put ∙ s.out;
       done = s.done;
+      still = s.still;
       first_close = s.first_close;
       overrun = s.overrun;
     }
@@ -289,6 +303,7 @@ alike_trans s t u a b = record {
   };
   places = b.places ∙ a.places;
   asks = b.asks ∙ a.asks;
+  told = b.told ∙ a.told;
   first_close = b.first_close ∙ a.first_close;
   given_same = b.given_same ∙ a.given_same;
 }
@@ -316,6 +331,7 @@ alike_held s sub input held same = record {
   held = subst (SameHeld s.sub.held) (sym held) (held_self s.sub.held);
   places = refl;
   asks = refl;
+  told = refl;
   first_close = refl;
   given_same = λ i. given (held i) (same i);
 }
@@ -331,9 +347,11 @@ beside_stays s t u d e book n at stands alike same = record {
   floor = at.floor ∙ sym (ap (λ (e : End Delivery Opening). e.floor) same);
   taken = at.taken;
   ahead = ap (λ (e : End Delivery Opening). e.ahead) same ∙ at.ahead;
+  met = ap (λ (e : End Delivery Opening). e.taken) same ∙ at.met;
   all = at.all ∙ sym (ap all_put same);
   known = at.known;
   value = at.value;
+  within = let same_places = alike.places in omega (arith, at.within);
   legal = at.legal;
 }
 
@@ -363,7 +381,7 @@ module _ (s t : Subscription) (c d e input : End Delivery Opening) (book : Book)
     (at : Drains s t c d book) (value : n ≡ length e.ahead) (put : all_put e ≡ all_put t.input)
     (taken : e.taken ≡ d.taken) (known : IsPrefix d.ahead e.ahead)
     (ends : (input.taken ≡ e.taken) × (input.ahead ≡ e.ahead)) (floor : d.floor ≡ t.input.floor)
-    (legal : IsLegal MayFollow e.floor (all_put e))
+    (legal : IsLegal MayFollow e.floor (all_put e)) (room : n ≤ input.places)
     (ports : IsSamePort d e × IsSamePort t.input input) where
   -- what the end for puts knows to be put is what the other knows
   all_seen : all_put input ≡ all_put e
@@ -372,13 +390,14 @@ module _ (s t : Subscription) (c d e input : End Delivery Opening) (book : Book)
   -- the two ends were seen side by side
   pub looks : SideBySide s (record t { input = input }) c e book n
   looks = record {
-    stands = same_put t.sub.held t.input input t.places t.first_close book ports.1 (all_seen ∙ put)
+    stands = same_put t.sub.held t.input input t.places t.told.value t.first_close book ports.1 (all_seen ∙ put)
         at.stands;
     alike = alike_trans s t (record t { input = input }) at.alike (record {
       port = ports.1;
       held = held_self t.sub.held;
       places = refl;
       asks = refl;
+      told = refl;
       first_close = refl;
       given_same = ap (λ (ps : List Delivery). messages_in ps ++ t.sub.held.messages)
           (all_seen ∙ put);
@@ -391,9 +410,11 @@ module _ (s t : Subscription) (c d e input : End Delivery Opening) (book : Book)
     floor = ports.0.2 ∙ floor ∙ sym ports.1.2;
     taken = taken ∙ at.taken;
     ahead = ends.1;
+    met = ends.0;
     all = sym all_seen;
     known = prefix_trans c.ahead d.ahead e.ahead at.known known;
     value = value;
+    within = let same_places = ports.1.1 in omega (arith, room, at.stands.port);
     legal = legal;
   }
 

@@ -20,11 +20,12 @@ use Rattle.lq_server_slots.specs.declared.delivery.Delivery.{Delivery}
 use Rattle.lq_server_slots.specs.declared.delivery.Opening.{Opening}
 use Rattle.lq_server_slots.specs.declared.identity.Identity.{Identity}
 use Rattle.lq_server_slots.specs.declared.identity.FirstClose.{FirstClose}
+use Rattle.lq_server_slots.specs.declared.identity.Told.{Told}
 use Rattle.lq_server_slots.specs.declared.subscription.Subscription.{Subscription}
 use Rattle.lq_server_slots.specs.Rule.{message_of, mark_or, messages_in, mark_in}
 use Rattle.lq_server_slots.specs.Marking.{hung_mark}
 use Rattle.lq_server_slots.specs.Identity.{identity_of, port_id}
-use Rattle.lq_server_slots.specs.Standing.{Stands, StandsAt, IsFilled, IsStuck, IsOut, SameButPuts, SameButHeld, moved_mark}
+use Rattle.lq_server_slots.specs.Standing.{Stands, StandsAt, IsFilled, IsSeen, IsStuck, IsOut, SameButPuts, SameButHeld, moved_mark, seen_of}
 use Rattle.lq_server_slots.specs.Slots.{IsTaken, IsToFill, SlotStands, asks_of, slot_in, AllStand, OnlyAt, before_of, IsGrown}
 
 -- ---- one slot
@@ -54,9 +55,11 @@ held_unmoved s book stands some =
     (λ e. let none : length s.sub.held.messages ≡ 0 = ap (length {A = Message})
     (stands.done e).0 in absurd (omega arith))
 
--- where nothing more could be put, messages are held only after as many as the port has places
-pub stuck_filled : (s : Subscription) (book : Book) → StandsAt s book → IsStuck s → IsFilled s
-stuck_filled s book stands stuck some =
+-- where nothing more could be put, messages are held only after as many as the port has places, and
+-- those that had been taken
+pub stuck_filled : (s : Subscription) (book : Book) → StandsAt s book → IsSeen s → IsStuck s
+    → IsFilled s
+stuck_filled s book stands seen stuck some =
     let told : length (messages_in (all_put s.input)) ≡ length (all_put s.input) =
     told_length (all_put s.input) (held_unmoved s book stands some) in
     let long : length (all_put s.input) ≡ length s.input.taken + length s.input.ahead =
@@ -74,6 +77,7 @@ identity_alike s t a = λ i. record {
   places = a.places i;
   backlog = a.held.backlog i;
   asks = a.asks i;
+  told = (a.told i).value;
   first_close = a.first_close i;
   port = port_id (a.port.0 i);
 }
@@ -88,33 +92,20 @@ identity_others s t a first_close = λ i. record {
   places = a.places i;
   backlog = a.backlog i;
   asks = a.asks i;
+  told = (a.told i).value;
   first_close = first_close i;
   port = port_id (a.input i).port;
 }
 
--- a taken slot stands on, with what was put and the book changed
-pub taken_then : (s t : Subscription) (p : KnownSlot Identity) (book0 book : Book)
-    → IsTaken s p book0
-    → StandsAt t book → IsStuck t → identity_of t ≡ identity_of s
-    → (hung_mark t.sub.held.mark → hung_mark s.sub.held.mark) → IsTaken t p book
-taken_then s t p book0 book taken stands stuck identity hung =
-    let asks : t.asks ≡ s.asks = ap (λ (x : Identity). x.asks) identity in
-    record {
-      stands = stands;
-      filled = stuck_filled t book stands stuck;
-      out = taken.out;
-      name = taken.name ∙ ap (λ (x : Identity). Some x) (sym identity);
-      hung = λ h. subst (λ n. n < p.asks) (sym asks) (taken.hung (hung h));
-    }
-
 -- a taken slot whose subscription and book changed stands, but for what its port has room for
 pub to_fill_then : (s t : Subscription) (p : KnownSlot Identity) (book0 book : Book)
-    → IsTaken s p book0 → StandsAt t book → identity_of t ≡ identity_of s
+    → IsTaken s p book0 → StandsAt t book → IsSeen t → identity_of t ≡ identity_of s
     → (hung_mark t.sub.held.mark → hung_mark s.sub.held.mark) → IsToFill t p book
-to_fill_then s t p book0 book taken stands identity hung =
+to_fill_then s t p book0 book taken stands seen identity hung =
     let asks : t.asks ≡ s.asks = ap (λ (x : Identity). x.asks) identity in
     record {
       stands = stands;
+      seen = seen;
       out = taken.out;
       name = taken.name ∙ ap (λ (x : Identity). Some x) (sym identity);
       hung = λ h. subst (λ n. n < p.asks) (sym asks) (taken.hung (hung h));
@@ -122,16 +113,30 @@ to_fill_then s t p book0 book taken stands identity hung =
 
 -- and it stands whole once its port is filled
 pub taken_filled : (s t : Subscription) (p : KnownSlot Identity) (book : Book) → IsToFill s p book
-    → StandsAt t book → IsStuck t → SameButPuts s t → IsTaken t p book
-taken_filled s t p book was stands stuck alike =
+    → StandsAt t book → IsSeen t → IsStuck t → SameButPuts s t → IsTaken t p book
+taken_filled s t p book was stands seen stuck alike =
     record {
       stands = stands;
-      filled = stuck_filled t book stands stuck;
+      filled = stuck_filled t book stands seen stuck;
+      seen = seen;
       out = was.out;
       name = was.name ∙ ap (λ (x : Identity). Some x) (sym (identity_alike s t alike));
       hung = λ h. subst (λ n. n < p.asks) (sym alike.asks)
           (was.hung (subst hung_mark alike.held.mark h));
     }
+
+-- what was known to be taken still is, while the end of the port stays
+pub seen_others : (s t : Subscription) → SameButHeld s t → IsSeen s → IsSeen t
+seen_others s t others seen =
+    subst (λ (z : Told × End Delivery Opening). seen_of z.0 ≤ length z.1.taken)
+    (λ i. ((sym others.told i).value, sym others.input i)) seen
+
+-- and while only puts change that end
+pub seen_alike : (s t : Subscription) → SameButPuts s t → t.input.taken ≡ s.input.taken
+    → IsSeen s → IsSeen t
+seen_alike s t alike taken seen =
+    subst (λ (z : Told × List Delivery). seen_of z.0 ≤ length z.1)
+    (λ i. ((sym alike.told i).value, sym taken i)) seen
 
 -- the keeper knows more of a taken slot's asks, and the subscription may have ended
 pub taken_noticed : (s t : Subscription) (p q : KnownSlot Identity) (n : ℕ) (asked : Bool)
@@ -151,9 +156,15 @@ taken_noticed s t p q n asked book taken stands others first_close messages hung
     let known : q.asks ≡ n = ap (λ (x : KnownSlot Identity). x.asks) is in
     record {
       stands = stands;
-      filled = subst (λ (z : List Message × ℕ × End Delivery Opening). 0 < length z.0
-          → z.1 ≤ length (messages_in (all_put z.2)))
-          (λ i. (sym messages i, sym others.places i, sym others.input i)) taken.filled;
+      filled = subst (λ (z : List Message × ℕ × End Delivery Opening × Told). 0 < length z.0
+          → z.1 + seen_of z.3 ≤ length (messages_in (all_put z.2)))
+          (λ i. (
+            sym messages i,
+            sym others.places i,
+            sym others.input i,
+            (sym others.told i).value,
+          )) taken.filled;
+      seen = seen_others s t others taken.seen;
       out = ap (λ (x : KnownSlot Identity). x.out) is ∙ taken.out;
       name = ap (λ (x : KnownSlot Identity). x.name) is ∙ taken.name ∙ ap (λ (x : Identity). Some x)
           (sym identity);
@@ -167,8 +178,15 @@ pub taken_alike : (s t : Subscription) (p : KnownSlot Identity) (book : Book) �
 taken_alike s t p book taken held others first_close =
     let mark = ap (λ (h : Held). h.mark) held in
     let stands : StandsAt t book =
-    subst (λ (z : Held × End Delivery Opening × ℕ × FirstClose). Stands z.0 z.1 z.2 z.3 book)
-    (λ i. (sym held i, sym others.input i, sym others.places i, sym first_close i)) taken.stands in
+    subst
+    (λ (z : Held × End Delivery Opening × ℕ × Told × FirstClose). Stands z.0 z.1 z.2 z.3 z.4 book)
+    (λ i. (
+      sym held i,
+      sym others.input i,
+      sym others.places i,
+      (sym others.told i).value,
+      sym first_close i,
+    )) taken.stands in
     taken_noticed s t p p p.asks false book taken stands others first_close
     (ap (λ (h : Held). h.messages) held) (λ h. inr (subst hung_mark mark h))
     (λ e. absurd (true≢false (sym e))) (omega arith) refl

@@ -1,5 +1,5 @@
 -- What a reader does under the lock.
-use Rattle.std.proofs.Common.{◌≡◌, ℕ, zero, suc, ◌<◌, ◌≤◌, Bool, true, false, true≢false, List, [], ◌∷◌, append-nil, length, Option, Some, None, refl, sym, ap, ◌∙◌, subst, arith, length-set, get_or-set_same, get_or-set_other, slice_set, set-set}
+use Rattle.std.proofs.Common.{◌≡◌, ℕ, zero, suc, ◌+◌, ◌<◌, ◌≤◌, Bool, true, false, true≢false, List, [], ◌∷◌, append-nil, length, Option, Some, None, refl, sym, ap, ◌∙◌, subst, arith, length-set, get_or-set_same, get_or-set_other, slice_set, set-set}
 use Rattle.std.specs.Prelude.{IsSome, IsSomeAnd}
 use Rattle.std.proofs.lemmas.List.{set-get_or}
 use Rattle.lq_volume.specs.declared.change.Change.{Change}
@@ -8,18 +8,24 @@ use Rattle.lq_board.specs.declared.views.KnownSlot.{KnownSlot}
 use Rattle.lq_board.specs.Slot.{slot_at, unused, gone_out, go_out, come_back}
 use Rattle.lq_board.specs.Token.{SeatToken}
 use Rattle.lq_update.specs.declared.message.Message.{Message}
+use Rattle.lq_update.specs.declared.mark.Mark.{Mark}
 use Rattle.lq_port.specs.End.{End, all_put}
 use Rattle.lq_server_slots.specs.declared.delivery.Delivery.{Delivery}
 use Rattle.lq_server_slots.specs.declared.delivery.Opening.{Opening}
 use Rattle.lq_server_slots.specs.declared.identity.Identity.{Identity}
+use Rattle.lq_server_slots.specs.declared.identity.Told.{Told}
 use Rattle.lq_server_slots.specs.declared.subscription.Subscription.{Subscription}
 use Rattle.lq_server_slots.specs.Rule.{messages_in}
 use Rattle.lq_server_slots.specs.Marking.{hung_mark, after_close}
 use Rattle.lq_server_slots.specs.Identity.{identity_of, port_id_inj}
-use Rattle.lq_server_slots.specs.Standing.{StandsAt, IsDrained, SameButPuts, SameButHeld}
+use Rattle.lq_server_slots.specs.Reading.{ReadingHold}
+use Rattle.lq_server_slots.specs.Standing.{Stands, StandsAt, IsDrained, IsSeen, IsStuck, SameButHeld, seen_of, told_by}
 use Rattle.lq_server_slots.specs.Slots.{IsTaken, SlotStands, asks_of, OnlyAt}
 use Rattle.lq_server_slots.specs.Opening.{IdentityFits, name_or}
-use Rattle.lq_server_slots.proofs.SlotLemmas.{taken_then, identity_alike}
+use Rattle.lq_server_slots.specs.Progress.{IsShown}
+use Rattle.lq_server_slots.specs.declared.sync.Progress.{Progress}
+use Rattle.lq_server_slots.proofs.EndLemmas.{told_now}
+use Rattle.lq_server_slots.proofs.SlotLemmas.{stuck_filled, seen_others}
 
 -- a book that grew by a change extends what is known of it
 pub later_grown : (was now mid : Book) (change : Change) → was ≡ mid
@@ -115,20 +121,48 @@ taken_met s p q book n name taken is same le =
     record {
       stands = taken.stands;
       filled = taken.filled;
+      seen = taken.seen;
       out = ap (λ (x : KnownSlot Identity). x.out) is;
       name = ap (λ (x : KnownSlot Identity). x.name) is ∙ sym same ∙ taken.name;
       hung = λ h. let lt = taken.hung h in omega arith;
     }
 
--- a taken slot stands on once its port is drained
-pub taken_drained : (s t : Subscription) (p : KnownSlot Identity) (book : Book)
-    (e : End Delivery Opening) (waiting : ℕ) → IsTaken s p book → StandsAt t book
-    → SameButPuts s t → t.input.ahead ≡ e.ahead → waiting ≡ length e.ahead → IsDrained t waiting
-    → IsTaken t p book
-taken_drained s t p book e waiting taken stands alike ahead value drained =
-    taken_then s t p book book taken stands
-    (subst (IsDrained t) (value ∙ ap (length {A = Delivery}) (sym ahead)) drained)
-    (identity_alike s t alike) (λ h. subst hung_mark alike.held.mark h)
+-- no more had been taken than what is told
+seen_now : (n seen : ℕ) (o : Option Mark) → seen_of (told_by n seen o) ≤ seen
+seen_now n seen None = omega arith
+seen_now n seen (Some k) = omega arith
+
+-- a taken slot stands on once its port is filled and its reader told, and its seat has its new name
+pub taken_shown : (s t : Subscription) (p q : KnownSlot Identity) (n : ℕ) (book : Book)
+    (d e : ReadingHold) (x : Progress) → IsTaken s p book → IsShown s t d e book x → p.asks ≤ n
+    → q ≡ record { out = true; asks = n; name = Some (identity_of t) } → IsTaken t q book
+taken_shown s t p q n book d e x taken shown le is =
+    let m : Subscription = shown.m in
+    let b = shown.between in
+    let u : Subscription = record m { told = t.told } in
+    let seen : ℕ = length e.port.taken in
+    let told : told_by (length book.changes) seen m.sub.held.mark ≡ t.told.value =
+    sym (shown.told ∙ ap (λ (k : ℕ). told_by k seen m.sub.held.mark) shown.number) in
+    let stands : StandsAt u book =
+    subst (λ (z : Told). Stands m.sub.held m.input m.places z m.first_close book) told
+    (told_now m.sub.held m.input m.places m.told.value m.first_close book seen b.stands) in
+    let few : IsSeen u =
+    subst (λ (z : Told × List Delivery). seen_of z.0 ≤ length z.1)
+    (λ i. (told i, sym b.met i)) (seen_now (length book.changes) seen m.sub.held.mark) in
+    let stuck : IsStuck u =
+    subst (IsDrained m) (ap (length {A = Delivery}) (sym b.ahead)) shown.drained in
+    let known : q.asks ≡ n = ap (λ (x : KnownSlot Identity). x.asks) is in
+    let asks = b.alike.asks in
+    subst (λ (z : Subscription). IsTaken z q book) (sym shown.rest)
+    (record {
+      stands = stands;
+      filled = stuck_filled u book stands few stuck;
+      seen = few;
+      out = ap (λ (x : KnownSlot Identity). x.out) is;
+      name = ap (λ (x : KnownSlot Identity). x.name) is
+          ∙ ap (λ (z : Subscription). Some (identity_of z)) shown.rest;
+      hung = λ h. let lt = taken.hung (subst hung_mark b.alike.held.mark h) in omega arith;
+    })
 
 -- a taken slot stands on once it was closed, and its seat has its new name
 pub taken_closed : (s t : Subscription) (p q : KnownSlot Identity) (n : ℕ) (book : Book)
@@ -141,9 +175,15 @@ taken_closed s t p q n book taken stands others messages hung le is =
     let known : q.asks ≡ n = ap (λ (x : KnownSlot Identity). x.asks) is in
     record {
       stands = stands;
-      filled = subst (λ (z : List Message × ℕ × End Delivery Opening). 0 < length z.0
-          → z.1 ≤ length (messages_in (all_put z.2)))
-          (λ i. (sym messages i, sym others.places i, sym others.input i)) taken.filled;
+      filled = subst (λ (z : List Message × ℕ × End Delivery Opening × Told). 0 < length z.0
+          → z.1 + seen_of z.3 ≤ length (messages_in (all_put z.2)))
+          (λ i. (
+            sym messages i,
+            sym others.places i,
+            sym others.input i,
+            (sym others.told i).value,
+          )) taken.filled;
+      seen = seen_others s t others taken.seen;
       out = ap (λ (x : KnownSlot Identity). x.out) is;
       name = ap (λ (x : KnownSlot Identity). x.name) is;
       hung = λ h. let lt = taken.hung (hung h) in omega arith;

@@ -4,19 +4,16 @@ use Rattle.lq_volume.specs.Book.{Book, Extends}
 use Rattle.lq_board.specs.Token.{SeatToken}
 use Rattle.lq_server_slots.specs.declared.identity.Identity.{Identity}
 use Rattle.lq_server_slots.specs.declared.identity.FirstClose.TheVariants.{Never}
-use Rattle.lq_server_slots.specs.declared.subscription.Subscription.{Subscription}
 use Rattle.lq_server_slots.specs.Marking.{after_close}
-use Rattle.lq_server_slots.specs.Slots.{IsPut}
 use Rattle.lq_server_slots.specs.Opening.{name_or}
 
 -- The seat, s before and t after, closed its subscription over this book, unless that had ended.
 -- Only its first close may answer the number of changes, and not where the seat had asked for the
--- end. The port is filled. The seat knows the book, and its name what the first close answered.
+-- end. The seat knows the book, and its name what the first close answered.
 pub record IsClosed (book : Book) (s t : SeatToken Identity) (result : Option ℕ) : Type 0 where
   pub number : IfSome result (λ n. n ≡ length book.changes)
   pub closes : IfSome result (λ _. (name_or s.name).first_close ≡ Never)
   pub late : (name_or s.name).asks < s.asks → result ≡ None
-  pub put : (subscription : Subscription) × IsPut subscription t.name book
   pub seat : t ≡ record s { book = book; name = t.name }
   pub later : Extends book s.book
   pub name : t.name

@@ -28,6 +28,7 @@ identity_of s =
       places = s.places;
       backlog = s.sub.held.backlog;
       asks = s.asks;
+      told = s.told.value;
       first_close = s.first_close;
       port = port_id s.input.port;
     }

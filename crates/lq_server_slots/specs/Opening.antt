@@ -1,7 +1,6 @@
 -- What an opening makes, and the name that goes with a slot's seat.
 use Rattle.std.specs.Prelude.{◌≡◌, ◌⊎◌, ℕ, ◌<◌, ◌+◌, Bool, true, false, [], length, Option, Some, None, IsSome, IsSomeAnd, IfSome, IfNone, Result, Err, IfOk, IfErr}
 use base.Stored.{gnil}
-use Rattle.atomic_table.specs.Seated.{TableId}
 use Rattle.lq_value.specs.declared.refusal.Refusal.{Refusal}
 use Rattle.lq_value.specs.declared.refusal.Refusal.TheVariants.{NoSlot, Exhausted, NoMemory}
 use Rattle.lq_value.specs.Refusal.{IsRefusedBy, first_refusal}
@@ -10,9 +9,11 @@ use Rattle.lq_volume.specs.Book.{Book, state_of}
 use Rattle.lq_volume.specs.Result.{result_of}
 use Rattle.lq_update.specs.Fold.{opened_at}
 use Rattle.lq_desk_world.specs.Events.{opening_refusals, size_refusals}
+use Rattle.lq_board.specs.Token.{BoardName}
 use Rattle.lq_port.specs.End.{End}
 use Rattle.lq_server_slots.specs.declared.identity.Identity.{Identity}
 use Rattle.lq_server_slots.specs.declared.identity.FirstClose.TheVariants.{Never}
+use Rattle.lq_server_slots.specs.declared.identity.Told.TheVariants.{Live}
 use Rattle.lq_server_slots.specs.declared.delivery.Delivery.{Delivery}
 use Rattle.lq_server_slots.specs.declared.delivery.Opening.{Opening}
 use Rattle.lq_server_slots.specs.declared.subscription.Subscription.{Subscription}
@@ -48,6 +49,7 @@ pub record IsBegun (s : Subscription) (r : ReadingHold) (book : Book) (q : Query
   pub opened : s.sub.held.opened ≡ length book.changes
   pub backlog_is : s.sub.held.backlog ≡ backlog
   pub places : s.places ≡ port
+  pub told : s.told.value ≡ Live (length book.changes) 0
   pub first_close : s.first_close ≡ Never
   pub end : r.port ≡ s.input
   pub floor : floor_of r.port.floor ≡ book
@@ -62,17 +64,20 @@ pub record IsNamed (t : Identity) (o : Opened) (backlog : ℕ) : Type 0 where
   pub asks : o.seat.asks ≡ t.asks
   pub few : t.asks < 1000000000000
   pub backlog_is : t.backlog ≡ backlog
+  pub told : t.told ≡ Live t.opened 0
   pub first_close : t.first_close ≡ Never
 
--- a subscription that was just opened over this book: nothing was read, and the result is the
--- query's
-pub record IsOpened (o : Opened) (board : TableId) (book : Book) (q : Query) (mv : Bool)
+-- A subscription that was just opened over this book: nothing was read, and the result is the
+-- query's. Its seat made no change, and may make changes where each seat of the board may.
+pub record IsOpened (o : Opened) (board : BoardName) (book : Book) (q : Query) (mv : Bool)
     (port backlog : ℕ) : Type 0 where
   pub low : 0 < o.slot
   pub high : o.slot < 65
   pub slot_is : o.seat.slot ≡ o.slot
   pub board_is : o.seat.board ≡ board
   pub seat : o.seat.book ≡ book
+  pub fresh : o.seat.author.changes ≡ []
+  pub signs : o.seat.author.signs ≡ board.free
   pub named : IsSomeAnd o.seat.name (λ t. IsNamed t o backlog)
   pub floor : floor_of o.reading.port.floor ≡ book
   pub query : query_of o.reading.port.floor ≡ q
@@ -123,6 +128,7 @@ no_identity = record {
   backlog =
       0;
   asks = 0;
+  told = Live 0 0;
   first_close = Never;
   port = gnil;
 }

@@ -1,7 +1,7 @@
 -- What the lock shows of a subscription.
-use Rattle.std.specs.Prelude.{◌≡◌, ◌<◌, length, Some, IsSome}
+use Rattle.std.specs.Prelude.{◌≡◌, ◌<◌, ◌≤◌, length, Some, IsSome}
 use mathlib.Core.List.{IsPrefix}
-use Rattle.lq_volume.specs.Book.{Extends}
+use Rattle.lq_volume.specs.Book.{Book, Extends}
 use Rattle.lq_board.specs.Token.{SeatToken}
 use Rattle.lq_port.specs.End.{IsSamePort, all_put}
 use Rattle.lq_port.specs.Port.{IsLegal}
@@ -11,10 +11,11 @@ use Rattle.lq_server_slots.specs.Rule.{MayFollow}
 use Rattle.lq_server_slots.specs.Marking.{hung_mark}
 use Rattle.lq_server_slots.specs.Identity.{identity_of}
 use Rattle.lq_server_slots.specs.Reading.{ReadingHold}
-use Rattle.lq_server_slots.specs.Standing.{StandsAt, IsDrained}
+use Rattle.lq_server_slots.specs.Standing.{StandsAt, IsDrained, SideBySide, told_by}
 use Rattle.lq_server_slots.specs.declared.sync.Progress.{Progress}
 
--- what a sync shows of a subscription; s is the subscription under the lock
+-- What a sync shows of a subscription; s is the subscription under the lock, once its port is filled
+-- and before its reader is told. The seat's name then says what it was told.
 pub record ShowsProgress (s : Subscription) (seat0 seat1 : SeatToken Identity) (d e : ReadingHold)
     (x : Progress) : Type 0 where
   pub stands : StandsAt s seat1.book
@@ -27,13 +28,35 @@ pub record ShowsProgress (s : Subscription) (seat0 seat1 : SeatToken Identity) (
   pub legal : IsLegal MayFollow e.port.floor (all_put e.port)
   pub hand : e.hand ≡ d.hand
   pub result : e.result ≡ d.result
-  pub identity : seat1.name ≡ Some (identity_of s)
-  pub seat : seat1 ≡ record seat0 { book = seat1.book }
+  pub identity : seat0.name ≡ Some (identity_of s)
+  pub name : seat1.name
+      ≡ Some (record (identity_of s) {
+        told = told_by x.change (length e.port.taken) s.sub.held.mark;
+      })
+  pub seat : seat1 ≡ record seat0 { book = seat1.book; name = seat1.name }
   pub later : Extends seat1.book seat0.book
   pub number : x.change ≡ length seat1.book.changes
   pub waiting : x.waiting ≡ length e.port.ahead
+  pub within : length e.port.ahead ≤ s.places
   pub held : x.held ≡ length s.sub.held.messages
   pub mark : x.mark ≡ s.sub.held.mark
   pub out : x.out ≡ s.sub.held.mark_out
   pub hung : hung_mark s.sub.held.mark → s.asks < seat1.asks
   pub ended : s.asks < seat1.asks → IsSome s.sub.held.mark
+
+-- From s to t the port of a subscription was filled, with its two ends side by side, d before and e
+-- after, and its reader was told x. In between it was m.
+pub record IsShown (s t : Subscription) (d e : ReadingHold) (book : Book) (x : Progress)
+    : Type 0 where
+  pub m : Subscription
+  pub between : SideBySide s m d.port e.port book (length e.port.ahead)
+  pub drained : IsDrained m (length e.port.ahead)
+  pub rest : t ≡ record m { told = t.told }
+  pub told : t.told.value ≡ told_by x.change (length e.port.taken) m.sub.held.mark
+  pub hand : e.hand ≡ d.hand
+  pub result : e.result ≡ d.result
+  pub number : x.change ≡ length book.changes
+  pub waiting : x.waiting ≡ length e.port.ahead
+  pub held : x.held ≡ length m.sub.held.messages
+  pub mark : x.mark ≡ m.sub.held.mark
+  pub out : x.out ≡ m.sub.held.mark_out

@@ -13,13 +13,14 @@ use Rattle.lq_server_slots.specs.declared.identity.Identity.{Identity}
 use Rattle.lq_server_slots.specs.declared.subscription.Subscription.{Subscription}
 use Rattle.lq_server_slots.specs.Marking.{hung_mark}
 use Rattle.lq_server_slots.specs.Identity.{identity_of}
-use Rattle.lq_server_slots.specs.Standing.{StandsAt, IsFilled, IsReady, IsStuck}
+use Rattle.lq_server_slots.specs.Standing.{StandsAt, IsFilled, IsReady, IsSeen, IsStuck}
 use Rattle.lq_server_slots.specs.declared.slots.ServerSlots.{ServerSlots}
 
 -- a taken slot: its subscription, and what the keeper knows of its seat
 pub record IsTaken (s : Subscription) (p : KnownSlot Identity) (book : Book) : Type 0 where
   pub stands : StandsAt s book
   pub filled : IsFilled s
+  pub seen : IsSeen s
   pub out : p.out ≡ true
   pub name : p.name ≡ Some (identity_of s)
   pub hung : hung_mark s.sub.held.mark → s.asks < p.asks
@@ -27,6 +28,7 @@ pub record IsTaken (s : Subscription) (p : KnownSlot Identity) (book : Book) : T
 -- the same, while its port is still to be filled
 pub record IsToFill (s : Subscription) (p : KnownSlot Identity) (book : Book) : Type 0 where
   pub stands : StandsAt s book
+  pub seen : IsSeen s
   pub out : p.out ≡ true
   pub name : p.name ≡ Some (identity_of s)
   pub hung : hung_mark s.sub.held.mark → s.asks < p.asks
@@ -111,13 +113,6 @@ abbrev pub SlotsAre :
     → Type 0
 SlotsAre P slots known =
     (k : ℕ) → 0 < k → k < 65 → SlotIs P (slot_in slots k) (slot_at known k)
-
--- a subscription with this name stands over the book, and its messages and mark were put until none
--- was left or its port was full
-pub record IsPut (s : Subscription) (name : Option Identity) (book : Book) : Type 0 where
-  pub named : name ≡ Some (identity_of s)
-  pub stands : StandsAt s book
-  pub stuck : IsStuck s
 
 -- the keeper, the subscriptions, the taken places and the number of openings stay
 pub record AreUnchanged (old new : ServerSlots) : Type 0 where

@@ -16,6 +16,8 @@ use mathlib.Core.List.{IsPrefix}
 use Rattle.lq_port.specs.Port.{IsLegal}
 use Rattle.lq_server_slots.specs.declared.identity.FirstClose.{FirstClose}
 use Rattle.lq_server_slots.specs.declared.identity.FirstClose.TheVariants.{Never, At, Late}
+use Rattle.lq_server_slots.specs.declared.identity.Told.{Told}
+use Rattle.lq_server_slots.specs.declared.identity.Told.TheVariants.{Live, Ended}
 use Rattle.lq_server_slots.specs.declared.delivery.Delivery.{Delivery}
 use Rattle.lq_server_slots.specs.declared.delivery.Opening.{Opening}
 use Rattle.lq_server_slots.specs.declared.subscription.Subscription.{Subscription}
@@ -49,11 +51,27 @@ FirstCloseFits Never o = IfSome o (λ k. NotClosed k.cause)
 FirstCloseFits (At n) o = IsSomeAnd o (λ k. (k.cause ≡ Closed) × (k.change ≡ n))
 FirstCloseFits Late o = IsSomeAnd o (λ k. NotClosed k.cause)
 
+-- what a reader is told after this many changes, where it has taken this many parcels
+abbrev pub told_by : ℕ → ℕ → Option Mark → Told
+told_by n seen None = Live n seen
+told_by n seen (Some k) = Ended k
+
+-- how many parcels had been taken when it was told, while the subscription was live
+abbrev pub seen_of : Told → ℕ
+seen_of (Live n seen) = seen
+seen_of (Ended k) = 0
+
+-- What was told stays true over n changes: a mark is the same, and where none was told, one comes
+-- for no change before.
+abbrev pub IsStill : Told → Option Mark → ℕ → Type 0
+IsStill (Live m seen) mark n = m ≤ upto mark n
+IsStill (Ended k) mark n = mark ≡ Some k
+
 -- Change e + 1 was too much. It has messages, and the messages up to it are more than the backlog.
 -- Where its own messages are within the backlog, those up to it are more than port and backlog
--- together.
+-- together, and those that had been taken when the reader was last told.
 pub record IsOverrun
-    (query : Query) (moved : Bool) (opened places backlog : ℕ) (book : Book) (e : ℕ)
+    (query : Query) (moved : Bool) (opened places backlog seen : ℕ) (book : Book) (e : ℕ)
     : Type 0 where
   pub within : e < length book.changes
   pub some :
@@ -62,13 +80,14 @@ pub record IsOverrun
   pub more :
       length (updates query moved book opened (e + 1))
       ≤ length (updates query moved book opened e) + backlog
-      → places + backlog < length (updates query moved book opened (e + 1))
+      → places + backlog + seen < length (updates query moved book opened (e + 1))
 
 -- A subscription stands over a book: the messages that were put and then those that are held are
 -- its updates over that book, up to its mark or else to the end. A mark is put last and has its
 -- cause.
 pub record Stands
-    (h : Held) (e : End Delivery Opening) (places : ℕ) (answer : FirstClose) (book : Book)
+    (h : Held) (e : End Delivery Opening) (places : ℕ) (told : Told) (answer : FirstClose)
+    (book : Book)
     : Type 0 where
   pub query : query_of e.floor ≡ h.query
   pub moves : e.floor.moved ≡ h.moved
@@ -79,23 +98,32 @@ pub record Stands
   pub list : given h e ≡ updates h.query h.moved book h.opened (upto h.mark (length book.changes))
   pub sent : h.sent ≡ length (given h e)
   pub few : h.sent ≤ 3 * length book.changes
+  pub bounded : length h.messages ≤ h.backlog
   pub opened : h.opened ≤ upto h.mark (length book.changes)
   pub mark : IfSome h.mark (λ k. (k.seq ≡ h.sent + 1) × (k.change ≤ length book.changes))
   pub out : mark_in (all_put e) ≡ moved_mark h.mark_out h.mark
   pub done : h.mark_out ≡ true → (h.messages ≡ []) × IsSome h.mark
+  pub still : IsStill told h.mark (length book.changes)
   pub first_close : FirstCloseFits answer h.mark
   pub overrun :
       IfSome h.mark
       (λ k. k.cause ≡ Overrun
-      → IsOverrun h.query h.moved h.opened places h.backlog book k.change)
+      → IsOverrun h.query h.moved h.opened places h.backlog (seen_of told) book k.change)
 
 -- and for a subscription under the lock
 abbrev pub StandsAt : Subscription → Book → Type 0
-StandsAt s book = Stands s.sub.held s.input s.places s.first_close book
+StandsAt s book = Stands s.sub.held s.input s.places s.told.value s.first_close book
 
--- messages are held only where at least as many as the port has places were put
+-- messages are held only where as many as the port has places were put, beside those that had been
+-- taken when the reader was last told
 abbrev pub IsFilled : Subscription → Type 0
-IsFilled s = 0 < length s.sub.held.messages → s.places ≤ length (messages_in (all_put s.input))
+IsFilled s =
+    0 < length s.sub.held.messages
+    → s.places + seen_of s.told.value ≤ length (messages_in (all_put s.input))
+
+-- what had been taken when the reader was last told is known to be taken
+abbrev pub IsSeen : Subscription → Type 0
+IsSeen s = seen_of s.told.value ≤ length s.input.taken
 
 -- what never changes of a subscription, and its mark and count
 pub record SameHeld (h t : Held) : Type 0 where
@@ -112,6 +140,7 @@ pub record SameButPuts (s t : Subscription) : Type 0 where
   pub held : SameHeld s.sub.held t.sub.held
   pub places : t.places ≡ s.places
   pub asks : t.asks ≡ s.asks
+  pub told : t.told ≡ s.told
   pub first_close : t.first_close ≡ s.first_close
   pub given_same : given t.sub.held t.input ≡ given s.sub.held s.input
 
@@ -146,9 +175,11 @@ pub record SideBySide
   pub floor : e.floor ≡ t.input.floor
   pub taken : e.taken ≡ d.taken
   pub ahead : t.input.ahead ≡ e.ahead
+  pub met : t.input.taken ≡ e.taken
   pub all : all_put e ≡ all_put t.input
   pub known : IsPrefix d.ahead e.ahead
   pub value : waiting ≡ length e.ahead
+  pub within : waiting ≤ t.places
   pub legal : IsLegal MayFollow e.floor (all_put e)
 
 -- nothing is left to put, or the port is full
@@ -171,3 +202,4 @@ pub record SameButHeld (s t : Subscription) : Type 0 where
   pub backlog : t.sub.held.backlog ≡ s.sub.held.backlog
   pub places : t.places ≡ s.places
   pub asks : t.asks ≡ s.asks
+  pub told : t.told ≡ s.told

@@ -1,5 +1,5 @@
 //! A change under the lock.
-ghost use Rattle.std.specs.Prelude.{◌≡◌, ◌<◌, ◌≤◌, [], ◌∷◌, length, None, IfOk, OnOk, OnErr};
+ghost use Rattle.std.specs.Prelude.{◌≡◌, ◌<◌, ◌≤◌, [], ◌∷◌, length, true, None, IfOk, OnOk, OnErr};
 ghost use Rattle.lq_value.specs.Refusal.{IsRefusedBy};
 ghost use Rattle.lq_volume.specs.Book.{grown, state_of};
 ghost use Rattle.lq_volume.specs.Change.{refused, node_of};
@@ -23,8 +23,9 @@ use std::sync::Wait;
 /// messages and mark were put until none was left or its port was full. Both hold even where the
 /// change was refused.
 ///
-/// The seat is the change's author, and then knows the book. Before, it has to know the book, and
-/// the keeper how often the seat of a slot has asked, as they do after `meet_in`.
+/// The seat is the change's author, and then knows the book. It has to be one that may make changes.
+/// Before, it has to know the book, and the keeper how often the seat of a slot has asked, as they
+/// do after `meet_in`.
 ///
 /// A refused change walks over the taken slots once, or twice where memory ran out. An accepted one
 /// walks over them twice.
@@ -37,6 +38,7 @@ pub fn change_in<R: Wait>(
     change: &Change,
 ) -> Result<Applied, Refusal>
     requires board { (slots.old.keeper.board ≡ board.now) × (seat.old.board ≡ board.now) }
+    requires signs { seat.old.author.signs ≡ true }
     requires met { seat.old.book ≡ slots.old.keeper.book }
     requires known { 0 < seat.old.slot
         → seat.old.asks ≤ (slot_at slots.old.keeper.slots seat.old.slot).asks }
@@ -71,6 +73,7 @@ fn add(
     change: &Change,
 ) -> Result<Applied, Refusal>
     requires board { (slots.old.keeper.board ≡ board.now) × (seat.old.board ≡ board.now) }
+    requires signs { seat.old.author.signs ≡ true }
     requires met { seat.old.book ≡ slots.old.keeper.book }
     requires known { 0 < seat.old.slot
         → seat.old.asks ≤ (slot_at slots.old.keeper.slots seat.old.slot).asks }

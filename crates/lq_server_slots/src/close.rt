@@ -6,19 +6,17 @@ ghost use Rattle.lq_server_slots.specs.declared.identity.FirstClose.TheVariants.
 ghost use Rattle.lq_server_slots.specs.Marking.{after_close};
 ghost use Rattle.lq_server_slots.specs.Identity.{identity_of};
 ghost use Rattle.lq_server_slots.specs.Closing.{IsClosed};
-ghost use Rattle.lq_server_slots.specs.Slots.{IsTaken, SlotStands, SlotsStand, IsPlaceIn, IsDropped, IsPut, place_at, OnlyAt, asks_of, slot_in};
+ghost use Rattle.lq_server_slots.specs.Slots.{IsTaken, SlotStands, SlotsStand, IsPlaceIn, IsDropped, place_at, OnlyAt, asks_of, slot_in};
 ghost use Rattle.lq_server_slots.specs.Opening.{asks_after, name_or};
 
 use crate::identity::Identity;
-use crate::slots::{ServerSlots, fill_slot};
+use crate::slots::ServerSlots;
 use crate::subscription::{Subscription, close};
 use crate::sync::{meet_same, meet_under, notice_by};
 use lq_board::{Board, Keeper, Seat};
-use std::sync::Wait;
 
 // Closes a subscription, once the keeper and its seat have met.
-fn close_slot<R: Wait>(
-    rt: &R,
+fn close_slot(
     board: &Board<Identity>,
     keeper: &mut Keeper<Identity>,
     slot: &mut Subscription,
@@ -35,7 +33,6 @@ fn close_slot<R: Wait>(
     requires taken { IsTaken slot.old (slot_at keeper.old.slots seat.old.slot) keeper.old.book }
     ensures closes { result ≡ true → (name_or seat.old.name).first_close ≡ Never }
     ensures late { slot.old.asks < seat.old.asks → result ≡ false }
-    ensures put { IsPut slot.new seat.new.name keeper.new.book }
     ensures board { keeper.new.board ≡ keeper.old.board }
     ensures book { keeper.new.book ≡ keeper.old.book }
     ensures only { OnlyAt keeper.old.slots keeper.new.slots seat.old.slot }
@@ -46,15 +43,11 @@ fn close_slot<R: Wait>(
       first_close = after_close (name_or seat.old.name).first_close result number;
     }) }
 {
-    let place = seat.slot() as usize;
     notice_by(board, keeper, slot, seat, number);
-    let closed = end_slot(board, keeper, slot, seat, number);
-    fill_slot(rt, keeper, slot, place);
-    closed
+    end_slot(board, keeper, slot, seat, number)
 }
 
-// Closes a subscription, and gives its seat the name that says so. Its notice comes before, and its
-// port is filled after.
+// Closes a subscription, and gives its seat the name that says so. Its notice comes before.
 fn end_slot(
     board: &Board<Identity>,
     keeper: &mut Keeper<Identity>,
@@ -87,8 +80,7 @@ fn end_slot(
 }
 
 // The same for an optional subscription. The slot is never free here.
-fn close_at<R: Wait>(
-    rt: &R,
+fn close_at(
     board: &Board<Identity>,
     keeper: &mut Keeper<Identity>,
     slot: &mut Option<Subscription>,
@@ -110,7 +102,7 @@ fn close_at<R: Wait>(
 {
     let number = meet_same(board, keeper, seat);
     let Some(taken) = slot else { unreachable!() };
-    if close_slot(rt, board, keeper, taken, seat, number) {
+    if close_slot(board, keeper, taken, seat, number) {
         Some(number)
     } else {
         None
@@ -119,9 +111,8 @@ fn close_at<R: Wait>(
 
 /// Closes the seat's subscription, unless it has ended, and answers the number of changes.
 ///
-/// First it ends as hung up where its reader asked for that. Then its port is filled.
-pub fn close_in<R: Wait>(
-    rt: &R,
+/// First it ends as hung up where its reader asked for that. Its port is still to be filled.
+pub fn close_in(
     board: &Board<Identity>,
     slots: &mut ServerSlots,
     seat: &mut Seat<Identity>,
@@ -137,7 +128,7 @@ pub fn close_in<R: Wait>(
 {
     let place = seat.slot() as usize;
     let keeper = &mut slots.keeper;
-    close_at(rt, board, keeper, &mut slots.subscriptions[place], seat)
+    close_at(board, keeper, &mut slots.subscriptions[place], seat)
 }
 
 // Takes a slot's seat back and frees the slot.

@@ -1,5 +1,6 @@
 //! The names of subscriptions, for contracts alone.
 use lq_predicate::Predicate;
+use lq_update::Mark;
 use std::marker::Model;
 
 /// Which port it is, as a contract sees it. No value of this type exists.
@@ -29,8 +30,17 @@ pub enum FirstClose {
     Late,
 }
 
-/// The name that goes with a slot's seat: which subscription it is, and what its first close
-/// answered.
+/// What its reader was last told of a subscription, by its opening or a sync.
+#[derive(Clone, Copy)]
+pub enum Told {
+    /// It was live after this many changes. This many parcels had been taken from its port then.
+    Live { change: u64, seen: u64 },
+    /// It had ended with this mark.
+    Ended(Mark),
+}
+
+/// The name that goes with a slot's seat: which subscription it is, what its reader was last told
+/// of it, and what its first close answered.
 ///
 /// No value of this type exists.
 pub struct Identity {
@@ -46,6 +56,8 @@ pub struct Identity {
     pub backlog: u64,
     /// How often the slot's seats had asked at the opening.
     pub asks: u64,
+    /// What its reader was last told.
+    pub told: Told,
     /// What the first close answered.
     pub first_close: FirstClose,
     /// The port.

@@ -28,7 +28,7 @@ mod witness;
 pub use change::change_in;
 pub use close::{close_in, free_in};
 pub use delivery::Delivery;
-pub use identity::Identity;
+pub use identity::{Identity, Told};
 pub use laws::{
     acts_show_worlds, books_extend_on, books_extend_themselves, slots_show_worlds, states_stay,
 };

@@ -11,7 +11,7 @@ ghost use Rattle.lq_server_slots.specs.Slots.{AreUnchanged, SlotsStand, StandsBe
 ghost use Rattle.lq_server_slots.specs.Opening.{IsBegun, IsOpened, IsOpeningAnswer};
 
 use crate::delivery::{Delivery, Opening};
-use crate::identity::{FirstClose, Identity};
+use crate::identity::{FirstClose, Identity, Told};
 use crate::laws::new_subscriptions_stand;
 use crate::reading::Reading;
 use crate::slots::{PLACES, ServerSlots};
@@ -92,6 +92,10 @@ fn begin(
         input,
         places: asked.port,
         asks: 0,
+        told: Witness::of(&Told::Live {
+            change: at,
+            seen: 0,
+        }),
         first_close: FirstClose::Never,
     };
     let reading = Reading::new(output, Rebuild::new(alloc, at, entries));
@@ -122,6 +126,7 @@ fn sit_named(
       name = Some (identity_of slot.now);
       author = new_author keeper.old.register;
     } }
+    ensures signs { result.author.signs ≡ keeper.old.board.free }
 {
     // For the contract alone, which names the subscription.
     let _ = slot;
@@ -150,6 +155,7 @@ fn sit(
       name = Some (identity_of slot.now);
       author = new_author keeper.old.register;
     } }
+    ensures signs { result.author.signs ≡ keeper.old.board.free }
 {
     sit_named(board, keeper, slot, place)
 }

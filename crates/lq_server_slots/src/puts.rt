@@ -20,6 +20,7 @@ pub fn put_one<R: Wait>(rt: &R, keeper: &Keeper<Identity>, slot: &mut Subscripti
     requires { StandsAt slot.old keeper.now.book }
     ensures stands { StandsAt slot.new keeper.now.book }
     ensures alike { SameButPuts slot.old slot.new }
+    ensures taken { slot.new.input.taken ≡ slot.old.input.taken }
     ensures moved { MatchBool result (left slot.new < left slot.old)
         ((slot.new.input ≡ slot.old.input) × IsStuck slot.new) }
 {
@@ -49,6 +50,7 @@ pub fn fill<R: Wait>(rt: &R, keeper: &Keeper<Identity>, slot: &mut Subscription)
     requires { StandsAt slot.old keeper.now.book }
     ensures stands { StandsAt slot.new keeper.now.book }
     ensures alike { SameButPuts slot.old slot.new }
+    ensures taken { slot.new.input.taken ≡ slot.old.input.taken }
     ensures stuck { IsStuck slot.new }
 {
     // Asked first, so that nothing is moved where nothing is left.

@@ -1,5 +1,5 @@
 //! Reading: the end of a subscription that takes its parcels and folds them.
-ghost use Rattle.std.specs.Prelude.{◌≡◌, [], length, IfOk, IfSome, OnErr, Ok, Some, None, is_some, IsSome, IsTrue, true, ◌↔◌};
+ghost use Rattle.std.specs.Prelude.{◌≡◌, ◌≢◌, ◌≤◌, [], length, IfOk, IfSome, OnErr, Ok, Some, None, is_some, IsSome, IsTrue, true, ◌↔◌};
 ghost use mathlib.Core.List.{IsPrefix};
 ghost use Rattle.lq_value.specs.Refusal.{FailsOnlyForMemory};
 ghost use Rattle.lq_volume.specs.Book.{Extends, state_of, state_at};
@@ -187,9 +187,9 @@ impl Reading {
         self.read_by(rt, false)
     }
 
-    /// As `read`, but it waits for a parcel if there is none.
+    /// As `read`, but it waits for a parcel if there is none, and never answers `Empty`.
     ///
-    /// `Empty` also means that the other end is gone, which no clause says.
+    /// Where the other end is gone and nothing is left, it waits for ever.
     pub fn read_waiting<R: Wait>(&mut self, rt: &R) -> Result<Read, Refusal>
         ensures refused { FailsOnlyForMemory result }
         ensures same { IsSamePort self.old.port self.new.port }
@@ -200,6 +200,7 @@ impl Reading {
         ensures fails { OnErr result (Fails self.old self.new) }
         ensures hand { OnErr result (IsSome self.new.hand) }
         ensures over { IsSome (mark_read self.old) → result ≡ Ok Read.Ended }
+        ensures waits { result ≢ Ok Read.Empty }
     {
         self.read_by(rt, true)
     }
@@ -215,6 +216,7 @@ impl Reading {
         ensures fails { OnErr result (Fails self.old self.new) }
         ensures hand { OnErr result (IsSome self.new.hand) }
         ensures over { IsSome (mark_read self.old) → result ≡ Ok Read.Ended }
+        ensures waits { waits ≡ true → result ≢ Ok Read.Empty }
     {
         // For the proof: a fold takes each message of the update list.
         rebuilds_take_all();
@@ -250,6 +252,7 @@ impl Reading {
         ensures fails { OnErr result (Fails self.old self.new) }
         ensures hand { OnErr result (IsSome self.new.hand) }
         ensures over { IsSome (mark_read self.old) → result ≡ Ok Read.Ended }
+        ensures gave { result ≢ Ok Read.Empty }
     {
         // For the proof: a fold takes each message of the update list.
         rebuilds_take_all();
@@ -257,6 +260,13 @@ impl Reading {
             unreachable!()
         };
         keep(&mut self.rebuild, &mut self.hand, message)
+    }
+
+    /// How many parcels were taken from the port. It neither waits nor takes memory.
+    pub(crate) fn taken(&self) -> u64
+        ensures { result ≡ length self.now.port.taken }
+    {
+        self.output.taken()
     }
 
     /// How many parcels wait, found with both ends of the port.
@@ -268,6 +278,7 @@ impl Reading {
         ensures value { result ≡ length self.new.port.ahead }
         ensures put { all_put self.new.port ≡ all_put input.old }
         ensures taken { self.new.port.taken ≡ self.old.port.taken }
+        ensures within { result ≤ input.new.places }
         ensures known { IsPrefix self.old.port.ahead self.new.port.ahead }
         ensures input { (input.new.taken ≡ self.new.port.taken)
             × (input.new.ahead ≡ self.new.port.ahead) }

@@ -8,7 +8,8 @@ ghost use Rattle.lq_server_slots.specs.Standing.{StandsAt, IsFilled, IsReady, Sa
 ghost use Rattle.lq_server_slots.specs.Marking.{hung_mark, after_close, held_committed, held_noticed, held_closed};
 
 use crate::delivery::Delivery;
-use crate::identity::FirstClose;
+use crate::identity::{FirstClose, Told};
+use crate::witness::Witness;
 use lq_desk_sub::Sub;
 use lq_port::PortIn;
 use lq_update::{Cause, steps_are_few};
@@ -25,6 +26,8 @@ pub struct Subscription {
     pub places: u64,
     /// How often its slot's seats had asked at the opening.
     pub asks: u64,
+    /// What its reader was last told. Contracts alone read it.
+    pub told: Witness<Told>,
     /// The answer of its first close.
     pub first_close: FirstClose,
 }
@@ -37,6 +40,7 @@ impl Drop for Subscription {
             input: _,
             places: _,
             asks: _,
+            told: _,
             first_close: _,
         } = self;
     }

@@ -3,18 +3,19 @@ ghost use Rattle.std.specs.Prelude.{◌≡◌, ◌<◌, ◌≤◌, length, IsSom
 ghost use Rattle.lq_volume.specs.Book.{Extends};
 ghost use Rattle.lq_board.specs.Slot.{slot_at};
 ghost use Rattle.lq_server_slots.specs.Identity.{identity_of};
-ghost use Rattle.lq_server_slots.specs.Standing.{SameButHeld};
+ghost use Rattle.lq_server_slots.specs.Standing.{SameButHeld, StandsAt, told_by};
 ghost use Rattle.lq_server_slots.specs.declared.subscription.Subscription.{Subscription as SubscriptionOf};
 ghost use Rattle.lq_server_slots.specs.declared.identity.Identity.{Identity as IdentityOf};
 ghost use Rattle.lq_server_slots.specs.Slots.{IsTaken, SlotStands, SlotsStand, OnlyAt, SameButKnown, asks_of};
 ghost use Rattle.lq_server_slots.specs.Opening.{IdentityFits};
-ghost use Rattle.lq_server_slots.specs.Progress.{ShowsProgress};
+ghost use Rattle.lq_server_slots.specs.Progress.{IsShown, ShowsProgress};
 
-use crate::identity::Identity;
+use crate::identity::{Identity, Told};
 use crate::puts::drain;
 use crate::reading::Reading;
 use crate::slots::{ServerSlots, notice_slot};
 use crate::subscription::Subscription;
+use crate::witness::Witness;
 use lq_board::{Board, Keeper, Seat};
 use lq_update::Mark;
 use std::sync::Wait;
@@ -132,39 +133,39 @@ pub(crate) fn notice_by(
     notice_slot(board, keeper, slot, place, number);
 }
 
-// The rest of a sync, after the subscription has ended where its reader asked for that.
-fn sync_slot<R: Wait>(
+// The rest of a sync, after the subscription has ended where its reader asked for that: its port is
+// filled, and its progress told.
+fn show<R: Wait>(
     rt: &R,
-    board: &Board<Identity>,
-    keeper: &mut Keeper<Identity>,
+    keeper: &Keeper<Identity>,
     slot: &mut Subscription,
-    seat: &mut Seat<Identity>,
     reading: &mut Reading,
+    number: u64,
 ) -> Progress
-    requires board { (keeper.old.board ≡ board.now) × (seat.old.board ≡ board.now) }
-    requires place { (0 < seat.old.slot) × (seat.old.slot < 65)
-        × (length keeper.old.slots ≡ 65) }
-    requires named { seat.old.name ≡ Some (identity_of slot.old) }
-    requires seat { seat.old.book ≡ keeper.old.book }
-    requires ended { slot.old.asks < seat.old.asks → IsSome slot.old.sub.held.mark }
-    requires taken { IsTaken slot.old (slot_at keeper.old.slots seat.old.slot) keeper.old.book }
+    requires stands { StandsAt slot.old keeper.now.book }
+    requires number { number ≡ length keeper.now.book.changes }
     requires port { reading.old.port.port ≡ slot.old.input.port }
-    ensures board { keeper.new.board ≡ keeper.old.board }
-    ensures book { keeper.new.book ≡ keeper.old.book }
-    ensures only { OnlyAt keeper.old.slots keeper.new.slots seat.old.slot }
-    ensures taken { IsTaken slot.new (slot_at keeper.new.slots seat.old.slot) keeper.new.book }
-    ensures asks { slot.new.asks ≡ slot.old.asks }
-    ensures seat { seat.new.book ≡ keeper.old.book }
-    ensures progress { ShowsProgress slot.new seat.old seat.new reading.old reading.new result }
+    ensures { IsShown slot.old slot.new reading.old reading.new keeper.now.book result }
 {
-    let number = meet_same(board, keeper, seat);
     let waiting = drain(rt, keeper, slot, reading);
+    let mark = slot.sub.mark();
+    slot.told = Witness::of(&told_after(number, reading.taken(), mark));
     Progress {
         change: number,
         waiting,
         held: slot.sub.held(),
-        mark: slot.sub.mark(),
+        mark,
         out: slot.sub.is_marked(),
+    }
+}
+
+// What a reader is told after this many changes, where it has taken this many parcels.
+fn told_after(change: u64, seen: u64, mark: Option<Mark>) -> Told
+    ensures { result ≡ told_by change seen mark }
+{
+    match mark {
+        None => Told::Live { change, seen },
+        Some(mark) => Told::Ended(mark),
     }
 }
 
@@ -196,7 +197,9 @@ fn sync_at<R: Wait>(
     let number = meet_same(board, keeper, seat);
     let Some(taken) = slot else { unreachable!() };
     notice_by(board, keeper, taken, seat, number);
-    sync_slot(rt, board, keeper, taken, seat, reading)
+    let progress = show(rt, keeper, taken, reading, number);
+    meet_under(board, keeper, seat, taken);
+    progress
 }
 
 // As `meet_same`, for an optional subscription.

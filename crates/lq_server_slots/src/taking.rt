@@ -1,5 +1,5 @@
 //! Taking a parcel, and folding a message.
-ghost use Rattle.std.specs.Prelude.{◌≡◌, [], IfOk, IfSome, IfNone, OnOk, OnErr, Ok, Some, None};
+ghost use Rattle.std.specs.Prelude.{◌≡◌, [], IfOk, IfSome, IfNone, OnOk, OnErr, Ok, Some, None, IsSome, true};
 ghost use Rattle.lq_value.specs.Refusal.{FailsOnlyForMemory, first_refusal};
 ghost use Rattle.lq_update.specs.Fold.{fold_refusals, folding_after};
 ghost use Rattle.lq_port.specs.End.{IsSamePort, Loses};
@@ -36,7 +36,8 @@ pub(crate) fn keep(
     }
 }
 
-/// The next parcel, with or without waiting for it.
+/// The next parcel, with or without waiting for it. Where the other end is gone and nothing is
+/// left, a call that waits does so for ever.
 pub(crate) fn take_one<R: Wait>(
     output: &mut PortOut<Delivery>,
     rt: &R,
@@ -47,9 +48,19 @@ pub(crate) fn take_one<R: Wait>(
     ensures port { IsSamePort output.old output.new }
     ensures empty { IfNone result (output.old.ahead ≡ []) }
     ensures none { IfNone result (output.new ≡ output.old) }
+    ensures waits { waits ≡ true → IsSome result }
 {
-    if waits {
-        return output.take_waiting(rt);
+    if !waits {
+        return output.take(rt);
     }
-    output.take(rt)
+    let Some(item) = output.take_waiting(rt) else {
+        wait_for_ever(rt)
+    };
+    Some(item)
+}
+
+// Waits for ever.
+fn wait_for_ever<R: Wait>(rt: &R) -> ! {
+    for _ in rt.forever() {}
+    unreachable!()
 }

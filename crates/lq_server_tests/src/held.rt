@@ -1,5 +1,5 @@
 //! A seat and a reader of N's server, by types that keep what its calls require of them.
-ghost use Rattle.std.specs.Prelude.{◌≡◌};
+ghost use Rattle.std.specs.Prelude.{◌≡◌, true};
 
 use crate::acts::{Act, Told, are_entries};
 use crate::draws::Asked;
@@ -27,16 +27,15 @@ impl<N: Named> Drop for SeatOf<N> {
 }
 
 impl<N: Named> Model for SeatOf<N> {
-    ghost use Rattle.std.specs.Prelude.{◌≡◌};
-    ghost use Rattle.atomic_table.specs.Seated.{TableId, table_id_coded};
+    ghost use Rattle.std.specs.Prelude.{◌≡◌, true};
+    ghost use Rattle.lq_board.specs.Token.{BoardName};
 
-    ghost Value = { TableId };
-
-    ghost coded = { table_id_coded };
+    ghost Value = { BoardName };
 
     ghost view = { λ s. s.seat.board };
 
-    ghost invariant = { λ s. (s.seat.board ≡ N.board) × (s.seat.slot ≡ 0) };
+    ghost invariant = { λ s. (s.seat.board ≡ N.board) × (s.seat.slot ≡ 0)
+        × (s.seat.author.signs ≡ true) };
 }
 
 /// A reader of N's server, whose seat is its own, and what it was told.
@@ -59,12 +58,10 @@ impl<N: Named> Drop for ReaderOf<N> {
 
 impl<N: Named> Model for ReaderOf<N> {
     ghost use Rattle.std.specs.Prelude.{◌≡◌};
-    ghost use Rattle.atomic_table.specs.Seated.{TableId, table_id_coded};
+    ghost use Rattle.lq_board.specs.Token.{BoardName};
     ghost use Rattle.lq_server.specs.Own.{IsOwn};
 
-    ghost Value = { TableId };
-
-    ghost coded = { table_id_coded };
+    ghost Value = { BoardName };
 
     ghost view = { λ r. r.reader.seat.board };
 
@@ -72,8 +69,10 @@ impl<N: Named> Model for ReaderOf<N> {
 }
 
 impl<N: Named> SeatOf<N> {
-    /// As `Server::seat`.
-    pub fn new<R: Wait>(rt: &R, server: &Server<N>) -> Result<SeatOf<N>, Refusal> {
+    /// As `Server::seat`, at a server each seat of which may make changes.
+    pub fn new<R: Wait>(rt: &R, server: &Server<N>) -> Result<SeatOf<N>, Refusal>
+        requires { N.board.free ≡ true }
+    {
         let seat = server.seat(rt)?;
         Ok(SeatOf {
             seat,

@@ -1,5 +1,5 @@
 //! A scenario: parties at one server, each in a thread of its own, turn by turn.
-ghost use Rattle.std.specs.Prelude.{◌≡◌};
+ghost use Rattle.std.specs.Prelude.{◌≡◌, true};
 
 use crate::draws::{Draws, QUERIES};
 use crate::held::SeatOf;
@@ -102,7 +102,9 @@ fn act<N: Named + Send + Sync, R: Threads + Wait + Sync>(
     tries: usize,
     seed: usize,
     scenario: &Scenario,
-) -> Result<Acted, Refusal> {
+) -> Result<Acted, Refusal>
+    requires { N.board.free ≡ true }
+{
     let mut parties = gather(rt, alloc, server, tries, seed, scenario)?;
     for turn in scenario.turns {
         for (place, party) in parties.iter_mut().enumerate() {
@@ -130,7 +132,9 @@ fn gather<N: Named, R: Wait>(
     tries: usize,
     seed: usize,
     scenario: &Scenario,
-) -> Result<Vec<Party<N>>, Refusal> {
+) -> Result<Vec<Party<N>>, Refusal>
+    requires { N.board.free ≡ true }
+{
     let mut parties = match Vec::with_capacity(alloc, 4) {
         Ok(parties) => parties,
         Err(_) => Vec::with_capacity(alloc, 4)?,

@@ -1,5 +1,6 @@
 //! A reader's seat in the calls on the volume.
-ghost use Rattle.std.specs.Prelude.{◌≡◌, IfOk};
+ghost use Rattle.std.specs.Prelude.{◌≡◌, [], true, IfOk};
+ghost use Rattle.lq_board.specs.Token.{counted_board};
 ghost use Rattle.lq_server.specs.Own.{IsOwn, StaysOwn};
 
 use crate::acts::file;
@@ -22,9 +23,10 @@ fn open<N: Named, R: Wait>(
     port: u64,
 ) -> Result<Reader, Refusal>
     requires { seat.old.board ≡ N.board }
-    ensures seat { seat.new.board ≡ N.board }
+    ensures seat { seat.new ≡ record seat.old { book = seat.new.book } }
     ensures own { StaysOwn seat.old seat.new }
-    ensures reader { IfOk result (λ r. (r.seat.board ≡ N.board) × IsOwn r) }
+    ensures reader { IfOk result (λ r. (r.seat.board ≡ N.board) × IsOwn r
+        × (r.seat.author.signs ≡ N.board.free) × (r.seat.author.changes ≡ [])) }
 {
     let predicate = read(alloc, "name=*")?;
     server.open(rt, seat, &predicate, port, 8, false)
@@ -37,8 +39,8 @@ fn add<N: Named, R: Wait>(
     server: &Server<N>,
     seat: &mut Seat,
 ) -> Result<Accepted, Refusal>
-    requires { seat.old.board ≡ N.board }
-    ensures seat { seat.new.board ≡ N.board }
+    requires { (seat.old.board ≡ N.board) × (seat.old.author.signs ≡ true) }
+    ensures seat { (seat.new.board ≡ N.board) × (seat.new.author.signs ≡ true) }
     ensures own { StaysOwn seat.old seat.new }
 {
     let change = file(Name::read(alloc, "a")?);
@@ -72,7 +74,7 @@ fn numbers<N: Named, R: Wait>(
     server: &Server<N>,
     seat: &mut Seat,
 ) -> Result<[u64; 8], Refusal>
-    requires { seat.old.board ≡ N.board }
+    requires { (seat.old.board ≡ N.board) × (seat.old.author.signs ≡ true) }
     ensures { seat.new.board ≡ N.board }
 {
     let made = add(rt, alloc, server, seat)?;
@@ -115,7 +117,8 @@ fn goes_on<N: Named, R: Wait>(
     server: &Server<N>,
     reader: &mut Reader,
 ) -> Result<bool, Refusal>
-    requires { (reader.old.seat.board ≡ N.board) × IsOwn reader.old }
+    requires { (reader.old.seat.board ≡ N.board) × IsOwn reader.old
+        × (reader.old.seat.author.signs ≡ true) }
     ensures { (reader.new.seat.board ≡ N.board) × IsOwn reader.new }
 {
     add(rt, alloc, server, reader.seat())?;
@@ -136,6 +139,25 @@ fn goes_on_at<N: Named, R: Wait>(rt: &R, alloc: Global, base: Base) -> Result<bo
     let mut reader = open(rt, alloc, &server, &mut seat, 1)?;
     let goes_on = goes_on(rt, alloc, &server, &mut reader)?;
     Ok(goes_on && server.finish(rt, reader).is_ok())
+}
+
+/// The number of changes at the end of a counted server, one of which a reader's seat makes.
+fn counted<N: Named, R: Wait>(rt: &R, alloc: Global, base: Base) -> Result<u64, Refusal>
+    requires { (N.board ≡ counted_board base.board) × (base.volume ≡ N.start) }
+{
+    let (server, mut head): (Server<N>, Seat) = Server::counted(base);
+    let mut reader = open(rt, alloc, &server, &mut head, 4)?;
+    server.enlist(&mut head, reader.seat());
+    add(rt, alloc, &server, reader.seat())?;
+    server.dismiss(&mut head, reader.seat());
+    Ok(server.retire(rt, head).changes)
+}
+
+#[test]
+fn a_counted_server_counts_a_readers_seat(rt: HostRuntime) -> Result<(), Fail> {
+    let base = base(rt.alloc())?;
+    assert!(rt; counted::<Brand, _>(&rt, rt.alloc(), base)? == 1);
+    Ok(())
 }
 
 #[test]

@@ -1,5 +1,5 @@
 //! Reads that wait, and the numbers of a sync.
-ghost use Rattle.std.specs.Prelude.{◌≡◌};
+ghost use Rattle.std.specs.Prelude.{◌≡◌, true};
 ghost use Rattle.lq_server.specs.Own.{IsOwn};
 
 use crate::acts::file;
@@ -60,7 +60,8 @@ struct Writes<'a> {
 impl<'a> Work for Writes<'a> {
     type Given = Result<u64, Refusal>;
 
-    ghost can = { λ writes board. (writes.seat.board ≡ board) × (writes.seat.slot ≡ 0) };
+    ghost can = { λ writes board. (writes.seat.board ≡ board) × (writes.seat.slot ≡ 0)
+        × (writes.seat.author.signs ≡ true) };
 
     ghost gives = { λ _ _ _. Unit {0} };
 
@@ -103,8 +104,10 @@ fn fetch_until<N: Named, R: Wait>(
     predicate: &Predicate,
     has_come: &AtomicBool,
 ) -> Result<(), Refusal>
-    requires { (seat.old.board ≡ N.board) × (seat.old.slot ≡ 0) }
-    ensures { (seat.new.board ≡ N.board) × (seat.new.slot ≡ 0) }
+    requires { (seat.old.board ≡ N.board) × (seat.old.slot ≡ 0)
+        × (seat.old.author.signs ≡ true) }
+    ensures { (seat.new.board ≡ N.board) × (seat.new.slot ≡ 0)
+        × (seat.new.author.signs ≡ true) }
 {
     for _ in 0..MOST_FETCHES {
         if has_come.load(Ordering::SeqCst) {
@@ -121,8 +124,10 @@ fn fetch_often<N: Named, R: Wait>(
     seat: &mut Seat,
     predicate: &Predicate,
 ) -> Result<(), Refusal>
-    requires { (seat.old.board ≡ N.board) × (seat.old.slot ≡ 0) }
-    ensures { (seat.new.board ≡ N.board) × (seat.new.slot ≡ 0) }
+    requires { (seat.old.board ≡ N.board) × (seat.old.slot ≡ 0)
+        × (seat.old.author.signs ≡ true) }
+    ensures { (seat.new.board ≡ N.board) × (seat.new.slot ≡ 0)
+        × (seat.new.author.signs ≡ true) }
 {
     for _ in 0..FETCHES {
         server.fetch(rt, seat, predicate)?;
@@ -136,8 +141,10 @@ fn apply_all<N: Named, R: Wait>(
     seat: &mut Seat,
     changes: &[Change],
 ) -> Result<(), Refusal>
-    requires { (seat.old.board ≡ N.board) × (seat.old.slot ≡ 0) }
-    ensures { (seat.new.board ≡ N.board) × (seat.new.slot ≡ 0) }
+    requires { (seat.old.board ≡ N.board) × (seat.old.slot ≡ 0)
+        × (seat.old.author.signs ≡ true) }
+    ensures { (seat.new.board ≡ N.board) × (seat.new.slot ≡ 0)
+        × (seat.new.author.signs ≡ true) }
 {
     for change in changes {
         server.apply(rt, seat, change)?;

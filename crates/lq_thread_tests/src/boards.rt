@@ -55,3 +55,24 @@ fn a_change_is_by_a_seat(rt: HostRuntime) -> Result<(), Fail> {
     assert!(rt; authors(rt.alloc())? == [1, 1, 1]);
     Ok(())
 }
+
+// The number of a change by an enlisted seat of a slot, at a counted board, and the number at its
+// end, by its leading seat.
+fn counted(alloc: Global) -> Result<[u64; 2], Refusal> {
+    let volume = Volume::new(alloc, 9);
+    let change = lawful(alloc, &volume, "a")?;
+    let (mut board, mut keeper): (Board<u64>, Keeper<u64>) = Board::new(alloc, &volume)?;
+    let mut head: Seat<u64> = board.lead(&mut keeper);
+    let mut one: Seat<u64> = board.slot_seat(&mut keeper, 1);
+    board.enlist(&mut head, &mut one);
+    let added = board.add_by(&mut keeper, &mut one, &change);
+    board.dismiss(&mut head, &mut one);
+    board.join(&mut keeper, one);
+    Ok([added, board.close_with(keeper, head)])
+}
+
+#[test]
+fn a_counted_board_counts_an_enlisted_seat(rt: HostRuntime) -> Result<(), Fail> {
+    assert!(rt; counted(rt.alloc())? == [1, 1]);
+    Ok(())
+}

@@ -1,5 +1,5 @@
 //! Of lq_server: each call of a reader, and of a server on one, in one thread.
-ghost use Rattle.std.specs.Prelude.{◌≡◌, IfOk};
+ghost use Rattle.std.specs.Prelude.{◌≡◌, true, IfOk};
 ghost use Rattle.lq_server.specs.Own.{IsOwn};
 
 use crate::servers::{Part, add, answers};
@@ -19,8 +19,10 @@ fn open<N: Named, R: Wait>(
     seat: &mut Seat,
     moved: bool,
 ) -> Result<Reader, Refusal>
-    requires { (seat.old.board ≡ N.board) × (seat.old.slot ≡ 0) }
-    ensures seat { (seat.new.board ≡ N.board) × (seat.new.slot ≡ 0) }
+    requires { (seat.old.board ≡ N.board) × (seat.old.slot ≡ 0)
+        × (seat.old.author.signs ≡ true) }
+    ensures seat { (seat.new.board ≡ N.board) × (seat.new.slot ≡ 0)
+        × (seat.new.author.signs ≡ true) }
     ensures reader { IfOk result (λ r. (r.seat.board ≡ N.board) × IsOwn r) }
 {
     let predicate = read(alloc, "name=*")?;
@@ -35,8 +37,10 @@ pub fn by_reader<N: Named, R: Wait>(
     seat: &mut Seat,
     part: Part,
 ) -> Result<[u64; 4], Refusal>
-    requires { (seat.old.board ≡ N.board) × (seat.old.slot ≡ 0) }
-    ensures { (seat.new.board ≡ N.board) × (seat.new.slot ≡ 0) }
+    requires { (seat.old.board ≡ N.board) × (seat.old.slot ≡ 0)
+        × (seat.old.author.signs ≡ true) }
+    ensures { (seat.new.board ≡ N.board) × (seat.new.slot ≡ 0)
+        × (seat.new.author.signs ≡ true) }
 {
     let mut reader = open(rt, alloc, server, seat, false)?;
     match part {
@@ -65,9 +69,11 @@ fn reads<N: Named, R: Wait>(
     seat: &mut Seat,
     reader: &mut Reader,
 ) -> Result<[u64; 4], Refusal>
-    requires seat { (seat.old.board ≡ N.board) × (seat.old.slot ≡ 0) }
+    requires seat { (seat.old.board ≡ N.board) × (seat.old.slot ≡ 0)
+        × (seat.old.author.signs ≡ true) }
     requires reader { (reader.old.seat.board ≡ N.board) × IsOwn reader.old }
-    ensures { (seat.new.board ≡ N.board) × (seat.new.slot ≡ 0) }
+    ensures { (seat.new.board ≡ N.board) × (seat.new.slot ≡ 0)
+        × (seat.new.author.signs ≡ true) }
 {
     add(rt, alloc, server, seat, "a")?;
     add(rt, alloc, server, seat, "b")?;
@@ -93,8 +99,10 @@ pub fn shows<N: Named, R: Wait>(
     server: &Server<N>,
     seat: &mut Seat,
 ) -> Result<[u64; 4], Refusal>
-    requires { (seat.old.board ≡ N.board) × (seat.old.slot ≡ 0) }
-    ensures { (seat.new.board ≡ N.board) × (seat.new.slot ≡ 0) }
+    requires { (seat.old.board ≡ N.board) × (seat.old.slot ≡ 0)
+        × (seat.old.author.signs ≡ true) }
+    ensures { (seat.new.board ≡ N.board) × (seat.new.slot ≡ 0)
+        × (seat.new.author.signs ≡ true) }
 {
     add(rt, alloc, server, seat, "a")?;
     let mut reader = open(rt, alloc, server, seat, true)?;
@@ -110,9 +118,11 @@ fn is_shown<N: Named, R: Wait>(
     seat: &mut Seat,
     reader: &mut Reader,
 ) -> bool
-    requires seat { (seat.old.board ≡ N.board) × (seat.old.slot ≡ 0) }
+    requires seat { (seat.old.board ≡ N.board) × (seat.old.slot ≡ 0)
+        × (seat.old.author.signs ≡ true) }
     requires reader { (reader.old.seat.board ≡ N.board) × IsOwn reader.old }
-    ensures { (seat.new.board ≡ N.board) × (seat.new.slot ≡ 0) }
+    ensures { (seat.new.board ≡ N.board) × (seat.new.slot ≡ 0)
+        × (seat.new.author.signs ≡ true) }
 {
     let latest = reader.latest(server);
     let own: &mut Seat = reader.seat();

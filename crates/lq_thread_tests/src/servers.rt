@@ -2,7 +2,7 @@
 //!
 //! `answers` begins a server, makes the calls of a part at it and ends it. The calls take a seat
 //! and a reader that are lent, so that few ways out drop them.
-ghost use Rattle.std.specs.Prelude.{◌≡◌};
+ghost use Rattle.std.specs.Prelude.{◌≡◌, true};
 
 use crate::changes::create;
 use crate::readers::{by_reader, shows};
@@ -59,8 +59,10 @@ fn answer<N: Named, R: Wait>(
     seat: &mut Seat,
     part: Part,
 ) -> Result<[u64; 4], Refusal>
-    requires { (seat.old.board ≡ N.board) × (seat.old.slot ≡ 0) }
-    ensures { (seat.new.board ≡ N.board) × (seat.new.slot ≡ 0) }
+    requires { (seat.old.board ≡ N.board) × (seat.old.slot ≡ 0)
+        × (seat.old.author.signs ≡ true) }
+    ensures { (seat.new.board ≡ N.board) × (seat.new.slot ≡ 0)
+        × (seat.new.author.signs ≡ true) }
 {
     match part {
         Part::Looks => looks(rt, alloc, server, seat),
@@ -81,8 +83,10 @@ pub fn add<N: Named, R: Wait>(
     seat: &mut Seat,
     name: &str,
 ) -> Result<Accepted, Refusal>
-    requires { (seat.old.board ≡ N.board) × (seat.old.slot ≡ 0) }
-    ensures { (seat.new.board ≡ N.board) × (seat.new.slot ≡ 0) }
+    requires { (seat.old.board ≡ N.board) × (seat.old.slot ≡ 0)
+        × (seat.old.author.signs ≡ true) }
+    ensures { (seat.new.board ≡ N.board) × (seat.new.slot ≡ 0)
+        × (seat.new.author.signs ≡ true) }
 {
     let change = create(alloc, name)?;
     server.apply(rt, seat, &change)
@@ -95,8 +99,10 @@ fn looks<N: Named, R: Wait>(
     server: &Server<N>,
     seat: &mut Seat,
 ) -> Result<[u64; 4], Refusal>
-    requires { (seat.old.board ≡ N.board) × (seat.old.slot ≡ 0) }
-    ensures { (seat.new.board ≡ N.board) × (seat.new.slot ≡ 0) }
+    requires { (seat.old.board ≡ N.board) × (seat.old.slot ≡ 0)
+        × (seat.old.author.signs ≡ true) }
+    ensures { (seat.new.board ≡ N.board) × (seat.new.slot ≡ 0)
+        × (seat.new.author.signs ≡ true) }
 {
     let accepted: Accepted = add(rt, alloc, server, seat, "a")?;
     let name = Name::read(alloc, "a")?;
@@ -122,8 +128,10 @@ fn refusals<N: Named, R: Wait>(
     server: &Server<N>,
     seat: &mut Seat,
 ) -> Result<[u64; 4], Refusal>
-    requires { (seat.old.board ≡ N.board) × (seat.old.slot ≡ 0) }
-    ensures { (seat.new.board ≡ N.board) × (seat.new.slot ≡ 0) }
+    requires { (seat.old.board ≡ N.board) × (seat.old.slot ≡ 0)
+        × (seat.old.author.signs ≡ true) }
+    ensures { (seat.new.board ≡ N.board) × (seat.new.slot ≡ 0)
+        × (seat.new.author.signs ≡ true) }
 {
     let name = Name::read(alloc, "a")?;
     let none = server.find(rt, seat, 1, &name).err() == Some(Refusal::NoEntry);
@@ -146,8 +154,10 @@ fn seats<N: Named, R: Wait>(
     server: &Server<N>,
     one: &mut Seat,
 ) -> Result<[u64; 4], Refusal>
-    requires { (one.old.board ≡ N.board) × (one.old.slot ≡ 0) }
-    ensures { (one.new.board ≡ N.board) × (one.new.slot ≡ 0) }
+    requires { (one.old.board ≡ N.board) × (one.old.slot ≡ 0)
+        × (one.old.author.signs ≡ true) }
+    ensures { (one.new.board ≡ N.board) × (one.new.slot ≡ 0)
+        × (one.new.author.signs ≡ true) }
 {
     add(rt, alloc, server, one, "a")?;
     let mut two = server.seat(rt)?;
@@ -187,8 +197,10 @@ fn is_refused<N: Named, R: Wait>(
     numbers: (u64, u64),
     refusal: Refusal,
 ) -> bool
-    requires { (seat.old.board ≡ N.board) × (seat.old.slot ≡ 0) }
-    ensures { (seat.new.board ≡ N.board) × (seat.new.slot ≡ 0) }
+    requires { (seat.old.board ≡ N.board) × (seat.old.slot ≡ 0)
+        × (seat.old.author.signs ≡ true) }
+    ensures { (seat.new.board ≡ N.board) × (seat.new.slot ≡ 0)
+        × (seat.new.author.signs ≡ true) }
 {
     let opened = server.open(rt, seat, predicate, numbers.0, numbers.1, false);
     opened.err() == Some(refusal)
@@ -201,8 +213,10 @@ fn openings<N: Named, R: Wait>(
     server: &Server<N>,
     seat: &mut Seat,
 ) -> Result<[u64; 4], Refusal>
-    requires { (seat.old.board ≡ N.board) × (seat.old.slot ≡ 0) }
-    ensures { (seat.new.board ≡ N.board) × (seat.new.slot ≡ 0) }
+    requires { (seat.old.board ≡ N.board) × (seat.old.slot ≡ 0)
+        × (seat.old.author.signs ≡ true) }
+    ensures { (seat.new.board ≡ N.board) × (seat.new.slot ≡ 0)
+        × (seat.new.author.signs ≡ true) }
 {
     let predicate = read(alloc, "name=*")?;
     let none = is_refused(rt, server, seat, &predicate, (0, 65_537), Refusal::BadPort);

@@ -4,9 +4,9 @@ ghost use Rattle.lq_volume.specs.Book.{Extends};
 ghost use Rattle.lq_server_slots.specs.declared.subscription.Subscription.{Subscription as SubscriptionOf};
 ghost use Rattle.lq_server_slots.specs.declared.slots.ServerSlots.{ServerSlots as SlotsOf};
 ghost use Rattle.lq_server_slots.specs.Slots.{SameButKnown, SlotsStand, slot_in};
-ghost use Rattle.lq_server_slots.specs.Closing.{IsClosed};
 ghost use Rattle.lq_server_slots.specs.Opening.{IsOpened, IsOpeningAnswer, IdentityFits, asks_after};
 ghost use Rattle.lq_server_slots.specs.Progress.{ShowsProgress};
+ghost use Rattle.lq_server.specs.Closed.{IsClosing};
 
 use crate::locked::Locked;
 use crate::named::Named;
@@ -74,25 +74,29 @@ impl<N: Named> Locked<N> {
         sync_in(rt, board, &mut self.slots, seat, reading)
     }
 
-    /// Closes a reader's subscription, and answers the number of changes then.
+    /// Closes a reader's subscription, fills its port, and answers the number of changes then.
     ///
-    /// `None` where it had ended before, also where its reader asked for that. Its port is filled.
-    /// The seat then knows the book, and its name says what the first close answered. It takes no
-    /// memory.
+    /// `None` where it had ended before, also where its reader asked for that. The port is filled
+    /// as in `sync`. The seat then knows the book, and its name says what the first close answered.
+    /// It takes no memory.
     pub fn close<R: Wait>(
         &mut self,
         rt: &R,
         board: &Board<Identity>,
         seat: &mut Seat<Identity>,
+        reading: &mut Reading,
     ) -> Option<u64>
         requires board { (board.now ≡ N.board) × (seat.old.board ≡ N.board) }
-        requires seat { (0 < seat.old.slot) × IsSome seat.old.name }
+        requires seat { (0 < seat.old.slot)
+            × IsSomeAnd seat.old.name (λ t. IdentityFits t reading.old.port) }
         ensures same { self.new.keeper.book ≡ self.old.keeper.book }
         ensures openings { self.new.openings ≡ self.old.openings }
         ensures book { seat.new.book ≡ self.old.keeper.book }
-        ensures closed { IsClosed seat.new.book seat.old seat.new result }
+        ensures closed { IsClosing seat.old seat.new reading.old reading.new result }
     {
-        close_in(rt, board, &mut self.slots, seat)
+        let closed = close_in(board, &mut self.slots, seat);
+        sync_in(rt, board, &mut self.slots, seat, reading);
+        closed
     }
 
     /// Takes the seat of a slot back and frees the slot, so that an opening may take it.

@@ -1,5 +1,5 @@
 //! Calls on the volume under the lock.
-ghost use Rattle.std.specs.Prelude.{◌≡◌, ◌+◌, ◌<◌, [], ◌∷◌, length, IfOk, IfErr, OnOk, OnErr, Some, None};
+ghost use Rattle.std.specs.Prelude.{◌≡◌, ◌+◌, ◌<◌, [], ◌∷◌, length, true, IfOk, IfErr, OnOk, OnErr, Some, None};
 ghost use Rattle.lq_value.specs.Refusal.{FailsOnlyForMemory, IsRefusedBy, first_refusal};
 ghost use Rattle.lq_volume.specs.Book.{Extends, grown, state_of};
 ghost use Rattle.lq_volume.specs.Result.{result_of};
@@ -99,7 +99,8 @@ impl<N: Named> Locked<N> {
         seat: &mut Seat<Identity>,
         change: &Change,
     ) -> Result<Applied, Refusal>
-        requires { (board.now ≡ N.board) × (seat.old.board ≡ N.board) }
+        requires board { (board.now ≡ N.board) × (seat.old.board ≡ N.board) }
+        requires signs { seat.old.author.signs ≡ true }
         ensures applied { IsApplied change.now self.new.keeper.book seat.old seat.new result }
         ensures grown { OnOk result
             (self.new.keeper.book ≡ grown self.old.keeper.book (change.now ∷ [])) }

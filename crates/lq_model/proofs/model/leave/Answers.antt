@@ -1,11 +1,36 @@
--- The reader's seat knows the book of the seat that comes back.
-use Rattle.std.proofs.Common.{subst}
+-- The leading seat has gathered what the one enlisted seat made, and no other is enlisted.
+use Rattle.std.proofs.Common.{◌≡◌, ℕ, Bool, cond, eq-eqb, eqb, true, List, [], ◌∷◌, refl, sym, ap, ◌∙◌, subst}
 use Rattle.lq_volume.specs.Book.{Book}
-use Rattle.lq_server.specs.Retired.{IsRetiredBy}
+use Rattle.lq_board.specs.declared.views.Author.{Author}
+use Rattle.lq_board.specs.Author.{with_roll}
+use Rattle.lq_board.specs.Roll.{without}
+use Rattle.lq_board.specs.Token.{SeatToken}
+use Rattle.lq_server_slots.specs.declared.identity.Identity.{Identity}
+use Rattle.lq_server.specs.Retired.{IsRetired}
 use Rattle.lq_model.proofs.model.leave.Goals as goal
+
+-- nobody is left of a list of one
+alone : (k : ℕ) → without k (k ∷ []) ≡ []
+alone k = ap (λ (b : Bool). cond b [] (k ∷ [])) (eq-eqb k k refl)
 
 pub returns-clause-retired : goal.returns-clause-retired
 returns-clause-retired g c =
     let r = c.retire-retired.result in
-    subst (λ (b : Book). IsRetiredBy c.args.seat.author g.N.Named.start b r.volume r.changes)
-    c.requires.met c.retire-retired.ensures
+    let book =
+    ap (λ (s : SeatToken Identity). s.book) c.dismiss.ensures.head ∙ c.requires.met in
+    subst (λ (b : Book). IsRetired g.N.Named.start b r.volume r.changes) book
+    c.retire-retired.ensures.retired
+
+pub returns-clause-all : goal.returns-clause-all
+returns-clause-all g c =
+    let k : ℕ = c.args.seat.author.number in
+    let lead = c.requires.leads in
+    let d = c.dismiss.ensures in
+    let gathered : List ℕ = c.dismiss.new.head.author.gathered in
+    let now =
+    ap (λ (s : SeatToken Identity). s.author) d.head
+    ∙ ap (λ (a : Author). with_roll a (without k a.enlisted) gathered) lead in
+    let whole =
+    c.retire-retired.ensures.whole (ap (λ (a : Author). a.leads) now)
+    (ap (λ (a : Author). a.enlisted) now ∙ alone k) in
+    sym (d.merged.alone (ap (λ (a : Author). a.gathered) lead)) ∙ whole

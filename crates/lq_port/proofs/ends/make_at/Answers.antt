@@ -13,31 +13,32 @@ bounded_with-requires-clause-rule g c = begins g.T.Follows.follows g.T.Follows.n
 
 pub another-other-requires-clause-rule : goal.another-other-requires-clause-rule
 another-other-requires-clause-rule g c =
-    let e : view c.in_ok-sender.pass ≡ known true true g.T.Follows.no_floor [] [] =
+    let e : view c.in_ok-sender.pass ≡ known 0 true true g.T.Follows.no_floor [] [] =
     search rules in
-    opens g.T.Follows.follows _ _ g.named (ap (λ v. v.puts) e) (ap (λ v. v.takes) e)
+    opens g.T.Follows.follows _ _ g.named.0 g.named.1 (ap (λ v. v.puts) e) (ap (λ v. v.takes) e)
     (λ i. (e i).taken ++ (e i).ahead)
 
 pub invariant_of-result : goal.invariant_of-result
 invariant_of-result g c =
-    let e : view c.in_ok-sender.pass ≡ known true true g.T.Follows.no_floor [] [] =
+    let e : view c.in_ok-sender.pass ≡ known 0 true true g.T.Follows.no_floor [] [] =
     search rules in
-    let f : known_of c.another-other.new.pass ≡ known true false g.named [] [] =
-    c.another-other.ensures.rule.0 ∙ ap (putter g.named) e in
-    let n = new_end g.T.Follows.follows _ _ _ _ f in (
+    let f : known_of c.another-other.new.pass ≡ known g.named.0 true false g.named.1 [] [] =
+    c.another-other.ensures.rule.0 ∙ ap (putter g.named.0 g.named.1) e in
+    let n = new_end g.T.Follows.follows _ _ _ _ _ f in (
       c.another-other.ensures.channel.0,
       (ap (λ v. v.puts) f, ap (λ v. v.takes) f),
       sym n.1,
       n.2,
+      ap (λ v. v.room) f ∙ search rules,
     )
 
 pub invariant_of-result-2 : goal.invariant_of-result-2
 invariant_of-result-2 g c =
-    let e : view c.in_ok-sender.pass ≡ known true true g.T.Follows.no_floor [] [] =
+    let e : view c.in_ok-sender.pass ≡ known 0 true true g.T.Follows.no_floor [] [] =
     search rules in
-    let f : known_of c.another-other.result ≡ known false true g.named [] [] =
-    c.another-other.ensures.rule.1 ∙ ap (taker g.named) e in
-    let n = new_end g.T.Follows.follows _ _ _ _ f in
+    let f : known_of c.another-other.result ≡ known g.named.0 false true g.named.1 [] [] =
+    c.another-other.ensures.rule.1 ∙ ap (taker g.named.0 g.named.1) e in
+    let n = new_end g.T.Follows.follows _ _ _ _ _ f in
     let seat : IsSeatAt (receives_on c.in_ok-sender.receiver) c.another-other.result =
     search rules in
     (seat, (ap (λ v. v.puts) f, ap (λ v. v.takes) f), sym n.0, n.2)

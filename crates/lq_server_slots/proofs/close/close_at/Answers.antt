@@ -3,30 +3,30 @@ use Rattle.lq_board.specs.Slot.{slot_at}
 use Rattle.lq_board.specs.Token.{SeatToken}
 use Rattle.lq_server_slots.specs.declared.identity.Identity.{Identity}
 use Rattle.lq_server_slots.specs.declared.identity.FirstClose.TheVariants.{Never}
-use Rattle.lq_server_slots.specs.Slots.{IsTaken, IsPut, SlotStands}
+use Rattle.lq_server_slots.specs.Slots.{IsTaken, SlotStands}
 use Rattle.lq_server_slots.specs.Opening.{name_or}
 use Rattle.lq_server_slots.proofs.SyncLemmas.{only_then, seat_then, close_then}
 use Rattle.lq_server_slots.proofs.close.close_at.Goals as goal
 
 pub returns-then-close_slot-clause-book : goal.returns-then-close_slot-clause-book
-returns-then-close_slot-clause-book g c =
+returns-then-close_slot-clause-book c =
     c.close_slot.ensures.book ∙ c.meet_same-number.ensures.book
 
 pub returns-then-close_slot-clause-only : goal.returns-then-close_slot-clause-only
-returns-then-close_slot-clause-only g c =
+returns-then-close_slot-clause-only c =
     let m = c.meet_same-number.ensures in
     only_then _ _ _ _ _ m.only c.close_slot.ensures.only
     (ap (λ (s : SeatToken Identity). s.slot) m.seat)
 
 pub returns-then-close_slot-clause-fits : goal.returns-then-close_slot-clause-fits
-returns-then-close_slot-clause-fits g c =
+returns-then-close_slot-clause-fits c =
     let f = c.close_slot.new in
     subst (λ (k : ℕ). IsTaken f.slot (slot_at f.keeper.slots k) f.keeper.book)
     (ap (λ (s : SeatToken Identity). s.slot) c.meet_same-number.ensures.seat)
     c.close_slot.ensures.taken
 
 pub returns-then-close_slot-clause-closed : goal.returns-then-close_slot-clause-closed
-returns-then-close_slot-clause-closed g c =
+returns-then-close_slot-clause-closed c =
     let m = c.meet_same-number.ensures in
     let keeper = c.args.keeper.now in
     let same = ap (λ (s : SeatToken Identity). s.name) m.seat in
@@ -40,11 +40,6 @@ returns-then-close_slot-clause-closed g c =
           (c.close_slot.ensures.closes c.if-close_slot.true);
       late = λ lt. absurd (true≢false (sym c.if-close_slot.true ∙ c.close_slot.ensures.late
           (subst (λ (z : ℕ × ℕ). z.0 < z.1) (λ i. (named i, sym asks i)) lt)));
-      put = (
-        c.close_slot.new.slot,
-        subst (IsPut c.close_slot.new.slot c.close_slot.new.seat.name)
-            (c.close_slot.ensures.book ∙ m.book) c.close_slot.ensures.put,
-      );
       seat = seat_then c.args.seat.now c.meet_same-number.new.seat c.close_slot.new.seat _ _ m.seat
           m.book c.close_slot.ensures.seat;
       later = m.later;
@@ -54,35 +49,30 @@ returns-then-close_slot-clause-closed g c =
     }
 
 pub returns-else-close_slot-clause-book : goal.returns-else-close_slot-clause-book
-returns-else-close_slot-clause-book g c =
+returns-else-close_slot-clause-book c =
     c.close_slot.ensures.book ∙ c.meet_same-number.ensures.book
 
 pub returns-else-close_slot-clause-only : goal.returns-else-close_slot-clause-only
-returns-else-close_slot-clause-only g c =
+returns-else-close_slot-clause-only c =
     let m = c.meet_same-number.ensures in
     only_then _ _ _ _ _ m.only c.close_slot.ensures.only
     (ap (λ (s : SeatToken Identity). s.slot) m.seat)
 
 pub returns-else-close_slot-clause-fits : goal.returns-else-close_slot-clause-fits
-returns-else-close_slot-clause-fits g c =
+returns-else-close_slot-clause-fits c =
     let f = c.close_slot.new in
     subst (λ (k : ℕ). IsTaken f.slot (slot_at f.keeper.slots k) f.keeper.book)
     (ap (λ (s : SeatToken Identity). s.slot) c.meet_same-number.ensures.seat)
     c.close_slot.ensures.taken
 
 pub returns-else-close_slot-clause-closed : goal.returns-else-close_slot-clause-closed
-returns-else-close_slot-clause-closed g c =
+returns-else-close_slot-clause-closed c =
     let m = c.meet_same-number.ensures in
     let same = ap (λ (s : SeatToken Identity). s.name) m.seat in
     record {
       number = tt;
       closes = tt;
       late = λ lt. refl;
-      put = (
-        c.close_slot.new.slot,
-        subst (IsPut c.close_slot.new.slot c.close_slot.new.seat.name)
-            (c.close_slot.ensures.book ∙ m.book) c.close_slot.ensures.put,
-      );
       seat = seat_then c.args.seat.now c.meet_same-number.new.seat c.close_slot.new.seat _ _ m.seat
           m.book c.close_slot.ensures.seat;
       later = m.later;

@@ -3,7 +3,7 @@ use Rattle.lq_server_slots.proofs.TakenLemmas.{slots_stand-step}
 use Rattle.lq_server_slots.proofs.close.close_in.Goals as goal
 
 pub returns-clause-holding : goal.returns-clause-holding
-returns-clause-holding g c =
+returns-clause-holding c =
     let was = c.args.slots.now in
     let f = c.close_at.ensures in
     let low = c.requires.seat.0 in
@@ -15,4 +15,4 @@ returns-clause-holding g c =
     f.kept
 
 pub returns-clause-closed : goal.returns-clause-closed
-returns-clause-closed g c = c.close_at.ensures.closed
+returns-clause-closed c = c.close_at.ensures.closed

@@ -3,4 +3,4 @@ use Rattle.lq_server_slots.proofs.SyncLemmas.{only_trans}
 use Rattle.lq_server_slots.proofs.close.close_slot.Goals as goal
 
 pub returns-clause-only : goal.returns-clause-only
-returns-clause-only g c = search (rules, only_trans)
+returns-clause-only c = search (rules, only_trans)

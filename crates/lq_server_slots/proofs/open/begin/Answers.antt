@@ -35,7 +35,8 @@ returns-clause-begun c =
       opened = c.changes-at.result;
       book = c.of-2.result;
     })
-    (ap (λ (p : Prepared). p.held) c.in_ok-sub.ensures.value) number refl refl m.places m.floor
+    (ap (λ (p : Prepared). p.held) c.in_ok-sub.ensures.value) number refl c.of-3.ensures refl
+    m.places m.floor
     c.of.ensures refl refl (ap (λ (k : KeeperToken Identity). k.book) c.of-2.ensures) m.empty.0
     m.empty.1 c.requires.full
     (ap (λ (r : ReadingHold). r.port) reading ∙ m.ends) (ap (λ (r : ReadingHold). r.hand) reading)

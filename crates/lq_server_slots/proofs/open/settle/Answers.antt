@@ -5,7 +5,7 @@ use Rattle.lq_server_slots.specs.declared.identity.Identity.{Identity}
 use Rattle.lq_server_slots.specs.declared.subscription.Subscription.{Subscription}
 use Rattle.lq_server_slots.specs.Slots.{AllStand, IsListed}
 use Rattle.lq_server_slots.proofs.TakenLemmas.{listed-add}
-use Rattle.lq_server_slots.proofs.OpenLemmas.{settled}
+use Rattle.lq_server_slots.proofs.OpenLemmas.{settled, begun_seen}
 use Rattle.lq_server_slots.proofs.open.settle.Goals as goal
 
 pub returns-clause-holding : goal.returns-clause-holding
@@ -20,6 +20,7 @@ returns-clause-holding c =
       places =
           c.args.slot.places;
       asks = c.asks-asks.result;
+      told = c.args.slot.told;
       first_close = c.args.slot.first_close;
     } in
     let book : c.sit-seat.new.keeper.book ≡ was.keeper.book = c.sit-seat.ensures.book
@@ -30,7 +31,8 @@ returns-clause-holding c =
           place was.openings c.asks-asks.result s was.keeper.book h c.requires.place.0
           c.requires.place.1 c.requires.free
           (ap (λ (k : KeeperToken Identity). k.slots) c.asks-asks.ensures.keeper)
-          c.asks-asks.ensures.idle c.sit-seat.ensures.slots refl b.stands b.messages b.live),
+          c.asks-asks.ensures.idle c.sit-seat.ensures.slots refl b.stands
+          (begun_seen c.args.slot c.args.reading was.keeper.book _ _ _ _ b) b.messages b.live),
       subst (λ (t : List ℕ). IsListed t (slice_set was.subscriptions.items place (Some s)))
           (sym (c.push_reserved.ensures.items
           ∙ ap (λ (t : List ℕ). t ++ place ∷ []) c.in_ok-reserve.ensures.items))

@@ -3,7 +3,7 @@ use Rattle.lq_board.specs.Book.{IsFullBook}
 use Rattle.lq_board.specs.Slot.{slot_at}
 use Rattle.lq_server_slots.specs.Standing.{StandsAt}
 use Rattle.lq_server_slots.specs.Slots.{before_of}
-use Rattle.lq_server_slots.proofs.SlotLemmas.{to_fill_then, identity_others}
+use Rattle.lq_server_slots.proofs.SlotLemmas.{to_fill_then, seen_others, identity_others}
 use Rattle.lq_server_slots.proofs.CommitLemmas.{noticed_still}
 use Rattle.lq_server_slots.proofs.passes.commit_slot.Goals as goal
 
@@ -18,6 +18,7 @@ returns-clause-taken c =
     (subst (StandsAt c.commit.new.slot) (sym grown.book)
     (m.stands (before_of book) t.stands c.requires.ready grown.lawful
     (subst IsFullBook grown.book grown.full)))
+    (seen_others was c.commit.new.slot m.others t.seen)
     (identity_others was c.commit.new.slot m.others m.first_close) m.hung
 
 pub returns-clause-noticed : goal.returns-clause-noticed

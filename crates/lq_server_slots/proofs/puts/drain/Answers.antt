@@ -20,7 +20,7 @@ loop-slot-preserved g c =
       drains_on c.args.slot.now l.slot c.args.reading.now.port l.reading.port b.new.self.port
           b.new.input c.args.keeper.now.book b.result l.invariant.0 b.ensures.value b.ensures.put
           b.ensures.taken b.ensures.known b.ensures.input b.ensures.floor b.ensures.legal
-          b.ensures.ports c.put_one.new.slot c.put_one.ensures.stands c.put_one.ensures.alike,
+          b.ensures.within b.ensures.ports c.put_one.new.slot c.put_one.ensures.stands c.put_one.ensures.alike,
       b.ensures.hand ∙ l.invariant.1,
       b.ensures.result ∙ l.invariant.2,
     )
@@ -31,7 +31,8 @@ returns-then-waiting-slot-clause-between g c =
     let b = c.beside-waiting in
     looks c.args.slot.now l.slot c.args.reading.now.port l.reading.port b.new.self.port b.new.input
     c.args.keeper.now.book b.result l.invariant.0 b.ensures.value b.ensures.put b.ensures.taken
-    b.ensures.known b.ensures.input b.ensures.floor b.ensures.legal b.ensures.ports
+    b.ensures.known b.ensures.input b.ensures.floor b.ensures.legal
+    b.ensures.within b.ensures.ports
 
 pub returns-then-not-put_one-clause-between : goal.returns-then-not-put_one-clause-between
 returns-then-not-put_one-clause-between g c =
@@ -40,7 +41,7 @@ returns-then-not-put_one-clause-between g c =
     let seen = looks c.args.slot.now l.slot c.args.reading.now.port l.reading.port b.new.self.port
     b.new.input c.args.keeper.now.book b.result l.invariant.0 b.ensures.value b.ensures.put
     b.ensures.taken b.ensures.known b.ensures.input b.ensures.floor b.ensures.legal
-    b.ensures.ports in
+    b.ensures.within b.ensures.ports in
     beside_stays c.args.slot.now (record l.slot { input = b.new.input }) c.put_one.new.slot
     c.args.reading.now.port b.new.self.port c.args.keeper.now.book b.result seen
     c.put_one.ensures.stands c.put_one.ensures.alike c.if-not-put_one.ensures.moved.0

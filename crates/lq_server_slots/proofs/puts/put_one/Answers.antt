@@ -12,7 +12,7 @@ use Rattle.lq_server_slots.proofs.puts.put_one.Goals as goal
 pub put-requires : goal.put-requires
 put-requires g c =
     let s = c.args.slot.now in record {
-      follows = may_put s.sub.held s.input s.places s.first_close c.args.keeper.now.book c.requires
+      follows = may_put s.sub.held s.input s.places s.told.value s.first_close c.args.keeper.now.book c.requires
           c.in-Some.what (record { what = c.in-Some.what; book = c.of.result })
           (sym c.in-Some.ensures.value) refl
           (ap (λ (k : KeeperToken Identity). k.book) c.of.ensures);
@@ -25,9 +25,9 @@ returns-in-Ok-clause-stands g c =
     let next : next_parcel s.sub.held ≡ Some c.in-Some.what = sym c.in-Some.ensures.value in
     let held : c.next.new.self.held ≡ without s.sub.held (Some c.in-Some.what) =
     c.next.ensures.rest ∙ ap (without s.sub.held) next in
-    subst (λ (h : Held). Stands h c.put.new.self s.places s.first_close c.args.keeper.now.book)
+    subst (λ (h : Held). Stands h c.put.new.self s.places s.told.value s.first_close c.args.keeper.now.book)
     (sym held)
-    (put_stands s.sub.held s.input s.places s.first_close c.args.keeper.now.book c.requires
+    (put_stands s.sub.held s.input s.places s.told.value s.first_close c.args.keeper.now.book c.requires
     c.put.new.self c.in-Some.what item next refl
     (ap (λ (k : KeeperToken Identity). k.book) c.of.ensures) c.put.ensures.port c.in-Ok.ensures.ok)
 
@@ -41,16 +41,17 @@ returns-in-Ok-clause-alike g c =
     record {
       port = c.put.ensures.port;
       held = subst (SameHeld s.sub.held) (sym held)
-          (put_same s.sub.held s.input s.places s.first_close c.args.keeper.now.book c.requires
+          (put_same s.sub.held s.input s.places s.told.value s.first_close c.args.keeper.now.book c.requires
           c.put.new.self c.in-Some.what item next refl
           (ap (λ (k : KeeperToken Identity). k.book) c.of.ensures) c.put.ensures.port
           c.in-Ok.ensures.ok);
       places = refl;
       asks = refl;
+      told = refl;
       first_close = refl;
       given_same =
           ap (λ (h : Held). given h c.put.new.self) held
-          ∙ given_then s.sub.held s.input s.places s.first_close c.args.keeper.now.book c.requires
+          ∙ given_then s.sub.held s.input s.places s.told.value s.first_close c.args.keeper.now.book c.requires
           c.put.new.self c.in-Some.what item next refl
           (ap (λ (k : KeeperToken Identity). k.book) c.of.ensures) c.put.ensures.port
           c.in-Ok.ensures.ok;
@@ -64,14 +65,14 @@ returns-in-Ok-clause-moved g c =
     let held : c.next.new.self.held ≡ without s.sub.held (Some c.in-Some.what) =
     c.next.ensures.rest ∙ ap (without s.sub.held) next in
     subst (λ (h : Held). left_of h < left_of s.sub.held) (sym held)
-    (put_left s.sub.held s.input s.places s.first_close c.args.keeper.now.book c.requires
+    (put_left s.sub.held s.input s.places s.told.value s.first_close c.args.keeper.now.book c.requires
     c.put.new.self c.in-Some.what item next refl
     (ap (λ (k : KeeperToken Identity). k.book) c.of.ensures) c.put.ensures.port c.in-Ok.ensures.ok)
 
 pub returns-in_default-clause-stands : goal.returns-in_default-clause-stands
 returns-in_default-clause-stands g c =
     let s = c.args.slot.now in
-    subst (λ (h : Held). Stands h s.input s.places s.first_close c.args.keeper.now.book)
+    subst (λ (h : Held). Stands h s.input s.places s.told.value s.first_close c.args.keeper.now.book)
     (sym (none_out s.sub.held c.next.new.self.held (sym c.next.ensures.value ∙ c.in_default.is)
     c.next.ensures.rest)) c.requires
 
@@ -100,7 +101,7 @@ returns-in-Err-clause-stands g c =
     back_out c.putting_back_undoes.ensures s.sub.held c.next.new.self.held c.put_back.new.self.held
     c.in-Some.what c.in-Err.back.what (sym c.in-Some.ensures.value) c.next.ensures.rest back
     c.put_back.ensures.held in
-    subst (λ (z : Held × End Delivery Opening). Stands z.0 z.1 s.places s.first_close
+    subst (λ (z : Held × End Delivery Opening). Stands z.0 z.1 s.places s.told.value s.first_close
     c.args.keeper.now.book) {y = (c.put_back.new.self.held, c.put.new.self)}
     (λ i. (sym held i, sym c.in-Err.ensures.err i)) c.requires
 

@@ -9,13 +9,13 @@ pub returns-then-not-is_live-clause-stands : goal.returns-then-not-is_live-claus
 returns-then-not-is_live-clause-stands c = λ book stands ready lawful full.
     let s = c.args.slot.now in
     let there = some_there s.sub.held.mark (sym c.if-not-is_live.ensures) in
-    longer_marked s.sub.held s.input s.places s.first_close book stands
+    longer_marked s.sub.held s.input s.places s.told.value s.first_close book stands
     (grown book (c.args.change.now ∷ [])) there.0 (c.args.change.now ∷ [], refl) full there.1
 
 pub returns-clause-stands : goal.returns-clause-stands
 returns-clause-stands c = λ book stands ready lawful full.
     let s = c.args.slot.now in
-    committed_stands s.sub c.commit.new.self s.input s.places s.first_close book c.args.change.now
+    committed_stands s.sub c.commit.new.self s.input s.places s.told.value s.first_close book c.args.change.now
     (none_there s.sub.held.mark (sym c.if-not-is_live.ensures)) c.commit.ensures
     c.steps_are_few.ensures c.requires.filled stands ready lawful full
 

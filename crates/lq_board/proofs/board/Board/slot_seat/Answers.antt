@@ -1,16 +1,15 @@
--- A new seat knows that it made no change.
+-- A new seat has a number.
 use Rattle.std.proofs.Common.{ℕ, refl, sym, ap, subst, arith}
 use Rattle.atomic_table.specs.Table.{Me}
 use Rattle.lq_board.specs.declared.views.TokenView.{TokenView}
 use Rattle.lq_board.specs.View.{IsNamed, sitting_of}
-use Rattle.lq_board.proofs.AuthorLemmas.{new_author_in}
 use Rattle.lq_board.proofs.TokenLemmas.{is_sitting}
 use Rattle.lq_board.proofs.board.Board.slot_seat.Goals as goal
 
 pub invariant_of-result : goal.invariant_of-result
 invariant_of-result g c =
     let p = c.slot_token.ensures in (
-      is_sitting _ _ p.view p.full (new_author_in _ _ p.signed),
+      is_sitting _ _ p.view p.full (omega arith),
       sym (ap (λ (m : Me ℕ (TokenView g.row.M.Denot)). (sitting_of m.0).slot) p.view),
       c.requires.1.1.0.1,
       subst

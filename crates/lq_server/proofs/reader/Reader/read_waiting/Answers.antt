@@ -1,14 +1,15 @@
 use Rattle.std.proofs.Common.{◌≡◌, rules, false, true≢false, inl, refl, sym, ◌∙◌, subst}
-use Rattle.std.specs.Prelude.{IsSome, IfOk, OnErr}
+use Rattle.std.specs.Prelude.{IfOk, OnErr}
 use mathlib.Core.List.{IsPrefix}
 use Rattle.lq_volume.specs.Book.{Book, Extends}
 use Rattle.lq_port.specs.End.{IsSamePort}
+use Rattle.lq_desk_sub.specs.declared.read.Read.TheVariants.{Ended}
 use Rattle.lq_server_slots.specs.Rule.{whole}
-use Rattle.lq_server_slots.specs.Reading.{Gives, Fails, known, received, mark_read, is_marked}
+use Rattle.lq_server_slots.specs.Reading.{Gives, Fails, known, received, is_marked}
 use Rattle.lq_server.specs.Hold.{ReaderHold}
 use Rattle.lq_server.specs.Own.{IsOwn}
 use Rattle.lq_server.specs.Syncing.{IsRead, IsUnread}
-use Rattle.lq_server.proofs.OwnLemmas.{hold, own_reads, received_front, reads_on, unread_on}
+use Rattle.lq_server.proofs.OwnLemmas.{ended_gives, hold, own_reads, received_front, reads_on, unread_on}
 use Rattle.lq_server.proofs.reader.Reader.read_waiting.Goals as goal
 
 pub returns-then-is_ended : goal.returns-then-is_ended
@@ -25,12 +26,13 @@ returns-then-is_ended g c = record {
   refused = search rules;
   gives = inl (
     refl,
-    subst (λ (r : ReaderHold). IsSome (mark_read r.reading)) c.self.view_is
-        (sym c.if-is_ended.ensures),
     refl,
+    subst (λ (r : ReaderHold). Gives r.reading r.reading Ended) c.self.view_is
+        (ended_gives c.self.inside.reading c.update_facts.ensures (sym c.if-is_ended.ensures)),
   );
   fails = tt;
   over = λ _. refl;
+  waits = search rules;
 }
 
 pub returns : goal.returns
@@ -46,7 +48,8 @@ returns g c =
           (own_reads c.pump.new.reader new
           (subst (λ (r : ReaderHold). IsSamePort r.reading.port new.port)
           c.self-2.view_is w.same) s.own);
-      seat = subst (λ (r : ReaderHold). r.seat ≡ record old.seat { book = r.seat.book })
+      seat = subst
+          (λ (r : ReaderHold). r.seat ≡ record old.seat { book = r.seat.book; name = r.seat.name })
           (sym c.self-2.view_is) s.seat;
       later = search rules;
       rest = subst (λ (r : ReaderHold). hold new r.seat r.slot r.hang_up_asked
@@ -71,4 +74,5 @@ returns g c =
           (subst (λ (r : ReaderHold). OnErr c.read_waiting.result (Fails r.reading new))
           c.self-2.view_is w.fails));
       over = λ some. absurd (true≢false (sym some ∙ live));
+      waits = w.waits;
     }

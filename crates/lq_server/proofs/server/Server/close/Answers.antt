@@ -4,7 +4,7 @@ use Rattle.lq_value.specs.declared.refusal.Refusal.{Refusal}
 use Rattle.lq_server.specs.Closed.{IsCloseAnswer}
 use Rattle.lq_server.specs.Hold.{ReaderHold}
 use Rattle.lq_server.specs.Own.{IsOwn}
-use Rattle.lq_server.proofs.OwnLemmas.{closed_answer, hold, own_named}
+use Rattle.lq_server.proofs.OwnLemmas.{closed_answer, hold, own_fits}
 use Rattle.lq_server.proofs.server.Server.close.Goals as goal
 
 pub close-closed-requires-clause-seat : goal.close-closed-requires-clause-seat
@@ -12,14 +12,15 @@ close-closed-requires-clause-seat g c =
     let i = c.reader.inside in
     let old : ReaderHold = hold i.reading i.seat i.slot i.hang_up_asked in
     let own : IsOwn old = subst IsOwn (sym c.reader.view_is) c.requires.own in
-    (subst (λ (k : ℕ). 0 < k) (sym own.slot) own.low, own_named old own)
+    (subst (λ (k : ℕ). 0 < k) (sym own.slot) own.low, own_fits old own)
 
 pub returns : goal.returns
 returns g c =
     let i = c.reader.inside in
     let old : ReaderHold = hold i.reading i.seat i.slot i.hang_up_asked in
-    let new : ReaderHold = record old { seat = c.close-closed.new.seat } in
+    let f = c.close-closed in
+    let new : ReaderHold = record old { reading = f.new.reading; seat = f.new.seat } in
     let own : IsOwn old = subst IsOwn (sym c.reader.view_is) c.requires.own in
     subst (λ (r : ReaderHold). IsCloseAnswer r new c.ok_or.result) c.reader.view_is
     (subst (λ (x : Result ℕ Refusal). IsCloseAnswer old new x) (sym c.ok_or.ensures.value)
-    (closed_answer old c.close-closed.new.seat _ own c.close-closed.ensures.closed))
+    (closed_answer old f.new.seat f.new.reading _ own c.update_facts.ensures f.ensures.closed))
