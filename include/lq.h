@@ -13,8 +13,8 @@
  * Texts. A text that is given is a pointer and its size in bytes; it is UTF-8, and needs no NUL.
  * Null with size 0 is the empty text. A text that a call writes has its size beside it and a NUL
  * after it, which doesn't count; a value may have NULs inside. Sizes are tested before a text is
- * read: one above LQ_NAME_SIZE for a name, LQ_TEXT_SIZE for a value or LQ_FORMULA_SIZE for a formula
- * is refused by its size alone, as if it were UTF-8.
+ * read: a name above LQ_NAME_SIZE, a value above LQ_TEXT_SIZE and a formula above LQ_FORMULA_SIZE
+ * are refused by their sizes alone, as if they were UTF-8.
  *
  * Statuses. A call that can be refused answers a status: LQ_OK, or why it was refused. A refused
  * call leaves its `out` as it was, and changes nothing in the volume and its live queries. Two
@@ -22,8 +22,8 @@
  * messages move up. The first fault that fits is answered, in this order: LQ_MISUSE; LQ_NOT_UTF8;
  * LQ_BAD_LINE for a number that names no kind or operator; LQ_BAD_NAME; LQ_TOO_LONG for the text of
  * a value; LQ_BAD_QUERY; then those of the act itself, as listed at each call. A call that says so
- * may answer LQ_NO_MEMORY in place of LQ_OK, or before any of those refusals but LQ_MISUSE is found;
- * then everything is as it was too. lq_answer is the one exception, and says so.
+ * may answer LQ_NO_MEMORY in place of LQ_OK, or before any of those refusals but LQ_MISUSE is
+ * found; then everything is as it was too. lq_answer is the one exception, and says so.
  *
  * Misuse. Each call but lq_volume_close answers LQ_MISUSE for a handle that is null or not open
  * (LQ_INIT, closed, or a copy of an open one), for a null `out` where it doesn't say that null is
@@ -236,8 +236,7 @@ lq_status lq_next(lq *handle, uint64_t result, lq_row *out);
 /* How a query is opened. A change ends the query where its messages and those that wait beside the
  * oldest are more than `backlog`, 1 to LQ_BACKLOG; 0 stands for LQ_BACKLOG. With `moved` one
  * message says that an entry of the result moved, where otherwise one says that it left and
- * another that it came. With `no_result` the handle keeps no rebuilt result for lq_result, and
- * takes no memory for one. */
+ * another that it came. With `no_result` the handle keeps no rebuilt result for lq_result. */
 typedef struct lq_options {
     uint64_t backlog;
     bool moved;
