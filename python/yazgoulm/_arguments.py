@@ -2,7 +2,7 @@
 import operator, os, re
 from typing import Any
 
-# A byte that is no UTF-8: what Python decodes it to, and the private character that stands for it, as docs/GUIDE.md says.
+# A byte that is no UTF-8: what Python decodes it to, and the private character that stands for it (docs/GUIDE.md).
 _PRIVATE = {0xDC00 + byte: 0xF700 + byte for byte in range(0x80, 0x100)}
 _BYTES = {private: escaped for escaped, private in _PRIVATE.items()}
 
@@ -67,3 +67,15 @@ def kind(value: Any) -> int:
     if value not in ("file", "folder"):
         raise ValueError(f'kind must be "file" or "folder", not {value!r}')
     return int(value == "folder")
+
+
+def formula(value: Any) -> Any:
+    """A formula as a str, or its pushes as a tuple."""
+    if isinstance(value, str):
+        return value
+    if isinstance(value, (bytes, bytearray)):
+        raise TypeError(f"formula must be a str or pushes, not {type(value).__name__}")
+    try:
+        return tuple(value)
+    except TypeError:
+        raise TypeError(f"formula must be a str or pushes, not {value!r}") from None

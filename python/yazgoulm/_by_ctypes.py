@@ -246,7 +246,7 @@ class Handle:
         while len(entries) < count:
             status = _lq.lq_take(self._at, result, array, len(array), byref(got))
             if status or got.value == 0:
-                raise SystemError(f"lq_take answered {status} after {len(entries)} of {count} entries")
+                raise RuntimeError(f"the volume was used while it gave a result: {status}")
             for it in array[: got.value]:
                 name = _text(it.name, it.name_size)
                 entries.append(Entry(it.dir, it.node, name, _KINDS[it.kind], it.size, it.time))
@@ -254,7 +254,7 @@ class Handle:
 
     def _push(self, name: str, pushes: Any) -> None:
         """Pushes each item. Where one doesn't fit none stays, and BadQuery has the number of those before it."""
-        if not isinstance(pushes, (list, tuple)):
+        if not isinstance(pushes, tuple):
             raise TypeError(f"formula must be a str or pushes, not {type(pushes).__name__}")
         _lq.lq_clear_pushed(self._own())
         try:
@@ -289,7 +289,11 @@ class Handle:
         else:
             self._push("open", formula)
             self._call("open", (formula,), _lq.lq_open_pushed, byref(how), byref(it))
-        return it.slot, it.at, self._taken(it.count, it.result)
+        try:
+            return it.slot, it.at, self._taken(it.count, it.result)
+        except BaseException:
+            _lq.lq_drop(self._at, it.slot)
+            raise
 
     def read(self, slot: int) -> Union[Message, Mark, None]:
         it = self._message

@@ -18,6 +18,10 @@ def _found() -> str:
 def _by_extension(path: str) -> Any:
     from . import _arguments, _native, _types  # type: ignore[attr-defined]
 
+    here = os.path.dirname(os.path.realpath(__file__))
+    for source in (f"{here}/_native.c", f"{here}/../../include/lq.h"):  # a clone alone has them
+        if os.path.exists(source) and os.path.getmtime(source) > os.path.getmtime(_native.__file__):
+            raise ImportError(f"{_native.__file__} is older than {source}: make library builds it")
     _native.load(path, _arguments, _types)
     return _native.Handle
 

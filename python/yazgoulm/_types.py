@@ -9,29 +9,35 @@ FILE, FOLDER = "file", "folder"
 TYPES = {int.from_bytes(name.encode(), "big"): name for name in ("CSTR", "LONG", "LLNG", "ULNG", "ULLG")}
 
 
-class Opcode(enum.IntEnum):
-    """What a message says of its entry, by the numbers of BeOS: it entered the result, left it, or moved in it."""
-
-    B_ENTRY_CREATED, B_ENTRY_REMOVED, B_ENTRY_MOVED = range(1, 4)
+class _Word(enum.IntEnum):
+    """A number that is written as the word that a script has for it."""
 
     def __str__(self) -> str:
         return self.name
 
-    __repr__ = __str__
+    def __repr__(self) -> str:
+        return str(self)
+
+    def __format__(self, form: str) -> str:
+        return format(str(self), form)
+
+
+class Opcode(_Word):
+    """What a message says of its entry, by the numbers of BeOS: it entered the result, left it, or moved in it."""
+
+    B_ENTRY_CREATED, B_ENTRY_REMOVED, B_ENTRY_MOVED = range(1, 4)
 
 
 B_ENTRY_CREATED, B_ENTRY_REMOVED, B_ENTRY_MOVED = Opcode
 
 
-class Cause(enum.IntEnum):
+class Cause(_Word):
     """Why a query ended. As a text it is the word of a script: "closed", "hung_up" or "overrun"."""
 
     CLOSED, HUNG_UP, OVERRUN = range(1, 4)
 
     def __str__(self) -> str:
         return self.name.lower()
-
-    __repr__ = __str__
 
 
 class Op(enum.IntEnum):
@@ -57,12 +63,23 @@ class Applied(NamedTuple):
     node: int
 
 
-class Entry(NamedTuple):
-    """An entry of a result: its folder's node, its own node, and its name."""
+class Place(NamedTuple):
+    """Where an entry is: its folder's node, its own node, and its name."""
 
     dir: int
     node: int
     name: str
+
+
+class Entry(NamedTuple):
+    """An entry that was found: its place; `kind` "file" or "folder", `size` in bytes, `time` in seconds since 1970."""
+
+    dir: int
+    node: int
+    name: str
+    kind: str
+    size: int
+    time: int
 
 
 class Attribute(NamedTuple):
@@ -116,17 +133,17 @@ class Result(NamedTuple):
 
     change: int
     settled: bool
-    entries: List[Entry]
+    entries: List[Place]
 
 
 class Difference(NamedTuple):
     """How a new opening differs from what a query showed before, by rising node.
 
-    `moved` has an entry as it was and as it is, where its folder or its name has changed."""
+    `moved` has where an entry was and where it is, if these differ."""
 
-    removed: List[Entry]
-    created: List[Entry]
-    moved: List[Tuple[Entry, Entry]]
+    removed: List[Place]
+    created: List[Place]
+    moved: List[Tuple[Place, Place]]
 
 
 class Error(Exception):
@@ -189,7 +206,7 @@ class Overrun(Error):
         self.change, self.formula = change, formula
 
     def __str__(self) -> str:
-        return f"more messages came than the backlog holds: {reprlib.repr(self.formula)} ends after change {self.change}"
+        return f"the messages of {reprlib.repr(self.formula)} end after change {self.change}: the backlog was full"
 
 
 _REFUSALS = {2: NotFound, 4: NotFound, 5: Exists, 10: NotFound, 15: NoMemory}

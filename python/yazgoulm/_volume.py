@@ -2,10 +2,11 @@
 import os, threading, weakref
 from typing import Any, Callable, Dict, Iterator, List, Mapping, Optional, Tuple, Union
 
+from . import _arguments
 from ._library import Handle
 from ._types import (
     B_ENTRY_REMOVED, FILE, ROOT, Applied, Attribute, Cause, Difference, Entry, Formula, Info, Mark, Message, NotFound,
-    Overrun, Result,
+    Overrun, Place, Result,
 )  # fmt: skip
 
 # A name of an entry: a str, or the name of a file on disk as bytes or as a path.
@@ -170,13 +171,19 @@ class Volume:
 
     def fetch(self, formula: Formula) -> List[Entry]:
         """The entries that match now, by rising node."""
+        given = _arguments.formula(formula)
         with self._lock:
-            return self._handle.fetch(formula)
+            return self._handle.fetch(given)
 
     def find(self, name: Name, dir: int = ROOT) -> int:
         """The node of the entry with this name in a folder."""
         with self._lock:
             return self._handle.find(name, dir)
+
+    def find_path(self, path: Name, dir: int = ROOT) -> int:
+        """The node at the end of a path from a folder: names with `/` between them."""
+        with self._lock:
+            return self._handle.find_path(path, dir)
 
     def entry(self, node: int) -> Info:
         """The entry of a node, with its attributes in the order in which they were first set."""
@@ -209,21 +216,21 @@ class Row:
 
     `info` is what it shows beside: a change inside a result has no message, so who makes the change calls `refresh`."""
 
-    __slots__ = "_volume", "_info", "entry"
+    __slots__ = "_volume", "_info", "place"
 
-    def __init__(self, volume: Volume, entry: Entry) -> None:
-        self._volume, self.entry = volume, entry
+    def __init__(self, volume: Volume, place: Place) -> None:
+        self._volume, self.place = volume, place
         self._info: Optional[Info] = None
 
     @property
     def node(self) -> int:
         """Its node."""
-        return self.entry.node
+        return self.place.node
 
     @property
     def name(self) -> str:
         """Its name."""
-        return self.entry.name
+        return self.place.name
 
     @property
     def info(self) -> Optional[Info]:
@@ -237,7 +244,7 @@ class Row:
         """Looks the entry up again. True where `info` is another now; an entry that has gone keeps its last one."""
         old = self._info
         try:
-            self._info = self._volume.entry(self.entry.node)
+            self._info = self._volume.entry(self.place.node)
         except NotFound:
             return False
         return self._info != old
@@ -253,41 +260,45 @@ class Rows(Mapping[int, Row]):
 
     def __init__(self, volume: Volume) -> None:
         self._volume = volume
-        self._entries: Dict[int, Entry] = {}
+        self._places: Dict[int, Place] = {}
         self._rows: Dict[int, Row] = {}  # those that were asked for
 
     def __getitem__(self, node: int) -> Row:
         row = self._rows.get(node)
         if row is None:
-            row = self._rows[node] = Row(self._volume, self._entries[node])
+            row = self._rows[node] = Row(self._volume, self._places[node])
         return row
 
+    def __contains__(self, node: object) -> bool:
+        return node in self._places
+
     def __iter__(self) -> Iterator[int]:
-        return iter(self._entries)
+        return iter(self._places)
 
     def __len__(self) -> int:
-        return len(self._entries)
+        return len(self._places)
 
     __reduce_ex__ = _no_copy
 
     def __repr__(self) -> str:
         return f"<Rows of {len(self)} entries>"
 
-    def _put(self, entry: Entry) -> None:
-        self._entries[entry.node] = entry
-        if entry.node in self._rows:
-            self._rows[entry.node].entry = entry
-
-    def _remove(self, node: int) -> None:
-        del self._entries[node]
-        self._rows.pop(node, None)
+    def _follow(self, it: Message) -> None:
+        """Makes what a message says."""
+        if it.op is B_ENTRY_REMOVED:
+            del self._places[it.node]
+            self._rows.pop(it.node, None)
+        else:
+            place = self._places[it.node] = Place(it.dir, it.node, it.name)
+            if it.node in self._rows:
+                self._rows[it.node].place = place
 
     def _begin(self, entries: List[Entry]) -> None:
         """Has these entries alone. The rows of entries that it had before stay."""
-        self._entries = {it.node: it for it in entries}
-        self._rows = {node: row for node, row in self._rows.items() if node in self._entries}
+        self._places = {it.node: Place(it.dir, it.node, it.name) for it in entries}
+        self._rows = {node: row for node, row in self._rows.items() if node in self._places}
         for node, row in self._rows.items():
-            row.entry = self._entries[node]
+            row.place = self._places[node]
 
 
 class Query:
@@ -305,8 +316,9 @@ class Query:
         self.slot: Optional[int] = None
         if on_overrun not in ("raise", "mark"):
             raise ValueError(f'on_overrun must be "raise" or "mark", not {on_overrun!r}')
-        self._volume, self._backlog, self._moved, self._on_overrun = volume, backlog, moved, on_overrun
-        self.formula = formula if isinstance(formula, (str, bytes)) else tuple(formula)
+        self._volume, self._moved, self._on_overrun = volume, moved, on_overrun
+        self._backlog = _arguments.whole("backlog", backlog, 1, 65_536)
+        self.formula = _arguments.formula(formula)
         self.rows = Rows(volume)
         self._begin()
 
@@ -340,10 +352,7 @@ class Query:
                 if it is None:
                     return None
                 if type(it) is Message:
-                    if it.op is B_ENTRY_REMOVED:
-                        self.rows._remove(it.node)
-                    else:
-                        self.rows._put(Entry(it.dir, it.node, it.name))
+                    self.rows._follow(it)
                     self._change, self._is_settled = it.change, it.last
                     return it
                 self.mark = it
@@ -390,8 +399,8 @@ class Query:
         """The result as the messages read so far make it, by rising node."""
         with self._volume._lock:
             self._own()
-            entries = self.rows._entries
-            return Result(self._change, self._is_settled, [entries[node] for node in sorted(entries)])
+            places = self.rows._places
+            return Result(self._change, self._is_settled, [places[node] for node in sorted(places)])
 
     def hang_up(self) -> None:
         """Asks for the end, as a reader does; the next change, read or close carries it out."""
@@ -438,9 +447,9 @@ class Query:
         differ from the rows before. A refusal leaves the query dropped, with the rows that it had."""
         with self._volume._lock:
             self.drop()
-            old = self.rows._entries
+            old = self.rows._places
             self._begin()
-            new = self.rows._entries
+            new = self.rows._places
         return Difference(
             [old[node] for node in sorted(old.keys() - new.keys())],
             [new[node] for node in sorted(new.keys() - old.keys())],
