@@ -3,7 +3,7 @@
 
     tools/python_package.py extension      python/yazgoulm/_native..so for this Python, where it isn't newer than its
                                            sources. 77: there is no compiler, or no Python.h; ctypes serves then
-    tools/python_package.py wheel FOLDER   a wheel for this Python, with liblq.so inside, and its name on standard output
+    tools/python_package.py wheel FOLDER   a wheel for this Python, with liblq.so inside; prints its name
 
 It is the build backend of pyproject.toml too, so `pip install .` works without a download. CC names the compiler."""
 import base64, glob, hashlib, os, shutil, subprocess, sys, sysconfig, zipfile
