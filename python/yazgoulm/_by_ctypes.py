@@ -166,7 +166,7 @@ class Handle:
             _lq.lq_volume_close(at)
 
     def __del__(self) -> None:
-        if getattr(self, "_at", None) is not None:
+        if getattr(self, "_at", None) is not None and _lq is not None:
             self.free()
 
     def is_open(self) -> bool:

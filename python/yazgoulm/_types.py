@@ -157,6 +157,7 @@ class Refused(Error):
 
     def __init__(self, code: int, name: str, call: str = "", arguments: Tuple[Any, ...] = ()) -> None:
         self.code, self.name, self.call, self.arguments = code, name, call, tuple(arguments)
+        self.args = code, name, call, self.arguments
 
     def __str__(self) -> str:
         return f"{self.name}: {self.call}({', '.join(map(reprlib.repr, self.arguments))})"

@@ -12,7 +12,7 @@ from yazgoulm import (
     to_name,
 )
 
-SECONDS = 30  # the longest wait for something that has to come
+SECONDS = 8  # the longest wait for something that has to come
 
 
 def scenarios():
