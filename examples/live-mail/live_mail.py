@@ -63,7 +63,8 @@ class Folder:
     """A live folder: the messages that match a formula, kept right by what the query sends and nothing else."""
 
     def __init__(self, volume, formula, backlog=65_536):
-        self.volume, self.query = volume, volume.open(formula, backlog)
+        self.volume, self.formula = volume, formula
+        self.query = volume.open(formula, backlog)
         self.rows = {entry.node: self.subject(entry) for entry in self.query.entries}
 
     def subject(self, place):

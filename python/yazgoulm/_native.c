@@ -144,6 +144,17 @@ static int take_whole(const char *argument, PyObject *given, int64_t *out) {
     return *out == -1 && PyErr_Occurred() ? -1 : 0;
 }
 
+/* The number of a kind, in the same way. */
+static int take_kind(PyObject *given, uint32_t *out) {
+    *out = given == py_FOLDER ? LQ_FOLDER : LQ_FILE;
+    if (given == py_FOLDER || given == py_FILE) return 0;
+    PyObject *number = PyObject_CallFunctionObjArgs(py_kind, given, NULL);
+    if (!number) return -1;
+    *out = (uint32_t)PyLong_AsUnsignedLong(number);
+    Py_DECREF(number);
+    return 0;
+}
+
 /* A text in UTF-8. It stands in the given object, or in `owner`, which leave_text frees. */
 typedef struct text_given {
     const char *at;
@@ -245,13 +256,10 @@ METHOD(create) {
     TAKES(5);
     uint64_t dir, size;
     int64_t time;
-    PyObject *number = PyObject_CallFunctionObjArgs(py_kind, args[2], NULL);
-    if (!number) return NULL;
-    uint32_t what = (uint32_t)PyLong_AsUnsignedLong(number);
-    Py_DECREF(number);
+    uint32_t what;
     text_given name;
     lq_applied out;
-    if (take_natural("dir", args[1], &dir) || take_natural("size", args[3], &size) ||
+    if (take_natural("dir", args[1], &dir) || take_kind(args[2], &what) || take_natural("size", args[3], &size) ||
         take_whole("time", args[4], &time) || take_text(py_encode_name, "name", args[0], &name))
         return NULL;
     lq_status status = library.create(&self->handle, dir, TEXT(name), what, size, time, &out);
