@@ -1,5 +1,5 @@
-/* Three windows over a stream of changes, in a program without threads. The second has a small backlog and is read late,
-   so it overruns once and is opened anew. At the end each window shows what a fetch of its formula gives. */
+/* Three windows over a stream of changes, in a program without threads. The second has a small backlog and is read
+   late, so it overruns once and is opened anew. At the end each window shows what a fetch of its formula gives. */
 #include <lq.h>
 #include <stdio.h>
 #include <stdlib.h>

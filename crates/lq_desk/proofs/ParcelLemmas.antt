@@ -1,8 +1,12 @@
 -- Which slots have a parcel for the turn of a read.
-use Rattle.std.proofs.Common.{◌≡◌, ℕ, zero, suc, ◌+◌, ◌-◌, ◌≤◌, ◌<◌, List, [], ◌∷◌, refl, ap, length, ◌∙◌, sym, subst, arith, Some, None, Option, Bool, true, false}
-use Rattle.std.specs.Prelude.{◌&&◌, ◌||◌, not, nat_lt, is_some, if◌then◌else◌, slice_get}
-use Rattle.std.proofs.lemmas.Bool.{and_parts, ltb-true}
+use Rattle.std.proofs.Common.{◌≡◌, ℕ, zero, suc, ◌+◌, ◌-◌, ◌≤◌, ◌<◌, List, [], ◌∷◌, refl, ap, length, ◌∙◌, sym, arith, Some, None, Option, Bool, true, false}
+use Rattle.std.proofs.Common.{get_or, inl, inr, map}
+use Rattle.std.specs.Prelude.{◌&&◌, ◌||◌, ◌==◌, not, nat_lt, is_some, if◌then◌else◌, slice_get}
+use Rattle.std.specs.Int.{bit_at}
+use Rattle.std.specs.Option.{option_flatten}
+use Rattle.std.proofs.lemmas.Bool.{and_parts, cases_lt, ltb-true}
 use Rattle.std.proofs.lemmas.Bool.Decides.{nat_tests}
+use Rattle.std.proofs.lemmas.List.{length-map}
 use Rattle.lq_update.specs.declared.message.Message.{Message}
 use Rattle.lq_update.specs.declared.mark.Mark.{Mark}
 use Rattle.lq_update.specs.declared.mark.Cause.TheVariants.{HungUp}
@@ -10,11 +14,15 @@ use Rattle.lq_update.specs.declared.parcel.Parcel.{Parcel}
 use Rattle.lq_desk_world.specs.declared.event.Event.TheVariants.{Take}
 use Rattle.lq_desk_world.specs.Events.{Answer, Empty, Ended}
 use Rattle.lq_desk_sub.specs.Held.{ended_by, next_of, next_parcel}
-use Rattle.lq_desk.specs.Slot.{KeptSlot, after_put, after_puts, can_move, filled, is_ending, is_read, noticed, passes, read_if, read_slot}
+use Rattle.lq_desk.specs.Slot.{KeptSlot, PreparedSlot, after_put, after_puts, can_move, filled, is_ending, is_read, noticed, passes, read_if, read_slot}
 use Rattle.lq_desk.specs.Act.{read_turn}
 use Rattle.lq_desk.specs.Kept.{Kept, at_place, kept_at}
-use Rattle.lq_desk.specs.Ready.{has_parcel, is_parcel}
+use Rattle.lq_desk.specs.Ready.{MarksParcels, has_parcel, is_parcel}
 use Rattle.lq_desk.specs.Turn.{kept_turn_outcome}
+use Rattle.lq_desk.specs.Words.{SetsBit}
+use Rattle.lq_desk.proofs.BitLemmas.{which}
+use Rattle.lq_desk.proofs.LoopLemmas.{get-is, get_or-map}
+use Rattle.lq_desk.proofs.SlotsLemmas.{kept_slot}
 use Rattle.lq_desk.proofs.PutLemmas.{filled-quiet, one-longer, put-quiet}
 use Rattle.lq_desk.proofs.SlotTurnLemmas.{read-events}
 
@@ -151,3 +159,70 @@ turn-tells k slot =
         → is_parcel (at_place k (slot - 1) o (read_turn k.volume.number)).0 ≡ passes has_parcel o
     by None = refl
     by (Some s) = read-tells k.volume.number s
+
+-- ---- a word of them
+
+-- what a loop over slots reads is what is kept there
+pub kept-item : (xs : List (Option PreparedSlot)) (i : ℕ) (x : Option PreparedSlot)
+    → i < length xs → x ≡ get_or xs i x → slice_get (map kept_slot xs) i ≡ Some (kept_slot x)
+kept-item xs i x lt at =
+    get-is (map kept_slot xs) i (kept_slot x) (omega (arith, lt, length-map xs kept_slot))
+    (ap kept_slot at ∙ sym (get_or-map kept_slot xs i x))
+
+-- one slot more is marked
+pub marks-more : (ks : List (Option KeptSlot)) (n old new : ℕ) (x : Option KeptSlot) (has : Bool)
+    → slice_get ks n ≡ Some x → has ≡ passes has_parcel x → SetsBit old n has new
+    → ((i : ℕ) → i < n → (bit_at old i == 1)
+    ≡ passes has_parcel (option_flatten (slice_get ks i)))
+    → ((i : ℕ) → n ≤ i → bit_at old i ≡ 0) → (i : ℕ) → i < n + 1
+    → (bit_at new i == 1) ≡ passes has_parcel (option_flatten (slice_get ks i))
+marks-more ks n old new x has at is sets done clear i lt = elim (which i n) [
+  | inl there ↦
+      ap (λ j. bit_at new j == 1) there
+      ∙ (here has sets ∙ (is
+      ∙ (ap (λ (o : Option (Option KeptSlot)). passes has_parcel (option_flatten o)) (sym at)
+      ∙ ap (λ j. passes has_parcel (option_flatten (slice_get ks j))) (sym there))))
+  | inr other ↦
+      ap (λ m. m == 1) (sets.same i other) ∙ done i (omega (arith, lt, other))
+]
+  where
+    here : (b : Bool) → SetsBit old n b new → (bit_at new n == 1) ≡ b
+    here true set = ap (λ m. m == 1) (set.here refl)
+    here false set =
+        ap (λ m. m == 1) (ap (λ w. bit_at w n) (set.none refl) ∙ clear n (omega arith))
+
+-- no slot after those that were marked has a bit
+pub clear-more : (n old new : ℕ) (has : Bool) → SetsBit old n has new
+    → ((i : ℕ) → n ≤ i → bit_at old i ≡ 0) → (i : ℕ) → n + 1 ≤ i → bit_at new i ≡ 0
+clear-more n old new has sets clear i le =
+    sets.same i (λ there. omega (arith, le, there)) ∙ clear i (omega (arith, le))
+
+-- once all were marked, each bit tells
+pub marks-all : (ks : List (Option KeptSlot)) (n word : ℕ) → length ks ≤ n
+    → ((i : ℕ) → i < n → (bit_at word i == 1)
+    ≡ passes has_parcel (option_flatten (slice_get ks i)))
+    → ((i : ℕ) → n ≤ i → bit_at word i ≡ 0) → MarksParcels ks word
+marks-all ks n word all done clear i = elim (cases_lt i n) [
+  | inl lt ↦ done i lt
+  | inr le ↦ ap (λ m. m == 1) (clear i le)
+      ∙ ap (λ (o : Option (Option KeptSlot)). passes has_parcel (option_flatten o))
+      (sym (past ks i (omega (arith, all, le))))
+]
+  where
+    past : (xs : List (Option KeptSlot)) (j : ℕ) → length xs ≤ j → slice_get xs j ≡ None
+    past [] j le = refl
+    past (y ∷ xs) zero le = absurd (omega (arith, le))
+    past (y ∷ xs) (suc j) le = past xs j (omega (arith, le))
+
+-- what a slot's bit tells is the turn of a read
+pub ready-tells : (k : Kept) (slot word : ℕ) → 1 ≤ slot → MarksParcels k.slots word
+    → (bit_at word (slot - 1) == 1) ≡ is_parcel (kept_turn_outcome k (Take slot)).0
+ready-tells k slot word some marks =
+    marks (slot - 1) ∙ (by (slot == 0) refl ∙ sym (turn-tells k slot))
+  where
+    by : (x : Bool) → (slot == 0) ≡ x
+        → passes has_parcel (option_flatten (slice_get k.slots (slot - 1)))
+        ≡ passes has_parcel (if x then None else option_flatten (slice_get k.slots (slot - 1)))
+    by true is = absurd (let zero : slot ≡ 0 = grind (arith, nat_tests, is) in
+        omega (arith, some, zero))
+    by false is = refl

@@ -181,8 +181,7 @@ impl Slot {
         ensures { result ≡ has_parcel (slot_of self.now) }
     {
         !self.queue.is_empty()
-            || self.port > 0
-                && (self.sub.has_next() || self.is_ending() && !self.sub.is_marked())
+            || self.port > 0 && (self.sub.has_next() || self.is_ending() && !self.sub.is_marked())
     }
 
     /// Whether its mark was put into the port, and the port is empty.
