@@ -6,7 +6,7 @@ from . import _arguments
 from ._library import Handle
 from ._types import (
     B_ENTRY_REMOVED, FILE, ROOT, Applied, Attribute, Cause, Difference, Entry, Formula, Info, Mark, Message, NotFound,
-    Overrun, Place, Result,
+    Overrun, Place, Refused, Result,
 )  # fmt: skip
 
 # A name of an entry: a str, or the name of a file on disk as bytes or as a path.
@@ -84,7 +84,10 @@ class Volume:
             slot = self._forgotten.pop()
             self._queries.pop(slot, None)
             if self._handle.is_open():
-                self._handle.drop(slot)
+                try:
+                    self._handle.drop(slot)
+                except Refused:
+                    pass  # a line has freed it
 
     def answer(self, line: Union[str, bytes]) -> bytes:
         """The reply to one line of a script, as `lq run` writes it, with its LF; b"" for an empty line.
