@@ -163,8 +163,8 @@ class Case(unittest.TestCase):
         self.assertEqual((caught.exception.code, caught.exception.name), (code, name))
         return caught.exception
 
-    def says(self, kind, said, call, *given, **named):
-        with self.assertRaises(kind) as caught:
+    def says(self, error, said, call, /, *given, **named):
+        with self.assertRaises(error) as caught:
             call(*given, **named)
         self.assertEqual(str(caught.exception), said)
 
