@@ -528,7 +528,8 @@ class Queries(Case):
             for number in range(50):
                 self.volume.create(f"f{number}")
             self.assertEqual(next(query).name, "f0")
-        self.assertEqual(self.volume.open("name==*").entries, self.volume.fetch("name==*"))
+        again = self.volume.open("name==*")
+        self.assertEqual((again.slot, again.entries), (1, self.volume.fetch("name==*")))
 
     def test_slots(self):
         queries = [self.volume.open("size>1") for _ in range(64)]
