@@ -457,24 +457,32 @@ class Query:
         """Ends the query, drops what wasn't read, and frees its slot. It may be called again."""
         volume = self._volume
         with volume._lock:
-            if self.slot is not None:
-                if volume._handle.is_open():
-                    volume._handle.drop(self.slot)
-                self._leave()
+            self._drop()
         if volume._is_due:
             volume._turned()
 
+    def _drop(self) -> None:
+        if self.slot is not None:
+            if self._volume._handle.is_open():
+                self._volume._handle.drop(self.slot)
+            self._leave()
+
     def _leave(self) -> None:
-        volume = self._volume
-        volume._queries.pop(self.slot, None)
-        self.slot = None
+        if self.slot is not None:
+            self._volume._queries.pop(self.slot, None)
+            self.slot = None
 
     def reopen(self) -> Difference:
         """Drops the query and opens its formula again, with its rows as the new opening has them. Returns how they
         differ from the rows before. A refusal leaves the query dropped, with the rows that it had."""
-        with self._volume._lock:
-            self.drop()
-            return self._begin()
+        volume = self._volume
+        try:
+            with volume._lock:
+                self._drop()
+                return self._begin()
+        finally:
+            if volume._is_due:
+                volume._turned()
 
     def __enter__(self) -> "Query":
         return self

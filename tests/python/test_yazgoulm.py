@@ -692,6 +692,23 @@ class EventLoops(Case):
 
         self.run_until(both())
 
+    def test_a_query_that_is_opened_again_while_it_is_awaited(self):
+        async def show(query):
+            async for message in query:
+                return message.name
+
+        async def go():
+            query = self.volume.open("size>=0")
+            shown = asyncio.create_task(show(query))
+            await asyncio.sleep(0)
+            query.reopen()
+            await asyncio.sleep(0)
+            self.assertFalse(shown.done())
+            self.volume.create("a")
+            self.assertEqual(await shown, "a")
+
+        self.run_until(go())
+
     def test_a_query_or_a_volume_that_goes_while_it_is_awaited(self):
         async def show(query):
             async for _ in query:
