@@ -72,7 +72,7 @@ class Volume:
             woken = [it for it in self._waiting if it[0]._is_ready(ready)]
             self._waiting = [it for it in self._waiting if it not in woken]
             wake = self._wake if ready else None
-            self._is_due = bool(self._waiting or self._wake)
+            self._is_due = bool(self._waiting or self._wake or self._forgotten)
         for _, loop, future in woken:
             if not loop.is_closed():
                 loop.call_soon_threadsafe(_settle, future)
