@@ -37,9 +37,11 @@ static void subscriptions(void) {
     CHECK(row.kind == LQ_FILE && row.size == 200 && row.time == 941000000);
     REFUSED(lq_next(&it, opening.result, &row), LQ_NO_ENTRY, row);
 
+    POISON(message);
     OK(lq_read(&it, 1, &message));
     CHECK(message.what == LQ_EMPTY && message.seq == 0 && message.change == 0 &&
-          message.name_size == 0 && message.from_name_size == 0);
+          message.name_size == 0 && message.from_name_size == 0 && message.name[0] == 0 &&
+          message.from_name[0] == 0);
     OK(lq_write(&it, 4, 300, 1, &applied));
     OK(lq_move(&it, 3, 1, TEXT("c.txt"), false, &applied));
     OK(lq_remove(&it, 3, &applied));
@@ -47,7 +49,8 @@ static void subscriptions(void) {
     CHECK(message.what == LQ_UPDATE && message.op == LQ_ENTRY_CREATED && message.seq == 1 &&
           message.change == 4 && message.last);
     CHECK(message.dir == 2 && message.node == 4 && NAMED(message, "b.txt"));
-    CHECK(message.cause == 0 && message.from_dir == 0 && message.from_name_size == 0);
+    CHECK(message.cause == 0 && message.from_dir == 0 && message.from_name_size == 0 &&
+          message.from_name[0] == 0);
     OK(lq_read(&it, 1, &message));
     CHECK(message.what == LQ_UPDATE && message.op == LQ_ENTRY_MOVED && message.seq == 2 &&
           message.change == 5 && message.last);

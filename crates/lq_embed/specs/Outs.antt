@@ -1,5 +1,5 @@
 -- What a call writes for its caller, by the answer.
-use Rattle.std.specs.Prelude.{ℕ, ℤ, pos, List, [], ◌++◌, length, drop, false, nat_le, Result, Ok, Err, if◌then◌else◌}
+use Rattle.std.specs.Prelude.{ℕ, ℤ, pos, List, [], ◌∷◌, ◌++◌, length, drop, false, nat_le, Result, Ok, Err, if◌then◌else◌}
 use Rattle.lq_value.specs.declared.entry.Entry.{Entry}
 use Rattle.lq_value.specs.declared.refusal.Refusal.{Refusal}
 use Rattle.lq_value.specs.declared.refusal.Refusal.TheVariants.{BadQuery}
@@ -10,7 +10,6 @@ use Rattle.lq_volume.specs.State.{Record}
 use Rattle.lq_update.specs.declared.message.Message.{Message}
 use Rattle.lq_update.specs.declared.message.Opcode.{Opcode}
 use Rattle.lq_update.specs.declared.message.Opcode.TheVariants as op
-use Rattle.lq_update.specs.declared.mark.Mark.{Mark}
 use Rattle.lq_update.specs.declared.mark.Cause.{Cause}
 use Rattle.lq_update.specs.declared.mark.Cause.TheVariants as cause
 use Rattle.lq_update.specs.declared.parcel.Parcel.TheVariants.{Update, Fin}
@@ -121,8 +120,8 @@ bare_after what seq change cause out = record {
   last = false;
   name_size = 0;
   from_name_size = 0;
-  name = out.name;
-  from_name = out.from_name;
+  name = written [] out.name;
+  from_name = written [] out.from_name;
 }
 
 abbrev pub read_after : Answer → MessageOut → MessageOut

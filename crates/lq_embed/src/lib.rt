@@ -11,7 +11,6 @@ mod attrs;
 mod changes;
 mod embedded;
 mod folders;
-mod laws;
 mod lines;
 mod live;
 mod looks;
@@ -22,7 +21,6 @@ mod put;
 mod statuses;
 
 pub use embedded::Embedded;
-pub use laws::sessions_may_be_sent;
 pub use outs::{
     AppliedOut, AttrOut, FetchedOut, InfoOut, MessageOut, OpeningOut, RebuiltOut, RowOut,
 };

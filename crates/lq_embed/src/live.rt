@@ -1,5 +1,5 @@
 //! Live queries.
-ghost use Rattle.std.specs.Prelude.{◌≡◌, length};
+ghost use Rattle.std.specs.Prelude.{◌≡◌, [], length};
 ghost use Rattle.lq_value.specs.Refusal.{code_of};
 ghost use Rattle.lq_desk.specs.Reply.{answer_of};
 ghost use Rattle.lq_desk_world.specs.declared.event.Event.TheVariants.{Close, Finish, HangUp, Take};
@@ -217,11 +217,9 @@ fn put_opcode(op: &Opcode, out: &mut MessageOut)
       from_name = written (from_name_of op.now) out.old.from_name;
     } }
 {
-    out.from_dir = 0;
-    out.from_name_size = 0;
     match op {
-        Opcode::Created => out.op = 1,
-        Opcode::Removed => out.op = 2,
+        Opcode::Created => put_no_place(1, out),
+        Opcode::Removed => put_no_place(2, out),
         Opcode::Moved {
             from_dir,
             from_name,
@@ -232,6 +230,20 @@ fn put_opcode(op: &Opcode, out: &mut MessageOut)
             out.from_name_size = put_text(&mut out.from_name, name);
         }
     }
+}
+
+// Writes that an entry has come from no place, or has gone.
+fn put_no_place(op: u32, out: &mut MessageOut)
+    ensures { out.new ≡ record out.old {
+      op = op;
+      from_dir = 0;
+      from_name_size = 0;
+      from_name = written [] out.old.from_name;
+    } }
+{
+    out.op = op;
+    out.from_dir = 0;
+    out.from_name_size = put_text(&mut out.from_name, b"");
 }
 
 // Writes the mark of a subscription.
@@ -262,8 +274,8 @@ fn put_bare(what: u32, out: &mut MessageOut)
     out.op = 0;
     out.cause = 0;
     out.last = false;
-    out.name_size = 0;
-    out.from_name_size = 0;
+    out.name_size = put_text(&mut out.name, b"");
+    out.from_name_size = put_text(&mut out.from_name, b"");
 }
 
 // Writes the last change of a subscription that was ended, and answers the status.
