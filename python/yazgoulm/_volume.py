@@ -370,30 +370,27 @@ class Query:
     def read(self) -> Optional[Message]:
         """The next message, or None where none waits or the query has ended: `mark` is then there. Overrun: it has
         ended, since more messages came than its backlog has room for, and those from before were read."""
-        volume = self._volume
-        with volume._lock:
-            slot = self._own()
-            if self.mark is None:
-                it = volume._handle.read(slot)
-                if type(it) is Message:
-                    self.rows._follow(it)
-                    self._latest = it
-                    return it
-                if it is None:
-                    return None
-                self.mark = it
-            if self.mark.cause is Cause.OVERRUN and self._on_overrun == "raise":
-                raise Overrun(self.mark.change, self.formula)
-            return None
+        return next(self, None)
 
     def __iter__(self) -> "Query":
         return self
 
     def __next__(self) -> Message:
-        message = self.read()
-        if message is None:
+        volume = self._volume
+        with volume._lock:
+            if self.mark is None:
+                it = volume._handle.read(self.slot or self._own())
+                if type(it) is Message:
+                    self._latest = it
+                    self.rows._follow(it)
+                    return it
+                if it is None:
+                    raise StopIteration
+                self.mark = it
+            self._own()
+            if self.mark.cause is Cause.OVERRUN and self._on_overrun == "raise":
+                raise Overrun(self.mark.change, self.formula)
             raise StopIteration
-        return message
 
     def __aiter__(self) -> "Query":
         return self
