@@ -148,9 +148,9 @@ class Volume:
     def open(
         self, formula: Formula, backlog: int = 65_536, moved: bool = False, on_overrun: str = "raise"
     ) -> "Query":
-        """Opens a live query: see Query. At most `backlog` messages wait to be read. With `moved` an entry that moves
-        within the result has one message for it. A query of which more messages come ends, and reading it then raises
-        Overrun; with `on_overrun="mark"` it is only told by the query's `mark`."""
+        """Opens a live query: see Query. At most `backlog` messages, 1 to 65,536, wait beside the oldest. With `moved`
+        an entry that moves within the result has one message for it, and not two. A query of which more messages come
+        ends, and reading it then raises Overrun; with `on_overrun="mark"` its `mark` alone says so."""
         return Query(self, formula, backlog, moved, on_overrun)
 
     def ready(self) -> List["Query"]:
