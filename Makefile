@@ -10,16 +10,22 @@
 #   make fmt                lays out the sources: of one crate with C=, else of all
 #   make bench              what five scripts cost
 #   make docs               draws the tables, links and pictures that scripts draw
-#   make library            the proved C library: liblq.a and liblq.so in crates/lq_c/out
+#   make library            the proved C library, liblq.a and liblq.so in crates/lq_c/out; and the extension for Python
 #   make install            copies the proved program, its manual page and the library to PREFIX: /usr/local
 #   make install-program    copies the program and its manual page alone
+#   make install-c          copies the C library alone: the header, both libraries, and what pkg-config reads
+#   make wheel              the Python package with the library inside, in dist
+#   make dist               the C library as a tarball, in dist
 PREFIX ?= /usr/local
-PYTHON_DIR ?= $(PREFIX)/lib/yazgoulm
+LIBDIR ?= $(PREFIX)/lib
+PYTHON_DIR ?= $(LIBDIR)/yazgoulm
+VERSION := $(shell sed -n 's/^.define LQ_VERSION_TEXT "\(.*\)"$$/\1/p' include/lq.h)
 S ?= examples/first-message.jsonl
 W ?= run
 CRATE = $(if $(C),crates/$(C),$(error C=CRATE is missing, as in make $@ C=lq_desk))
 
-.PHONY: all try check test edits scenario scenarios gate fmt bench docs library install install-program install-library
+.PHONY: all try check test edits scenario scenarios gate fmt bench docs library install install-program install-library \
+	install-c install-python wheel dist
 
 all:
 	$(if $(filter never,$(LQ_BUILD)),./lq run < /dev/null,tools/build)
@@ -42,17 +48,30 @@ fmt:
 bench:
 	bench/run
 docs:
-	tools/crate-table --write && tools/test-figures --write && tools/audit --write && bench/plots
+	tools/crate-table --write && tools/test-figures --write && tools/audit --write && tools/api --write && bench/plots
 library:
 	tools/library
+	tools/python_package.py extension || [ $$? = 77 ]
 install: install-program install-library
 install-program: all
 	install -D -m 755 crates/lq/out/lq $(DESTDIR)$(PREFIX)/bin/lq
 	install -D -m 644 docs/lq.1 $(DESTDIR)$(PREFIX)/share/man/man1/lq.1
-install-library: library
+install-library: install-c install-python
+install-c: library
 	install -D -m 644 include/lq.h $(DESTDIR)$(PREFIX)/include/lq.h
-	install -D -m 644 crates/lq_c/out/liblq.a $(DESTDIR)$(PREFIX)/lib/liblq.a
-	install -D -m 755 crates/lq_c/out/liblq.so $(DESTDIR)$(PREFIX)/lib/liblq.so
-	install -D -m 644 python/yazgoulm.py $(DESTDIR)$(PYTHON_DIR)/yazgoulm.py
-	install -d $(DESTDIR)$(PREFIX)/lib/pkgconfig
-	sed 's|@PREFIX@|$(PREFIX)|' tools/lq.pc > $(DESTDIR)$(PREFIX)/lib/pkgconfig/lq.pc
+	install -D -m 644 crates/lq_c/out/liblq.a $(DESTDIR)$(LIBDIR)/liblq.a
+	install -D -m 755 crates/lq_c/out/liblq.so $(DESTDIR)$(LIBDIR)/liblq.so.0
+	ln -sf liblq.so.0 $(DESTDIR)$(LIBDIR)/liblq.so
+	install -d $(DESTDIR)$(LIBDIR)/pkgconfig
+	sed 's|@PREFIX@|$(PREFIX)|; s|@LIBDIR@|$(LIBDIR)|; s|@VERSION@|$(VERSION)|' tools/lq.pc \
+		> $(DESTDIR)$(LIBDIR)/pkgconfig/lq.pc
+install-python: library
+	install -d $(DESTDIR)$(PYTHON_DIR)/yazgoulm
+	install -m 644 $(wildcard python/yazgoulm/*.py) python/yazgoulm/py.typed $(DESTDIR)$(PYTHON_DIR)/yazgoulm
+	for each in python/yazgoulm/_native*.so; do \
+		[ ! -f "$$each" ] || install -m 755 "$$each" $(DESTDIR)$(PYTHON_DIR)/yazgoulm || exit 1; \
+	done
+wheel: library
+	tools/python_package.py wheel dist
+dist: library
+	tools/dist dist

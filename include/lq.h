@@ -1,35 +1,43 @@
 /* Yazgoulm, a live query server in the manner of the Be file system, in the caller's own process.
  * Version 0.1.0.
  *
- * A handle holds one volume, its live queries and their ports. Each call is one act: it starts no
- * thread, takes no lock, waits for nothing and prints nothing. Nodes, folders, sizes in bytes,
- * changes and slots are 64-bit numbers; times are seconds since 1970. Node 1 is the root, entries
- * count from node 2, slots from 1 to 64, changes and messages from 1. A volume accepts at most
+ * A handle holds one volume, its live queries and the messages that wait for their readers. Each
+ * call is one act: it starts no thread, takes no lock, waits for nothing and prints nothing. Nodes,
+ * folders, sizes in bytes, changes and slots are 64-bit numbers; times are seconds since 1970.
+ * Entries count from node 2, slots from 1, changes and messages from 1. A volume accepts at most
  * 1,000,000,000,000 changes, and as many openings.
  *
- * Texts. A text is a pointer and its length in bytes; it is UTF-8, without an ending NUL that would
- * count. A text that a call gives is copied into the caller's memory with its length beside it; no
- * NUL is added.
+ * Names. The acts have the words of a script: lq_open opens a live query, lq_close closes one. The
+ * volume itself is opened by lq_volume_open and closed by lq_volume_close.
+ *
+ * Texts. A text that is given is a pointer and its size in bytes; it is UTF-8, and needs no NUL.
+ * Null with size 0 is the empty text. A text that a call writes has its size beside it and a NUL
+ * after it, which doesn't count; a value may have NULs inside. Sizes are tested before a text is
+ * read: a name above LQ_NAME_SIZE, a value above LQ_TEXT_SIZE and a formula above LQ_FORMULA_SIZE
+ * are refused by their sizes alone, as if they were UTF-8.
  *
  * Statuses. A call that can be refused answers a status: LQ_OK, or why it was refused. A refused
  * call leaves its `out` as it was, and doesn't do its act. Two things may happen all the same, as
- * in a script: a query that was asked to hang up ends, and waiting messages move into the ports.
- * The first fault that fits is answered, in this order: LQ_NOT_UTF8;
- * LQ_BAD_LINE for a number that names no kind or operator; LQ_BAD_NAME; LQ_TOO_LONG for the text
- * of a value; LQ_BAD_QUERY; then those of the act itself, as listed at each call. A call that says
- * so may answer LQ_NO_MEMORY in place of LQ_OK, or before any of those refusals is found; then its
- * act isn't done either. lq_answer is the one exception, and says so.
+ * in a script: a query that was asked to hang up ends, and waiting messages move up. The first fault that fits is answered, in this order: LQ_MISUSE; LQ_NOT_UTF8;
+ * LQ_BAD_LINE for a number that names no kind or operator; LQ_BAD_NAME; LQ_TOO_LONG for the text of
+ * a value; LQ_BAD_QUERY; then those of the act itself, as listed at each call. A call that says so
+ * may answer LQ_NO_MEMORY in place of LQ_OK, or before any of those refusals but LQ_MISUSE is
+ * found; then its act isn't done either. lq_answer is the one exception, and says so.
+ *
+ * Misuse. Each call but lq_volume_close answers LQ_MISUSE for a handle that is null or not open
+ * (LQ_INIT, closed, or a copy of an open one), for a null `out` where it doesn't say that null is
+ * allowed, and for a text that is null with a size. Those that answer no status answer 0 then.
  *
  * What a caller owes, and nothing tests:
  * - Each pointer points to memory of its type, aligned, that lives through the call and that no
- *   other argument of the call overlaps; it is not null, for a text of length 0 too (lq_close
- *   alone takes null).
- * - Each length is the length of the memory at its pointer, and at most 2^63 - 1.
- * - Each handle was opened by lq_open with LQ_OK and wasn't closed since (lq_open and lq_close take
- *   others too). Of two copies of one handle, one alone is used: closing it ends both.
+ *   other argument of the call overlaps.
+ * - Each size is the size of the memory at its pointer, where it is within the limits above.
+ * - A handle is LQ_INIT before it is opened for the first time, and stays where it was opened: a
+ *   copy of it elsewhere isn't open, and a copy that is put back in its place after lq_volume_close
+ *   would be taken for an open one.
  * - A `bool` is 0 or 1.
- * - One handle is in one call at a time, and stays on the thread that opened it. Handles know
- *   nothing of each other.
+ * - A handle is in one call at a time, on any thread, under a lock of yours. Handles know nothing
+ *   of each other: two of them need no lock.
  * - No call comes from a signal handler, or from the child of a fork of a process with threads.
  * - malloc, realloc and free belong together, and align as the C standard says, up to 16 bytes.
  * - The stack has room: 256 KiB is plenty.
@@ -45,16 +53,27 @@
 extern "C" {
 #endif
 
-/* A handle. Its fields belong to the library. */
-typedef struct lq {
-    void *at;
-} lq;
+/* The version of this header: a million for each major version, a thousand for each minor one. */
+#define LQ_VERSION 1000
+#define LQ_VERSION_TEXT "0.1.0"
 
-/* A handle that isn't open. */
-#define LQ_INIT { 0 }
+/* The version of the library. */
+uint32_t lq_version(void);
 
-/* The statuses: 0, and the numbers of the refusals in a script's replies. */
-enum {
+/* The node of the root, and the number of slots. */
+enum { LQ_ROOT = 1, LQ_SLOTS = 64 };
+
+/* Limits in bytes: a name or the name of an attribute, the text of a value, and a formula. */
+enum { LQ_NAME_SIZE = 255, LQ_TEXT_SIZE = 4096, LQ_FORMULA_SIZE = 4096 };
+
+/* The largest backlog of a query, and the one that it has where none is given. */
+enum { LQ_BACKLOG = 65536 };
+
+/* The most pushes to one stack: no query that is within the limits of formulas needs more. */
+enum { LQ_PUSHES = 4096 };
+
+/* The statuses: 0, the numbers of the refusals in a script's replies, and LQ_MISUSE. */
+typedef enum lq_status {
     LQ_OK = 0,
     LQ_BAD_NAME = 1,
     LQ_NO_NODE = 2,
@@ -82,155 +101,185 @@ enum {
     LQ_NOT_JSON = 32,
     LQ_BAD_LINE = 33,
     LQ_OUT_OF_STEP = 34,
-    LQ_MISMATCH = 35
-};
+    LQ_MISMATCH = 35,
+    LQ_MISUSE = 40
+} lq_status;
 
-/* Limits, in bytes: a name or the name of an attribute, and a text value. */
-enum { LQ_NAME_ROOM = 255, LQ_TEXT_ROOM = 4096 };
+/* The name of a status, as "NoNode" for LQ_NO_NODE; LQ_OK is "Ok", LQ_MISUSE "Misuse". Null: no
+ * status has this number. The text lives as long as the library. */
+const char *lq_status_name(lq_status status);
 
-/* Opens a handle over a volume with the root alone. What the handle was before is overwritten.
- * LQ_NO_MEMORY: it stays as it was. */
-uint32_t lq_open(lq *handle);
+/* A handle. Its fields belong to the library. `version` is that of the header that it was opened
+ * with: where a later version adds fields at the end of a struct below, a call writes those of
+ * this version alone. */
+typedef struct lq {
+    void *at;
+    uint64_t tag;
+    uint64_t result;
+    uint32_t version;
+    uint32_t pushes;
+} lq;
 
-/* Frees all that an open handle holds, which ends it. A caller has lq_close for that. */
-void lq_free(lq handle);
+/* A handle that isn't open. */
+#define LQ_INIT { 0, 0, 0, 0, 0 }
 
-/* Closes a handle and frees all that it holds. Null is allowed, and so is LQ_INIT or a handle that
- * was closed by this call: nothing happens then. */
-static inline void lq_close(lq *handle)
+/* Opens a handle over a volume with the root alone. LQ_MISUSE: it is null or open already, or
+ * the library is older than `version`, which is LQ_VERSION. LQ_NO_MEMORY: it stays as it was. */
+lq_status lq_volume_open_as(lq *handle, uint32_t version);
+
+static inline lq_status lq_volume_open(lq *handle)
 {
-    if (handle && handle->at) {
-        lq_free(*handle);
-        handle->at = 0;
-    }
+    return lq_volume_open_as(handle, LQ_VERSION);
 }
 
-/* Copies the name of a status, as "NoNode" for LQ_NO_NODE, and answers its length, at most 10;
- * LQ_OK is "Ok". Where the room is smaller nothing is copied. 0: no status has this number. */
-size_t lq_strerror(uint32_t status, char *out, size_t room);
+/* Closes a handle and frees all that it holds. Nothing happens to null and to a handle that isn't
+ * open, also to a copy of one that was closed. */
+void lq_volume_close(lq *handle);
 
 /* The place of the last fault: after a call that answered LQ_BAD_QUERY, the byte of the formula
  * where it has its leftmost fault, counted from 0, or 4096 for one of more bytes; for a call with
  * pushed items, the number of pushes that were accepted since the stack was new. 0 where no call
  * was refused in this way. */
-uint64_t lq_fault_place(lq *handle);
+uint64_t lq_fault_place(const lq *handle);
 
 /* ---- a script's lines ---- */
 
 /* Answers one line of a script, without its LF. The reply, JSON with LF, has the bytes that
  * `lq run` writes for the line, and the handle is as a script is after it: a line and the calls
- * below act on the same volume and slots. `*size` is the length of the reply, which lq_text copies
+ * below act on the same volume and slots. `*size` is the size of the reply, which lq_text copies
  * until another lq_answer or lq_path; 0 for an empty line, which has none. A refused line is
  * answered with LQ_OK, and says so in its reply. LQ_NO_MEMORY: there is no reply, and nothing is
  * said of whether the line was carried out; a message that it read is lost. */
-uint32_t lq_answer(lq *handle, const char *line, size_t line_size, size_t *size);
+lq_status lq_answer(lq *handle, const char *line, size_t line_size, size_t *size);
 
-/* Copies the text of the last lq_answer or lq_path, and answers its length. Where the room is
- * smaller nothing is copied. */
-size_t lq_text(lq *handle, char *out, size_t room);
+/* Copies the text of the last lq_answer or lq_path, and answers its size. Where `room` is smaller
+ * nothing is copied; where it is larger a NUL comes after the text. */
+size_t lq_text(const lq *handle, char *out, size_t room);
 
 /* ---- changes ---- */
 
-enum { LQ_FILE = 0, LQ_FOLDER = 1 };
+typedef enum lq_kind { LQ_FILE = 0, LQ_FOLDER = 1, LQ_GONE = 2 } lq_kind;
 
-/* The effect of a change: its number, and the node that it created or named. */
+/* The effect of a change: its number, and the node that it created or named. Each call that
+ * makes a change allows null for it. */
 typedef struct lq_applied {
     uint64_t change;
     uint64_t node;
 } lq_applied;
 
 /* Creates an entry in a folder, under the next node. The size of a folder is 0.
- * LQ_BAD_LINE: the kind is neither LQ_FILE nor LQ_FOLDER. Then as the volume refuses it:
- * LQ_NO_NODE, LQ_NOT_FOLDER, LQ_EXISTS, LQ_IS_FOLDER, LQ_TOO_LONG, LQ_EXHAUSTED. LQ_NO_MEMORY. */
-uint32_t lq_create(lq *handle, uint64_t dir, const char *name, size_t name_size, uint32_t kind,
-                   uint64_t size, int64_t time, lq_applied *out);
+ * LQ_BAD_LINE: the kind is neither LQ_FILE nor LQ_FOLDER. LQ_BAD_NAME. Then as the volume refuses
+ * it: LQ_NO_NODE, LQ_NOT_FOLDER, LQ_EXISTS, LQ_IS_FOLDER, LQ_TOO_LONG, LQ_EXHAUSTED.
+ * LQ_NO_MEMORY. */
+lq_status lq_create(lq *handle, uint64_t dir, const char *name, size_t name_size, uint32_t kind,
+                    uint64_t size, int64_t time, lq_applied *out);
 
 /* Removes the entry of a node. LQ_NO_NODE, LQ_RESERVED for the root, LQ_NOT_EMPTY for a folder with
  * entries, LQ_EXHAUSTED. LQ_NO_MEMORY. */
-uint32_t lq_remove(lq *handle, uint64_t node, lq_applied *out);
+lq_status lq_remove(lq *handle, uint64_t node, lq_applied *out);
 
 /* Moves the entry of a node to another place; with `clobber` another entry there is removed.
- * LQ_NO_NODE, LQ_RESERVED, LQ_NOT_FOLDER, LQ_WOULD_LOOP, LQ_EXISTS without `clobber`, LQ_KIND_CLASH
- * and LQ_NOT_EMPTY with it, LQ_EXHAUSTED. LQ_NO_MEMORY. */
-uint32_t lq_move(lq *handle, uint64_t node, uint64_t dir, const char *name, size_t name_size,
-                 bool clobber, lq_applied *out);
+ * LQ_BAD_NAME, LQ_NO_NODE, LQ_RESERVED, LQ_NOT_FOLDER, LQ_WOULD_LOOP, LQ_EXISTS without `clobber`,
+ * LQ_KIND_CLASH and LQ_NOT_EMPTY with it, LQ_EXHAUSTED. LQ_NO_MEMORY. */
+lq_status lq_move(lq *handle, uint64_t node, uint64_t dir, const char *name, size_t name_size,
+                  bool clobber, lq_applied *out);
 
 /* Sets a file's size and its last_modified. LQ_NO_NODE, LQ_RESERVED, LQ_IS_FOLDER, LQ_TOO_LONG,
  * LQ_EXHAUSTED. LQ_NO_MEMORY. */
-uint32_t lq_write(lq *handle, uint64_t node, uint64_t size, int64_t time, lq_applied *out);
+lq_status lq_write(lq *handle, uint64_t node, uint64_t size, int64_t time, lq_applied *out);
 
 /* Sets an attribute of an entry; one that it has keeps its position. LQ_BAD_NAME: the attribute's
- * name. LQ_TOO_LONG: a text above LQ_TEXT_ROOM. LQ_NO_NODE, LQ_RESERVED for the root and for the
+ * name. LQ_TOO_LONG: a text above LQ_TEXT_SIZE. LQ_NO_NODE, LQ_RESERVED for the root and for the
  * names name, size and last_modified, LQ_EXHAUSTED. LQ_NO_MEMORY. */
-uint32_t lq_set_text(lq *handle, uint64_t node, const char *attr, size_t attr_size,
-                     const char *text, size_t text_size, lq_applied *out);
-uint32_t lq_set_int32(lq *handle, uint64_t node, const char *attr, size_t attr_size, int32_t value,
-                      lq_applied *out);
-uint32_t lq_set_int64(lq *handle, uint64_t node, const char *attr, size_t attr_size, int64_t value,
-                      lq_applied *out);
-uint32_t lq_set_uint32(lq *handle, uint64_t node, const char *attr, size_t attr_size,
-                       uint32_t value, lq_applied *out);
-uint32_t lq_set_uint64(lq *handle, uint64_t node, const char *attr, size_t attr_size,
-                       uint64_t value, lq_applied *out);
+lq_status lq_set_text(lq *handle, uint64_t node, const char *attr, size_t attr_size,
+                      const char *text, size_t text_size, lq_applied *out);
+lq_status lq_set_int32(lq *handle, uint64_t node, const char *attr, size_t attr_size,
+                       int32_t value, lq_applied *out);
+lq_status lq_set_int64(lq *handle, uint64_t node, const char *attr, size_t attr_size,
+                       int64_t value, lq_applied *out);
+lq_status lq_set_uint32(lq *handle, uint64_t node, const char *attr, size_t attr_size,
+                        uint32_t value, lq_applied *out);
+lq_status lq_set_uint64(lq *handle, uint64_t node, const char *attr, size_t attr_size,
+                        uint64_t value, lq_applied *out);
 
 /* Removes an attribute of an entry. LQ_BAD_NAME, LQ_NO_NODE, LQ_RESERVED, LQ_NO_ATTR, LQ_EXHAUSTED.
  * LQ_NO_MEMORY. */
-uint32_t lq_unset(lq *handle, uint64_t node, const char *attr, size_t attr_size, lq_applied *out);
+lq_status lq_unset(lq *handle, uint64_t node, const char *attr, size_t attr_size, lq_applied *out);
 
-/* ---- results, walked entry by entry ---- */
+/* ---- results ---- */
 
-/* An entry of a result: its folder, its node and its name. */
-typedef struct lq_entry {
+/* An entry of a result: its folder, its node and its name, as the result has them; its kind, its
+ * size and its last_modified as they are when it is taken. A node that was removed since has the
+ * kind LQ_GONE, and 0 for both. */
+typedef struct lq_row {
     uint64_t dir;
     uint64_t node;
+    uint64_t size;
+    int64_t time;
+    uint32_t kind;
     size_t name_size;
-    char name[255];
-} lq_entry;
+    char name[LQ_NAME_SIZE + 1];
+} lq_row;
 
-/* Gives the next entry of the handle's result. False, and `*out` stays: no further one. A result
- * stands from the call that made it (lq_subscribe, lq_fetch, lq_subscribe_pushed, lq_fetch_pushed,
- * lq_result, lq_children) until another of them succeeds; it doesn't change with the volume. */
-bool lq_result_next(lq *handle, lq_entry *out);
+/* Takes the next entries of a result, `room` at most, and writes how many there were: fewer than
+ * `room`, once none is left. A handle has one result at a time, whose number the call that made it
+ * has written as `result` (lq_open, lq_open_pushed, lq_fetch, lq_fetch_pushed, lq_result,
+ * lq_children); it doesn't change with the volume. LQ_MISUSE: another result was made since. Who
+ * wants two at once takes all of the first, whose `count` is known, before the second is made. */
+lq_status lq_take(lq *handle, uint64_t result, lq_row *out, size_t room, size_t *got);
 
-/* How many entries lq_result_next has still to give. */
-size_t lq_result_left(lq *handle);
+/* Takes the next entry alone. LQ_NO_ENTRY: none is left. LQ_MISUSE: as lq_take. */
+lq_status lq_next(lq *handle, uint64_t result, lq_row *out);
 
 /* ---- live queries ---- */
 
-/* An opened subscription: its slot, the number of changes so far, and how many entries the result
- * has, which lq_result_next gives by rising node. */
+/* How a query is opened. A change ends the query where its messages and those that wait beside the
+ * oldest are more than `backlog`, 1 to LQ_BACKLOG; 0 stands for LQ_BACKLOG. With `moved` one
+ * message says that an entry of the result moved, where otherwise one says that it left and
+ * another that it came. With `no_result` the handle keeps no rebuilt result for lq_result. */
+typedef struct lq_options {
+    uint64_t backlog;
+    bool moved;
+    bool no_result;
+} lq_options;
+
+/* The options that null stands for. */
+#define LQ_OPTIONS_INIT { 0, 0, 0 }
+
+/* An opened query: its slot, the number of changes so far, how many entries the result has, which
+ * lq_take gives by rising node, and the number of that result. */
 typedef struct lq_opening {
     uint64_t slot;
     uint64_t at;
     size_t count;
+    uint64_t result;
 } lq_opening;
 
-/* Opens a live query in the lowest free slot. `port` is the number of places of its port, 1 to
- * 1,024; at most `backlog` messages, 0 to 65,536, are held before it. With `moved` one message
- * says that an entry of the result moved. LQ_BAD_QUERY, then LQ_BAD_PORT, LQ_BAD_BACKLOG,
- * LQ_NO_SLOT, LQ_EXHAUSTED. LQ_NO_MEMORY. */
-uint32_t lq_subscribe(lq *handle, const char *formula, size_t formula_size, uint64_t port,
-                      uint64_t backlog, bool moved, lq_opening *out);
+/* Opens a live query in the lowest free slot; null options are LQ_OPTIONS_INIT. LQ_BAD_QUERY, then
+ * LQ_BAD_BACKLOG, LQ_NO_SLOT, LQ_EXHAUSTED. LQ_NO_MEMORY. */
+lq_status lq_open(lq *handle, const char *formula, size_t formula_size, const lq_options *options,
+                  lq_opening *out);
 
-/* What a read took from a port. */
-enum {
+/* What a read took. */
+typedef enum lq_what {
     LQ_EMPTY = 0,  /* nothing is there */
     LQ_UPDATE = 1, /* a message */
-    LQ_END = 2,    /* the mark that ends the subscription */
+    LQ_END = 2,    /* the mark that ends the query */
     LQ_ENDED = 3   /* nothing, and the mark was read before */
-};
+} lq_what;
 
 /* What a message says of an entry, as the opcodes of B_QUERY_UPDATE. */
-enum { LQ_ENTRY_CREATED = 1, LQ_ENTRY_REMOVED = 2, LQ_ENTRY_MOVED = 3 };
+typedef enum lq_op { LQ_ENTRY_CREATED = 1, LQ_ENTRY_REMOVED = 2, LQ_ENTRY_MOVED = 3 } lq_op;
 
-/* Why a subscription ended: lq_end, lq_hang_up, or more messages than its backlog holds. */
-enum { LQ_CLOSED = 1, LQ_HUNG_UP = 2, LQ_OVERRUN = 3 };
+/* Why a query ended: lq_close, lq_hang_up, or more messages than its backlog holds. */
+typedef enum lq_cause { LQ_CLOSED = 1, LQ_HUNG_UP = 2, LQ_OVERRUN = 3 } lq_cause;
 
-/* What a read gave. `seq` counts a subscription's messages, and then the mark, from 1; `change` is
- * the change that made the message, and at the mark the last one that the messages cover; `last` is
- * true at the final message of a change. `dir`, `name` and `node` are the entry's, after the
- * change; `from_dir` and `from_name` are the place that it moved from. A field that `what` and `op`
- * give no meaning is 0, and its name has size 0. */
+/* What a read gave. `what` is an lq_what, `op` an lq_op and `cause` an lq_cause. `seq` counts a
+ * query's messages, and then the mark, from 1; `change` is the change that made the message, and at
+ * the mark the last one that the messages cover; `last` is true at the final message of a change.
+ * `dir`, `name` and `node` are the entry's, after the change; `from_dir` and `from_name` are the
+ * place that it moved from. A field that `what` and `op` give no meaning is 0, and its name is the
+ * empty text. */
 typedef struct lq_message {
     uint64_t seq;
     uint64_t change;
@@ -243,56 +292,78 @@ typedef struct lq_message {
     bool last;
     size_t name_size;
     size_t from_name_size;
-    char name[255];
-    char from_name[255];
+    char name[LQ_NAME_SIZE + 1];
+    char from_name[LQ_NAME_SIZE + 1];
 } lq_message;
 
-/* Takes the oldest message from a slot's port, after the port was filled from the messages held.
- * LQ_NOT_OPEN: the slot is free. It never answers LQ_NO_MEMORY, and loses no message: where memory
- * runs out for the slot's rebuilt result, the slot is left without that alone (lq_result). It is
- * proved that the reads of a slot, from its opening on, give each message once and in order. */
-uint32_t lq_read(lq *handle, uint64_t slot, lq_message *out);
+/* Which slots have a message or a mark to read: the bit `slot - 1` is set just where lq_read would
+ * give LQ_UPDATE or LQ_END. It takes no memory. */
+uint64_t lq_ready(const lq *handle);
 
-/* Asks for the end of a slot's subscription, as its reader does; the next change, read or lq_end
- * ends it. LQ_NOT_OPEN: the slot is free. It takes no memory. */
-uint32_t lq_hang_up(lq *handle, uint64_t slot);
+/* Takes the oldest message of a slot. LQ_NOT_OPEN: the slot is free. It never answers
+ * LQ_NO_MEMORY, and loses no message: where memory runs out for the slot's rebuilt result, the slot
+ * is left without that alone (lq_result). It is proved that the reads of a slot, from its opening
+ * on, give each message once and in order. */
+lq_status lq_read(lq *handle, uint64_t slot, lq_message *out);
 
-/* Ends a slot's subscription; its messages and its mark can still be read. `*change` is the last
- * change that they cover. LQ_NOT_OPEN: the slot is free, or its subscription has ended. It takes no
- * memory. */
-uint32_t lq_end(lq *handle, uint64_t slot, uint64_t *change);
+/* Takes the oldest messages of a slot, `room` at most and the mark with them, as that many calls
+ * of lq_read would; `*got` is how many there were. LQ_NOT_OPEN: the slot is free. */
+lq_status lq_read_many(lq *handle, uint64_t slot, lq_message *out, size_t room, size_t *got);
+
+/* Asks for the end of a slot's query, as its reader does; the next change, read or lq_close ends
+ * it. LQ_NOT_OPEN: the slot is free. It takes no memory. */
+lq_status lq_hang_up(lq *handle, uint64_t slot);
+
+/* Ends a slot's query; its messages and its mark can still be read. `*change` is the last change
+ * that they cover; null is allowed. LQ_NOT_OPEN: the slot is free, or its query has ended. It takes
+ * no memory. */
+lq_status lq_close(lq *handle, uint64_t slot, uint64_t *change);
 
 /* Frees a slot whose mark was read. LQ_NOT_OPEN: the slot is free. LQ_STILL_OPEN: the mark wasn't
  * read. It takes no memory. */
-uint32_t lq_finish(lq *handle, uint64_t slot);
+lq_status lq_finish(lq *handle, uint64_t slot);
+
+/* Ends a slot's query where it hasn't ended, discards its messages and its mark, and frees the
+ * slot. LQ_NOT_OPEN: the slot is free. */
+lq_status lq_drop(lq *handle, uint64_t slot);
 
 /* The result of a slot, rebuilt from its opening and the messages that were read from it: the
- * change of the latest message, how many entries lq_result_next gives, by rising node, and whether
- * that message was the last of its change, so that this is the query's result then. */
+ * change of the latest message, how many entries lq_take gives, by rising node, whether that
+ * message was the last of its change, so that this is the query's result then, and the number of
+ * this result. */
 typedef struct lq_rebuilt {
     uint64_t change;
     size_t count;
     bool settled;
+    uint64_t result;
 } lq_rebuilt;
 
-/* LQ_NOT_OPEN: the slot is free, or it has no rebuilt result, since memory ran out for it in its
- * lq_subscribe or in an lq_read. LQ_NO_MEMORY. */
-uint32_t lq_result(lq *handle, uint64_t slot, lq_rebuilt *out);
+/* LQ_NOT_OPEN: the slot is free, or it has no rebuilt result: it was opened with `no_result`, or
+ * memory ran out for it in its lq_open or in a read. LQ_NO_MEMORY. */
+lq_status lq_result(lq *handle, uint64_t slot, lq_rebuilt *out);
 
 /* ---- looks at the volume, which change nothing ---- */
 
-/* The number of changes so far, and how many entries lq_result_next gives, by rising node. */
+/* The number of changes so far, how many entries lq_take gives, by rising node, and the number of
+ * this result. */
 typedef struct lq_fetched {
     uint64_t at;
     size_t count;
+    uint64_t result;
 } lq_fetched;
 
 /* The entries that match a formula now. LQ_BAD_QUERY. LQ_NO_MEMORY. */
-uint32_t lq_fetch(lq *handle, const char *formula, size_t formula_size, lq_fetched *out);
+lq_status lq_fetch(lq *handle, const char *formula, size_t formula_size, lq_fetched *out);
 
-/* The node of the entry with this name in a folder. LQ_NO_NODE, LQ_NOT_FOLDER, LQ_NO_ENTRY.
- * LQ_NO_MEMORY. */
-uint32_t lq_find(lq *handle, uint64_t dir, const char *name, size_t name_size, uint64_t *node);
+/* The node of the entry with this name in a folder. LQ_BAD_NAME, LQ_NO_NODE, LQ_NOT_FOLDER,
+ * LQ_NO_ENTRY. LQ_NO_MEMORY. */
+lq_status lq_find(lq *handle, uint64_t dir, const char *name, size_t name_size, uint64_t *node);
+
+/* The node at the end of a path from a folder: names with one `/` or more between them, before them
+ * or after them; a path without a name is the folder itself. It is refused as lq_find refuses the
+ * first of its names that doesn't lead on; for a path without a name it isn't refused. */
+lq_status lq_find_path(lq *handle, uint64_t dir, const char *path, size_t path_size,
+                       uint64_t *node);
 
 /* An entry: its place, its kind, its size and last_modified, and how many attributes it has. */
 typedef struct lq_info {
@@ -303,71 +374,78 @@ typedef struct lq_info {
     uint32_t kind;
     size_t attr_count;
     size_t name_size;
-    char name[255];
+    char name[LQ_NAME_SIZE + 1];
 } lq_info;
 
 /* The entry of a node. LQ_NO_NODE, LQ_NO_ENTRY for the root. It takes no memory. */
-uint32_t lq_entry_of(lq *handle, uint64_t node, lq_info *out);
+lq_status lq_entry(const lq *handle, uint64_t node, lq_info *out);
 
 /* The types of an attribute, by the numbers of Be's TypeConstants.h: 'CSTR', 'LONG', 'LLNG',
  * 'ULNG', 'ULLG'. */
-enum {
+typedef enum lq_type {
     LQ_TEXT = 0x43535452,
     LQ_INT32 = 0x4C4F4E47,
     LQ_INT64 = 0x4C4C4E47,
     LQ_UINT32 = 0x554C4E47,
     LQ_UINT64 = 0x554C4C47
-};
+} lq_type;
 
-/* An attribute: LQ_TEXT has its text in `text`, LQ_INT32 and LQ_INT64 their number in `whole`,
- * LQ_UINT32 and LQ_UINT64 theirs in `natural`. The other fields are 0. */
+/* An attribute: `type` is an lq_type. LQ_TEXT has its text in `text`, LQ_INT32 and LQ_INT64 their
+ * number in `whole`, LQ_UINT32 and LQ_UINT64 theirs in `natural`. The other fields are 0. */
 typedef struct lq_attr {
     uint32_t type;
     int64_t whole;
     uint64_t natural;
     size_t name_size;
     size_t text_size;
-    char name[255];
-    char text[4096];
+    char name[LQ_NAME_SIZE + 1];
+    char text[LQ_TEXT_SIZE + 1];
 } lq_attr;
 
 /* An attribute of an entry by its index, from 0 in the order in which they were first set.
  * LQ_NO_NODE, LQ_NO_ENTRY for the root, LQ_NO_ATTR. It takes no memory. */
-uint32_t lq_attr_at(lq *handle, uint64_t node, size_t index, lq_attr *out);
+lq_status lq_attr_at(const lq *handle, uint64_t node, size_t index, lq_attr *out);
 
 /* An attribute of an entry by its name. LQ_BAD_NAME, LQ_NO_NODE, LQ_NO_ENTRY for the root,
  * LQ_NO_ATTR. LQ_NO_MEMORY. */
-uint32_t lq_attr_named(lq *handle, uint64_t node, const char *attr, size_t attr_size,
-                       lq_attr *out);
+lq_status lq_attr_named(const lq *handle, uint64_t node, const char *attr, size_t attr_size,
+                        lq_attr *out);
 
-/* The entries of a folder, which lq_result_next gives in the order of their names, byte by byte;
- * `*count` is how many. LQ_NO_NODE, LQ_NOT_FOLDER. LQ_NO_MEMORY. */
-uint32_t lq_children(lq *handle, uint64_t dir, size_t *count);
+/* The entries of a folder: how many lq_take gives, in the order of their names, byte by byte, and
+ * the number of this result. */
+typedef struct lq_listing {
+    size_t count;
+    uint64_t result;
+} lq_listing;
+
+/* LQ_NO_NODE, LQ_NOT_FOLDER. LQ_NO_MEMORY. */
+lq_status lq_children(lq *handle, uint64_t dir, lq_listing *out);
 
 /* The path of an entry: the names from the root down, each with `/` before it; for the root `/`
- * alone. `*size` is its length, and lq_text copies it. LQ_NO_NODE. LQ_NO_MEMORY. */
-uint32_t lq_path(lq *handle, uint64_t node, size_t *size);
+ * alone. `*size` is its size, and lq_text copies it. LQ_NO_NODE. LQ_NO_MEMORY. */
+lq_status lq_path(lq *handle, uint64_t node, size_t *size);
 
 /* The number of changes so far. It takes no memory. */
-uint64_t lq_changes(lq *handle);
+uint64_t lq_changes(const lq *handle);
 
 /* ---- a query by pushes, in postfix order as BQuery's ---- */
 
 /* Pushes an attribute's name, a value, or an operator, which takes what it needs from the top: a
  * comparison a value and the attribute below it, LQ_AND and LQ_OR two predicates, LQ_NOT one.
- * LQ_BAD_QUERY: the push doesn't fit (a name of no attribute, a text above LQ_TEXT_ROOM, items that
+ * LQ_BAD_QUERY: the push doesn't fit (a name of no attribute, a text above LQ_TEXT_SIZE, items that
  * are missing, a text that is no pattern for LQ_EQ and LQ_NE, a limit of formulas); the stack stays
- * as it is, and lq_fault_place is the number of pushes accepted before. LQ_BAD_LINE: no operator
- * has this number. LQ_NO_MEMORY: the stack stays as it is. */
-uint32_t lq_push_attr(lq *handle, const char *attr, size_t attr_size);
-uint32_t lq_push_text(lq *handle, const char *text, size_t text_size);
-uint32_t lq_push_int32(lq *handle, int32_t value);
-uint32_t lq_push_int64(lq *handle, int64_t value);
-uint32_t lq_push_uint32(lq *handle, uint32_t value);
-uint32_t lq_push_uint64(lq *handle, uint64_t value);
+ * as it is, and lq_fault_place is the number of pushes accepted before. LQ_MISUSE: LQ_PUSHES were
+ * accepted since the stack was new. LQ_BAD_LINE: no operator has this number. LQ_NO_MEMORY: the
+ * stack stays as it is. */
+lq_status lq_push_attr(lq *handle, const char *attr, size_t attr_size);
+lq_status lq_push_text(lq *handle, const char *text, size_t text_size);
+lq_status lq_push_int32(lq *handle, int32_t value);
+lq_status lq_push_int64(lq *handle, int64_t value);
+lq_status lq_push_uint32(lq *handle, uint32_t value);
+lq_status lq_push_uint64(lq *handle, uint64_t value);
 
 /* The operators. */
-enum {
+typedef enum lq_operator {
     LQ_EQ = 1,
     LQ_NE = 2,
     LQ_GT = 3,
@@ -380,18 +458,17 @@ enum {
     LQ_AND = 10,
     LQ_OR = 11,
     LQ_NOT = 12
-};
+} lq_operator;
 
-uint32_t lq_push_op(lq *handle, uint32_t op);
+lq_status lq_push_op(lq *handle, uint32_t op);
 
 /* Empties the stack. */
-void lq_clear_pushed(lq *handle);
+lq_status lq_clear_pushed(lq *handle);
 
-/* lq_subscribe and lq_fetch of the predicate that is the stack's only item. They take it off, also
- * where they are refused after that. LQ_BAD_QUERY: the stack holds anything else; it stays. */
-uint32_t lq_subscribe_pushed(lq *handle, uint64_t port, uint64_t backlog, bool moved,
-                             lq_opening *out);
-uint32_t lq_fetch_pushed(lq *handle, lq_fetched *out);
+/* lq_open and lq_fetch of the predicate that is the stack's only item. They take it off, also where
+ * they are refused after that. LQ_BAD_QUERY: the stack holds anything else; it stays. */
+lq_status lq_open_pushed(lq *handle, const lq_options *options, lq_opening *out);
+lq_status lq_fetch_pushed(lq *handle, lq_fetched *out);
 
 #ifdef __cplusplus
 }

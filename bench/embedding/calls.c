@@ -8,7 +8,7 @@
 static lq volume;
 static bool by_lines;
 
-static void must(uint32_t status) {
+static void must(lq_status status) {
     if (status == LQ_OK) return;
     fprintf(stderr, "a call answered %u\n", (unsigned)status);
     exit(1);
@@ -65,7 +65,7 @@ static void read_one(int slot) {
 
 /* Creates COUNT files. */
 static double creates(void) {
-    must(lq_open(&volume));
+    must(lq_volume_open(&volume));
     make_lines(true);
     double since = now();
     for (int number = 0; number < COUNT; number++) {
@@ -73,7 +73,7 @@ static double creates(void) {
         else create(number);
     }
     double spent = now() - since;
-    lq_close(&volume);
+    lq_volume_close(&volume);
     return spent;
 }
 
@@ -85,11 +85,12 @@ static double writes(int windows) {
         "{\"do\":\"read\",\"slot\":5}", "{\"do\":\"read\",\"slot\":6}",
         "{\"do\":\"read\",\"slot\":7}", "{\"do\":\"read\",\"slot\":8}"};
     char formula[32];
+    lq_options options = {16, false, false};
     lq_opening opening;
     int size = sprintf(formula, "size>%d", BORDER);
-    must(lq_open(&volume));
+    must(lq_volume_open(&volume));
     for (int window = 0; window < windows; window++)
-        must(lq_subscribe(&volume, formula, (size_t)size, 4, 16, false, &opening));
+        must(lq_open(&volume, formula, (size_t)size, &options, &opening));
     for (int number = 0; number < FILES; number++) create(number);
     make_lines(false);
     double since = now();
@@ -102,7 +103,7 @@ static double writes(int windows) {
         }
     }
     double spent = now() - since;
-    lq_close(&volume);
+    lq_volume_close(&volume);
     return spent;
 }
 

@@ -10,7 +10,7 @@ from email.parser import BytesHeaderParser
 
 sys.path.append(os.path.join(os.path.dirname(os.path.realpath(__file__)), "../../python"))
 
-from yazgoulm import BadQuery, Refused, Volume
+from yazgoulm import B_ENTRY_CREATED, BadQuery, NotFound, Overrun, Volume
 
 SECONDS = 0.2  # between two looks at the Maildir
 
@@ -62,40 +62,38 @@ class Mirror:
 class Folder:
     """A live folder: the messages that match a formula, kept right by what the query sends and nothing else."""
 
-    def __init__(self, volume, formula, backlog=4096):
-        self.volume, self.formula, self.backlog = volume, formula, backlog
-        self.open()
-
-    def open(self):
-        self.query = self.volume.query(self.formula, port=1, backlog=self.backlog)
+    def __init__(self, volume, formula, backlog=65_536):
+        self.volume, self.formula = volume, formula
+        self.query = volume.open(formula, backlog)
         self.rows = {entry.node: self.subject(entry) for entry in self.query.entries}
 
-    def subject(self, entry):
+    def subject(self, place):
         try:
-            return self.volume.attribute(entry.node, "MAIL:subject").value
-        except Refused:
-            return entry.name  # removed meanwhile: a later message says so
+            return self.volume.attribute(place.node, "MAIL:subject").value
+        except NotFound:
+            return place.name  # removed meanwhile: a later message says so
+
+    def come(self, place):
+        self.rows[place.node] = self.subject(place)
+        return "+", self.rows[place.node]
+
+    def go(self, place):
+        return "-", self.rows.pop(place.node)
 
     def follow(self):
         """Applies the messages that wait. Returns what has come and gone: a sign, and the subject."""
         told = []
-        for message in self.query:
-            if message.op == "B_ENTRY_CREATED":
-                self.rows[message.node] = self.subject(message)
-                told.append(("+", self.rows[message.node]))
-            else:
-                told.append(("-", self.rows.pop(message.node)))
-        if self.query.mark is not None:  # more messages than the backlog has room for
-            told += self.rebuild()
+        try:
+            for message in self.query:
+                told.append(self.come(message) if message.op == B_ENTRY_CREATED else self.go(message))
+        except Overrun:  # more messages than the backlog has room for
+            told += self.begin_anew()
         return told
 
-    def rebuild(self):
-        """Opens the query again, and returns how its result differs from what was shown."""
-        old = self.rows
-        self.query.close()
-        self.open()
-        gone = [("-", old[node]) for node in sorted(old.keys() - self.rows.keys())]
-        return gone + [("+", self.rows[node]) for node in sorted(self.rows.keys() - old.keys())]
+    def begin_anew(self):
+        """Opens the query again, and applies how its result differs from what was shown."""
+        found = self.query.reopen()
+        return [self.go(place) for place in found.removed] + [self.come(place) for place in found.created]
 
 
 def main(words):
@@ -106,7 +104,10 @@ def main(words):
         try:
             mirror.look()
             folders = [Folder(volume, formula) for formula in words[1:]]
-        except (OSError, BadQuery) as error:
+        except BadQuery as error:
+            print(f"live_mail: {error.name} at {error.place}", file=sys.stderr)
+            return 2
+        except OSError as error:
             print(f"live_mail: {error}", file=sys.stderr)
             return 2
         for folder in folders:

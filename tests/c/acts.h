@@ -31,7 +31,7 @@ typedef struct act {
     const char *name, *text;
     size_t name_size, text_size;
     uint32_t kind, type;
-    uint64_t port, backlog;
+    uint64_t backlog;
     bool flag;
 } act;
 
@@ -126,8 +126,7 @@ static inline void say_line(text *to, const act *it) {
         break;
     case OPEN:
         say_text(to, ",\"query\":", it->text, it->text_size);
-        say_natural(to, ",\"port\":", it->port);
-        say_natural(to, ",\"backlog\":", it->backlog);
+        say_natural(to, ",\"port\":1,\"backlog\":", it->backlog ? it->backlog : LQ_BACKLOG);
         say_bool(to, ",\"moved\":", it->flag);
         break;
     case FIND:
@@ -142,19 +141,19 @@ static inline void say_line(text *to, const act *it) {
     say(to, "}");
 }
 
-/* The entries of the handle's result, which has so many. */
-static inline void say_result(text *to, lq *handle, size_t count) {
-    lq_entry entry;
+/* The entries of a result, which has so many. */
+static inline void say_result(text *to, lq *handle, uint64_t result, size_t count) {
+    lq_row entry;
     say(to, "\"result\":[");
     for (size_t number = 0; number < count; number++) {
-        CHECK(lq_result_left(handle) == count - number);
-        CHECK(lq_result_next(handle, &entry));
+        OK(lq_next(handle, result, &entry));
+        CHECK(entry.name[entry.name_size] == 0);
         say_natural(to, number ? ",{\"dir\":" : "{\"dir\":", entry.dir);
         say_text(to, ",\"name\":", entry.name, entry.name_size);
         say_natural(to, ",\"node\":", entry.node);
         say(to, "}");
     }
-    CHECK(!lq_result_next(handle, &entry) && lq_result_left(handle) == 0);
+    REFUSED(lq_next(handle, result, &entry), LQ_NO_ENTRY, entry);
     say(to, "]");
 }
 
@@ -186,10 +185,10 @@ static inline void say_message(text *to, const lq_message *it) {
     }
 }
 
-static inline uint32_t say_entry(text *to, lq *handle, uint64_t node) {
+static inline lq_status say_entry(text *to, lq *handle, uint64_t node) {
     lq_info info;
     lq_attr attr;
-    uint32_t status = lq_entry_of(handle, node, &info);
+    lq_status status = lq_entry(handle, node, &info);
     if (status != LQ_OK) return status;
     say(to, "{\"attrs\":[");
     for (size_t index = 0; index < info.attr_count; index++) {
@@ -214,7 +213,7 @@ static inline uint32_t say_entry(text *to, lq *handle, uint64_t node) {
 }
 
 /* The typed call of a change. */
-static inline uint32_t change(lq *handle, const act *it, lq_applied *out) {
+static inline lq_status change(lq *handle, const act *it, lq_applied *out) {
     switch (it->word) {
     case CREATE:
         return lq_create(handle, it->dir, it->name, it->name_size, it->kind, it->size, it->time,
@@ -244,22 +243,24 @@ static inline uint32_t change(lq *handle, const act *it, lq_applied *out) {
 }
 
 /* Does an act by its typed call, and adds the reply that its line would have, without LF. A refusal adds nothing. */
-static inline uint32_t by_call(lq *handle, const act *it, text *to) {
+static inline lq_status by_call(lq *handle, const act *it, text *to) {
     lq_applied applied;
+    lq_options options = LQ_OPTIONS_INIT;
     lq_opening opening;
     lq_rebuilt rebuilt;
     lq_fetched fetched;
     lq_message message;
     uint64_t number;
-    uint32_t status;
+    lq_status status;
     switch (it->word) {
     case OPEN:
-        status = lq_subscribe(handle, it->text, it->text_size, it->port, it->backlog, it->flag,
-                              &opening);
+        options.backlog = it->backlog;
+        options.moved = it->flag;
+        status = lq_open(handle, it->text, it->text_size, &options, &opening);
         if (status != LQ_OK) return status;
         say_natural(to, "{\"at\":", opening.at);
         say(to, ",");
-        say_result(to, handle, opening.count);
+        say_result(to, handle, opening.result, opening.count);
         say_natural(to, ",\"slot\":", opening.slot);
         break;
     case READ:
@@ -273,7 +274,7 @@ static inline uint32_t by_call(lq *handle, const act *it, text *to) {
         say_natural(to, "{\"slot\":", it->node);
         break;
     case CLOSE:
-        status = lq_end(handle, it->node, &number);
+        status = lq_close(handle, it->node, &number);
         if (status != LQ_OK) return status;
         say_natural(to, "{\"change\":", number);
         say_natural(to, ",\"slot\":", it->node);
@@ -283,7 +284,7 @@ static inline uint32_t by_call(lq *handle, const act *it, text *to) {
         if (status != LQ_OK) return status;
         say_natural(to, "{\"change\":", rebuilt.change);
         say(to, ",");
-        say_result(to, handle, rebuilt.count);
+        say_result(to, handle, rebuilt.result, rebuilt.count);
         say_bool(to, ",\"settled\":", rebuilt.settled);
         break;
     case FIND:
@@ -297,7 +298,7 @@ static inline uint32_t by_call(lq *handle, const act *it, text *to) {
         if (status != LQ_OK) return status;
         say_natural(to, "{\"at\":", fetched.at);
         say(to, ",");
-        say_result(to, handle, fetched.count);
+        say_result(to, handle, fetched.result, fetched.count);
         break;
     default:
         status = change(handle, it, &applied);
@@ -311,12 +312,11 @@ static inline uint32_t by_call(lq *handle, const act *it, text *to) {
 
 /* The same with LF, and with the reply of a refusal. */
 static inline void reply_by_call(lq *handle, const act *it, text *to) {
-    char name[16];
-    uint32_t status = by_call(handle, it, to);
+    lq_status status = by_call(handle, it, to);
     if (status != LQ_OK) {
-        size_t size = lq_strerror(status, name, sizeof name);
+        const char *name = lq_status_name(status);
         say_natural(to, "{\"code\":", status);
-        say_text(to, ",\"error\":", name, size);
+        say_text(to, ",\"error\":", name, strlen(name));
         if (status == LQ_BAD_QUERY) say_natural(to, ",\"place\":", lq_fault_place(handle));
         say(to, "}");
     }

@@ -6,26 +6,25 @@ static char long_name[256], long_text[4097];
 /* Handles begin empty, know nothing of each other, and may be closed again. */
 static void handles(void) {
     lq one = LQ_INIT, other = LQ_INIT, never = LQ_INIT;
-    lq_close(NULL);
-    lq_close(&never);
+    lq_volume_close(NULL);
+    lq_volume_close(&never);
     for (int round = 0; round < 3; round++) {
-        OK(lq_open(&one));
-        OK(lq_open(&other));
-        CHECK(lq_changes(&one) == 0 && lq_fault_place(&one) == 0 && lq_result_left(&one) == 0);
+        OK(lq_volume_open(&one));
+        OK(lq_volume_open(&other));
+        CHECK(lq_changes(&one) == 0 && lq_fault_place(&one) == 0 && lq_ready(&one) == 0);
         CHECK(created(&one, 1, "a", LQ_FILE, 0) == 2 && created(&one, 1, "b", LQ_FILE, 0) == 3);
         CHECK(created(&other, 1, "a", LQ_FILE, 0) == 2);
         CHECK(lq_changes(&one) == 2 && lq_changes(&other) == 1);
-        lq_close(&one);
-        lq_close(&one);
+        lq_volume_close(&one);
+        lq_volume_close(&one);
         CHECK(lq_changes(&other) == 1);
-        /* what lq_close does, by hand */
-        lq_free(other);
+        lq_volume_close(&other);
     }
 }
 
 static void the_names_of_statuses(void) {
     static const struct {
-        uint32_t status;
+        lq_status status;
         const char *name;
     } all[] = {{LQ_OK, "Ok"},
                {LQ_BAD_NAME, "BadName"},
@@ -54,24 +53,15 @@ static void the_names_of_statuses(void) {
                {LQ_NOT_JSON, "NotJson"},
                {LQ_BAD_LINE, "BadLine"},
                {LQ_OUT_OF_STEP, "OutOfStep"},
-               {LQ_MISMATCH, "Mismatch"}};
+               {LQ_MISMATCH, "Mismatch"},
+               {LQ_MISUSE, "Misuse"}};
     size_t known = 0;
-    char name[16];
-    for (uint32_t status = 0; status < 1000; status++)
-        known += lq_strerror(status, name, sizeof name) > 0;
+    for (int status = 0; status < 1000; status++)
+        known += lq_status_name((lq_status)status) != NULL;
     CHECK(known == sizeof all / sizeof *all);
-    CHECK(lq_strerror(UINT32_MAX, name, sizeof name) == 0);
-    for (size_t at = 0; at < known; at++) {
-        size_t size = strlen(all[at].name);
-        memset(name, 'x', sizeof name);
-        CHECK(lq_strerror(all[at].status, name, size - 1) == size && name[0] == 'x');
-        CHECK(lq_strerror(all[at].status, name, 0) == size && name[0] == 'x');
-        for (size_t room = size; room <= sizeof name; room++) {
-            memset(name, 'x', sizeof name);
-            CHECK(lq_strerror(all[at].status, name, room) == size &&
-                  memcmp(name, all[at].name, size) == 0 && name[size] == 'x');
-        }
-    }
+    for (size_t at = 0; at < known; at++)
+        CHECK(strcmp(lq_status_name(all[at].status), all[at].name) == 0);
+    CHECK(lq_version() == LQ_VERSION);
 }
 
 /* A text is copied whole or not at all, as often as it is asked for. */
@@ -79,14 +69,15 @@ static void texts_that_are_copied(void) {
     lq it = LQ_INIT;
     size_t size;
     char room[64];
-    OK(lq_open(&it));
+    OK(lq_volume_open(&it));
     OK(lq_answer(&it, TEXT("{\"do\":\"create\",\"name\":\"a\"}"), &size));
     CHECK(size == 22);
     for (size_t given = 0; given < sizeof room; given++) {
         memset(room, 'x', sizeof room);
         CHECK(lq_text(&it, room, given) == 22);
         CHECK(given < 22 ? room[0] == 'x'
-                         : memcmp(room, TEXT("{\"change\":1,\"node\":2}\nx")) == 0);
+                         : memcmp(room, TEXT("{\"change\":1,\"node\":2}\n")) == 0);
+        CHECK(room[22] == (given > 22 ? 0 : 'x') && room[23] == 'x');
     }
     OK(lq_answer(&it, TEXT("{\"do\":\"create\",\"name\":\"b\"}\r"), &size));
     CHECK(size == 22 && lq_changes(&it) == 2);
@@ -105,14 +96,14 @@ static void texts_that_are_copied(void) {
     OK(lq_answer(&it, longest, 65536, &size));
     CHECK(size == 22 && lq_changes(&it) == 3);
     free(longest);
-    lq_close(&it);
+    lq_volume_close(&it);
 }
 
 /* Each change, each of its refusals, and arguments at the borders of their ranges. */
 static void changes_and_their_refusals(void) {
     lq it = LQ_INIT;
     lq_applied out;
-    OK(lq_open(&it));
+    OK(lq_volume_open(&it));
     OK(lq_create(&it, 1, TEXT("folder"), LQ_FOLDER, 0, 5, &out));
     CHECK(out.change == 1 && out.node == 2);
     OK(lq_create(&it, 2, TEXT("file"), LQ_FILE, INT64_MAX, INT64_MIN, &out));
@@ -200,7 +191,7 @@ static void changes_and_their_refusals(void) {
     OK(lq_unset(&it, 3, TEXT("none"), &out));
     CHECK(out.change == 16 && lq_changes(&it) == 16);
 
-    lq_close(&it);
+    lq_volume_close(&it);
 }
 
 int main(void) {

@@ -49,9 +49,9 @@ static inline bool is_poison(const void *out, size_t size) {
         CHECK(is_poison(&(out), sizeof(out))); \
     } while (0)
 
-/* Whether a struct has this name. */
+/* Whether a struct has this name, with a NUL after it. */
 #define NAMED(it, text) \
-    ((it).name_size == sizeof(text) - 1 && memcmp((it).name, (text), sizeof(text) - 1) == 0)
+    ((it).name_size == sizeof(text) - 1 && memcmp((it).name, (text), sizeof(text)) == 0)
 
 /* A literal as a pointer and its length. */
 #define TEXT(text) (text), sizeof(text) - 1
@@ -86,9 +86,9 @@ static inline int is_same(const text *one, const text *other) {
 }
 
 /* Adds the reply to a line. Where there is none, or a refusal of the line itself, nothing is added. */
-static inline uint32_t answer(lq *handle, const char *line, size_t line_size, text *to) {
+static inline lq_status answer(lq *handle, const char *line, size_t line_size, text *to) {
     size_t size = 0;
-    uint32_t status = lq_answer(handle, line, line_size, &size);
+    lq_status status = lq_answer(handle, line, line_size, &size);
     if (status != LQ_OK || size == 0) return status;
     char *reply = malloc(size);
     if (!reply) abort();

@@ -18,14 +18,14 @@ static text file(const char *name, const char *ending) {
 static void scenario(const char *name) {
     text script = file(name, ".in"), wanted = file(name, ".out"), replies = {NULL, 0, 0};
     lq handle = LQ_INIT;
-    OK(lq_open(&handle));
+    OK(lq_volume_open(&handle));
     for (size_t at = 0; at < script.size;) {
         const char *line = script.at + at, *end = memchr(line, '\n', script.size - at);
         size_t size = end ? (size_t)(end - line) : script.size - at;
         OK(answer(&handle, line, size, &replies));
         at += size + 1;
     }
-    lq_close(&handle);
+    lq_volume_close(&handle);
     CHECK(is_same(&replies, &wanted));
     if (!is_same(&replies, &wanted))
         fprintf(stderr, "%s: the replies differ:\n%.*s", name, (int)replies.size,

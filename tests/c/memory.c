@@ -38,33 +38,33 @@ void __wrap_free(void *block) {
 }
 
 /* A call, or what says the same as a line; what it gives is added to a text. */
-typedef uint32_t step(lq *handle, text *to);
+typedef lq_status step(lq *handle, text *to);
 
-static uint32_t children(lq *handle, text *to) {
-    size_t count;
-    uint32_t status = lq_children(handle, 1, &count);
-    if (status == LQ_OK) say_result(to, handle, count);
+static lq_status children(lq *handle, text *to) {
+    lq_listing listing;
+    lq_status status = lq_children(handle, 1, &listing);
+    if (status == LQ_OK) say_result(to, handle, listing.result, listing.count);
     return status;
 }
 
-static uint32_t path(lq *handle, text *to) {
+static lq_status path(lq *handle, text *to) {
     char room[1024];
     size_t size;
-    uint32_t status = lq_path(handle, 3, &size);
+    lq_status status = lq_path(handle, 3, &size);
     if (status == LQ_OK) add(to, room, lq_text(handle, room, sizeof room));
     return status;
 }
 
-static uint32_t attr_named(lq *handle, text *to) {
+static lq_status attr_named(lq *handle, text *to) {
     lq_attr attr;
-    uint32_t status = lq_attr_named(handle, 3, TEXT("a name of many bytes"), &attr);
+    lq_status status = lq_attr_named(handle, 3, TEXT("a name of many bytes"), &attr);
     if (status == LQ_OK) add(to, attr.text, attr.text_size);
     return status;
 }
 
 /* A push, which gives nothing. */
 #define PUSH(name, call) \
-    static uint32_t name(lq *handle, text *to) { \
+    static lq_status name(lq *handle, text *to) { \
         (void)to; \
         return call; \
     }
@@ -82,17 +82,18 @@ PUSH(push_and, lq_push_op(handle, LQ_AND))
 PUSH(push_or, lq_push_op(handle, LQ_OR))
 PUSH(push_not, lq_push_op(handle, LQ_NOT))
 
-static uint32_t fetch_pushed(lq *handle, text *to) {
+static lq_status fetch_pushed(lq *handle, text *to) {
     lq_fetched fetched;
-    uint32_t status = lq_fetch_pushed(handle, &fetched);
-    if (status == LQ_OK) say_result(to, handle, fetched.count);
+    lq_status status = lq_fetch_pushed(handle, &fetched);
+    if (status == LQ_OK) say_result(to, handle, fetched.result, fetched.count);
     return status;
 }
 
-static uint32_t subscribe_pushed(lq *handle, text *to) {
+static lq_status open_pushed(lq *handle, text *to) {
+    const lq_options options = {16, true, false};
     lq_opening opening;
-    uint32_t status = lq_subscribe_pushed(handle, 4, 16, true, &opening);
-    if (status == LQ_OK) say_result(to, handle, opening.count);
+    lq_status status = lq_open_pushed(handle, &options, &opening);
+    if (status == LQ_OK) say_result(to, handle, opening.result, opening.count);
     return status;
 }
 
@@ -103,10 +104,10 @@ static uint32_t subscribe_pushed(lq *handle, text *to) {
     { .word = CREATE, .dir = folder, .size = 200, .time = 1, .kind = LQ_FILE, NAME(text) }
 #define FOLDER_AT(folder, text) \
     { .word = CREATE, .dir = folder, .time = 1, .kind = LQ_FOLDER, NAME(text) }
-#define QUERY(what, formula, places, most, moved) \
+#define QUERY(what, formula, most, moved) \
     { \
-        .word = what, .text = formula, .text_size = sizeof(formula) - 1, .port = places, \
-        .backlog = most, .flag = moved \
+        .word = what, .text = formula, .text_size = sizeof(formula) - 1, .backlog = most, \
+        .flag = moved \
     }
 #define MOVE_TO(number, folder, text, clobber) \
     { .word = MOVE, .node = number, .dir = folder, .flag = clobber, NAME(text) }
@@ -125,9 +126,9 @@ static uint32_t subscribe_pushed(lq *handle, text *to) {
 static const act acts[] = {FOLDER_AT(1, "folder"),
                            FILE_AT(2, "a.txt"),
                            FILE_AT(1, LONG_NAME),
-                           QUERY(OPEN, "name==*&&!(size<100||TAG==\"[a-c]x*\")", 2, 64, false),
-                           QUERY(OPEN, "size>100", 1, 64, true),
-                           QUERY(OPEN, "(", 1, 64, true),
+                           QUERY(OPEN, "name==*&&!(size<100||TAG==\"[a-c]x*\")", 64, false),
+                           QUERY(OPEN, "size>100", 64, true),
+                           QUERY(OPEN, "(", 64, true),
                            FILE_AT(1, "b.txt"),
                            MOVE_TO(3, 1, "another name of many bytes", false),
                            MOVE_TO(5, 1, "another name of many bytes", true),
@@ -152,8 +153,8 @@ static const act acts[] = {FOLDER_AT(1, "folder"),
                            BY_NAME(FIND, 0, 1, LONG_NAME),
                            BY_NAME(FIND, 0, 2, "a.txt"),
                            OF(ENTRY, 5),
-                           QUERY(FETCH, "size>=0||name==\"*x*\"", 0, 0, false),
-                           QUERY(FETCH, "name==[", 0, 0, false),
+                           QUERY(FETCH, "size>=0||name==\"*x*\"", 0, false),
+                           QUERY(FETCH, "name==[", 0, false),
                            OF(HANG_UP, 2),
                            OF(REMOVE, 4),
                            OF(READ, 2),
@@ -163,7 +164,7 @@ static const act acts[] = {FOLDER_AT(1, "folder"),
                            OF(READ, 1),
                            OF(READ, 1),
                            OF(FINISH, 1),
-                           QUERY(OPEN, "name==*", 1, 0, false),
+                           QUERY(OPEN, "name==*", 1, false),
                            OF(REMOVE, 6),
                            OF(READ, 1)};
 
@@ -183,7 +184,7 @@ static step *const steps[] = {
     children,         path,          attr_named,   push_attr,   push_text,  push_ne, push_attr,
     push_text,        push_contains, push_and,     push_attr,   push_int32, push_gt, push_or,
     push_not,         fetch_pushed,  fetch_pushed, push_attr,   push_int64, push_gt, push_not,
-    subscribe_pushed, push_attr,     push_uint32,  push_uint64, push_and};
+    open_pushed, push_attr,     push_uint32,  push_uint64, push_and};
 
 enum {
     ACTS = sizeof acts / sizeof *acts,
@@ -192,7 +193,7 @@ enum {
 };
 
 /* A call of one of the two scripts: the acts, or the values and then the steps. It is none at the script's end. */
-static bool call(lq *handle, int script, size_t number, text *to, uint32_t *status) {
+static bool call(lq *handle, int script, size_t number, text *to, lq_status *status) {
     if (script == 0 && number < ACTS) *status = by_call(handle, &acts[number], to);
     else if (script == 1 && number < VALUES) *status = by_call(handle, &values[number], to);
     else if (script == 1 && number < VALUES + STEPS) *status = steps[number - VALUES](handle, to);
@@ -203,7 +204,7 @@ static bool call(lq *handle, int script, size_t number, text *to, uint32_t *stat
 /* Whether a call takes the pushes off, whatever it answers. */
 static bool takes_pushes(int script, size_t number) {
     return script == 1 && number >= VALUES &&
-           (steps[number - VALUES] == fetch_pushed || steps[number - VALUES] == subscribe_pushed);
+           (steps[number - VALUES] == fetch_pushed || steps[number - VALUES] == open_pushed);
 }
 
 /* Where a call is made again: at itself, or at the first of the pushes that it took off. */
@@ -221,20 +222,20 @@ static uint64_t lacking(size_t number) {
 /* Whether a call may go without memory: it does so without the rebuilt result of its slot. */
 static bool is_frugal(int script, size_t number) {
     return script == 0 ? acts[number].word == READ || acts[number].word == OPEN
-                       : number >= VALUES && steps[number - VALUES] == subscribe_pushed;
+                       : number >= VALUES && steps[number - VALUES] == open_pushed;
 }
 
 /* A script on a handle of its own, in which growth `which` of call `refused` is refused; that call is made again where
    it says so. Each call has to answer as in the replies that are wanted. Where there are none, nothing is refused, and
    the replies are kept. False: the call asked for fewer growths. */
-static bool run(int script, size_t refused, long which, text *wanted, uint32_t *statuses) {
+static bool run(int script, size_t refused, long which, text *wanted, lq_status *statuses) {
     lq handle = LQ_INIT;
-    uint32_t status = LQ_OK;
+    lq_status status = LQ_OK;
     bool was_met = which == 0, lacks = false;
     text reply = {malloc(1 << 20), 0, 1 << 20};
     long before = live;
     if (!reply.at) abort();
-    OK(lq_open(&handle));
+    OK(lq_volume_open(&handle));
     for (size_t number = 0; reply.size = 0, left = number == refused ? which : 0,
                 call(&handle, script, number, &reply, &status);
          number++) {
@@ -262,7 +263,7 @@ static bool run(int script, size_t refused, long which, text *wanted, uint32_t *
             CHECK(is_same(&reply, &wanted[number]));
         }
     }
-    lq_close(&handle);
+    lq_volume_close(&handle);
     if (which != 0) CHECK(live == before);
     free(reply.at);
     return was_met;
@@ -277,7 +278,7 @@ static void refuse_lines(void) {
             lq handle = LQ_INIT;
             text line = {NULL, 0, 0}, seen = {NULL, 0, 0};
             size_t size = 77;
-            OK(lq_open(&handle));
+            OK(lq_volume_open(&handle));
             for (size_t at = 0; at <= last; at++) {
                 line.size = 0;
                 say_line(&line, &acts[at]);
@@ -285,35 +286,35 @@ static void refuse_lines(void) {
             }
             before = refusals;
             left = number++;
-            uint32_t status = lq_answer(&handle, line.at, line.size, &size);
+            lq_status status = lq_answer(&handle, line.at, line.size, &size);
             left = 0;
             WANT(status, refusals == before ? LQ_OK : LQ_NO_MEMORY);
             CHECK((size == 77) == (status == LQ_NO_MEMORY));
-            lq_close(&handle);
+            lq_volume_close(&handle);
             free(line.at);
             free(seen.at);
         } while (refusals != before && !failures);
     }
 }
 
-/* lq_open with each growth refused. */
+/* lq_volume_open with each growth refused. */
 static void refuse_open(void) {
-    uint32_t status = LQ_NO_MEMORY;
+    lq_status status = LQ_NO_MEMORY;
     for (long number = 1; status == LQ_NO_MEMORY; number++) {
         unsigned long before = refusals;
         lq handle = LQ_INIT;
         left = number;
-        status = lq_open(&handle);
+        status = lq_volume_open(&handle);
         left = 0;
         WANT(status, refusals == before ? LQ_OK : LQ_NO_MEMORY);
         CHECK((handle.at == NULL) == (status == LQ_NO_MEMORY));
-        lq_close(&handle);
+        lq_volume_close(&handle);
     }
 }
 
 int main(void) {
     static text wanted[ACTS + VALUES + STEPS];
-    static uint32_t statuses[ACTS + VALUES + STEPS];
+    static lq_status statuses[ACTS + VALUES + STEPS];
     long before = live;
     refuse_open();
     CHECK(live == before);

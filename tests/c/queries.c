@@ -7,41 +7,41 @@ static char long_name[256], long_text[4097];
 static void subscriptions(void) {
     static const uint64_t free_slots[] = {0, 2, 64, 65, UINT64_MAX};
     lq it = LQ_INIT;
+    lq_options too_many = {LQ_BACKLOG + 1, false, false}, two = {2, false, false},
+               one = {1, false, false};
+    const lq_options moved = {16, true, false};
     lq_opening opening;
     lq_message message;
     lq_rebuilt rebuilt;
-    lq_entry entry;
+    lq_row row;
     lq_applied applied;
     uint64_t covered;
-    OK(lq_open(&it));
+    OK(lq_volume_open(&it));
     created(&it, 1, "in", LQ_FOLDER, 0);
     created(&it, 2, "a.txt", LQ_FILE, 200);
     created(&it, 2, "b.txt", LQ_FILE, 50);
-    REFUSED(lq_subscribe(&it, TEXT("size>"), 0, 1, false, &opening), LQ_BAD_QUERY, opening);
+    REFUSED(lq_open(&it, TEXT("size>"), &too_many, &opening), LQ_BAD_QUERY, opening);
     CHECK(lq_fault_place(&it) == 5);
-    REFUSED(lq_subscribe(&it, "", 0, 1, 1, false, &opening), LQ_BAD_QUERY, opening);
+    REFUSED(lq_open(&it, "", 0, NULL, &opening), LQ_BAD_QUERY, opening);
     CHECK(lq_fault_place(&it) == 0);
-    REFUSED(lq_subscribe(&it, long_text, 4097, 1, 1, false, &opening), LQ_BAD_QUERY, opening);
+    REFUSED(lq_open(&it, long_text, 4097, NULL, &opening), LQ_BAD_QUERY, opening);
     CHECK(lq_fault_place(&it) == 4096);
-    REFUSED(lq_subscribe(&it, TEXT("name==\xff"), 1, 1, false, &opening), LQ_NOT_UTF8, opening);
-    REFUSED(lq_subscribe(&it, TEXT("size>1"), 0, 65537, false, &opening), LQ_BAD_PORT, opening);
-    REFUSED(lq_subscribe(&it, TEXT("size>1"), 1025, 1, false, &opening), LQ_BAD_PORT, opening);
-    REFUSED(lq_subscribe(&it, TEXT("size>1"), UINT64_MAX, 1, false, &opening), LQ_BAD_PORT,
-            opening);
-    REFUSED(lq_subscribe(&it, TEXT("size>1"), 1024, 65537, false, &opening), LQ_BAD_BACKLOG,
-            opening);
-    REFUSED(lq_subscribe(&it, TEXT("size>1"), 1, UINT64_MAX, false, &opening), LQ_BAD_BACKLOG,
-            opening);
-    OK(lq_subscribe(&it, TEXT("size>100"), 2, 16, true, &opening));
-    CHECK(opening.slot == 1 && opening.at == 3 && opening.count == 1 && lq_result_left(&it) == 1);
-    CHECK(lq_result_next(&it, &entry) && entry.dir == 2 && entry.node == 3 &&
-          NAMED(entry, "a.txt") && lq_result_left(&it) == 0);
-    POISON(entry);
-    CHECK(!lq_result_next(&it, &entry) && is_poison(&entry, sizeof entry));
+    REFUSED(lq_open(&it, TEXT("name==\xff"), NULL, &opening), LQ_NOT_UTF8, opening);
+    REFUSED(lq_open(&it, TEXT("size>1"), &too_many, &opening), LQ_BAD_BACKLOG, opening);
+    too_many.backlog = UINT64_MAX;
+    REFUSED(lq_open(&it, TEXT("size>1"), &too_many, &opening), LQ_BAD_BACKLOG, opening);
+    OK(lq_open(&it, TEXT("size>100"), &moved, &opening));
+    CHECK(opening.slot == 1 && opening.at == 3 && opening.count == 1);
+    OK(lq_next(&it, opening.result, &row));
+    CHECK(row.dir == 2 && row.node == 3 && NAMED(row, "a.txt"));
+    CHECK(row.kind == LQ_FILE && row.size == 200 && row.time == 941000000);
+    REFUSED(lq_next(&it, opening.result, &row), LQ_NO_ENTRY, row);
 
+    POISON(message);
     OK(lq_read(&it, 1, &message));
     CHECK(message.what == LQ_EMPTY && message.seq == 0 && message.change == 0 &&
-          message.name_size == 0 && message.from_name_size == 0);
+          message.name_size == 0 && message.from_name_size == 0 && message.name[0] == 0 &&
+          message.from_name[0] == 0);
     OK(lq_write(&it, 4, 300, 1, &applied));
     OK(lq_move(&it, 3, 1, TEXT("c.txt"), false, &applied));
     OK(lq_remove(&it, 3, &applied));
@@ -49,30 +49,34 @@ static void subscriptions(void) {
     CHECK(message.what == LQ_UPDATE && message.op == LQ_ENTRY_CREATED && message.seq == 1 &&
           message.change == 4 && message.last);
     CHECK(message.dir == 2 && message.node == 4 && NAMED(message, "b.txt"));
-    CHECK(message.cause == 0 && message.from_dir == 0 && message.from_name_size == 0);
+    CHECK(message.cause == 0 && message.from_dir == 0 && message.from_name_size == 0 &&
+          message.from_name[0] == 0);
     OK(lq_read(&it, 1, &message));
     CHECK(message.what == LQ_UPDATE && message.op == LQ_ENTRY_MOVED && message.seq == 2 &&
           message.change == 5 && message.last);
     CHECK(message.dir == 1 && message.node == 3 && NAMED(message, "c.txt") &&
           message.from_dir == 2);
-    CHECK(message.from_name_size == 5 && memcmp(message.from_name, "a.txt", 5) == 0);
+    CHECK(message.from_name_size == 5 && memcmp(message.from_name, "a.txt", 6) == 0);
     OK(lq_result(&it, 1, &rebuilt));
-    CHECK(rebuilt.change == 5 && rebuilt.settled && rebuilt.count == 2 && lq_result_left(&it) == 2);
-    CHECK(lq_result_next(&it, &entry) && entry.node == 3 && entry.dir == 1 &&
-          lq_result_next(&it, &entry) && entry.node == 4);
+    CHECK(rebuilt.change == 5 && rebuilt.settled && rebuilt.count == 2);
+    OK(lq_next(&it, rebuilt.result, &row));
+    /* the node has gone from the volume, and the message that says so wasn't read yet */
+    CHECK(row.node == 3 && row.dir == 1 && row.kind == LQ_GONE && row.size == 0 && row.time == 0);
+    OK(lq_next(&it, rebuilt.result, &row));
+    CHECK(row.node == 4 && row.kind == LQ_FILE && row.size == 300 && row.time == 1);
 
     for (size_t at = 0; at < sizeof free_slots / sizeof *free_slots; at++) {
         uint64_t slot = free_slots[at];
         REFUSED(lq_read(&it, slot, &message), LQ_NOT_OPEN, message);
-        REFUSED(lq_end(&it, slot, &covered), LQ_NOT_OPEN, covered);
+        REFUSED(lq_close(&it, slot, &covered), LQ_NOT_OPEN, covered);
         REFUSED(lq_result(&it, slot, &rebuilt), LQ_NOT_OPEN, rebuilt);
         WANT(lq_hang_up(&it, slot), LQ_NOT_OPEN);
         WANT(lq_finish(&it, slot), LQ_NOT_OPEN);
     }
     WANT(lq_finish(&it, 1), LQ_STILL_OPEN);
-    OK(lq_end(&it, 1, &covered));
+    OK(lq_close(&it, 1, &covered));
     CHECK(covered == 6);
-    REFUSED(lq_end(&it, 1, &covered), LQ_NOT_OPEN, covered);
+    REFUSED(lq_close(&it, 1, &covered), LQ_NOT_OPEN, covered);
     WANT(lq_finish(&it, 1), LQ_STILL_OPEN);
     OK(lq_hang_up(&it, 1));
     OK(lq_read(&it, 1, &message));
@@ -89,10 +93,10 @@ static void subscriptions(void) {
     WANT(lq_finish(&it, 1), LQ_NOT_OPEN);
     REFUSED(lq_read(&it, 1, &message), LQ_NOT_OPEN, message);
 
-    /* without `moved`; an end that its reader asks for, and one by overrun */
-    OK(lq_subscribe(&it, TEXT("name==*"), 1, 2, false, &opening));
+    /* without `moved`; an end that its reader asks for, and one by overrun: two messages, and room for one */
+    OK(lq_open(&it, TEXT("name==*"), &two, &opening));
     CHECK(opening.slot == 1);
-    OK(lq_subscribe(&it, TEXT("name==*"), 1, 0, false, &opening));
+    OK(lq_open(&it, TEXT("name==*"), &one, &opening));
     CHECK(opening.slot == 2);
     OK(lq_move(&it, 4, 1, TEXT("d.txt"), false, &applied));
     OK(lq_hang_up(&it, 1));
@@ -111,21 +115,22 @@ static void subscriptions(void) {
 
     /* all slots, and one more */
     for (uint64_t slot = 2; slot <= 64; slot++) {
-        OK(lq_subscribe(&it, TEXT("size<0"), 1024, 65536, false, &opening));
+        OK(lq_open(&it, TEXT("size<0"), NULL, &opening));
         CHECK(opening.slot == slot && opening.count == 0);
     }
-    REFUSED(lq_subscribe(&it, TEXT("size<0"), 1, 1, false, &opening), LQ_NO_SLOT, opening);
-    lq_close(&it);
+    REFUSED(lq_open(&it, TEXT("size<0"), NULL, &opening), LQ_NO_SLOT, opening);
+    lq_volume_close(&it);
 }
 
 /* Pushes make the same queries as formulas; one that doesn't fit changes nothing. */
 static void pushes(void) {
     lq it = LQ_INIT;
+    lq_options options = {9, false, false};
     lq_fetched fetched;
     lq_opening opening;
-    lq_entry entry;
+    lq_row row;
     lq_applied applied;
-    OK(lq_open(&it));
+    OK(lq_volume_open(&it));
     created(&it, 1, "a.txt", LQ_FILE, 200);
     created(&it, 1, "b.txt", LQ_FILE, 50);
     created(&it, 1, "c*", LQ_FILE, 7);
@@ -143,7 +148,9 @@ static void pushes(void) {
     OK(lq_push_op(&it, LQ_GT));
     OK(lq_push_op(&it, LQ_AND));
     OK(lq_fetch_pushed(&it, &fetched));
-    CHECK(fetched.count == 1 && fetched.at == 6 && lq_result_next(&it, &entry) && entry.node == 2);
+    CHECK(fetched.count == 1 && fetched.at == 6);
+    OK(lq_next(&it, fetched.result, &row));
+    CHECK(row.node == 2);
 
     /* each operator, over one attribute and one value: which of the three entries it finds */
     static const struct {
@@ -194,14 +201,16 @@ static void pushes(void) {
         OK(lq_push_op(&it, LQ_EQ));
         OK(lq_push_op(&it, LQ_AND));
         OK(lq_fetch_pushed(&it, &fetched));
-        CHECK(fetched.count == 1 && lq_result_next(&it, &entry) && entry.node == 4);
+        CHECK(fetched.count == 1);
+        OK(lq_next(&it, fetched.result, &row));
+        CHECK(row.node == 4);
     }
 
     /* as a live query; one that is refused takes the predicate off all the same, and what is cleared has gone */
     for (int round = 0; round < 3; round++) {
         if (round == 1) {
             OK(lq_push_attr(&it, TEXT("left")));
-            lq_clear_pushed(&it);
+            OK(lq_clear_pushed(&it));
             WANT(lq_push_op(&it, LQ_NOT), LQ_BAD_QUERY);
             CHECK(lq_fault_place(&it) == 0);
         }
@@ -212,10 +221,12 @@ static void pushes(void) {
         OK(lq_push_int32(&it, 100));
         OK(lq_push_op(&it, LQ_LT));
         OK(lq_push_op(&it, LQ_OR));
+        options.backlog = round == 0 ? LQ_BACKLOG + 1 : 9;
+        options.moved = round == 1;
         if (round == 0)
-            REFUSED(lq_subscribe_pushed(&it, 0, 1, false, &opening), LQ_BAD_PORT, opening);
-        else OK(lq_subscribe_pushed(&it, 1, 9, round == 1, &opening));
-        REFUSED(lq_subscribe_pushed(&it, 1, 1, false, &opening), LQ_BAD_QUERY, opening);
+            REFUSED(lq_open_pushed(&it, &options, &opening), LQ_BAD_BACKLOG, opening);
+        else OK(lq_open_pushed(&it, &options, &opening));
+        REFUSED(lq_open_pushed(&it, NULL, &opening), LQ_BAD_QUERY, opening);
         CHECK(lq_fault_place(&it) == 0);
     }
     lq_message message;
@@ -252,7 +263,7 @@ static void pushes(void) {
     OK(lq_fetch_pushed(&it, &fetched));
     CHECK(fetched.count == 3);
     REFUSED(lq_fetch_pushed(&it, &fetched), LQ_BAD_QUERY, fetched);
-    lq_close(&it);
+    lq_volume_close(&it);
 }
 
 int main(void) {

@@ -71,7 +71,6 @@ static act first(int number) {
     it.name_size = names[number % 5].size;
     it.text = query.at;
     it.text_size = query.size;
-    it.port = number % 2 ? 1 : 8;
     it.backlog = 200;
     it.flag = number % 2;
     return it;
@@ -85,9 +84,8 @@ static act drawn(void) {
     static const uint64_t sizes[] = {0, 1, 100, 101, 200, 5000, 5001, INT64_MAX},
                           wide[] = {(uint64_t)INT64_MAX + 1, UINT64_MAX};
     static const int64_t times[] = {0, 1, -1, 941000000, INT64_MAX, INT64_MIN};
-    static const uint64_t ports[] = {1, 1, 2, 4, 16, 1024},
-                          backlogs[] = {64, 64, 8, 3, 1, 0, 65536};
-    static const uint64_t bad_ports[] = {0, 1025, UINT64_MAX}, bad_backlogs[] = {65537, UINT64_MAX};
+    static const uint64_t backlogs[] = {64, 64, 8, 3, 1, 0, 65536},
+                          bad_backlogs[] = {65537, UINT64_MAX};
     static const uint32_t types[] = {LQ_TEXT, LQ_INT32, LQ_INT64, LQ_UINT32, LQ_UINT64};
     static const piece attrs[] = {{TEXT("PRIO")}, {TEXT("TAG")}, {TEXT("NUM")}, {TEXT("a b\"c")}},
                        bad_attrs[] = {{TEXT("name")}, {TEXT("")}, {TEXT("x\0")}};
@@ -117,7 +115,6 @@ static act drawn(void) {
     it.number = draw(2) ? (int64_t)draw(5) : *ONE_OF(times);
     if (it.type == LQ_INT32) it.number = (int32_t)it.number;
     if (it.type == LQ_UINT32) it.number = (int64_t)(uint32_t)it.number;
-    it.port = draw(9) ? *ONE_OF(ports) : *ONE_OF(bad_ports);
     it.backlog = draw(9) ? *ONE_OF(backlogs) : *ONE_OF(bad_backlogs);
     it.flag = draw(2);
     return it;
@@ -125,28 +122,32 @@ static act drawn(void) {
 
 /* The tree as a fetch has it, beside the children of each folder and the path of each entry. */
 static void tree(lq *handle) {
-    static lq_entry all[ACTS];
+    static lq_row all[ACTS];
     lq_fetched fetched;
-    lq_entry child, before;
+    lq_row child, before;
     lq_info info;
     char path[4096], walked[4096];
-    size_t size, count, children = 0;
+    lq_listing listing;
+    size_t size, got, children = 0;
     OK(lq_fetch(handle, TEXT("name=*"), &fetched));
-    for (size_t at = 0; at < fetched.count; at++) CHECK(lq_result_next(handle, &all[at]));
+    OK(lq_take(handle, fetched.result, all, ACTS, &got));
+    CHECK(got == fetched.count);
     for (size_t at = 0; at <= fetched.count; at++) {
         uint64_t folder = at < fetched.count ? all[at].node : 1;
-        if (folder != 1) OK(lq_entry_of(handle, folder, &info));
+        if (folder != 1) OK(lq_entry(handle, folder, &info));
         if (folder != 1 && info.kind == LQ_FILE) {
-            WANT(lq_children(handle, folder, &count), LQ_NOT_FOLDER);
+            WANT(lq_children(handle, folder, &listing), LQ_NOT_FOLDER);
             continue;
         }
-        OK(lq_children(handle, folder, &count));
-        children += count;
-        for (size_t number = 0; number < count; number++) {
-            CHECK(lq_result_next(handle, &child) && child.dir == folder);
-            OK(lq_entry_of(handle, child.node, &info));
+        OK(lq_children(handle, folder, &listing));
+        children += listing.count;
+        for (size_t number = 0; number < listing.count; number++) {
+            OK(lq_next(handle, listing.result, &child));
+            CHECK(child.dir == folder);
+            OK(lq_entry(handle, child.node, &info));
             CHECK(info.dir == folder && info.name_size == child.name_size &&
-                  memcmp(info.name, child.name, child.name_size) == 0);
+                  memcmp(info.name, child.name, child.name_size + 1) == 0);
+            CHECK(info.kind == child.kind && info.size == child.size && info.time == child.time);
             size_t least = child.name_size < before.name_size ? child.name_size : before.name_size;
             int order = number ? memcmp(before.name, child.name, least) : -1;
             CHECK(order < 0 || (order == 0 && before.name_size < child.name_size));
@@ -157,14 +158,17 @@ static void tree(lq *handle) {
     for (size_t at = 0; at < fetched.count; at++) {
         size_t from = sizeof walked;
         for (uint64_t node = all[at].node; node != 1; node = info.dir) {
-            OK(lq_entry_of(handle, node, &info));
+            OK(lq_entry(handle, node, &info));
             from -= info.name_size;
             memcpy(walked + from, info.name, info.name_size);
             walked[--from] = '/';
         }
         OK(lq_path(handle, all[at].node, &size));
         CHECK(size == sizeof walked - from && lq_text(handle, path, sizeof path) == size &&
-              memcmp(path, walked + from, size) == 0);
+              memcmp(path, walked + from, size) == 0 && path[size] == 0);
+        uint64_t found;
+        OK(lq_find_path(handle, LQ_ROOT, path, size, &found));
+        CHECK(found == all[at].node);
     }
 }
 
@@ -178,9 +182,9 @@ int main(int count, char **words) {
     for (int script = 0; script < scripts; script++) {
         lq typed = LQ_INIT, lines = LQ_INIT, both = LQ_INIT;
         state = 1 + (uint64_t)script;
-        OK(lq_open(&typed));
-        OK(lq_open(&lines));
-        OK(lq_open(&both));
+        OK(lq_volume_open(&typed));
+        OK(lq_volume_open(&lines));
+        OK(lq_volume_open(&both));
         for (int number = 0; number < ACTS; number++) {
             act it = number < 7 ? first(number) : drawn();
             text line = {NULL, 0, 0}, by_line = {NULL, 0, 0}, called = {NULL, 0, 0},
@@ -205,9 +209,9 @@ int main(int count, char **words) {
         }
         CHECK(lq_changes(&typed) == lq_changes(&lines) && lq_changes(&typed) == lq_changes(&both));
         tree(&both);
-        lq_close(&typed);
-        lq_close(&lines);
-        lq_close(&both);
+        lq_volume_close(&typed);
+        lq_volume_close(&lines);
+        lq_volume_close(&both);
     }
     printf("typed: %lu replies the same, %lu of them refusals, %lu messages\n", replies, refused,
            messages);

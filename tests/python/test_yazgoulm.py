@@ -1,12 +1,18 @@
 """The Python module: scenarios by lines and by methods, and what a method gives, refuses and wants."""
-import gc, glob, inspect, json, os, re, sys, threading, typing, unittest
+import asyncio, copy, gc, glob, inspect, json, operator, os, pathlib, pickle, re, sys, threading, typing, unittest
 
 TOP = os.path.dirname(os.path.dirname(os.path.dirname(os.path.realpath(__file__))))
 sys.dont_write_bytecode = True
-sys.path.insert(0, f"{TOP}/python")
+sys.path.insert(0, os.environ.get("YAZGOULM_PACKAGE") or f"{TOP}/python")
 
 import yazgoulm
-from yazgoulm import FOLDER, ROOT, Attr, Attribute, BadQuery, Entry, Mark, Message, Op, Query, Refused, Volume
+from yazgoulm import (
+    B_ENTRY_CREATED, B_ENTRY_MOVED, B_ENTRY_REMOVED, FILE, FOLDER, ROOT, Applied, Attr, Attribute, BadQuery, Cause,
+    Difference, Entry, Exists, Mark, Message, NotFound, Op, Opcode, Overrun, Place, Query, Refused, Volume, to_bytes,
+    to_name,
+)
+
+SECONDS = 8  # the longest wait for something that has to come
 
 
 def scenarios():
@@ -19,32 +25,36 @@ def scenarios():
 
 
 class ByMethods:
-    """A script by methods: each line's reply, made of what the method gives."""
+    """A script by methods: each line's reply, made of what the method gives.
+
+    A query has no port of its own in Python. So an opening with a port of other than one place, or without a backlog,
+    is given as a line to the same volume, and so is what is done in its slot."""
+
+    CHANGES = {"create", "remove", "move", "write", "set", "unset"}
 
     def __init__(self, volume):
-        self.volume, self.queries = volume, {}
+        self.volume, self.queries, self.count = volume, {}, 0
 
     def reply(self, line):
+        """The reply to a line, by a method where one stands for it."""
         fields = json.loads(line)
+        do, slot = fields.pop("do"), fields.get("slot")
+        if do == "open" and (fields["port"] != 1 or not 1 <= fields["backlog"] <= 65_536):
+            return self.volume.answer(line)
+        if slot is not None and slot not in self.queries:
+            return self.volume.answer(line)
+        self.count += 1
         try:
-            reply = getattr(self, fields.pop("do"))(**fields)
+            reply = getattr(self, do)(**fields)
         except Refused as refused:
             reply = {"code": refused.code, "error": refused.name}
             if isinstance(refused, BadQuery):
                 reply["place"] = refused.place
         return json.dumps(reply, ensure_ascii=False, sort_keys=True, separators=(",", ":")).encode() + b"\n"
 
-    def query(self, slot):
-        """The query of a slot. For a slot that is free it is one without a life of its own."""
-        if slot not in self.queries:
-            query = Query.__new__(Query)
-            query._volume, query.slot, query.mark = self.volume, slot, None
-            return query
-        return self.queries[slot]
-
     @staticmethod
-    def entries(them):
-        return [it._asdict() for it in them]
+    def places(them):
+        return [{"dir": it.dir, "name": it.name, "node": it.node} for it in them]
 
     def create(self, name, dir=ROOT, kind="file", size=0, time=0, **_):
         return self.volume.create(name, dir, kind, size, time)._asdict()
@@ -65,36 +75,36 @@ class ByMethods:
         return self.volume.unset(node, attr)._asdict()
 
     def open(self, query, port, backlog, moved=False, **_):
-        made = self.volume.query(query, port, backlog, moved)
+        made = self.volume.open(query, backlog, moved, on_overrun="mark")
         self.queries[made.slot] = made
-        return {"at": made.at, "result": self.entries(made.entries), "slot": made.slot}
+        return {"at": made.at, "result": self.places(made.entries), "slot": made.slot}
 
     def read(self, slot, **_):
-        query = self.query(slot)
+        query = self.queries[slot]
         had_ended = query.mark is not None
         message = query.read()
         if message is not None:
             told = {key: value for key, value in message._asdict().items() if value is not None}
-            return {**told, "what": "B_QUERY_UPDATE"}
+            return {**told, "op": str(message.op), "what": "B_QUERY_UPDATE"}
         if had_ended or query.mark is None:
             return {"what": "ENDED" if had_ended else "EMPTY"}
-        return {**query.mark._asdict(), "what": "END"}
+        return {**query.mark._asdict(), "cause": str(query.mark.cause), "what": "END"}
 
     def hang_up(self, slot, **_):
-        self.query(slot).hang_up()
+        self.queries[slot].hang_up()
         return {"slot": slot}
 
     def close(self, slot, **_):
-        return {"change": self.query(slot).end(), "slot": slot}
+        return {"change": self.queries[slot].close(), "slot": slot}
 
     def finish(self, slot, **_):
-        self.query(slot)._volume._call(yazgoulm._lq.lq_finish, yazgoulm._natural(slot))
+        self.queries[slot].finish()
         del self.queries[slot]
         return {"slot": slot}
 
     def result(self, slot, **_):
-        result = self.query(slot).result()
-        return {"change": result.change, "result": self.entries(result.entries), "settled": result.settled}
+        result = self.queries[slot].result()
+        return {"change": result.change, "result": self.places(result.entries), "settled": result.settled}
 
     def find(self, name, dir=ROOT, **_):
         return {"node": self.volume.find(name, dir)}
@@ -102,10 +112,10 @@ class ByMethods:
     def entry(self, node, **_):
         info = self.volume.entry(node)._asdict()
         attributes = info.pop("attributes")
-        return {**info, "attrs": self.entries(attributes)}
+        return {**info, "attrs": [it._asdict() for it in attributes]}
 
     def fetch(self, query, **_):
-        return {"result": self.entries(self.volume.fetch(query)), "at": self.volume.changes}
+        return {"result": self.places(self.volume.fetch(query)), "at": self.volume.changes}
 
 
 class Scenarios(unittest.TestCase):
@@ -114,22 +124,35 @@ class Scenarios(unittest.TestCase):
             with self.subTest(name), Volume() as volume:
                 self.assertEqual(b"".join(map(volume.answer, lines)), b"".join(replies))
 
-    def test_by_methods(self):
-        """A line that asks nothing, as 30 to 33 say, is given as a line to the same volume."""
+    def by_methods(self, has_one_place):
+        """How many lines went by methods. A line that asks nothing, as 30 to 33 say, is given to the same volume."""
         count = 0
         for name, lines, replies in scenarios():
             with self.subTest(name), Volume() as volume:
                 script, wanted = ByMethods(volume), iter(replies)
+                if has_one_place:
+                    lines = [re.sub(rb'"port":[1-9]\d*', b'"port":1', line) for line in lines]
+                    replies = [*map(volume.answer, lines)]
+                    wanted = iter([reply for reply in replies if reply])
+                    volume = Volume()
+                    script.volume = volume
                 for line in (line for line in lines if line not in (b"", b"\r")):
                     reply = next(wanted)
                     asks_nothing = re.match(rb'{"code":3[0-3],', reply)
                     by = volume.answer if asks_nothing else script.reply
                     self.assertEqual(by(line), reply, line[:200])
-                    count += not asks_nothing
-        self.assertGreater(count, 500)
+                count += script.count
+        return count
+
+    def test_by_methods(self):
+        self.assertGreater(self.by_methods(False), 400)
+
+    def test_by_methods_with_ports_of_one_place(self):
+        """Each scenario with such ports, as lines have it."""
+        self.assertGreater(self.by_methods(True), 700)
 
 
-class Volumes(unittest.TestCase):
+class Case(unittest.TestCase):
     def setUp(self):
         self.volume = Volume()
         self.addCleanup(self.volume.close)
@@ -140,22 +163,42 @@ class Volumes(unittest.TestCase):
         self.assertEqual((caught.exception.code, caught.exception.name), (code, name))
         return caught.exception
 
+    def says(self, error, said, call, /, *given, **named):
+        with self.assertRaises(error) as caught:
+            call(*given, **named)
+        self.assertEqual(str(caught.exception), said)
+
+
+class Volumes(Case):
     def test_changes_and_looks(self):
-        volume = self.volume
-        folder = volume.create("in", kind=FOLDER).node
-        self.assertEqual(volume.create("b", folder, size=5, time=-7), (2, 3))
-        self.assertEqual(volume.create("a", folder), (3, 4))
-        self.assertEqual(volume.children(folder), [Entry(folder, 4, "a"), Entry(folder, 3, "b")])
-        self.assertEqual(volume.children(), [Entry(ROOT, folder, "in")])
+        volume, smile = self.volume, "sch\u00f6n \U0001f600"
+        folder = volume.create("in", kind=FOLDER, time=3).node
+        self.assertEqual(volume.create("b", folder, size=5, time=-7), Applied(2, 3))
+        self.assertEqual(volume.create("a", folder), Applied(change=3, node=4))
+        self.assertEqual(volume.children(folder), [(folder, 4, "a", FILE, 0, 0), (folder, 3, "b", FILE, 5, -7)])
+        self.assertEqual(volume.children(), [Entry(ROOT, folder, "in", FOLDER, 0, 3)])
         self.assertEqual([volume.path(node) for node in (ROOT, folder, 3)], ["/", "/in", "/in/b"])
         self.assertEqual(volume.find("a", folder), 4)
-        self.assertEqual(volume.move(3, ROOT, "sch\u00f6n \U0001f600"), (4, 3))
-        self.assertEqual(volume.path(3), "/sch\u00f6n \U0001f600")
+        self.assertEqual([volume.find_path("/in/a"), volume.find_path("a", folder), volume.find_path("")], [4, 4, ROOT])
+        self.refused(4, "NoEntry", volume.find_path, "in/c")
+        self.assertEqual(volume.move(3, ROOT, smile), (4, 3))
+        self.assertEqual(volume.path(3), f"/{smile}")
         self.assertEqual(volume.write(3, 2**63 - 1, -(2**63)), (5, 3))
-        self.assertEqual(volume.entry(3), (ROOT, 3, "sch\u00f6n \U0001f600", "file", 2**63 - 1, -(2**63), []))
+        self.assertEqual(volume.entry(3), (ROOT, 3, smile, "file", 2**63 - 1, -(2**63), []))
         self.assertEqual(volume.remove(4), (6, 4))
         self.assertEqual(volume.changes, 6)
-        self.assertEqual(volume.fetch("name==*"), [Entry(ROOT, folder, "in"), Entry(ROOT, 3, "sch\u00f6n \U0001f600")])
+        found = [Entry(ROOT, folder, "in", FOLDER, 0, 3), Entry(ROOT, 3, smile, FILE, 2**63 - 1, -(2**63))]
+        self.assertEqual(volume.fetch("name==*"), found)
+
+    def test_many_entries(self):
+        names = [f"file {number} \u00e4" for number in range(1000)]
+        for number, name in enumerate(names):
+            self.volume.create(name, size=number)
+        found = self.volume.fetch("size>=0")
+        self.assertEqual([(it.name, it.size, it.node) for it in found],
+                         [(name, number, number + 2) for number, name in enumerate(names)])
+        self.assertEqual(len(self.volume.children()), 1000)
+        self.assertEqual(self.volume.open("size>=900").entries, found[900:])
 
     def test_attributes(self):
         volume, node = self.volume, self.volume.create("a").node
@@ -179,99 +222,385 @@ class Volumes(unittest.TestCase):
                 volume.set(node, "x", value, type)
         self.assertEqual(len(volume.entry(node).attributes), 5)
 
+    def test_arguments_that_do_not_fit(self):
+        volume, says = self.volume, self.says
+        says(TypeError, "size must be a whole number, not 2.5", volume.create, "a", size=2.5)
+        says(TypeError, "time must be a whole number, not 0.5", volume.write, 2, 1, 0.5)
+        says(TypeError, "node must be a whole number, not '2'", volume.remove, "2")
+        says(TypeError, "dir must be a whole number, not None", volume.children, None)
+        says(TypeError, "value must be a whole number, not 1.5", volume.set, 2, "a", 1.5)
+        says(TypeError, "name must be a str, bytes or a path, not int", volume.create, 5)
+        says(TypeError, "attr must be a str, bytes or a path, not NoneType", volume.unset, 2, None)
+        says(TypeError, "line must be a str, not int", volume.answer, 5)
+        says(TypeError, "formula must be a str or pushes, not bytes", volume.fetch, b"size>1")
+        says(TypeError, "formula must be a str or pushes, not 5", volume.open, 5)
+        says(TypeError, "formula must be a whole number, not 1.5", volume.fetch, [Attr("size"), 1.5, Op.GT])
+        says(ValueError, "size must be from 0 to 18446744073709551615, not -1", volume.create, "a", size=-1)
+        says(ValueError, f"node must be from 0 to {2**64 - 1}, not {2**64}", volume.remove, 2**64)
+        says(ValueError, f"time must be from {-(2**63)} to {2**63 - 1}, not {2**63}", volume.create, "a", time=2**63)
+        says(ValueError, f"value must be from 0 to {2**32 - 1}, not -1", volume.set, 2, "a", -1, "ULNG")
+        says(ValueError, "type is 'what', and value is no text", volume.set, 2, "a", 1, "what")
+        says(ValueError, "type is 'LONG', and value is a text", volume.set, 2, "a", "1", "LONG")
+        says(ValueError, "kind must be \"file\" or \"folder\", not 'link'", volume.create, "a", kind="link")
+        says(ValueError, "backlog must be from 1 to 65536, not 0", volume.open, "size>1", 0)
+        says(ValueError, "backlog must be from 1 to 65536, not 65537", volume.open, "size>1", 65_537)
+        says(ValueError, "on_overrun must be \"raise\" or \"mark\", not 'end'", volume.open, "size>1", on_overrun="end")
+        says(ValueError, r"name has a surrogate that stands for no byte: '\ud800'", volume.create, "\ud800")
+        self.assertEqual((volume.changes, volume.ready()), (0, []))
+        self.assertEqual(volume.create("a", size=True).node, 2)  # a bool is a whole number
+
+    def test_names_of_files(self):
+        """A byte that is no UTF-8 becomes U+F700 and the byte; so do the bytes of U+F780 to U+F7FF themselves."""
+        volume = self.volume
+        for raw, name in ((b"a", "a"), (b"\xe4.txt", "\uf7e4.txt"), ("\u00e4".encode(), "\u00e4"),
+                          ("\uf7e4".encode(), "\uf7ef\uf79f\uf7a4"), (b"\xff\xc3", "\uf7ff\uf7c3")):
+            self.assertEqual((to_name(raw), to_bytes(name)), (name, raw))
+            node = volume.create(raw).node
+            self.assertEqual(volume.entry(node).name, name)
+            self.assertEqual([volume.find(it) for it in (raw, name, pathlib.Path(os.fsdecode(raw)))], [node] * 3)
+        escaped = os.fsdecode(b"\xfe")
+        node = volume.create(escaped).node
+        self.assertEqual((volume.entry(node).name, volume.find(b"\xfe")), ("\uf7fe", node))
+        volume.set(node, "a", escaped)
+        self.assertEqual(volume.attribute(node, "a").value, "\uf7fe")
+        self.assertEqual([it.node for it in volume.fetch(f'name=="{escaped}"')], [node])
+
     def test_refusals(self):
         volume = self.volume
         self.refused(2, "NoNode", volume.remove, 9)
         self.refused(1, "BadName", volume.create, "")
+        self.refused(12, "TooLong", volume.set, 2, "a", "x" * 4097)
         self.refused(11, "Reserved", volume.remove, ROOT)
         refused = self.refused(20, "BadQuery", volume.fetch, "size>")
-        self.assertEqual((refused.place, str(refused)), (5, "BadQuery at 5"))
-        self.refused(21, "BadPort", volume.query, "size>1", 0)
-        for numbers in (-1, 2**64):
-            with self.assertRaises(ValueError):
-                volume.remove(numbers)
-        for name, more in (("\ud800", {}), ("a", {"kind": "link"}), ("a", {"time": 2**63})):
-            self.assertRaises(ValueError, volume.create, name, **more)
+        self.assertEqual((refused.place, str(refused)), (5, "BadQuery at 5: fetch('size>')"))
         self.assertEqual(volume.changes, 0)
 
-    def test_a_closed_volume_and_another_thread(self):
-        query, caught = self.volume.query("size>1"), []
+    def test_exceptions_have_the_call_and_are_pickled(self):
+        volume = self.volume
+        volume.create("a")
+        no_node = self.refused(2, "NoNode", volume.write, 9, 1, 2)
+        self.assertEqual((no_node.call, no_node.arguments), ("write", (9, 1, 2)))
+        self.assertEqual(str(no_node), "NoNode: write(9, 1, 2)")
+        exists = self.refused(5, "Exists", volume.create, "a")
+        self.assertIsInstance(exists, FileExistsError)
+        self.assertEqual(exists.arguments, ("a", ROOT, "file", 0, 0))
+        with self.assertRaises(KeyError):
+            volume.find("b")
+        with self.assertRaises(ValueError) as caught:
+            volume.fetch([Attr("size"), Op.GT])
+        query = volume.open("size>=0", 1)
+        for number in range(3):
+            volume.create(f"f{number}")
+        with self.assertRaises(Overrun) as overrun:
+            list(query)
+        for error in no_node, exists, caught.exception, overrun.exception:
+            again = pickle.loads(pickle.dumps(error))
+            self.assertEqual((type(again), str(again), vars(again)), (type(error), str(error), vars(error)))
+            self.assertEqual(str(copy.copy(error)), str(error))
+
+    def test_no_copies(self):
+        query = self.volume.open("size>=0")
+        self.volume.create("a")
+        next(query)
+        for it in self.volume, query, query.rows, query.rows[2]:
+            said = f"a {type(it).__name__} can be neither copied nor pickled"
+            for way in copy.copy, copy.deepcopy, pickle.dumps:
+                self.says(TypeError, said, way, it)
+
+    def test_texts_of_objects(self):
+        volume, query = self.volume, self.volume.open("size>=0")
+        volume.create("a")
+        message = next(query)
+        self.assertEqual(repr(volume), "<Volume with 1 changes and 1 queries>")
+        self.assertEqual(repr(query), "<Query 'size>=0', slot 1>")
+        self.assertEqual((repr(query.rows), repr(query.rows[2])), ("<Rows of 1 entries>", "<Row 2 'a'>"))
+        self.assertEqual((repr(message.op), f"{message.op}"), ("B_ENTRY_CREATED", "B_ENTRY_CREATED"))
+        self.assertIs(message.op, Opcode(1))
+        query.close()
+        query.read()
+        self.assertEqual((repr(query), repr(query.mark)), ("<Query 'size>=0', slot 1, closed>",
+                                                           "Mark(seq=2, change=1, cause=closed)"))
+        query.drop()
+        volume.close()
+        self.assertEqual((repr(query), repr(volume)), ("<Query 'size>=0', dropped>", "<Volume, closed>"))
+
+    def test_a_closed_volume(self):
+        query = self.volume.open("size>1")
+        self.volume.close()
+        self.volume.close()
+        query.drop()
+        query.drop()
+        for call in (lambda: self.volume.changes, lambda: self.volume.create("a"), lambda: self.volume.open("size>1")):
+            self.says(ValueError, "the volume is closed", call)
+        for call in query.read, query.result, query.hang_up, query.close, query.finish:
+            self.says(ValueError, "the query was dropped or finished", call)
+
+    def test_each_call_on_another_thread(self):
+        query, caught = self.volume.open("size>1"), []
 
         def elsewhere():
-            for call in (lambda: self.volume.changes, lambda: self.volume.create("a"), query.read, self.volume.close):
-                try:
-                    call()
-                except RuntimeError as error:
-                    caught.append(str(error))
+            try:
+                self.volume.create("a", size=2)
+                caught.extend([next(query).name, self.volume.changes])
+                query.drop()
+                self.volume.close()
+            except BaseException as error:
+                caught.append(error)
 
         thread = threading.Thread(target=elsewhere)
         thread.start()
         thread.join()
-        self.assertEqual(caught, ["a volume is used on the thread that made it"] * 4)
-        self.volume.close()
-        self.volume.close()
-        query.close()
-        for call in (lambda: self.volume.changes, lambda: self.volume.create("a"), query.read, query.result):
-            self.assertRaisesRegex(ValueError, "closed", call)
+        self.assertEqual(caught, ["a", 1])
+        self.assertRaises(ValueError, self.volume.create, "a")
+
+    def test_threads_side_by_side(self):
+        """Four threads create, and two read one query: each message comes once, and the rows are the result."""
+        query, seen = self.volume.open("size>=0"), [[], []]
+        done = threading.Event()
+
+        def create(first):
+            for number in range(first, 4000, 4):
+                self.volume.create(f"f{number}")
+
+        def read(into):
+            while not done.is_set():
+                into.extend(it.node for it in query)
+            into.extend(it.node for it in query)
+
+        creators = [threading.Thread(target=create, args=(first,)) for first in range(4)]
+        readers = [threading.Thread(target=read, args=(into,)) for into in seen]
+        for thread in creators + readers:
+            thread.start()
+        for thread in creators:
+            thread.join()
+        done.set()
+        for thread in readers:
+            thread.join()
+        self.assertEqual(sorted(seen[0] + seen[1]), [*range(2, 4002)])
+        self.assertEqual(sorted(query.rows), [*range(2, 4002)])
 
     def test_volumes_that_nobody_closes(self):
-        for _ in range(100):
-            Volume().create("a")
-        gc.collect()
+        """They are freed on the thread that has them last: what 20 of them take isn't taken 20 times."""
+        def made():
+            volume = Volume()
+            for number in range(2000):
+                volume.create(f"f{number}")
+            return [volume]
+
+        def dropped(volumes):
+            thread = threading.Thread(target=volumes.clear)
+            thread.start()
+            thread.join()
+
+        def pages():
+            gc.collect()
+            with open("/proc/self/statm", encoding="ascii") as file:
+                return int(file.read().split()[1])
+
+        for _ in range(2):
+            dropped(made())
+        before = pages()
+        for _ in range(20):
+            dropped(made())
+        self.assertLess(4096 * (pages() - before), 2_000_000)  # 20 times 2,000 entries take some 5 MB
 
 
-class Queries(unittest.TestCase):
-    def setUp(self):
-        self.volume = Volume()
-        self.addCleanup(self.volume.close)
-
+class Queries(Case):
     def test_an_iterator_that_goes_on(self):
-        with self.volume.query("size>100", moved=True) as query:
+        with self.volume.open("size>100", moved=True) as query:
             self.assertEqual((query.slot, query.at, query.entries, list(query)), (1, 0, [], []))
             self.volume.create("a", size=200)
-            self.assertEqual(list(query), [Message(1, 1, True, "B_ENTRY_CREATED", 1, 2, "a", None, None)])
+            self.assertEqual(list(query), [Message(1, 1, True, B_ENTRY_CREATED, 1, 2, "a", None, None)])
             self.assertEqual(list(query), [])
             self.volume.move(2, ROOT, "b")
             self.volume.write(2, 1, 0)
-            self.assertEqual(next(query), Message(2, 2, True, "B_ENTRY_MOVED", 1, 2, "b", 1, "a"))
-            self.assertEqual(query.result(), (2, True, [Entry(1, 2, "b")]))
-            self.assertEqual(next(query), Message(3, 3, True, "B_ENTRY_REMOVED", 1, 2, "b", None, None))
+            self.assertEqual(next(query), Message(2, 2, True, B_ENTRY_MOVED, 1, 2, "b", 1, "a"))
+            self.assertEqual(query.result(), (2, True, [Place(1, 2, "b")]))
+            self.assertEqual(next(query), Message(3, 3, True, B_ENTRY_REMOVED, 1, 2, "b", None, None))
             self.assertRaises(StopIteration, next, query)
             self.assertIsNone(query.mark)
-        self.assertEqual(query.mark, Mark(4, 3, "hung_up"))
+        self.assertIsNone(query.slot)
         self.assertRaises(ValueError, query.read)
 
     def test_ends(self):
         volume = self.volume
-        ended, hung_up, overrun = volume.query("size>1"), volume.query("size>1"), volume.query("size>1", 1, 0)
+        ended, hung_up = volume.open("size>1"), volume.open("size>1")
+        overrun = volume.open("size>1", 1, on_overrun="mark")
         volume.create("a", size=2)
-        self.assertEqual(ended.end(), 1)
+        self.assertEqual(ended.close(), 1)
         hung_up.hang_up()
-        volume.create("b", size=2)
-        marks = Mark(2, 1, "closed"), Mark(2, 1, "hung_up"), Mark(1, 0, "overrun")
+        for name in "bcd":
+            volume.create(name, size=2)
+        marks = Mark(2, 1, Cause.CLOSED), Mark(2, 1, Cause.HUNG_UP), Mark(3, 2, Cause.OVERRUN)
         for query, mark in zip((ended, hung_up, overrun), marks):
             messages = list(query)
             self.assertEqual((len(messages), query.mark), (mark.seq - 1, mark))
             self.assertIsNone(query.read())
-            query.close()
-            query.close()
-        self.assertEqual(volume.query("size>1").slot, 1)
+            self.refused(25, "NotOpen", query.close)
+            query.finish()
+            query.drop()
+        self.assertEqual(volume.open("size>1").slot, 1)
+        live = volume.open("size>1")
+        self.refused(26, "StillOpen", live.finish)
+
+    def test_overrun_is_raised_until_it_is_opened_again(self):
+        volume = self.volume
+        volume.create("old")
+        volume.create("moves")
+        query = volume.open("size>=0", backlog=2, moved=True)
+        rows, stays = query.rows, query.rows[3]
+        for number in range(4):
+            volume.create(f"f{number}")
+        volume.remove(2)
+        volume.move(3, ROOT, "moved")
+        names = []
+        with self.assertRaises(Overrun) as caught:
+            for message in query:
+                names.append(message.name)
+        self.assertEqual((names, caught.exception.change, caught.exception.formula), (["f0", "f1", "f2"], 5, "size>=0"))
+        for call in query.read, lambda: next(query), lambda: list(query):
+            self.assertRaises(Overrun, call)
+        self.assertEqual(query.mark, Mark(4, 5, Cause.OVERRUN))
+        self.assertEqual(sorted(rows), [2, 3, 4, 5, 6])
+        difference = query.reopen()
+        self.assertEqual(difference, Difference([Place(1, 2, "old")], [Place(1, 7, "f3")],
+                                                [(Place(1, 3, "moves"), Place(1, 3, "moved"))]))
+        self.assertEqual((query.slot, query.at, query.mark, list(query)), (1, 8, None, []))
+        self.assertIs(query.rows, rows)
+        self.assertIs(rows[3], stays)
+        self.assertEqual((sorted(rows), stays.name), ([3, 4, 5, 6, 7], "moved"))
+        volume.create("after")
+        self.assertEqual([it.name for it in query], ["after"])
+        self.assertEqual(query.reopen(), Difference([], [], []))
+
+    def test_a_query_that_cannot_be_opened_again_stays_dropped(self):
+        query = self.volume.open("size>=0")
+        self.volume.create("a")
+        next(query)
+        others = [self.volume.open("size>1") for _ in range(63)]
+        query.drop()
+        others.append(self.volume.open("size>1"))
+        self.refused(23, "NoSlot", query.reopen)
+        self.assertEqual((query.slot, sorted(query.rows)), (None, [2]))
+        others.pop().drop()
+        self.assertEqual((query.reopen(), query.slot), (Difference([], [], []), 1))
+
+    def test_rows(self):
+        volume = self.volume
+        folder, node = volume.create("in", kind=FOLDER).node, volume.create("a", size=1).node
+        query = volume.open("name==a || name==b", moved=True)
+        row = query.rows[node]
+        self.assertEqual((row.node, row.name, row.place, row.info.size), (node, "a", (ROOT, node, "a"), 1))
+        self.assertEqual((len(query.rows), node in query.rows, folder in query.rows), (1, True, False))
+        self.assertIsNone(query.rows.get(folder))
+        applied = volume.write(node, 7, 8)
+        self.assertEqual((list(query), row.info.size), ([], 1))
+        self.assertTrue(query.rows[applied.node].refresh())
+        self.assertEqual((row.info.size, row.info.time, row.refresh()), (7, 8, False))
+        volume.move(node, folder, "b")
+        self.assertEqual(row.name, "a")
+        list(query)
+        self.assertEqual((row.place, query.rows[node] is row), ((folder, node, "b"), True))
+        volume.remove(node)
+        self.assertEqual((row.refresh(), row.info.size), (False, 7))
+        list(query)
+        self.assertEqual(len(query.rows), 0)
+        self.assertRaises(KeyError, operator.getitem, query.rows, node)
+        other = volume.create("a").node
+        list(query)
+        volume.remove(other)
+        self.assertIsNone(query.rows[other].info)
+
+    def test_rows_after_each_message_are_the_result(self):
+        """Random changes: after each message with `last` the rows are what a fetch gave after its change."""
+        import random
+
+        draw, volume = random.Random(5), self.volume
+        for moved in (False, True):
+            with volume.open("size>100", 65_536, moved) as query:
+                found, nodes = {}, []
+                for number in range(500):
+                    act = draw.choice("cwwmr") if nodes else "c"
+                    if act == "c":
+                        nodes.append(volume.create(f"{moved}{number}", size=draw.choice([50, 200])).node)
+                    elif act == "w":
+                        volume.write(draw.choice(nodes), draw.choice([50, 200]), 0)
+                    elif act == "m":
+                        volume.move(draw.choice(nodes), ROOT, f"{moved}{number}")
+                    else:
+                        volume.remove(nodes.pop(draw.randrange(len(nodes))))
+                    found[volume.changes] = [Place(*it[:3]) for it in volume.fetch("size>100")]
+                for message in query:
+                    if message.last:
+                        self.assertEqual(query.result(), (message.change, True, found[message.change]))
+                self.assertEqual(query.result().entries, found[volume.changes])
+                for node in nodes:
+                    volume.remove(node)
 
     def test_what_was_not_read_is_dropped_at_the_end(self):
-        with self.volume.query("name==*", 1, 100) as query:
+        with self.volume.open("name==*", 100) as query:
             for number in range(50):
                 self.volume.create(f"f{number}")
             self.assertEqual(next(query).name, "f0")
-        self.assertEqual(self.volume.query("name==*").entries, self.volume.fetch("name==*"))
+        again = self.volume.open("name==*")
+        self.assertEqual((again.slot, again.entries), (1, self.volume.fetch("name==*")))
 
     def test_slots(self):
-        queries = [self.volume.query("size>1") for _ in range(64)]
+        queries = [self.volume.open("size>1") for _ in range(64)]
         self.assertEqual([query.slot for query in queries], [*range(1, 65)])
-        with self.assertRaises(Refused) as caught:
-            self.volume.query("size>1")
-        self.assertEqual(caught.exception.name, "NoSlot")
-        queries[6].close()
-        self.assertEqual(self.volume.query("size>1").slot, 7)
+        self.refused(23, "NoSlot", self.volume.open, "size>1")
+        queries[6].drop()
+        self.assertEqual(self.volume.open("size>1").slot, 7)
+
+    def test_a_query_that_nobody_has_frees_its_slot(self):
+        for _ in range(200):
+            self.volume.open("size>=0")
+        kept = [self.volume.open("size>=0") for _ in range(63)]
+        self.assertEqual(self.volume.open("size>=0").slot, 64)
+        self.volume.create("a")
+        self.assertEqual(len(self.volume.ready()), len(kept))
+
+    def test_ready(self):
+        volume = self.volume
+        large, small, all_of_them = volume.open("size>100"), volume.open("size<10"), volume.open("size>=0")
+        self.assertEqual(volume.ready(), [])
+        volume.create("a", size=200)
+        self.assertEqual(volume.ready(), [large, all_of_them])
+        self.assertEqual(len(list(large)), 1)
+        self.assertEqual(volume.ready(), [all_of_them])
+        small.close()
+        self.assertEqual(volume.ready(), [small, all_of_them])
+        list(small)
+        list(all_of_them)
+        self.assertEqual(volume.ready(), [])
+        large.hang_up()
+        volume.create("b")
+        self.assertEqual(volume.ready(), [large, all_of_them])
+
+    def test_ready_is_just_where_a_read_gives_something(self):
+        queries = [self.volume.open(f"size>{10 * number}", 3, on_overrun="mark") for number in range(20)]
+        for number in range(60):
+            self.volume.create(f"f{number}", size=7 * number % 200)
+            ready = self.volume.ready()
+            for query in queries[number % 3 :: 3]:
+                had_ended = query.mark is not None
+                gave = query.read() is not None or (query.mark is not None and not had_ended)
+                self.assertEqual(gave, query in ready)
+
+    def test_wake(self):
+        woken, query = [], self.volume.open("size>100")
+        self.volume.wake = lambda: woken.append(len(self.volume.ready()))
+        self.volume.create("a", size=1)
+        self.assertEqual(woken, [])
+        self.volume.create("b", size=200)
+        self.volume.answer('{"do":"create","name":"c","size":200}')
+        self.assertEqual(woken, [1, 1])
+        self.assertEqual(len(list(query)), 2)
+        query.close()
+        self.assertEqual(woken, [1, 1, 1])
+        self.volume.wake = None
+        self.volume.create("d", size=200)
+        self.assertEqual(len(woken), 3)
 
     def test_pushes(self):
         for name, size in (("a.txt", 200), ("b.txt", 50), ("c", 300)):
@@ -284,8 +613,9 @@ class Queries(unittest.TestCase):
             *(([Attr("size"), each, Op.GT], f"size>'{each}'") for each in numbers),
         ):
             self.assertEqual(self.volume.fetch(pushes), self.volume.fetch(formula))
-        with self.volume.query([Attr("size"), 100, Op.GT]) as query:
+        with self.volume.open(iter([Attr("size"), 100, Op.GT])) as query:
             self.assertEqual([it.name for it in query.entries], ["a.txt", "c"])
+            self.assertEqual((query.reopen(), query.formula), (Difference([], [], []), (Attr("size"), 100, Op.GT)))
         bad = [([Attr("")], 0), ([Attr("a"), Op.NOT], 1), ([Attr("a"), "b"], 2), ([], 0), ([Attr("a"), "[", Op.EQ], 2)]
         for pushes, place in bad:
             with self.assertRaises(BadQuery) as caught:
@@ -296,22 +626,141 @@ class Queries(unittest.TestCase):
         self.assertEqual(len(self.volume.fetch([Attr("size"), 0, Op.GE])), 3)
 
 
+class EventLoops(Case):
+    def run_until(self, what):
+        asyncio.run(asyncio.wait_for(what, SECONDS))
+
+    def test_messages_are_awaited(self):
+        volume, told = self.volume, []
+
+        async def show(query):
+            async for message in query:
+                told.append((query.slot, message.name))
+
+        async def change():
+            with volume.open("size>100") as large, volume.open("size>=0") as every:
+                shown = [asyncio.create_task(show(query)) for query in (large, every)]
+                for number in range(5):
+                    volume.create(f"f{number}", size=100 * number)
+                    await asyncio.sleep(0)
+                while len(told) < 8:
+                    await asyncio.sleep(0)
+                large.hang_up()
+                every.close()
+                await asyncio.gather(*shown)
+                self.assertEqual((large.mark.cause, every.mark.cause), (Cause.HUNG_UP, Cause.CLOSED))
+
+        self.run_until(change())
+        self.assertEqual([name for slot, name in told if slot == 1], ["f2", "f3", "f4"])
+        self.assertEqual([name for slot, name in told if slot == 2], ["f0", "f1", "f2", "f3", "f4"])
+        self.assertEqual(volume._waiting, [])
+
+    def test_changes_come_from_another_thread(self):
+        volume, count = self.volume, 2000
+
+        async def show():
+            names = []
+            async for message in query:
+                names.append(message.name)
+                if len(names) == count:
+                    return names
+
+        def change():
+            for number in range(count):
+                volume.create(f"f{number}")
+
+        query, names = volume.open("size>=0"), []
+
+        async def both():
+            thread = threading.Thread(target=change)
+            thread.start()
+            names.extend(await show())
+            thread.join()
+
+        self.run_until(both())
+        self.assertEqual(names, [f"f{number}" for number in range(count)])
+
+    def test_an_overrun_is_raised_and_gone_on_from(self):
+        volume = self.volume
+
+        async def show():
+            query, names = volume.open("size>=0", backlog=1), []
+            while len(names) < 8:
+                try:
+                    async for message in query:
+                        names.append(message.name)
+                        if len(names) == 8:
+                            break
+                except Overrun:
+                    names += [it.name for it in query.reopen().created]
+            return names
+
+        async def both():
+            shown = asyncio.create_task(show())
+            await asyncio.sleep(0)
+            for number in range(7):
+                volume.create(f"f{number}")
+            await asyncio.sleep(0.01)
+            volume.create("f7")
+            self.assertEqual(await shown, [f"f{number}" for number in range(8)])
+
+        self.run_until(both())
+
+    def test_a_query_that_is_opened_again_while_it_is_awaited(self):
+        async def show(query):
+            async for message in query:
+                return message.name
+
+        async def go():
+            query = self.volume.open("size>=0")
+            shown = asyncio.create_task(show(query))
+            await asyncio.sleep(0)
+            query.reopen()
+            await asyncio.sleep(0)
+            self.assertFalse(shown.done())
+            self.volume.create("a")
+            self.assertEqual(await shown, "a")
+
+        self.run_until(go())
+
+    def test_a_query_or_a_volume_that_goes_while_it_is_awaited(self):
+        async def show(query):
+            async for _ in query:
+                pass
+
+        async def go(leave):
+            query = self.volume.open("size>1")
+            shown = asyncio.create_task(show(query))
+            await asyncio.sleep(0)
+            leave(query)
+            with self.assertRaises(ValueError):
+                await shown
+
+        self.run_until(go(lambda query: query.drop()))
+        self.run_until(go(lambda _: self.volume.close()))
+
+
 class Documents(unittest.TestCase):
     def test_each_public_name_has_a_docstring_and_hints(self):
         count = 0
-        for name, item in vars(yazgoulm).items():
-            if name.startswith("_") or not inspect.isclass(item) or item.__module__ != "yazgoulm":
+        self.assertEqual(sorted(yazgoulm.__all__), sorted(set(yazgoulm.__all__)))
+        for name in yazgoulm.__all__:
+            item = getattr(yazgoulm, name)
+            if not inspect.isclass(item):
                 continue
             self.assertTrue(item.__doc__, name)
             for member, call in vars(item).items():
                 call = call.fget if isinstance(call, property) else call
-                if not member.startswith("_") and inspect.isfunction(call) and call.__module__ == "yazgoulm":
+                if not member.startswith("_") and inspect.isfunction(call) and call.__module__.startswith("yazgoulm"):
                     count += 1
                     hints = typing.get_type_hints(call)
                     wanted = {*inspect.signature(call).parameters, "return"} - {"self"}
                     self.assertTrue(call.__doc__, f"{name}.{member}")
                     self.assertEqual(wanted - {*hints}, set(), f"{name}.{member}")
-        self.assertGreater(count, 20)
+        self.assertGreater(count, 25)
+
+    def test_the_backend_is_the_one_that_was_asked_for(self):
+        self.assertEqual(yazgoulm.backend, os.environ.get("YAZGOULM_BACKEND") or yazgoulm.backend)
 
 
 if __name__ == "__main__":

@@ -10,7 +10,7 @@ use lq_embed::AppliedOut;
 
 /// As `Embedded::create`, whose status it answers.
 #[unsafe(no_mangle)]
-pub extern "C" fn lq_create(
+pub extern "C" fn lqp_create(
     handle: &mut Lq,
     dir: u64,
     name: &[u8],
@@ -30,7 +30,7 @@ pub extern "C" fn lq_create(
 
 /// As `Embedded::remove`, whose status it answers.
 #[unsafe(no_mangle)]
-pub extern "C" fn lq_remove(handle: &mut Lq, node: u64, out: &mut AppliedOut) -> u32
+pub extern "C" fn lqp_remove(handle: &mut Lq, node: u64, out: &mut AppliedOut) -> u32
     ensures { Changes (held handle.old) (held handle.new) (question_for (asks_remove node))
         result out.old out.new }
 {
@@ -39,7 +39,7 @@ pub extern "C" fn lq_remove(handle: &mut Lq, node: u64, out: &mut AppliedOut) ->
 
 /// As `Embedded::move_entry`, whose status it answers.
 #[unsafe(no_mangle)]
-pub extern "C" fn lq_move(
+pub extern "C" fn lqp_move(
     handle: &mut Lq,
     node: u64,
     dir: u64,
@@ -58,7 +58,7 @@ pub extern "C" fn lq_move(
 
 /// As `Embedded::write`, whose status it answers.
 #[unsafe(no_mangle)]
-pub extern "C" fn lq_write(
+pub extern "C" fn lqp_write(
     handle: &mut Lq,
     node: u64,
     size: u64,
@@ -73,7 +73,7 @@ pub extern "C" fn lq_write(
 
 /// As `Embedded::set_text`, whose status it answers.
 #[unsafe(no_mangle)]
-pub extern "C" fn lq_set_text(
+pub extern "C" fn lqp_set_text(
     handle: &mut Lq,
     node: u64,
     attr: &[u8],
@@ -88,7 +88,7 @@ pub extern "C" fn lq_set_text(
 
 /// As `Embedded::set_int32`, whose status it answers.
 #[unsafe(no_mangle)]
-pub extern "C" fn lq_set_int32(
+pub extern "C" fn lqp_set_int32(
     handle: &mut Lq,
     node: u64,
     attr: &[u8],
@@ -106,7 +106,7 @@ pub extern "C" fn lq_set_int32(
 
 /// As `Embedded::set_int64`, whose status it answers.
 #[unsafe(no_mangle)]
-pub extern "C" fn lq_set_int64(
+pub extern "C" fn lqp_set_int64(
     handle: &mut Lq,
     node: u64,
     attr: &[u8],
@@ -124,7 +124,7 @@ pub extern "C" fn lq_set_int64(
 
 /// As `Embedded::set_uint32`, whose status it answers.
 #[unsafe(no_mangle)]
-pub extern "C" fn lq_set_uint32(
+pub extern "C" fn lqp_set_uint32(
     handle: &mut Lq,
     node: u64,
     attr: &[u8],
@@ -142,7 +142,7 @@ pub extern "C" fn lq_set_uint32(
 
 /// As `Embedded::set_uint64`, whose status it answers.
 #[unsafe(no_mangle)]
-pub extern "C" fn lq_set_uint64(
+pub extern "C" fn lqp_set_uint64(
     handle: &mut Lq,
     node: u64,
     attr: &[u8],
@@ -160,7 +160,7 @@ pub extern "C" fn lq_set_uint64(
 
 /// As `Embedded::unset`, whose status it answers.
 #[unsafe(no_mangle)]
-pub extern "C" fn lq_unset(handle: &mut Lq, node: u64, attr: &[u8], out: &mut AppliedOut) -> u32
+pub extern "C" fn lqp_unset(handle: &mut Lq, node: u64, attr: &[u8], out: &mut AppliedOut) -> u32
     ensures { Changes (held handle.old) (held handle.new) (unset_question node attr.now)
         result out.old out.new }
 {

@@ -6,7 +6,7 @@ use crate::handle::Lq;
 
 /// As `Embedded::children`, whose status it answers.
 #[unsafe(no_mangle)]
-pub extern "C" fn lq_children(handle: &mut Lq, dir: u64, count: &mut usize) -> u32
+pub extern "C" fn lqp_children(handle: &mut Lq, dir: u64, count: &mut usize) -> u32
     ensures { Lists (held handle.old) (held handle.new) dir result count.old count.new }
 {
     handle.served_mut().embedded.children(dir, count)
@@ -14,7 +14,7 @@ pub extern "C" fn lq_children(handle: &mut Lq, dir: u64, count: &mut usize) -> u
 
 /// As `Embedded::path`, whose status it answers.
 #[unsafe(no_mangle)]
-pub extern "C" fn lq_path(handle: &mut Lq, node: u64, size: &mut usize) -> u32
+pub extern "C" fn lqp_path(handle: &mut Lq, node: u64, size: &mut usize) -> u32
     ensures { Paths (held handle.old) (held handle.new) node result size.old size.new }
 {
     handle.served_mut().embedded.path(node, size)

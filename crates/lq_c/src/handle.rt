@@ -16,7 +16,7 @@ pub struct Opaque {
     pub byte: u8,
 }
 
-/// The handle: C's `struct lq`. Contracts see the session behind it (`served`).
+/// The handle: the pointer in C's `struct lq`. Contracts see the session behind it (`served`).
 #[repr(C)]
 #[derive(Drop)]
 pub struct Lq {

@@ -1,17 +1,16 @@
-//! Handles, lines, and the names of statuses.
+//! Handles and lines.
 ghost use Rattle.std.specs.Prelude.{◌≡◌, ◌⊎◌, length};
 ghost use Rattle.lq_script_lines.specs.Lines.{line_of, reply_to, state_after};
 ghost use Rattle.lq_script_desk.specs.Script.{kept_rules};
 ghost use Rattle.lq_embed.specs.Outs.{written};
 ghost use Rattle.lq_embed.specs.State.{volume_in, with_session, with_text};
-ghost use Rattle.lq_embed.specs.Status.{name_of_status};
 ghost use Rattle.lq_script_desk.specs.History.{question_of};
 ghost use Rattle.lq_script_desk.specs.SessionHistory.{LineKeepsHistory};
 ghost use Rattle.lq_c.specs.Held.{held, line_result};
 
 use crate::handle::{Lq, Opaque};
 use crate::served::Served;
-use lq_embed::{put_status, put_text};
+use lq_embed::put_text;
 use std::alloc::Global;
 
 /// The call wasn't refused.
@@ -23,7 +22,7 @@ const NO_MEMORY: u32 = 15;
 /// Makes a session over a volume with the root alone, and writes its handle: 0, or 15 for want of
 /// memory, and then nothing is written. No clause ties the pointer to the session.
 #[unsafe(no_mangle)]
-pub extern "C" fn lq_open(alloc: Global, handle: &mut *mut Opaque) -> u32
+pub extern "C" fn lqp_start(alloc: Global, handle: &mut *mut Opaque) -> u32
     ensures { (result ≡ 0) ⊎ ((result ≡ 15) × (handle.new ≡ handle.old)) }
 {
     let Ok(served) = Served::start(alloc) else {
@@ -38,31 +37,22 @@ pub extern "C" fn lq_open(alloc: Global, handle: &mut *mut Opaque) -> u32
 
 /// Ends a handle, and frees what it holds.
 #[unsafe(no_mangle)]
-pub extern "C" fn lq_free(handle: Lq) {
+pub extern "C" fn lqp_free(handle: Lq) {
     drop(handle.into_parts().into_box());
-}
-
-/// Copies the name of a status, and answers its size.
-#[unsafe(no_mangle)]
-pub extern "C" fn lq_strerror(status: u32, out: &mut [u8]) -> usize
-    ensures size { result ≡ length (name_of_status status) }
-    ensures text { out.new ≡ written (name_of_status status) out.old }
-{
-    put_status(status, out)
 }
 
 /// The place of the last fault.
 #[unsafe(no_mangle)]
-pub extern "C" fn lq_fault_place(handle: &mut Lq) -> u64
+pub extern "C" fn lqp_fault_place(handle: &mut Lq) -> u64
     ensures place { result ≡ (held handle.old).fault }
     ensures stays { held handle.new ≡ held handle.old }
 {
     handle.served_mut().embedded.fault_place()
 }
 
-/// Answers one line of a script: 0, and `lq_text` copies the reply, or 15 for want of memory.
+/// Answers one line of a script: 0, and `lqp_text` copies the reply, or 15 for want of memory.
 #[unsafe(no_mangle)]
-pub extern "C" fn lq_answer(handle: &mut Lq, line: &[u8], size: &mut usize) -> u32
+pub extern "C" fn lqp_answer(handle: &mut Lq, line: &[u8], size: &mut usize) -> u32
     ensures text { result ≡ 0 → (held handle.new).text
         ≡ reply_to kept_rules (held handle.old).session (line_of line.now) }
     ensures after { result ≡ 0 → (held handle.new).session
@@ -85,7 +75,7 @@ pub extern "C" fn lq_answer(handle: &mut Lq, line: &[u8], size: &mut usize) -> u
 
 /// Copies the kept text, and answers its size.
 #[unsafe(no_mangle)]
-pub extern "C" fn lq_text(handle: &mut Lq, out: &mut [u8]) -> usize
+pub extern "C" fn lqp_text(handle: &mut Lq, out: &mut [u8]) -> usize
     ensures size { result ≡ length (held handle.old).text }
     ensures text { out.new ≡ written (held handle.old).text out.old }
     ensures stays { held handle.new ≡ held handle.old }
@@ -95,7 +85,7 @@ pub extern "C" fn lq_text(handle: &mut Lq, out: &mut [u8]) -> usize
 
 /// How many changes the volume accepted.
 #[unsafe(no_mangle)]
-pub extern "C" fn lq_changes(handle: &mut Lq) -> u64
+pub extern "C" fn lqp_changes(handle: &mut Lq) -> u64
     ensures number { result ≡ (volume_in (held handle.old)).number }
     ensures stays { held handle.new ≡ held handle.old }
 {

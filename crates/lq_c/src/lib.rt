@@ -1,8 +1,9 @@
-//! The library for C: each function of `include/lq.h`, over an embedded session of lq_embed.
+//! The proved calls of the library for C, over an embedded session of lq_embed.
 //!
-//! Contracts see a handle as what the session behind it holds (`specs/Held`), and say of each call
-//! what lq_embed says of it. `handle` has all the `unsafe` code. Nothing here waits.
-//! Begin with `handles`.
+//! `c/lq.c` makes the functions of `include/lq.h` of them: it tests the arguments that C passes,
+//! which the contracts here take as tested. Contracts see a handle as what the session behind it
+//! holds (`specs/Held`), and say of each call what lq_embed says of it. `handle` has all the
+//! `unsafe` code. Nothing here waits. Begin with `handles`.
 #![tactic(auto)]
 
 mod attrs;

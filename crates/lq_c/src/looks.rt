@@ -10,7 +10,7 @@ use lq_embed::{FetchedOut, InfoOut, RebuiltOut};
 
 /// As `Embedded::fetch`, whose status it answers.
 #[unsafe(no_mangle)]
-pub extern "C" fn lq_fetch(handle: &mut Lq, formula: &[u8], out: &mut FetchedOut) -> u32
+pub extern "C" fn lqp_fetch(handle: &mut Lq, formula: &[u8], out: &mut FetchedOut) -> u32
     ensures { Fetches (held handle.old) (held handle.new) (held handle.old).pushed
         (fetch_question formula.now) result out.old out.new }
 {
@@ -19,7 +19,7 @@ pub extern "C" fn lq_fetch(handle: &mut Lq, formula: &[u8], out: &mut FetchedOut
 
 /// As `Embedded::find`, whose status it answers.
 #[unsafe(no_mangle)]
-pub extern "C" fn lq_find(handle: &mut Lq, dir: u64, name: &[u8], node: &mut u64) -> u32
+pub extern "C" fn lqp_find(handle: &mut Lq, dir: u64, name: &[u8], node: &mut u64) -> u32
     ensures { Finds (held handle.old) (held handle.new) (find_question dir name.now)
         result node.old node.new }
 {
@@ -28,7 +28,7 @@ pub extern "C" fn lq_find(handle: &mut Lq, dir: u64, name: &[u8], node: &mut u64
 
 /// As `Embedded::rebuilt`, whose status it answers.
 #[unsafe(no_mangle)]
-pub extern "C" fn lq_result(handle: &mut Lq, slot: u64, out: &mut RebuiltOut) -> u32
+pub extern "C" fn lqp_result(handle: &mut Lq, slot: u64, out: &mut RebuiltOut) -> u32
     ensures { Rebuilds (held handle.old) (held handle.new) (Ok (Rebuilt slot))
         result out.old out.new }
 {
@@ -37,7 +37,7 @@ pub extern "C" fn lq_result(handle: &mut Lq, slot: u64, out: &mut RebuiltOut) ->
 
 /// As `Embedded::entry`, whose status it answers.
 #[unsafe(no_mangle)]
-pub extern "C" fn lq_entry_of(handle: &mut Lq, node: u64, out: &mut InfoOut) -> u32
+pub extern "C" fn lqp_entry(handle: &mut Lq, node: u64, out: &mut InfoOut) -> u32
     ensures { Shows (held handle.old) (held handle.new) (Ok (Entry node))
         result out.old out.new }
 {

@@ -14,7 +14,7 @@ use lq_embed::{FetchedOut, OpeningOut};
 
 /// As `Embedded::push_attr`, whose status it answers.
 #[unsafe(no_mangle)]
-pub extern "C" fn lq_push_attr(handle: &mut Lq, name: &[u8]) -> u32
+pub extern "C" fn lqp_push_attr(handle: &mut Lq, name: &[u8]) -> u32
     ensures { Pushes (held handle.old) (held handle.new)
         (push_attr_outcome name.now (held handle.old).pushed) result }
 {
@@ -23,7 +23,7 @@ pub extern "C" fn lq_push_attr(handle: &mut Lq, name: &[u8]) -> u32
 
 /// As `Embedded::push_text`, whose status it answers.
 #[unsafe(no_mangle)]
-pub extern "C" fn lq_push_text(handle: &mut Lq, text: &[u8]) -> u32
+pub extern "C" fn lqp_push_text(handle: &mut Lq, text: &[u8]) -> u32
     ensures { Pushes (held handle.old) (held handle.new)
         (push_text_outcome text.now (held handle.old).pushed) result }
 {
@@ -32,7 +32,7 @@ pub extern "C" fn lq_push_text(handle: &mut Lq, text: &[u8]) -> u32
 
 /// As `Embedded::push_int32`, whose status it answers.
 #[unsafe(no_mangle)]
-pub extern "C" fn lq_push_int32(handle: &mut Lq, value: i32) -> u32
+pub extern "C" fn lqp_push_int32(handle: &mut Lq, value: i32) -> u32
     ensures { Pushes (held handle.old) (held handle.new)
         (Ok (text_pushed (signed_decimal value) (held handle.old).pushed)) result }
 {
@@ -41,7 +41,7 @@ pub extern "C" fn lq_push_int32(handle: &mut Lq, value: i32) -> u32
 
 /// As `Embedded::push_int64`, whose status it answers.
 #[unsafe(no_mangle)]
-pub extern "C" fn lq_push_int64(handle: &mut Lq, value: i64) -> u32
+pub extern "C" fn lqp_push_int64(handle: &mut Lq, value: i64) -> u32
     ensures { Pushes (held handle.old) (held handle.new)
         (Ok (text_pushed (signed_decimal value) (held handle.old).pushed)) result }
 {
@@ -50,7 +50,7 @@ pub extern "C" fn lq_push_int64(handle: &mut Lq, value: i64) -> u32
 
 /// As `Embedded::push_uint32`, whose status it answers.
 #[unsafe(no_mangle)]
-pub extern "C" fn lq_push_uint32(handle: &mut Lq, value: u32) -> u32
+pub extern "C" fn lqp_push_uint32(handle: &mut Lq, value: u32) -> u32
     ensures { Pushes (held handle.old) (held handle.new)
         (Ok (text_pushed (decimal value) (held handle.old).pushed)) result }
 {
@@ -59,7 +59,7 @@ pub extern "C" fn lq_push_uint32(handle: &mut Lq, value: u32) -> u32
 
 /// As `Embedded::push_uint64`, whose status it answers.
 #[unsafe(no_mangle)]
-pub extern "C" fn lq_push_uint64(handle: &mut Lq, value: u64) -> u32
+pub extern "C" fn lqp_push_uint64(handle: &mut Lq, value: u64) -> u32
     ensures { Pushes (held handle.old) (held handle.new)
         (Ok (text_pushed (decimal value) (held handle.old).pushed)) result }
 {
@@ -68,7 +68,7 @@ pub extern "C" fn lq_push_uint64(handle: &mut Lq, value: u64) -> u32
 
 /// As `Embedded::push_op`, whose status it answers.
 #[unsafe(no_mangle)]
-pub extern "C" fn lq_push_op(handle: &mut Lq, op: u32) -> u32
+pub extern "C" fn lqp_push_op(handle: &mut Lq, op: u32) -> u32
     ensures { Pushes (held handle.old) (held handle.new)
         (push_op_outcome (op_numbered op) (held handle.old).pushed) result }
 {
@@ -77,7 +77,7 @@ pub extern "C" fn lq_push_op(handle: &mut Lq, op: u32) -> u32
 
 /// As `Embedded::clear_pushed`.
 #[unsafe(no_mangle)]
-pub extern "C" fn lq_clear_pushed(handle: &mut Lq)
+pub extern "C" fn lqp_clear_pushed(handle: &mut Lq)
     ensures { held handle.new ≡ with_pushed (held handle.old) new_stack }
 {
     handle.served_mut().embedded.clear_pushed();
@@ -85,7 +85,7 @@ pub extern "C" fn lq_clear_pushed(handle: &mut Lq)
 
 /// As `Embedded::subscribe_pushed`, whose status it answers.
 #[unsafe(no_mangle)]
-pub extern "C" fn lq_subscribe_pushed(
+pub extern "C" fn lqp_open_pushed(
     handle: &mut Lq,
     port: u64,
     backlog: u64,
@@ -105,7 +105,7 @@ pub extern "C" fn lq_subscribe_pushed(
 
 /// As `Embedded::fetch_pushed`, whose status it answers.
 #[unsafe(no_mangle)]
-pub extern "C" fn lq_fetch_pushed(handle: &mut Lq, out: &mut FetchedOut) -> u32
+pub extern "C" fn lqp_fetch_pushed(handle: &mut Lq, out: &mut FetchedOut) -> u32
     ensures { Fetches (held handle.old) (held handle.new)
         (left_by (held handle.old).pushed (only_part (held handle.old).pushed.items))
         (fetch_pushed (held handle.old).pushed.pushes

@@ -121,6 +121,20 @@ none-behind [] n i le = none-among n i
 none-behind (k ∷ ks) n zero le = absurd (omega arith)
 none-behind (k ∷ ks) n (suc i) le = none-behind ks n i (omega arith)
 
+-- a slot is the same with the free ones behind the stored ones
+pub flat-free : (xs : List (Option PreparedSlot)) (i : ℕ)
+    → option_flatten (slice_get (map kept_slot (with_free xs)) i)
+    ≡ option_flatten (slice_get (map kept_slot xs) i)
+flat-free xs i =
+    ap (λ js. option_flatten (slice_get js i)) (kept-more xs)
+    ∙ by (map kept_slot xs) (64 - length xs) i
+  where
+    by : (ks : List (Option KeptSlot)) (n i : ℕ)
+        → option_flatten (slice_get (ks ++ replicate n None) i) ≡ option_flatten (slice_get ks i)
+    by [] n i = none-among n i
+    by (k ∷ ks) n zero = refl
+    by (k ∷ ks) n (suc i) = by ks n i
+
 -- what is done at a slot that isn't stored is refused
 pub act-free : (does : KeptSlot → Answer × Option KeptSlot) (xs : List (Option PreparedSlot))
     (ys : List (Option PreparedSlot)) (slot : ℕ) → with_free xs ≡ ys

@@ -2,7 +2,7 @@
 -- One slot: PutLemmas. All slots: SlotsLemmas, FewLemmas, PlaceLemmas, LoopLemmas, BitLemmas,
 -- ReadyLemmas, FreeLemmas, MarkLemmas, WatchLemmas. A desk shows a world: SlotLemmas and EndLemmas
 -- (one subscription), Shown (each event), PassedLemmas (lists and refusals). Turns: RunLemmas,
--- EventLemmas, SlotTurnLemmas, TurnLemmas. A desk stays one: Desks.
+-- EventLemmas, SlotTurnLemmas, TurnLemmas, ParcelLemmas. A desk stays one: Desks.
 pub mod ListLemmas
 pub mod UpdateLemmas
 pub mod PutLemmas
@@ -23,5 +23,6 @@ pub mod RunLemmas
 pub mod EventLemmas
 pub mod SlotTurnLemmas
 pub mod TurnLemmas
+pub mod ParcelLemmas
 pub mod Desks
 pub mod PassedLemmas

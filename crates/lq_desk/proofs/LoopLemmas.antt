@@ -8,14 +8,14 @@ use Rattle.lq_desk.specs.Slot.{KeptSlot, PreparedSlot}
 use Rattle.lq_desk.proofs.SlotsLemmas.{kept_slot}
 
 -- what is at a place of a mapped list, or the value given
-get_or-map : {A B : Type 0} (f : A → B) (xs : List A) (i : ℕ) (d : A)
+pub get_or-map : {A B : Type 0} (f : A → B) (xs : List A) (i : ℕ) (d : A)
     → get_or (map f xs) i (f d) ≡ f (get_or xs i d)
 get_or-map f [] i d = refl
 get_or-map f (x ∷ xs) zero d = refl
 get_or-map f (x ∷ xs) (suc i) d = get_or-map f xs i d
 
 -- what was read at a place within a list is there
-get-is : {A : Type 0} (xs : List A) (i : ℕ) (d : A) → i < length xs → d ≡ get_or xs i d
+pub get-is : {A : Type 0} (xs : List A) (i : ℕ) (d : A) → i < length xs → d ≡ get_or xs i d
     → slice_get xs i ≡ Some d
 get-is [] i d lt at = absurd (omega arith)
 get-is (x ∷ xs) zero d lt at = ap (λ o. Some o) (sym at)

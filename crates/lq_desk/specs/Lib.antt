@@ -4,4 +4,5 @@ pub mod Act
 pub mod Kept
 pub mod Reply
 pub mod Turn
+pub mod Ready
 pub mod Laws

@@ -5,6 +5,7 @@ ghost use Rattle.std.specs.Option.{option_map};
 ghost use Rattle.lq_desk.specs.Slot.{slot_of, committed_slot, can_move, close_slot, filled, is_ending, noticed, passes};
 ghost use Rattle.lq_desk.specs.Kept.{IsFew};
 ghost use Rattle.lq_desk.specs.Act.{act_of, outcome_at};
+ghost use Rattle.lq_desk.specs.Ready.{has_parcel};
 ghost use Rattle.lq_desk.specs.Reply.{answer_of};
 
 use crate::reply::Reply;
@@ -173,6 +174,14 @@ impl Slot {
         }
         self.sub.finish_with(Cause::Closed, number);
         Reply::Shut(number)
+    }
+
+    /// Whether a read would give a parcel, after a notice and after the port was filled.
+    pub fn has_parcel(&self) -> bool
+        ensures { result ≡ has_parcel (slot_of self.now) }
+    {
+        !self.queue.is_empty()
+            || self.port > 0 && (self.sub.has_next() || self.is_ending() && !self.sub.is_marked())
     }
 
     /// Whether its mark was put into the port, and the port is empty.

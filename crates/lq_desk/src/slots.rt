@@ -9,11 +9,14 @@ ghost use Rattle.lq_desk.specs.Slot.{slot_of, slot_after, filled, noticed};
 ghost use Rattle.lq_desk.specs.Words.{AreReady};
 ghost use Rattle.lq_desk.specs.Kept.{IsFew, first_free};
 ghost use Rattle.lq_desk.specs.Act.{act_of, close_turn, outcome_of, read_turn};
+ghost use Rattle.lq_desk.specs.Ready.{MarksParcels};
 ghost use Rattle.lq_desk.specs.Reply.{answer_of};
 
 use crate::reply::Reply;
 use crate::slot::{Slot, notice_at};
-use crate::stored::{act_in, can_move_in, close_in, first_free, is_ending_in, occupy, read_in};
+use crate::stored::{
+    act_in, can_move_in, close_in, first_free, is_ending_in, occupy, parcels_in, read_in,
+};
 use crate::word::{has_bit, lowest_bit, with_bit, without_bit};
 use lq_desk_sub::Watch;
 use lq_desk_world::Act;
@@ -193,6 +196,13 @@ impl Slots {
             rest = without_bit(rest, place);
         }
         self.movable = 0;
+    }
+
+    /// A word with the bits of the slots that have a parcel to read.
+    pub fn parcels(&self) -> u64
+        ensures { MarksParcels (map (option_map slot_of) self.now) result }
+    {
+        parcels_in(&self.stored)
     }
 
     /// Takes a parcel from a slot's port, after a notice of the slot and after its port was filled.

@@ -1,15 +1,17 @@
 //! The slots that are stored: the first that is free, and what is done at one of them.
-ghost use Rattle.std.specs.Prelude.{◌≡◌, ◌<◌, ◌^◌, ◌-◌, None, Some, true, map, length, slice_get, slice_set, vec_len};
+ghost use Rattle.std.specs.Prelude.{◌≡◌, ◌<◌, ◌≤◌, ◌^◌, ◌-◌, None, Some, true, map, length, slice_get, slice_set, vec_len};
 ghost use Rattle.std.specs.Vec.{vec_capacity};
 ghost use Rattle.std.specs.List.{AllByRecursion};
 ghost use Rattle.std.specs.Option.{option_map, option_flatten};
 ghost use Rattle.lq_desk.specs.Slot.{slot_of, can_move, has_work, is_ending, passes};
 ghost use Rattle.lq_desk.specs.Kept.{IsFew, first_free};
+ghost use Rattle.lq_desk.specs.Ready.{MarksParcels, has_parcel};
 ghost use Rattle.lq_desk.specs.Act.{act_of, close_turn, outcome_in, read_turn};
 ghost use Rattle.lq_desk.specs.Reply.{answer_of};
 
 use crate::reply::Reply;
 use crate::slot::{Slot, act_at};
+use crate::word::with_bit;
 use lq_desk_world::Act;
 use lq_value::Refusal;
 
@@ -58,6 +60,30 @@ pub fn can_move_in(slots: &Vec<Option<Slot>>, place: usize) -> bool
     match &slots[place] {
         None => false,
         Some(there) => there.can_move(),
+    }
+}
+
+/// A word with the bits of the slots that have a parcel to read.
+pub fn parcels_in(slots: &[Option<Slot>]) -> u64
+    requires { length slots.now ≤ 64 }
+    ensures { MarksParcels (map (option_map slot_of) slots.now) result }
+{
+    let mut word = 0;
+    let mut place = 0;
+    for slot in slots {
+        word = with_bit(word, place, has_parcel_at(slot));
+        place += 1;
+    }
+    word
+}
+
+// Whether a slot has a parcel to read; a free one has none.
+fn has_parcel_at(slot: &Option<Slot>) -> bool
+    ensures { result ≡ passes has_parcel (option_map slot_of slot.now) }
+{
+    match slot {
+        None => false,
+        Some(there) => there.has_parcel(),
     }
 }
 

@@ -8,7 +8,7 @@ use Rattle.lq_value.specs.declared.value.Value.{Value}
 use Rattle.lq_value.specs.Name.{is_attr_name}
 use Rattle.lq_value.specs.Refusal.{code_of}
 use Rattle.lq_embed.specs.declared.outs.AttrOut.{AttrOut}
-use Rattle.lq_embed.specs.Attrs.{ShowsAttr, ShowsNamed, attr_by_name, attr_out, attr_status, attr_with_name}
+use Rattle.lq_embed.specs.Attrs.{ShowsAttr, ShowsNamed, attr_by_name, attr_with_name}
 use Rattle.lq_embed.specs.State.{State, volume_in}
 use Rattle.lq_embed.proofs.CallLemmas.{if-utf8}
 

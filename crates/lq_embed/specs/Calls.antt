@@ -9,10 +9,12 @@ use Rattle.lq_desk_world.specs.declared.event.Event.{Event as Event_}
 use Rattle.lq_desk_world.specs.Events.{Answer, Refused}
 use Rattle.lq_desk.specs.Kept.{Kept}
 use Rattle.lq_desk.specs.Turn.{kept_turn_outcome}
+use Rattle.lq_desk.specs.Ready.{TellsReady}
 use Rattle.lq_script_request.specs.declared.question.Question.{Question}
 use Rattle.lq_script_request.specs.declared.question.Question.TheVariants.{Event}
 use Rattle.lq_script_desk.specs.Response.{Response, Refuses}
 use Rattle.lq_script_desk.specs.Session.{Session}
+use Rattle.lq_script_desk.specs.Keeps.{without_fold}
 use Rattle.lq_script_desk.specs.Answered.{answered}
 use Rattle.lq_script_desk.specs.Script.{kept_volume}
 use Rattle.lq_script_desk.specs.Turned.{Turned}
@@ -20,11 +22,11 @@ use Rattle.lq_embed.specs.declared.outs.AppliedOut.{AppliedOut}
 use Rattle.lq_embed.specs.declared.outs.OpeningOut.{OpeningOut}
 use Rattle.lq_embed.specs.declared.outs.FetchedOut.{FetchedOut}
 use Rattle.lq_embed.specs.declared.outs.RebuiltOut.{RebuiltOut}
-use Rattle.lq_embed.specs.declared.outs.EntryOut.{EntryOut}
+use Rattle.lq_embed.specs.declared.outs.RowOut.{RowOut}
 use Rattle.lq_embed.specs.declared.outs.MessageOut.{MessageOut}
 use Rattle.lq_embed.specs.declared.outs.InfoOut.{InfoOut}
-use Rattle.lq_embed.specs.Outs.{applied_after, opening_after, entries_after, change_after, fault_after, read_after, node_after, fetched_after, rebuilt_after, fetched_entries, rebuilt_entries, looked_fault, info_after, entry_after}
-use Rattle.lq_embed.specs.State.{State, with_session, with_entries, with_fault, with_pushed}
+use Rattle.lq_embed.specs.Outs.{applied_after, opening_after, entries_after, change_after, fault_after, read_after, node_after, fetched_after, rebuilt_after, fetched_entries, rebuilt_entries, looked_fault, info_after, row_after}
+use Rattle.lq_embed.specs.State.{State, volume_in, with_session, with_entries, with_fault, with_pushed}
 use Rattle.lq_embed.specs.Status.{status_of, response_status}
 
 -- ---- events
@@ -87,6 +89,14 @@ pub record Acts (old new : State) (event : Event_) (status : ℕ) : Type 0 where
   pub code : status ≡ status_of answer
   pub beside : new ≡ with_session old new.session
 
+-- the bit of each slot in this word tells whether a read of it would give a message or the mark
+abbrev pub TellsSlots : State → ℕ → Type 0
+TellsSlots s word = TellsReady s.session.core word
+
+-- the state with no rebuilt result at a slot
+abbrev pub forgotten : State → ℕ → State
+forgotten s slot = with_session s (without_fold s.session slot)
+
 -- ---- looks
 
 -- the response to a question as to a line that asks it, or memory ran out
@@ -144,7 +154,7 @@ Pushes old new (Ok (Some stack)) status =
     ((status ≡ 0) × (new ≡ with_pushed old stack)) ⊎ ((status ≡ 15) × (new ≡ old))
 
 -- the next entry of a result, if there is one
-abbrev pub Gives : State → State → Bool → EntryOut → EntryOut → List Entry → Type 0
+abbrev pub Gives : State → State → Bool → RowOut → RowOut → List Entry → Type 0
 Gives old new there before after [] = (there ≡ false) × (new ≡ old) × (after ≡ before)
 Gives old new there before after (entry ∷ entries) = (there ≡ true)
-    × (new ≡ with_entries old entries) × (after ≡ entry_after entry before)
+    × (new ≡ with_entries old entries) × (after ≡ row_after (volume_in old) entry before)

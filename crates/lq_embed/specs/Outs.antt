@@ -1,36 +1,43 @@
 -- What a call writes for its caller, by the answer.
-use Rattle.std.specs.Prelude.{ℕ, ℤ, pos, List, [], ◌++◌, length, drop, false, nat_le, Result, Ok, Err, if◌then◌else◌}
+use Rattle.std.specs.Prelude.{ℕ, ℤ, pos, List, [], ◌∷◌, ◌++◌, length, drop, false, nat_le, Result, Ok, Err, if◌then◌else◌}
 use Rattle.lq_value.specs.declared.entry.Entry.{Entry}
 use Rattle.lq_value.specs.declared.refusal.Refusal.{Refusal}
 use Rattle.lq_value.specs.declared.refusal.Refusal.TheVariants.{BadQuery}
 use Rattle.lq_value.specs.declared.value.Value.{Value}
 use Rattle.lq_value.specs.declared.value.Value.TheVariants as value
+use Rattle.lq_volume.specs.State as volume
 use Rattle.lq_volume.specs.State.{Record}
 use Rattle.lq_update.specs.declared.message.Message.{Message}
 use Rattle.lq_update.specs.declared.message.Opcode.{Opcode}
 use Rattle.lq_update.specs.declared.message.Opcode.TheVariants as op
-use Rattle.lq_update.specs.declared.mark.Mark.{Mark}
 use Rattle.lq_update.specs.declared.mark.Cause.{Cause}
 use Rattle.lq_update.specs.declared.mark.Cause.TheVariants as cause
 use Rattle.lq_update.specs.declared.parcel.Parcel.TheVariants.{Update, Fin}
 use Rattle.lq_desk_world.specs.Events.{Answer, Changed, Opened, Took, Empty, Ended, Shut, Refused}
+use Rattle.lq_script_desk.specs.Answered.{shown_in}
 use Rattle.lq_script_desk.specs.Response.{Response, Found, Listed, Fetched, Rebuilt, Refuses}
 use Rattle.lq_embed.specs.Numbers.{number_of_kind}
 use Rattle.lq_embed.specs.declared.outs.AppliedOut.{AppliedOut}
 use Rattle.lq_embed.specs.declared.outs.OpeningOut.{OpeningOut}
 use Rattle.lq_embed.specs.declared.outs.FetchedOut.{FetchedOut}
 use Rattle.lq_embed.specs.declared.outs.RebuiltOut.{RebuiltOut}
-use Rattle.lq_embed.specs.declared.outs.EntryOut.{EntryOut}
+use Rattle.lq_embed.specs.declared.outs.RowOut.{RowOut}
 use Rattle.lq_embed.specs.declared.outs.MessageOut.{MessageOut}
 use Rattle.lq_embed.specs.declared.outs.InfoOut.{InfoOut}
 use Rattle.lq_embed.specs.declared.outs.AttrOut.{AttrOut}
 
 -- ---- texts
 
--- a text at the front of room, if it fits; else the room stays
+-- room with a NUL at its front, if it isn't empty
+abbrev pub ended : List ℕ → List ℕ
+ended [] = []
+ended (byte ∷ room) = 0 ∷ room
+
+-- a text at the front of room, and a NUL after it, if they fit; room that is smaller than the text
+-- stays
 abbrev pub written : List ℕ → List ℕ → List ℕ
 written text room =
-    if nat_le (length text) (length room) then text ++ drop (length text) room else room
+    if nat_le (length text) (length room) then text ++ ended (drop (length text) room) else room
 
 -- ---- changes and openings
 
@@ -113,8 +120,8 @@ bare_after what seq change cause out = record {
   last = false;
   name_size = 0;
   from_name_size = 0;
-  name = out.name;
-  from_name = out.from_name;
+  name = written [] out.name;
+  from_name = written [] out.from_name;
 }
 
 abbrev pub read_after : Answer → MessageOut → MessageOut
@@ -166,10 +173,27 @@ info_after (Listed node r) out = record {
 }
 info_after response out = out
 
-abbrev pub entry_after : Entry → EntryOut → EntryOut
-entry_after e out = record {
+-- what a look at an entry's node shows: its kind, size and time; 2 and 0 where it is gone
+abbrev pub kind_in : Response → ℕ
+kind_in (Listed node r) = number_of_kind r.kind
+kind_in response = 2
+
+abbrev pub size_in : Response → ℕ
+size_in (Listed node r) = r.size
+size_in response = 0
+
+abbrev pub time_in : Response → ℤ
+time_in (Listed node r) = r.time
+time_in response = pos 0
+
+-- an entry of a result, with what the volume shows of its node
+abbrev pub row_after : volume.State → Entry → RowOut → RowOut
+row_after s e out = record {
   dir = e.dir;
   node = e.node;
+  size = size_in (shown_in s e.node);
+  time = time_in (shown_in s e.node);
+  kind = kind_in (shown_in s e.node);
   name_size = length e.name;
   name = written e.name out.name;
 }

@@ -12,7 +12,7 @@ use Rattle.lq_predicate.specs.declared.stack_op.StackOp.{StackOp}
 use Rattle.lq_desk_world.specs.declared.event.Event.TheVariants.{Open}
 use Rattle.lq_script_request.specs.declared.question.Question.{Question}
 use Rattle.lq_script_request.specs.declared.question.Question.TheVariants.{Event, Fetch}
-use Rattle.lq_script_request.specs.Request.{Asked, given_text, given_number, asks_create, asks_move, asks_set, asks_unset, asks_open, asks_find, asks_fetch, question_for}
+use Rattle.lq_script_request.specs.Request.{given_text, given_number, asks_create, asks_move, asks_set, asks_unset, asks_open, asks_find, asks_fetch, question_for}
 use Rattle.lq_embed.specs.Numbers.{kind_numbered}
 
 -- a question whose text has to be UTF-8

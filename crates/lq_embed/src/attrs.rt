@@ -78,7 +78,6 @@ fn put_attr(name: &[u8], view: View<'_>, out: &mut AttrOut)
     out.name_size = put_text(&mut out.name, name);
     out.whole = 0;
     out.natural = 0;
-    out.text_size = 0;
     match view {
         View::Text(text) => {
             out.kind = 0x43535452;
@@ -86,18 +85,22 @@ fn put_attr(name: &[u8], view: View<'_>, out: &mut AttrOut)
         }
         View::Int32(number) => {
             out.kind = 0x4C4F4E47;
+            out.text_size = put_text(&mut out.text, b"");
             out.whole = i64::from(number);
         }
         View::Int64(number) => {
             out.kind = 0x4C4C4E47;
+            out.text_size = put_text(&mut out.text, b"");
             out.whole = number;
         }
         View::UInt32(number) => {
             out.kind = 0x554C4E47;
+            out.text_size = put_text(&mut out.text, b"");
             out.natural = u64::from(number);
         }
         View::UInt64(number) => {
             out.kind = 0x554C4C47;
+            out.text_size = put_text(&mut out.text, b"");
             out.natural = number;
         }
     }

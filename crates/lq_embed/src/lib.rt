@@ -22,7 +22,6 @@ mod statuses;
 
 pub use embedded::Embedded;
 pub use outs::{
-    AppliedOut, AttrOut, EntryOut, FetchedOut, InfoOut, MessageOut, OpeningOut, RebuiltOut,
+    AppliedOut, AttrOut, FetchedOut, InfoOut, MessageOut, OpeningOut, RebuiltOut, RowOut,
 };
 pub use put::put_text;
-pub use statuses::put_status;

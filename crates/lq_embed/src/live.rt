@@ -1,22 +1,24 @@
 //! Live queries.
-ghost use Rattle.std.specs.Prelude.{◌≡◌, length};
+ghost use Rattle.std.specs.Prelude.{◌≡◌, [], length};
 ghost use Rattle.lq_value.specs.Refusal.{code_of};
 ghost use Rattle.lq_desk.specs.Reply.{answer_of};
 ghost use Rattle.lq_desk_world.specs.declared.event.Event.TheVariants.{Close, Finish, HangUp, Take};
-ghost use Rattle.lq_embed.specs.Calls.{Acts, Ends, Gives, IsRead, Opens};
-ghost use Rattle.lq_embed.specs.Outs.{bare_after, change_after, entries_after, entry_after, fault_after, fault_by, from_dir_of, from_name_of, message_after, number_of_cause, number_of_op, opening_after, read_after, written};
+ghost use Rattle.lq_embed.specs.Calls.{Acts, Ends, Gives, IsRead, Opens, TellsSlots, forgotten};
+ghost use Rattle.lq_embed.specs.Outs.{bare_after, change_after, entries_after, fault_after, fault_by, from_dir_of, from_name_of, message_after, number_of_cause, number_of_op, opening_after, read_after, row_after, written};
 ghost use Rattle.lq_embed.specs.Questions.{open_question};
 ghost use Rattle.lq_embed.specs.State.{holds};
 ghost use Rattle.lq_embed.specs.Status.{status_of};
 
 use crate::embedded::Embedded;
-use crate::outs::{EntryOut, MessageOut, OpeningOut};
+use crate::numbers::number_of_kind;
+use crate::outs::{MessageOut, OpeningOut, RowOut};
 use crate::put::put_text;
 use crate::statuses::status;
 use lq_desk::{Event, Read, Reply};
 use lq_script_request::Request;
 use lq_update::{Cause, Mark, Message, Opcode};
 use lq_value::{Entry, Refusal};
+use lq_volume::Volume;
 
 impl Embedded {
     /// Opens a live query in the lowest free slot; its result is to be given. `port` is the number
@@ -127,32 +129,52 @@ impl Embedded {
 
     /// Writes the next entry of the last result; false, and nothing is written, where there is
     /// none. It takes no memory.
-    pub fn next_entry(&mut self, out: &mut EntryOut) -> bool
+    pub fn next_entry(&mut self, out: &mut RowOut) -> bool
         ensures { Gives (holds self.old) (holds self.new) result out.old out.new
             (holds self.old).entries }
     {
         let Some(entry) = self.entries.next() else {
             return false;
         };
-        put_entry(&entry, out);
+        put_row(self.session.volume(), &entry, out);
         true
     }
 
-    /// How many entries of the last result weren't given yet. It takes no memory.
-    pub fn entries_left(&self) -> usize
-        ensures { result ≡ length (holds self.now).entries }
+    /// Which slots have something to read: a word with a bit for each slot, for slot k the one at
+    /// k - 1. A bit is set just where `read` would write a message or the mark. It takes no memory.
+    pub fn ready(&self) -> u64
+        ensures { TellsSlots (holds self.now) result }
     {
-        self.entries.len()
+        self.session.ready()
+    }
+
+    /// Leaves a slot without its rebuilt result. It takes no memory.
+    pub fn forget(&mut self, slot: u64)
+        ensures { holds self.new ≡ forgotten (holds self.old) slot }
+    {
+        self.session.forget(slot);
     }
 }
 
-// Writes an entry.
-fn put_entry(entry: &Entry, out: &mut EntryOut)
-    ensures { out.new ≡ entry_after entry.now out.old }
+// Writes an entry of a result.
+fn put_row(volume: &Volume, entry: &Entry, out: &mut RowOut)
+    ensures { out.new ≡ row_after volume.now entry.now out.old }
 {
     out.dir = entry.dir;
     out.node = entry.node;
     out.name_size = put_text(&mut out.name, entry.name.as_str().as_bytes());
+    match volume.entry(entry.node) {
+        Ok(there) => {
+            out.size = there.size();
+            out.time = there.time();
+            out.kind = number_of_kind(there.kind());
+        }
+        Err(_) => {
+            out.size = 0;
+            out.time = 0;
+            out.kind = 2;
+        }
+    }
 }
 
 // Writes what was taken, and answers the status.
@@ -195,11 +217,9 @@ fn put_opcode(op: &Opcode, out: &mut MessageOut)
       from_name = written (from_name_of op.now) out.old.from_name;
     } }
 {
-    out.from_dir = 0;
-    out.from_name_size = 0;
     match op {
-        Opcode::Created => out.op = 1,
-        Opcode::Removed => out.op = 2,
+        Opcode::Created => put_no_place(1, out),
+        Opcode::Removed => put_no_place(2, out),
         Opcode::Moved {
             from_dir,
             from_name,
@@ -210,6 +230,20 @@ fn put_opcode(op: &Opcode, out: &mut MessageOut)
             out.from_name_size = put_text(&mut out.from_name, name);
         }
     }
+}
+
+// Writes that an entry has come from no place, or has gone.
+fn put_no_place(op: u32, out: &mut MessageOut)
+    ensures { out.new ≡ record out.old {
+      op = op;
+      from_dir = 0;
+      from_name_size = 0;
+      from_name = written [] out.old.from_name;
+    } }
+{
+    out.op = op;
+    out.from_dir = 0;
+    out.from_name_size = put_text(&mut out.from_name, b"");
 }
 
 // Writes the mark of a subscription.
@@ -240,8 +274,8 @@ fn put_bare(what: u32, out: &mut MessageOut)
     out.op = 0;
     out.cause = 0;
     out.last = false;
-    out.name_size = 0;
-    out.from_name_size = 0;
+    out.name_size = put_text(&mut out.name, b"");
+    out.from_name_size = put_text(&mut out.from_name, b"");
 }
 
 // Writes the last change of a subscription that was ended, and answers the status.

@@ -1,4 +1,4 @@
-//! What calls write for their caller, in C's layout.
+//! What calls write for their caller, in C's layout. A name and a text have a NUL after them.
 
 /// The effect of a change: its number, and the node that it created or named.
 #[repr(C)]
@@ -35,14 +35,18 @@ pub struct RebuiltOut {
     pub settled: bool,
 }
 
-/// An entry of a result: its folder, its node and its name.
+/// An entry of a result: its folder, its node and its name, and its kind (0 a file, 1 a folder, 2
+/// for a node that is gone), size and time as the volume has them when it is given.
 #[repr(C)]
 #[derive(Drop)]
-pub struct EntryOut {
+pub struct RowOut {
     pub dir: u64,
     pub node: u64,
+    pub size: u64,
+    pub time: i64,
+    pub kind: u32,
     pub name_size: usize,
-    pub name: [u8; 255],
+    pub name: [u8; 256],
 }
 
 /// What a read gave. `what`: 0 nothing, 1 a message, 2 the mark, 3 the mark was read before.
@@ -61,8 +65,8 @@ pub struct MessageOut {
     pub last: bool,
     pub name_size: usize,
     pub from_name_size: usize,
-    pub name: [u8; 255],
-    pub from_name: [u8; 255],
+    pub name: [u8; 256],
+    pub from_name: [u8; 256],
 }
 
 /// An entry: its place, its kind (0 a file, 1 a folder), its size and time, and how many attributes
@@ -77,7 +81,7 @@ pub struct InfoOut {
     pub kind: u32,
     pub attr_count: usize,
     pub name_size: usize,
-    pub name: [u8; 255],
+    pub name: [u8; 256],
 }
 
 /// An attribute: its type, its number as `whole` or `natural` or its text, and its name.
@@ -89,6 +93,6 @@ pub struct AttrOut {
     pub natural: u64,
     pub name_size: usize,
     pub text_size: usize,
-    pub name: [u8; 255],
-    pub text: [u8; 4096],
+    pub name: [u8; 256],
+    pub text: [u8; 4097],
 }

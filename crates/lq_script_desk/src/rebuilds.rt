@@ -95,8 +95,8 @@ pub fn follow(alloc: Global, rebuilds: &mut Vec<Option<IndexedRebuild>>, slot: u
     }
 }
 
-// Puts a slot's result at its index, or removes it.
-fn put(rebuilds: &mut Vec<Option<IndexedRebuild>>, slot: u64, rebuild: Option<IndexedRebuild>)
+/// Puts a slot's result at its index, or removes it.
+pub fn put(rebuilds: &mut Vec<Option<IndexedRebuild>>, slot: u64, rebuild: Option<IndexedRebuild>)
     ensures { rebuilds.new.items ≡ with_fold rebuilds.old.items slot rebuild }
 {
     if slot == 0 || slot > rebuilds.len() as u64 {

@@ -1,5 +1,5 @@
 """Talks to lq, in a process or in this one. A window has a live query."""
-import concurrent.futures, io, json, subprocess, sys
+import io, json, subprocess, sys
 
 from . import ENDED, UNUSABLE, Trouble
 
@@ -46,9 +46,7 @@ class Process:
 
 
 class Library:
-    """lq in this process, by the Python module. There is no pipe, and nothing that could end.
-
-    A volume is used on one thread, and a page asks on many. So it has a thread of its own."""
+    """lq in this process, by the Python module. There is no pipe, and nothing that could end."""
 
     pipe = None
 
@@ -57,11 +55,10 @@ class Library:
             import yazgoulm
         except ImportError as error:
             raise Trouble(f"the library can't be loaded: {error}", UNUSABLE) from None
-        self.name, self.thread = yazgoulm.__name__, concurrent.futures.ThreadPoolExecutor(1)
-        self.volume = self.thread.submit(yazgoulm.Volume).result()
+        self.name, self.volume = yazgoulm.__name__, yazgoulm.Volume()
 
     def answer(self, line):
-        return self.thread.submit(self.volume.answer, line).result()
+        return self.volume.answer(line)
 
 
 class Server:

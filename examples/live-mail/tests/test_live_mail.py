@@ -90,11 +90,11 @@ class LiveMail(unittest.TestCase):
                 self.mail.act()
                 if number % 200 == 199:
                     mirror.look()
-                    opened = {formula: folder.query for formula, folder in folders.items()}
+                    opened = {formula: folder.query.at for formula, folder in folders.items()}
                     for formula, folder in folders.items():
                         for sign, subject in folder.follow():
                             (rows[formula].add if sign == "+" else rows[formula].remove)(subject)
-                        ends += folder.query is not opened[formula]
+                        ends += folder.query.at != opened[formula]
                     self.assert_shows({formula: [*folder.rows.values()] for formula, folder in folders.items()})
             self.assertGreater(ends, 0)
             self.assert_shows(rows)

@@ -1,7 +1,7 @@
 """The relay: one volume, which takes the changes in order, and its windows."""
 import json
 
-from yazgoulm import ROOT, NoMemory, Refused, Volume
+from yazgoulm import ROOT, BadQuery, NoMemory, Refused, Volume
 
 from . import ENDED, Trouble
 from .changes import BAD_LINE, is_change, refusal
@@ -132,8 +132,10 @@ class Relay:
             return BAD_LINE
         except NoMemory:
             raise
+        except BadQuery as fault:
+            return {"code": fault.code, "error": f"{fault.name} at {fault.place}"}
         except Refused as refused:
-            return {"code": refused.code, "error": str(refused)}
+            return {"code": refused.code, "error": refused.name}
         if window is None:
             self.drop(name, records, ended)
             return {}

@@ -20,7 +20,7 @@ class Window:
 
     def __init__(self, volume, number, formula, opened, shift, far, seq=0, latest=None):
         self.number, self.formula, self.opened, self.names = number, formula, opened, []
-        self.query = volume.query(formula, backlog=BACKLOG, moved=True)
+        self.query = volume.open(formula, BACKLOG, moved=True, on_overrun="mark")
         self.shift, self.base, self.seq, self.latest = shift, seq, seq, latest
         self.change = self.query.at + shift
         self.far = self.since = far
@@ -43,7 +43,7 @@ class Window:
         fields = {name: value for name, value in message._asdict().items() if value is not None}
         self.seq = fields["seq"] = message.seq + self.base
         self.change = fields["change"] = message.change + self.shift
-        self.latest = to_json({**fields, "what": "B_QUERY_UPDATE"})
+        self.latest = to_json({**fields, "op": str(message.op), "what": "B_QUERY_UPDATE"})
         return {"message": self.latest}
 
     def opening(self):
@@ -53,7 +53,7 @@ class Window:
 
     def end(self, change):
         """Ends the query. Returns its mark."""
-        self.query.close()
+        self.query.drop()
         mark = {"what": "END", "cause": "closed", "change": change, "seq": self.seq + 1}
         return {"mark": to_json(mark)}
 

@@ -122,7 +122,7 @@ class Load(Case):
         for client, change, _ in told:
             wanted[change].add(self.asked[client][1])
         reference, found = Reference(), {}
-        queries = {formula: reference.volume.query(formula, backlog=3, moved=True) for formula in asked}
+        queries = {formula: reference.volume.open(formula, backlog=3, moved=True) for formula in asked}
         written, changes = {formula: [] for formula in asked}, []
         for line, reply in zip([None, *lines], [None, *replies]):
             if line is not None:
@@ -131,7 +131,7 @@ class Load(Case):
             for formula in wanted.pop(changes[-1], ()):
                 found[changes[-1], formula] = digest(reference.rows(formula))
             for formula, query in queries.items():
-                written[formula] += [(it.change, it.op, it.dir, it.node, it.name) for it in query]
+                written[formula] += [(it.change, str(it.op), it.dir, it.node, it.name) for it in query]
         wrong = [it for it in told if found[it[1], self.asked[it[0]][1]] != it[2]]
         self.assertEqual(wrong, [])
         last = {client: it for client, *it in told}

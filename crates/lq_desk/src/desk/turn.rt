@@ -4,6 +4,7 @@ ghost use Rattle.lq_value.specs.declared.refusal.Refusal.TheVariants.{NoMemory};
 ghost use Rattle.lq_desk_world.specs.World.{World};
 ghost use Rattle.lq_desk_world.specs.Events.{Refused};
 ghost use Rattle.lq_desk.specs.Kept.{Shows};
+ghost use Rattle.lq_desk.specs.Ready.{TellsReady};
 ghost use Rattle.lq_desk.specs.Reply.{answer_of};
 ghost use Rattle.lq_desk.specs.Turn.{TurnRuns, TurnStep, kept_turn_outcome};
 
@@ -51,5 +52,14 @@ impl Desk {
             | Event::Notice(_)
             | Event::Finish(_) => self.carry_out(event),
         }
+    }
+
+    /// Which slots have something to read: a word with a bit for each slot, for slot k the one at
+    /// k - 1. A bit is set just where `turn` of a read would give a message or the mark. It takes no
+    /// memory.
+    pub fn ready(&self) -> u64
+        ensures { TellsReady self.now result }
+    {
+        self.slots.parcels()
     }
 }

@@ -3,12 +3,13 @@ ghost use Rattle.std.specs.Prelude.{◌≡◌, IfOk};
 ghost use Rattle.std.specs.Option.{option_map};
 ghost use Rattle.lq_value.specs.Refusal.{FailsOnlyForMemory};
 ghost use Rattle.lq_desk.specs.Kept.{ShowsSome};
+ghost use Rattle.lq_desk.specs.Ready.{TellsReady};
 ghost use Rattle.lq_desk.specs.Reply.{answer_of};
 ghost use Rattle.lq_script_desk.specs.Folds.{fold_at};
-ghost use Rattle.lq_script_desk.specs.Keeps.{first_kept, keeps};
+ghost use Rattle.lq_script_desk.specs.Keeps.{first_kept, keeps, without_fold};
 ghost use Rattle.lq_script_desk.specs.Turned.{Turned};
 
-use crate::rebuilds::{follow, no_rebuilds, rebuild_at};
+use crate::rebuilds::{follow, no_rebuilds, put, rebuild_at};
 use crate::session::{Session, slot_of};
 use lq_desk::{Desk, Event, Reply};
 use lq_update::{IndexedRebuild, results_rise};
@@ -60,5 +61,19 @@ impl Session {
         let reply = self.desk.turn(event);
         follow(self.alloc, &mut self.rebuilds, slot_of(event), &reply);
         reply
+    }
+
+    /// Which slots have something to read, as by `Desk::ready`. It takes no memory.
+    pub fn ready(&self) -> u64
+        ensures { TellsReady (keeps self.now).core result }
+    {
+        self.desk.ready()
+    }
+
+    /// Drops the rebuilt result of a slot, if it has one. It takes no memory.
+    pub fn forget(&mut self, slot: u64)
+        ensures { keeps self.new ≡ without_fold (keeps self.old) slot }
+    {
+        put(&mut self.rebuilds, slot, None);
     }
 }

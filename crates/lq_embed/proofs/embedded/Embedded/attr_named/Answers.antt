@@ -1,6 +1,5 @@
-use Rattle.std.proofs.Common.{◌≡◌, ◌∙◌, List, ℕ, None, sym, ap, subst, refl, inl}
+use Rattle.std.proofs.Common.{◌≡◌, ◌∙◌, List, ℕ, None, subst, refl, inl}
 use Rattle.std.specs.Prelude.{unwrap_or}
-use Rattle.lq_value.specs.declared.refusal.Refusal.{Refusal}
 use Rattle.lq_value.specs.declared.refusal.Refusal.TheVariants.{NoMemory, NotUtf8}
 use Rattle.lq_embed.specs.Attrs.{attr_out, attr_status, attr_with_name}
 use Rattle.lq_embed.specs.State.{holds, volume_in}

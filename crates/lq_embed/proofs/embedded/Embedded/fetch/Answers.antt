@@ -1,4 +1,4 @@
-use Rattle.std.proofs.Common.{◌∙◌, ℕ, List, refl, sym, ap}
+use Rattle.std.proofs.Common.{◌∙◌, ℕ, List, sym, ap}
 use Rattle.lq_script_request.specs.Request.{asks_fetch, question_for}
 use Rattle.lq_embed.proofs.CallLemmas.{fetches-as, fetches-made, fetches-not_utf8, if-not_utf8, if-utf8}
 use Rattle.lq_embed.proofs.embedded.Embedded.fetch.Goals as goal

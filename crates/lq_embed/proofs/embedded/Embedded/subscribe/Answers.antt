@@ -1,4 +1,4 @@
-use Rattle.std.proofs.Common.{◌∙◌, ℕ, List, refl, sym, ap}
+use Rattle.std.proofs.Common.{◌∙◌, ℕ, List, sym, ap}
 use Rattle.lq_script_request.specs.Request.{asks_open, question_for}
 use Rattle.lq_desk.specs.Reply.{answer_of}
 use Rattle.lq_embed.proofs.CallLemmas.{opens-as, opens-made, opens-not_utf8, if-not_utf8, if-utf8}

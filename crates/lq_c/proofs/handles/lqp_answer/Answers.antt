@@ -2,7 +2,7 @@ use Rattle.std.proofs.Common.{ap, sym}
 use Rattle.lq_embed.specs.State.{holds}
 use Rattle.lq_c.specs.declared.served.Served.{Served}
 use Rattle.lq_c.proofs.LineLemmas.{line-answered}
-use Rattle.lq_c.proofs.handles.lq_answer.Goals as goal
+use Rattle.lq_c.proofs.handles.lqp_answer.Goals as goal
 
 pub returns-clause-history : goal.returns-clause-history
 returns-clause-history c = line-answered (holds c.served_mut.result.now.embedded)

@@ -1,0 +1,30 @@
+"""Live queries over a tree of files with typed attributes, in this process: the C library of Yazgoulm.
+
+    with Volume() as volume, volume.open("size>100") as query:
+        volume.create("a", size=200)
+        for message in query:
+            print(message)
+
+A call that is refused raises Refused, and its act isn't done. Numbers are whole, and names are str; those of files on
+disk may be bytes or paths. Other arguments raise TypeError or ValueError, with the argument's name.
+
+The calls go by an extension in C, where there is one for this Python (`make library` builds it where there is a
+compiler), or else by ctypes, at some eight times the cost. `backend` says which, and YAZGOULM_BACKEND in the
+environment wants one of the two. YAZGOULM_LIBRARY names the shared library. Without it the module looks beside itself,
+where a wheel, a clone and `make install` have it, and then asks the system."""
+from ._arguments import to_bytes, to_name
+from ._library import VERSION as __version__
+from ._library import backend
+from ._types import (
+    B_ENTRY_CREATED, B_ENTRY_MOVED, B_ENTRY_REMOVED, FILE, FOLDER, ROOT, Applied, Attr, Attribute, BadQuery, Cause,
+    Difference, Entry, Error, Exists, Formula, Info, Mark, Message, NoMemory, NotFound, Op, Opcode, Overrun, Place,
+    Refused, Result,
+)  # fmt: skip
+from ._volume import Query, Row, Rows, Volume
+
+__all__ = [
+    "B_ENTRY_CREATED", "B_ENTRY_MOVED", "B_ENTRY_REMOVED", "FILE", "FOLDER", "ROOT", "Applied", "Attr", "Attribute",
+    "BadQuery", "Cause", "Difference", "Entry", "Error", "Exists", "Formula", "Info", "Mark", "Message", "NoMemory",
+    "NotFound", "Op", "Opcode", "Overrun", "Place", "Query", "Refused", "Result", "Row", "Rows", "Volume",
+    "__version__", "backend", "to_bytes", "to_name",
+]  # fmt: skip

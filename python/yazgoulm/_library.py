@@ -1,0 +1,51 @@
+"""Finds the shared library, and chooses the way to call it."""
+import ctypes.util, os
+from typing import Any, Tuple
+
+VERSION = "0.1.0"
+
+
+def _found() -> str:
+    """The path of the shared library."""
+    here, named = os.path.dirname(os.path.realpath(__file__)), os.environ.get("YAZGOULM_LIBRARY")
+    beside = [f"{here}/{place}liblq.so" for place in ("", "../../", "../../crates/lq_c/out/")]
+    found = named or next(filter(os.path.exists, beside), None) or ctypes.util.find_library("lq")
+    if not found:
+        raise ImportError("no liblq.so was found: build it with tools/library, or set YAZGOULM_LIBRARY to its path")
+    return found
+
+
+def _by_extension(path: str) -> Any:
+    from . import _arguments, _native, _types  # type: ignore[attr-defined]
+
+    here = os.path.dirname(os.path.realpath(__file__))
+    for source in (f"{here}/_native.c", f"{here}/../../include/lq.h"):  # a clone alone has them
+        if os.path.exists(source) and os.path.getmtime(source) > os.path.getmtime(_native.__file__):
+            raise ImportError(f"{_native.__file__} is older than {source}: make library builds it")
+    _native.load(path, _arguments, _types)
+    return _native.Handle
+
+
+def _by_ctypes(path: str) -> Any:
+    from . import _by_ctypes
+
+    _by_ctypes.load(path)
+    return _by_ctypes.Handle
+
+
+def _chosen() -> Tuple[str, Any]:
+    """The name of the way, and its handles."""
+    path, wanted = _found(), os.environ.get("YAZGOULM_BACKEND")
+    ways = {"extension": _by_extension, "ctypes": _by_ctypes}
+    if wanted is not None and wanted not in ways:
+        raise ImportError(f'YAZGOULM_BACKEND is {wanted!r}, and can be "extension" or "ctypes"')
+    if wanted:
+        return wanted, ways[wanted](path)
+    try:
+        return "extension", _by_extension(path)
+    except ImportError:
+        return "ctypes", _by_ctypes(path)
+
+
+#: How the library is called: "extension" or "ctypes".
+backend, Handle = _chosen()

@@ -1,0 +1,221 @@
+"""What the module gives: numbers with names, tuples, and exceptions."""
+import enum, errno, reprlib
+from typing import Any, Iterable, List, NamedTuple, Optional, Tuple, Union
+
+ROOT = 1
+FILE, FOLDER = "file", "folder"
+
+# The types of an attribute, by the numbers of Be's TypeConstants.h, which spell the names.
+TYPES = {int.from_bytes(name.encode(), "big"): name for name in ("CSTR", "LONG", "LLNG", "ULNG", "ULLG")}
+
+
+class _Word(enum.IntEnum):
+    """A number that is written as the word that a script has for it."""
+
+    def __str__(self) -> str:
+        return self.name
+
+    def __repr__(self) -> str:
+        return str(self)
+
+    def __format__(self, form: str) -> str:
+        return format(str(self), form)
+
+
+class Opcode(_Word):
+    """What a message says of its entry, by the numbers of BeOS: it entered the result, left it, or moved in it."""
+
+    B_ENTRY_CREATED, B_ENTRY_REMOVED, B_ENTRY_MOVED = range(1, 4)
+
+
+B_ENTRY_CREATED, B_ENTRY_REMOVED, B_ENTRY_MOVED = Opcode
+
+
+class Cause(_Word):
+    """Why a query ended. As a text it is the word of a script: "closed", "hung_up" or "overrun"."""
+
+    CLOSED, HUNG_UP, OVERRUN = range(1, 4)
+
+    def __str__(self) -> str:
+        return self.name.lower()
+
+
+class Op(enum.IntEnum):
+    """An operator among the pushes of a query: it takes what it needs from those before it."""
+
+    EQ, NE, GT, GE, LT, LE, CONTAINS, BEGINS_WITH, ENDS_WITH, AND, OR, NOT = range(1, 13)
+
+
+class Attr(NamedTuple):
+    """A name of an attribute, among the pushes of a query."""
+
+    name: str
+
+
+# A formula, or pushes in postfix order: [Attr("size"), 100, Op.GT] is size>100.
+Formula = Union[str, Iterable[Union[Attr, str, int, Op]]]
+
+
+class Applied(NamedTuple):
+    """The effect of a change: its number, and the node that it created or named."""
+
+    change: int
+    node: int
+
+
+class Place(NamedTuple):
+    """Where an entry is: its folder's node, its own node, and its name."""
+
+    dir: int
+    node: int
+    name: str
+
+
+class Entry(NamedTuple):
+    """An entry that was found: its place; `kind` "file" or "folder", `size` in bytes, `time` in seconds since 1970."""
+
+    dir: int
+    node: int
+    name: str
+    kind: str
+    size: int
+    time: int
+
+
+class Attribute(NamedTuple):
+    """An attribute: `type` is "CSTR" with a str, or "LONG", "LLNG", "ULNG" or "ULLG" with an int."""
+
+    name: str
+    type: str
+    value: Union[str, int]
+
+
+class Info(NamedTuple):
+    """An entry with all that it has: `size` in bytes, `time` in seconds since 1970, `kind` "file" or "folder"."""
+
+    dir: int
+    node: int
+    name: str
+    kind: str
+    size: int
+    time: int
+    attributes: List[Attribute]
+
+
+class Message(NamedTuple):
+    """What one change did to one result. `last` is true for the final message of its change.
+
+    `op` is B_ENTRY_CREATED, B_ENTRY_REMOVED or B_ENTRY_MOVED; the last alone has `from_dir` and `from_name`."""
+
+    seq: int
+    change: int
+    last: bool
+    op: Opcode
+    dir: int
+    node: int
+    name: str
+    from_dir: Optional[int]
+    from_name: Optional[str]
+
+
+class Mark(NamedTuple):
+    """The end of a query: why it ended, and the last change that its messages cover."""
+
+    seq: int
+    change: int
+    cause: Cause
+
+
+class Result(NamedTuple):
+    """The result of a query by its opening and the messages read so far, after the change of the latest.
+
+    `settled` is true where that message was the last of its change, so that this is the query's result then."""
+
+    change: int
+    settled: bool
+    entries: List[Place]
+
+
+class Difference(NamedTuple):
+    """How a new opening differs from what a query showed before, by rising node.
+
+    `moved` has where an entry was and where it is, if these differ."""
+
+    removed: List[Place]
+    created: List[Place]
+    moved: List[Tuple[Place, Place]]
+
+
+class Error(Exception):
+    """What this module raises by itself: Refused, or Overrun."""
+
+
+class Refused(Error):
+    """A call was refused, and nothing has changed. `code` and `name` are those of the table of refusals.
+
+    `call` is the name of the call, and `arguments` what it was given."""
+
+    def __init__(self, code: int, name: str, call: str = "", arguments: Tuple[Any, ...] = ()) -> None:
+        self.code, self.name, self.call, self.arguments = code, name, call, tuple(arguments)
+        self.args = code, name, call, self.arguments
+
+    def __str__(self) -> str:
+        return f"{self.name}: {self.call}({', '.join(map(reprlib.repr, self.arguments))})"
+
+    def __reduce__(self) -> Tuple[Any, ...]:
+        return type(self), (self.code, self.name, self.call, self.arguments)
+
+
+class NotFound(Refused, KeyError):
+    """NoNode, NoEntry or NoAttr: what was named isn't there."""
+
+
+class Exists(Refused, FileExistsError):
+    """The folder has an entry of this name."""
+
+    def __init__(self, code: int, name: str, call: str = "", arguments: Tuple[Any, ...] = ()) -> None:
+        super().__init__(code, name, call, arguments)
+        self.errno, self.strerror = errno.EEXIST, name
+
+
+class NoMemory(Refused, MemoryError):
+    """There is no memory for the call."""
+
+
+class BadQuery(Refused, ValueError):
+    """A formula can't be read. `place` is the byte of its leftmost fault, in UTF-8; of pushes it is the number of those
+    before the one that doesn't fit."""
+
+    def __init__(self, code: int, name: str, call: str = "", arguments: Tuple[Any, ...] = (), place: int = 0) -> None:
+        super().__init__(code, name, call, arguments)
+        self.place = place
+
+    def __str__(self) -> str:
+        return f"{self.name} at {self.place}{super().__str__()[len(self.name):]}"
+
+    def __reduce__(self) -> Tuple[Any, ...]:
+        kind, given = super().__reduce__()
+        return kind, (*given, self.place)
+
+
+class Overrun(Error):
+    """More messages came than the query's backlog has room for, so it has ended. `change` is the last change that the
+    messages cover, and `formula` the query's. `Query.reopen` goes on."""
+
+    def __init__(self, change: int, formula: Formula) -> None:
+        super().__init__(change, formula)
+        self.change, self.formula = change, formula
+
+    def __str__(self) -> str:
+        return f"the messages of {reprlib.repr(self.formula)} end after change {self.change}: the backlog was full"
+
+
+_REFUSALS = {2: NotFound, 4: NotFound, 5: Exists, 10: NotFound, 15: NoMemory}
+_BAD_QUERY = 20
+
+
+def refusal(code: int, name: str, place: int, call: str, arguments: Tuple[Any, ...]) -> Refused:
+    """The exception for a status."""
+    if code == _BAD_QUERY:
+        return BadQuery(code, name, call, arguments, place)
+    return _REFUSALS.get(code, Refused)(code, name, call, arguments)

@@ -1,0 +1,87 @@
+#!/usr/bin/env python3
+"""Builds the Python package, by the standard library alone.
+
+    tools/python_package.py extension      python/yazgoulm/_native..so for this Python, where it isn't newer than its
+                                           sources. 77: there is no compiler, or no Python.h; ctypes serves then
+    tools/python_package.py wheel FOLDER   a wheel for this Python, with liblq.so inside; prints its name
+
+It is the build backend of pyproject.toml too, so `pip install .` works without a download. CC names the compiler."""
+import base64, glob, hashlib, os, shutil, subprocess, sys, sysconfig, zipfile
+
+TOP = os.path.dirname(os.path.dirname(os.path.realpath(__file__)))
+PACKAGE, LIBRARY = f"{TOP}/python/yazgoulm", f"{TOP}/crates/lq_c/out/liblq.so"
+SOURCES = f"{PACKAGE}/_native.c", f"{TOP}/include/lq.h"
+NATIVE = f"{PACKAGE}/_native{sysconfig.get_config_var('EXT_SUFFIX')}"
+
+
+def build_extension():
+    """Builds the extension where it is missing or old. Returns why there is none, or None."""
+    compiler, headers = os.environ.get("CC") or "cc", sysconfig.get_path("include")
+    if os.path.exists(NATIVE) and all(os.path.getmtime(it) <= os.path.getmtime(NATIVE) for it in SOURCES):
+        return None
+    if not shutil.which(compiler):
+        return f"there is no {compiler}"
+    if not os.path.exists(f"{headers}/Python.h"):
+        return f"{headers} has no Python.h"
+    new = f"{NATIVE}.{os.getpid()}"
+    words = ["-std=gnu99", "-O2", "-fPIC", "-shared", "-Wall", "-Wextra", "-Werror", f"-I{TOP}/include", f"-I{headers}"]
+    subprocess.run([compiler, *words, SOURCES[0], "-o", new, "-ldl"], check=True)
+    os.replace(new, NATIVE)
+    return None
+
+
+def facts():
+    """The project's fields in pyproject.toml that are texts."""
+    with open(f"{TOP}/pyproject.toml", encoding="utf-8") as file:
+        lines = file.read().partition("[project]\n")[2].splitlines()
+    return {name: value.strip('"') for name, _, value in (line.partition(" = ") for line in lines) if value[:1] == '"'}
+
+
+def build_wheel(wheel_directory, config_settings=None, metadata_directory=None):
+    """Writes the wheel into a folder, and returns its name."""
+    subprocess.run([f"{TOP}/tools/library"], check=True, stdout=sys.stderr)
+    missing = build_extension()
+    if missing:
+        print(f"python_package: {missing}, so the wheel calls the library by ctypes", file=sys.stderr)
+    python = "py3-none" if missing else "cp{0}{1}-cp{0}{1}".format(*sys.version_info)
+    tag = f"{python}-{sysconfig.get_platform().replace('-', '_').replace('.', '_')}"
+    it, files = facts(), {}
+    for path in sorted([*glob.glob(f"{PACKAGE}/*.py"), f"{PACKAGE}/py.typed", LIBRARY, *([] if missing else [NATIVE])]):
+        with open(path, "rb") as file:
+            files[f"yazgoulm/{os.path.basename(path)}"] = file.read()
+    info = f"yazgoulm-{it['version']}.dist-info"
+    files[f"{info}/METADATA"] = (
+        f"Metadata-Version: 2.1\nName: {it['name']}\nVersion: {it['version']}\nSummary: {it['description']}\n"
+        f"Requires-Python: {it['requires-python']}\n"
+    ).encode()
+    files[f"{info}/WHEEL"] = f"Wheel-Version: 1.0\nGenerator: yazgoulm\nRoot-Is-Purelib: false\nTag: {tag}\n".encode()
+    record = ""
+    for name, bytes_of in files.items():
+        hashed = base64.urlsafe_b64encode(hashlib.sha256(bytes_of).digest()).rstrip(b"=").decode()
+        record += f"{name},sha256={hashed},{len(bytes_of)}\n"
+    files[f"{info}/RECORD"] = f"{record}{info}/RECORD,,\n".encode()
+    wheel = f"yazgoulm-{it['version']}-{tag}.whl"
+    os.makedirs(wheel_directory, exist_ok=True)
+    with zipfile.ZipFile(os.path.join(wheel_directory, wheel), "w", zipfile.ZIP_DEFLATED) as file:
+        for name, bytes_of in files.items():
+            entry = zipfile.ZipInfo(name, (1980, 1, 1, 0, 0, 0))
+            entry.external_attr = (0o755 if name.endswith(".so") else 0o644) << 16
+            file.writestr(entry, bytes_of, zipfile.ZIP_DEFLATED)
+    return wheel
+
+
+def main(words):
+    if words == ["extension"]:
+        missing = build_extension()
+        if missing:
+            print(f"python_package: {missing}, so no extension was built", file=sys.stderr)
+            return 77
+    elif len(words) == 2 and words[0] == "wheel":
+        print(os.path.join(words[1], build_wheel(words[1])))
+    else:
+        sys.exit(__doc__)
+    return 0
+
+
+if __name__ == "__main__":
+    sys.exit(main(sys.argv[1:]))
