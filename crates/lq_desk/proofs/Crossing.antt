@@ -3,11 +3,12 @@
 use denote.RattleType.{RattleType}
 use denote.Param.Send.{IsSend, sendable, view_send}
 use denote.Param.SendFields.{declared_send}
-use Rattle.std.proofs.Crossing.{crosses, Vec-send}
+use Rattle.std.proofs.Crossing.{Deque-send, Vec-send, crosses}
 use Rattle.std.specs.contracts.alloc.Global as global
 use Rattle.std.specs.contracts.impls.GlobalAllocator.TheImpl.{ghosts as ghosts_of_global}
 use Rattle.std.specs.contracts.option.Option as option
 use Rattle.std.specs.contracts.vec.Vec as vec
+use Rattle.lq_update.specs.contracts.parcel.Parcel as parcel
 use Rattle.lq_volume.specs.contracts.volume.Volume as volume
 use Rattle.lq_desk_sub.specs.contracts.sub.Sub as sub
 use Rattle.lq_desk.specs.contracts.slot.Slot as slot
@@ -18,10 +19,16 @@ use Rattle.lq_desk.specs.contracts.desk.Desk as desk
 use Rattle.lq_desk.specs.contracts.desk.Desk.TheInside as in_desk
 
 -- a subscription with its port
-slot_send : IsSend sub.the_row → IsSend slot.the_row
-slot_send s =
+slot_send : IsSend sub.the_row → IsSend parcel.the_row → IsSend slot.the_row
+slot_send s p =
     view_send in_slot.the_row _ _ _ _
-    (declared_send in_slot.the_type (s, search (sendable, crosses) depth 30))
+    (declared_send in_slot.the_type (
+      s,
+      (
+        search sendable depth 12,
+        (Deque-send parcel.the_row p, (search sendable depth 12, tt)),
+      ),
+    ))
 
 -- a list of places that may be empty
 module _ (T : RattleType) (s : IsSend T) where
@@ -39,8 +46,14 @@ slots_send s =
     (places_send slot.the_row s, search (sendable, crosses) depth 30))
 
 -- a desk
-pub desk_send : IsSend sub.the_row → IsSend volume.the_row → IsSend desk.the_row
-desk_send s v =
+pub desk_send : IsSend sub.the_row → IsSend parcel.the_row → IsSend volume.the_row
+    → IsSend desk.the_row
+desk_send s p v =
     view_send in_desk.the_row _ _ _ _
-    (declared_send in_desk.the_type
-    (search (sendable, crosses, v, slots_send (slot_send s)) depth 40))
+    (declared_send in_desk.the_type (
+      v,
+      (
+        search sendable depth 12,
+        (search (sendable, crosses) depth 20, (slots_send (slot_send s p), tt)),
+      ),
+    ))

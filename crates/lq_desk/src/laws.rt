@@ -5,7 +5,7 @@ ghost use Rattle.lq_desk.specs.contracts.desk.Desk as desks;
 
 use lq_desk_sub::Sub;
 use lq_desk_world::{lists_are_passed_on, runs_keep_worlds_fair};
-use lq_update::updates_join;
+use lq_update::{Parcel, updates_join};
 use lq_volume::{Volume, changes_are_counted};
 
 /// A desk's state answers each event as any world that it shows, and then shows the next world.
@@ -41,6 +41,7 @@ pub fn desks_may_be_sent()
 {
     // For the proof: what a desk is made of.
     sends::<Sub>();
+    sends::<Parcel>();
     sends::<Volume>();
 }
 
