@@ -15,4 +15,13 @@ pub embedded_send : IsSend session.the_row → IsSend scratch.the_row
     → IsSend (into_iter.the_row entry.the_row global.the_row ghosts_of_global)
     → IsSend stack.the_row → IsSend embedded.the_row
 embedded_send s x e t =
-    declared_send embedded.the_type (search (sendable, crosses, s, x, e, t) depth 40)
+    declared_send embedded.the_type (
+      search (sendable, crosses) depth 20,
+      (
+        s,
+        (
+          x,
+          (e, (search (sendable, crosses) depth 20, (t, (search sendable depth 12, tt)))),
+        ),
+      ),
+    )
