@@ -1,13 +1,13 @@
 """Arguments as the library takes them. What doesn't fit is refused by a sentence that names the argument."""
 import operator, os, re
-from typing import Any
+from typing import Any, Union
 
 # A byte that is no UTF-8: what Python decodes it to, and the private character that stands for it (docs/GUIDE.md).
 _PRIVATE = {0xDC00 + byte: 0xF700 + byte for byte in range(0x80, 0x100)}
 _BYTES = {private: escaped for escaped, private in _PRIVATE.items()}
 
 
-def to_name(raw: "bytes | str | os.PathLike[Any]") -> str:
+def to_name(raw: Union[bytes, str, "os.PathLike[Any]"]) -> str:
     """A name on disk as the name of an entry: UTF-8 as it is, and a byte that is no UTF-8 as a private character.
 
     The byte b becomes the character U+F700 + b. A character that is itself one of these becomes one for each of its

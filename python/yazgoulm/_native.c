@@ -67,8 +67,9 @@ static PyObject *load(PyObject *Py_UNUSED(module), PyObject *args) {
 
 /* ---- what is given ---- */
 
-/* A tuple of a class of _types.py. It takes the items, one of which may be null, with an exception set. */
-static PyObject *record(PyObject *class, Py_ssize_t count, PyObject *const items[]) {
+/* A tuple of a class of _types.py. It takes the items, one of which may be null, with an exception set. Where none of
+   them can refer to it, the collector of cycles needn't look at it: a fetch may give millions. */
+static PyObject *record(PyObject *class, bool is_flat, Py_ssize_t count, PyObject *const items[]) {
     PyTypeObject *type = (PyTypeObject *)class;
     bool is_whole = true;
 #if PY_VERSION_HEX >= 0x030E0000
@@ -91,11 +92,12 @@ static PyObject *record(PyObject *class, Py_ssize_t count, PyObject *const items
     tuple = given ? PyTuple_Type.tp_new(type, given, NULL) : NULL;
     Py_XDECREF(given);
 #endif
+    if (is_flat && tuple) PyObject_GC_UnTrack(tuple);
     return tuple;
 }
 
-#define RECORD(class, ...) \
-    record(class, sizeof((PyObject *[]){__VA_ARGS__}) / sizeof(PyObject *), (PyObject *[]){__VA_ARGS__})
+#define COUNT(...) (sizeof((PyObject *[]){__VA_ARGS__}) / sizeof(PyObject *))
+#define RECORD(class, ...) record(class, class != py_Info, COUNT(__VA_ARGS__), (PyObject *[]){__VA_ARGS__})
 
 static PyObject *same(PyObject *object) {
     Py_INCREF(object);

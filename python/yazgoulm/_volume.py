@@ -72,7 +72,7 @@ class Volume:
             woken = [it for it in self._waiting if it[0]._is_ready(ready)]
             self._waiting = [it for it in self._waiting if it not in woken]
             wake = self._wake if ready else None
-            self._is_due = bool(self._waiting or self._wake)
+            self._is_due = bool(self._waiting or self._wake or self._forgotten)
         for _, loop, future in woken:
             if not loop.is_closed():
                 loop.call_soon_threadsafe(_settle, future)
@@ -214,26 +214,39 @@ def _settle(future: Any) -> None:
         future.set_result(None)
 
 
+# What says where an entry is: what an opening gave, or the latest message of it.
+_Placed = Union[Place, Entry, Message]
+
+
+def _place(it: _Placed) -> Place:
+    return Place(it.dir, it.node, it.name)
+
+
 class Row:
     """An entry of a query's result, at the place that the messages read so far give it.
 
     `info` is what it shows beside: a change inside a result has no message, so who makes the change calls `refresh`."""
 
-    __slots__ = "_volume", "_info", "place"
+    __slots__ = "_volume", "_info", "_placed"
 
-    def __init__(self, volume: Volume, place: Place) -> None:
-        self._volume, self.place = volume, place
+    def __init__(self, volume: Volume, placed: _Placed) -> None:
+        self._volume, self._placed = volume, placed
         self._info: Optional[Info] = None
+
+    @property
+    def place(self) -> Place:
+        """Its folder's node, its node and its name."""
+        return _place(self._placed)
 
     @property
     def node(self) -> int:
         """Its node."""
-        return self.place.node
+        return self._placed.node
 
     @property
     def name(self) -> str:
         """Its name."""
-        return self.place.name
+        return self._placed.name
 
     @property
     def info(self) -> Optional[Info]:
@@ -247,7 +260,7 @@ class Row:
         """Looks the entry up again. True where `info` is another now; an entry that has gone keeps its last one."""
         old = self._info
         try:
-            self._info = self._volume.entry(self.place.node)
+            self._info = self._volume.entry(self.node)
         except NotFound:
             return False
         return self._info != old
@@ -263,23 +276,23 @@ class Rows(Mapping[int, Row]):
 
     def __init__(self, volume: Volume) -> None:
         self._volume = volume
-        self._places: Dict[int, Place] = {}
+        self._placed: Dict[int, _Placed] = {}
         self._rows: Dict[int, Row] = {}  # those that were asked for
 
     def __getitem__(self, node: int) -> Row:
         row = self._rows.get(node)
         if row is None:
-            row = self._rows[node] = Row(self._volume, self._places[node])
+            row = self._rows[node] = Row(self._volume, self._placed[node])
         return row
 
     def __contains__(self, node: object) -> bool:
-        return node in self._places
+        return node in self._placed
 
     def __iter__(self) -> Iterator[int]:
-        return iter(self._places)
+        return iter(self._placed)
 
     def __len__(self) -> int:
-        return len(self._places)
+        return len(self._placed)
 
     __reduce_ex__ = _no_copy
 
@@ -289,19 +302,29 @@ class Rows(Mapping[int, Row]):
     def _follow(self, it: Message) -> None:
         """Makes what a message says."""
         if it.op is B_ENTRY_REMOVED:
-            del self._places[it.node]
+            del self._placed[it.node]
             self._rows.pop(it.node, None)
         else:
-            place = self._places[it.node] = Place(it.dir, it.node, it.name)
+            self._placed[it.node] = it
             if it.node in self._rows:
-                self._rows[it.node].place = place
+                self._rows[it.node]._placed = it
 
-    def _begin(self, entries: List[Entry]) -> None:
-        """Has these entries alone. The rows of entries that it had before stay."""
-        self._places = {it.node: Place(it.dir, it.node, it.name) for it in entries}
-        self._rows = {node: row for node, row in self._rows.items() if node in self._places}
+    def _begin(self, entries: List[Entry]) -> Difference:
+        """Has these entries alone. Returns how they differ from those before; rows of entries in both stay."""
+        old, new = self._placed, {it.node: it for it in entries}
+        self._placed = new
+        self._rows = {node: row for node, row in self._rows.items() if node in new}
         for node, row in self._rows.items():
-            row.place = self._places[node]
+            row._placed = new[node]
+        both = [(_place(old[node]), _place(it)) for node, it in new.items() if node in old]
+        return Difference(
+            [_place(old[node]) for node in sorted(old.keys() - new.keys())],
+            [_place(it) for node, it in new.items() if node not in old],
+            [it for it in both if it[0] != it[1]],
+        )
+
+    def _in_order(self) -> List[Place]:
+        return [_place(self._placed[node]) for node in sorted(self._placed)]
 
 
 class Query:
@@ -325,15 +348,15 @@ class Query:
         self.rows = Rows(volume)
         self._begin()
 
-    def _begin(self) -> None:
+    def _begin(self) -> Difference:
         volume = self._volume
         with volume._lock:
             volume._free_forgotten()
             self.slot, self.at, self.entries = volume._handle.open(self.formula, self._backlog, self._moved)
             volume._queries[self.slot] = weakref.ref(self)
             self.mark: Optional[Mark] = None
-            self._change, self._is_settled = self.at, True
-            self.rows._begin(self.entries)
+            self._latest: Optional[Message] = None
+            return self.rows._begin(self.entries)
 
     def _own(self) -> int:
         if self.slot is None:
@@ -347,30 +370,27 @@ class Query:
     def read(self) -> Optional[Message]:
         """The next message, or None where none waits or the query has ended: `mark` is then there. Overrun: it has
         ended, since more messages came than its backlog has room for, and those from before were read."""
-        volume = self._volume
-        with volume._lock:
-            slot = self._own()
-            if self.mark is None:
-                it = volume._handle.read(slot)
-                if it is None:
-                    return None
-                if type(it) is Message:
-                    self.rows._follow(it)
-                    self._change, self._is_settled = it.change, it.last
-                    return it
-                self.mark = it
-            if self.mark.cause is Cause.OVERRUN and self._on_overrun == "raise":
-                raise Overrun(self.mark.change, self.formula)
-            return None
+        return next(self, None)
 
     def __iter__(self) -> "Query":
         return self
 
     def __next__(self) -> Message:
-        message = self.read()
-        if message is None:
+        volume = self._volume
+        with volume._lock:
+            if self.mark is None:
+                it = volume._handle.read(self.slot or self._own())
+                if type(it) is Message:
+                    self._latest = it
+                    self.rows._follow(it)
+                    return it
+                if it is None:
+                    raise StopIteration
+                self.mark = it
+            self._own()
+            if self.mark.cause is Cause.OVERRUN and self._on_overrun == "raise":
+                raise Overrun(self.mark.change, self.formula)
             raise StopIteration
-        return message
 
     def __aiter__(self) -> "Query":
         return self
@@ -402,8 +422,9 @@ class Query:
         """The result as the messages read so far make it, by rising node."""
         with self._volume._lock:
             self._own()
-            places = self.rows._places
-            return Result(self._change, self._is_settled, [places[node] for node in sorted(places)])
+            latest = self._latest
+            change, is_settled = (latest.change, latest.last) if latest else (self.at, True)
+            return Result(change, is_settled, self.rows._in_order())
 
     def hang_up(self) -> None:
         """Asks for the end, as a reader does; the next change, read or close carries it out."""
@@ -433,31 +454,32 @@ class Query:
         """Ends the query, drops what wasn't read, and frees its slot. It may be called again."""
         volume = self._volume
         with volume._lock:
-            if self.slot is not None:
-                if volume._handle.is_open():
-                    volume._handle.drop(self.slot)
-                self._leave()
+            self._drop()
         if volume._is_due:
             volume._turned()
 
+    def _drop(self) -> None:
+        if self.slot is not None:
+            if self._volume._handle.is_open():
+                self._volume._handle.drop(self.slot)
+            self._leave()
+
     def _leave(self) -> None:
-        volume = self._volume
-        volume._queries.pop(self.slot, None)
-        self.slot = None
+        if self.slot is not None:
+            self._volume._queries.pop(self.slot, None)
+            self.slot = None
 
     def reopen(self) -> Difference:
         """Drops the query and opens its formula again, with its rows as the new opening has them. Returns how they
         differ from the rows before. A refusal leaves the query dropped, with the rows that it had."""
-        with self._volume._lock:
-            self.drop()
-            old = self.rows._places
-            self._begin()
-            new = self.rows._places
-        return Difference(
-            [old[node] for node in sorted(old.keys() - new.keys())],
-            [new[node] for node in sorted(new.keys() - old.keys())],
-            [(old[node], new[node]) for node in sorted(old.keys() & new.keys()) if old[node] != new[node]],
-        )
+        volume = self._volume
+        try:
+            with volume._lock:
+                self._drop()
+                return self._begin()
+        finally:
+            if volume._is_due:
+                volume._turned()
 
     def __enter__(self) -> "Query":
         return self

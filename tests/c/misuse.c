@@ -217,6 +217,8 @@ static void pushes(void) {
     lq_fetched fetched;
     OK(lq_volume_open(&it));
     for (int round = 0; round < 2; round++) {
+        /* a refused one isn't counted */
+        WANT(lq_push_op(&it, LQ_NOT), LQ_BAD_QUERY);
         for (int number = 0; number < LQ_PUSHES; number++) OK(lq_push_int32(&it, number));
         WANT(lq_push_int32(&it, 0), LQ_MISUSE);
         WANT(lq_push_op(&it, LQ_NOT), LQ_MISUSE);

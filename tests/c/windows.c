@@ -113,6 +113,26 @@ static void overruns(void) {
     }
 }
 
+/* Where nothing is said of it the backlog is LQ_BACKLOG. */
+static void the_largest_backlog(void) {
+    lq it = LQ_INIT;
+    lq_opening opening;
+    static lq_message many[1024];
+    size_t got, count = 0;
+    OK(lq_volume_open(&it));
+    created(&it, LQ_ROOT, "a", LQ_FILE, 0);
+    OK(lq_open(&it, TEXT("size>0"), NULL, &opening));
+    for (uint64_t number = 1; number <= LQ_BACKLOG + 2; number++)
+        OK(lq_write(&it, 2, number % 2, 0, NULL));
+    do {
+        OK(lq_read_many(&it, 1, many, 1024, &got));
+        count += got;
+    } while (got == 1024);
+    CHECK(count == LQ_BACKLOG + 2 && many[got - 1].what == LQ_END &&
+          many[got - 1].cause == LQ_OVERRUN && many[got - 1].change == LQ_BACKLOG + 2);
+    lq_volume_close(&it);
+}
+
 static void drops(void) {
     lq it = LQ_INIT;
     lq_options bare = {0, false, true};
@@ -226,6 +246,7 @@ int main(void) {
     readiness();
     a_hang_up_is_ready();
     overruns();
+    the_largest_backlog();
     drops();
     results();
     paths();

@@ -163,8 +163,8 @@ class Case(unittest.TestCase):
         self.assertEqual((caught.exception.code, caught.exception.name), (code, name))
         return caught.exception
 
-    def says(self, kind, said, call, *given, **named):
-        with self.assertRaises(kind) as caught:
+    def says(self, error, said, call, /, *given, **named):
+        with self.assertRaises(error) as caught:
             call(*given, **named)
         self.assertEqual(str(caught.exception), said)
 
@@ -528,7 +528,8 @@ class Queries(Case):
             for number in range(50):
                 self.volume.create(f"f{number}")
             self.assertEqual(next(query).name, "f0")
-        self.assertEqual(self.volume.open("name==*").entries, self.volume.fetch("name==*"))
+        again = self.volume.open("name==*")
+        self.assertEqual((again.slot, again.entries), (1, self.volume.fetch("name==*")))
 
     def test_slots(self):
         queries = [self.volume.open("size>1") for _ in range(64)]
@@ -690,6 +691,23 @@ class EventLoops(Case):
             self.assertEqual(await shown, [f"f{number}" for number in range(8)])
 
         self.run_until(both())
+
+    def test_a_query_that_is_opened_again_while_it_is_awaited(self):
+        async def show(query):
+            async for message in query:
+                return message.name
+
+        async def go():
+            query = self.volume.open("size>=0")
+            shown = asyncio.create_task(show(query))
+            await asyncio.sleep(0)
+            query.reopen()
+            await asyncio.sleep(0)
+            self.assertFalse(shown.done())
+            self.volume.create("a")
+            self.assertEqual(await shown, "a")
+
+        self.run_until(go())
 
     def test_a_query_or_a_volume_that_goes_while_it_is_awaited(self):
         async def show(query):
