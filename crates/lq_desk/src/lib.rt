@@ -16,7 +16,8 @@ mod word;
 
 pub use desk::Desk;
 pub use laws::{
-    kept_passes_lists_on, kept_passes_reads_on, kept_shows_worlds, kept_turns_show_worlds,
+    desks_may_be_sent, kept_passes_lists_on, kept_passes_reads_on, kept_shows_worlds,
+    kept_turns_show_worlds,
 };
 pub use lq_desk_sub::{Read, Sub};
 pub use lq_desk_world::Event;
