@@ -60,7 +60,7 @@ pub struct Sitting<M> {
     pub author: Author,
 }
 
-/// What the keeper knows. `back` is the latest seat that came back, `was` its slot before that.
+/// What the keeper knows. `back` is the seat that came back last, `was` the slot that it had.
 ///
 /// Before a seat came back, and once one went out again, `back` has the number 0.
 pub struct Keeping<M> {

@@ -43,7 +43,7 @@ impl Lq {
         unsafe { &mut *(self.ptr as *mut Served) }
     }
 
-    /// The handle's pointer with what it owns, to make a box of.
+    /// The handle's pointer and the memory that it owns, as the parts of a box.
     pub fn into_parts(self) -> Parts<Served, Global>
         ensures { result.value ≡ self.served }
     {

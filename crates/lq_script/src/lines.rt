@@ -6,7 +6,7 @@ use std::alloc::Global;
 /// The bytes that one read asks for.
 const BLOCK: usize = 65_536;
 
-/// The lines of an input that end in each piece that is read of it.
+/// Cuts each piece of the input into the lines that end in it.
 #[derive(Drop)]
 pub struct Lines {
     intake: Intake,

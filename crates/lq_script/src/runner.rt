@@ -82,8 +82,8 @@ impl<
         self.session.end_threads();
     }
 
-    /// What a run that met a fault answers: after one that isn't the writer's the replies that wait
-    /// are written, a fault of which goes before, and the writer is flushed once.
+    /// What a run that met a fault answers. Unless the fault is the writer's, the waiting replies
+    /// are written and the writer is flushed once; a fault of these two is answered in its place.
     pub fn close(&mut self, fault: RunFault) -> RunFault {
         if fault == RunFault::Write {
             return fault;

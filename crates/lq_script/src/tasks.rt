@@ -7,7 +7,7 @@ pub trait Task {
     /// The slot whose thread it is for, 1 to 64.
     fn slot(&self) -> u64;
 
-    /// Does all of it.
+    /// Carries the task out.
     fn run<R: Wait>(&mut self, rt: &R);
 }
 
@@ -16,7 +16,7 @@ pub trait Task {
 pub struct Tasks<T: Drop> {
     waiting: Vec<T>,
     done: Vec<T>,
-    // The slots of which a thread is to end, each as often as threads are.
+    // The slots whose threads are to end, each once for each thread.
     ending: Vec<u64>,
     is_over: bool,
 }
@@ -61,7 +61,7 @@ impl<T: Task + Drop> Tasks<T> {
         }
     }
 
-    /// A thread of this slot is to end. Refused: no memory.
+    /// Asks one thread of this slot to end. Refused: no memory.
     pub fn end(&mut self, slot: u64) -> Result<(), AllocError> {
         self.ending.push(slot)?;
         Ok(())
@@ -72,7 +72,7 @@ impl<T: Task + Drop> Tasks<T> {
         self.is_over = true;
     }
 
-    /// Whether the thread of this slot that asks is to end. It has to end then.
+    /// Whether the calling thread, which serves this slot, is to end. If so, it has to.
     pub fn ends(&mut self, slot: u64) -> bool {
         if self.is_over {
             return true;

@@ -165,8 +165,8 @@ pub record IsScript (lines : List (List ℕ)) : Type 0 where
 abbrev pub ScriptsTellReaders : Type 0
 ScriptsTellReaders = (lines : List (List ℕ)) → IsScript lines
 
--- What a run over a script read and wrote: on Ok the replies to all lines of what it read, and after
--- a fault a prefix of them. The first lines, as many as one likes and all of them too, are a script
+-- What a run over a script read and wrote: on Ok the replies to all lines of what it read, and
+-- after a fault a prefix of them. The first lines, as many as one likes and all of them too, are a script
 -- of which the above is true; so it is true of the lines that were answered.
 pub record TellsReaders (result : Result (Unit {0}) RunFault) (r : ReaderLog) (w : WriterLog)
     : Type 0 where

@@ -3,8 +3,8 @@
 //! Contracts see a line as its bytes, its JSON as serde_json's data, and its meaning as a question
 //! or the first fault that fits (`specs/Request`). Of equal keys the last one counts, and a text
 //! with a number beyond the doubles is no value. The fields are found while the text is read, token
-//! by token, with no tree of its values (`specs/Fields`) and with a scratch that is reused from line
-//! to line, which contracts don't see; of an array or an object within them only the kind is kept
+//! by token, with no tree of its values (`specs/Fields`), and with a scratch that lines reuse and
+//! contracts don't see. Of an array or an object within them only the kind is kept
 //! (`specs/Shown`). Nothing waits. Begin with `question`, then `asking`, `fields` and `field`.
 #![tactic(auto)]
 

@@ -101,8 +101,8 @@ impl Reader {
 
     /// The seat of its slot, as the board gave it.
     ///
-    /// The server's calls take it, and the reader's own calls go on after them. A caller who puts
-    /// another seat in its place can make no further calls with this reader.
+    /// The server's calls borrow this seat. Afterwards the reader's own calls go on. A caller who
+    /// puts another seat in its place can make no further calls with this reader.
     pub fn seat(&mut self) -> &mut Seat
         ensures* lends { sem 𝓛 (LendsSeat self.entry result) }
         ensures now { result.now ≡ self.old.seat }

@@ -75,8 +75,8 @@ impl<N: Named> Server<N> {
     /// A server over a base, each seat of which may make changes. N names the board of the base and
     /// its volume.
     ///
-    /// N is for contracts alone and is picked once the base is there, by what the base shows. So
-    /// each base has an N that names it, and this asks nothing of the base.
+    /// Contracts alone use N. The caller picks an N that names this base's board and volume: there
+    /// is one for each base.
     pub fn new(base: Base) -> Server<N>
         requires { (base.board ≡ N.board) × (base.volume ≡ N.start) }
         ensures free { N.board.free ≡ true }

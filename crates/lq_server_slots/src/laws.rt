@@ -1,4 +1,5 @@
-//! Laws of books, subscriptions and the slots under the lock: each is the contract of a function with no body.
+//! Laws of books, subscriptions and the slots under the lock, each the contract of a function that
+//! does nothing.
 ghost use Rattle.lq_server_slots.specs.Shown.{ActsShowWorlds, SlotsShowWorlds};
 ghost use Rattle.lq_server_slots.specs.Laws.{BooksExtendOn, BooksExtendThemselves, NewSubscriptionsStand, StatesStay, UpdatesAreUpdateLists};
 

@@ -117,7 +117,7 @@ fn other<'a>(entries: &'a [Entry], entry: &Entry) -> Option<&'a Entry> {
     entries.get(place)
 }
 
-/// Whether an entry is told so, beside the one of its node in the other result.
+/// Whether this line tells of the entry, where the other result has `other` for its node.
 fn is_line(line: Line, moved: bool, entry: &Entry, other: Option<&Entry>) -> bool {
     match (line, other) {
         (Line::Moved, None) => false,

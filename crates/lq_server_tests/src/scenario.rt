@@ -23,7 +23,7 @@ pub struct Scenario {
     pub turns: &'static [&'static [Table]],
 }
 
-/// What was done at a server, and what is left of it.
+/// What the callers of a server did, and what the server left when it ended.
 #[derive(Drop)]
 pub struct Done {
     pub acted: Acted,
@@ -31,9 +31,9 @@ pub struct Done {
 }
 
 impl Done {
-    /// Whether the accepted changes have the numbers from 1 on, each once, and are answered by a
-    /// volume alike, the one that is left is that after them, and each reader that was kept was
-    /// told what they tell. Refused as `Volume::apply` is, or `NoMemory`.
+    /// Whether the accepted changes have the numbers from 1 on, each once; a plain volume answers
+    /// them alike and ends as the server's did; and each reader that was kept was told what they
+    /// tell. Refused as `Volume::apply` is, or `NoMemory`.
     pub fn is_told(&mut self, alloc: Global) -> Result<bool, Refusal> {
         let acted = &mut self.acted;
         acted.taken.sort_by_key(|one| one.accepted.change)?;
