@@ -12,13 +12,13 @@
  * NUL is added.
  *
  * Statuses. A call that can be refused answers a status: LQ_OK, or why it was refused. A refused
- * call leaves its `out` as it was, and changes nothing in the volume and its live queries. Two
- * things happen all the same, as in a script: a query that was asked to hang up ends, and waiting
- * messages move into the ports. The first fault that fits is answered, in this order: LQ_NOT_UTF8;
+ * call leaves its `out` as it was, and doesn't do its act. Two things may happen all the same, as
+ * in a script: a query that was asked to hang up ends, and waiting messages move into the ports.
+ * The first fault that fits is answered, in this order: LQ_NOT_UTF8;
  * LQ_BAD_LINE for a number that names no kind or operator; LQ_BAD_NAME; LQ_TOO_LONG for the text
  * of a value; LQ_BAD_QUERY; then those of the act itself, as listed at each call. A call that says
- * so may answer LQ_NO_MEMORY in place of LQ_OK, or before any of those refusals is found; then
- * everything is as it was too. lq_answer is the one exception, and says so.
+ * so may answer LQ_NO_MEMORY in place of LQ_OK, or before any of those refusals is found; then its
+ * act isn't done either. lq_answer is the one exception, and says so.
  *
  * What a caller owes, and nothing tests:
  * - Each pointer points to memory of its type, aligned, that lives through the call and that no
@@ -110,8 +110,9 @@ static inline void lq_close(lq *handle)
 size_t lq_strerror(uint32_t status, char *out, size_t room);
 
 /* The place of the last fault: after a call that answered LQ_BAD_QUERY, the byte of the formula
- * where it has its leftmost fault, counted from 0; for a call with pushed items, the number of
- * pushes that were accepted since the stack was new. 0 where no call was refused in this way. */
+ * where it has its leftmost fault, counted from 0, or 4096 for one of more bytes; for a call with
+ * pushed items, the number of pushes that were accepted since the stack was new. 0 where no call
+ * was refused in this way. */
 uint64_t lq_fault_place(lq *handle);
 
 /* ---- a script's lines ---- */

@@ -27,7 +27,7 @@ _NO_MEMORY, _BAD_QUERY = 15, 20
 
 
 class Refused(Exception):
-    """A call was refused, and nothing has changed. `code` and `name` are those of the table of refusals."""
+    """A call was refused, and its act isn't done. `code` and `name` are those of the table of refusals."""
 
     def __init__(self, code: int, name: str) -> None:
         super().__init__(name)
@@ -35,7 +35,7 @@ class Refused(Exception):
 
 
 class BadQuery(Refused):
-    """A formula can't be read. `place` is the byte of its leftmost fault, in UTF-8."""
+    """A formula can't be read. `place` is the byte of its leftmost fault, in UTF-8; 4096 where it has more bytes."""
 
     def __init__(self, code: int, name: str, place: int) -> None:
         super().__init__(code, name)
