@@ -1,9 +1,9 @@
 """The calls of the library by ctypes, for where there is no extension. _native.c has the same handles."""
-import ctypes
+import ctypes, functools, threading
 from ctypes import (
     POINTER, Structure, byref, c_bool, c_char_p, c_int32, c_int64, c_size_t, c_uint8, c_uint32, c_uint64,
 )  # fmt: skip
-from typing import Any, List, Optional, Tuple, Union
+from typing import Any, Dict, List, Optional, Tuple, Union
 
 from ._arguments import encode, encode_name, kind, natural, whole
 from ._types import TYPES, Applied, Attr, Attribute, Cause, Entry, Info, Mark, Message, Op, Opcode, refusal
@@ -148,10 +148,11 @@ def _text(array: Any, size: int) -> str:
 
 
 class Handle:
-    """A handle of the library. It takes and gives what Volume and Query do; who calls it holds a lock."""
+    """A handle of the library. It takes and gives what Volume and Query do. Each call takes its lock."""
 
     def __init__(self) -> None:
         self._at: Any = None
+        self._lock = threading.RLock()
         self._handle = _Handle()
         at = byref(self._handle)
         status = _lq.lq_volume_open_as(at, _VERSION)
@@ -295,14 +296,20 @@ class Handle:
             _lq.lq_drop(self._at, it.slot)
             raise
 
-    def read(self, slot: int) -> Union[Message, Mark, None]:
+    def read(self, slot: int, placed: Dict[int, Any]) -> Union[Message, Mark, None]:
+        """What a read gives. A message is put under its node, or takes the node out."""
         it = self._message
         self._call("read", (slot,), _lq.lq_read, slot, byref(it))
         if it.what == _UPDATE:
             op = Opcode(it.op)
             is_moved = op is Opcode.B_ENTRY_MOVED
             place = (it.from_dir, _text(it.from_name, it.from_name_size)) if is_moved else (None, None)
-            return Message(it.seq, it.change, it.last, op, it.dir, it.node, _text(it.name, it.name_size), *place)
+            message = Message(it.seq, it.change, it.last, op, it.dir, it.node, _text(it.name, it.name_size), *place)
+            if op is Opcode.B_ENTRY_REMOVED:
+                placed.pop(it.node, None)
+            else:
+                placed[it.node] = message
+            return message
         return Mark(it.seq, it.change, Cause(it.cause)) if it.what == _END else None
 
     def hang_up(self, slot: int) -> None:
@@ -368,3 +375,17 @@ class Handle:
         size = c_size_t()
         self._call("path", (node,), _lq.lq_path, natural("node", node), byref(size))
         return self._copied(size.value).decode("utf-8")
+
+
+def _locked(method: Any) -> Any:
+    @functools.wraps(method)
+    def call(self: Handle, *given: Any) -> Any:
+        with self._lock:
+            return method(self, *given)
+
+    return call
+
+
+for _name, _method in [*vars(Handle).items()]:
+    if not _name.startswith("_"):
+        setattr(Handle, _name, _locked(_method))

@@ -1,6 +1,5 @@
-/* The calls of the library by Python's C API: handles as those of _by_ctypes.py, at an eighth of the cost. They hold
-   the interpreter's lock, so one call at a time is made. Arguments that don't fit at once go to _arguments.py, which
-   takes them or says why not; exceptions are made by _types.py. */
+/* The calls of the library by Python's C API: handles as those of _by_ctypes.py, at an eighth of the cost. Arguments that
+   don't fit at once go to _arguments.py, which takes them or says why not; exceptions are made by _types.py. */
 #define PY_SSIZE_T_CLEAN
 #include <Python.h>
 #include <dlfcn.h>
@@ -190,11 +189,35 @@ static void leave_text(text_given *it) {
 
 /* ---- handles ---- */
 
+/* A handle, with a lock that a call takes; the thread that has it may take it again, from a finalizer say. All of it is
+   read and written under the interpreter's lock. */
 typedef struct {
     PyObject_HEAD
     lq handle;
     bool is_open;
+    PyThread_type_lock lock;
+    unsigned long owner;
+    int depth;
 } Handle;
+
+static void enter(Handle *self) {
+    unsigned long me = PyThread_get_thread_ident();
+    if (self->depth > 0 && self->owner == me) {
+        self->depth++;
+        return;
+    }
+    if (!PyThread_acquire_lock(self->lock, NOWAIT_LOCK)) {
+        Py_BEGIN_ALLOW_THREADS
+        PyThread_acquire_lock(self->lock, WAIT_LOCK);
+        Py_END_ALLOW_THREADS
+    }
+    self->owner = me;
+    self->depth = 1;
+}
+
+static void leave(Handle *self) {
+    if (--self->depth == 0) PyThread_release_lock(self->lock);
+}
 
 /* Raises what a status says of a call, with what the caller gave. */
 static PyObject *refused(Handle *self, lq_status status, const char *name, PyObject *const *args, Py_ssize_t count) {
@@ -212,6 +235,11 @@ static PyObject *refused(Handle *self, lq_status status, const char *name, PyObj
 static PyObject *Handle_new(PyTypeObject *type, PyObject *Py_UNUSED(args), PyObject *Py_UNUSED(named)) {
     Handle *self = (Handle *)type->tp_alloc(type, 0);
     if (!self) return NULL;
+    self->lock = PyThread_allocate_lock();
+    if (!self->lock) {
+        Py_DECREF(self);
+        return PyErr_NoMemory();
+    }
     lq_status status = library.volume_open_as(&self->handle, LQ_VERSION);
     if (status != LQ_OK) {
         refused(self, status, "Volume", NULL, 0);
@@ -229,11 +257,14 @@ static void close_handle(Handle *self) {
 
 static void Handle_dealloc(Handle *self) {
     close_handle(self);
+    if (self->lock) PyThread_free_lock(self->lock);
     Py_TYPE(self)->tp_free((PyObject *)self);
 }
 
 static PyObject *Handle_free(Handle *self, PyObject *Py_UNUSED(none)) {
+    enter(self);
     close_handle(self);
+    leave(self);
     Py_RETURN_NONE;
 }
 
@@ -245,7 +276,16 @@ static PyObject *Handle_is_open(Handle *self, PyObject *Py_UNUSED(none)) {
 #define TAKES(wanted) \
     if (count != (wanted)) return PyErr_Format(PyExc_TypeError, "%zd arguments, not %d", count, wanted); \
     if (!self->is_open) return PyErr_SetString(PyExc_ValueError, "the volume is closed"), NULL
-#define METHOD(name) static PyObject *Handle_##name(Handle *self, PyObject *const *args, Py_ssize_t count)
+/* A method, under the lock. */
+#define METHOD(name) \
+    static PyObject *locked_##name(Handle *self, PyObject *const *args, Py_ssize_t count); \
+    static PyObject *Handle_##name(Handle *self, PyObject *const *args, Py_ssize_t count) { \
+        enter(self); \
+        PyObject *given = locked_##name(self, args, count); \
+        leave(self); \
+        return given; \
+    } \
+    static PyObject *locked_##name(Handle *self, PyObject *const *args, Py_ssize_t count)
 #define REFUSED(name) refused(self, status, name, args, count)
 
 static PyObject *applied(const lq_applied *it) {
@@ -608,14 +648,29 @@ static PyObject *message(const lq_message *it) {
                   is_moved ? text(it->from_name, it->from_name_size) : same(Py_None));
 }
 
+/* Puts a message under its node, or takes the node out. */
+static int follow(PyObject *placed, uint32_t op, PyObject *message) {
+    enum { NODE = 5 };
+    PyObject *node = PyTuple_GET_ITEM(message, NODE);
+    if (op != LQ_ENTRY_REMOVED) return PyDict_SetItem(placed, node, message);
+    if (PyDict_DelItem(placed, node) == 0) return 0;
+    if (PyErr_ExceptionMatches(PyExc_KeyError)) PyErr_Clear();
+    return PyErr_Occurred() ? -1 : 0;
+}
+
 METHOD(read) {
-    TAKES(1);
+    TAKES(2);
     uint64_t slot;
     lq_message out;
     if (take_natural("slot", args[0], &slot)) return NULL;
+    if (!PyDict_Check(args[1])) return PyErr_SetString(PyExc_TypeError, "no dict of messages by node"), NULL;
     lq_status status = library.read(&self->handle, slot, &out);
-    if (status != LQ_OK) return REFUSED("read");
-    if (out.what == LQ_UPDATE) return message(&out);
+    if (status != LQ_OK) return refused(self, status, "read", args, 1);
+    if (out.what == LQ_UPDATE) {
+        PyObject *made = message(&out);
+        if (made && follow(args[1], out.op, made)) Py_CLEAR(made);
+        return made;
+    }
     if (out.what != LQ_END) Py_RETURN_NONE;
     return RECORD(py_Mark, natural(out.seq), natural(out.change), same(causes[out.cause]));
 }
@@ -675,7 +730,7 @@ static PyTypeObject handle_type = {
     .tp_name = "yazgoulm._native.Handle",
     .tp_basicsize = sizeof(Handle),
     .tp_flags = Py_TPFLAGS_DEFAULT,
-    .tp_doc = "A handle of the library. Who calls it holds a lock.",
+    .tp_doc = "A handle of the library. Each call takes its lock.",
     .tp_new = Handle_new,
     .tp_dealloc = (destructor)Handle_dealloc,
     .tp_methods = handle_methods,

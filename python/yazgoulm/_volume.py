@@ -20,16 +20,16 @@ def _no_copy(self: Any, _protocol: int) -> Any:
 class Volume:
     """A tree of folders, files and typed attributes, and the live queries on it. It begins with the root, node 1.
 
-    Each call takes a lock of the volume's, so a volume and its queries can be used on any thread. As a context manager
-    the volume is closed at the end; once it is, each call but `close` raises ValueError.
+    Each call takes a lock, so a volume and its queries can be used on any thread. As a context manager the volume is
+    closed at the end; once it is, each call but `close` raises ValueError.
 
     `wake`, if it is set, is called without arguments after each change, line, `close` and `hang_up` after which a query
     has something to read, on the thread of that call: there an event loop can be told to read. What it raises, the
     call raises."""
 
     def __init__(self) -> None:
-        self._handle = Handle()
-        self._lock = threading.RLock()
+        self._handle = Handle()  # which has a lock for its calls
+        self._lock = threading.RLock()  # for what stands below
         self._queries: Dict[int, "weakref.ref[Query]"] = {}
         self._forgotten: List[int] = []  # slots of queries that nobody has any more
         self._waiting: List[Tuple["Query", Any, Any]] = []  # a query, and the loop and future of who awaits it
@@ -38,8 +38,7 @@ class Volume:
 
     def close(self) -> None:
         """Frees the volume and its queries. It may be called again."""
-        with self._lock:
-            self._handle.free()
+        self._handle.free()
         self._turned()
 
     def __enter__(self) -> "Volume":
@@ -94,8 +93,7 @@ class Volume:
 
         A line that is refused has a reply that says so, and raises nothing. Lines shouldn't read, close or finish the
         slot of a Query, which wouldn't know of it."""
-        with self._lock:
-            reply = self._handle.answer(line)
+        reply = self._handle.answer(line)
         if self._is_due:
             self._turned()
         return reply
@@ -103,53 +101,46 @@ class Volume:
     @property
     def changes(self) -> int:
         """The number of changes so far."""
-        with self._lock:
-            return self._handle.changes()
+        return self._handle.changes()
 
     def create(self, name: Name, dir: int = ROOT, kind: str = FILE, size: int = 0, time: int = 0) -> Applied:
         """Creates an entry in a folder: `size` in bytes, 0 for a folder, `time` in seconds since 1970."""
-        with self._lock:
-            applied = self._handle.create(name, dir, kind, size, time)
+        applied = self._handle.create(name, dir, kind, size, time)
         if self._is_due:
             self._turned()
         return applied
 
     def remove(self, node: int) -> Applied:
         """Removes a file, or a folder that is empty."""
-        with self._lock:
-            applied = self._handle.remove(node)
+        applied = self._handle.remove(node)
         if self._is_due:
             self._turned()
         return applied
 
     def move(self, node: int, dir: int, name: Name, clobber: bool = False) -> Applied:
         """Moves an entry to another place; with `clobber` another entry there goes."""
-        with self._lock:
-            applied = self._handle.move(node, dir, name, clobber)
+        applied = self._handle.move(node, dir, name, clobber)
         if self._is_due:
             self._turned()
         return applied
 
     def write(self, node: int, size: int, time: int) -> Applied:
         """Sets a file's size in bytes, and its `last_modified` in seconds since 1970."""
-        with self._lock:
-            applied = self._handle.write(node, size, time)
+        applied = self._handle.write(node, size, time)
         if self._is_due:
             self._turned()
         return applied
 
     def set(self, node: int, attr: Name, value: Union[str, int], type: Optional[str] = None) -> Applied:
         """Sets an attribute. Without a type, a str is "CSTR" and an int is "LLNG", a number of 64 bits with a sign."""
-        with self._lock:
-            applied = self._handle.set(node, attr, value, type)
+        applied = self._handle.set(node, attr, value, type)
         if self._is_due:
             self._turned()
         return applied
 
     def unset(self, node: int, attr: Name) -> Applied:
         """Removes an attribute."""
-        with self._lock:
-            applied = self._handle.unset(node, attr)
+        applied = self._handle.unset(node, attr)
         if self._is_due:
             self._turned()
         return applied
@@ -157,9 +148,9 @@ class Volume:
     def open(
         self, formula: Formula, backlog: int = 65_536, moved: bool = False, on_overrun: str = "raise"
     ) -> "Query":
-        """Opens a live query: see Query. At most `backlog` messages wait to be read. With `moved` an entry that moves
-        within the result has one message for it. A query of which more messages come ends, and reading it then raises
-        Overrun; with `on_overrun="mark"` it is only told by the query's `mark`."""
+        """Opens a live query: see Query. At most `backlog` messages, 1 to 65,536, wait beside the oldest. With `moved`
+        an entry that moves within the result has one message for it, and not two. A query of which more messages come
+        ends, and reading it then raises Overrun; with `on_overrun="mark"` its `mark` alone says so."""
         return Query(self, formula, backlog, moved, on_overrun)
 
     def ready(self) -> List["Query"]:
@@ -174,39 +165,31 @@ class Volume:
 
     def fetch(self, formula: Formula) -> List[Entry]:
         """The entries that match now, by rising node."""
-        given = _arguments.formula(formula)
-        with self._lock:
-            return self._handle.fetch(given)
+        return self._handle.fetch(_arguments.formula(formula))
 
     def find(self, name: Name, dir: int = ROOT) -> int:
         """The node of the entry with this name in a folder."""
-        with self._lock:
-            return self._handle.find(name, dir)
+        return self._handle.find(name, dir)
 
     def find_path(self, path: Name, dir: int = ROOT) -> int:
         """The node at the end of a path from a folder: names with `/` between them."""
-        with self._lock:
-            return self._handle.find_path(path, dir)
+        return self._handle.find_path(path, dir)
 
     def entry(self, node: int) -> Info:
         """The entry of a node, with its attributes in the order in which they were first set."""
-        with self._lock:
-            return self._handle.entry(node)
+        return self._handle.entry(node)
 
     def attribute(self, node: int, name: Name) -> Attribute:
         """One attribute of an entry, by its name."""
-        with self._lock:
-            return self._handle.attribute(node, name)
+        return self._handle.attribute(node, name)
 
     def children(self, dir: int = ROOT) -> List[Entry]:
         """The entries of a folder, in the order of their names' bytes."""
-        with self._lock:
-            return self._handle.children(dir)
+        return self._handle.children(dir)
 
     def path(self, node: int) -> str:
         """The path of an entry from the root, as "/folder/file"; "/" for the root."""
-        with self._lock:
-            return self._handle.path(node)
+        return self._handle.path(node)
 
 
 def _settle(future: Any) -> None:
@@ -227,26 +210,22 @@ class Row:
 
     `info` is what it shows beside: a change inside a result has no message, so who makes the change calls `refresh`."""
 
-    __slots__ = "_volume", "_info", "_placed"
+    __slots__ = "node", "_rows", "_placed", "_info"
 
-    def __init__(self, volume: Volume, placed: _Placed) -> None:
-        self._volume, self._placed = volume, placed
+    def __init__(self, rows: "Rows", node: int) -> None:
+        self.node, self._rows, self._placed = node, rows, rows._placed[node]
         self._info: Optional[Info] = None
 
     @property
     def place(self) -> Place:
-        """Its folder's node, its node and its name."""
+        """Its folder's node, its node and its name; the last ones, once it has left the result."""
+        self._placed = self._rows._placed.get(self.node, self._placed)
         return _place(self._placed)
-
-    @property
-    def node(self) -> int:
-        """Its node."""
-        return self._placed.node
 
     @property
     def name(self) -> str:
         """Its name."""
-        return self._placed.name
+        return self.place.name
 
     @property
     def info(self) -> Optional[Info]:
@@ -260,7 +239,7 @@ class Row:
         """Looks the entry up again. True where `info` is another now; an entry that has gone keeps its last one."""
         old = self._info
         try:
-            self._info = self._volume.entry(self.node)
+            self._info = self._rows._volume.entry(self.node)
         except NotFound:
             return False
         return self._info != old
@@ -276,13 +255,13 @@ class Rows(Mapping[int, Row]):
 
     def __init__(self, volume: Volume) -> None:
         self._volume = volume
-        self._placed: Dict[int, _Placed] = {}
+        self._placed: Dict[int, _Placed] = {}  # which a read keeps
         self._rows: Dict[int, Row] = {}  # those that were asked for
 
     def __getitem__(self, node: int) -> Row:
         row = self._rows.get(node)
         if row is None:
-            row = self._rows[node] = Row(self._volume, self._placed[node])
+            row = self._rows[node] = Row(self, node)
         return row
 
     def __contains__(self, node: object) -> bool:
@@ -299,23 +278,11 @@ class Rows(Mapping[int, Row]):
     def __repr__(self) -> str:
         return f"<Rows of {len(self)} entries>"
 
-    def _follow(self, it: Message) -> None:
-        """Makes what a message says."""
-        if it.op is B_ENTRY_REMOVED:
-            del self._placed[it.node]
-            self._rows.pop(it.node, None)
-        else:
-            self._placed[it.node] = it
-            if it.node in self._rows:
-                self._rows[it.node]._placed = it
-
     def _begin(self, entries: List[Entry]) -> Difference:
         """Has these entries alone. Returns how they differ from those before; rows of entries in both stay."""
         old, new = self._placed, {it.node: it for it in entries}
         self._placed = new
         self._rows = {node: row for node, row in self._rows.items() if node in new}
-        for node, row in self._rows.items():
-            row._placed = new[node]
         both = [(_place(old[node]), _place(it)) for node, it in new.items() if node in old]
         return Difference(
             [_place(old[node]) for node in sorted(old.keys() - new.keys())],
@@ -376,21 +343,22 @@ class Query:
         return self
 
     def __next__(self) -> Message:
-        volume = self._volume
-        with volume._lock:
-            if self.mark is None:
-                it = volume._handle.read(self.slot or self._own())
-                if type(it) is Message:
+        if self.mark is None:
+            rows = self.rows
+            it = self._volume._handle.read(self.slot or self._own(), rows._placed)
+            if type(it) is Message:
+                if it.op is B_ENTRY_REMOVED and rows._rows:
+                    rows._rows.pop(it.node, None)
+                if self._latest is None or self._latest.seq < it.seq:  # another thread may have read a later one
                     self._latest = it
-                    self.rows._follow(it)
-                    return it
-                if it is None:
-                    raise StopIteration
-                self.mark = it
-            self._own()
-            if self.mark.cause is Cause.OVERRUN and self._on_overrun == "raise":
-                raise Overrun(self.mark.change, self.formula)
-            raise StopIteration
+                return it
+            if it is None:
+                raise StopIteration
+            self.mark = it
+        self._own()
+        if self.mark.cause is Cause.OVERRUN and self._on_overrun == "raise":
+            raise Overrun(self.mark.change, self.formula)
+        raise StopIteration
 
     def __aiter__(self) -> "Query":
         return self
@@ -410,12 +378,14 @@ class Query:
     def _told(self, loop: Any) -> Any:
         """A future that has its result once there is something to read."""
         future, volume = loop.create_future(), self._volume
+        waiting = self, loop, future
         with volume._lock:
-            if volume._handle.ready() >> (self._own() - 1) & 1:
+            # first, so that a change on another thread is seen here or sees this
+            volume._waiting.append(waiting)
+            volume._is_due = True
+            if self._is_ready(volume._handle.ready()):
+                volume._waiting.remove(waiting)
                 future.set_result(None)
-            else:
-                volume._waiting.append((self, loop, future))
-                volume._is_due = True
         return future
 
     def result(self) -> Result:
@@ -429,16 +399,14 @@ class Query:
     def hang_up(self) -> None:
         """Asks for the end, as a reader does; the next change, read or close carries it out."""
         volume = self._volume
-        with volume._lock:
-            volume._handle.hang_up(self._own())
+        volume._handle.hang_up(self._own())
         if volume._is_due:
             volume._turned()
 
     def close(self) -> int:
         """Ends the query: what waits can still be read. Returns the last change that is covered."""
         volume = self._volume
-        with volume._lock:
-            change = volume._handle.close(self._own())
+        change = volume._handle.close(self._own())
         if volume._is_due:
             volume._turned()
         return change

@@ -380,15 +380,29 @@ class Volumes(Case):
         self.assertEqual(sorted(query.rows), [*range(2, 4002)])
 
     def test_volumes_that_nobody_closes(self):
-        def many():
-            for _ in range(100):
-                Volume().create("a")
-            gc.collect()
+        """They are freed on the thread that has them last: what 20 of them take isn't taken 20 times."""
+        def made():
+            volume = Volume()
+            for number in range(2000):
+                volume.create(f"f{number}")
+            return [volume]
 
-        many()
-        thread = threading.Thread(target=many)
-        thread.start()
-        thread.join()
+        def dropped(volumes):
+            thread = threading.Thread(target=volumes.clear)
+            thread.start()
+            thread.join()
+
+        def pages():
+            gc.collect()
+            with open("/proc/self/statm", encoding="ascii") as file:
+                return int(file.read().split()[1])
+
+        for _ in range(2):
+            dropped(made())
+        before = pages()
+        for _ in range(20):
+            dropped(made())
+        self.assertLess(4096 * (pages() - before), 2_000_000)  # 20 times 2,000 entries take some 5 MB
 
 
 class Queries(Case):
