@@ -26,3 +26,4 @@ pub mod TurnLemmas
 pub mod ParcelLemmas
 pub mod Desks
 pub mod PassedLemmas
+pub mod Crossing

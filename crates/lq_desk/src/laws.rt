@@ -1,9 +1,12 @@
 //! Laws of desks: each is the contract of a function that does nothing.
+ghost use denote.Param.Send.{IsSend};
 ghost use Rattle.lq_desk.specs.Laws.{KeptPassesListsOn, KeptShowsWorlds, KeptTurnsShowWorlds};
+ghost use Rattle.lq_desk.specs.contracts.desk.Desk as desks;
 
+use lq_desk_sub::Sub;
 use lq_desk_world::{lists_are_passed_on, runs_keep_worlds_fair};
-use lq_update::updates_join;
-use lq_volume::changes_are_counted;
+use lq_update::{Parcel, updates_join};
+use lq_volume::{Volume, changes_are_counted};
 
 /// A desk's state answers each event as any world that it shows, and then shows the next world.
 pub fn kept_shows_worlds()
@@ -29,3 +32,20 @@ pub fn kept_passes_lists_on()
 {
     lists_are_passed_on();
 }
+
+/// A desk may go to another thread.
+///
+/// A predicate's tree contains itself, so the prover finds this in no caller by itself.
+pub fn desks_may_be_sent()
+    ensures { IsSend desks.the_row }
+{
+    // For the proof: what a desk is made of.
+    sends::<Sub>();
+    sends::<Parcel>();
+    sends::<Volume>();
+}
+
+// The bound, as a fact.
+fn sends<T: Send>()
+    ensures { IsSend T.row }
+{}

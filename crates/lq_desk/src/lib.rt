@@ -15,7 +15,9 @@ mod stored;
 mod word;
 
 pub use desk::Desk;
-pub use laws::{kept_passes_lists_on, kept_shows_worlds, kept_turns_show_worlds};
+pub use laws::{
+    desks_may_be_sent, kept_passes_lists_on, kept_shows_worlds, kept_turns_show_worlds,
+};
 pub use lq_desk_sub::{Read, Sub};
 pub use lq_desk_world::Event;
 pub use reply::Reply;

@@ -2,3 +2,4 @@ pub mod CallLemmas
 pub mod PushedLemmas
 pub mod AttrLemmas
 pub mod FolderLemmas
+pub mod Crossing

@@ -11,6 +11,7 @@ mod attrs;
 mod changes;
 mod embedded;
 mod folders;
+mod laws;
 mod lines;
 mod live;
 mod looks;
@@ -21,6 +22,7 @@ mod put;
 mod statuses;
 
 pub use embedded::Embedded;
+pub use laws::embedded_may_be_sent;
 pub use outs::{
     AppliedOut, AttrOut, FetchedOut, InfoOut, MessageOut, OpeningOut, RebuiltOut, RowOut,
 };

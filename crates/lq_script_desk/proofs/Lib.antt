@@ -9,3 +9,4 @@ pub mod HistoryLemmas
 pub mod FoldLemmas
 pub mod TellLemmas
 pub mod SessionLemmas
+pub mod Crossing

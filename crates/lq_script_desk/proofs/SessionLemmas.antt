@@ -1,5 +1,5 @@
 -- The history of a session.
-use Rattle.std.proofs.Common.{◌≡◌, ◌⊎◌, List, [], ◌∷◌, ◌++◌, refl, ap, ◌∙◌, sym, subst, arith, inl, inr, Option, Some, None, Result, Ok, Err, IsErr, OnOk}
+use Rattle.std.proofs.Common.{◌≡◌, ◌⊎◌, List, [], ◌∷◌, ◌++◌, refl, ap, subst, inl, inr, Option, Some, None, Result, Ok, Err, IsErr, OnOk}
 use Rattle.lq_value.specs.declared.refusal.Refusal.{Refusal}
 use Rattle.lq_desk_world.specs.World.{World}
 use Rattle.lq_desk_world.specs.declared.event.Event.{Event}
@@ -13,7 +13,7 @@ use Rattle.lq_script_request.specs.declared.question.Question.{Question}
 use Rattle.lq_script_request.specs.declared.question.Question.TheVariants as question
 use Rattle.lq_script_desk.specs.Keeps.{first_kept}
 use Rattle.lq_script_desk.specs.Script.{script_world}
-use Rattle.lq_script_desk.specs.SessionHistory.{IsHistory, KeepsHistory, LineKeepsHistory, SessionsTell}
+use Rattle.lq_script_desk.specs.SessionHistory.{KeepsHistory, LineKeepsHistory, SessionsTell}
 
 -- a run and then another are a run of both in a row
 run-append : (w mid end : World) (events more : List Event) (answers mores : List Answer)

@@ -1,5 +1,5 @@
 -- The history of a session: the events that its calls carried out, and the answers to them.
-use Rattle.std.specs.Prelude.{◌≡◌, ◌⊎◌, List, [], ◌∷◌, ◌++◌, length, Option, Some, None, Result, IsErr, OnOk}
+use Rattle.std.specs.Prelude.{◌≡◌, ◌⊎◌, List, [], ◌∷◌, ◌++◌, length, Option, Some, Result, IsErr, OnOk}
 use Rattle.lq_value.specs.declared.refusal.Refusal.{Refusal}
 use Rattle.lq_volume.specs.State.{empty_state}
 use Rattle.lq_desk_world.specs.World.{World}

@@ -1,10 +1,14 @@
 //! The laws of scripts and of sessions: each is the contract of a function that does nothing.
+ghost use denote.Param.Send.{IsSend};
 ghost use Rattle.lq_script_desk.specs.History.{ScriptsTellReaders};
 ghost use Rattle.lq_script_desk.specs.Keeps.{first_kept};
 ghost use Rattle.lq_script_desk.specs.SessionHistory.{SessionsTell};
+ghost use Rattle.lq_script_desk.specs.contracts.session.Session as sessions;
 
+use lq_desk::desks_may_be_sent;
 use lq_desk_world::{first_worlds_are_fair, readers_are_told};
-use lq_update::{foldings_follow, rebuilds_take_all};
+use lq_script_request::Scratch;
+use lq_update::{IndexedRebuild, foldings_follow, rebuilds_take_all};
 
 /// The turns of a script's lines, joined, and the answers to their events are a run of the first
 /// world, so at every moment of it the readers are told: the headline.
@@ -29,3 +33,18 @@ pub fn sessions_tell_readers()
     first_worlds_are_fair();
     readers_are_told();
 }
+
+/// A session may go to another thread.
+pub fn sessions_may_be_sent()
+    ensures { IsSend sessions.the_row }
+{
+    // For the proof: what a session is made of.
+    desks_may_be_sent();
+    sends::<IndexedRebuild>();
+    sends::<Scratch>();
+}
+
+// The bound, as a fact.
+fn sends<T: Send>()
+    ensures { IsSend T.row }
+{}

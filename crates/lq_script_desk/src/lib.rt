@@ -19,7 +19,7 @@ mod script;
 mod session;
 mod text;
 
-pub use laws::{scripts_tell_readers, sessions_tell_readers};
+pub use laws::{scripts_tell_readers, sessions_may_be_sent, sessions_tell_readers};
 pub use lq_desk::{Reply, SLOTS};
 pub use reply::{put_event_reply, put_reply};
 pub use response::Response;

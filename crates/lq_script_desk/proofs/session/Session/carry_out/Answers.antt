@@ -1,4 +1,4 @@
-use Rattle.std.proofs.Common.{◌≡◌, ap, inl, inr, rules}
+use Rattle.std.proofs.Common.{rules}
 use Rattle.lq_desk.specs.Reply.{answer_of}
 use Rattle.lq_script_desk.proofs.SessionLemmas.{answer-own, ok-any, turn-history}
 use Rattle.lq_script_desk.proofs.session.Session.carry_out.Goals.{in-Refused+in-BadName-1, in-Changed-2}

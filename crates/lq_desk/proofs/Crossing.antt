@@ -1,0 +1,59 @@
+-- A desk may go to another thread, where a volume and a subscription may. The check finds none of
+-- these steps, since a predicate's tree holds itself.
+use denote.RattleType.{RattleType}
+use denote.Param.Send.{IsSend, sendable, view_send}
+use denote.Param.SendFields.{declared_send}
+use Rattle.std.proofs.Crossing.{Deque-send, Vec-send, crosses}
+use Rattle.std.specs.contracts.alloc.Global as global
+use Rattle.std.specs.contracts.impls.GlobalAllocator.TheImpl.{ghosts as ghosts_of_global}
+use Rattle.std.specs.contracts.option.Option as option
+use Rattle.std.specs.contracts.vec.Vec as vec
+use Rattle.lq_update.specs.contracts.parcel.Parcel as parcel
+use Rattle.lq_volume.specs.contracts.volume.Volume as volume
+use Rattle.lq_desk_sub.specs.contracts.sub.Sub as sub
+use Rattle.lq_desk.specs.contracts.slot.Slot as slot
+use Rattle.lq_desk.specs.contracts.slot.Slot.TheInside as in_slot
+use Rattle.lq_desk.specs.contracts.slots.Slots as slots
+use Rattle.lq_desk.specs.contracts.slots.Slots.TheInside as in_slots
+use Rattle.lq_desk.specs.contracts.desk.Desk as desk
+use Rattle.lq_desk.specs.contracts.desk.Desk.TheInside as in_desk
+
+-- a subscription with its port
+slot_send : IsSend sub.the_row → IsSend parcel.the_row → IsSend slot.the_row
+slot_send s p =
+    view_send in_slot.the_row _ _ _ _
+    (declared_send in_slot.the_type (
+      s,
+      (
+        search sendable depth 12,
+        (Deque-send parcel.the_row p, (search sendable depth 12, tt)),
+      ),
+    ))
+
+-- a list of places that may be empty
+module _ (T : RattleType) (s : IsSend T) where
+  place_send : IsSend (option.the_row T)
+  place_send = search sendable depth 12
+
+  places_send : IsSend (vec.the_row (option.the_row T) global.the_row ghosts_of_global)
+  places_send = Vec-send (option.the_row T) place_send
+
+-- the slots
+slots_send : IsSend slot.the_row → IsSend slots.the_row
+slots_send s =
+    view_send in_slots.the_row _ _ _ _
+    (declared_send in_slots.the_type
+    (places_send slot.the_row s, search (sendable, crosses) depth 30))
+
+-- a desk
+pub desk_send : IsSend sub.the_row → IsSend parcel.the_row → IsSend volume.the_row
+    → IsSend desk.the_row
+desk_send s p v =
+    view_send in_desk.the_row _ _ _ _
+    (declared_send in_desk.the_type (
+      v,
+      (
+        search sendable depth 12,
+        (search (sendable, crosses) depth 20, (slots_send (slot_send s p), tt)),
+      ),
+    ))
