@@ -12,7 +12,6 @@ typedef struct window {
     uint64_t slot;
     bool shown[FILES + 2]; /* by node */
 } window;
-
 static lq volume = LQ_INIT;
 
 #define MUST(call) must((call), #call)
@@ -22,15 +21,11 @@ static void must(lq_status status, const char *call) {
 
 static void show(window *it) {
     lq_opening opened;
-    lq_row rows[MANY];
-    size_t got;
+    lq_row row;
     MUST(lq_open(&volume, it->formula, strlen(it->formula), &it->options, &opened));
     it->slot = opened.slot;
     memset(it->shown, 0, sizeof it->shown);
-    do {
-        MUST(lq_take(&volume, opened.result, rows, MANY, &got));
-        for (size_t at = 0; at < got; at++) it->shown[rows[at].node] = true;
-    } while (got > 0);
+    while (lq_next(&volume, opened.result, &row) == LQ_OK) it->shown[row.node] = true;
     printf("%s: slot %d at change %d, %d entries\n", it->formula, (int)it->slot, (int)opened.at, (int)opened.count);
 }
 
@@ -50,13 +45,14 @@ static void follow(window *it) {
 }
 
 static void check(const window *it) {
+    lq_row rows[FILES];
     lq_fetched now;
-    lq_row row;
-    size_t shown = 0, same = 0;
+    size_t got, shown = 0, same = 0;
     MUST(lq_fetch(&volume, it->formula, strlen(it->formula), &now));
+    MUST(lq_take(&volume, now.result, rows, FILES, &got));
+    for (size_t at = 0; at < got; at++) same += it->shown[rows[at].node];
     for (int node = 0; node < FILES + 2; node++) shown += it->shown[node];
-    while (lq_next(&volume, now.result, &row) == LQ_OK) same += it->shown[row.node];
-    printf("%s: %d shown, %d fetched, %d in both\n", it->formula, (int)shown, (int)now.count, (int)same);
+    printf("%s: %d shown, %d fetched, %d in both\n", it->formula, (int)shown, (int)got, (int)same);
 }
 
 int main(void) {
@@ -76,5 +72,4 @@ int main(void) {
     }
     for (int at = 0; at < WINDOWS; at++) check(&windows[at]);
     lq_volume_close(&volume);
-    return 0;
 }

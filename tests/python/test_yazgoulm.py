@@ -24,6 +24,13 @@ def scenarios():
                 yield os.path.basename(name), script.read().split(b"\n"), replies.read().splitlines(keepends=True)
 
 
+def memory():
+    """The bytes that this process has in memory."""
+    gc.collect()
+    with open("/proc/self/statm", encoding="ascii") as file:
+        return 4096 * int(file.read().split()[1])
+
+
 class ByMethods:
     """A script by methods: each line's reply, made of what the method gives.
 
@@ -392,17 +399,43 @@ class Volumes(Case):
             thread.start()
             thread.join()
 
-        def pages():
-            gc.collect()
-            with open("/proc/self/statm", encoding="ascii") as file:
-                return int(file.read().split()[1])
-
         for _ in range(2):
             dropped(made())
-        before = pages()
+        before = memory()
         for _ in range(20):
             dropped(made())
-        self.assertLess(4096 * (pages() - before), 2_000_000)  # 20 times 2,000 entries take some 5 MB
+        self.assertLess(memory() - before, 2_000_000)  # 20 times 2,000 entries take some 5 MB
+
+    def test_nothing_is_left_of_a_call(self):
+        volume, name = self.volume, 80 * b"\xff"
+        volume.create("a")
+        for count in 1000, 20_000:
+            before = memory()
+            for _ in range(count):
+                for call in (lambda: volume.find(name), lambda: volume.set(2, name, "t" * 100),
+                             lambda: volume.fetch([Attr(80 * "\udcff"), 1.5]), lambda: volume.answer("{}")):
+                    try:
+                        call()
+                    except (Refused, TypeError):
+                        pass
+        self.assertLess(memory() - before, 1_000_000)  # each name takes 300 bytes
+
+    def test_a_call_within_a_call(self):
+        volume, sizes = Volume(), []
+
+        class Size:
+            def __index__(self):
+                volume.create("inner")
+                return 7
+
+        def create():
+            sizes.append(volume.entry(volume.create("outer", size=Size()).node).size)
+
+        thread = threading.Thread(target=create, daemon=True)
+        thread.start()
+        thread.join(SECONDS)
+        self.assertEqual(sizes, [7])
+        self.assertEqual([it.name for it in volume.children()], ["inner", "outer"])
 
 
 class Queries(Case):
@@ -605,7 +638,7 @@ class Queries(Case):
     def test_pushes(self):
         for name, size in (("a.txt", 200), ("b.txt", 50), ("c", 300)):
             self.volume.create(name, size=size)
-        numbers = -(2**31), 2**32 - 1, -(2**63), 2**64 - 1
+        numbers = -(2**31), 2**32 - 1, 2**40, -(2**63), 2**63 - 1, 2**64 - 1
         for pushes, formula in (
             ([Attr("name"), "*.txt", Op.EQ, Attr("size"), 100, Op.GT, Op.AND], "name==*.txt&&size>100"),
             ([Attr("name"), ".txt", Op.ENDS_WITH, Attr("name"), "c", Op.BEGINS_WITH, Op.OR, Op.NOT],
