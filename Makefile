@@ -9,7 +9,7 @@
 #   make gate               the merge gate, about an hour
 #   make fmt                lays out the sources: of one crate with C=, else of all
 #   make bench              what five scripts cost
-#   make docs               draws the tables and pictures that scripts draw
+#   make docs               draws the tables, links and pictures that scripts draw
 #   make library            the proved C library, liblq.a and liblq.so in crates/lq_c/out; and the extension for Python
 #   make install            copies the proved program, its manual page and the library to PREFIX: /usr/local
 #   make install-program    copies the program and its manual page alone
@@ -48,7 +48,7 @@ fmt:
 bench:
 	bench/run
 docs:
-	tools/crate-table --write && tools/test-figures --write && tools/api --write && bench/plots
+	tools/crate-table --write && tools/test-figures --write && tools/audit --write && tools/api --write && bench/plots
 library:
 	tools/library
 	tools/python_package.py extension || [ $$? = 77 ]

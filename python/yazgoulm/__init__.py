@@ -5,8 +5,8 @@
         for message in query:
             print(message)
 
-A call that is refused raises Refused, and changes nothing. Numbers are whole, and names are str; those of files on disk
-may be bytes or paths. Other arguments raise TypeError or ValueError, with the argument's name.
+A call that is refused raises Refused, and its act isn't done. Numbers are whole, and names are str; those of files on
+disk may be bytes or paths. Other arguments raise TypeError or ValueError, with the argument's name.
 
 The calls go by an extension in C, where there is one for this Python (`make library` builds it where there is a
 compiler), or else by ctypes, at some eight times the cost. `backend` says which, and YAZGOULM_BACKEND in the
