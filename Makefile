@@ -24,8 +24,8 @@ S ?= examples/first-message.jsonl
 W ?= run
 CRATE = $(if $(C),crates/$(C),$(error C=CRATE is missing, as in make $@ C=lq_desk))
 
-.PHONY: all try check test edits scenario scenarios gate fmt bench docs library install install-program install-library \
-	install-c install-python wheel dist
+.PHONY: all try check test edits scenario scenarios gate fmt bench docs library wheel dist \
+	install install-program install-library install-c install-python
 
 all:
 	$(if $(filter never,$(LQ_BUILD)),./lq run < /dev/null,tools/build)

@@ -18,11 +18,12 @@
  *
  * Statuses. A call that can be refused answers a status: LQ_OK, or why it was refused. A refused
  * call leaves its `out` as it was, and doesn't do its act. Two things may happen all the same, as
- * in a script: a query that was asked to hang up ends, and waiting messages move up. The first fault that fits is answered, in this order: LQ_MISUSE; LQ_NOT_UTF8;
- * LQ_BAD_LINE for a number that names no kind or operator; LQ_BAD_NAME; LQ_TOO_LONG for the text of
- * a value; LQ_BAD_QUERY; then those of the act itself, as listed at each call. A call that says so
- * may answer LQ_NO_MEMORY in place of LQ_OK, or before any of those refusals but LQ_MISUSE is
- * found; then its act isn't done either. lq_answer is the one exception, and says so.
+ * in a script: a query that was asked to hang up ends, and waiting messages move up. The first
+ * fault that fits is answered, in this order: LQ_MISUSE; LQ_NOT_UTF8; LQ_BAD_LINE for a number that
+ * names no kind or operator; LQ_BAD_NAME; LQ_TOO_LONG for the text of a value; LQ_BAD_QUERY; then
+ * those of the act itself, as listed at each call. A call that says so may answer LQ_NO_MEMORY in
+ * place of LQ_OK, or before any of those refusals but LQ_MISUSE is found; then its act isn't done
+ * either. lq_answer is the one exception, and says so.
  *
  * Misuse. Each call but lq_volume_close answers LQ_MISUSE for a handle that is null or not open
  * (LQ_INIT, closed, or a copy of an open one), for a null `out` where it doesn't say that null is

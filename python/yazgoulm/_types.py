@@ -151,7 +151,7 @@ class Error(Exception):
 
 
 class Refused(Error):
-    """A call was refused, and nothing has changed. `code` and `name` are those of the table of refusals.
+    """A call was refused, and its act isn't done. `code` and `name` are those of the table of refusals.
 
     `call` is the name of the call, and `arguments` what it was given."""
 
@@ -183,8 +183,8 @@ class NoMemory(Refused, MemoryError):
 
 
 class BadQuery(Refused, ValueError):
-    """A formula can't be read. `place` is the byte of its leftmost fault, in UTF-8; of pushes it is the number of those
-    before the one that doesn't fit."""
+    """A formula can't be read. `place` is the byte of its leftmost fault, in UTF-8, or 4096 where it has more bytes; of
+    pushes it is the number of those before the one that doesn't fit."""
 
     def __init__(self, code: int, name: str, call: str = "", arguments: Tuple[Any, ...] = (), place: int = 0) -> None:
         super().__init__(code, name, call, arguments)
