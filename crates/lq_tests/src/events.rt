@@ -110,6 +110,10 @@ static CLOSE_AFTER_HELD: [Row; 14] = [
     (Ask::At(1, Take), "Ended", (0, 0, 0)),
 ];
 
+static AS_TEXT: Ask = Ask::Set("x", View::Text("10"));
+
+static AS_NUMBER: Ask = Ask::Set("x", View::Int32(10));
+
 // A formula, and whether it finds node 2: where `x` is the text 10, and where it is the number.
 const FETCHES: [(&str, bool, bool); 4] = [
     ("x=10", true, true),
@@ -218,8 +222,7 @@ fn is_found(alloc: Global, desk: &Desk, formula: &str, wanted: bool) -> Result<b
 /// Whether each formula finds what it has to, with the text 10 and with the number.
 fn are_found(alloc: Global) -> Result<bool, Refusal> {
     let mut desk = again!(Desk::new(alloc, Volume::new(alloc, 99)))?;
-    let as_text = Ask::Set("x", View::Text("10"));
-    if !is_changed(alloc, &mut desk, &A)? || !is_changed(alloc, &mut desk, &as_text)? {
+    if !is_changed(alloc, &mut desk, &A)? || !is_changed(alloc, &mut desk, &AS_TEXT)? {
         return Ok(false);
     }
     for (formula, is_text_found, _) in &FETCHES {
@@ -227,7 +230,7 @@ fn are_found(alloc: Global) -> Result<bool, Refusal> {
             return Ok(false);
         }
     }
-    if !is_changed(alloc, &mut desk, &Ask::Set("x", View::Int32(10)))? {
+    if !is_changed(alloc, &mut desk, &AS_NUMBER)? {
         return Ok(false);
     }
     for (formula, _, is_number_found) in &FETCHES {
