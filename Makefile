@@ -19,7 +19,7 @@
 PREFIX ?= /usr/local
 LIBDIR ?= $(PREFIX)/lib
 PYTHON_DIR ?= $(LIBDIR)/yazgoulm
-VERSION := $(shell sed -n 's/^.define LQ_VERSION_TEXT "\(.*\)"$$/\1/p' include/lq.h)
+VERSION = $(shell sed -n 's/^.define LQ_VERSION_TEXT "\(.*\)"$$/\1/p' include/lq.h)
 S ?= examples/first-message.jsonl
 W ?= run
 CRATE = $(if $(C),crates/$(C),$(error C=CRATE is missing, as in make $@ C=lq_desk))
