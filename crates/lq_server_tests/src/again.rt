@@ -1,6 +1,5 @@
 //! Calls that are given again where memory ran out: with any one growth refused, all is as without.
-use crate::more_threads::WINDOW;
-use crate::one_thread::EACH;
+use crate::one_thread::{EACH, WINDOW_ALONE};
 use crate::scenario::{Scenario, base, stage};
 use std::alloc::Global;
 use std::marker::Brand;
@@ -32,6 +31,6 @@ fn a_refused_growth_is_made_good(rt: HostRuntime) -> Result<(), Fail> {
 
 #[test]
 fn a_growth_refused_to_a_window_is_made_good(rt: HostRuntime) -> Result<(), Fail> {
-    assert!(rt; is_made_good(&rt, rt.alloc(), &WINDOW, 6)?);
+    assert!(rt; is_made_good(&rt, rt.alloc(), &WINDOW_ALONE, 6)?);
     Ok(())
 }

@@ -36,7 +36,7 @@ const FILES_READ: Table = (
     ],
 );
 
-const WINDOW_ENDED: Table = (
+pub const WINDOW_ENDED: Table = (
     1,
     &[
         (Act::Sync, Told::Live(5, 0, 0)),

@@ -1,5 +1,6 @@
 //! The scenarios of one thread, by their tables.
 use crate::acts::{Act, Told};
+use crate::more_threads::WINDOW_ENDED;
 use crate::party::Table;
 use crate::scenario::Scenario;
 use lq_update::Cause;
@@ -54,6 +55,31 @@ pub static EACH: Scenario = Scenario {
             (Act::Finish, Told::Done),
         ],
     )]],
+};
+
+/// The changes and the reads of `more_threads::WINDOW` in turn.
+const WINDOW_READ: Table = (
+    1,
+    &[
+        (Act::Open("name=*", 2, 10), Told::Number(1)),
+        (Act::Create("a"), Told::Changed(1, 2)),
+        (Act::ReadWaiting, Told::Update(1, 1, 2)),
+        (Act::Create("b"), Told::Changed(2, 3)),
+        (Act::ReadWaiting, Told::Update(2, 2, 3)),
+        (Act::Create("c"), Told::Changed(3, 4)),
+        (Act::ReadWaiting, Told::Update(3, 3, 4)),
+        (Act::Create("d"), Told::Changed(4, 5)),
+        (Act::ReadWaiting, Told::Update(4, 4, 5)),
+        (Act::Create("e"), Told::Changed(5, 6)),
+        (Act::ReadWaiting, Told::Update(5, 5, 6)),
+    ],
+);
+
+pub static WINDOW_ALONE: Scenario = Scenario {
+    name: "a window is read after each change",
+    threads: 1,
+    rounds: 1,
+    turns: &[&[WINDOW_READ], &[WINDOW_ENDED]],
 };
 
 /// The first slot is used again after a reader that hung up.
