@@ -1,6 +1,6 @@
 -- Read in this order. Stacks: FitLemmas, StarredLemmas (a comparison's size, and a pattern that
 -- finds a text's characters), StackLemmas. Reading: QuerySizeLemmas, WeightLemmas, ValidatorLemmas,
--- PlaceLemmas, SoFarLemmas, LimitLemmas, ReadLemmas, ParserLemmas.
+-- PlaceLemmas, TokenListLemmas, SoFarLemmas, LimitLemmas, ReadLemmas, ParserLemmas.
 pub mod FitLemmas
 pub mod StarredLemmas
 pub mod StackLemmas
@@ -8,6 +8,7 @@ pub mod QuerySizeLemmas
 pub mod WeightLemmas
 pub mod ValidatorLemmas
 pub mod PlaceLemmas
+pub mod TokenListLemmas
 pub mod SoFarLemmas
 pub mod LimitLemmas
 pub mod ReadLemmas

@@ -1,26 +1,24 @@
 -- The reading of a whole text, by the limits on its query.
-use Rattle.std.proofs.Common.{◌≡◌, ◌≤◌, ◌<◌, ◌+◌, ◌^◌, ◌∷◌, ◌⊎◌, ℕ, Bool, true, false, Option, None, refl, sym, ◌&&◌, List, length, Some, ap, ◌∙◌, arith, inl, inr}
+use Rattle.std.proofs.Common.{◌≡◌, ◌≤◌, ◌<◌, ◌+◌, ◌^◌, ◌∷◌, ◌⊎◌, ℕ, Bool, true, false, Option, None, refl, sym, ◌&&◌, List, length, Some, ap, ◌∙◌, arith, inl, inr, subst}
 use Rattle.std.specs.Prelude.{nat_le, if◌then◌else◌, IfErr, IfSome, IsSome, MatchOption, Result, Ok, Err}
 use Rattle.std.proofs.lemmas.Bool.{le-leb, lt-leb}
 use Rattle.lq_value.specs.declared.refusal.Refusal.{Refusal}
 use Rattle.lq_value.specs.declared.refusal.Refusal.TheVariants.{NoMemory}
 use Rattle.lq_predicate_formula.specs.Query.{Query}
 use Rattle.lq_predicate_formula.specs.Canonical.{canonical, depth}
-use Rattle.lq_predicate_formula.specs.Faults.{Reads, most_bytes, most_depth}
+use Rattle.lq_predicate_formula.specs.Faults.{IsFaulty, IsReading, Reads, most_bytes, most_depth}
 use Rattle.lq_predicate_formula.specs.Machine.{State, step}
-use Rattle.lq_predicate_formula.specs.Lexing.{tokens_from}
 use Rattle.lq_predicate_formula.specs.Tokens.{Placed, Yields}
-use Rattle.lq_predicate_formula.specs.Reading.{finished, reading_of}
-use Rattle.lq_predicate_formula.specs.Laws.{FormulasAreRead}
+use Rattle.lq_predicate_formula.specs.MachineReading.{finished}
 use Rattle.lq_predicate_formula.specs.Capped.{capped}
 use Rattle.lq_predicate.specs.declared.query_size.QuerySize.{QuerySize}
 use Rattle.lq_predicate.specs.Validator.{query_size}
-use Rattle.lq_predicate_formula.specs.PredicateLimits.{is_predicate}
+use Rattle.lq_predicate.specs.Reading.{reading_of, the_reading}
 use Rattle.lq_predicate.specs.Refusals.{IsRefusalOf, fault_of}
 use Rattle.lq_predicate.specs.ParserView.{pattern_fault}
 use Rattle.lq_predicate.specs.PlainPlace.{plain_place}
 use Rattle.lq_predicate.proofs.SoFarLemmas.{SoFar, passes, place_fits, stops_here, stops_within}
-use Rattle.lq_predicate.proofs.LimitLemmas.{reads_predicate}
+use Rattle.lq_predicate.proofs.TokenListLemmas.{tokens_from}
 
 -- a whole query within the limits is what the text is read as
 finished_whole : (text : List ℕ) (q : Query) (size : ℕ)
@@ -31,15 +29,20 @@ finished_whole text q size e deep is h =
     e ∙ ap (λ b. if b && nat_le (length (canonical q)) most_bytes then Ok q else Err (length text))
     deep ∙ ap (λ b. if b then Ok q else Err (length text)) (le-leb _ _ fits)
 
--- what a text is read as is a predicate
-pub read_predicate : FormulasAreRead → (text : List ℕ) (q : Query) → reading_of text ≡ Ok q
-    → is_predicate q ≡ true
-read_predicate law text q e = reads_predicate text q ((law text q).0 e)
+-- the query of a reading is one that the text reads as
+pub is_read : (text : List ℕ) (q : Query) → reading_of text ≡ Ok q → Reads text q
+is_read text q e = subst (IsReading text) e (the_reading text).is
 
 -- a fault that is found is what the text reads as
-pub reads_fault : (r : Result Query ℕ) (place : ℕ) → Some place ≡ fault_of r → r ≡ Err place
-reads_fault (Ok q) place e = absurd (let no : ⊥ = cc in no)
-reads_fault (Err at) place e = let same : at ≡ place = cc in ap (λ p. Err p) same
+fault_is : (r : Result Query ℕ) (place : ℕ) → Some place ≡ fault_of r → r ≡ Err place
+fault_is (Ok q) place e = absurd (let no : ⊥ = cc in no)
+fault_is (Err at) place e = let same : at ≡ place = cc in ap (λ p. Err p) same
+
+-- the text is faulty there
+pub is_faulty : (text : List ℕ) (place : ℕ) → Some place ≡ fault_of (reading_of text)
+    → IsFaulty text place
+is_faulty text place e =
+    subst (IsReading text) (fault_is (reading_of text) place e) (the_reading text).is
 
 -- the query of a text that ends here, if it reads without a fault
 pub ends_whole : (end : ℕ) (o : Option Query) → fault_of (finished end o) ≡ None → IsSome o
@@ -123,11 +126,14 @@ query_of text (Ok q) e fine = (q, e)
 query_of text (Err place) e fine = absurd (let bad : ⊥ = cc in bad)
 
 -- a text without a fault reads as a query
-pub fine_reads : FormulasAreRead → (text : List ℕ) → fault_of (reading_of text) ≡ None
-    → (q : Query) × Reads text q
-fine_reads law text fine =
+pub fine_reads : (text : List ℕ) → fault_of (reading_of text) ≡ None → (q : Query) × Reads text q
+fine_reads text fine =
     let q = query_of text (reading_of text) refl fine in
-    (q.0, (law text q.0).0 q.1)
+    (q.0, is_read text q.0 q.1)
+
+-- so it isn't too long
+pub reads_short : (text : List ℕ) → fault_of (reading_of text) ≡ None → length text ≤ 4096
+reads_short text fine = (fine_reads text fine).1.short
 
 -- the text reads, so a call for it that fails only for want of memory is refused as one
 pub for_memory : {T : Type 0} (text : List ℕ) (r : Result T Refusal)

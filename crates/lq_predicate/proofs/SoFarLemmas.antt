@@ -4,17 +4,19 @@ use Rattle.std.specs.Prelude.{if◌then◌else◌, IsSome, nat_le, Result, Err}
 use Rattle.std.proofs.lemmas.Bool.{lt-leb, le-leb, leb-true}
 use Rattle.std.proofs.lemmas.List.{append-nil}
 use Rattle.lq_predicate_formula.specs.Words.{WordIs, WordsAre}
-use Rattle.lq_predicate_formula.specs.Lexing.{tokens_from, tokens_of}
-use Rattle.lq_predicate_formula.specs.Tokens.{Placed, Yields, bare}
+use Rattle.lq_predicate_formula.specs.Tokens.{HasTokens, Placed, Yields, bare}
 use Rattle.lq_predicate_formula.specs.Query.{Query}
 use Rattle.lq_predicate_formula.specs.Grammar.{nesting}
 use Rattle.lq_predicate_formula.specs.Machine.{State, start, step, whole, weight}
 use Rattle.lq_predicate_formula.specs.Faults.{most_bytes, most_comparisons}
-use Rattle.lq_predicate_formula.specs.Reading.{after_token, fault_place, finished, read_tokens, reading_of, word_count}
+use Rattle.lq_predicate_formula.specs.MachineReading.{after_token, fault_place, finished, machine_reading, read_tokens, word_count}
+use Rattle.lq_predicate_formula.proofs.OneReadingLemmas.{machine_reads}
 use Rattle.lq_predicate.specs.ParserView.{pattern_fault}
 use Rattle.lq_predicate.specs.PlainPlace.{plain_place}
+use Rattle.lq_predicate.specs.Reading.{reading_of, the_reading}
 use Rattle.lq_predicate.specs.Refusals.{fault_of}
 use Rattle.lq_predicate.proofs.PlaceLemmas.{fault_place-plain, fault_place-pattern, pattern_place-bound}
+use Rattle.lq_predicate.proofs.TokenListLemmas.{the_tokens, tokens_from, tokens_of}
 use Rattle.lq_predicate.proofs.WeightLemmas.{step_weight}
 
 -- a formula is read up to a place: what the whole reading is, from the state there
@@ -25,13 +27,18 @@ pub record SoFar (text : List ℕ) (place : ℕ) (rest : List ℕ) (s : State) (
   pub short : length text ≤ 4096
   pub room : place + length rest ≡ length text
 
+-- the reading is the one that the machine finds
+machine_finds : (text : List ℕ) → machine_reading text (tokens_of text) ≡ reading_of text
+machine_finds text = (the_reading text).only (machine_reading text (tokens_of text))
+    (machine_reads text (tokens_of text) (the_tokens 0 text).has)
+
 -- before the first token nothing has been read
 pub starts : (text : List ℕ) (s : State) → length text ≤ 4096 → s ≡ start nesting
     → SoFar text 0 text s 0
 starts text s h e = record {
   reads = ap (λ x. read_tokens (length text) x 0 (tokens_of text)) e
       ∙ sym (ap (λ b. if b then read_tokens (length text) (start nesting) 0 (tokens_of text)
-      else Err most_bytes) (le-leb (length text) most_bytes h));
+      else Err most_bytes) (le-leb (length text) most_bytes h)) ∙ machine_finds text;
   few = omega arith;
   small = subst (λ x. weight x ≤ 64) (sym e) (omega arith);
   short = h;
@@ -146,11 +153,6 @@ taken_by : (fault : ℕ) (t : Placed) (o : Option State) (n : ℕ) (others : Sta
 taken_by fault t None n others fine = cc
 taken_by fault t (Some s) n others fine = refl
 
--- a text that reads isn't too long
-pub reads_short : (text : List ℕ) → fault_of (reading_of text) ≡ None → length text ≤ 4096
-reads_short text fine = leb-true (length text) most_bytes (passes (nat_le (length text) most_bytes)
-    (read_tokens (length text) (start nesting) 0 (tokens_of text)) most_bytes fine)
-
 module _ (text : List ℕ) (place : ℕ) (rest : List ℕ) (s : State) (count : ℕ)
     (h : SoFar text place rest s count) (fine : fault_of (reading_of text) ≡ None) where
   -- the next token can be taken
@@ -209,6 +211,8 @@ one_text text place rest s t next behind e h = record {
 
 -- where no token is left, all words of the text are of UTF-8
 pub all_texts : (text : List ℕ) (place : ℕ) (rest : List ℕ) → TextsSoFar text place rest
-    → tokens_from place rest ≡ [] → WordsAre IsUtf8 (bare (tokens_of text))
-all_texts text place rest s e = subst (λ ts. WordsAre IsUtf8 (bare ts))
-    (sym (s.split ∙ ap (λ ts. s.front ++ ts) e ∙ append-nil s.front)) s.texts
+    → tokens_from place rest ≡ [] → (ts : List Placed) → HasTokens 0 text ts
+    → WordsAre IsUtf8 (bare ts)
+all_texts text place rest s e ts has = subst (λ us. WordsAre IsUtf8 (bare us))
+    (sym ((the_tokens 0 text).only ts has ∙ s.split ∙ ap (λ us. s.front ++ us) e
+    ∙ append-nil s.front)) s.texts

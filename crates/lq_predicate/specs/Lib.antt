@@ -6,7 +6,6 @@ pub mod Stack
 pub use Rattle.lq_predicate_formula.specs.Query
 pub use Rattle.lq_predicate_formula.specs.Canonical
 pub use Rattle.lq_predicate_formula.specs.Faults
-pub use Rattle.lq_predicate_formula.specs.Reading
 pub use Rattle.lq_predicate_formula.specs.QueryCode
 pub use Rattle.lq_predicate_formula.specs.PredicateLimits
 pub use Rattle.lq_predicate_formula.specs.Truth
@@ -16,5 +15,6 @@ pub use Rattle.lq_predicate_formula.specs.Span
 pub use Rattle.lq_predicate_formula.specs.Laws
 pub mod ParserView
 pub mod PlainPlace
+pub mod Reading
 pub mod Refusals
 pub mod Validator

@@ -3,7 +3,7 @@ use Rattle.std.specs.Prelude.{ℕ, List, map, reverse, Vec, Option, None}
 use Rattle.std.specs.declared.alloc.Global.{Global}
 use Rattle.lq_predicate_formula.specs.Tokens.{Token, opens, closes, bang, ands, ors, op, word, lone, cut}
 use Rattle.lq_predicate_formula.specs.Machine.{Frame, Expected, operand, after_attr, after_op, after_operand, State}
-use Rattle.lq_predicate_formula.specs.Reading.{pattern_fault_of_word}
+use Rattle.lq_predicate_formula.specs.MachineReading.{pattern_fault_of_word}
 use Rattle.lq_predicate.specs.declared.parser.TreeFrame.{TreeFrame}
 use Rattle.lq_predicate.specs.declared.expected.Expected.{Expected as Expects}
 use Rattle.lq_predicate.specs.declared.expected.Expected.TheVariants as expects

@@ -10,11 +10,6 @@ abbrev pub IsRefusalOf : List ℕ → Refusal → Type 0
 IsRefusalOf text e = ((place : ℕ) × (e ≡ BadQuery place) × IsFaulty text place)
     ⊎ ((e ≡ NoMemory) × ((q : Query) × Reads text q))
 
--- the refusal of a reading: none for a query, for a fault its place
-abbrev pub refusal_of : Result Query ℕ → Option Refusal
-refusal_of (Ok q) = None
-refusal_of (Err place) = Some (BadQuery place)
-
 -- the place of a reading's fault
 abbrev pub fault_of : Result Query ℕ → Option ℕ
 fault_of (Ok q) = None

@@ -1,8 +1,9 @@
 //! Finds where a formula is faulty, without taking memory.
 ghost use Rattle.std.specs.Prelude.{◌≡◌, ◌≤◌, ◌<◌, ◌+◌, ◌^◌, IfSome, MatchOption, length};
-ghost use Rattle.lq_predicate_formula.specs.Reading.{reading_of, word_count};
+ghost use Rattle.lq_predicate_formula.specs.MachineReading.{word_count};
 ghost use Rattle.lq_predicate_formula.specs.TokenView.{placed_of, token_of};
 ghost use Rattle.lq_predicate.specs.PlainPlace.{plain_place};
+ghost use Rattle.lq_predicate.specs.Reading.{reading_of};
 ghost use Rattle.lq_predicate.specs.Refusals.{fault_of};
 
 use crate::expected::Expected;

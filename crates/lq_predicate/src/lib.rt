@@ -32,7 +32,7 @@ mod validator;
 pub use attributes::{names, needs_attribute};
 pub use canonical::write;
 pub use lq_predicate_formula::{
-    Row, bare_rows_fail, truth_goes_by_names, truth_stays_beside_spans,
+    Row, bare_rows_fail, one_reading, truth_goes_by_names, truth_stays_beside_spans,
 };
 pub use predicate::Predicate;
 pub use reader::read;

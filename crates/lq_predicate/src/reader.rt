@@ -1,23 +1,19 @@
 //! Reads a formula.
-ghost use Rattle.std.specs.Prelude.{◌≡◌, ℕ, None, Ok, IfOk, IfErr, IsTrue, OnOk};
+ghost use Rattle.std.specs.Prelude.{◌≡◌, List, None, IfOk, IfErr, IsTrue, OnOk};
 ghost use Rattle.std.specs.Str.{IsUtf8};
-ghost use Rattle.lq_predicate_formula.specs.Faults.{Reads, IsFaulty};
+ghost use Rattle.lq_predicate_formula.specs.Faults.{Reads};
 ghost use Rattle.lq_predicate_formula.specs.Limits.{IsProper};
 ghost use Rattle.lq_predicate_formula.specs.PredicateLimits.{is_predicate};
-ghost use Rattle.lq_predicate_formula.specs.Reading.{reading_of};
-ghost use Rattle.lq_predicate_formula.specs.Lexing.{tokens_of};
-ghost use Rattle.lq_predicate_formula.specs.Tokens.{bare};
+ghost use Rattle.lq_predicate_formula.specs.Tokens.{HasTokens, Placed, bare};
 ghost use Rattle.lq_predicate_formula.specs.Words.{WordsAre};
-ghost use Rattle.lq_value.specs.declared.refusal.Refusal.TheVariants.{BadQuery};
-ghost use Rattle.lq_value.specs.Refusal.{FailsOnlyForMemory, IsRefusedBy};
-ghost use Rattle.lq_predicate.specs.Refusals.{IsRefusalOf, fault_of, refusal_of};
+ghost use Rattle.lq_value.specs.Refusal.{FailsOnlyForMemory};
+ghost use Rattle.lq_predicate.specs.Reading.{reading_of};
+ghost use Rattle.lq_predicate.specs.Refusals.{IsRefusalOf, fault_of};
 
 use crate::fault_place::fault_place;
 use crate::parser::{end_of, new_parser, read_token};
 use crate::predicate::Predicate;
-use lq_predicate_formula::{
-    Cursor, Tree, faults_are_found, formulas_are_read, next_token, read_is_good,
-};
+use lq_predicate_formula::{Cursor, Tree, next_token, read_is_good};
 use lq_value::Refusal;
 use std::alloc::Global;
 
@@ -32,12 +28,6 @@ pub fn read(alloc: Global, formula: &str) -> Result<Predicate, Refusal>
 
     // Its leftmost fault is refused, or it reads and memory is wanting.
     ensures fails { IfErr result (IsRefusalOf formula.now) }
-    ensures fault { IfErr result
-        (λ e. (place : ℕ) → e ≡ BadQuery place → IsFaulty formula.now place) }
-
-    // The same, stated on the reading of the formula: its query, else its leftmost fault.
-    ensures value { IfOk result (λ p. reading_of formula.now ≡ Ok p) }
-    ensures refused { IsRefusedBy result (refusal_of (reading_of formula.now)) }
 {
     let tree = read_tree(alloc, formula)?;
     Ok(Predicate::of(alloc, tree))
@@ -45,19 +35,13 @@ pub fn read(alloc: Global, formula: &str) -> Result<Predicate, Refusal>
 
 // The query that a formula writes, as a tree within the limits of a predicate.
 fn read_tree(alloc: Global, formula: &str) -> Result<Tree, Refusal>
-    ensures value { IfOk result (λ tree. reading_of formula.now ≡ Ok tree) }
     ensures reads { IfOk result (λ tree. Reads formula.now tree) }
     ensures valid { IfOk result (λ tree. IsTrue (is_predicate tree)) }
     ensures proper { IfOk result IsProper }
 
-    // The formula alone decides the refusal, which names the offset of the leftmost fault.
-    ensures refused { IsRefusedBy result (refusal_of (reading_of formula.now)) }
-    ensures fault { IfErr result
-        (λ e. (place : ℕ) → e ≡ BadQuery place → IsFaulty formula.now place) }
+    // Its leftmost fault is refused, or it reads and memory is wanting.
     ensures fails { IfErr result (IsRefusalOf formula.now) }
 {
-    formulas_are_read();
-    faults_are_found();
     read_is_good();
     if let Some(place) = fault_place(formula) {
         return Err(Refusal::BadQuery { place });
@@ -69,8 +53,9 @@ fn read_tree(alloc: Global, formula: &str) -> Result<Tree, Refusal>
 // The query of a text that reads as one.
 fn build(alloc: Global, text: &str) -> Result<Tree, Refusal>
     requires { fault_of (reading_of text.now) ≡ None }
-    ensures value { IfOk result (λ tree. reading_of text.now ≡ Ok tree) }
-    ensures texts { OnOk result (WordsAre IsUtf8 (bare (tokens_of text.now))) }
+    ensures value { IfOk result (λ tree. Reads text.now tree) }
+    ensures texts { OnOk result
+        ((ts : List Placed) → HasTokens 0 text.now ts → WordsAre IsUtf8 (bare ts)) }
     ensures refused { FailsOnlyForMemory result }
 {
     let mut parser = new_parser(alloc);

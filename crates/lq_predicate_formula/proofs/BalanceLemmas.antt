@@ -7,7 +7,7 @@ use Rattle.lq_predicate_formula.specs.Query.{Compare}
 use Rattle.lq_predicate_formula.specs.Grammar.{nesting}
 use Rattle.lq_predicate_formula.specs.Machine.{Frame, Expected, operand, after_attr, after_op, after_operand, State, completed, start, step, steps}
 use Rattle.lq_predicate_formula.specs.Faults.{AwaitsAttr, IsFaultOf, one_more, most_comparisons, op_count, operators}
-use Rattle.lq_predicate_formula.specs.Reading.{word_count}
+use Rattle.lq_predicate_formula.specs.MachineReading.{word_count}
 use Rattle.lq_predicate_formula.proofs.DepthLemmas.{at}
 use Rattle.lq_predicate_formula.proofs.WordLemmas.{words}
 use Rattle.lq_predicate_formula.proofs.StepsLemmas.{fails}

@@ -15,8 +15,9 @@ use Rattle.lq_predicate_formula.specs.Tokens.{Token, opens, closes, bang, ands, 
 use Rattle.lq_predicate_formula.specs.Query.{Query, Compare, Not, And, Or, Queries, no_more, and_then}
 use Rattle.lq_predicate_formula.specs.Canonical.{attr_then, in_marks, is_bare_byte, literal_text, op_text, others_written, parts_written, quoted, written}
 use Rattle.lq_predicate_formula.specs.Limits.{AreProper, IsGoodLiteral, IsProper}
-use Rattle.lq_predicate_formula.specs.Lexing.{BeginsBy, Front, HasFronts, begins_with, fixed, front, is_symbol, placed_at, quoted_bytes, quoted_front, spaces, symbol_front, word_bytes, word_front}
+use Rattle.lq_predicate_formula.specs.Lexing.{BeginsBy, Front, begins_with, fixed, front, is_symbol, placed_at, quoted_bytes, quoted_front, spaces, symbol_front, word_bytes, word_front}
 use Rattle.lq_predicate_formula.proofs.QuotingLemmas.{Ends, quoted_ends}
+use Rattle.lq_predicate_formula.proofs.SignLemmas.{HasFronts}
 use Rattle.lq_predicate_formula.proofs.PatternTextLemmas.{pattern_ends}
 
 -- ---- what a canonical text says

@@ -6,14 +6,13 @@ use Rattle.std.proofs.lemmas.List.{map-append}
 use Rattle.lq_value.specs.declared.op.Op.{Op}
 use Rattle.lq_value.specs.declared.op.Op.TheVariants.{Eq}
 use Rattle.lq_predicate_formula.specs.Tokens.{Token, opens, closes, bang, ands, ors, op, word, lone, cut, Placed, HasTokens, bare}
-use Rattle.lq_predicate_formula.specs.Lexing.{tokens_of}
 use Rattle.lq_predicate_formula.specs.Query.{Query, Compare}
 use Rattle.lq_predicate_formula.specs.Grammar.{IsFormula, nesting}
 use Rattle.lq_predicate_formula.specs.Machine.{Frame, Expected, operand, after_attr, after_op, after_operand, State, completed, run, start, step, steps, whole}
 use Rattle.lq_predicate_formula.specs.Canonical.{canonical, depth}
 use Rattle.lq_predicate_formula.specs.Faults.{AreFine, AwaitsAttr, CanStand, IsFaultOf, stray, cut_off, alone, too_deep, bad_name, one_more, bad_pattern, IsFaulty, too_long, at_token, ends_early, too_much, kind_of, most_bytes, most_comparisons, most_depth}
-use Rattle.lq_predicate_formula.specs.Reading.{after_token, fault_place, fault_place_of, finished, place_with, read_tokens, reading_of, word_count}
-use Rattle.lq_predicate_formula.proofs.TokenLemmas.{has_tokens, tokens_same}
+use Rattle.lq_predicate_formula.specs.MachineReading.{after_token, fault_place, fault_place_of, finished, machine_reading, place_with, read_tokens, word_count}
+use Rattle.lq_predicate_formula.proofs.TokenLemmas.{tokens_same}
 use Rattle.lq_predicate_formula.proofs.CompleteLemmas.{formula_runs}
 use Rattle.lq_predicate_formula.proofs.StopLemmas.{empty_literal, reads_at_end, steps_push, steps_run}
 use Rattle.lq_predicate_formula.proofs.DepthLemmas.{at}
@@ -281,20 +280,20 @@ stops_at end before here after s count p (Some s') h fault fine e =
     (most_comparisons + most_comparisons)) h fault fine e refl
 
 -- the reading of a text that is not too long is that of its tokens
-short_reading : (text : List ℕ) (ts : List Placed) → length text ≤ most_bytes → HasTokens 0 text ts
-    → reading_of text ≡ read_tokens (length text) (start nesting) 0 ts
-short_reading text ts short has =
-    ap (λ b. if b then read_tokens (length text) (start nesting) 0 (tokens_of text)
-    else Err most_bytes) (test_true _ _ short)
-    ∙ ap (read_tokens (length text) (start nesting) 0)
-    (tokens_same (tokens_of text) ts 0 text (has_tokens 0 text) has)
+short_reading : (text : List ℕ) (ts us : List Placed) → HasTokens 0 text ts
+    → length text ≤ most_bytes → HasTokens 0 text us
+    → machine_reading text ts ≡ read_tokens (length text) (start nesting) 0 us
+short_reading text ts us has short is =
+    ap (λ b. if b then read_tokens (length text) (start nesting) 0 ts else Err most_bytes)
+    (test_true _ _ short)
+    ∙ ap (read_tokens (length text) (start nesting) 0) (tokens_same ts us 0 text has is)
 
 -- where all tokens are taken, the reading is what stands at the end
-whole_reading : (text : List ℕ) (all : List Placed)
+whole_reading : (text : List ℕ) (ts all : List Placed) → HasTokens 0 text ts
     → length text ≤ most_bytes → HasTokens 0 text all → (t : Takes (length text) all)
-    → reading_of text ≡ finished (length text) (whole t.s)
-whole_reading text all short has t =
-    short_reading text all short has ∙ ap (read_tokens (length text) (start nesting) 0)
+    → machine_reading text ts ≡ finished (length text) (whole t.s)
+whole_reading text ts all has short is t =
+    short_reading text ts all has short is ∙ ap (read_tokens (length text) (start nesting) 0)
     (sym (append-nil all)) ∙ t.goes [] ∙ read_end (length text) t.s t.count
 
 -- where the tokens are no formula, the reading is the end of the text
@@ -318,23 +317,24 @@ too_big_by end q (inr h) =
     ap (λ b. if nat_le (depth q) most_depth && b then Ok q else Err end) (lt-leb _ _ h)
     ∙ ap (λ b. if b then Ok q else Err end) (and_false (nat_le (depth q) most_depth))
 
--- where the leftmost fault of a text is at a place, the reading is that place
-pub faulty_reading : (text : List ℕ) (p : ℕ) → IsFaulty text p → reading_of text ≡ Err p
-faulty_reading text p (too_long h at) =
-    ap (λ b. if b then read_tokens (length text) (start nesting) 0 (tokens_of text)
-    else Err most_bytes) (lt-leb _ _ h) ∙ ap Err (sym at)
-faulty_reading text p (at_token short before here after has fine fault) =
+-- where the leftmost fault of a text is at a place, the machine finds that place
+pub faulty_reading : (text : List ℕ) (ts : List Placed) (p : ℕ) → HasTokens 0 text ts
+    → IsFaulty text p → machine_reading text ts ≡ Err p
+faulty_reading text ts p has (too_long h at) =
+    ap (λ b. if b then read_tokens (length text) (start nesting) 0 ts else Err most_bytes)
+    (lt-leb _ _ h) ∙ ap Err (sym at)
+faulty_reading text ts p has (at_token short before here after is fine fault) =
     let t = takes_all (length text) before fine in
-    short_reading text (before ++ here ∷ after) short has ∙ t.goes (here ∷ after) ∙ stops_at
+    short_reading text ts (before ++ here ∷ after) has short is ∙ t.goes (here ∷ after) ∙ stops_at
     (length text) before here after t.s t.count p (step t.s here.token) t.seen fault fine refl
-faulty_reading text p (ends_early short all has fine none at) =
+faulty_reading text ts p has (ends_early short all is fine none at) =
     let t = takes_all (length text) all fine in
-    whole_reading text all short has t ∙ none_whole text all t (whole t.s) refl none
+    whole_reading text ts all has short is t ∙ none_whole text all t (whole t.s) refl none
     ∙ ap Err (sym at)
-faulty_reading text p (too_much short all has fine q formula over at) =
+faulty_reading text ts p has (too_much short all is fine q formula over at) =
     let t = takes_all (length text) all fine in
     let goes = steps_run (bare all) (start nesting) t.s [] t.seen.goes in
-    let is : whole t.s ≡ Some q = sym goes ∙ ap (run (start nesting)) (append-nil (bare all))
+    let whole_is : whole t.s ≡ Some q = sym goes ∙ ap (run (start nesting)) (append-nil (bare all))
     ∙ formula_runs nesting (bare all) q formula in
-    whole_reading text all short has t ∙ ap (finished (length text)) is
+    whole_reading text ts all has short is t ∙ ap (finished (length text)) whole_is
     ∙ too_big_by (length text) q over ∙ ap Err (sym at)

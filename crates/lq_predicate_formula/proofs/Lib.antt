@@ -2,11 +2,12 @@
 -- Grammar and machine read the same: CompleteLemmas, SoundLemmas, WordLemmas, ReadingLemmas,
 -- ProperLemmas.
 -- Faults: StopLemmas, DepthLemmas, OutlineLemmas, StepsLemmas, RefusedLemmas, BalanceLemmas,
--- TakenLemmas, StoppedLemmas, ExactLemmas. What is written reads back: QuotingLemmas,
--- EncodedLemmas, PatternTextLemmas, CanonicalLemmas, RoundLemmas, GoodLemmas. What the writers and
--- counters do, a piece at a time: RawLemmas, WritingLemmas, SizeLemmas, SourceSizeLemmas. The texts
--- of trees, a piece at a time: PartLemmas, TreeTextLemmas, TreeSizeLemmas, TreeDepthLemmas. Names
--- and truth: NameLemmas, FormedLemmas, TruthLemmas, SpanLemmas, NeedLemmas.
+-- TakenLemmas, StoppedLemmas, ExactLemmas. Each text has one reading: OneReadingLemmas. What is
+-- written reads back: QuotingLemmas, EncodedLemmas, PatternTextLemmas, CanonicalLemmas,
+-- RoundLemmas, GoodLemmas. What the writers and counters do, a piece at a time: RawLemmas,
+-- WritingLemmas, SizeLemmas, SourceSizeLemmas. The texts of trees, a piece at a time: PartLemmas,
+-- TreeTextLemmas, TreeSizeLemmas, TreeDepthLemmas. Names and truth: NameLemmas, FormedLemmas,
+-- TruthLemmas, SpanLemmas, NeedLemmas.
 pub mod CountLemmas
 pub mod CutLemmas
 pub mod SignLemmas
@@ -30,6 +31,7 @@ pub mod CanonicalLemmas
 pub mod RoundLemmas
 pub mod RawLemmas
 pub mod ExactLemmas
+pub mod OneReadingLemmas
 pub mod ProperLemmas
 pub mod GoodLemmas
 pub mod WritingLemmas

@@ -3,15 +3,14 @@ use Rattle.std.proofs.Common.{◌≡◌, ◌≤◌, ◌+◌, ℕ, Bool, true, fa
 use Rattle.std.specs.Prelude.{◌&&◌, nat_le, if◌then◌else◌, Result, Ok, Err}
 use Rattle.std.proofs.lemmas.Bool.{leb-true, le-leb}
 use Rattle.std.proofs.lemmas.Option.{none-some}
-use Rattle.lq_predicate_formula.specs.Tokens.{Token, Placed, bare}
-use Rattle.lq_predicate_formula.specs.Lexing.{tokens_of}
+use Rattle.lq_predicate_formula.specs.Tokens.{HasTokens, Token, Placed, bare}
 use Rattle.lq_predicate_formula.specs.Query.{Query}
 use Rattle.lq_predicate_formula.specs.Grammar.{IsFormula, nesting}
 use Rattle.lq_predicate_formula.specs.Machine.{State, start, step, whole, run}
 use Rattle.lq_predicate_formula.specs.Canonical.{canonical, comparisons, depth}
 use Rattle.lq_predicate_formula.specs.Faults.{Reads, most_bytes, most_comparisons, most_depth}
-use Rattle.lq_predicate_formula.specs.Reading.{after_token, fault_place, finished, read_tokens, reading_of, word_count}
-use Rattle.lq_predicate_formula.proofs.TokenLemmas.{has_tokens, tokens_same}
+use Rattle.lq_predicate_formula.specs.MachineReading.{after_token, fault_place, finished, machine_reading, read_tokens, word_count}
+use Rattle.lq_predicate_formula.proofs.TokenLemmas.{tokens_same}
 use Rattle.lq_predicate_formula.proofs.CompleteLemmas.{formula_runs}
 use Rattle.lq_predicate_formula.proofs.SoundLemmas.{run_reads}
 use Rattle.lq_predicate_formula.proofs.WordLemmas.{formula_words, words}
@@ -128,38 +127,37 @@ short_by : (text : List ℕ) (q : Query) (b : Bool) (r : Result Query ℕ)
 short_by text q true r e f = (leb-true _ _ e, f)
 short_by text q false r e f = err_ok most_bytes q (Err most_bytes) refl f
 
--- a query that the reading gives is one that the text reads as
-pub reading_reads : (text : List ℕ) (q : Query) → reading_of text ≡ Ok q → Reads text q
-reading_reads text q e =
+-- a query that the machine reads is one that the text reads as
+pub reading_reads : (text : List ℕ) (ts : List Placed) (q : Query) → HasTokens 0 text ts
+    → machine_reading text ts ≡ Ok q → Reads text q
+reading_reads text ts q has e =
     let h = short_by text q (nat_le (length text) most_bytes)
-    (read_tokens (length text) (start nesting) 0 (tokens_of text)) refl e in
-    let r = read_runs (length text) (tokens_of text) (start nesting) 0 q h.1 in
-    let formula = run_reads nesting (bare (tokens_of text)) q r.runs in
+    (read_tokens (length text) (start nesting) 0 ts) refl e in
+    let r = read_runs (length text) ts (start nesting) 0 q h.1 in
+    let formula = run_reads nesting (bare ts) q r.runs in
     let few = r.few (omega arith) in
-    let counted = formula_words nesting (bare (tokens_of text)) q formula in
+    let counted = formula_words nesting (bare ts) q formula in
     record {
       short = h.0;
-      tokens = tokens_of text;
-      has = has_tokens 0 text;
+      tokens = ts;
+      has = has;
       formula = formula;
       few = omega arith;
       shallow = r.small.shallow;
       brief = r.small.brief;
     }
 
--- a query that the text reads as is the one that the reading gives
-pub reads_reading : (text : List ℕ) (q : Query) → Reads text q → reading_of text ≡ Ok q
-reads_reading text q h =
-    let same : h.tokens ≡ tokens_of text =
-    tokens_same h.tokens (tokens_of text) 0 text h.has (has_tokens 0 text) in
-    let formula : IsFormula nesting (bare (tokens_of text)) q =
-    subst (λ ts. IsFormula nesting (bare ts) q) same h.formula in
-    let counted = formula_words nesting (bare (tokens_of text)) q formula in
+-- a query that the text reads as is the one that the machine reads
+pub reads_reading : (text : List ℕ) (ts : List Placed) (q : Query) → HasTokens 0 text ts
+    → Reads text q → machine_reading text ts ≡ Ok q
+reads_reading text ts q has h =
+    let same : h.tokens ≡ ts = tokens_same h.tokens ts 0 text h.has has in
+    let formula : IsFormula nesting (bare ts) q =
+    subst (λ us. IsFormula nesting (bare us) q) same h.formula in
+    let counted = formula_words nesting (bare ts) q formula in
     let few : comparisons q ≤ most_comparisons = h.few in
-    let all : 0 + words (bare (tokens_of text)) ≤ most_comparisons + most_comparisons =
-    omega arith in
-    ap (λ b. if b then read_tokens (length text) (start nesting) 0 (tokens_of text)
-    else Err most_bytes) (test_true _ _ h.short)
-    ∙ run_is_read (length text) (tokens_of text) (start nesting) 0 q
-    (formula_runs nesting (bare (tokens_of text)) q formula) all
+    let all : 0 + words (bare ts) ≤ most_comparisons + most_comparisons = omega arith in
+    ap (λ b. if b then read_tokens (length text) (start nesting) 0 ts else Err most_bytes)
+    (test_true _ _ h.short) ∙ run_is_read (length text) ts (start nesting) 0 q
+    (formula_runs nesting (bare ts) q formula) all
     (record { shallow = h.shallow; brief = h.brief })

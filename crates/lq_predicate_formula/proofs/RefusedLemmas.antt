@@ -12,7 +12,7 @@ use Rattle.lq_predicate_formula.specs.Query.{Compare}
 use Rattle.lq_predicate_formula.specs.Grammar.{nesting}
 use Rattle.lq_predicate_formula.specs.Machine.{Frame, Expected, operand, after_attr, after_op, after_operand, State, completed, start, step, steps}
 use Rattle.lq_predicate_formula.specs.Faults.{AwaitsAttr, IsFaultOf, stray, cut_off, alone, too_deep, bad_name, bad_pattern, kind_of}
-use Rattle.lq_predicate_formula.specs.Reading.{fault_place, fault_place_of, place_with}
+use Rattle.lq_predicate_formula.specs.MachineReading.{fault_place, fault_place_of, place_with}
 use Rattle.lq_predicate_formula.proofs.StopLemmas.{not_begun, steps_push}
 use Rattle.lq_predicate_formula.proofs.DepthLemmas.{at, steps_wider, wider}
 use Rattle.lq_predicate_formula.proofs.OutlineLemmas.{cannot, outline_of, outline_step}

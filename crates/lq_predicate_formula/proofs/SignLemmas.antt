@@ -10,7 +10,7 @@ use Rattle.lq_value.specs.declared.op.Op.{Op}
 use Rattle.lq_value.specs.declared.op.Op.TheVariants.{Eq, Ne, Lt, Le, Gt, Ge}
 use Rattle.lq_predicate_formula.specs.Bytes.{ends_word, is_space}
 use Rattle.lq_predicate_formula.specs.Tokens.{Token, opens, closes, bang, ands, ors, op, word, lone, cut, Placed, Sign, plain, escaped, sign_bytes, AllGoOn, AreSigns, AreWithout, EndsWord, HasNoEnd, IsBlank, IsMark, IsNotNext, IsOp, IsQuoted, IsToken, IsTokenAt, IsUnclosed, IsUnquoted, HasTokens, Yields}
-use Rattle.lq_predicate_formula.specs.Lexing.{spaces, word_bytes, quoted_bytes, Front, fixed, begins_with, longer, quoted_front, word_front, is_symbol, symbol_front, front, front_at, placed_at, BeginsBy, trimmed, YieldsBy, HasFronts}
+use Rattle.lq_predicate_formula.specs.Lexing.{spaces, word_bytes, quoted_bytes, Front, fixed, begins_with, longer, quoted_front, word_front, is_symbol, symbol_front, front, front_at, placed_at, BeginsBy, trimmed}
 
 -- ---- tests of bytes
 
@@ -224,7 +224,8 @@ Fronts t i part rest = front_at (part ++ rest) ≡ front_with t (length part) i
 unclosed_front : (part rest : List ℕ) → rest ≡ [] → IsUnclosed part → Fronts cut 0 part rest
 unclosed_front part rest e u =
     subst (λ r. Fronts cut 0 part r) (sym e)
-    (subst (λ l. front_at l ≡ front_with cut (length part) 0) (sym (append-nil part)) (subst (λ l. front_at l ≡ front_with cut (length l) 0) (sym u.4)
+    (subst (λ l. front_at l ≡ front_with cut (length part) 0) (sym (append-nil part))
+    (subst (λ l. front_at l ≡ front_with cut (length l) 0) (sym u.4)
     (mark_front u.0 u.1 u.2 ∙ ap (quoted_front u.1) (no_end_none u.0 u.1 u.3))))
 
 -- an operator
@@ -415,6 +416,16 @@ spaces_within [] = omega arith
 spaces_within (b ∷ bs) = spaces_by b bs (is_space b) (spaces_within bs)
 
 -- ---- what a text yields is what the lexer finds
+
+-- the text from an offset on begins, after white space, with the token that the lexer finds
+abbrev pub YieldsBy : ℕ → List ℕ → Placed → ℕ → List ℕ → Type 0
+YieldsBy at bs t next rest = BeginsBy (at + spaces bs) (trimmed bs) t next rest
+
+-- the text from an offset on has the tokens that the lexer finds
+abbrev pub HasFronts : ℕ → List ℕ → List Placed → Type 0
+HasFronts at bs [] = trimmed bs ≡ []
+HasFronts at bs (t ∷ ts) =
+    (next : ℕ) × (rest : List ℕ) × YieldsBy at bs t next rest × HasFronts next rest ts
 
 -- a token by its signs is the one with which the lexer says that the text begins
 begins_by : (at : ℕ) (part rest : List ℕ) (t : Placed) → IsTokenAt at part rest t

@@ -4,14 +4,12 @@ use Rattle.std.specs.Prelude.{◌&&◌, nat_le, if◌then◌else◌, Result, Ok,
 use Rattle.std.proofs.lemmas.Bool.{leb-true, leb-false}
 use Rattle.std.proofs.lemmas.List.{map-append}
 use Rattle.lq_predicate_formula.specs.Tokens.{Token, opens, closes, bang, ands, ors, op, word, lone, cut, Placed, HasTokens, bare}
-use Rattle.lq_predicate_formula.specs.Lexing.{tokens_of}
 use Rattle.lq_predicate_formula.specs.Query.{Query}
 use Rattle.lq_predicate_formula.specs.Grammar.{IsFormula, nesting}
 use Rattle.lq_predicate_formula.specs.Machine.{State, start, step, steps, whole}
 use Rattle.lq_predicate_formula.specs.Canonical.{canonical, depth}
 use Rattle.lq_predicate_formula.specs.Faults.{AreFine, IsFaultOf, IsFaulty, too_long, at_token, ends_early, too_much, most_bytes, most_comparisons, most_depth}
-use Rattle.lq_predicate_formula.specs.Reading.{after_token, fault_place, finished, read_tokens, reading_of, word_count}
-use Rattle.lq_predicate_formula.proofs.TokenLemmas.{has_tokens}
+use Rattle.lq_predicate_formula.specs.MachineReading.{after_token, fault_place, finished, machine_reading, read_tokens, word_count}
 use Rattle.lq_predicate_formula.proofs.StopLemmas.{ends_none, reads_at_end, steps_push}
 use Rattle.lq_predicate_formula.proofs.RefusedLemmas.{refused_fault}
 use Rattle.lq_predicate_formula.proofs.BalanceLemmas.{full}
@@ -156,25 +154,26 @@ stops end (t ∷ ts) seen all s count p a h e =
     (a ∙ sym (append_assoc seen (t ∷ []) ts)) k f) e
 
 -- where the tokens of a text stop at a fault, the text is faulty there
-faulty : (text : List ℕ) (p : ℕ) → length text ≤ most_bytes → Stops (length text) (tokens_of text) p
-    → IsFaulty text p
-faulty text p short (at_one before here after split fine fault) =
-    at_token short before here after (subst (HasTokens 0 text) split (has_tokens 0 text)) fine fault
-faulty text p short (too_soon fine none at) =
-    ends_early short (tokens_of text) (has_tokens 0 text) fine none at
-faulty text p short (too_big fine q formula over at) =
-    too_much short (tokens_of text) (has_tokens 0 text) fine q formula over at
+faulty : (text : List ℕ) (ts : List Placed) (p : ℕ) → HasTokens 0 text ts
+    → length text ≤ most_bytes → Stops (length text) ts p → IsFaulty text p
+faulty text ts p has short (at_one before here after split fine fault) =
+    at_token short before here after (subst (HasTokens 0 text) split has) fine fault
+faulty text ts p has short (too_soon fine none at) = ends_early short ts has fine none at
+faulty text ts p has short (too_big fine q formula over at) =
+    too_much short ts has fine q formula over at
 
 -- a text that is refused is too long, or its tokens are refused
-length_by : (text : List ℕ) (p : ℕ) (b : Bool) → nat_le (length text) most_bytes ≡ b
-    → (if b then read_tokens (length text) (start nesting) 0 (tokens_of text) else Err most_bytes)
-    ≡ Err p → IsFaulty text p
-length_by text p true h e =
-    faulty text p (leb-true _ _ h) (stops (length text) (tokens_of text) [] (tokens_of text)
+length_by : (text : List ℕ) (ts : List Placed) (p : ℕ) (b : Bool) → HasTokens 0 text ts
+    → nat_le (length text) most_bytes ≡ b
+    → (if b then read_tokens (length text) (start nesting) 0 ts else Err most_bytes) ≡ Err p
+    → IsFaulty text p
+length_by text ts p true has h e =
+    faulty text ts p has (leb-true _ _ h) (stops (length text) ts [] ts
     (start nesting) 0 p refl (record { goes = refl; counted = refl; few = omega arith }) e)
-length_by text p false h e =
+length_by text ts p false has h e =
     too_long (not_le _ _ h) (same_place most_bytes p (Err most_bytes) refl e)
 
--- a text whose reading is a place is faulty there
-pub reading_faulty : (text : List ℕ) (p : ℕ) → reading_of text ≡ Err p → IsFaulty text p
-reading_faulty text p e = length_by text p (nat_le (length text) most_bytes) refl e
+-- where the machine finds a place, the text is faulty there
+pub reading_faulty : (text : List ℕ) (ts : List Placed) (p : ℕ) → HasTokens 0 text ts
+    → machine_reading text ts ≡ Err p → IsFaulty text p
+reading_faulty text ts p has e = length_by text ts p (nat_le (length text) most_bytes) has refl e

@@ -3,9 +3,9 @@ use Rattle.std.proofs.Common.{◌≡◌, ◌<◌, ◌≤◌, ◌+◌, ℕ, zero,
 use Rattle.std.proofs.Math.Dec.{eqb-suc-zero}
 use Rattle.std.specs.Prelude.{◌==◌, ◌||◌}
 use Rattle.lq_value.specs.declared.op.Op.TheVariants.{Eq, Ne, Lt, Le, Gt, Ge}
-use Rattle.lq_predicate_formula.specs.Tokens.{Token, word, op, bang, ands, ors, lone, cut, Placed, HasTokens, IsBlank, Yields}
-use Rattle.lq_predicate_formula.specs.Lexing.{spaces, word_bytes, quoted_bytes, Front, fixed, begins_with, longer, quoted_front, word_front, is_symbol, symbol_front, front, front_at, placed_at, BeginsBy, trimmed, HasFronts, first_and, tokens_within, tokens_from}
-use Rattle.lq_predicate_formula.proofs.SignLemmas.{tokens_by, tokens_of_fronts}
+use Rattle.lq_predicate_formula.specs.Tokens.{Token, word, op, bang, ands, ors, lone, cut, Placed, HasOneTokenList, HasTokens}
+use Rattle.lq_predicate_formula.specs.Lexing.{spaces, word_bytes, quoted_bytes, Front, fixed, begins_with, longer, quoted_front, word_front, is_symbol, symbol_front, front, front_at, placed_at, BeginsBy, trimmed}
+use Rattle.lq_predicate_formula.proofs.SignLemmas.{HasFronts, tokens_by, tokens_of_fronts}
 
 -- one of two that have a size has a size
 one_of : (c : Bool) (x y : Front) → 0 < x.size → 0 < y.size → 0 < (cond c x y).size
@@ -55,6 +55,17 @@ front_symbol (b ∷ bs) h e = ap (λ t. cond t (symbol_front b bs) (cond (b == 3
     (quoted_front bs (quoted_bytes b false bs))
     (word_front (b ∷ bs) (word_bytes false (b ∷ bs))))) e
 
+-- the token at the start of trimmed bytes, and those after it
+abbrev first_and : ℕ → List ℕ → (ℕ → List ℕ → List Placed) → List Placed
+first_and at [] others = []
+first_and at (b ∷ bs) others =
+    placed_at at (front b bs) ∷ others (at + (front b bs).size) (drop (front b bs).size (b ∷ bs))
+
+-- the tokens that the lexer finds in the text, at most this many
+tokens_within : ℕ → ℕ → List ℕ → List Placed
+tokens_within zero at bs = []
+tokens_within (suc most) at bs = first_and (at + spaces bs) (trimmed bs) (tokens_within most)
+
 -- the first token and those behind it, where those are had
 has_first : (n at : ℕ) (bs cs : List ℕ) → trimmed bs ≡ cs → length cs ≤ suc n
     → ((at : ℕ) (ds : List ℕ) → length ds ≤ n → HasFronts at ds (tokens_within n at ds))
@@ -80,15 +91,6 @@ has_within zero at (b ∷ bs) h = absurd (omega arith)
 has_within (suc n) at bs h = has_first n at bs (trimmed bs) refl
     (omega (arith, length-drop (spaces bs) bs)) (λ at' ds k. has_within n at' ds k)
 
--- the lexer finds the tokens of each text
-has_fronts : (at : ℕ) (bs : List ℕ) → HasFronts at bs (tokens_from at bs)
-unfolding tokens_from
-has_fronts at bs = has_within (length bs) at bs (omega arith)
-
--- each text has tokens
-pub has_tokens : (at : ℕ) (bs : List ℕ) → HasTokens at bs (tokens_from at bs)
-has_tokens at bs = tokens_of_fronts (tokens_from at bs) at bs (has_fronts at bs)
-
 -- the empty text has no byte
 none_left : (bs : List ℕ) → bs ≡ [] → 0 < length bs → ⊥
 none_left bs e h = let l : length bs ≡ 0 = ap length e in omega arith
@@ -112,12 +114,9 @@ pub tokens_same : (ts us : List Placed) (at : ℕ) (bs : List ℕ)
 tokens_same ts us at bs h k =
     fronts_same ts us at bs (tokens_by ts at bs h) (tokens_by us at bs k)
 
--- the list of the tokens has the token that is yielded, and those of what is left
-pub tokens_from_yields : (at : ℕ) (bs : List ℕ) (t : Placed) (next : ℕ) (rest : List ℕ)
-    → Yields at bs t next rest → tokens_from at bs ≡ t ∷ tokens_from next rest
-tokens_from_yields at bs t next rest y = tokens_same (tokens_from at bs)
-    (t ∷ tokens_from next rest) at bs (has_tokens at bs) (next, rest, y, has_tokens next rest)
-
--- a text of white space alone has no tokens
-pub tokens_from_none : (at : ℕ) (bs : List ℕ) → IsBlank bs → tokens_from at bs ≡ []
-tokens_from_none at bs e = tokens_same (tokens_from at bs) [] at bs (has_tokens at bs) e
+-- each text has one list of tokens
+pub one_token_list : (at : ℕ) (bs : List ℕ) → HasOneTokenList at bs
+one_token_list at bs =
+    let ts = tokens_within (length bs) at bs in
+    let has = tokens_of_fronts ts at bs (has_within (length bs) at bs (omega arith)) in
+    record { tokens = ts; has = has; only = λ others h. tokens_same others ts at bs h has }

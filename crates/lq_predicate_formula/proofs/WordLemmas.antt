@@ -4,7 +4,7 @@ use Rattle.lq_predicate_formula.specs.Tokens.{Token, closes, ands, ors}
 use Rattle.lq_predicate_formula.specs.Query.{Query, queries, both_of, either_of}
 use Rattle.lq_predicate_formula.specs.Grammar.{Reading, Follows, IsAnd, IsOr, IsComparison, IsNot, IsFormula}
 use Rattle.lq_predicate_formula.specs.Canonical.{comparisons, all_comparisons}
-use Rattle.lq_predicate_formula.specs.Reading.{word_count}
+use Rattle.lq_predicate_formula.specs.MachineReading.{word_count}
 
 -- how many words stand among tokens
 abbrev pub words : List Token → ℕ

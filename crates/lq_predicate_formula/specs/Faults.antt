@@ -1,5 +1,5 @@
 -- What a text reads as by the grammar and the limits, and its faults with their places.
-use Rattle.std.specs.Prelude.{◌≡◌, ◌+◌, ◌<◌, ◌≤◌, ◌⊎◌, ℕ, List, [], ◌∷◌, ◌++◌, length, map, None, Some}
+use Rattle.std.specs.Prelude.{◌≡◌, ◌+◌, ◌<◌, ◌≤◌, ◌⊎◌, ℕ, List, [], ◌∷◌, ◌++◌, length, map, None, Some, Result, Ok, Err}
 use Rattle.lq_value.specs.declared.op.Op.{Op}
 use Rattle.lq_value.specs.declared.op.Op.TheVariants.{Eq}
 use Rattle.lq_predicate_formula.specs.Tokens.{Token, opens, closes, bang, ands, ors, op, word, lone, cut, Placed, HasTokens, bare}
@@ -125,3 +125,17 @@ pub data IsFaulty (text : List ℕ) (place : ℕ) : Type 0 where
       → AreFine (length text) all → (q : Query) → IsFormula nesting (bare all) q
       → (most_depth < depth q) ⊎ (most_bytes < length (canonical q)) → place ≡ length text
       → IsFaulty text place
+
+-- ---- the reading
+
+-- The text reads as the query, or its leftmost fault is at the place.
+abbrev pub IsReading : List ℕ → Result Query ℕ → Type 0
+IsReading text (Ok q) = Reads text q
+IsReading text (Err place) = IsFaulty text place
+
+-- The text has this reading, and no other: it reads as just one query and isn't faulty, or it has
+-- its leftmost fault at just one place and reads as no query.
+pub record HasOneReading (text : List ℕ) : Type 0 where
+  pub reading : Result Query ℕ
+  pub is : IsReading text reading
+  pub only : (other : Result Query ℕ) → IsReading text other → other ≡ reading

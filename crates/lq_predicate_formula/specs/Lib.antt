@@ -8,7 +8,7 @@ pub mod Grammar
 pub mod Machine
 pub mod Canonical
 pub mod Faults
-pub mod Reading
+pub mod MachineReading
 pub mod Limits
 pub mod Laws
 pub mod Capped

@@ -151,3 +151,9 @@ abbrev pub HasTokens : ℕ → List ℕ → List Placed → Type 0
 HasTokens at bs [] = IsBlank bs
 HasTokens at bs (t ∷ ts) =
     (next : ℕ) × (rest : List ℕ) × Yields at bs t next rest × HasTokens next rest ts
+
+-- The text from an offset on has these tokens, and no others.
+pub record HasOneTokenList (at : ℕ) (bs : List ℕ) : Type 0 where
+  pub tokens : List Placed
+  pub has : HasTokens at bs tokens
+  pub only : (others : List Placed) → HasTokens at bs others → others ≡ tokens

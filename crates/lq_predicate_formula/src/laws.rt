@@ -1,23 +1,17 @@
 //! Laws on tokens, the grammar and queries: functions that do nothing, each with a law as its
 //! contract.
 ghost use Rattle.std.specs.Prelude.{◌≡◌, ℕ, List};
-ghost use Rattle.lq_predicate_formula.specs.Lexing.{tokens_of};
-ghost use Rattle.lq_predicate_formula.specs.Tokens.{HasTokens, Placed, Token};
+ghost use Rattle.lq_predicate_formula.specs.Faults.{HasOneReading};
+ghost use Rattle.lq_predicate_formula.specs.Tokens.{HasOneTokenList, Token};
 ghost use Rattle.lq_predicate_formula.specs.Query.{Query};
 ghost use Rattle.lq_predicate_formula.specs.Grammar.{IsFormula};
-ghost use Rattle.lq_predicate_formula.specs.Laws.{BareRowsFail, CanonicalIsRead, FaultsAreFound, FormulasAreRead, JoinedTextsAdd, PatternsAreGood, ReadIsGood, TruthGoesByNames, TruthStaysBesideSpans};
+ghost use Rattle.lq_predicate_formula.specs.Laws.{BareRowsFail, CanonicalIsRead, JoinedTextsAdd, PatternsAreGood, ReadIsGood, TruthGoesByNames, TruthStaysBesideSpans};
 
 use lq_value::sources_are_read;
 
-/// Each text has tokens by their signs: those that the lexer finds.
-pub fn tokens_exist()
-    ensures { (text : List ℕ) → HasTokens 0 text (tokens_of text) }
-{}
-
-/// A text has at most one list of tokens, so no other than the lexer finds.
-pub fn tokens_same()
-    ensures { (text : List ℕ) (ts us : List Placed)
-        → HasTokens 0 text ts → HasTokens 0 text us → ts ≡ us }
+/// Each text has tokens by their signs, from whatever offset they are counted, and no other ones.
+pub fn one_token_list()
+    ensures { (at : ℕ) (text : List ℕ) → HasOneTokenList at text }
 {}
 
 /// Tokens read as at most one query.
@@ -26,15 +20,9 @@ pub fn reads_one()
         → IsFormula n ts q → IsFormula n ts r → q ≡ r }
 {}
 
-/// The reading of a text is the query that it reads as by the grammar and the limits.
-pub fn formulas_are_read()
-    ensures { FormulasAreRead }
-{}
-
-/// The reading of a text is a place exactly where the text's leftmost fault is at this place. So a
-/// text has at most one such place, and none where it reads as a query.
-pub fn faults_are_found()
-    ensures { FaultsAreFound }
+/// Each text reads as just one query, or has its leftmost fault at just one place, and never both.
+pub fn one_reading()
+    ensures { (text : List ℕ) → HasOneReading text }
 {}
 
 /// The canonical text of a query within the limits reads as that query.

@@ -1,10 +1,10 @@
 //! The tokens of a text, one at a time.
-ghost use Rattle.std.specs.Prelude.{◌≡◌, ◌≤◌, ◌<◌, ◌+◌, ◌^◌, ◌∷◌, [], length, IfSome, IfNone};
+ghost use Rattle.std.specs.Prelude.{◌≡◌, ◌≤◌, ◌<◌, ◌+◌, ◌^◌, length, IfSome, IfNone};
 ghost use Rattle.std.specs.Str.{IsUtf8};
 ghost use Rattle.lq_predicate_formula.specs.Words.{WordIs};
 ghost use Rattle.lq_predicate_formula.specs.Tokens.{IsBlank, Yields};
 ghost use Rattle.lq_predicate_formula.specs.TokenView.{placed_of, token_of};
-ghost use Rattle.lq_predicate_formula.specs.Lexing.{BeginsBy, spaces, tokens_from, trimmed};
+ghost use Rattle.lq_predicate_formula.specs.Lexing.{BeginsBy, spaces, trimmed};
 
 use crate::count::count_spaces;
 use crate::piece::read_piece;
@@ -19,11 +19,6 @@ pub fn next_token<'a>(cursor: Cursor<'a>) -> Option<(Placed<'a>, Cursor<'a>)>
     ensures none { IfNone result (IsBlank cursor.entry.rest.now) }
     ensures some { IfSome result (λ r. Yields cursor.entry.place cursor.entry.rest.now
         (placed_of r.0) r.1.place r.1.rest.now) }
-
-    // The same, stated on the list of all tokens.
-    ensures last { IfNone result (tokens_from cursor.entry.place cursor.entry.rest.now ≡ []) }
-    ensures first { IfSome result (λ r. tokens_from cursor.entry.place cursor.entry.rest.now
-        ≡ placed_of r.0 ∷ tokens_from r.1.place r.1.rest.now) }
 
     // A word is a text.
     ensures text { IfSome result (λ r. WordIs IsUtf8 (token_of r.0.token)) }

@@ -1,11 +1,12 @@
 //! Formulas and their queries, for lq_predicate: tokens, queries as trees, and canonical texts.
 //!
 //! Contracts see a text as its bytes, its tokens as a list (`specs/Tokens`) and their meaning as a
-//! `Query` (`specs/Query`, `specs/Grammar`). `specs/Faults` says what a text reads as and where it is
-//! faulty, `specs/Canonical` writes a query, `specs/Truth` says when it is true of a row, and
-//! `specs/PredicateLimits` when it is a predicate. `specs/Lexing`, `Machine` and `Reading` say how
-//! tokens and readings are found, for private functions. Nothing here waits, and asking takes no
-//! memory. Begin with `token`, then `laws`, then `tree` and `row`, then `tree/truth` and `writing`.
+//! `Query` (`specs/Query`, `specs/Grammar`). `specs/Faults` says what a text reads as and where it
+//! is faulty, `specs/Canonical` writes a query, `specs/Truth` says when it is true of a row, and
+//! `specs/PredicateLimits` when it is a predicate. `specs/Lexing`, `Machine` and `MachineReading`
+//! say how a token and a reading are found, for private functions and for lq_predicate's. Nothing
+//! here waits, and asking takes no memory. Begin with `token`, then `laws`, then `tree` and `row`,
+//! then `tree/truth` and `writing`.
 #![tactic(auto)]
 
 mod count;
@@ -25,9 +26,8 @@ mod writing;
 
 pub use fitting::{MAX_CANONICAL, fit_joined, fits_not};
 pub use laws::{
-    bare_rows_fail, canonical_is_read, faults_are_found, formulas_are_read, joined_texts_add,
-    patterns_are_good, read_is_good, reads_one, tokens_exist, tokens_same, truth_goes_by_names,
-    truth_stays_beside_spans,
+    bare_rows_fail, canonical_is_read, joined_texts_add, one_reading, one_token_list,
+    patterns_are_good, read_is_good, reads_one, truth_goes_by_names, truth_stays_beside_spans,
 };
 pub use lexer::next_token;
 pub use raw::{is_name, read_literal, read_name};

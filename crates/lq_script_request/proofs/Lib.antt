@@ -1,8 +1,9 @@
 -- Read in this order. The fields of a line: NumberLemmas, FieldsLemmas, WalkLemmas, ReadingLemmas.
--- What it asks: RequestLemmas, PlainLemmas.
+-- What it asks: RequestLemmas, PlainLemmas, FormulaLemmas.
 pub mod FieldsLemmas
 pub mod NumberLemmas
 pub mod ReadingLemmas
 pub mod WalkLemmas
 pub mod RequestLemmas
 pub mod PlainLemmas
+pub mod FormulaLemmas

@@ -1,7 +1,6 @@
 use Rattle.std.proofs.Common.{rules, sym, ◌∙◌, eqb-true}
 use Rattle.std.proofs.lemmas.List.{nil_from_length}
 use Rattle.lq_predicate_formula.proofs.SignLemmas.{trimmed_blank, yields_of}
-use Rattle.lq_predicate_formula.proofs.TokenLemmas.{tokens_from_none, tokens_from_yields}
 use Rattle.lq_predicate_formula.proofs.lexer.next_token.Goals as goal
 
 pub returns-then-is_empty-clause-none : goal.returns-then-is_empty-clause-none
@@ -9,14 +8,5 @@ returns-then-is_empty-clause-none c =
     let none = eqb-true _ 0 (sym c.is_empty.ensures ∙ c.if-is_empty.true) in
     trimmed_blank c.args.cursor.rest.now (sym c.trim-space.ensures.rest ∙ nil_from_length _ none)
 
-pub returns-then-is_empty-clause-last : goal.returns-then-is_empty-clause-last
-returns-then-is_empty-clause-last c =
-    let none = eqb-true _ 0 (sym c.is_empty.ensures ∙ c.if-is_empty.true) in
-    tokens_from_none _ _
-    (trimmed_blank c.args.cursor.rest.now (sym c.trim-space.ensures.rest ∙ nil_from_length _ none))
-
 pub returns-clause-some : goal.returns-clause-some
 returns-clause-some c = yields_of _ _ _ _ _ (search rules)
-
-pub returns-clause-first : goal.returns-clause-first
-returns-clause-first c = tokens_from_yields _ _ _ _ _ (yields_of _ _ _ _ _ (search rules))

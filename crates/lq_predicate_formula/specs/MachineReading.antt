@@ -1,9 +1,8 @@
--- The reading of a text as a function: the query that it reads as (`Reads`), else the place of its
--- leftmost fault (`IsFaulty`). The laws `formulas_are_read` and `faults_are_found` say just that. How
--- it is found stands here for the contracts of private functions.
+-- What the machine makes of a text and its tokens, for the contracts of private functions. It is
+-- the one reading of the text (`HasOneReading` of `specs/Faults`), as `proofs/OneReadingLemmas`
+-- shows.
 use Rattle.std.specs.Prelude.{ℕ, ◌+◌, ◌&&◌, nat_le, if◌then◌else◌, List, [], ◌∷◌, length, Option, None, Some, Result, Ok, Err}
 use Rattle.lq_predicate_formula.specs.Tokens.{Token, opens, closes, bang, ands, ors, op, word, lone, cut, Placed}
-use Rattle.lq_predicate_formula.specs.Lexing.{tokens_of}
 use Rattle.lq_predicate_formula.specs.Query.{Query}
 use Rattle.lq_predicate_formula.specs.Grammar.{nesting}
 use Rattle.lq_predicate_formula.specs.Literals.{literal_fault}
@@ -73,8 +72,9 @@ read_tokens end s count [] = finished end (whole s)
 read_tokens end s count (t ∷ ts) = after_token (fault_place end s.expected t) t (step s t.token)
     (count + word_count t.token) (λ s'. read_tokens end s' (count + word_count t.token) ts)
 
-abbrev pub reading_of : List ℕ → Result Query ℕ
-reading_of text =
+-- the reading of a text with these tokens
+abbrev pub machine_reading : List ℕ → List Placed → Result Query ℕ
+machine_reading text ts =
     if nat_le (length text) most_bytes
-    then read_tokens (length text) (start nesting) 0 (tokens_of text)
+    then read_tokens (length text) (start nesting) 0 ts
     else Err most_bytes
