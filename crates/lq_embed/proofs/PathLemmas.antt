@@ -1,8 +1,8 @@
 -- A loop over the names of a path.
-use Rattle.std.proofs.Common.{◌≡◌, ◌≢◌, ◌∙◌, ◌+◌, ◌<◌, ◌≤◌, ℕ, zero, suc, List, [], ◌∷◌, ◌++◌, length, take, drop, get_or, refl, sym, ap, subst, arith, true, false, inl, inr}
-use Rattle.std.specs.Prelude.{Bool, ◌==◌, Option, Some, None, Result, Ok, Err, nat_lt, if◌then◌else◌}
+use Rattle.std.proofs.Common.{◌≡◌, ◌≢◌, ◌∙◌, ◌+◌, ◌<◌, ◌≤◌, ℕ, zero, suc, List, [], ◌∷◌, ◌++◌, length, take, drop, refl, sym, ap, subst, arith, true, false, inl, inr}
+use Rattle.std.specs.Prelude.{Bool, ◌==◌, Option, Some, None, Ok, Err, nat_lt, if◌then◌else◌}
 use Rattle.std.specs.Str.{is_utf8}
-use Rattle.std.proofs.lemmas.List.{append-nil, append_assoc}
+use Rattle.std.proofs.lemmas.List.{append_assoc}
 use Rattle.lq_value.specs.declared.refusal.Refusal.{Refusal}
 use Rattle.lq_value.specs.declared.refusal.Refusal.TheVariants.{BadName, NoNode, NotFolder, NoEntry, Exists, WouldLoop, NotEmpty, KindClash, IsFolder, NoAttr, Reserved, TooLong, Exhausted, NoMemory, BadQuery, BadPort, BadBacklog, NoSlot, NoSeat, NotOpen, StillOpen, LongLine, NotUtf8, NotJson, BadLine, OutOfStep, Mismatch}
 use Rattle.lq_value.specs.Name.{is_name}
@@ -20,7 +20,6 @@ use Rattle.lq_embed.proofs.CallLemmas.{finds-as}
 use Rattle.lq_embed.specs.Calls.{Finds, Responds}
 use Rattle.lq_embed.specs.Outs.{node_after}
 use Rattle.lq_embed.specs.PathNames.{name_length, named_question, names_among, names_in, parts_of, with_byte}
-use Rattle.lq_embed.specs.Questions.{find_question}
 use Rattle.lq_embed.specs.State.{State, volume_in}
 use Rattle.lq_embed.specs.Status.{response_status}
 
@@ -89,9 +88,6 @@ pub record IsOnWay (es : List (ℕ × Record)) (dir : ℕ) (path rest : List ℕ
   pub split : names_in path ≡ names ++ names_in rest
   pub leads : Leads es dir names at
 
-pub way-first : (es : List (ℕ × Record)) (dir : ℕ) (path : List ℕ) → IsOnWay es dir path path dir
-way-first es dir path = record { names = []; split = refl; leads = refl }
-
 -- past a `/` with no name before it
 pub way-past : {es : List (ℕ × Record)} {dir : ℕ} {path rest : List ℕ} {at : ℕ} (size : ℕ)
     → IsOnWay es dir path rest at → size ≡ name_length rest → size ≡ 0
@@ -128,14 +124,6 @@ way-next {es = es} {dir = dir} {rest = rest} {at = at} {next = next} size was is
           ∙ sym (append_assoc was.names (take size rest ∷ []) (names_in (drop (size + 1) rest)));
       leads = leads-more es dir was.names at (take size rest) next was.leads there;
     }
-
--- at the end of the path
-pub way-end : {es : List (ℕ × Record)} {dir : ℕ} {path rest : List ℕ} {at : ℕ}
-    → IsOnWay es dir path rest at → rest ≡ [] → Leads es dir (names_in path) at
-way-end {es = es} {dir = dir} {at = at} was none =
-    subst (λ names. Leads es dir names at)
-    (sym (was.split ∙ (ap (λ bytes. was.names ++ names_in bytes) none ∙ append-nil was.names)))
-    was.leads
 
 -- ---- a look-up that isn't refused
 
@@ -221,8 +209,6 @@ found-node {old = old} {before = before} {after = after} dir name finds ok =
     from there = there.2 ∙ ap (λ (n : ℕ). Some n)
         (sym (finds.out ∙ ap (λ (r : Response). node_after r before) there.1))
 
--- ---- the size of a name
-
 -- a name that is too long is refused unread
 pub finds-long : {old : State} {status before : ℕ} (dir : ℕ) (name : List ℕ)
     → nat_lt 255 (length name) ≡ true → status ≡ code_of BadName
@@ -234,10 +220,3 @@ finds-long dir name long code = finds-as {p = Err BadName} (rw long refl) (recor
   out = refl;
   stays = refl;
 })
-
--- any other is looked up
-pub finds-short : {old new : State} {status before after : ℕ} (dir : ℕ) (name : List ℕ)
-    → nat_lt 255 (length name) ≡ false
-    → Finds old new (find_question dir name) status before after
-    → Finds old new (named_question dir name) status before after
-finds-short dir name short was = finds-as {p = find_question dir name} (rw short refl) was

@@ -1,5 +1,5 @@
 -- Loops of reads.
-use Rattle.std.proofs.Common.{◌≡◌, ◌≢◌, ◌∙◌, ◌+◌, ◌<◌, ◌≤◌, ℕ, zero, suc, List, [], ◌∷◌, ◌++◌, length, get_or, take, drop, set, refl, sym, ap, subst, arith, true, false}
+use Rattle.std.proofs.Common.{◌≡◌, ◌≢◌, ◌∙◌, ◌+◌, ◌<◌, ◌≤◌, ℕ, List, [], ◌∷◌, ◌++◌, length, get_or, take, drop, set, refl, sym, ap, subst, arith, true, false}
 use Rattle.std.specs.Prelude.{Bool, Result, Ok, Err}
 use Rattle.std.proofs.lemmas.List.{drop_more, drop-set-lt, length-take, set-get_or, take-append-drop, take_all, take_more, take_more_set}
 use Rattle.lq_value.specs.declared.refusal.Refusal.{Refusal}
@@ -36,10 +36,6 @@ pub record AreRead (slot : ℕ) (first now : State) (i : ℕ) (before places : L
     : Type 0 where
   pub each : ReadsEach slot first (take i before) (take i places) now
   pub rest : drop i places ≡ drop i before
-
-pub read-first : (slot : ℕ) (first : State) (before : List MessageOut)
-    → AreRead slot first first 0 before before
-read-first slot first before = record { each = (refl, refl); rest = refl }
 
 -- the places left are those that there were
 next-left : {slot : ℕ} {first now : State} {i : ℕ} {before places : List MessageOut}

@@ -1,7 +1,5 @@
 -- A loop that writes the next entries of a result into places.
-use Rattle.std.proofs.Common.{◌≡◌, ◌≢◌, ◌∙◌, ◌+◌, ◌≤◌, ◌<◌, ℕ, zero, suc, List, [], ◌∷◌, length, get_or, take, drop, set, refl, sym, ap, subst, add-one, arith, true, false}
-use Rattle.std.specs.Prelude.{Bool}
-use Rattle.std.proofs.lemmas.List.{drop_all, set-get_or}
+use Rattle.std.proofs.Common.{◌≡◌, ◌∙◌, ◌+◌, ◌≤◌, ◌<◌, ℕ, zero, suc, List, [], ◌∷◌, length, get_or, take, drop, set, refl, sym, ap, subst, add-one, arith, true}
 use Rattle.lq_value.specs.declared.entry.Entry.{Entry}
 use Rattle.lq_volume.specs.State as volume
 use Rattle.lq_embed.specs.declared.outs.RowOut.{RowOut}
@@ -25,18 +23,6 @@ left-within zero [] x rest is = absurd (let no : ⊥ = cc in no)
 left-within zero (y ∷ xs) x rest is = omega arith
 left-within (suc i) [] x rest is = absurd (let no : ⊥ = cc in no)
 left-within (suc i) (y ∷ xs) x rest is = omega (arith, left-within i xs x rest is)
-
--- a list of which nothing is left was taken whole
-left-none : {A : Type 0} (i : ℕ) (xs : List A) → drop i xs ≡ [] → take i xs ≡ xs
-left-none zero [] is = refl
-left-none zero (y ∷ xs) is = absurd (let no : ⊥ = cc in no)
-left-none (suc i) [] is = refl
-left-none (suc i) (y ∷ xs) is = ap (λ ys. y ∷ ys) (left-none i xs is)
-
-left-ends : {A : Type 0} (i : ℕ) (xs : List A) → drop i xs ≡ [] → length xs ≤ i
-left-ends i [] is = omega arith
-left-ends zero (y ∷ xs) is = absurd (let no : ⊥ = cc in no)
-left-ends (suc i) (y ∷ xs) is = omega (arith, left-ends i xs is)
 
 -- a place that the loop hasn't come to is as it was
 row-waits : (s : volume.State) (i : ℕ) (es : List Entry) (rows : List RowOut) (d : RowOut)
@@ -116,28 +102,3 @@ given-full {first = first} {i = i} {before = before} was all count = record {
   rows = was.rows ∙ rows-full (volume_in first) i first.entries before (omega (arith, all));
   left = was.state ∙ ap (λ n. with_entries first (drop n first.entries)) all;
 }
-
--- where no entry is left
-pub given-none : {first now new : State} {i got : ℕ} {before places : List RowOut}
-    {place : RowOut} (d row : RowOut) → AreGiven first now i before places → i < length before
-    → place ≡ get_or places i d → Gives now new false place row now.entries → got ≡ i
-    → Takes first new got before (set places i row)
-given-none {first = first} {now = now} {new = new} {i = i} {got = got} {before = before} {places = places}
-    {place = place} d row was lt at gives count =
-    from (drop i first.entries) refl
-    (subst (λ (s : State). Gives s new false place row s.entries) was.state gives)
-  where
-    from : (left : List Entry) → drop i first.entries ≡ left
-        → Gives (with_entries first (drop i first.entries)) new false place row left
-        → Takes first new got before (set places i row)
-    from (e ∷ rest) is there = absurd (let no : ⊥ = cc in no)
-    from [] is there =
-        let whole : take i first.entries ≡ first.entries = left-none i first.entries is in
-        let ends : length first.entries ≤ i = left-ends i first.entries is in
-        record {
-          count = omega (arith, was.within, ends, count);
-          rows = ap (set places i) (there.2 ∙ at) ∙ (set-get_or places i d
-              ∙ (was.rows ∙ ap (λ es. rows_after (volume_in first) es before) whole));
-          left = there.1 ∙ ap (with_entries first) (is ∙ sym (drop_all (length before)
-              first.entries (omega (arith, ends))));
-        }

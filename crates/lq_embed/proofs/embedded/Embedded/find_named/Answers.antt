@@ -1,6 +1,5 @@
-use Rattle.std.proofs.Common.{◌≡◌, refl}
-use Rattle.std.proofs.lemmas.Bool.{le-ltb, lt-ltb}
-use Rattle.lq_embed.proofs.PathLemmas.{finds-long, finds-short}
+use Rattle.std.proofs.lemmas.Bool.{lt-ltb}
+use Rattle.lq_embed.proofs.PathLemmas.{finds-long}
 use Rattle.lq_embed.proofs.embedded.Embedded.find_named.Goals as goal
 
 pub returns-then-name-gt-MAX_NAME : goal.returns-then-name-gt-MAX_NAME

@@ -1,4 +1,4 @@
-use Rattle.std.proofs.Common.{◌≡◌, ◌∙◌, ◌+◌, ◌<◌, length, ap, arith, refl, inl, inr}
+use Rattle.std.proofs.Common.{◌+◌, ap, arith, refl, inl, inr}
 use Rattle.lq_embed.proofs.ReadLemmas.{err-none, ok-none, read-all, read-next, read-stop}
 use Rattle.lq_embed.proofs.embedded.Embedded.read_many.Goals as goal
 

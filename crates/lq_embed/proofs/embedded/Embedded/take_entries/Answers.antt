@@ -1,4 +1,4 @@
-use Rattle.std.proofs.Common.{◌≡◌, ◌+◌, ap, arith, refl}
+use Rattle.std.proofs.Common.{◌+◌, ap, arith, refl}
 use Rattle.lq_embed.proofs.RowLemmas.{given-full, given-next}
 use Rattle.lq_embed.proofs.embedded.Embedded.take_entries.Goals as goal
 
