@@ -16,8 +16,8 @@ use crate::numbers::{MISUSE, count_push, count_taken, has_room, number_result};
 use crate::outs::{Fetched, Opening};
 use lq_embed::OpenOptions;
 
-/// As `Embedded::push_attr`, whose status it answers; 40 where `pushes`, the count of those that were
-/// accepted, is 4,096.
+/// As `Embedded::push_attr`, whose status it answers; 40 where `pushes`, the count of those that
+/// were accepted, is 4,096.
 #[unsafe(no_mangle)]
 pub extern "C" fn lqp_push_attr(handle: &mut Lq, pushes: &mut u32, name: &[u8]) -> u32
     ensures { PushesIn (has_room pushes.old) (held handle.old) (held handle.new)
@@ -49,7 +49,8 @@ pub extern "C" fn lqp_push_text(handle: &mut Lq, pushes: &mut u32, text: &[u8]) 
 #[unsafe(no_mangle)]
 pub extern "C" fn lqp_push_int32(handle: &mut Lq, pushes: &mut u32, value: i32) -> u32
     ensures { PushesIn (has_room pushes.old) (held handle.old) (held handle.new)
-        (Ok (text_pushed (signed_decimal value) (held handle.old).pushed)) result pushes.old pushes.new }
+        (Ok (text_pushed (signed_decimal value) (held handle.old).pushed))
+        result pushes.old pushes.new }
 {
     if !has_room(*pushes) {
         return MISUSE;
@@ -63,7 +64,8 @@ pub extern "C" fn lqp_push_int32(handle: &mut Lq, pushes: &mut u32, value: i32) 
 #[unsafe(no_mangle)]
 pub extern "C" fn lqp_push_int64(handle: &mut Lq, pushes: &mut u32, value: i64) -> u32
     ensures { PushesIn (has_room pushes.old) (held handle.old) (held handle.new)
-        (Ok (text_pushed (signed_decimal value) (held handle.old).pushed)) result pushes.old pushes.new }
+        (Ok (text_pushed (signed_decimal value) (held handle.old).pushed))
+        result pushes.old pushes.new }
 {
     if !has_room(*pushes) {
         return MISUSE;

@@ -96,7 +96,8 @@ way-past {rest = rest} size was is none = record {
   names = was.names;
   split = was.split ∙ ap (λ names. was.names ++ names)
       (names-cut rest ∙ (ap (λ n. named (take n rest) ++ names_in (drop (suc n) rest))
-      (sym is ∙ none) ∙ ap (λ n. names_in (drop n rest)) (let e : 1 ≡ size + 1 = omega arith in e)));
+      (sym is ∙ none)
+      ∙ ap (λ n. names_in (drop n rest)) (let e : 1 ≡ size + 1 = omega arith in e)));
   leads = was.leads;
 }
 

@@ -58,7 +58,8 @@ pub read-next : {slot : ℕ} {first now new : State} {i : ℕ} {before places : 
     → i < length before → i < length places → place ≡ get_or places i d → (there : Bool)
     → there ≡ true → ReadsOne now new slot (Ok there) place read
     → AreRead slot first new (i + 1) before (set places i read)
-read-next {slot = slot} {first = first} {now = now} {new = new} {i = i} {before = before} {places = places}
+read-next {slot = slot} {first = first} {now = now} {new = new} {i = i} {before = before}
+    {places = places}
     {place = place} d read was lt inside at there is one =
     let same : get_or before i d ≡ place = next-same d was lt inside at in
     let more : take (i + 1) before ≡ take i before ++ (place ∷ []) =

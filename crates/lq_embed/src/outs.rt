@@ -8,8 +8,8 @@ pub struct AppliedOut {
     pub node: u64,
 }
 
-/// How a query is opened: its backlog, where 0 stands for the largest; whether one message says that
-/// an entry of the result moved; whether no rebuilt result is wanted.
+/// How a query is opened: its backlog, where 0 stands for the largest; whether one message says
+/// that an entry of the result moved; whether no rebuilt result is wanted.
 #[repr(C)]
 #[derive(Drop)]
 pub struct OpenOptions {

@@ -18,7 +18,8 @@ returns-in-Err c = inr (read-stop _ c.loop-place.invariant.read c.loop-place-tes
 pub returns-in-Ok-false : goal.returns-in-Ok-false
 returns-in-Ok-false c = inr (read-stop _ c.loop-place.invariant.read c.loop-place-test.true
     (omega (arith, c.loop-place-test.true, c.loop-place.auto.out)) refl c.in-Ok-false.ensures
-    (ok-none c.in-Ok-false.field-0 _ refl c.in-Ok-false.field-0-test) refl c.loop-place.invariant.count)
+    (ok-none c.in-Ok-false.field-0 _ refl c.in-Ok-false.field-0-test) refl
+    c.loop-place.invariant.count)
 
 pub returns-after-loop-place : goal.returns-after-loop-place
 returns-after-loop-place c = inl (record {
