@@ -1,7 +1,7 @@
-/* The calls of lq.h. Each tests what can be tested of its arguments, as the head of lq.h says, and then makes a proved
-   call of lq_c, whose contract takes them as tested. What is here isn't proved. Beside the tests these are decided
-   here: the number of a handle's result, how many pushes a stack takes, that a query has a port of one place, and the
-   steps of lq_take, lq_read_many, lq_drop and lq_find_path, each of which is a proved call. */
+/* The calls of lq.h. Each tests what can be tested of its arguments, as the head of lq.h says, and then makes one proved
+   call of lq_c, whose contract takes them as tested. What is here isn't proved: that a handle is open, that no pointer
+   is null, and what is passed in place of a null that is allowed. A handle's fields `result` and `pushes` are counts
+   that proved calls alone read and write. */
 #include "proved.h"
 
 /* The most bytes of a line; a longer one is refused unread. */
@@ -207,60 +207,28 @@ lq_status lq_unset(lq *handle, uint64_t node, const char *attr, size_t attr_size
 
 /* ---- results ---- */
 
-/* The status of a call that made the handle's next result, whose number is written. */
-static lq_status numbered(lq *handle, lq_status status, uint64_t *result)
-{
-    if (status == LQ_OK) *result = ++handle->result;
-    return status;
-}
-
-/* Whether a result is the one that the handle has. */
-static bool is_held(const lq *handle, uint64_t result)
-{
-    return is_open(handle) && result > 0 && result == handle->result;
-}
-
 lq_status lq_take(lq *handle, uint64_t result, lq_row *out, size_t room, size_t *got)
 {
-    if (!is_held(handle, result) || !got || (!out && room > 0)) return LQ_MISUSE;
-    size_t count = 0;
-    while (count < room && lqp_next(in(handle), &out[count])) count++;
-    *got = count;
-    return LQ_OK;
+    lq_row none;
+    if (!is_open(handle) || !got || (!out && room > 0)) return LQ_MISUSE;
+    return lqp_take(in(handle), handle->result, result, out ? out : &none, room, got);
 }
 
 lq_status lq_next(lq *handle, uint64_t result, lq_row *out)
 {
-    if (!is_held(handle, result) || !out) return LQ_MISUSE;
-    return lqp_next(in(handle), out) ? LQ_OK : LQ_NO_ENTRY;
+    if (!is_open(handle) || !out) return LQ_MISUSE;
+    return lqp_next(in(handle), handle->result, result, out);
 }
 
 /* ---- live queries ---- */
 
-/* The places of each query's port: the caller sees one backlog. */
-enum { PORT = 1 };
-
-static lq_options options_of(const lq_options *options)
-{
-    lq_options those = LQ_OPTIONS_INIT;
-    if (options) those = *options;
-    if (those.backlog == 0) those.backlog = LQ_BACKLOG;
-    return those;
-}
-
-/* The status of an opening. */
-static lq_status opened(lq *handle, lq_status status, const lq_options *options, lq_opening *out)
-{
-    if (status == LQ_OK && options->no_result) lqp_forget(in(handle), out->slot);
-    return numbered(handle, status, &out->result);
-}
+/* What null options stand for. */
+static const lq_options no_options = LQ_OPTIONS_INIT;
 
 lq_status lq_open(lq *handle, const char *formula, size_t formula_size, const lq_options *options, lq_opening *out)
 {
     if (!is_open(handle) || !out || !is_text(&formula, &formula_size, LQ_FORMULA_SIZE)) return LQ_MISUSE;
-    lq_options those = options_of(options);
-    return opened(handle, lqp_open(in(handle), formula, formula_size, PORT, those.backlog, those.moved, out), &those,
-                  out);
+    return lqp_open(in(handle), &handle->result, formula, formula_size, options ? options : &no_options, out);
 }
 
 uint64_t lq_ready(const lq *handle)
@@ -276,17 +244,9 @@ lq_status lq_read(lq *handle, uint64_t slot, lq_message *out)
 
 lq_status lq_read_many(lq *handle, uint64_t slot, lq_message *out, size_t room, size_t *got)
 {
+    lq_message none;
     if (!is_open(handle) || !got || (!out && room > 0)) return LQ_MISUSE;
-    lq_message read;
-    size_t count = 0;
-    while (count < room) {
-        lq_status status = lqp_read(in(handle), slot, &read);
-        if (status != LQ_OK) return status;
-        if (read.what != LQ_UPDATE && read.what != LQ_END) break;
-        out[count++] = read;
-    }
-    *got = count;
-    return LQ_OK;
+    return lqp_read_many(in(handle), slot, out ? out : &none, room, got);
 }
 
 lq_status lq_hang_up(lq *handle, uint64_t slot)
@@ -308,21 +268,13 @@ lq_status lq_finish(lq *handle, uint64_t slot)
 
 lq_status lq_drop(lq *handle, uint64_t slot)
 {
-    if (!is_open(handle)) return LQ_MISUSE;
-    lq_message read;
-    uint64_t change;
-    (void)lqp_close(in(handle), slot, &change); /* refused where it has ended, or is free */
-    do {
-        lq_status status = lqp_read(in(handle), slot, &read);
-        if (status != LQ_OK) return status;
-    } while (read.what == LQ_UPDATE);
-    return lqp_finish(in(handle), slot);
+    return is_open(handle) ? (lq_status)lqp_drop(in(handle), slot) : LQ_MISUSE;
 }
 
 lq_status lq_result(lq *handle, uint64_t slot, lq_rebuilt *out)
 {
     if (!is_open(handle) || !out) return LQ_MISUSE;
-    return numbered(handle, lqp_result(in(handle), slot, out), &out->result);
+    return lqp_result(in(handle), &handle->result, slot, out);
 }
 
 /* ---- looks at the volume ---- */
@@ -330,7 +282,7 @@ lq_status lq_result(lq *handle, uint64_t slot, lq_rebuilt *out)
 lq_status lq_fetch(lq *handle, const char *formula, size_t formula_size, lq_fetched *out)
 {
     if (!is_open(handle) || !out || !is_text(&formula, &formula_size, LQ_FORMULA_SIZE)) return LQ_MISUSE;
-    return numbered(handle, lqp_fetch(in(handle), formula, formula_size, out), &out->result);
+    return lqp_fetch(in(handle), &handle->result, formula, formula_size, out);
 }
 
 lq_status lq_find(lq *handle, uint64_t dir, const char *name, size_t name_size, uint64_t *node)
@@ -342,21 +294,7 @@ lq_status lq_find(lq *handle, uint64_t dir, const char *name, size_t name_size, 
 lq_status lq_find_path(lq *handle, uint64_t dir, const char *path, size_t path_size, uint64_t *node)
 {
     if (!is_open(handle) || !node || !is_text(&path, &path_size, SIZE_MAX)) return LQ_MISUSE;
-    const char *end = path + path_size;
-    uint64_t at = dir;
-    while (path < end) {
-        const char *name = path;
-        while (path < end && *path != '/') path++;
-        if (path > name) {
-            size_t size = (size_t)(path - name);
-            if (!is_text(&name, &size, LQ_NAME_SIZE)) return LQ_MISUSE;
-            lq_status status = lqp_find(in(handle), at, name, size, &at);
-            if (status != LQ_OK) return status;
-        }
-        if (path < end) path++;
-    }
-    *node = at;
-    return LQ_OK;
+    return lqp_find_path(in(handle), dir, path, path_size, node);
 }
 
 lq_status lq_entry(const lq *handle, uint64_t node, lq_info *out)
@@ -380,7 +318,7 @@ lq_status lq_attr_named(const lq *handle, uint64_t node, const char *attr, size_
 lq_status lq_children(lq *handle, uint64_t dir, lq_listing *out)
 {
     if (!is_open(handle) || !out) return LQ_MISUSE;
-    return numbered(handle, lqp_children(in(handle), dir, &out->count), &out->result);
+    return lqp_children(in(handle), &handle->result, dir, out);
 }
 
 lq_status lq_path(lq *handle, uint64_t node, size_t *size)
@@ -396,77 +334,58 @@ uint64_t lq_changes(const lq *handle)
 
 /* ---- a query by pushes ---- */
 
-/* Whether the stack takes another push. */
-static bool has_room(const lq *handle)
-{
-    return is_open(handle) && handle->pushes < LQ_PUSHES;
-}
-
-/* The status of a push, which is counted if it was accepted. */
-static lq_status counted(lq *handle, lq_status status)
-{
-    if (status == LQ_OK) handle->pushes++;
-    return status;
-}
-
 lq_status lq_push_attr(lq *handle, const char *attr, size_t attr_size)
 {
-    if (!has_room(handle) || !is_text(&attr, &attr_size, LQ_NAME_SIZE)) return LQ_MISUSE;
-    return counted(handle, lqp_push_attr(in(handle), attr, attr_size));
+    if (!is_open(handle) || !is_text(&attr, &attr_size, LQ_NAME_SIZE)) return LQ_MISUSE;
+    return lqp_push_attr(in(handle), &handle->pushes, attr, attr_size);
 }
 
 lq_status lq_push_text(lq *handle, const char *text, size_t text_size)
 {
-    if (!has_room(handle) || !is_text(&text, &text_size, LQ_TEXT_SIZE)) return LQ_MISUSE;
-    return counted(handle, lqp_push_text(in(handle), text, text_size));
+    if (!is_open(handle) || !is_text(&text, &text_size, LQ_TEXT_SIZE)) return LQ_MISUSE;
+    return lqp_push_text(in(handle), &handle->pushes, text, text_size);
 }
 
 lq_status lq_push_int32(lq *handle, int32_t value)
 {
-    return has_room(handle) ? counted(handle, lqp_push_int32(in(handle), value)) : LQ_MISUSE;
+    return is_open(handle) ? (lq_status)lqp_push_int32(in(handle), &handle->pushes, value) : LQ_MISUSE;
 }
 
 lq_status lq_push_int64(lq *handle, int64_t value)
 {
-    return has_room(handle) ? counted(handle, lqp_push_int64(in(handle), value)) : LQ_MISUSE;
+    return is_open(handle) ? (lq_status)lqp_push_int64(in(handle), &handle->pushes, value) : LQ_MISUSE;
 }
 
 lq_status lq_push_uint32(lq *handle, uint32_t value)
 {
-    return has_room(handle) ? counted(handle, lqp_push_uint32(in(handle), value)) : LQ_MISUSE;
+    return is_open(handle) ? (lq_status)lqp_push_uint32(in(handle), &handle->pushes, value) : LQ_MISUSE;
 }
 
 lq_status lq_push_uint64(lq *handle, uint64_t value)
 {
-    return has_room(handle) ? counted(handle, lqp_push_uint64(in(handle), value)) : LQ_MISUSE;
+    return is_open(handle) ? (lq_status)lqp_push_uint64(in(handle), &handle->pushes, value) : LQ_MISUSE;
 }
 
 lq_status lq_push_op(lq *handle, uint32_t op)
 {
-    return has_room(handle) ? counted(handle, lqp_push_op(in(handle), op)) : LQ_MISUSE;
+    return is_open(handle) ? (lq_status)lqp_push_op(in(handle), &handle->pushes, op) : LQ_MISUSE;
 }
 
 lq_status lq_clear_pushed(lq *handle)
 {
     if (!is_open(handle)) return LQ_MISUSE;
-    lqp_clear_pushed(in(handle));
-    handle->pushes = 0;
+    lqp_clear_pushed(in(handle), &handle->pushes);
     return LQ_OK;
 }
 
 lq_status lq_open_pushed(lq *handle, const lq_options *options, lq_opening *out)
 {
     if (!is_open(handle) || !out) return LQ_MISUSE;
-    lq_options those = options_of(options);
-    lq_status status = lqp_open_pushed(in(handle), PORT, those.backlog, those.moved, out);
-    if (status != LQ_BAD_QUERY) handle->pushes = 0; /* the stack is new where it had one item alone */
-    return opened(handle, status, &those, out);
+    return lqp_open_pushed(in(handle), &handle->result, &handle->pushes, options ? options : &no_options, out);
 }
 
 lq_status lq_fetch_pushed(lq *handle, lq_fetched *out)
 {
     if (!is_open(handle) || !out) return LQ_MISUSE;
-    lq_status status = lqp_fetch_pushed(in(handle), out);
-    if (status != LQ_BAD_QUERY) handle->pushes = 0;
-    return numbered(handle, status, &out->result);
+    return lqp_fetch_pushed(in(handle), &handle->result, &handle->pushes, out);
 }

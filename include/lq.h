@@ -27,7 +27,7 @@
  *
  * Misuse. Each call but lq_volume_close answers LQ_MISUSE for a handle that is null or not open
  * (LQ_INIT, closed, or a copy of an open one), for a null `out` where it doesn't say that null is
- * allowed, and for a text that is null with a size. Those that answer no status answer 0 then.
+ * allowed, and for a text that is null with a size. Calls that return no status return 0 instead.
  *
  * What a caller owes, and nothing tests:
  * - Each pointer points to memory of its type, aligned, that lives through the call and that no
@@ -110,9 +110,9 @@ typedef enum lq_status {
  * status has this number. The text lives as long as the library. */
 const char *lq_status_name(lq_status status);
 
-/* A handle. Its fields belong to the library. `version` is that of the header that it was opened
- * with: where a later version adds fields at the end of a struct below, a call writes those of
- * this version alone. */
+/* A handle. Its fields belong to the library. `version` is the version of the header with which it
+ * was opened: if a later version of the library adds fields at the end of a struct below, calls on
+ * this handle still write only the fields of its own version. */
 typedef struct lq {
     void *at;
     uint64_t tag;
@@ -307,8 +307,9 @@ uint64_t lq_ready(const lq *handle);
  * on, give each message once and in order. */
 lq_status lq_read(lq *handle, uint64_t slot, lq_message *out);
 
-/* Takes the oldest messages of a slot, `room` at most and the mark with them, as that many calls
- * of lq_read would; `*got` is how many there were. LQ_NOT_OPEN: the slot is free. */
+/* Takes the oldest messages of a slot, and the mark after them, as repeated calls of lq_read would:
+ * at most `room`, and up to the first call that would give neither. `*got` is how many there were;
+ * the places after them stay as they were. LQ_NOT_OPEN: the slot is free. */
 lq_status lq_read_many(lq *handle, uint64_t slot, lq_message *out, size_t room, size_t *got);
 
 /* Asks for the end of a slot's query, as its reader does; the next change, read or lq_close ends

@@ -1,3 +1,4 @@
 pub mod Handle
 pub mod Lent
 pub mod Held
+pub mod Numbers

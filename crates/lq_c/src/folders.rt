@@ -1,15 +1,25 @@
 //! A folder's entries, and paths.
+ghost use Rattle.std.specs.Prelude.{◌≡◌};
 ghost use Rattle.lq_embed.specs.Folders.{Lists, Paths};
 ghost use Rattle.lq_c.specs.Held.{held};
+ghost use Rattle.lq_c.specs.Numbers.{made_after, shown_after};
 
 use crate::handle::Lq;
+use crate::numbers::number_result;
+use crate::outs::Listing;
 
-/// As `Embedded::children`, whose status it answers.
+/// As `Embedded::children`, whose status it answers; `made` counts its result.
 #[unsafe(no_mangle)]
-pub extern "C" fn lqp_children(handle: &mut Lq, dir: u64, count: &mut usize) -> u32
-    ensures { Lists (held handle.old) (held handle.new) dir result count.old count.new }
+pub extern "C" fn lqp_children(handle: &mut Lq, made: &mut u64, dir: u64, out: &mut Listing) -> u32
+    ensures lists { Lists (held handle.old) (held handle.new) dir result
+        out.old.count out.new.count }
+    ensures made { made.new ≡ made_after result made.old }
+    ensures number { out.new.result ≡ shown_after result made.old out.old.result }
 {
-    handle.served_mut().embedded.children(dir, count)
+    let embedded = &mut handle.served_mut().embedded;
+    let status = embedded.children(dir, &mut out.count);
+    number_result(made, status, &mut out.result);
+    status
 }
 
 /// As `Embedded::path`, whose status it answers.

@@ -13,5 +13,8 @@ mod handle;
 mod handles;
 mod live;
 mod looks;
+mod numbers;
+mod outs;
 mod pushes;
+mod results;
 mod served;

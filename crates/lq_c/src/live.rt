@@ -1,30 +1,37 @@
-//! Live queries, and the entries of results.
+//! Live queries.
 ghost use Rattle.std.specs.Prelude.{◌≡◌};
 ghost use Rattle.lq_desk_world.specs.declared.event.Event.TheVariants.{Close, Finish, HangUp, Take};
-ghost use Rattle.lq_embed.specs.Calls.{Acts, Ends, Gives, IsRead, Opens, TellsSlots, forgotten};
+ghost use Rattle.lq_embed.specs.Calls.{Acts, Ends, IsRead, TellsSlots};
+ghost use Rattle.lq_embed.specs.Opening.{OpensBy, backlog_of};
 ghost use Rattle.lq_embed.specs.Questions.{open_question};
+ghost use Rattle.lq_embed.specs.Reads.{Drops, ReadsMany};
 ghost use Rattle.lq_c.specs.Held.{held};
+ghost use Rattle.lq_c.specs.Numbers.{made_after, shown_after};
 
 use crate::handle::Lq;
-use lq_embed::{MessageOut, OpeningOut, RowOut};
+use crate::numbers::number_result;
+use crate::outs::Opening;
+use lq_embed::{MessageOut, OpenOptions};
 
-/// As `Embedded::subscribe`, whose status it answers.
+/// As `Embedded::open_by`, whose status it answers; `made` counts its result.
 #[unsafe(no_mangle)]
 pub extern "C" fn lqp_open(
     handle: &mut Lq,
+    made: &mut u64,
     formula: &[u8],
-    port: u64,
-    backlog: u64,
-    moved: bool,
-    out: &mut OpeningOut,
+    options: &OpenOptions,
+    out: &mut Opening,
 ) -> u32
-    ensures { Opens (held handle.old) (held handle.new) (held handle.old).pushed
-        (open_question formula.now port backlog moved) result out.old out.new }
+    ensures opens { OpensBy (held handle.old) (held handle.new) (held handle.old).pushed options.now
+        (open_question formula.now 1 (backlog_of options.now.backlog) options.now.moved)
+        result out.old.opening out.new.opening }
+    ensures made { made.new ≡ made_after result made.old }
+    ensures number { out.new.result ≡ shown_after result made.old out.old.result }
 {
-    handle
-        .served_mut()
-        .embedded
-        .subscribe(formula, port, backlog, moved, out)
+    let embedded = &mut handle.served_mut().embedded;
+    let status = embedded.open_by(formula, options, &mut out.opening);
+    number_result(made, status, &mut out.result);
+    status
 }
 
 /// As `Embedded::read`, whose status it answers.
@@ -33,6 +40,20 @@ pub extern "C" fn lqp_read(handle: &mut Lq, slot: u64, out: &mut MessageOut) -> 
     ensures { IsRead (held handle.old) (held handle.new) (Take slot) result out.old out.new }
 {
     handle.served_mut().embedded.read(slot, out)
+}
+
+/// As `Embedded::read_many`, whose status it answers.
+#[unsafe(no_mangle)]
+pub extern "C" fn lqp_read_many(
+    handle: &mut Lq,
+    slot: u64,
+    out: &mut [MessageOut],
+    got: &mut usize,
+) -> u32
+    ensures { ReadsMany (held handle.old) (held handle.new) slot result out.old out.new
+        got.old got.new }
+{
+    handle.served_mut().embedded.read_many(slot, out, got)
 }
 
 /// As `Embedded::hang_up`, whose status it answers.
@@ -59,13 +80,12 @@ pub extern "C" fn lqp_finish(handle: &mut Lq, slot: u64) -> u32
     handle.served_mut().embedded.finish(slot)
 }
 
-/// As `Embedded::next_entry`.
+/// As `Embedded::drop_slot`, whose status it answers.
 #[unsafe(no_mangle)]
-pub extern "C" fn lqp_next(handle: &mut Lq, out: &mut RowOut) -> bool
-    ensures { Gives (held handle.old) (held handle.new) result out.old out.new
-        (held handle.old).entries }
+pub extern "C" fn lqp_drop(handle: &mut Lq, slot: u64) -> u32
+    ensures { Drops (held handle.old) (held handle.new) slot result }
 {
-    handle.served_mut().embedded.next_entry(out)
+    handle.served_mut().embedded.drop_slot(slot)
 }
 
 /// As `Embedded::ready`.
@@ -75,12 +95,4 @@ pub extern "C" fn lqp_ready(handle: &mut Lq) -> u64
     ensures stays { held handle.new ≡ held handle.old }
 {
     handle.served_mut().embedded.ready()
-}
-
-/// As `Embedded::forget`.
-#[unsafe(no_mangle)]
-pub extern "C" fn lqp_forget(handle: &mut Lq, slot: u64)
-    ensures { held handle.new ≡ forgotten (held handle.old) slot }
-{
-    handle.served_mut().embedded.forget(slot);
 }

@@ -3,113 +3,174 @@ ghost use Rattle.std.specs.Prelude.{◌≡◌, Ok};
 ghost use Rattle.std.specs.Fmt.{decimal, signed_decimal};
 ghost use Rattle.lq_predicate.specs.Stack.{only_part, text_pushed};
 ghost use Rattle.lq_predicate.specs.Stacked.{new_stack};
-ghost use Rattle.lq_embed.specs.Calls.{Fetches, Opens, Pushes};
+ghost use Rattle.lq_embed.specs.Calls.{Fetches};
 ghost use Rattle.lq_embed.specs.Numbers.{op_numbered};
+ghost use Rattle.lq_embed.specs.Opening.{OpensBy, backlog_of};
 ghost use Rattle.lq_embed.specs.Questions.{fetch_pushed, left_by, open_pushed, push_attr_outcome, push_op_outcome, push_text_outcome};
 ghost use Rattle.lq_embed.specs.State.{with_pushed};
 ghost use Rattle.lq_c.specs.Held.{held};
+ghost use Rattle.lq_c.specs.Numbers.{PushesIn, after_take, has_room, made_after, shown_after};
 
 use crate::handle::Lq;
-use lq_embed::{FetchedOut, OpeningOut};
+use crate::numbers::{MISUSE, count_push, count_taken, has_room, number_result};
+use crate::outs::{Fetched, Opening};
+use lq_embed::OpenOptions;
 
-/// As `Embedded::push_attr`, whose status it answers.
+/// As `Embedded::push_attr`, whose status it answers; 40 where `pushes`, the count of those that
+/// were accepted, is 4,096.
 #[unsafe(no_mangle)]
-pub extern "C" fn lqp_push_attr(handle: &mut Lq, name: &[u8]) -> u32
-    ensures { Pushes (held handle.old) (held handle.new)
-        (push_attr_outcome name.now (held handle.old).pushed) result }
+pub extern "C" fn lqp_push_attr(handle: &mut Lq, pushes: &mut u32, name: &[u8]) -> u32
+    ensures { PushesIn (has_room pushes.old) (held handle.old) (held handle.new)
+        (push_attr_outcome name.now (held handle.old).pushed) result pushes.old pushes.new }
 {
-    handle.served_mut().embedded.push_attr(name)
+    if !has_room(*pushes) {
+        return MISUSE;
+    }
+    let status = handle.served_mut().embedded.push_attr(name);
+    count_push(pushes, status);
+    status
 }
 
-/// As `Embedded::push_text`, whose status it answers.
+/// As `Embedded::push_text`, with the count as at `lqp_push_attr`.
 #[unsafe(no_mangle)]
-pub extern "C" fn lqp_push_text(handle: &mut Lq, text: &[u8]) -> u32
-    ensures { Pushes (held handle.old) (held handle.new)
-        (push_text_outcome text.now (held handle.old).pushed) result }
+pub extern "C" fn lqp_push_text(handle: &mut Lq, pushes: &mut u32, text: &[u8]) -> u32
+    ensures { PushesIn (has_room pushes.old) (held handle.old) (held handle.new)
+        (push_text_outcome text.now (held handle.old).pushed) result pushes.old pushes.new }
 {
-    handle.served_mut().embedded.push_text(text)
+    if !has_room(*pushes) {
+        return MISUSE;
+    }
+    let status = handle.served_mut().embedded.push_text(text);
+    count_push(pushes, status);
+    status
 }
 
-/// As `Embedded::push_int32`, whose status it answers.
+/// As `Embedded::push_int32`, with the count as at `lqp_push_attr`.
 #[unsafe(no_mangle)]
-pub extern "C" fn lqp_push_int32(handle: &mut Lq, value: i32) -> u32
-    ensures { Pushes (held handle.old) (held handle.new)
-        (Ok (text_pushed (signed_decimal value) (held handle.old).pushed)) result }
+pub extern "C" fn lqp_push_int32(handle: &mut Lq, pushes: &mut u32, value: i32) -> u32
+    ensures { PushesIn (has_room pushes.old) (held handle.old) (held handle.new)
+        (Ok (text_pushed (signed_decimal value) (held handle.old).pushed))
+        result pushes.old pushes.new }
 {
-    handle.served_mut().embedded.push_int32(value)
+    if !has_room(*pushes) {
+        return MISUSE;
+    }
+    let status = handle.served_mut().embedded.push_int32(value);
+    count_push(pushes, status);
+    status
 }
 
-/// As `Embedded::push_int64`, whose status it answers.
+/// As `Embedded::push_int64`, with the count as at `lqp_push_attr`.
 #[unsafe(no_mangle)]
-pub extern "C" fn lqp_push_int64(handle: &mut Lq, value: i64) -> u32
-    ensures { Pushes (held handle.old) (held handle.new)
-        (Ok (text_pushed (signed_decimal value) (held handle.old).pushed)) result }
+pub extern "C" fn lqp_push_int64(handle: &mut Lq, pushes: &mut u32, value: i64) -> u32
+    ensures { PushesIn (has_room pushes.old) (held handle.old) (held handle.new)
+        (Ok (text_pushed (signed_decimal value) (held handle.old).pushed))
+        result pushes.old pushes.new }
 {
-    handle.served_mut().embedded.push_int64(value)
+    if !has_room(*pushes) {
+        return MISUSE;
+    }
+    let status = handle.served_mut().embedded.push_int64(value);
+    count_push(pushes, status);
+    status
 }
 
-/// As `Embedded::push_uint32`, whose status it answers.
+/// As `Embedded::push_uint32`, with the count as at `lqp_push_attr`.
 #[unsafe(no_mangle)]
-pub extern "C" fn lqp_push_uint32(handle: &mut Lq, value: u32) -> u32
-    ensures { Pushes (held handle.old) (held handle.new)
-        (Ok (text_pushed (decimal value) (held handle.old).pushed)) result }
+pub extern "C" fn lqp_push_uint32(handle: &mut Lq, pushes: &mut u32, value: u32) -> u32
+    ensures { PushesIn (has_room pushes.old) (held handle.old) (held handle.new)
+        (Ok (text_pushed (decimal value) (held handle.old).pushed)) result pushes.old pushes.new }
 {
-    handle.served_mut().embedded.push_uint32(value)
+    if !has_room(*pushes) {
+        return MISUSE;
+    }
+    let status = handle.served_mut().embedded.push_uint32(value);
+    count_push(pushes, status);
+    status
 }
 
-/// As `Embedded::push_uint64`, whose status it answers.
+/// As `Embedded::push_uint64`, with the count as at `lqp_push_attr`.
 #[unsafe(no_mangle)]
-pub extern "C" fn lqp_push_uint64(handle: &mut Lq, value: u64) -> u32
-    ensures { Pushes (held handle.old) (held handle.new)
-        (Ok (text_pushed (decimal value) (held handle.old).pushed)) result }
+pub extern "C" fn lqp_push_uint64(handle: &mut Lq, pushes: &mut u32, value: u64) -> u32
+    ensures { PushesIn (has_room pushes.old) (held handle.old) (held handle.new)
+        (Ok (text_pushed (decimal value) (held handle.old).pushed)) result pushes.old pushes.new }
 {
-    handle.served_mut().embedded.push_uint64(value)
+    if !has_room(*pushes) {
+        return MISUSE;
+    }
+    let status = handle.served_mut().embedded.push_uint64(value);
+    count_push(pushes, status);
+    status
 }
 
-/// As `Embedded::push_op`, whose status it answers.
+/// As `Embedded::push_op`, with the count as at `lqp_push_attr`.
 #[unsafe(no_mangle)]
-pub extern "C" fn lqp_push_op(handle: &mut Lq, op: u32) -> u32
-    ensures { Pushes (held handle.old) (held handle.new)
-        (push_op_outcome (op_numbered op) (held handle.old).pushed) result }
+pub extern "C" fn lqp_push_op(handle: &mut Lq, pushes: &mut u32, op: u32) -> u32
+    ensures { PushesIn (has_room pushes.old) (held handle.old) (held handle.new)
+        (push_op_outcome (op_numbered op) (held handle.old).pushed) result pushes.old pushes.new }
 {
-    handle.served_mut().embedded.push_op(op)
+    if !has_room(*pushes) {
+        return MISUSE;
+    }
+    let status = handle.served_mut().embedded.push_op(op);
+    count_push(pushes, status);
+    status
 }
 
 /// As `Embedded::clear_pushed`.
 #[unsafe(no_mangle)]
-pub extern "C" fn lqp_clear_pushed(handle: &mut Lq)
-    ensures { held handle.new ≡ with_pushed (held handle.old) new_stack }
+pub extern "C" fn lqp_clear_pushed(handle: &mut Lq, pushes: &mut u32)
+    ensures stack { held handle.new ≡ with_pushed (held handle.old) new_stack }
+    ensures count { pushes.new ≡ 0 }
 {
     handle.served_mut().embedded.clear_pushed();
+    *pushes = 0;
 }
 
-/// As `Embedded::subscribe_pushed`, whose status it answers.
+/// As `Embedded::open_pushed_by`, whose status it answers; `made` counts its result.
 #[unsafe(no_mangle)]
 pub extern "C" fn lqp_open_pushed(
     handle: &mut Lq,
-    port: u64,
-    backlog: u64,
-    moved: bool,
-    out: &mut OpeningOut,
+    made: &mut u64,
+    pushes: &mut u32,
+    options: &OpenOptions,
+    out: &mut Opening,
 ) -> u32
-    ensures { Opens (held handle.old) (held handle.new)
-        (left_by (held handle.old).pushed (only_part (held handle.old).pushed.items))
-        (open_pushed (held handle.old).pushed.pushes port backlog moved
-        (only_part (held handle.old).pushed.items)) result out.old out.new }
+    ensures opens { OpensBy (held handle.old) (held handle.new)
+        (left_by (held handle.old).pushed (only_part (held handle.old).pushed.items)) options.now
+        (open_pushed (held handle.old).pushed.pushes 1 (backlog_of options.now.backlog)
+        options.now.moved (only_part (held handle.old).pushed.items))
+        result out.old.opening out.new.opening }
+    ensures count { pushes.new ≡ after_take result pushes.old }
+    ensures made { made.new ≡ made_after result made.old }
+    ensures number { out.new.result ≡ shown_after result made.old out.old.result }
 {
-    handle
-        .served_mut()
-        .embedded
-        .subscribe_pushed(port, backlog, moved, out)
+    let embedded = &mut handle.served_mut().embedded;
+    let status = embedded.open_pushed_by(options, &mut out.opening);
+    count_taken(pushes, status);
+    number_result(made, status, &mut out.result);
+    status
 }
 
-/// As `Embedded::fetch_pushed`, whose status it answers.
+/// As `Embedded::fetch_pushed`, whose status it answers; `made` counts its result.
 #[unsafe(no_mangle)]
-pub extern "C" fn lqp_fetch_pushed(handle: &mut Lq, out: &mut FetchedOut) -> u32
-    ensures { Fetches (held handle.old) (held handle.new)
+pub extern "C" fn lqp_fetch_pushed(
+    handle: &mut Lq,
+    made: &mut u64,
+    pushes: &mut u32,
+    out: &mut Fetched,
+) -> u32
+    ensures fetches { Fetches (held handle.old) (held handle.new)
         (left_by (held handle.old).pushed (only_part (held handle.old).pushed.items))
         (fetch_pushed (held handle.old).pushed.pushes
-        (only_part (held handle.old).pushed.items)) result out.old out.new }
+        (only_part (held handle.old).pushed.items)) result out.old.fetched out.new.fetched }
+    ensures count { pushes.new ≡ after_take result pushes.old }
+    ensures made { made.new ≡ made_after result made.old }
+    ensures number { out.new.result ≡ shown_after result made.old out.old.result }
 {
-    handle.served_mut().embedded.fetch_pushed(out)
+    let embedded = &mut handle.served_mut().embedded;
+    let status = embedded.fetch_pushed(&mut out.fetched);
+    count_taken(pushes, status);
+    number_result(made, status, &mut out.result);
+    status
 }

@@ -3,3 +3,6 @@ pub mod PushedLemmas
 pub mod AttrLemmas
 pub mod FolderLemmas
 pub mod Crossing
+pub mod RowLemmas
+pub mod ReadLemmas
+pub mod PathLemmas

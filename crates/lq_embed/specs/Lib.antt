@@ -6,3 +6,7 @@ pub mod Questions
 pub mod Calls
 pub mod Attrs
 pub mod Folders
+pub mod Rows
+pub mod Reads
+pub mod PathNames
+pub mod Opening

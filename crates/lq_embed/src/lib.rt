@@ -10,20 +10,25 @@
 mod attrs;
 mod changes;
 mod embedded;
+mod find_path;
 mod folders;
 mod laws;
 mod lines;
 mod live;
 mod looks;
 mod numbers;
+mod options;
 mod outs;
 mod pushes;
 mod put;
+mod reads;
+mod rows;
 mod statuses;
 
 pub use embedded::Embedded;
 pub use laws::embedded_may_be_sent;
 pub use outs::{
-    AppliedOut, AttrOut, FetchedOut, InfoOut, MessageOut, OpeningOut, RebuiltOut, RowOut,
+    AppliedOut, AttrOut, FetchedOut, InfoOut, MessageOut, OpenOptions, OpeningOut, RebuiltOut,
+    RowOut,
 };
 pub use put::put_text;

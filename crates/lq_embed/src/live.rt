@@ -178,7 +178,7 @@ fn put_row(volume: &Volume, entry: &Entry, out: &mut RowOut)
 }
 
 // Writes what was taken, and answers the status.
-fn taken(reply: &Reply, out: &mut MessageOut) -> u32
+pub(crate) fn taken(reply: &Reply, out: &mut MessageOut) -> u32
     ensures status { result ≡ status_of (answer_of reply.now) }
     ensures out { out.new ≡ read_after (answer_of reply.now) out.old }
 {

@@ -8,6 +8,16 @@ pub struct AppliedOut {
     pub node: u64,
 }
 
+/// How a query is opened: its backlog, where 0 stands for the largest; whether one message says
+/// that an entry of the result moved; whether no rebuilt result is wanted.
+#[repr(C)]
+#[derive(Drop)]
+pub struct OpenOptions {
+    pub backlog: u64,
+    pub moved: bool,
+    pub no_result: bool,
+}
+
 /// An opened subscription: its slot, the number of changes so far, and the size of the result.
 #[repr(C)]
 #[derive(Drop)]

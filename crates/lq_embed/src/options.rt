@@ -1,0 +1,60 @@
+//! How a live query is opened.
+ghost use Rattle.std.specs.Prelude.{◌≡◌};
+ghost use Rattle.lq_predicate.specs.Stack.{only_part};
+ghost use Rattle.lq_embed.specs.Opening.{OpensBy, backlog_of, kept_by};
+ghost use Rattle.lq_embed.specs.Questions.{left_by, open_pushed, open_question};
+ghost use Rattle.lq_embed.specs.State.{holds};
+
+use crate::embedded::Embedded;
+use crate::outs::{OpenOptions, OpeningOut};
+
+/// The places of each port: a caller without threads can't tell them from the backlog.
+const PORT: u64 = 1;
+
+/// The backlog that 0 stands for.
+const BACKLOG: u64 = 65536;
+
+impl Embedded {
+    /// Opens a live query of a formula with a port of one place. Refused as `subscribe`.
+    pub fn open_by(&mut self, formula: &[u8], options: &OpenOptions, out: &mut OpeningOut) -> u32
+        ensures { OpensBy (holds self.old) (holds self.new) (holds self.old).pushed options.now
+            (open_question formula.now 1 (backlog_of options.now.backlog) options.now.moved)
+            result out.old out.new }
+    {
+        let backlog = backlog_of(options.backlog);
+        let status = self.subscribe(formula, PORT, backlog, options.moved, out);
+        self.keep_by(options.no_result, status, out.slot);
+        status
+    }
+
+    /// Opens a live query of the predicate that is the stack's only item, with a port of one place.
+    /// Refused as `subscribe_pushed`.
+    pub fn open_pushed_by(&mut self, options: &OpenOptions, out: &mut OpeningOut) -> u32
+        ensures { OpensBy (holds self.old) (holds self.new)
+            (left_by (holds self.old).pushed (only_part (holds self.old).pushed.items))
+            options.now
+            (open_pushed (holds self.old).pushed.pushes 1 (backlog_of options.now.backlog)
+            options.now.moved (only_part (holds self.old).pushed.items)) result out.old out.new }
+    {
+        let backlog = backlog_of(options.backlog);
+        let status = self.subscribe_pushed(PORT, backlog, options.moved, out);
+        self.keep_by(options.no_result, status, out.slot);
+        status
+    }
+
+    // Leaves an opened slot without its rebuilt result, where none is wanted.
+    fn keep_by(&mut self, no_result: bool, status: u32, slot: u64)
+        ensures { holds self.new ≡ kept_by no_result status slot (holds self.old) }
+    {
+        if no_result && status == 0 {
+            self.forget(slot);
+        }
+    }
+}
+
+// The backlog that is meant.
+fn backlog_of(backlog: u64) -> u64
+    ensures { result ≡ backlog_of backlog }
+{
+    if backlog == 0 { BACKLOG } else { backlog }
+}

@@ -1,0 +1,24 @@
+//! The entries of a result, several at once.
+ghost use Rattle.lq_embed.specs.Rows.{Takes};
+ghost use Rattle.lq_embed.specs.State.{holds};
+
+use crate::embedded::Embedded;
+use crate::outs::RowOut;
+
+impl Embedded {
+    /// Writes the next entries of the last result, one to each place of `out` from the first on,
+    /// and answers how many they were: fewer than the places where none is left. It takes no
+    /// memory.
+    pub fn take_entries(&mut self, out: &mut [RowOut]) -> usize
+        ensures { Takes (holds self.old) (holds self.new) result out.old out.new }
+    {
+        let mut count = 0;
+        for place in out.iter_mut() {
+            if !self.next_entry(place) {
+                break;
+            }
+            count += 1;
+        }
+        count
+    }
+}
