@@ -1,11 +1,9 @@
 -- What is so of all that a desk keeps, after each event.
-use Rattle.std.proofs.Common.{◌≡◌, ℕ, zero, suc, ◌*◌, ◌-◌, ◌≤◌, ◌<◌, ◌^◌, List, [], ◌∷◌, ◌++◌, refl, ap, sym, subst, ◌∙◌, arith, Some, None, Option, map, length}
+use Rattle.std.proofs.Common.{◌≡◌, ℕ, zero, suc, ◌*◌, ◌-◌, ◌^◌, List, [], ◌∷◌, refl, ap, sym, subst, ◌∙◌, arith, Some, None, Option, map, length}
 use Rattle.std.specs.Prelude.{Bool, slice_set, replicate}
 use Rattle.std.specs.Option.{option_map}
 use Rattle.std.specs.List.{AllByRecursion}
-use Rattle.std.proofs.lemmas.Bool.Decides.{nat_tests}
 use Rattle.std.proofs.lemmas.List.{length-map, length-set, map-set}
-use Rattle.lq_value.specs.declared.refusal.Refusal.{Refusal}
 use Rattle.lq_predicate.specs.Query.{Query}
 use Rattle.lq_volume.specs.declared.change.Change.{Change as Change_}
 use Rattle.lq_volume.specs.State.{State, IsVolume}
@@ -14,24 +12,19 @@ use Rattle.lq_volume.specs.Book.{Book}
 use Rattle.lq_volume.specs.Laws.{ChangesCount}
 use Rattle.lq_update.specs.Laws.{StepsAreFew}
 use Rattle.lq_desk_world.specs.World.{first_world}
-use Rattle.lq_desk_world.specs.declared.event.Event.{Event}
-use Rattle.lq_desk_world.specs.declared.event.Event.TheVariants.{Change, Open, Take, Notice, Close}
-use Rattle.lq_desk_world.specs.Events.{Answer, event_at, next, outcome}
-use Rattle.lq_desk_world.specs.Turns.{after_all, all_puts, notices, places_at, puts}
+use Rattle.lq_desk_world.specs.Events.{Answer}
+use Rattle.lq_desk_world.specs.Turns.{all_puts, notices}
 use Rattle.lq_desk_world.specs.Laws.{FirstWorldsAreFair}
 use Rattle.lq_desk_world.specs.declared.event.Act.{Act}
 use Rattle.lq_desk.specs.Slot.{KeptSlot, PreparedSlot, slot_of, filled, fresh_slot, noticed}
 use Rattle.lq_desk.specs.Act.{act_of, close_turn, outcome_of, read_turn}
-use Rattle.lq_desk.specs.Kept.{Kept, IsKept, IsFew, Shows, first_free, opening_refusal, opened, open_if, changed, change_if, at_kept, kept_outcome, slot_for}
-use Rattle.lq_desk.specs.KeptTurn.{kept_after, kept_ports, kept_turn}
-use Rattle.lq_desk.specs.Laws.{KeptShowsWorlds}
+use Rattle.lq_desk.specs.Kept.{Kept, IsKept, IsFew, Shows, first_free, opened, changed, at_kept, slot_for}
+use Rattle.lq_desk.specs.KeptTurn.{kept_after, kept_ports}
 use Rattle.lq_desk.proofs.ListLemmas.{all-set}
-use Rattle.lq_desk.proofs.PlaceLemmas.{act-outcome, at-same}
+use Rattle.lq_desk.proofs.PlaceLemmas.{at-same}
 use Rattle.lq_desk.proofs.SlotsLemmas.{kept_slot}
 use Rattle.lq_desk.proofs.FewLemmas.{few-act, few-after, few-close_turn, few-filled_all, few-noticed_all, few-outcome_of, few-read_turn, length-outcome_of, few-more}
-use Rattle.lq_desk.proofs.EventLemmas.{after-join}
 use Rattle.lq_desk.proofs.TurnLemmas.{filled-all, noticed-all}
-use Rattle.lq_desk.proofs.SlotTurnLemmas.{close-events, read-events}
 
 -- free slots have made no messages
 few-free : (m n : ℕ) → AllByRecursion (IsFew m) (map kept_slot (replicate n None))

@@ -1,5 +1,5 @@
 -- The turns of a desk.
-use Rattle.std.proofs.Common.{◌≡◌, ℕ, suc, ◌+◌, List, [], ◌∷◌, ◌++◌, refl, ap, map, length, ◌∙◌, sym, subst, arith, Some, None, Option, inl, inr}
+use Rattle.std.proofs.Common.{◌≡◌, ℕ, ◌+◌, List, [], ◌∷◌, ◌++◌, refl, ap, map, length, ◌∙◌, sym, subst, arith, Some, None, Option, inl, inr}
 use Rattle.std.specs.Prelude.{slice_get, ◌⊎◌}
 use Rattle.std.specs.Option.{option_map}
 use Rattle.lq_value.specs.declared.refusal.Refusal.{Refusal}
@@ -23,7 +23,7 @@ use Rattle.lq_desk.specs.Laws.{KeptShowsWorlds}
 use Rattle.lq_desk.proofs.ListLemmas.{set-seam}
 use Rattle.lq_desk.proofs.RunLemmas.{run-along, run-join}
 use Rattle.lq_desk.proofs.Shown.{moves, stepped-next}
-use Rattle.lq_desk.proofs.EventLemmas.{Does, after-join, append-join, append-nil, fill-does, notice-does, ports-after, ports-noticed}
+use Rattle.lq_desk.proofs.EventLemmas.{Does, after-join, append-join, fill-does, notice-does, ports-after, ports-noticed}
 use Rattle.lq_desk.proofs.SlotTurnLemmas.{close-events, read-events}
 
 -- ---- one slot after another

@@ -147,8 +147,8 @@ impl Desk {
     }
 
     /// Which slots have something to read: a word with a bit for each slot, for slot k the one at
-    /// k - 1. A bit is set just where `turn` of a read would give a message or the mark. It takes no
-    /// memory.
+    /// k - 1. A bit is set just where `turn` of a read would give a message or the mark. It takes
+    /// no memory.
     pub fn ready(&self) -> u64
         ensures { TellsReady self.now result }
     {

@@ -37,7 +37,8 @@ invariant_of-self-2 c =
       c.in_ok-planned.ensures.value,
       c.in_ok-applied.ensures.ok,
     )
-    (IsKept-change c.steps_are_few.ensures c.changes_are_counted.ensures _ c.args.change.now c.self.invariant c.changes.ensures.volume c.in_ok-planned.ensures.ok)
+    (IsKept-change c.steps_are_few.ensures c.changes_are_counted.ensures _ c.args.change.now
+    c.self.invariant c.changes.ensures.volume c.in_ok-planned.ensures.ok)
 
 pub returns-clause-ok : goal.returns-clause-ok
 returns-clause-ok c =

@@ -73,10 +73,12 @@ module _ {M : Type 1} {𝓤 : Ura M} (𝓛 : Logic 𝓤) (mem : Memory → SProp
     bound = ((κs, qs, tt, a, (of_before ∷ [], (of_event ∷ [], (of_reply ∷ [], tt)))), tt)
 
     abbrev passed : Fml
-    passed = owns (types_at f.signature.params κs) a (of_before ∷ [], (of_event ∷ [], (of_reply ∷ [], tt)))
+    passed = owns (types_at f.signature.params κs) a
+        (of_before ∷ [], (of_event ∷ [], (of_reply ∷ [], tt)))
 
     -- the body makes a value of no bytes, whose world may be any
-    walk : ent 𝓤 (on_entry 𝓛 f.signature κs qs a (of_before ∷ [], (of_event ∷ [], (of_reply ∷ [], tt))))
+    walk : ent 𝓤
+        (on_entry 𝓛 f.signature κs qs a (of_before ∷ [], (of_event ∷ [], (of_reply ∷ [], tt))))
         (WpFn 𝓤 H C Λ code.function (of_before ∷ of_event ∷ of_reply ∷ [])
         ((walk_of 𝓛 f.ended stayed (f.clauses 𝓛 mem run)).post bound))
     walk =
