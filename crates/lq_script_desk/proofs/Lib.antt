@@ -1,5 +1,5 @@
--- Read in this order. Compact texts: FrontLemmas, EscapeLemmas. Replies: PieceLemmas. What whole runs
--- tell readers: HistoryLemmas, FoldLemmas, TellLemmas; of a session SessionLemmas.
+-- Read in this order. Compact texts: FrontLemmas, EscapeLemmas. Replies: PieceLemmas. What whole
+-- runs tell readers: HistoryLemmas, FoldLemmas, TellLemmas; of a session SessionLemmas.
 pub mod FrontLemmas
 pub mod EscapeLemmas
 pub mod PieceLemmas

@@ -1,4 +1,4 @@
-use Rattle.std.proofs.Common.{◌≡◌, List, ℕ, [], subst, refl, ap, ◌∙◌, ◌⊎◌, Err, inr}
+use Rattle.std.proofs.Common.{◌≡◌, List, ℕ, [], refl, ap, ◌∙◌, ◌⊎◌, Err, inr}
 use Rattle.std.proofs.KnownBytes.{Appends-nil, Consumes-nil}
 use Rattle.std.specs.Io.KnownBytes.{Appends, Keeps}
 use Rattle.std.specs.Prelude.{Bool, Option, Some, None, Result, true, false}
@@ -77,13 +77,23 @@ returns-in_default-no_rebuilds g c =
 -- the first session is the script's
 pub run_lines-requires-clause-waits : goal.run_lines-requires-clause-waits
 run_lines-requires-clause-waits g c =
-    rw (c.new-session.ensures.desk, c.new-session.ensures.rebuilds, c.in-Ok-no_rebuilds.ensures.none,
-    c.in-Ok.ensures.world, c.new.ensures) c.requires.waits
+    rw (
+      c.new-session.ensures.desk,
+      c.new-session.ensures.rebuilds,
+      c.in-Ok-no_rebuilds.ensures.none,
+      c.in-Ok.ensures.world,
+      c.new.ensures,
+    ) c.requires.waits
 
 pub returns : goal.returns
 returns g c =
-    let outcome = rw (c.new-session.ensures.desk, c.new-session.ensures.rebuilds,
-    c.in-Ok-no_rebuilds.ensures.none, c.in-Ok.ensures.world, c.new.ensures)
+    let outcome = rw (
+      c.new-session.ensures.desk,
+      c.new-session.ensures.rebuilds,
+      c.in-Ok-no_rebuilds.ensures.none,
+      c.in-Ok.ensures.world,
+      c.new.ensures,
+    )
     at c.run_lines.ensures.outcome in record {
       outcome = outcome;
       readers = run-tells c.scripts_tell_readers.ensures _ _ _ outcome;
